@@ -24,8 +24,8 @@ use Rattle.dict_desk.specs.declared.fault.Fault.TheVariants.{Refused, Memory, Di
 use Rattle.dict_rows.specs.After.{TableChange, IsChange as IsAChange, tables_after}
 use Rattle.dict_rows.proofs.ChangeLemmas.{after_stands}
 use Rattle.dict_rows.specs.Versions.{known, layout_of}
-use Rattle.dict_derived.specs.AllTables.{AllTables, with_derived, all_after}
-use Rattle.dict_derived.proofs.AfterLemmas.{derived_after_is}
+use Rattle.dict_files.specs.AllTables.{AllTables, with_derived, all_after}
+use Rattle.dict_files.proofs.FileLemmas.{after_is, is_new}
 use Rattle.dict_holdings.specs.Readings.{KeepsAll}
 use Rattle.dict_holdings.specs.Faults.{IsUnread}
 use Rattle.dict_holdings.specs.Holds.{Holds, Rests, IsLeftAs}
@@ -43,14 +43,15 @@ use Rattle.dict_commands.proofs.DecideLemmas.{change_is}
 
 -- ---- what a command makes of all records
 
-pub command_applied : (change : TableChange) (M : Catalogue) (id : List ℕ) (command : Command Edition) (old new : Database) → Turns (all_after known change) old new → Holds known old M → IsLawfulCommand command → IsTrue (is_request_id id) → kept_under M.kept id ≡ None → refusal_of (holdings M) command ≡ None
+pub command_applied : (change : TableChange) (M : Catalogue) (id : List ℕ) (command : Command Edition) (old new : Database) → Turns (all_after known change) old new → Holds known old M → IsLawfulCommand command
+    → IsTrue (is_request_id id) → kept_under M.kept id ≡ None → refusal_of (holdings M) command ≡ None
     → IsAChange M id command change → Holds known new (with_effect M id command)
 command_applied change M id command old new turns h lawful named free allowed is =
     let after = (turns (with_derived h.tables) (record { own = h.own; keeps = h.keeps })).0 in
     record {
       own = after.own;
       tables = tables_after known change h.tables;
-      keeps = subst (KeepsAll (layout_of known) new) (sym (derived_after_is known change h.tables)) after.keeps;
+      keeps = subst (KeepsAll (layout_of known) new) (sym (after_is known change h.tables (is_new known h.tables M id command change h.stands is))) after.keeps;
       shown = tt;
       stands = after_stands known h.tables M id command change h.stands lawful named free allowed is;
     }
@@ -180,7 +181,8 @@ answered_by new M id outcome summary (Err NotACatalogue) lives is h = absurd h
 answered_by new M id outcome summary (Err Damaged) lives is h = absurd h
 answered_by new M id outcome summary (Err NewerSchema) lives is h = absurd h
 
-pub holds_again : (summary : Holdings (List ℕ)) (id : List ℕ) (command : Command Edition) (old new : State) (result : Result Applied Fault) → HoldsBy summary old → (HasCleanDisk new → HasCleanDisk old) → (HasCleanDisk new → IsTrue new.is_open → IsTrue old.is_open)
+pub holds_again : (summary : Holdings (List ℕ)) (id : List ℕ) (command : Command Edition) (old new : State) (result : Result Applied Fault) → HoldsBy summary old → (HasCleanDisk new → HasCleanDisk old)
+    → (HasCleanDisk new → IsTrue new.is_open → IsTrue old.is_open)
     → (HasCleanDisk new → (M : Catalogue) → Rests known old M → summary_of M ≡ summary → Answers new M id (step M id command) result) → HoldsBy (summary_after summary result) new
 holds_again summary id command old new result holds early was value = λ clean lives.
     let it = holds (early clean) (was clean lives) in
@@ -204,20 +206,24 @@ module _ {S : Type 0} (g : Ghosts S) where
   ends_weaker statements P Q old new fault wider (inr h) = inr (record { told = h.told; last = h.last; ran = h.ran; before = h.before; written = wider (state g h.last).now h.written; error = h.error; fails = h.fails })
 
   -- what was planned is not committed
-  pub commit_fails : (none : Type 0) → none → (summary : Holdings (List ℕ)) (id : List ℕ) (command : Command Edition) (change : TableChange) → (old : Held S) → IsPlanned summary (state g old) id command change → (P Q : Database → Type 0) → (new : Held S) → (fault : Fault) → ((db : Database) → P db → Q db)
+  pub commit_fails : (none : Type 0) → none → (summary : Holdings (List ℕ)) (id : List ℕ) (command : Command Edition) (change : TableChange) → (old : Held S) → IsPlanned summary (state g old) id command change
+      → (P Q : Database → Type 0) → (new : Held S) → (fault : Fault) → ((db : Database) → P db → Q db)
       → FailsToCommit g change P old new fault → ((fault ≡ Memory) × (new ≡ old) × none) ⊎ FailsToAct g summary id command Q old new fault
   commit_fails none is summary id command change old planned P Q new fault wider (inl h) = inl (h.0, h.1, is)
-  commit_fails none is summary id command change old planned P Q new fault wider (inr h) = inr (change, planned, (h.0, h.1, ends_weaker (statements_of known change h.0) P Q old new fault wider h.2))
+  commit_fails none is summary id command change old planned P Q new fault wider (inr h) = inr (change, planned, ends_weaker (statements_of known change) P Q old new fault wider h)
 
   -- a command that is new fails after the id was looked up
-  pub new_fails : (none : Type 0) → (summary : Holdings (List ℕ)) (id : List ℕ) (command : Command Edition) (P : Database → Type 0) (old mid new : Held S) → IsUnchanged (state g old) (state g mid) → Survives (state g old) (state g mid) (λ _. ⊥)
-      → ((db : Database) → P db → HoldsAfter summary (state g old) id command db) → (fault : Fault) → ((fault ≡ Memory) × (new ≡ mid) × none) ⊎ FailsToAct g summary id command P mid new fault → FailsToApply g summary id command old new fault
+  pub new_fails : (none : Type 0) → (summary : Holdings (List ℕ)) (id : List ℕ) (command : Command Edition) (P : Database → Type 0) (old mid new : Held S) → IsUnchanged (state g old) (state g mid) → Survives
+      (state g old) (state g mid) (λ _. ⊥)
+      → ((db : Database) → P db → HoldsAfter summary (state g old) id command db) → (fault : Fault) → ((fault ≡ Memory) × (new ≡ mid) × none) ⊎ FailsToAct g summary id command P mid new fault → FailsToApply g summary id
+      command old new fault
   new_fails none summary id command P old mid new same survives wider fault (inl h) = inl (inl (subst (λ k. IsUnchanged (state g old) (state g k)) (sym h.1) same, subst (IsUnread (state g old)) (sym h.0) tt))
   new_fails none summary id command P old mid new same survives wider fault (inr h) =
-      inr (mid, same, survives, (h.0, h.1, (h.2.0, h.2.1, ends_weaker (statements_of known h.0 h.2.0) P (HoldsAfter summary (state g old) id command) mid new fault wider h.2.2)))
+      inr (mid, same, survives, (h.0, h.1, ends_weaker (statements_of known h.0) P (HoldsAfter summary (state g old) id command) mid new fault wider h.2))
 
 -- what is written of a command that was planned
-pub is_planned : (id : List ℕ) (command : typed.Command) (planned : Planned) (summary : Holdings (List ℕ)) → IsChange summary (command_shown command) planned → LiesWithin command → (old : State) → IsPlanned summary old id (command_meant command) (change_by id command planned)
+pub is_planned : (id : List ℕ) (command : typed.Command) (planned : Planned) (summary : Holdings (List ℕ)) → IsChange summary (command_shown command) planned → LiesWithin command → (old : State) → IsPlanned summary
+    old id (command_meant command) (change_by id command planned)
 is_planned id command planned summary change lies old = λ M rests is.
     let here : IsChange (summary_of M) (command_shown command) planned = subst (λ (b : Holdings (List ℕ)). IsChange b (command_shown command) planned) (sym is) change in
     (same_refusal M command ∙ here.0, change_is M id command planned here.1 lies)

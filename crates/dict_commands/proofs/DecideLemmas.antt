@@ -103,7 +103,8 @@ module _ {A : Type 0} where
   each_stays before command h =
       let most = installs_after command before.installs in
       all_at_most most (items_after (before.installs + 1) command before.items)
-      (each_after (AtMost before.installs) (AtMost most) (before.installs + 1) command before.items (λ one p. let g = grown command before.installs in omega (arith, p, g)) (installed_at_most command before.installs) (each_at_most before.installs before.items h))
+      (each_after (AtMost before.installs) (AtMost most) (before.installs + 1) command before.items (λ one p. let g = grown command before.installs in omega (arith, p, g)) (installed_at_most command before.installs)
+      (each_at_most before.installs before.items h))
 
   current_in : (P : ℕ → Type 0) (item : Item A) → AllByRecursion P (numbers_of item) → IfSome (current_of item) P
   current_in P (regular name current None) h = h.0
@@ -168,7 +169,7 @@ module _ (before : Holdings (List ℕ)) (command : Command (List ℕ)) (planned 
 -- ---- and is the change that the command makes of each catalogue with that summary
 
 installed_as : (installs number : ℕ) (command : typed.Command) → number ≡ installs_after (command_shown command) installs → LiesWithin command → after.IsInstalledBy (installs + 1) (command_meant command) (installed_by number command)
-installed_as installs number (Install name edition) e lies = (refl, e, refl, lies)
+installed_as installs number (Install name edition) e lies = (refl, e, refl, lies.0, lies.1)
 installed_as installs number (Rollback name) e lies = refl
 installed_as installs number (Retire name) e lies = refl
 installed_as installs number (PutVirtual name title members) e lies = refl

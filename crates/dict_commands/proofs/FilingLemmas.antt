@@ -1,64 +1,49 @@
 -- What a filing makes of the records, and what it leaves as it was.
-use Rattle.std.proofs.Common.{◌≡◌, ◌≢◌, ℕ, zero, suc, ◌+◌, ◌-◌, ◌≤◌, ◌<◌, ◌&&◌, ◌||◌, ◌==◌, ℤ, pos, Bool, true, false, cond, List, [], ◌∷◌, ◌++◌, length, map, take, drop, get_or, filter, not, codes, inl, inr, refl, sym, ap, subst, ◌∙◌, arith, append_assoc, append-nil}
-use Rattle.std.specs.Prelude.{flat_map, slice_range, IsTrue, Option, None}
+use Rattle.std.proofs.Common.{◌≡◌, ◌≢◌, ℕ, ◌+◌, ◌-◌, ◌≤◌, ◌&&◌, ◌||◌, ℤ, pos, Bool, true, false, cond, List, [], ◌∷◌, ◌++◌, map, take, drop, filter, not, codes, refl, sym, ap, subst, ◌∙◌, arith, append_assoc, append-nil}
+use Rattle.std.specs.Prelude.{slice_range, IsTrue, Option, Some, None}
+use Rattle.std.specs.List.{AllByRecursion}
 use Rattle.std.specs.List.Sorted.{IsPermutation}
-use Rattle.std.proofs.lemmas.Bool.{cases_Bool, false≢true}
-use Rattle.std.proofs.lemmas.List.{length-map, map-append, take-map, take_all}
+use Rattle.std.proofs.lemmas.Bool.{false≢true}
+use Rattle.std.proofs.lemmas.List.{take_all}
 use Rattle.std.proofs.lemmas.List.Elements.{filter-append}
-use Rattle.std.proofs.lemmas.List.Sorted.{IsPermutation-append_right, IsPermutation-sym, IsPermutation-trans}
+use Rattle.std.proofs.lemmas.List.Sorted.{IsPermutation-sym, IsPermutation-trans}
 use Rattle.std.proofs.Math.Seq.{take-add}
 use Rattle.sqlite_trees.proofs.ListLemmas.{IsPermutation-filter}
 use Rattle.sqlite.specs.Effect.{Database}
 use Rattle.sqlite.specs.State.{HasCleanDisk, KeepsCommit}
 use Rattle.sqlite.specs.Held.{Held, state}
 use Rattle.sqlite_trees.specs.declared.store.Store.{Ghosts}
-use Rattle.sqlite.specs.Order.{Row, column}
-use Rattle.sqlite.specs.declared.types.Value.{Value}
-use Rattle.sqlite.specs.declared.types.Value.TheVariants.{Int}
-use Rattle.dict_records.specs.Records.{Edition, Entry}
-use Rattle.dict_records.specs.Keyed.{Piece}
-use Rattle.dict_sql.specs.Effects.{WhileOpen, equals_number, rows_of, same_value}
-use Rattle.dict_sql.specs.Encodings.{edition_row, kept_row}
-use Rattle.dict_sql.specs.Keyed.{keyed_entry_row, piece_row}
-use Rattle.dict_keyed_sql.specs.Bounds.{comes_before}
-use Rattle.dict_index.specs.Line.{Line}
-use Rattle.dict_index.specs.Views.{line_of}
-use Rattle.dict_index.specs.declared.entry.Entry.{Entry as ReadEntry}
+use Rattle.sqlite.specs.Order.{Row}
+use Rattle.dict_records.specs.Records.{Edition, Entry, Part}
+use Rattle.dict_sql.specs.Effects.{WhileOpen, equals_number, rows_of}
+use Rattle.dict_sql.specs.Encodings.{kept_row}
+use Rattle.dict_part_sql.specs.Records.{part_row}
 use Rattle.dict_catalogue.specs.Steps.{KeptFor}
 use Rattle.dict_rows.specs.Tables.{same_number}
-use Rattle.dict_rows.specs.After.{Installed, TableChange, is_gone, installed_editions, installed_entries}
-use Rattle.dict_rows.specs.Written.{numbered, entry_record, kept_record}
+use Rattle.dict_rows.specs.After.{Installed, TableChange, is_gone, installed_editions}
+use Rattle.dict_rows.specs.Written.{kept_record}
 use Rattle.dict_rows.specs.Versions.{known}
+use Rattle.dict_rows.proofs.AfterLemmas.{filter_none}
 use Rattle.dict_rows.proofs.PartLemmas.{filter_filter}
-use Rattle.dict_rows.proofs.TakenLemmas.{same_number_is, nat_same}
-use Rattle.dict_derived.specs.Entries.{Filed, filed, plain, derived, derived_from, piece_at}
-use Rattle.dict_derived.specs.Placed.{gram_rows}
-use Rattle.dict_derived.specs.AllTables.{AllTables, all_after}
-use Rattle.dict_derived.specs.declared.placed.PlacedGram.{PlacedGram}
-use Rattle.dict_derived.specs.declared.reader.Pieces.TheVariants.{Words, Grams}
-use Rattle.dict_derived.proofs.AfterLemmas.{derived_due}
+use Rattle.dict_rows.proofs.TakenLemmas.{same_number_is}
+use Rattle.dict_files.specs.Files.{parts_under, installed_parts}
+use Rattle.dict_files.specs.AllTables.{AllTables, all_after}
 use Rattle.dict_holdings.specs.Holds.{Keeps}
-use Rattle.dict_commands.specs.Kept.{HasRecords, IsUsable, HoldsReplies, Turns, IsStorable, AreStorable}
-use Rattle.dict_commands.specs.Changes.{with_more_editions, with_more_entries, with_more_words, with_more_grams}
-use Rattle.dict_commands.specs.Filing.{entry_of, word_of, entries_of, words_of, grams_of, IsDrawnUp, IsWhole, HasNoneFiled, filed_by, without_rows_of, IsAhead, rows_under, HasSameUnder, HasSameRows, ShowsStill, rested, IsUnderway}
+use Rattle.dict_commands.specs.Kept.{HasRecords, IsUsable, HoldsReplies, Turns}
+use Rattle.dict_commands.specs.Changes.{with_more_editions, with_more_parts, without_parts}
+use Rattle.dict_commands.specs.Filing.{parts_of_filing, IsDrawnUp, IsWhole, IsOfEdition, HasNoneFiled, filed_by, IsAhead, rows_under, HasSameUnder, HasSameRows, ShowsStill, rested, IsUnderway}
 use Rattle.dict_commands.specs.Finishing.{finished, IsOfChange, AwaitsRest}
-use Rattle.dict_commands.specs.Listed.{keys_of_lines}
 use Rattle.dict_commands.specs.Parts.{Files, Trims}
-use Rattle.dict_commands.specs.Statements.{adding_edition, adding_entry, adding_word, adding_gram}
+use Rattle.dict_commands.specs.Statements.{adding_edition, adding_part}
 use Rattle.dict_commands.specs.Writes.{Wrote}
-use Rattle.dict_commands.specs.declared.filing.FiledEntry.{FiledEntry}
-use Rattle.dict_commands.specs.declared.filing.FiledWord.{FiledWord}
 use Rattle.dict_commands.specs.declared.filing.Filing.{Filing}
 use Rattle.dict_commands.proofs.GoneLemmas.{tested}
-use Rattle.dict_commands.proofs.LoopLemmas.{adding_none, mapped_at, numbered_next}
-use Rattle.dict_commands.proofs.PartLemmas.{is_part, cut_entries, cut_words, cut_grams}
+use Rattle.dict_commands.proofs.LoopLemmas.{adding_none}
+use Rattle.dict_commands.proofs.PartLemmas.{is_late, with_parts_that}
 use Rattle.dict_commands.proofs.RowLemmas.{filter_map, next_column, compared_values}
-use Rattle.dict_commands.proofs.TableLemmas.{editions_kept, entries_kept, words_kept, grams_kept, kept_kept, pieces_turned}
+use Rattle.dict_commands.proofs.TableLemmas.{edition_row, editions_kept, parts_kept, kept_kept, other_entries}
+use Rattle.dict_commands.proofs.TextLemmas.{parts_its, number_apart, others_fail, front_fails, found_aside}
 use Rattle.dict_commands.proofs.WriteLemmas.{others_none, others_then}
-
--- one more, as it is read
-pub mapped_item : {X Y : Type 0} (f : X → Y) (xs : List X) (i : ℕ) (x : X) → i < length xs → x ≡ get_or xs i x → map f (take i xs) ++ f x ∷ [] ≡ map f (take (i + 1) xs)
-mapped_item f xs i x lt is = ap (λ y. map f (take i xs) ++ f y ∷ []) is ∙ mapped_at f xs i x lt
 
 -- ---- rows of editions that are left aside
 
@@ -80,15 +65,14 @@ module _ {R : Type 0} (number_of : R → ℤ) (some gone : List ℕ) (among : Ar
   more_aside : (xs ys : List R) → filter (stays number_of some) xs ≡ filter (stays number_of some) ys → filter (stays number_of gone) xs ≡ filter (stays number_of gone) ys
   more_aside xs ys same = sym (twice_aside xs) ∙ ap (filter (stays number_of gone)) same ∙ twice_aside ys
 
-all_aside : (some gone : List ℕ) → AreAmong some gone → (s t : AllTables) → without_rows_of some s ≡ without_rows_of some t → without_rows_of gone s ≡ without_rows_of gone t
+all_aside : (some gone : List ℕ) → AreAmong some gone → (s t : AllTables) → without_parts some s ≡ without_parts some t → without_parts gone s ≡ without_parts gone t
 all_aside some gone among s t same = λ i. record {
   marks = ap (λ (a : AllTables). a.marks) same i;
   items = ap (λ (a : AllTables). a.items) same i;
   members = ap (λ (a : AllTables). a.members) same i;
   editions = ap (λ (a : AllTables). a.editions) same i;
-  entries = more_aside (λ (r : Filed). r.edition) some gone among s.entries t.entries (ap (λ (a : AllTables). a.entries) same) i;
-  words = more_aside (λ (r : Piece). r.edition) some gone among s.words t.words (ap (λ (a : AllTables). a.words) same) i;
-  grams = more_aside (λ (r : Piece). r.edition) some gone among s.grams t.grams (ap (λ (a : AllTables). a.grams) same) i;
+  entries = ap (λ (a : AllTables). a.entries) same i;
+  parts = more_aside (λ (r : Part). r.edition) some gone among s.parts t.parts (ap (λ (a : AllTables). a.parts) same) i;
   kept = ap (λ (a : AllTables). a.kept) same i;
 }
 
@@ -100,36 +84,41 @@ one_among gone number there z is = subst (λ y. is_gone gone y ≡ true) (same_n
     first_of true e = refl
     first_of false e = e
 
--- ---- rows of an edition that goes are taken out
+-- ---- parts of an edition that goes are taken out
 
-part_stays : (e b g : Bool) → not e ≡ not g → (not (e && b) && not g) ≡ not g
-part_stays true true g same = same
-part_stays true false g same = refl
-part_stays false b g same = refl
+late_stays : (e f b g : Bool) → not e ≡ not g → (not ((e && f) && b) && not g) ≡ not g
+late_stays true true true g same = same
+late_stays true true false g same = refl
+late_stays true false b g same = refl
+late_stays false f b g same = refl
 
-module _ {R : Type 0} (name : List ℕ) (encode : R → Row) (number_of : R → ℤ) (first : (r : R) → column (encode r) 0 ≡ Int (number_of r)) (number : ℕ) (bound : Value) where
-  cut_aside : (rows : List R) → filter (stays number_of (number ∷ [])) (filter (λ r. not (is_part number bound (encode r))) rows) ≡ filter (stays number_of (number ∷ [])) rows
-  cut_aside rows =
-      filter_filter (stays number_of (number ∷ [])) (λ r. not (is_part number bound (encode r))) (stays number_of (number ∷ []))
-      (λ r. part_stays (equals_number 0 (pos number) (encode r)) (comes_before (column (encode r) 1) bound) (is_gone (number ∷ []) (number_of r)) (tested name encode number_of first number r)) rows
+rest_stays : (e g : Bool) → not e ≡ not g → (not e && not g) ≡ not g
+rest_stays true g same = same
+rest_stays false g same = refl
 
-pub entries_aside : (number : ℕ) (bound : Value) (all : AllTables) → without_rows_of (number ∷ []) (cut_entries (λ r. not (is_part number bound (keyed_entry_row r))) all) ≡ without_rows_of (number ∷ []) all
-entries_aside number bound all = ap (λ (l : List Filed). record (without_rows_of (number ∷ []) all) { entries = l }) (cut_aside (codes "entry") keyed_entry_row (λ (r : Filed). r.edition) (λ r. refl) number bound all.entries)
+module _ (number : ℕ) where
+  its : (r : Part) → not (equals_number 0 (pos number) (part_row r)) ≡ not (is_gone (number ∷ []) r.edition)
+  its r = tested (codes "dictcat_part") part_row (λ (p : Part). p.edition) (λ p. refl) number r
 
-pub words_aside : (number : ℕ) (bound : Value) (all : AllTables) → without_rows_of (number ∷ []) (cut_words (λ r. not (is_part number bound (piece_row r))) all) ≡ without_rows_of (number ∷ []) all
-words_aside number bound all = ap (λ (l : List Piece). record (without_rows_of (number ∷ []) all) { words = l }) (cut_aside (codes "word") piece_row (λ (r : Piece). r.edition) (λ r. refl) number bound all.words)
+  aside : (stays_too : Part → Bool) → ((r : Part) → (stays_too r && not (is_gone (number ∷ []) r.edition)) ≡ not (is_gone (number ∷ []) r.edition)) → (all : AllTables) → without_parts (number ∷ [])
+      (with_parts_that stays_too all) ≡ without_parts (number ∷ []) all
+  aside stays_too each all =
+      ap (λ (l : List Part). record all { parts = l }) (filter_filter (λ (r : Part). not (is_gone (number ∷ []) r.edition)) stays_too (λ (r : Part). not (is_gone (number ∷ []) r.edition)) each all.parts)
 
-pub grams_aside : (number : ℕ) (bound : Value) (all : AllTables) → without_rows_of (number ∷ []) (cut_grams (λ r. not (is_part number bound (piece_row r))) all) ≡ without_rows_of (number ∷ []) all
-grams_aside number bound all = ap (λ (l : List Piece). record (without_rows_of (number ∷ []) all) { grams = l }) (cut_aside (codes "gram") piece_row (λ (r : Piece). r.edition) (λ r. refl) number bound all.grams)
+  pub late_aside : (from : ℤ) (all : AllTables) → without_parts (number ∷ []) (with_parts_that (λ r. not (is_late number from (part_row r))) all) ≡ without_parts (number ∷ []) all
+  late_aside from all = aside (λ r. not (is_late number from (part_row r))) (λ r. late_stays (equals_number 0 (pos number) (part_row r)) _ _ (is_gone (number ∷ []) r.edition) (its r)) all
+
+  pub rest_aside : (all : AllTables) → without_parts (number ∷ []) (with_parts_that (λ r. not (equals_number 0 (pos number) (part_row r))) all) ≡ without_parts (number ∷ []) all
+  rest_aside all = aside (λ r. not (equals_number 0 (pos number) (part_row r))) (λ r. rest_stays (equals_number 0 (pos number) (part_row r)) (is_gone (number ∷ []) r.edition) (its r)) all
 
 ahead_trimmed : (f : Filing) (number : ℕ) (effect : AllTables → AllTables) (committed old new : Database) → AreAmong (number ∷ []) f.gone.items → Turns effect old new
-    → ((all : AllTables) → without_rows_of (number ∷ []) (effect all) ≡ without_rows_of (number ∷ []) all) → IsAhead f committed old → IsAhead f committed new
+    → ((all : AllTables) → without_parts (number ∷ []) (effect all) ≡ without_parts (number ∷ []) all) → IsAhead f committed old → IsAhead f committed new
 ahead_trimmed f number effect committed old new among turns others ahead = λ all it.
     let seen = ahead all it in
     let more = turns seen.0 seen.1 in
     (effect seen.0, more.0, all_aside (number ∷ []) f.gone.items among (effect seen.0) seen.0 (others seen.0) ∙ seen.2, others_then committed old new seen.3 more.1)
 
--- ---- rows that are filed
+-- ---- parts that are filed
 
 pub so_far : {X : Type 0} (xs : List X) (from to : ℕ) → from ≤ to → take from xs ++ slice_range xs from to ≡ take to xs
 so_far xs from to le =
@@ -140,99 +129,36 @@ grown : {R : Type 0} (k : R → Bool) (seen all part rows whole : List R) → fi
 grown k seen all part rows whole same next =
     filter-append k seen rows ∙ ap (λ l. l ++ filter k rows) same ∙ sym (filter-append k (all ++ part) rows) ∙ ap (filter k) (append_assoc all part rows ∙ ap (λ l. all ++ l) next)
 
-module _ (f : Filing) (to : ℕ) (committed old new : Database) (ahead : IsAhead f committed old) where
-  ahead_entries : (rows : List Filed) → take f.entries_filed (entries_of f) ++ rows ≡ take to (entries_of f) → Turns (with_more_entries rows) old new → IsAhead (record f { entries_filed = to }) committed new
-  ahead_entries rows next turns = λ all it.
-      let seen = ahead all it in
-      let more = turns seen.0 seen.1 in (
-        with_more_entries rows seen.0,
-        more.0,
-        (λ i. record {
-          marks = ap (λ (a : AllTables). a.marks) seen.2 i;
-          items = ap (λ (a : AllTables). a.items) seen.2 i;
-          members = ap (λ (a : AllTables). a.members) seen.2 i;
-          editions = ap (λ (a : AllTables). a.editions) seen.2 i;
-          entries = grown (stays (λ (r : Filed). r.edition) f.gone.items) seen.0.entries all.entries (take f.entries_filed (entries_of f)) rows (take to (entries_of f)) (ap (λ (a : AllTables). a.entries) seen.2) next i;
-          words = ap (λ (a : AllTables). a.words) seen.2 i;
-          grams = ap (λ (a : AllTables). a.grams) seen.2 i;
-          kept = ap (λ (a : AllTables). a.kept) seen.2 i;
-        }),
-        others_then committed old new seen.3 more.1,
-      )
-
-  ahead_words : (rows : List Piece) → take f.words_filed (words_of f) ++ rows ≡ take to (words_of f) → Turns (with_more_words rows) old new → IsAhead (record f { words_filed = to }) committed new
-  ahead_words rows next turns = λ all it.
-      let seen = ahead all it in
-      let more = turns seen.0 seen.1 in (
-        with_more_words rows seen.0,
-        more.0,
-        (λ i. record {
-          marks = ap (λ (a : AllTables). a.marks) seen.2 i;
-          items = ap (λ (a : AllTables). a.items) seen.2 i;
-          members = ap (λ (a : AllTables). a.members) seen.2 i;
-          editions = ap (λ (a : AllTables). a.editions) seen.2 i;
-          entries = ap (λ (a : AllTables). a.entries) seen.2 i;
-          words = grown (stays (λ (r : Piece). r.edition) f.gone.items) seen.0.words all.words (take f.words_filed (words_of f)) rows (take to (words_of f)) (ap (λ (a : AllTables). a.words) seen.2) next i;
-          grams = ap (λ (a : AllTables). a.grams) seen.2 i;
-          kept = ap (λ (a : AllTables). a.kept) seen.2 i;
-        }),
-        others_then committed old new seen.3 more.1,
-      )
-
-  ahead_grams : (rows : List Piece) → take f.grams_filed (grams_of f) ++ rows ≡ take to (grams_of f) → Turns (with_more_grams rows) old new → IsAhead (record f { grams_filed = to }) committed new
-  ahead_grams rows next turns = λ all it.
-      let seen = ahead all it in
-      let more = turns seen.0 seen.1 in (
-        with_more_grams rows seen.0,
-        more.0,
-        (λ i. record {
-          marks = ap (λ (a : AllTables). a.marks) seen.2 i;
-          items = ap (λ (a : AllTables). a.items) seen.2 i;
-          members = ap (λ (a : AllTables). a.members) seen.2 i;
-          editions = ap (λ (a : AllTables). a.editions) seen.2 i;
-          entries = ap (λ (a : AllTables). a.entries) seen.2 i;
-          words = ap (λ (a : AllTables). a.words) seen.2 i;
-          grams = grown (stays (λ (r : Piece). r.edition) f.gone.items) seen.0.grams all.grams (take f.grams_filed (grams_of f)) rows (take to (grams_of f)) (ap (λ (a : AllTables). a.grams) seen.2) next i;
-          kept = ap (λ (a : AllTables). a.kept) seen.2 i;
-        }),
-        others_then committed old new seen.3 more.1,
-      )
+ahead_parts : (f : Filing) (to : ℕ) (committed old new : Database) → IsAhead f committed old → (rows : List Part) → take f.parts_filed (parts_of_filing f) ++ rows ≡ take to (parts_of_filing f) → Turns
+    (with_more_parts rows) old new → IsAhead (record f { parts_filed = to }) committed new
+ahead_parts f to committed old new ahead rows next turns = λ all it.
+    let seen = ahead all it in
+    let more = turns seen.0 seen.1 in (
+      with_more_parts rows seen.0,
+      more.0,
+      (λ i. record {
+        marks = ap (λ (a : AllTables). a.marks) seen.2 i;
+        items = ap (λ (a : AllTables). a.items) seen.2 i;
+        members = ap (λ (a : AllTables). a.members) seen.2 i;
+        editions = ap (λ (a : AllTables). a.editions) seen.2 i;
+        entries = ap (λ (a : AllTables). a.entries) seen.2 i;
+        parts = grown (stays (λ (r : Part). r.edition) f.gone.items) seen.0.parts all.parts (take f.parts_filed (parts_of_filing f)) rows (take to (parts_of_filing f)) (ap (λ (a : AllTables). a.parts) seen.2) next i;
+        kept = ap (λ (a : AllTables). a.kept) seen.2 i;
+      }),
+      others_then committed old new seen.3 more.1,
+    )
 
 -- ---- nothing is filed
 
 none_behind : {R : Type 0} (all rows : List R) (n : ℕ) → n ≡ 0 → all ≡ all ++ take n rows
 none_behind all rows n none = sym (ap (λ k. all ++ take k rows) none ∙ append-nil all)
 
-filed_none : (f : Filing) → HasNoneFiled f → (all : AllTables) → all ≡ filed_by f all
-filed_none f none all = λ i. record all {
-  entries = none_behind all.entries (entries_of f) f.entries_filed none.entries i;
-  words = none_behind all.words (words_of f) f.words_filed none.words i;
-  grams = none_behind all.grams (grams_of f) f.grams_filed none.grams i;
-}
-
 ahead_none : (f : Filing) → HasNoneFiled f → (committed : Database) → IsAhead f committed committed
-ahead_none f none committed = λ all it. (all, it, ap (without_rows_of f.gone.items) (filed_none f none all), others_none committed)
+ahead_none f none committed = λ all it.
+    let same : all ≡ filed_by f all = λ i. record all { parts = none_behind all.parts (parts_of_filing f) f.parts_filed none.filed i } in
+    (all, it, ap (without_parts f.gone.items) same, others_none committed)
 
 -- ---- what stands under other numbers
-
-and_no : (a : Bool) → (a && false) ≡ false
-and_no true = refl
-and_no false = refl
-
-kept_test : (a q : Bool) → (q ≡ true → a ≡ true) → (a && q) ≡ q
-kept_test a true h = ap (λ b. b && true) (h refl)
-kept_test a false h = and_no a
-
-none_pass : {X R : Type 0} (q : R → Bool) (h : X → R) → ((x : X) → q (h x) ≡ false) → (k : ℕ) (xs : List X) → filter q (take k (map h xs)) ≡ []
-none_pass q h never zero xs = refl
-none_pass q h never (suc k) [] = refl
-none_pass q h never (suc k) (x ∷ xs) = ap (λ b. cond b (h x ∷ filter q (take k (map h xs))) (filter q (take k (map h xs)))) (never x) ∙ none_pass q h never k xs
-
-other_number : (m n : ℕ) → m ≢ n → same_number (pos m) (pos n) ≡ false
-other_number m n apart = elim (cases_Bool (m == n)) [
-  | inl same ↦ absurd (apart (nat_same m n same))
-  | inr differs ↦ differs
-]
 
 module _ {R : Type 0} (name : List ℕ) (encode : R → Row) (number : ℕ) where
   abbrev is_its : Row → Bool
@@ -248,30 +174,21 @@ module _ {R : Type 0} (name : List ℕ) (encode : R → Row) (number : ℕ) wher
       IsPermutation-trans (rows_under name number old) (filter is_its (map encode before)) (rows_under name number new) (IsPermutation-sym (filter is_its (map encode before)) (rows_under name number old) (stands_under old before one))
       (subst (λ l. IsPermutation l (rows_under name number new)) (sym same) (stands_under new after two))
 
-  module _ {X : Type 0} (number_of : R → ℤ) (first : (r : R) → column (encode r) 0 ≡ Int (number_of r)) (gone : List ℕ) (stands : is_gone gone (pos number) ≡ false) (coming : ℕ) (apart : number ≢ coming) (h : X → R) (comes : (x : X) → number_of (h x) ≡ pos coming) where
-    test_is : (r : R) → is_its (encode r) ≡ same_number (pos number) (number_of r)
-    test_is r = ap (λ (v : Value). same_value v (Int (pos number))) (first r) ∙ compared_values (pos number) (number_of r)
+pub part_asks : (number : ℕ) (p : Part) → equals_number 0 (pos number) (part_row p) ≡ true → p.edition ≡ pos number
+part_asks number p its = sym (same_number_is (pos number) p.edition (sym (compared_values (pos number) p.edition) ∙ its))
 
-    its_stays : (r : R) → is_its (encode r) ≡ true → stays number_of gone r ≡ true
-    its_stays r its =
-        let is : pos number ≡ number_of r = same_number_is (pos number) (number_of r) (sym (test_is r) ∙ its) in
-        ap not (ap (is_gone gone) (sym is) ∙ stands)
-
-    none_comes : (x : X) → is_its (encode (h x)) ≡ false
-    none_comes x = test_is (h x) ∙ ap (same_number (pos number)) (comes x) ∙ other_number number coming apart
-
-    found_aside : (rows : List R) → filter (λ r. is_its (encode r)) (filter (stays number_of gone) rows) ≡ filter (λ r. is_its (encode r)) rows
-    found_aside rows = filter_filter (λ r. is_its (encode r)) (stays number_of gone) (λ r. is_its (encode r)) (λ r. kept_test (stays number_of gone r) (is_its (encode r)) (its_stays r)) rows
-
-    found_same : (seen all : List R) (k : ℕ) (xs : List X) → filter (stays number_of gone) seen ≡ filter (stays number_of gone) (all ++ take k (map h xs)) → filter (λ r. is_its (encode r)) seen ≡ filter (λ r. is_its (encode r)) all
-    found_same seen all k xs same =
-        sym (found_aside seen) ∙ ap (filter (λ r. is_its (encode r))) same ∙ found_aside (all ++ take k (map h xs)) ∙ filter-append (λ r. is_its (encode r)) all (take k (map h xs))
-        ∙ ap (λ l. filter (λ r. is_its (encode r)) all ++ l) (none_pass (λ r. is_its (encode r)) h none_comes k xs) ∙ append-nil (filter (λ r. is_its (encode r)) all)
-
-    still_under : (old new : Database) (seen all : List R) (k : ℕ) (xs : List X) → filter (stays number_of gone) seen ≡ filter (stays number_of gone) (all ++ take k (map h xs)) → Keeps name encode old all → Keeps name encode new seen → HasSameUnder name number old new
-    still_under old new seen all k xs same one two =
-        same_under old new all seen
-        (sym (filter_map encode is_its (λ r. is_its (encode r)) (λ r. refl) all) ∙ ap (map encode) (sym (found_same seen all k xs same)) ∙ filter_map encode is_its (λ r. is_its (encode r)) (λ r. refl) seen) one two
+-- the parts of an edition that neither goes nor comes
+found_same : (f : Filing) (number : ℕ) → is_gone f.gone.items (pos number) ≡ false → number ≢ f.number → (seen all : List Part) → filter (stays (λ (r : Part). r.edition) f.gone.items) seen ≡ filter
+    (stays (λ (r : Part). r.edition) f.gone.items) (all ++ take f.parts_filed (parts_of_filing f))
+    → filter (λ (p : Part). equals_number 0 (pos number) (part_row p)) seen ≡ filter (λ (p : Part). equals_number 0 (pos number) (part_row p)) all
+found_same f number stands apart seen all same =
+    let q : Part → Bool = λ (p : Part). equals_number 0 (pos number) (part_row p) in
+    let front : List Part = take f.parts_filed (parts_of_filing f) in
+    let none : filter q front ≡ [] =
+    filter_none q front (front_fails q f.parts_filed (parts_of_filing f)
+    (others_fail q (pos number) (pos f.number) (part_asks number) (number_apart number f.number apart) (parts_of_filing f) (parts_its (pos f.number) f.index.items f.text.items))) in
+    sym (found_aside q number f.gone.items (part_asks number) stands seen) ∙ ap (filter q) same ∙ found_aside q number f.gone.items (part_asks number) stands (all ++ front) ∙ filter-append q all front
+    ∙ ap (λ l. filter q all ++ l) none ∙ append-nil (filter q all)
 
 replies_still : (committed now : Database) (all seen : AllTables) → HasRecords committed all → HasRecords now seen → seen.kept ≡ all.kept → (kept : List KeptFor) → HoldsReplies committed kept → HoldsReplies now kept
 replies_still committed now all seen one two same kept held =
@@ -280,7 +197,8 @@ replies_still committed now all seen one two same kept held =
     record {
       keeps = record {
         rows = IsPermutation-trans (map kept_row (map kept_record kept)) (map (drop 1) (rows_of (codes "kept") committed)) (map (drop 1) (rows_of (codes "kept") now)) held.keeps.rows
-            (IsPermutation-trans (map (drop 1) (rows_of (codes "kept") committed)) (map kept_row all.kept) (map (drop 1) (rows_of (codes "kept") now)) (IsPermutation-sym (map kept_row all.kept) (map (drop 1) (rows_of (codes "kept") committed)) before.rows)
+            (IsPermutation-trans (map (drop 1) (rows_of (codes "kept") committed)) (map kept_row all.kept) (map (drop 1) (rows_of (codes "kept") now))
+            (IsPermutation-sym (map kept_row all.kept) (map (drop 1) (rows_of (codes "kept") committed)) before.rows)
             (subst (λ l. IsPermutation (map kept_row l) (map (drop 1) (rows_of (codes "kept") now))) same after.rows));
         apart = after.apart;
       };
@@ -299,92 +217,67 @@ still_shown f committed now usable ahead =
       schema = more.3.schema;
       usable = (seen, has);
       editions = λ number stands apart. record {
-        editions = same_under (codes "edition") edition_row number committed now all.editions seen.editions (ap (λ (a : AllTables). filter (λ row. equals_number 0 (pos number) row) (map edition_row a.editions)) (sym same)) (editions_kept committed all it) (editions_kept now seen has);
-        entries = still_under (codes "entry") keyed_entry_row number (λ (r : Filed). r.edition) (λ r. refl) f.gone.items stands f.number apart (entry_of f.number) (λ x. refl) committed now seen.entries all.entries f.entries_filed f.entries.items (ap (λ (a : AllTables). a.entries) same)
-            (entries_kept committed all it) (entries_kept now seen has);
-        words = still_under (codes "word") piece_row number (λ (r : Piece). r.edition) (λ r. refl) f.gone.items stands f.number apart (word_of f.number) (λ x. refl) committed now seen.words all.words f.words_filed f.words.items (ap (λ (a : AllTables). a.words) same)
-            (words_kept committed all it) (words_kept now seen has);
-        grams = still_under (codes "gram") piece_row number (λ (r : Piece). r.edition) (λ r. refl) f.gone.items stands f.number apart (λ (p : PlacedGram). piece_at (pos f.number) (pos p.ord) p.gram) (λ x. refl) committed now seen.grams all.grams f.grams_filed f.grams.items
-            (ap (λ (a : AllTables). a.grams) same) (grams_kept committed all it) (grams_kept now seen has);
+        editions = same_under (codes "edition") edition_row number committed now all.editions seen.editions (ap (λ (a : AllTables). filter (λ row. equals_number 0 (pos number) row) (map edition_row a.editions)) (sym same))
+            (editions_kept committed all it) (editions_kept now seen has);
+        parts = same_under (codes "dictcat_part") part_row number committed now all.parts seen.parts
+            (sym (filter_map part_row (λ row. equals_number 0 (pos number) row) (λ (p : Part). equals_number 0 (pos number) (part_row p)) (λ p. refl) all.parts)
+            ∙ ap (map part_row) (sym (found_same f number stands apart seen.parts all.parts (ap (λ (a : AllTables). a.parts) same)))
+            ∙ filter_map part_row (λ row. equals_number 0 (pos number) row) (λ (p : Part). equals_number 0 (pos number) (part_row p)) (λ p. refl) seen.parts)
+            (parts_kept committed all it) (parts_kept now seen has);
       };
       replies = replies_still committed now all seen it has (ap (λ (a : AllTables). a.kept) same);
     }
 
 -- ---- all is filed
 
-all_pass : {X R : Type 0} (k : R → Bool) (h : X → R) → ((x : X) → k (h x) ≡ true) → (xs : List X) → filter k (map h xs) ≡ map h xs
-all_pass k h each [] = refl
-all_pass k h each (x ∷ xs) = ap (λ b. cond b (h x ∷ filter k (map h xs)) (filter k (map h xs))) (each x) ∙ ap (λ l. h x ∷ l) (all_pass k h each xs)
+all_pass : (k : Part → Bool) (number : ℤ) → ((p : Part) → p.edition ≡ number → k p ≡ true) → (ps : List Part) → AllByRecursion (λ (p : Part). p.edition ≡ number) ps → filter k ps ≡ ps
+all_pass k number each [] h = refl
+all_pass k number each (p ∷ ps) h = ap (λ b. cond b (p ∷ filter k ps) (filter k ps)) (each p h.0) ∙ ap (λ l. p ∷ l) (all_pass k number each ps h.1)
 
--- all rows of a table are behind those of other editions
-all_behind : {X R : Type 0} (k : R → Bool) (h : X → R) → ((x : X) → k (h x) ≡ true) → (seen all : List R) (n : ℕ) (xs : List X) → length xs ≤ n → filter k seen ≡ filter k (all ++ take n (map h xs)) → filter k seen ≡ filter k all ++ map h xs
-all_behind k h each seen all n xs whole same =
-    let most : length (map h xs) ≤ n = subst (λ m. m ≤ n) (sym (length-map xs h)) whole in
-    same ∙ ap (λ l. filter k (all ++ l)) (take_all n (map h xs) most) ∙ filter-append k all (map h xs) ∙ ap (λ l. filter k all ++ l) (all_pass k h each xs)
+-- the files of the edition that is installed are those that were filed
+parts_are : (f : Filing) (edition : Option Installed) → IsOfEdition f edition → parts_of_filing f ≡ installed_parts edition
+parts_are f None h = absurd h
+parts_are f (Some new) h = λ i. parts_under (pos (h.0 i)) (h.1 i) (h.2 i)
 
-module _ (f : Filing) (change : TableChange) (drawn : IsDrawnUp f) (whole : IsWhole f) (of_it : IsOfChange f change.edition change.gone) (all seen : AllTables) (same : without_rows_of f.gone.items seen ≡ without_rows_of f.gone.items (filed_by f all)) where
-  same_gone : without_rows_of change.gone seen ≡ without_rows_of change.gone (filed_by f all)
-  same_gone = subst (λ l. without_rows_of l seen ≡ without_rows_of l (filed_by f all)) of_it.gone_is same
+module _ (f : Filing) (change : TableChange) (whole : IsWhole f) (of_it : IsOfChange f change.edition change.gone) (all seen : AllTables) (same : without_parts f.gone.items seen ≡ without_parts f.gone.items (filed_by f all)) where
+  same_gone : without_parts change.gone seen ≡ without_parts change.gone (filed_by f all)
+  same_gone = subst (λ l. without_parts l seen ≡ without_parts l (filed_by f all)) of_it.gone_is same
 
-  own_stays : not (is_gone change.gone (pos f.number)) ≡ true
-  own_stays = ap not of_it.stays
+  -- all parts are behind those of other editions
+  parts_behind : filter (stays (λ (r : Part). r.edition) change.gone) seen.parts ≡ filter (stays (λ (r : Part). r.edition) change.gone) all.parts ++ installed_parts change.edition
+  parts_behind =
+      let k : Part → Bool = stays (λ (r : Part). r.edition) change.gone in
+      ap (λ (a : AllTables). a.parts) same_gone ∙ ap (λ l. filter k (all.parts ++ l)) (take_all f.parts_filed (parts_of_filing f) whole) ∙ filter-append k all.parts (parts_of_filing f)
+      ∙ ap (λ l. filter k all.parts ++ l) (all_pass k (pos f.number) (λ p is. ap (λ n. not (is_gone change.gone n)) is ∙ ap not of_it.stays) (parts_of_filing f) (parts_its (pos f.number) f.index.items f.text.items))
+      ∙ ap (λ l. filter k all.parts ++ l) (parts_are f change.edition of_it.files)
 
-  entries_are : entries_of f ≡ map filed (installed_entries change.edition)
-  entries_are = sym drawn.entries ∙ ap (map filed) of_it.entries
+  -- but for the entries, which no table keeps
+  abbrev but_entries : AllTables
+  but_entries = record (all_after known change all) { entries = filter (stays (λ (r : Entry). r.edition) change.gone) all.entries }
 
-  -- with the words and the grams in the order in which they were filed
-  abbrev in_order : AllTables
-  in_order = record (all_after known change all) {
-    words = filter (stays (λ (r : Piece). r.edition) change.gone) all.words ++ words_of f;
-    grams = filter (stays (λ (r : Piece). r.edition) change.gone) all.grams ++ grams_of f;
-  }
-
-  finished_is : finished change seen ≡ in_order
-  finished_is = λ i. record in_order {
+  finished_is : finished change seen ≡ but_entries
+  finished_is = λ i. record but_entries {
     editions = filter (stays (λ (r : Edition). r.number) change.gone) (ap (λ (a : AllTables). a.editions) same_gone i) ++ installed_editions change.edition;
-    entries = (all_behind (stays (λ (r : Filed). r.edition) change.gone) (entry_of f.number) (λ x. own_stays) seen.entries all.entries f.entries_filed f.entries.items whole.entries (ap (λ (a : AllTables). a.entries) same_gone)
-        ∙ ap (λ l. filter (stays (λ (r : Filed). r.edition) change.gone) all.entries ++ l) entries_are) i;
-    words = all_behind (stays (λ (r : Piece). r.edition) change.gone) (word_of f.number) (λ x. own_stays) seen.words all.words f.words_filed f.words.items whole.words (ap (λ (a : AllTables). a.words) same_gone) i;
-    grams = all_behind (stays (λ (r : Piece). r.edition) change.gone) (λ (p : PlacedGram). piece_at (pos f.number) (pos p.ord) p.gram) (λ x. own_stays) seen.grams all.grams f.grams_filed f.grams.items whole.grams (ap (λ (a : AllTables). a.grams) same_gone) i;
+    entries = filter (stays (λ (r : Entry). r.edition) change.gone) (ap (λ (a : AllTables). a.entries) same_gone i);
+    parts = parts_behind i;
     kept = ap (λ (a : AllTables). a.kept) same_gone i ++ kept_record change.kept ∷ [];
   }
 
   rest_turned : (db : Database) → HasRecords db (finished change seen) → HasRecords db (all_after known change all)
-  rest_turned db it =
-      let words : IsPermutation (words_of f) (flat_map (derived Words) (installed_entries change.edition)) = subst (λ l. IsPermutation (words_of f) (flat_map (derived Words) l)) of_it.entries drawn.words in
-      let grams : IsPermutation (grams_of f) (flat_map (derived Grams) (installed_entries change.edition)) = subst (λ l. IsPermutation (grams_of f) (flat_map (derived Grams) l)) of_it.entries drawn.grams in
-      pieces_turned db in_order (all_after known change all).words (all_after known change all).grams
-      (IsPermutation-append_right (filter (stays (λ (r : Piece). r.edition) change.gone) all.words) (words_of f) (flat_map (derived Words) (installed_entries change.edition)) words)
-      (IsPermutation-append_right (filter (stays (λ (r : Piece). r.edition) change.gone) all.grams) (grams_of f) (flat_map (derived Grams) (installed_entries change.edition)) grams) (subst (HasRecords db) finished_is it)
+  rest_turned db it = other_entries db but_entries (subst (HasRecords db) finished_is it) (all_after known change all).entries
 
-pub awaits_rest : (f : Filing) (change : TableChange) (committed now : Database) → IsDrawnUp f → IsWhole f → IsOfChange f change.edition change.gone → IsAhead f committed now → AwaitsRest change committed now
-awaits_rest f change committed now drawn whole of_it ahead = λ all it.
+pub awaits_rest : (f : Filing) (change : TableChange) (committed now : Database) → IsWhole f → IsOfChange f change.edition change.gone → IsAhead f committed now → AwaitsRest change committed now
+awaits_rest f change committed now whole of_it ahead = λ all it.
     let seen = ahead all it in
-    (seen.0, seen.1, seen.3, rest_turned f change drawn whole of_it all seen.0 seen.2)
+    (seen.0, seen.1, seen.3, rest_turned f change whole of_it all seen.0 seen.2)
 
 -- ---- what the parts do
 
-filed_next : {X R : Type 0} (h : X → R) (xs : List X) (from to : ℕ) (rows : List X) → rows ≡ slice_range xs from to → from ≤ to → take from (map h xs) ++ map h rows ≡ take to (map h xs)
-filed_next h xs from to rows are le =
-    ap (λ l. take from (map h xs) ++ map h l) are ∙ ap (λ l. l ++ map h (slice_range xs from to)) (take-map h from xs) ∙ sym (map-append h (take from xs) (slice_range xs from to)) ∙ ap (map h) (so_far xs from to le) ∙ sym (take-map h to xs)
-
 module _ {S : Type 0} (g : Ghosts S) (f : Filing) (old new : Held S) where
-  pub files_entries : (to : ℕ) (rows : List FiledEntry) → rows ≡ slice_range f.entries.items f.entries_filed to → f.entries_filed ≤ to → Wrote g (map adding_entry (map (entry_of f.number) rows)) (with_more_entries (map (entry_of f.number) rows)) old new → Files g f (record f { entries_filed = to }) old new
-  files_entries to rows are le wrote = record {
-    ahead = λ clean committed ahead. ahead_entries f to committed (state g old).now (state g new).now ahead (map (entry_of f.number) rows) (filed_next (entry_of f.number) f.entries.items f.entries_filed to rows are le) (wrote.turns clean);
-    inside = wrote.inside;
-  }
-
-  pub files_words : (to : ℕ) (rows : List FiledWord) → rows ≡ slice_range f.words.items f.words_filed to → f.words_filed ≤ to → Wrote g (map adding_word (map (word_of f.number) rows)) (with_more_words (map (word_of f.number) rows)) old new → Files g f (record f { words_filed = to }) old new
-  files_words to rows are le wrote = record {
-    ahead = λ clean committed ahead. ahead_words f to committed (state g old).now (state g new).now ahead (map (word_of f.number) rows) (filed_next (word_of f.number) f.words.items f.words_filed to rows are le) (wrote.turns clean);
-    inside = wrote.inside;
-  }
-
-  pub files_grams : (to : ℕ) (rows : List PlacedGram) → rows ≡ slice_range f.grams.items f.grams_filed to → f.grams_filed ≤ to → Wrote g (map adding_gram (gram_rows (pos f.number) rows)) (with_more_grams (gram_rows (pos f.number) rows)) old new → Files g f (record f { grams_filed = to }) old new
-  files_grams to rows are le wrote = record {
-    ahead = λ clean committed ahead. ahead_grams f to committed (state g old).now (state g new).now ahead (gram_rows (pos f.number) rows)
-        (filed_next (λ (p : PlacedGram). piece_at (pos f.number) (pos p.ord) p.gram) f.grams.items f.grams_filed to rows are le) (wrote.turns clean);
+  pub files_parts : (to : ℕ) (rows : List Part) → rows ≡ slice_range (parts_of_filing f) f.parts_filed to → f.parts_filed ≤ to → Wrote g (map adding_part rows) (with_more_parts rows) old new → Files g f
+      (record f { parts_filed = to }) old new
+  files_parts to rows are le wrote = record {
+    ahead = λ clean committed ahead. ahead_parts f to committed (state g old).now (state g new).now ahead rows (ap (λ l. take f.parts_filed (parts_of_filing f) ++ l) are ∙ so_far (parts_of_filing f) f.parts_filed to le) (wrote.turns clean);
     inside = wrote.inside;
   }
 
@@ -397,10 +290,10 @@ module _ {S : Type 0} (g : Ghosts S) (f : Filing) (old new : Held S) where
 -- ---- a filing of which more was filed
 
 pub drawn_same : (f after : Filing) → HasSameRows f after → IsDrawnUp f → IsDrawnUp after
-drawn_same f after same drawn = subst IsDrawnUp (sym same) (record { number = drawn.number; gone = drawn.gone; entries = drawn.entries; words = drawn.words; grams = drawn.grams })
+drawn_same f after same drawn = subst IsDrawnUp (sym same) (record { number = drawn.number; gone = drawn.gone })
 
 pub same_rows_then : (a b c : Filing) → HasSameRows a b → HasSameRows b c → HasSameRows a c
-same_rows_then a b c one two = two ∙ ap (λ (f : Filing). record f { parts_taken = c.parts_taken; entries_filed = c.entries_filed; words_filed = c.words_filed; grams_filed = c.grams_filed }) one
+same_rows_then a b c one two = two ∙ ap (λ (f : Filing). record f { parts_taken = c.parts_taken; parts_filed = c.parts_filed }) one
 
 -- ---- a connection on which it is filed
 
@@ -426,40 +319,11 @@ not_out true e = refl
 not_out false e = absurd (false≢true (sym e))
 
 -- more was filed in the transaction
-pub underway_more : {S : Type 0} (g : Ghosts S) (f after : Filing) (old new : Held S) → (HasCleanDisk (state g new) → HasCleanDisk (state g old)) → (HasCleanDisk (state g new) → KeepsCommit (state g old) (state g new)) → old.in_transaction ≡ true → IsUnderway g f old → Files g f after old new → IsUnderway g after new
+pub underway_more : {S : Type 0} (g : Ghosts S) (f after : Filing) (old new : Held S) → (HasCleanDisk (state g new) → HasCleanDisk (state g old))
+    → (HasCleanDisk (state g new) → KeepsCommit (state g old) (state g new)) → old.in_transaction ≡ true → IsUnderway g f old → Files g f after old new → IsUnderway g after new
 underway_more g f after old new early keeps inside underway files = λ clean live within.
     let kept = keeps clean in
     subst (λ (db : Database). IsAhead after db (state g new).now) (sym (kept.committed live)) (files.ahead clean (state g old).committed (underway (early clean) (kept.was_open live) inside))
-
--- ---- the rows of an edition
-
--- one more row at the end of a list
-pub pushed_next : {X R : Type 0} (h : X → R) (items : List X) (row : X) (new : List X) (some whole : List R) (next : R) → new ≡ items ++ row ∷ [] → map h items ≡ some → h row ≡ next → some ++ next ∷ [] ≡ whole → map h new ≡ whole
-pushed_next h items row new some whole next pushed before is after = ap (map h) pushed ∙ map-append h items (row ∷ []) ∙ ap (λ l. l ++ h row ∷ []) before ∙ ap (λ r. some ++ r ∷ []) is ∙ after
-
-plain_back : (es : List Entry) → map plain (map filed es) ≡ es
-plain_back [] = refl
-plain_back (e ∷ es) = ap (λ l. e ∷ l) (plain_back es)
-
-module _ (f : Filing) (lines : List Line) (entries : entries_of f ≡ map filed (numbered (entry_record f.number) 0 lines)) where
-  pub plain_is : map plain (entries_of f) ≡ numbered (entry_record f.number) 0 lines
-  plain_is = ap (map plain) entries ∙ plain_back (numbered (entry_record f.number) 0 lines)
-
-  pub drawn_up : IsStorable f.number → AreStorable f.gone.items → IsPermutation (words_of f) (derived_from Words (pos f.number) 0 (keys_of_lines lines)) → IsPermutation (grams_of f) (derived_from Grams (pos f.number) 0 (keys_of_lines lines)) → IsDrawnUp f
-  drawn_up number gone words grams = record {
-    number = number;
-    gone = gone;
-    entries = ap (map filed) plain_is ∙ sym entries;
-    words = subst (λ l. IsPermutation (words_of f) (flat_map (derived Words) l)) (sym plain_is) (subst (IsPermutation (words_of f)) (sym (derived_due Words f.number lines)) words);
-    grams = subst (λ l. IsPermutation (grams_of f) (flat_map (derived Grams) l)) (sym plain_is) (subst (IsPermutation (grams_of f)) (sym (derived_due Grams f.number lines)) grams);
-  }
-
--- rows that are compared with entries
-pub rows_next : (number : ℕ) (rows : List FiledEntry) (entries : List ReadEntry) (i : ℕ) (row : FiledEntry) (entry : ReadEntry) → i < length rows → row ≡ get_or rows i row → i < length entries → entry ≡ get_or entries i entry → plain (entry_of number row) ≡ entry_record number i (line_of entry)
-    → map plain (map (entry_of number) (take i rows)) ≡ numbered (entry_record number) 0 (map line_of (take i entries)) → map plain (map (entry_of number) (take (i + 1) rows)) ≡ numbered (entry_record number) 0 (map line_of (take (i + 1) entries))
-rows_next number rows entries i row entry low is low_too is_too same before =
-    sym (ap (map plain) (mapped_item (entry_of number) rows i row low is)) ∙ map-append plain (map (entry_of number) (take i rows)) (entry_of number row ∷ []) ∙ ap (λ l. l ++ plain (entry_of number row) ∷ []) before
-    ∙ ap (λ r. numbered (entry_record number) 0 (map line_of (take i entries)) ++ r ∷ []) same ∙ numbered_next line_of entries i entry low_too is_too (entry_record number)
 
 -- ---- no record is added where no edition is installed
 

@@ -9,7 +9,7 @@ use Rattle.sqlite.specs.Held.{Held, state}
 use Rattle.sqlite.proofs.StateLemmas.{survives_then, survives_weaker}
 use Rattle.sqlite_trees.specs.declared.store.Store.{Ghosts}
 use Rattle.dict_desk.specs.Faults.{is_disk, is_failure}
-use Rattle.dict_holdings.specs.Faults.{fault_of}
+use Rattle.dict_holdings.specs.Faults.{fault_of, FailsToLookUp}
 use Rattle.dict_desk.specs.declared.fault.Fault.{Fault}
 use Rattle.dict_desk.specs.declared.fault.Fault.TheVariants.{Refused, Memory, Disk, Closed, NotACatalogue, Damaged, NewerSchema}
 use Rattle.dict_index.specs.Edition.{Edition}
@@ -25,16 +25,16 @@ use Rattle.dict_catalogue.specs.declared.commands.Command as typed
 use Rattle.dict_catalogue.specs.declared.planning.PlannedChange.{PlannedChange as Planned}
 use Rattle.dict_rows.specs.After.{TableChange}
 use Rattle.dict_rows.specs.Versions.{known}
-use Rattle.dict_derived.specs.AllTables.{AllTables, with_derived, all_after}
+use Rattle.dict_files.specs.AllTables.{AllTables, with_derived, all_after}
 use Rattle.dict_holdings.specs.Holds.{Holds, Rests, IsLeftAs}
 use Rattle.dict_holdings.specs.Writing.{FailsAtLast}
-use Rattle.dict_commands.specs.Kept.{IsUsable, SparesOthers, AddsAbove, Turns, HoldsReplies}
+use Rattle.dict_commands.specs.Kept.{IsUsable, SparesOthers, KeepsTexts, Turns, HoldsReplies}
 use Rattle.dict_commands.specs.Changes.{change_by, IsInRange}
 use Rattle.dict_commands.specs.Decided.{LiesWithin}
 use Rattle.dict_commands.specs.Committed.{IsCommitted, IsTreesOf, IsOfStore}
-use Rattle.dict_commands.specs.Answers.{HoldsBy, HoldsAfter, Answers, has_written, summary_after, IsOfApply, IsOfShut}
-use Rattle.dict_commands.specs.Filing.{rested, FailsInside, IsAhead, IsDrawnUp, IsUnderway, IsWhole}
-use Rattle.dict_commands.specs.Finishing.{finishing, finished, AwaitsRest, IsOfChange, IsAppliedOver, FailsToFinish}
+use Rattle.dict_commands.specs.Answers.{HoldsBy, HoldsAfter, Answers, has_written, summary_after, numbers_after, IsOfApply, IsOfShut}
+use Rattle.dict_commands.specs.Filing.{rested, FailsInside, IsAhead, IsUnderway, IsWhole}
+use Rattle.dict_commands.specs.Finishing.{finishing, finished, AwaitsRest, IsOfChange, IsAppliedOver, IsUndone, LooksOnly, FailsToFinish}
 use Rattle.dict_commands.specs.declared.filing.Filing.{Filing}
 use Rattle.dict_commands.specs.declared.applied.Applied.{Applied}
 use Rattle.dict_commands.specs.declared.applied.Applied.TheVariants.{Repeated, Done}
@@ -166,11 +166,53 @@ both_left a b P Q p q = record {
   ];
 }
 
+-- what was filed is undone by a rollback
+pub undone_by : {S : Type 0} (g : Ghosts S) (old mid : Held S) → (IsTrue old.in_transaction → IsRolledBack (state g old) (state g mid)) → (old.in_transaction ≡ false → mid ≡ old) → IsUndone g old mid
+undone_by g old mid undone unchanged = elim (cases_Bool old.in_transaction) [
+  | inl inside ↦ inr (undone inside)
+  | inr outside ↦ inl (outside, unchanged outside)
+]
+
+rolled_after : (old mid new : State) → IsUnchanged old mid → IsRolledBack mid new → IsRolledBack old new
+rolled_after old mid new same back = record {
+  was_open = λ live. same.0.was_open;
+  undone = λ live. let it = back.undone live in (it.0 ∙ same.0.committed_is, it.1 ∙ same.0.committed_is);
+  autocommit = back.autocommit;
+  unmarked = back.unmarked;
+  counts = record { changes = back.counts.changes ∙ same.1.changes; last_rowid = back.counts.last_rowid ∙ same.1.last_rowid };
+}
+
+-- and by one behind lookups
+pub undone_later : {S : Type 0} (g : Ghosts S) (old mid new : Held S) → LooksOnly g old mid → IsUndone g mid new → IsUndone g old new
+undone_later g old mid new (inl same) undone = subst (λ (h : Held _). IsUndone g h new) same undone
+undone_later g old mid new (inr looked) undone = inr (by looked.1 undone)
+  where
+    by : IsUnchanged (state g old) (state g mid) ⊎ IsRolledBack (state g old) (state g mid) → IsUndone g mid new → IsRolledBack (state g old) (state g new)
+    by (inl same) (inl out) = absurd (false≢true (sym out.0 ∙ same.0.mode ∙ looked.0))
+    by (inl same) (inr back) = rolled_after (state g old) (state g mid) (state g new) same back
+    by (inr rolled) (inl out) = subst (λ (h : Held _). IsRolledBack (state g old) (state g h)) (sym out.1) rolled
+    by (inr rolled) (inr back) = record {
+      was_open = λ live. rolled.was_open (back.was_open live);
+      undone = λ live. let it = back.undone live in let was = rolled.undone (back.was_open live) in (it.0 ∙ was.1, it.1 ∙ was.1);
+      autocommit = back.autocommit;
+      unmarked = back.unmarked;
+      counts = record { changes = back.counts.changes ∙ rolled.counts.changes; last_rowid = back.counts.last_rowid ∙ rolled.counts.last_rowid };
+    }
+
+-- a lookup in an open transaction changed nothing, or it failed
+pub looked_only : {S X : Type 0} (g : Ghosts S) (old mid : Held S) (result : Result X Fault) → old.in_transaction ≡ true → OnOk result (IsUnchanged (state g old) (state g mid))
+    → IfErr result (FailsToLookUp (state g old) (state g mid)) → LooksOnly g old mid
+looked_only g old mid (Ok x) inside same failed = inr (inside, inl same)
+looked_only g old mid (Err fault) inside same (inl h) = inr (inside, inl h.0)
+looked_only g old mid (Err fault) inside same (inr h) = inr (inside, inr h.2.3)
+
 -- ---- a command after what was filed was undone
 
-module _ (summary : Holdings (List ℕ)) (id : List ℕ) (command : Command Edition) (old mid new : State) (result : Result Applied Fault) (lawful : is_request_id id ≡ true) (back : HasCleanDisk mid → IsReturned old mid) (one : Survives old mid (λ _. ⊥))
+module _ (summary : Holdings (List ℕ)) (id : List ℕ) (command : Command Edition) (old mid new : State) (result : Result Applied Fault) (lawful : is_request_id id ≡ true)
+    (back : HasCleanDisk mid → IsReturned old mid) (one : Survives old mid (λ _. ⊥))
     (holds : HoldsBy summary (rested old)) (value : HasCleanDisk new → (M : Catalogue) → Rests known mid M → summary_of M ≡ summary → Answers new M id (step M id command) result)
-    (crash : Survives mid new (λ trees. IsTrue mid.is_open × ((M : Catalogue) → Rests known mid M → summary_of M ≡ summary → IsLeftAs known (step M id command).catalogue trees))) (lives : HasCleanDisk new → IsTrue new.is_open → IsTrue mid.is_open)
+    (crash : Survives mid new (λ trees. IsTrue mid.is_open × ((M : Catalogue) → Rests known mid M → summary_of M ≡ summary → IsLeftAs known (step M id command).catalogue trees)))
+    (lives : HasCleanDisk new → IsTrue new.is_open → IsTrue mid.is_open)
     (shut : HasCleanDisk new → mid.is_open ≡ false → IsOfShut id result) where
   mid_clean : HasCleanDisk new → HasCleanDisk mid
   mid_clean clean = clean_before mid new crash clean
@@ -189,7 +231,8 @@ module _ (summary : Holdings (List ℕ)) (id : List ℕ) (command : Command Edit
       (returned.keeps.was_open left.0, λ M held is. left.1 M (rests_there old mid M returned left.0 (λ _. held)) is)) one crash
 
   anew_beside : Survives mid new (IsTreesOf (SparesOthers mid.now)) → Survives old new (λ trees. IsTrue old.is_open × IsTreesOf (SparesOthers old.committed) trees)
-  anew_beside beside = survives_then old mid new (λ _. ⊥) (λ trees. (IsTrue mid.is_open × ((M : Catalogue) → Rests known mid M → summary_of M ≡ summary → IsLeftAs known (step M id command).catalogue trees)) × IsTreesOf (SparesOthers mid.now) trees)
+  anew_beside beside = survives_then old mid new (λ _. ⊥) (λ trees. (IsTrue mid.is_open × ((M : Catalogue) → Rests known mid M → summary_of M ≡ summary → IsLeftAs known (step M id command).catalogue trees)) ×
+      IsTreesOf (SparesOthers mid.now) trees)
       (λ trees. IsTrue old.is_open × IsTreesOf (SparesOthers old.committed) trees) (λ clean trees none. absurd none)
       (λ clean trees left.
       let returned = back (mid_clean clean) in
@@ -208,7 +251,8 @@ module _ (summary : Holdings (List ℕ)) (id : List ℕ) (command : Command Edit
   anew_ok P h clean = elim (cases_Bool mid.is_open) [
     | inl live ↦
         let it = answered clean live in
-        two_ok result (P mid.now new.now) (new.now ≡ new.committed) (P old.committed new.committed) (λ p same. subst (λ (a : Database). P a new.committed) (now_was old mid (back (mid_clean clean)) live) (subst (λ (b : Database). P mid.now b) same p)) (h clean)
+        two_ok result (P mid.now new.now) (new.now ≡ new.committed) (P old.committed new.committed)
+        (λ p same. subst (λ (a : Database). P a new.committed) (now_was old mid (back (mid_clean clean)) live) (subst (λ (b : Database). P mid.now b) same p)) (h clean)
         (shown_ok new it.0 id (step it.0 id command) result it.1)
     | inr dead ↦ shut_ok id result (P old.committed new.committed) (shut clean dead)
   ]
@@ -228,8 +272,10 @@ module _ (summary : Holdings (List ℕ)) (id : List ℕ) (command : Command Edit
     | inr gone ↦ shut clean gone
   ]
 
-  pub anew_applied : (has_written result ≡ false → Survives mid new (λ _. ⊥)) → Survives mid new (IsTreesOf (SparesOthers mid.now)) → (HasCleanDisk new → OnOk result (SparesOthers mid.now new.now)) → (HasCleanDisk new → OnOk result (AddsAbove summary.installs mid.now new.now))
-      → (HasCleanDisk new → IfErr result (λ fault. is_failure fault ≡ false → new.now ≡ mid.now)) → summary.installs ≤ (summary_after summary result).installs → IfErr result IsOfApply → IsInRange (summary_after summary result) → (HasCleanDisk new → new.in_transaction ≡ false)
+  pub anew_applied : (has_written result ≡ false → Survives mid new (λ _. ⊥)) → Survives mid new (IsTreesOf (SparesOthers mid.now)) → (HasCleanDisk new → OnOk result (SparesOthers mid.now new.now))
+      → (HasCleanDisk new → OnOk result (KeepsTexts summary.installs (numbers_after summary result) mid.now new.now))
+      → (HasCleanDisk new → IfErr result (λ fault. is_failure fault ≡ false → new.now ≡ mid.now)) → summary.installs ≤ (summary_after summary result).installs → IfErr result IsOfApply → IsInRange
+      (summary_after summary result) → (HasCleanDisk new → new.in_transaction ≡ false)
       → IsAppliedOver summary id command old new result
   anew_applied spares beside others above refused grows kinds range ended = record {
     value = anew_value;
@@ -239,7 +285,7 @@ module _ (summary : Holdings (List ℕ)) (id : List ℕ) (command : Command Edit
     lives = λ clean live. (back (mid_clean clean)).keeps.was_open (lives clean live);
     shut = anew_shut;
     others = anew_ok SparesOthers others;
-    above = anew_ok (AddsAbove summary.installs) above;
+    above = anew_ok (KeepsTexts summary.installs (numbers_after summary result)) above;
     refused = anew_refused refused;
     grows = grows;
     kinds = kinds;
@@ -249,7 +295,8 @@ module _ (summary : Holdings (List ℕ)) (id : List ℕ) (command : Command Edit
 
 -- ---- a command after a lookup
 
-module _ (summary : Holdings (List ℕ)) (id : List ℕ) (command : Command Edition) (old mid new : State) (result : Result Applied Fault) (lawful : is_request_id id ≡ true) (keeps : HasCleanDisk mid → KeepsCommit old mid) (one : Survives old mid (λ _. ⊥))
+module _ (summary : Holdings (List ℕ)) (id : List ℕ) (command : Command Edition) (old mid new : State) (result : Result Applied Fault) (lawful : is_request_id id ≡ true)
+    (keeps : HasCleanDisk mid → KeepsCommit old mid) (one : Survives old mid (λ _. ⊥))
     (applied : IsAppliedOver summary id command mid new result) where
   kept_so : HasCleanDisk new → KeepsCommit old mid
   kept_so clean = keeps (clean_before mid new applied.crash clean)
@@ -268,7 +315,8 @@ module _ (summary : Holdings (List ℕ)) (id : List ℕ) (command : Command Edit
 
   later_refused : HasCleanDisk new → IfErr result (λ fault. is_failure fault ≡ false → new.committed ≡ old.committed)
   later_refused clean = elim (cases_Bool mid.is_open) [
-    | inl live ↦ each_err result (λ fault. is_failure fault ≡ false → new.committed ≡ mid.committed) (λ fault. is_failure fault ≡ false → new.committed ≡ old.committed) (λ fault h no. h no ∙ (kept_so clean).committed live) (applied.refused clean)
+    | inl live ↦ each_err result (λ fault. is_failure fault ≡ false → new.committed ≡ mid.committed) (λ fault. is_failure fault ≡ false → new.committed ≡ old.committed)
+        (λ fault h no. h no ∙ (kept_so clean).committed live) (applied.refused clean)
     | inr dead ↦ shut_refused id result (new.committed ≡ old.committed) lawful (applied.shut clean dead)
   ]
 
@@ -284,7 +332,7 @@ module _ (summary : Holdings (List ℕ)) (id : List ℕ) (command : Command Edit
     lives = λ clean live. (kept_so clean).was_open (applied.lives clean live);
     shut = later_shut;
     others = later_ok SparesOthers applied.others;
-    above = later_ok (AddsAbove summary.installs) applied.above;
+    above = later_ok (KeepsTexts summary.installs (numbers_after summary result)) applied.above;
     refused = later_refused;
     grows = applied.grows;
     kinds = applied.kinds;
@@ -337,8 +385,10 @@ kept_answers old new M id outcome NotACatalogue h keeps held = absurd h
 kept_answers old new M id outcome Damaged h keeps held = absurd h
 kept_answers old new M id outcome NewerSchema h keeps held = absurd h
 
-module _ (summary : Holdings (List ℕ)) (id : List ℕ) (command : typed.Command) (planned : Planned) (old new : State) (lawful : is_request_id id ≡ true) (change : IsChange summary (command_shown command) planned) (allowed : IsLawfulCommand (command_meant command)) (lies : LiesWithin command)
-    (free : HasCleanDisk old → (M : Catalogue) → Rests known (rested old) M → kept_under M.kept id ≡ None) (holds : HoldsBy summary (rested old)) (crash : Survives old new (λ trees. IsTrue old.is_open × IsTreesOf (Turns (all_after known (change_by id command planned)) old.committed) trees))
+module _ (summary : Holdings (List ℕ)) (id : List ℕ) (command : typed.Command) (planned : Planned) (old new : State) (lawful : is_request_id id ≡ true) (change : IsChange summary (command_shown command) planned)
+    (allowed : IsLawfulCommand (command_meant command)) (lies : LiesWithin command)
+    (free : HasCleanDisk old → (M : Catalogue) → Rests known (rested old) M → kept_under M.kept id ≡ None) (holds : HoldsBy summary (rested old))
+    (crash : Survives old new (λ trees. IsTrue old.is_open × IsTreesOf (Turns (all_after known (change_by id command planned)) old.committed) trees))
     (ended : HasCleanDisk new → new.in_transaction ≡ false) where
   abbrev effect : AllTables → AllTables
   effect = all_after known (change_by id command planned)
@@ -378,7 +428,8 @@ module _ (summary : Holdings (List ℕ)) (id : List ℕ) (command : typed.Comman
       ended = ended;
     }
 
-  pub rest_failed : (fault : Fault) → IsOfStore fault → (HasCleanDisk new → KeepsCommit old new) → (is_disk fault ≡ false → Survives old new (λ _. ⊥)) → IsInRange summary → IsAppliedOver summary id (command_meant command) old new (Err fault)
+  pub rest_failed : (fault : Fault) → IsOfStore fault → (HasCleanDisk new → KeepsCommit old new) → (is_disk fault ≡ false → Survives old new (λ _. ⊥)) → IsInRange summary → IsAppliedOver summary id
+      (command_meant command) old new (Err fault)
   rest_failed fault kind keeps spares range = record {
     value = λ clean M held is. kept_answers old new M id (step M id (command_meant command)) fault kind (keeps clean) held;
     spares = spares;
@@ -396,12 +447,14 @@ module _ (summary : Holdings (List ℕ)) (id : List ℕ) (command : typed.Comman
   }
 
 -- why the rest isn't made
-module _ {S : Type 0} (g : Ghosts S) (summary : Holdings (List ℕ)) (id : List ℕ) (command : typed.Command) (planned : Planned) (old new : Held S) (lawful : is_request_id id ≡ true) (change : IsChange summary (command_shown command) planned) (allowed : IsLawfulCommand (command_meant command)) (lies : LiesWithin command)
+module _ {S : Type 0} (g : Ghosts S) (summary : Holdings (List ℕ)) (id : List ℕ) (command : typed.Command) (planned : Planned) (old new : Held S) (lawful : is_request_id id ≡ true)
+    (change : IsChange summary (command_shown command) planned) (allowed : IsLawfulCommand (command_meant command)) (lies : LiesWithin command)
     (free : (M : Catalogue) → Rests known (rested (state g old)) M → kept_under M.kept id ≡ None) where
   held_then : (db : Database) → Turns (all_after known (change_by id command planned)) (state g old).committed db → HoldsAfter summary (rested (state g old)) id (command_meant command) db
   held_then db turns = λ M rests is. holds_after M id command planned summary lawful (free M rests) is change allowed lies (state g old).committed db rests.holds turns
 
-  pub rest_fails : (fault : Fault) → FailsInside g fault_of (finishing known (change_by id command planned)) old new fault ⊎ FailsAtLast g (finishing known (change_by id command planned)) (Turns (all_after known (change_by id command planned)) (state g old).committed) old new fault
+  pub rest_fails : (fault : Fault) → FailsInside g fault_of (finishing known (change_by id command planned)) old new fault ⊎ FailsAtLast g (finishing known (change_by id command planned))
+      (Turns (all_after known (change_by id command planned)) (state g old).committed) old new fault
       → FailsToFinish g summary id (command_meant command) old new fault
   rest_fails fault (inl h) = (change_by id command planned, is_planned id command planned summary change lies (rested (state g old)), inl h)
   rest_fails fault (inr h) = (
@@ -415,14 +468,15 @@ module _ {S : Type 0} (g : Ghosts S) (summary : Holdings (List ℕ)) (id : List 
 pub usable_by : (summary : Holdings (List ℕ)) (s : State) → HoldsBy summary (rested s) → WhileOpen (rested s) IsUsable
 usable_by summary s holds = λ clean live. let it = holds clean live in (with_derived it.1.holds.tables, record { own = it.1.holds.own; keeps = it.1.holds.keeps })
 
-module _ {S : Type 0} (g : Ghosts S) (f : Filing) (old mid : Held S) (underway : IsUnderway g f old) (inside : old.in_transaction ≡ true) (one : Survives (state g old) (state g mid) (λ _. ⊥)) (same : HasCleanDisk (state g mid) → IsUnchanged (state g old) (state g mid)) where
+module _ {S : Type 0} (g : Ghosts S) (f : Filing) (old mid : Held S) (underway : IsUnderway g f old) (inside : old.in_transaction ≡ true) (one : Survives (state g old) (state g mid) (λ _. ⊥))
+    (same : HasCleanDisk (state g mid) → IsUnchanged (state g old) (state g mid)) where
   ahead_there : (clean : HasCleanDisk (state g mid)) → IsAhead f (state g old).committed (state g old).now
   ahead_there clean = underway (clean_before (state g old) (state g mid) one clean) (same clean).0.was_open inside
 
-  pub change_awaits : (change : TableChange) → IsDrawnUp f → IsWhole f → IsOfChange f change.edition change.gone → HasCleanDisk (state g mid) → IsTrue (state g mid).is_open → AwaitsRest change (state g mid).committed (state g mid).now
-  change_awaits change drawn whole of_it clean live =
+  pub change_awaits : (change : TableChange) → IsWhole f → IsOfChange f change.edition change.gone → HasCleanDisk (state g mid) → IsTrue (state g mid).is_open → AwaitsRest change (state g mid).committed (state g mid).now
+  change_awaits change whole of_it clean live =
       subst (λ (db : Database). AwaitsRest change db (state g mid).now) (sym (same clean).0.committed_is)
-      (subst (λ (db : Database). AwaitsRest change (state g old).committed db) (sym (same clean).0.now_is) (awaits_rest f change (state g old).committed (state g old).now drawn whole of_it (ahead_there clean)))
+      (subst (λ (db : Database). AwaitsRest change (state g old).committed db) (sym (same clean).0.now_is) (awaits_rest f change (state g old).committed (state g old).now whole of_it (ahead_there clean)))
 
   pub free_still : (id : List ℕ) → ((kept : List KeptFor) → HoldsReplies (state g old).now kept → None ≡ kept_under kept id) → HasCleanDisk (state g mid) → (M : Catalogue) → Rests known (rested (state g mid)) M → kept_under M.kept id ≡ None
   free_still id alone clean M rests =

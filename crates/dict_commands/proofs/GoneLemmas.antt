@@ -1,4 +1,4 @@
--- Editions that are taken out by their numbers, with what is derived of their entries.
+-- Editions that are taken out by their numbers, with their parts.
 use Rattle.std.proofs.Common.{◌≡◌, ℕ, ◌+◌, ◌<◌, ◌&&◌, ◌||◌, ℤ, pos, Bool, true, false, List, [], ◌∷◌, ◌++◌, length, take, get_or, codes, filter, not, refl, sym, ap, subst, ◌∙◌, arith, append-nil}
 use Rattle.std.specs.Prelude.{flat_map}
 use Rattle.std.proofs.lemmas.Grind.{flat_map-append}
@@ -12,20 +12,18 @@ use Rattle.sqlite.specs.Order.{Row, column}
 use Rattle.sqlite.specs.declared.types.Value.{Value}
 use Rattle.sqlite.specs.declared.types.Value.TheVariants.{Int}
 use Rattle.dict_sql.specs.Effects.{IsRemoved, equals_number, same_value}
-use Rattle.dict_sql.specs.Encodings.{edition_row}
-use Rattle.dict_records.specs.Records.{Edition}
-use Rattle.dict_records.specs.Keyed.{Piece}
+use Rattle.dict_records.specs.Records.{Edition, Entry, Part}
 use Rattle.dict_rows.specs.Tables.{same_number}
 use Rattle.dict_rows.specs.After.{is_gone}
 use Rattle.dict_rows.proofs.PartLemmas.{filter_filter, filter_alike}
-use Rattle.dict_derived.specs.Entries.{Filed}
-use Rattle.dict_derived.specs.AllTables.{AllTables, without_editions}
+use Rattle.dict_files.specs.AllTables.{AllTables}
 use Rattle.dict_holdings.specs.Holds.{Keeps}
 use Rattle.dict_commands.specs.Kept.{HasRecords, IsStorable, Turns}
+use Rattle.dict_commands.specs.Changes.{without_editions}
 use Rattle.dict_commands.specs.Statements.{taking}
 use Rattle.dict_commands.proofs.LoopLemmas.{Grows}
 use Rattle.dict_commands.proofs.RowLemmas.{keeps_removed, next_column, compared_values}
-use Rattle.dict_commands.proofs.TableLemmas.{editions_turned, editions_kept}
+use Rattle.dict_commands.proofs.TableLemmas.{edition_row, editions_turned, editions_kept, other_entries}
 
 -- a number that can be held is handed on as it is
 pub handed : (n : ℕ) → IsStorable n → to_z w64 n ≡ pos n
@@ -53,10 +51,15 @@ module _ {R : Type 0} (name : List ℕ) (encode : R → Row) (number : R → ℤ
       subst (λ l. Keeps name encode new l) (filter_alike (λ r. not (equals_number 0 (pos n) (encode r))) (λ r. not (is_gone (n ∷ []) (number r))) (tested n) records)
       (keeps_removed name encode old new records (equals_number 1 (pos n)) (equals_number 0 (pos n)) (next_column 0 (pos n)) gone k)
 
-pub editions_gone : (n : ℕ) (old new : Database) → IsRemoved (codes "edition") (equals_number 1 (pos n)) old new → Turns (λ all. record all { editions = filter (λ row. not (is_gone (n ∷ []) row.number)) all.editions }) old new
-editions_gone n old new gone = λ all it.
-    editions_turned old new all it gone.schema (filter (λ row. not (is_gone (n ∷ []) row.number)) all.editions) gone.others
-    (keeps_gone (codes "edition") edition_row (λ (r : Edition). r.number) (λ r. refl) old new n all.editions gone (editions_kept old all it))
+-- the record goes, and the entries that no table keeps
+abbrev pub without_record : ℕ → AllTables → AllTables
+without_record n all = record all { editions = filter (λ row. not (is_gone (n ∷ []) row.number)) all.editions; entries = filter (λ row. not (is_gone (n ∷ []) row.edition)) all.entries }
+
+pub record_gone : (n : ℕ) (old new : Database) → IsRemoved (codes "edition") (equals_number 1 (pos n)) old new → Turns (without_record n) old new
+record_gone n old new gone = λ all it.
+    let rest : List Edition = filter (λ row. not (is_gone (n ∷ []) row.number)) all.editions in
+    let both = editions_turned old new all it gone.schema rest gone.others (keeps_gone (codes "edition") edition_row (λ (r : Edition). r.number) (λ r. refl) old new n all.editions gone (editions_kept old all it)) in
+    (other_entries new (record all { editions = rest }) both.0 (filter (λ row. not (is_gone (n ∷ []) row.edition)) all.entries), both.1)
 
 -- ---- one number after another
 
@@ -71,23 +74,22 @@ pub none_gone : (db : Database) (all : AllTables) → HasRecords db all → HasR
 none_gone db all it = subst (λ (t : AllTables). HasRecords db t) (λ i. record all {
   editions = sym (all_stay all.editions) i;
   entries = sym (all_stay all.entries) i;
-  words = sym (all_stay all.words) i;
-  grams = sym (all_stay all.grams) i;
+  parts = sym (all_stay all.parts) i;
 }) it
 
 module _ {R : Type 0} (some : List ℕ) (n : ℕ) (number : R → ℤ) where
   both_gone : (rows : List R) → filter (λ row. not (is_gone (n ∷ []) (number row))) (filter (λ row. not (is_gone some (number row))) rows) ≡ filter (λ row. not (is_gone (some ++ n ∷ []) (number row))) rows
   both_gone rows = filter_filter (λ row. not (is_gone (n ∷ []) (number row))) (λ row. not (is_gone some (number row))) (λ row. not (is_gone (some ++ n ∷ []) (number row))) (λ row. gone_more some n (number row)) rows
 
-pub next_gone : (db : Database) (gone : List ℕ) (i : ℕ) → i < length gone → (all : AllTables) → HasRecords db (without_editions (get_or gone i 0 ∷ []) (without_editions (take i gone) all)) → HasRecords db (without_editions (take (i + 1) gone) all)
+pub next_gone : (db : Database) (gone : List ℕ) (i : ℕ) → i < length gone → (all : AllTables) → HasRecords db (without_editions (get_or gone i 0 ∷ []) (without_editions (take i gone) all)) → HasRecords db
+    (without_editions (take (i + 1) gone) all)
 next_gone db gone i lt all it =
     let n : ℕ = get_or gone i 0 in
     let some : List ℕ = take i gone in
     let more : HasRecords db (without_editions (some ++ n ∷ []) all) = subst (λ (t : AllTables). HasRecords db t) (λ k. record all {
       editions = both_gone some n (λ (row : Edition). row.number) all.editions k;
-      entries = both_gone some n (λ (row : Filed). row.edition) all.entries k;
-      words = both_gone some n (λ (row : Piece). row.edition) all.words k;
-      grams = both_gone some n (λ (row : Piece). row.edition) all.grams k;
+      entries = both_gone some n (λ (row : Entry). row.edition) all.entries k;
+      parts = both_gone some n (λ (row : Part). row.edition) all.parts k;
     }) it in
     subst (λ l. HasRecords db (without_editions l all)) (sym (take_more gone i 0 lt)) more
 

@@ -104,7 +104,8 @@ module _ (id : List ℕ) where
   told : (one : KeptFor) → by_id one ≡ equals_text 0 id (as_row one)
   told one = sym (ap is_eq (value_cmp-Text one.id id) ∙ is_eq-slice_cmp one.id id)
 
-  none_step : (one : KeptFor) (kept : List KeptFor) (b : Bool) → by_id one ≡ b → cond b (one ∷ filter by_id kept) (filter by_id kept) ≡ [] → (filter by_id kept ≡ [] → kept_under kept id ≡ None) → cond b (Some one.reply) (kept_under kept id) ≡ None
+  none_step : (one : KeptFor) (kept : List KeptFor) (b : Bool) → by_id one ≡ b → cond b (one ∷ filter by_id kept) (filter by_id kept) ≡ [] → (filter by_id kept ≡ [] → kept_under kept id ≡ None) → cond b
+      (Some one.reply) (kept_under kept id) ≡ None
   none_step one kept true there e rest = absurd (cc)
   none_step one kept false apart e rest = rest e
 
@@ -143,7 +144,8 @@ module _ (id : List ℕ) where
   dropped [] = refl
   dropped (x ∷ all) = ap (λ l. read_row x ∷ l) (dropped all)
 
-  same_rows : (db : Database) (records : List Kept) (kept : List KeptFor) (all : List ReadKept) → records ≡ map kept_record kept → Keeps (codes "kept") kept_row db records → IsSelection (codes "kept") (equals_text 1 id) (2 ∷ []) db (map stored_kept all)
+  same_rows : (db : Database) (records : List Kept) (kept : List KeptFor) (all : List ReadKept) → records ≡ map kept_record kept → Keeps (codes "kept") kept_row db records → IsSelection (codes "kept")
+      (equals_text 1 id) (2 ∷ []) db (map stored_kept all)
       → IsPermutation (map as_row (filter by_id kept)) (map read_row all)
   same_rows db records kept all are k selection =
       let rows = rows_of (codes "kept") db in
@@ -153,7 +155,8 @@ module _ (id : List ℕ) where
       subst (λ l. IsPermutation l (filter (equals_text 0 id) (map (drop 1) rows))) (sym (filter_map as_row (equals_text 0 id) by_id told kept)) passed in
       let two : IsPermutation (map as_row (filter by_id kept)) (map (drop 1) (filter (equals_text 1 id) rows)) =
       subst (λ l. IsPermutation (map as_row (filter by_id kept)) l) (sym (filter_map (drop 1) (equals_text 0 id) (equals_text 1 id) (text_next 0 id) rows)) one in
-      let read : IsPermutation (map (drop 1) (filter (equals_text 1 id) rows)) (map read_row all) = subst (λ l. IsPermutation (map (drop 1) (filter (equals_text 1 id) rows)) l) (dropped all) (IsPermutation-map (drop 1) _ _ selection.same) in
+      let read : IsPermutation (map (drop 1) (filter (equals_text 1 id) rows)) (map read_row all) = subst (λ l. IsPermutation (map (drop 1) (filter (equals_text 1 id) rows)) l) (dropped all)
+      (IsPermutation-map (drop 1) _ _ selection.same) in
       IsPermutation-trans (map as_row (filter by_id kept)) (map (drop 1) (filter (equals_text 1 id) rows)) (map read_row all) two read
 
   empty_by : {X Y : Type 0} (f : X → Y) (xs : List X) → ((y : Y) → IsIn y (map f xs) → ⊥) → xs ≡ []
@@ -183,7 +186,8 @@ module _ (id : List ℕ) where
   first_told kept (y ∷ all) x some is h = (h.0, ap (λ (z : ReadKept). owned_kept z.value) is ∙ h.1, h.2)
 
   -- the reply that was read is the one that is kept
-  pub reply_told : (kept : List KeptFor) (row : typed.Kept (String Global)) (one read : KeptFor) → owned_kept row ≡ kept_record read → owned_kept row ≡ kept_record one → kept_under kept id ≡ Some one.reply → Some read.reply ≡ kept_under kept id
+  pub reply_told : (kept : List KeptFor) (row : typed.Kept (String Global)) (one read : KeptFor) → owned_kept row ≡ kept_record read → owned_kept row ≡ kept_record one → kept_under kept id ≡ Some one.reply → Some
+      read.reply ≡ kept_under kept id
   reply_told kept row one read is told there = ap (λ (k : KeptFor). Some k.reply) (kept_same read one (sym is ∙ told)) ∙ sym there
 
 -- a database that holds a catalogue has its replies

@@ -3,12 +3,14 @@ pub mod TableLemmas
 pub mod WriteLemmas
 pub mod LoopLemmas
 pub mod GoneLemmas
-pub mod ListedLemmas
 pub mod DecideLemmas
 pub mod KeptLemmas
 pub mod ApplyLemmas
 pub mod AboveLemmas
 pub mod PartLemmas
+pub mod TextLemmas
+pub mod PlaceLemmas
+pub mod AddLemmas
 pub mod FaultLemmas
 pub mod FilingLemmas
 pub mod FinishLemmas

@@ -8,14 +8,12 @@ use Rattle.sqlite.specs.Held.{Held}
 use Rattle.sqlite.specs.declared.error.Error.{Error}
 use Rattle.sqlite_trees.specs.declared.store.Store.{Ghosts}
 use Rattle.dict_sql.specs.Statements.{Statement}
-use Rattle.dict_derived.specs.AllTables.{AllTables}
+use Rattle.dict_files.specs.AllTables.{AllTables}
 use Rattle.dict_rows.specs.Written.{numbered}
 use Rattle.dict_rows.proofs.ListLemmas.{numbered_append, numbered_push, map_next}
 use Rattle.dict_commands.specs.Kept.{HasRecords}
-use Rattle.dict_records.specs.Records.{Item, Member}
-use Rattle.dict_records.specs.Keyed.{Piece}
-use Rattle.dict_derived.specs.Entries.{Filed}
-use Rattle.dict_commands.specs.Changes.{with_more_items, with_more_members, with_more_entries, with_more_words, with_more_grams}
+use Rattle.dict_records.specs.Records.{Item, Member, Part}
+use Rattle.dict_commands.specs.Changes.{with_more_items, with_more_members, with_more_parts}
 use Rattle.dict_commands.specs.Writes.{Wrote, FailsToWrite, Spares}
 use Rattle.dict_commands.proofs.WriteLemmas.{wrote_none, wrote_then, wrote_as, failed_before, failed_after}
 
@@ -67,7 +65,8 @@ module _ {X Y : Type 0} (g : X → Y) (xs : List X) (i : ℕ) (x : X) (lt : i < 
 
 -- ---- what a loop has written
 
-module _ {S : Type 0} (g : Ghosts S) {X : Type 0} (F : List X → List Statement) (T : List X → AllTables → AllTables) (xs : List X) (i : ℕ) (some : List Statement) (f : AllTables → AllTables) (next : F (take i xs) ++ some ≡ F (take (i + 1) xs))
+module _ {S : Type 0} (g : Ghosts S) {X : Type 0} (F : List X → List Statement) (T : List X → AllTables → AllTables) (xs : List X) (i : ℕ) (some : List Statement) (f : AllTables → AllTables)
+    (next : F (take i xs) ++ some ≡ F (take (i + 1) xs))
     (old mid new : Held S) (so_far : Wrote g (F (take i xs)) (T (take i xs)) old mid) (spares : Spares g mid new) where
   pub loop_wrote : ((db : Database) (all : AllTables) → HasRecords db (f (T (take i xs) all)) → HasRecords db (T (take (i + 1) xs) all)) → Wrote g some f mid new → Wrote g (F (take (i + 1) xs)) (T (take (i + 1) xs)) old new
   loop_wrote turn h =
@@ -113,14 +112,8 @@ items_last front back all = ap (λ (l : List Item). record all { items = l }) (a
 pub members_last : ComesLast with_more_members
 members_last front back all = ap (λ (l : List Member). record all { members = l }) (append_assoc all.members front back)
 
-pub entries_last : ComesLast with_more_entries
-entries_last front back all = ap (λ (l : List Filed). record all { entries = l }) (append_assoc all.entries front back)
-
-pub words_last : ComesLast with_more_words
-words_last front back all = ap (λ (l : List Piece). record all { words = l }) (append_assoc all.words front back)
-
-pub grams_last : ComesLast with_more_grams
-grams_last front back all = ap (λ (l : List Piece). record all { grams = l }) (append_assoc all.grams front back)
+pub parts_last : ComesLast with_more_parts
+parts_last front back all = ap (λ (l : List Part). record all { parts = l }) (append_assoc all.parts front back)
 
 pub items_none : (all : AllTables) → with_more_items [] all ≡ all
 items_none all = ap (λ (l : List Item). record all { items = l }) (append-nil all.items)
@@ -128,11 +121,5 @@ items_none all = ap (λ (l : List Item). record all { items = l }) (append-nil a
 pub members_none : (all : AllTables) → with_more_members [] all ≡ all
 members_none all = ap (λ (l : List Member). record all { members = l }) (append-nil all.members)
 
-pub entries_none : (all : AllTables) → with_more_entries [] all ≡ all
-entries_none all = ap (λ (l : List Filed). record all { entries = l }) (append-nil all.entries)
-
-pub words_none : (all : AllTables) → with_more_words [] all ≡ all
-words_none all = ap (λ (l : List Piece). record all { words = l }) (append-nil all.words)
-
-pub grams_none : (all : AllTables) → with_more_grams [] all ≡ all
-grams_none all = ap (λ (l : List Piece). record all { grams = l }) (append-nil all.grams)
+pub parts_none : (all : AllTables) → with_more_parts [] all ≡ all
+parts_none all = ap (λ (l : List Part). record all { parts = l }) (append-nil all.parts)

@@ -30,7 +30,8 @@ next_column at n [] = refl
 next_column at n (v ∷ row) = refl
 
 -- the rows of the records that stay
-pub keeps_removed : {R : Type 0} (name : List ℕ) (encode : R → Row) (old new : Database) (records : List R) (test gone : Row → Bool) → ((row : Row) → test row ≡ gone (drop 1 row)) → IsRemoved name test old new → Keeps name encode old records
+pub keeps_removed : {R : Type 0} (name : List ℕ) (encode : R → Row) (old new : Database) (records : List R) (test gone : Row → Bool) → ((row : Row) → test row ≡ gone (drop 1 row)) → IsRemoved name test old new
+    → Keeps name encode old records
     → Keeps name encode new (filter (λ r. not (gone (encode r))) records)
 keeps_removed name encode old new records test gone same out k = record {
   rows = subst (λ l. IsPermutation (map encode (filter (λ r. not (gone (encode r))) records)) (map (drop 1) l)) (sym out.rows)

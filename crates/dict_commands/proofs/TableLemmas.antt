@@ -2,36 +2,40 @@
 use Rattle.std.proofs.Common.{◌≡◌, ◌≢◌, ◌⊎◌, inl, inr, ℕ, List, [], ◌∷◌, ◌++◌, codes, map, drop, true, false, bytes_eq, Some, refl, sym, subst, ◌∙◌}
 use Rattle.std.specs.List.{AllByRecursion}
 use Rattle.std.specs.List.Sorted.{IsPermutation}
-use Rattle.std.proofs.lemmas.List.Sorted.{IsPermutation-map, IsPermutation-refl, IsPermutation-sym, IsPermutation-trans}
 use Rattle.std.proofs.lemmas.Bool.{false≢true}
 use Rattle.std.proofs.lemmas.Slice.Eq.{bytes_eq-Decides}
 use Rattle.sqlite.specs.Effect.{Database}
 use Rattle.sqlite.specs.Table.{Table}
+use Rattle.sqlite.specs.Order.{Row}
 use Rattle.sqlite.specs.Schema.{Schema}
 use Rattle.sqlite_schema.specs.Names.{table_named}
 use Rattle.dict_text.proofs.AllLemmas.{all_weaker}
 use Rattle.dict_tables.specs.Found.{HasOwn, found_table}
-use Rattle.dict_tables.specs.Tables.{mark, item, member, edition, kept}
-use Rattle.dict_tables.specs.Keyed as keyed
+use Rattle.dict_tables.specs.Tables.{mark, item, member, kept}
 use Rattle.dict_sql.specs.Effects.{Has, HasApartRowids, IsAdded, IsRemoved, SameOthers, rows_of, table_in}
 use Rattle.dict_sql.specs.Deletes.{HasToRemove}
-use Rattle.dict_sql.specs.Encodings.{mark_row, item_row, member_row, edition_row, kept_row}
-use Rattle.dict_sql.specs.Keyed.{keyed_entry_row, piece_row}
+use Rattle.dict_sql.specs.Encodings.{mark_row, item_row, member_row, kept_row}
 use Rattle.dict_sql.proofs.Callers.{own_has}
-use Rattle.dict_records.specs.Records.{Mark, Item, Member, Edition, Kept}
-use Rattle.dict_records.specs.Keyed.{Piece}
-use Rattle.dict_rows.specs.Versions.{Shown}
-use Rattle.dict_derived.specs.Entries.{Filed}
-use Rattle.dict_derived.specs.AllTables.{AllTables}
+use Rattle.dict_header_sql.specs.Table.{header}
+use Rattle.dict_header_sql.specs.Records.{header_row}
+use Rattle.dict_part_sql.specs.Table.{part}
+use Rattle.dict_part_sql.specs.Records.{part_row}
+use Rattle.dict_records.specs.Records.{Mark, Item, Member, Edition, Entry, Part, Kept, header_of}
+use Rattle.dict_rows.specs.Versions.{Parted}
+use Rattle.dict_files.specs.AllTables.{AllTables}
 use Rattle.dict_holdings.specs.Readings.{Reading, name_of, readings, KeepsRows}
 use Rattle.dict_holdings.specs.Holds.{Keeps, HasLayout}
 use Rattle.dict_holdings.proofs.KeepLemmas.{unmoved, keeps_added}
 use Rattle.dict_commands.specs.Kept.{HasRecords, IsUsable, IsOther, SparesOthers, Turns}
-use Rattle.dict_commands.specs.Changes.{without_items, without_members, with_more_items, with_more_members, with_more_editions, with_more_entries, with_more_words, with_more_grams}
+use Rattle.dict_commands.specs.Changes.{without_items, without_members, with_more_items, with_more_members, with_more_editions, with_more_parts}
 use Rattle.dict_commands.proofs.RowLemmas.{keeps_cleared}
 
+-- the row of the record of an edition, which has no text
+abbrev pub edition_row : Edition → Row
+edition_row e = header_row (header_of e)
+
 abbrev AreOwn : Schema → Type 0
-AreOwn s = HasLayout Shown s
+AreOwn s = HasLayout Parted s
 
 names_apart : (a b : List ℕ) → bytes_eq a b ≡ false → a ≢ b
 names_apart a b apart same = false≢true (sym apart ∙ (bytes_eq-Decides a b).1 same)
@@ -44,7 +48,8 @@ record IsAnother (name : List ℕ) (all turned : AllTables) (q : Reading) : Type
   named : (tree : ℕ) → (q.table tree).name ≡ name_of q
   same : q.rows turned ≡ q.rows all
 
-module _ (a : ℕ → Table) (name : List ℕ) (old new : Database) (all turned : AllTables) (names : (t : ℕ) → (a t).name ≡ name) (trees : (t : ℕ) → (a t).tree ≡ t) (own : HasOwn old.schema a) (schema : new.schema ≡ old.schema) (rest : SameOthers name old new) where
+module _ (a : ℕ → Table) (name : List ℕ) (old new : Database) (all turned : AllTables) (names : (t : ℕ) → (a t).name ≡ name) (trees : (t : ℕ) → (a t).tree ≡ t) (own : HasOwn old.schema a)
+    (schema : new.schema ≡ old.schema) (rest : SameOthers name old new) where
   -- of each reading: it is of another table, or what it reads was told
   abbrev IsTurned : Reading → Type 0
   IsTurned q = IsAnother name all turned q ⊎ KeepsRows q new turned
@@ -71,7 +76,8 @@ module _ (a : ℕ → Table) (name : List ℕ) (old new : Database) (all turned 
   spared : ((t : Table) → IsOther old.schema t → (found : Table) → found_table old.schema name ≡ Some found → t.tree ≢ found.tree) → SparesOthers old new
   spared pick = record {
     schema = schema;
-    others = all_weaker (λ (t : Table). t.tree ≢ (a own.tree).tree → new.trees t.tree ≡ old.trees t.tree) (λ (t : Table). IsOther old.schema t → new.trees t.tree ≡ old.trees t.tree) (λ t same other. same (pick t other (a own.tree) there)) old.schema.tables (rest (a own.tree) there);
+    others = all_weaker (λ (t : Table). t.tree ≢ (a own.tree).tree → new.trees t.tree ≡ old.trees t.tree) (λ (t : Table). IsOther old.schema t → new.trees t.tree ≡ old.trees t.tree)
+        (λ t same other. same (pick t other (a own.tree) there)) old.schema.tables (rest (a own.tree) there);
   }
 
 module _ (old new : Database) (all : AllTables) (it : HasRecords old all) (schema : new.schema ≡ old.schema) where
@@ -82,8 +88,22 @@ module _ (old new : Database) (all : AllTables) (it : HasRecords old all) (schem
   marks_turned records rest k = (
     record {
       own = owns;
-      keeps = all_turned mark (codes "mark") old new all (record all { marks = records }) (λ t. refl) (λ t. refl) it.own.tables.0 schema rest (readings Shown) it.own.tables
-          (inr (record { rows = k.rows; apart = k.apart }), (inl (record { apart = refl; named = λ t. refl; same = refl }), (inl (record { apart = refl; named = λ t. refl; same = refl }), (inl (record { apart = refl; named = λ t. refl; same = refl }), (inl (record { apart = refl; named = λ t. refl; same = refl }), (inl (record { apart = refl; named = λ t. refl; same = refl }), (inl (record { apart = refl; named = λ t. refl; same = refl }), (inl (record { apart = refl; named = λ t. refl; same = refl }), tt)))))))) it.keeps;
+      keeps = all_turned mark (codes "mark") old new all (record all { marks = records }) (λ t. refl) (λ t. refl) it.own.tables.0 schema rest (readings Parted) it.own.tables (
+        inr (record { rows = k.rows; apart = k.apart }),
+        (
+          inl (record { apart = refl; named = λ t. refl; same = refl }),
+          (
+            inl (record { apart = refl; named = λ t. refl; same = refl }),
+            (
+              inl (record { apart = refl; named = λ t. refl; same = refl }),
+              (
+                inl (record { apart = refl; named = λ t. refl; same = refl }),
+                (inl (record { apart = refl; named = λ t. refl; same = refl }), tt),
+              ),
+            ),
+          ),
+        ),
+      ) it.keeps;
     },
     spared mark (codes "mark") old new all all (λ t. refl) (λ t. refl) it.own.tables.0 schema rest (λ t other. other.0),
   )
@@ -92,8 +112,22 @@ module _ (old new : Database) (all : AllTables) (it : HasRecords old all) (schem
   items_turned records rest k = (
     record {
       own = owns;
-      keeps = all_turned item (codes "item") old new all (record all { items = records }) (λ t. refl) (λ t. refl) it.own.tables.1.0 schema rest (readings Shown) it.own.tables
-          (inl (record { apart = refl; named = λ t. refl; same = refl }), (inr (record { rows = k.rows; apart = k.apart }), (inl (record { apart = refl; named = λ t. refl; same = refl }), (inl (record { apart = refl; named = λ t. refl; same = refl }), (inl (record { apart = refl; named = λ t. refl; same = refl }), (inl (record { apart = refl; named = λ t. refl; same = refl }), (inl (record { apart = refl; named = λ t. refl; same = refl }), (inl (record { apart = refl; named = λ t. refl; same = refl }), tt)))))))) it.keeps;
+      keeps = all_turned item (codes "item") old new all (record all { items = records }) (λ t. refl) (λ t. refl) it.own.tables.1.0 schema rest (readings Parted) it.own.tables (
+        inl (record { apart = refl; named = λ t. refl; same = refl }),
+        (
+          inr (record { rows = k.rows; apart = k.apart }),
+          (
+            inl (record { apart = refl; named = λ t. refl; same = refl }),
+            (
+              inl (record { apart = refl; named = λ t. refl; same = refl }),
+              (
+                inl (record { apart = refl; named = λ t. refl; same = refl }),
+                (inl (record { apart = refl; named = λ t. refl; same = refl }), tt),
+              ),
+            ),
+          ),
+        ),
+      ) it.keeps;
     },
     spared item (codes "item") old new all all (λ t. refl) (λ t. refl) it.own.tables.1.0 schema rest (λ t other. other.1.0),
   )
@@ -102,60 +136,96 @@ module _ (old new : Database) (all : AllTables) (it : HasRecords old all) (schem
   members_turned records rest k = (
     record {
       own = owns;
-      keeps = all_turned member (codes "member") old new all (record all { members = records }) (λ t. refl) (λ t. refl) it.own.tables.1.1.0 schema rest (readings Shown) it.own.tables
-          (inl (record { apart = refl; named = λ t. refl; same = refl }), (inl (record { apart = refl; named = λ t. refl; same = refl }), (inr (record { rows = k.rows; apart = k.apart }), (inl (record { apart = refl; named = λ t. refl; same = refl }), (inl (record { apart = refl; named = λ t. refl; same = refl }), (inl (record { apart = refl; named = λ t. refl; same = refl }), (inl (record { apart = refl; named = λ t. refl; same = refl }), (inl (record { apart = refl; named = λ t. refl; same = refl }), tt)))))))) it.keeps;
+      keeps = all_turned member (codes "member") old new all (record all { members = records }) (λ t. refl) (λ t. refl) it.own.tables.1.1.0 schema rest (readings Parted) it.own.tables (
+        inl (record { apart = refl; named = λ t. refl; same = refl }),
+        (
+          inl (record { apart = refl; named = λ t. refl; same = refl }),
+          (
+            inr (record { rows = k.rows; apart = k.apart }),
+            (
+              inl (record { apart = refl; named = λ t. refl; same = refl }),
+              (
+                inl (record { apart = refl; named = λ t. refl; same = refl }),
+                (inl (record { apart = refl; named = λ t. refl; same = refl }), tt),
+              ),
+            ),
+          ),
+        ),
+      ) it.keeps;
     },
     spared member (codes "member") old new all all (λ t. refl) (λ t. refl) it.own.tables.1.1.0 schema rest (λ t other. other.1.1.0),
-  )
-
-  pub editions_turned : (records : List Edition) → SameOthers (codes "edition") old new → Keeps (codes "edition") edition_row new records → HasRecords new (record all { editions = records }) × SparesOthers old new
-  editions_turned records rest k = (
-    record {
-      own = owns;
-      keeps = all_turned edition (codes "edition") old new all (record all { editions = records }) (λ t. refl) (λ t. refl) it.own.tables.1.1.1.0 schema rest (readings Shown) it.own.tables
-          (inl (record { apart = refl; named = λ t. refl; same = refl }), (inl (record { apart = refl; named = λ t. refl; same = refl }), (inl (record { apart = refl; named = λ t. refl; same = refl }), (inr (record { rows = k.rows; apart = k.apart }), (inl (record { apart = refl; named = λ t. refl; same = refl }), (inl (record { apart = refl; named = λ t. refl; same = refl }), (inl (record { apart = refl; named = λ t. refl; same = refl }), (inl (record { apart = refl; named = λ t. refl; same = refl }), tt)))))))) it.keeps;
-    },
-    spared edition (codes "edition") old new all all (λ t. refl) (λ t. refl) it.own.tables.1.1.1.0 schema rest (λ t other. other.1.1.1.0),
-  )
-
-  pub entries_turned : (records : List Filed) → SameOthers (codes "entry") old new → Keeps (codes "entry") keyed_entry_row new records → HasRecords new (record all { entries = records }) × SparesOthers old new
-  entries_turned records rest k = (
-    record {
-      own = owns;
-      keeps = all_turned keyed.entry (codes "entry") old new all (record all { entries = records }) (λ t. refl) (λ t. refl) it.own.tables.1.1.1.1.0 schema rest (readings Shown) it.own.tables
-          (inl (record { apart = refl; named = λ t. refl; same = refl }), (inl (record { apart = refl; named = λ t. refl; same = refl }), (inl (record { apart = refl; named = λ t. refl; same = refl }), (inl (record { apart = refl; named = λ t. refl; same = refl }), (inr (record { rows = k.rows; apart = k.apart }), (inl (record { apart = refl; named = λ t. refl; same = refl }), (inl (record { apart = refl; named = λ t. refl; same = refl }), (inl (record { apart = refl; named = λ t. refl; same = refl }), tt)))))))) it.keeps;
-    },
-    spared keyed.entry (codes "entry") old new all all (λ t. refl) (λ t. refl) it.own.tables.1.1.1.1.0 schema rest (λ t other. other.1.1.1.1.0),
   )
 
   pub kept_turned : (records : List Kept) → SameOthers (codes "kept") old new → Keeps (codes "kept") kept_row new records → HasRecords new (record all { kept = records }) × SparesOthers old new
   kept_turned records rest k = (
     record {
       own = owns;
-      keeps = all_turned kept (codes "kept") old new all (record all { kept = records }) (λ t. refl) (λ t. refl) it.own.tables.1.1.1.1.1.0 schema rest (readings Shown) it.own.tables
-          (inl (record { apart = refl; named = λ t. refl; same = refl }), (inl (record { apart = refl; named = λ t. refl; same = refl }), (inl (record { apart = refl; named = λ t. refl; same = refl }), (inl (record { apart = refl; named = λ t. refl; same = refl }), (inl (record { apart = refl; named = λ t. refl; same = refl }), (inr (record { rows = k.rows; apart = k.apart }), (inl (record { apart = refl; named = λ t. refl; same = refl }), (inl (record { apart = refl; named = λ t. refl; same = refl }), tt)))))))) it.keeps;
+      keeps = all_turned kept (codes "kept") old new all (record all { kept = records }) (λ t. refl) (λ t. refl) it.own.tables.1.1.1.0 schema rest (readings Parted) it.own.tables (
+        inl (record { apart = refl; named = λ t. refl; same = refl }),
+        (
+          inl (record { apart = refl; named = λ t. refl; same = refl }),
+          (
+            inl (record { apart = refl; named = λ t. refl; same = refl }),
+            (
+              inr (record { rows = k.rows; apart = k.apart }),
+              (
+                inl (record { apart = refl; named = λ t. refl; same = refl }),
+                (inl (record { apart = refl; named = λ t. refl; same = refl }), tt),
+              ),
+            ),
+          ),
+        ),
+      ) it.keeps;
     },
-    spared kept (codes "kept") old new all all (λ t. refl) (λ t. refl) it.own.tables.1.1.1.1.1.0 schema rest (λ t other. other.1.1.1.1.1.0),
+    spared kept (codes "kept") old new all all (λ t. refl) (λ t. refl) it.own.tables.1.1.1.0 schema rest (λ t other. other.1.1.1.0),
   )
 
-  pub words_turned : (records : List Piece) → SameOthers (codes "word") old new → Keeps (codes "word") piece_row new records → HasRecords new (record all { words = records }) × SparesOthers old new
-  words_turned records rest k = (
+  pub editions_turned : (records : List Edition) → SameOthers (codes "edition") old new → Keeps (codes "edition") edition_row new records → HasRecords new (record all { editions = records }) × SparesOthers old new
+  editions_turned records rest k = (
     record {
       own = owns;
-      keeps = all_turned keyed.word (codes "word") old new all (record all { words = records }) (λ t. refl) (λ t. refl) it.own.tables.1.1.1.1.1.1.0 schema rest (readings Shown) it.own.tables
-          (inl (record { apart = refl; named = λ t. refl; same = refl }), (inl (record { apart = refl; named = λ t. refl; same = refl }), (inl (record { apart = refl; named = λ t. refl; same = refl }), (inl (record { apart = refl; named = λ t. refl; same = refl }), (inl (record { apart = refl; named = λ t. refl; same = refl }), (inl (record { apart = refl; named = λ t. refl; same = refl }), (inr (record { rows = k.rows; apart = k.apart }), (inl (record { apart = refl; named = λ t. refl; same = refl }), tt)))))))) it.keeps;
+      keeps = all_turned header (codes "edition") old new all (record all { editions = records }) (λ t. refl) (λ t. refl) it.own.tables.1.1.1.1.0 schema rest (readings Parted) it.own.tables (
+        inl (record { apart = refl; named = λ t. refl; same = refl }),
+        (
+          inl (record { apart = refl; named = λ t. refl; same = refl }),
+          (
+            inl (record { apart = refl; named = λ t. refl; same = refl }),
+            (
+              inl (record { apart = refl; named = λ t. refl; same = refl }),
+              (
+                inr (record { rows = k.rows; apart = k.apart }),
+                (inl (record { apart = refl; named = λ t. refl; same = refl }), tt),
+              ),
+            ),
+          ),
+        ),
+      ) it.keeps;
     },
-    spared keyed.word (codes "word") old new all all (λ t. refl) (λ t. refl) it.own.tables.1.1.1.1.1.1.0 schema rest (λ t other. other.1.1.1.1.1.1.0),
+    spared header (codes "edition") old new all all (λ t. refl) (λ t. refl) it.own.tables.1.1.1.1.0 schema rest (λ t other. other.1.1.1.1.0),
   )
 
-  pub grams_turned : (records : List Piece) → SameOthers (codes "gram") old new → Keeps (codes "gram") piece_row new records → HasRecords new (record all { grams = records }) × SparesOthers old new
-  grams_turned records rest k = (
+  pub parts_turned : (records : List Part) → SameOthers (codes "dictcat_part") old new → Keeps (codes "dictcat_part") part_row new records → HasRecords new (record all { parts = records }) × SparesOthers old new
+  parts_turned records rest k = (
     record {
       own = owns;
-      keeps = all_turned keyed.gram (codes "gram") old new all (record all { grams = records }) (λ t. refl) (λ t. refl) it.own.tables.1.1.1.1.1.1.1.0 schema rest (readings Shown) it.own.tables
-          (inl (record { apart = refl; named = λ t. refl; same = refl }), (inl (record { apart = refl; named = λ t. refl; same = refl }), (inl (record { apart = refl; named = λ t. refl; same = refl }), (inl (record { apart = refl; named = λ t. refl; same = refl }), (inl (record { apart = refl; named = λ t. refl; same = refl }), (inl (record { apart = refl; named = λ t. refl; same = refl }), (inl (record { apart = refl; named = λ t. refl; same = refl }), (inr (record { rows = k.rows; apart = k.apart }), tt)))))))) it.keeps;
+      keeps = all_turned part (codes "dictcat_part") old new all (record all { parts = records }) (λ t. refl) (λ t. refl) it.own.tables.1.1.1.1.1.0 schema rest (readings Parted) it.own.tables (
+        inl (record { apart = refl; named = λ t. refl; same = refl }),
+        (
+          inl (record { apart = refl; named = λ t. refl; same = refl }),
+          (
+            inl (record { apart = refl; named = λ t. refl; same = refl }),
+            (
+              inl (record { apart = refl; named = λ t. refl; same = refl }),
+              (
+                inl (record { apart = refl; named = λ t. refl; same = refl }),
+                (inr (record { rows = k.rows; apart = k.apart }), tt),
+              ),
+            ),
+          ),
+        ),
+      ) it.keeps;
     },
-    spared keyed.gram (codes "gram") old new all all (λ t. refl) (λ t. refl) it.own.tables.1.1.1.1.1.1.1.0 schema rest (λ t other. other.1.1.1.1.1.1.1.0),
+    spared part (codes "dictcat_part") old new all all (λ t. refl) (λ t. refl) it.own.tables.1.1.1.1.1.0 schema rest (λ t other. other.1.1.1.1.1.0),
   )
 
 -- ---- what each keeps
@@ -170,20 +240,36 @@ module _ (db : Database) (all : AllTables) (it : HasRecords db all) where
   pub members_kept : Keeps (codes "member") member_row db all.members
   members_kept = record { rows = it.keeps.1.1.0.rows; apart = it.keeps.1.1.0.apart }
 
-  pub editions_kept : Keeps (codes "edition") edition_row db all.editions
-  editions_kept = record { rows = it.keeps.1.1.1.0.rows; apart = it.keeps.1.1.1.0.apart }
-
-  pub entries_kept : Keeps (codes "entry") keyed_entry_row db all.entries
-  entries_kept = record { rows = it.keeps.1.1.1.1.0.rows; apart = it.keeps.1.1.1.1.0.apart }
-
   pub kept_kept : Keeps (codes "kept") kept_row db all.kept
-  kept_kept = record { rows = it.keeps.1.1.1.1.1.0.rows; apart = it.keeps.1.1.1.1.1.0.apart }
+  kept_kept = record { rows = it.keeps.1.1.1.0.rows; apart = it.keeps.1.1.1.0.apart }
 
-  pub words_kept : Keeps (codes "word") piece_row db all.words
-  words_kept = record { rows = it.keeps.1.1.1.1.1.1.0.rows; apart = it.keeps.1.1.1.1.1.1.0.apart }
+  pub editions_kept : Keeps (codes "edition") edition_row db all.editions
+  editions_kept = record { rows = it.keeps.1.1.1.1.0.rows; apart = it.keeps.1.1.1.1.0.apart }
 
-  pub grams_kept : Keeps (codes "gram") piece_row db all.grams
-  grams_kept = record { rows = it.keeps.1.1.1.1.1.1.1.0.rows; apart = it.keeps.1.1.1.1.1.1.1.0.apart }
+  pub parts_kept : Keeps (codes "dictcat_part") part_row db all.parts
+  parts_kept = record { rows = it.keeps.1.1.1.1.1.0.rows; apart = it.keeps.1.1.1.1.1.0.apart }
+
+  -- none of them keeps an entry
+  pub other_entries : (entries : List Entry) → HasRecords db (record all { entries = entries })
+  other_entries entries = record {
+    own = it.own;
+    keeps = (
+      record { rows = it.keeps.0.rows; apart = it.keeps.0.apart },
+      (
+        record { rows = it.keeps.1.0.rows; apart = it.keeps.1.0.apart },
+        (
+          record { rows = it.keeps.1.1.0.rows; apart = it.keeps.1.1.0.apart },
+          (
+            record { rows = it.keeps.1.1.1.0.rows; apart = it.keeps.1.1.1.0.apart },
+            (
+              record { rows = it.keeps.1.1.1.1.0.rows; apart = it.keeps.1.1.1.1.0.apart },
+              (record { rows = it.keeps.1.1.1.1.1.0.rows; apart = it.keeps.1.1.1.1.1.0.apart }, tt),
+            ),
+          ),
+        ),
+      ),
+    );
+  }
 
 -- ---- the statements can use the tables
 
@@ -196,20 +282,14 @@ has_items db it = own_has item db it.1.own.tables.1.0
 pub has_members : (db : Database) → IsUsable db → Has member db
 has_members db it = own_has member db it.1.own.tables.1.1.0
 
-pub has_editions : (db : Database) → IsUsable db → Has edition db
-has_editions db it = own_has edition db it.1.own.tables.1.1.1.0
-
-pub has_entries : (db : Database) → IsUsable db → Has keyed.entry db
-has_entries db it = own_has keyed.entry db it.1.own.tables.1.1.1.1.0
-
 pub has_kept : (db : Database) → IsUsable db → Has kept db
-has_kept db it = own_has kept db it.1.own.tables.1.1.1.1.1.0
+has_kept db it = own_has kept db it.1.own.tables.1.1.1.0
 
-pub has_words : (db : Database) → IsUsable db → Has keyed.word db
-has_words db it = own_has keyed.word db it.1.own.tables.1.1.1.1.1.1.0
+pub has_editions : (db : Database) → IsUsable db → Has header db
+has_editions db it = own_has header db it.1.own.tables.1.1.1.1.0
 
-pub has_grams : (db : Database) → IsUsable db → Has keyed.gram db
-has_grams db it = own_has keyed.gram db it.1.own.tables.1.1.1.1.1.1.1.0
+pub has_parts : (db : Database) → IsUsable db → Has part db
+has_parts db it = own_has part db it.1.own.tables.1.1.1.1.1.0
 
 pub marks_to_remove : (db : Database) → IsUsable db → HasToRemove mark db
 marks_to_remove db it = record { has = has_marks db it; apart = (marks_kept db it.0 it.1).apart }
@@ -220,17 +300,11 @@ items_to_remove db it = record { has = has_items db it; apart = (items_kept db i
 pub members_to_remove : (db : Database) → IsUsable db → HasToRemove member db
 members_to_remove db it = record { has = has_members db it; apart = (members_kept db it.0 it.1).apart }
 
-pub editions_to_remove : (db : Database) → IsUsable db → HasToRemove edition db
+pub editions_to_remove : (db : Database) → IsUsable db → HasToRemove header db
 editions_to_remove db it = record { has = has_editions db it; apart = (editions_kept db it.0 it.1).apart }
 
-pub entries_to_remove : (db : Database) → IsUsable db → HasToRemove keyed.entry db
-entries_to_remove db it = record { has = has_entries db it; apart = (entries_kept db it.0 it.1).apart }
-
-pub words_to_remove : (db : Database) → IsUsable db → HasToRemove keyed.word db
-words_to_remove db it = record { has = has_words db it; apart = (words_kept db it.0 it.1).apart }
-
-pub grams_to_remove : (db : Database) → IsUsable db → HasToRemove keyed.gram db
-grams_to_remove db it = record { has = has_grams db it; apart = (grams_kept db it.0 it.1).apart }
+pub parts_to_remove : (db : Database) → IsUsable db → HasToRemove part db
+parts_to_remove db it = record { has = has_parts db it; apart = (parts_kept db it.0 it.1).apart }
 
 -- ---- a table is cleared
 
@@ -254,34 +328,11 @@ items_added r old new one = λ all it. items_turned old new all it one.schema (a
 pub members_added : (r : Member) (old new : Database) → IsAdded (codes "member") (member_row r) old new → Turns (with_more_members (r ∷ [])) old new
 members_added r old new one = λ all it. members_turned old new all it one.schema (all.members ++ r ∷ []) one.others (keeps_added (codes "member") member_row old new all.members r one (members_kept old all it))
 
-pub editions_added : (r : Edition) (old new : Database) → IsAdded (codes "edition") (edition_row r) old new → Turns (with_more_editions (r ∷ [])) old new
-editions_added r old new one = λ all it. editions_turned old new all it one.schema (all.editions ++ r ∷ []) one.others (keeps_added (codes "edition") edition_row old new all.editions r one (editions_kept old all it))
-
-pub entries_added : (r : Filed) (old new : Database) → IsAdded (codes "entry") (keyed_entry_row r) old new → Turns (with_more_entries (r ∷ [])) old new
-entries_added r old new one = λ all it. entries_turned old new all it one.schema (all.entries ++ r ∷ []) one.others (keeps_added (codes "entry") keyed_entry_row old new all.entries r one (entries_kept old all it))
-
 pub kept_added : (r : Kept) (old new : Database) → IsAdded (codes "kept") (kept_row r) old new → Turns (λ all. record all { kept = all.kept ++ r ∷ [] }) old new
 kept_added r old new one = λ all it. kept_turned old new all it one.schema (all.kept ++ r ∷ []) one.others (keeps_added (codes "kept") kept_row old new all.kept r one (kept_kept old all it))
 
-pub words_added : (r : Piece) (old new : Database) → IsAdded (codes "word") (piece_row r) old new → Turns (with_more_words (r ∷ [])) old new
-words_added r old new one = λ all it. words_turned old new all it one.schema (all.words ++ r ∷ []) one.others (keeps_added (codes "word") piece_row old new all.words r one (words_kept old all it))
+pub editions_added : (r : Edition) (old new : Database) → IsAdded (codes "edition") (edition_row r) old new → Turns (with_more_editions (r ∷ [])) old new
+editions_added r old new one = λ all it. editions_turned old new all it one.schema (all.editions ++ r ∷ []) one.others (keeps_added (codes "edition") edition_row old new all.editions r one (editions_kept old all it))
 
-pub grams_added : (r : Piece) (old new : Database) → IsAdded (codes "gram") (piece_row r) old new → Turns (with_more_grams (r ∷ [])) old new
-grams_added r old new one = λ all it. grams_turned old new all it one.schema (all.grams ++ r ∷ []) one.others (keeps_added (codes "gram") piece_row old new all.grams r one (grams_kept old all it))
-
--- ---- other records with the same rows
-
-same_bags : (db : Database) (all turned : AllTables) (qs : List Reading) → AllByRecursion (λ q. IsPermutation (q.rows all) (q.rows turned)) qs → AllByRecursion (λ q. KeepsRows q db all) qs → AllByRecursion (λ q. KeepsRows q db turned) qs
-same_bags db all turned [] same k = tt
-same_bags db all turned (q ∷ qs) same k = (
-  record { rows = IsPermutation-trans (q.rows turned) (q.rows all) (map (λ row. drop 1 (q.looked row)) (rows_of (name_of q) db)) (IsPermutation-sym (q.rows all) (q.rows turned) same.0) k.0.rows; apart = k.0.apart },
-  same_bags db all turned qs same.1 k.1,
-)
-
--- the words and the grams in another order
-pub pieces_turned : (db : Database) (all : AllTables) (words grams : List Piece) → IsPermutation all.words words → IsPermutation all.grams grams → HasRecords db all → HasRecords db (record all { words = words; grams = grams })
-pieces_turned db all words grams one two it = record {
-  own = it.own;
-  keeps = same_bags db all (record all { words = words; grams = grams }) (readings Shown)
-      (IsPermutation-refl _, (IsPermutation-refl _, (IsPermutation-refl _, (IsPermutation-refl _, (IsPermutation-refl _, (IsPermutation-refl _, (IsPermutation-map piece_row all.words words one, (IsPermutation-map piece_row all.grams grams two, tt)))))))) it.keeps;
-}
+pub parts_added : (r : Part) (old new : Database) → IsAdded (codes "dictcat_part") (part_row r) old new → Turns (with_more_parts (r ∷ [])) old new
+parts_added r old new one = λ all it. parts_turned old new all it one.schema (all.parts ++ r ∷ []) one.others (keeps_added (codes "dictcat_part") part_row old new all.parts r one (parts_kept old all it))

@@ -17,7 +17,7 @@ use Rattle.dict_sql.specs.Inserts.{Inserts, FailsToInsert}
 use Rattle.dict_sql.specs.Deletes.{Removes, FailsToRemove}
 use Rattle.dict_sql.specs.Statements.{Statement, add, remove, Succeeds, FailsTo}
 use Rattle.dict_sql.proofs.TurnLemmas.{run_one, run_then, fails_one, fails_before, fails_after}
-use Rattle.dict_derived.specs.AllTables.{AllTables}
+use Rattle.dict_files.specs.AllTables.{AllTables}
 use Rattle.dict_commands.specs.Kept.{HasRecords, IsUsable, IsOther, SparesOthers, Turns}
 use Rattle.dict_commands.specs.Writes.{Wrote, FailsToWrite, Spares}
 
@@ -47,7 +47,8 @@ same_all (t ∷ tables) trees P = (λ other. refl, same_all tables trees P)
 pub others_none : (a : Database) → SparesOthers a a
 others_none a = record { schema = refl; others = same_all a.schema.tables a.trees (IsOther a.schema) }
 
-both_same : (P : Table → Type 0) (a b c : Trees) (tables : List Table) → AllByRecursion (λ t. P t → b t.tree ≡ a t.tree) tables → AllByRecursion (λ t. P t → c t.tree ≡ b t.tree) tables → AllByRecursion (λ t. P t → c t.tree ≡ a t.tree) tables
+both_same : (P : Table → Type 0) (a b c : Trees) (tables : List Table) → AllByRecursion (λ t. P t → b t.tree ≡ a t.tree) tables → AllByRecursion (λ t. P t → c t.tree ≡ b t.tree) tables → AllByRecursion
+    (λ t. P t → c t.tree ≡ a t.tree) tables
 both_same P a b c [] one two = tt
 both_same P a b c (t ∷ tables) one two = (λ other. two.0 other ∙ one.0 other, both_same P a b c tables one.1 two.1)
 
@@ -99,7 +100,8 @@ module _ {S : Type 0} (g : Ghosts S) where
     spared_added (Ok x) on off = kept_on (state g old) (state g new) on.1
     spared_added (Err e) on off = off.keeps
 
-    pub spares_added : {X : Type 0} (result : Result X Error) → (HasCleanDisk (state g new) → OnOk result (Inserts name row (state g old) (state g new))) → (HasCleanDisk (state g new) → IfErr result (FailsToInsert name row (state g old) (state g new))) → Spares g old new
+    pub spares_added : {X : Type 0} (result : Result X Error) → (HasCleanDisk (state g new) → OnOk result (Inserts name row (state g old) (state g new)))
+        → (HasCleanDisk (state g new) → IfErr result (FailsToInsert name row (state g old) (state g new))) → Spares g old new
     spares_added result on off = record { keeps = λ clean. spared_added result (on clean) (off clean); survives = survives }
 
   module _ (name : List ℕ) (test : Row → Bool) (old new : Held S) (survives : Survives (state g old) (state g new) (λ _. ⊥)) where
@@ -110,13 +112,15 @@ module _ {S : Type 0} (g : Ghosts S) where
     spared_removed (Ok x) on off = kept_on (state g old) (state g new) on.1
     spared_removed (Err e) on off = off.keeps
 
-    pub spares_removed : {X : Type 0} (result : Result X Error) → (HasCleanDisk (state g new) → OnOk result (Removes name test (state g old) (state g new))) → (HasCleanDisk (state g new) → IfErr result (FailsToRemove name test (state g old) (state g new))) → Spares g old new
+    pub spares_removed : {X : Type 0} (result : Result X Error) → (HasCleanDisk (state g new) → OnOk result (Removes name test (state g old) (state g new)))
+        → (HasCleanDisk (state g new) → IfErr result (FailsToRemove name test (state g old) (state g new))) → Spares g old new
     spares_removed result on off = record { keeps = λ clean. spared_removed result (on clean) (off clean); survives = survives }
 
   -- ---- a record that was added, as what it is
 
   module _ {R : Type 0} (name : List ℕ) (encode : R → Row) (f : R → AllTables → AllTables) (given wanted : R) (is : given ≡ wanted) (old new : Held S) (survives : Survives (state g old) (state g new) (λ _. ⊥)) where
-    pub wrote_record : ((r : R) (a b : Database) → IsAdded name (encode r) a b → Turns (f r) a b) → (HasCleanDisk (state g new) → Inserts name (encode given) (state g old) (state g new)) → Wrote g (add name (encode wanted) ∷ []) (f wanted) old new
+    pub wrote_record : ((r : R) (a b : Database) → IsAdded name (encode r) a b → Turns (f r) a b) → (HasCleanDisk (state g new) → Inserts name (encode given) (state g old) (state g new)) → Wrote g
+        (add name (encode wanted) ∷ []) (f wanted) old new
     wrote_record turns did = subst (λ r. Wrote g (add name (encode r) ∷ []) (f r) old new) is (wrote_added name (encode given) old new survives (f given) (turns given) did)
 
     pub failed_record : (e : Error) → (HasCleanDisk (state g new) → FailsToInsert name (encode given) (state g old) (state g new) e) → FailsToWrite g (add name (encode wanted) ∷ []) old new e
@@ -124,7 +128,8 @@ module _ {S : Type 0} (g : Ghosts S) where
 
   -- rows that were taken out by a number, as it is
   module _ (name : List ℕ) (test : ℤ → Row → Bool) (given wanted : ℤ) (is : given ≡ wanted) (old new : Held S) (survives : Survives (state g old) (state g new) (λ _. ⊥)) where
-    pub wrote_taken : (f : AllTables → AllTables) → ((a b : Database) → IsRemoved name (test wanted) a b → Turns f a b) → (HasCleanDisk (state g new) → Removes name (test given) (state g old) (state g new)) → Wrote g (remove name (test wanted) ∷ []) f old new
+    pub wrote_taken : (f : AllTables → AllTables) → ((a b : Database) → IsRemoved name (test wanted) a b → Turns f a b) → (HasCleanDisk (state g new) → Removes name (test given) (state g old) (state g new)) → Wrote g
+        (remove name (test wanted) ∷ []) f old new
     wrote_taken f turns did = wrote_removed name (test wanted) old new survives f turns (λ clean. subst (λ n. Removes name (test n) (state g old) (state g new)) is (did clean))
 
     pub failed_taken : (e : Error) → (HasCleanDisk (state g new) → FailsToRemove name (test given) (state g old) (state g new) e) → FailsToWrite g (remove name (test wanted) ∷ []) old new e
@@ -143,7 +148,8 @@ module _ {S : Type 0} (g : Ghosts S) where
   }
 
   -- the same records, told otherwise
-  pub wrote_as : (statements : List Statement) (f h : AllTables → AllTables) (old new : Held S) → ((db : Database) (all : AllTables) → HasRecords db (f all) → HasRecords db (h all)) → Wrote g statements f old new → Wrote g statements h old new
+  pub wrote_as : (statements : List Statement) (f h : AllTables → AllTables) (old new : Held S) → ((db : Database) (all : AllTables) → HasRecords db (f all) → HasRecords db (h all)) → Wrote g statements f old new
+      → Wrote g statements h old new
   wrote_as statements f h old new same wrote = record { turns = λ clean all it. (same (state g new).now all (wrote.turns clean all it).0, (wrote.turns clean all it).1); ran = wrote.ran; inside = wrote.inside }
 
   -- more would have come after what failed

@@ -8,6 +8,7 @@ use Rattle.sqlite_trees.specs.declared.store.Store.{Ghosts}
 use Rattle.dict_index.specs.Edition.{Edition}
 use Rattle.dict_catalogue.specs.Commands.{Command}
 use Rattle.dict_name.specs.Names.{is_request_id}
+use Rattle.dict_catalogue.specs.Items.{edition_numbers}
 use Rattle.dict_catalogue.specs.Tests.{Holdings, refusal_of}
 use Rattle.dict_catalogue.specs.Steps.{Catalogue, Outcome, accepted, refused, holdings, summary_of, kept_under, step}
 use Rattle.dict_catalogue.specs.Views.{kept_shown, summary_shown}
@@ -16,7 +17,6 @@ use Rattle.dict_desk.specs.declared.fault.Fault.{Fault}
 use Rattle.dict_desk.specs.declared.fault.Fault.TheVariants.{Refused, Memory, Disk, Closed, NotACatalogue, Damaged, NewerSchema}
 use Rattle.dict_desk.specs.Faults.{is_disk}
 use Rattle.dict_holdings.specs.Faults.{FailsToLookUp}
-use Rattle.dict_commands.specs.Listed.{Listed, AreListed}
 use Rattle.dict_holdings.specs.Holds.{Holds, Rests, IsLeftAs}
 use Rattle.dict_holdings.specs.Writing.{FailsToEnd}
 use Rattle.dict_rows.specs.After.{TableChange, IsChange}
@@ -68,6 +68,10 @@ summary_after before (Ok (Repeated kept)) = before
 summary_after before (Ok (Done kept summary)) = summary_shown summary
 summary_after before (Err fault) = before
 
+-- the numbers of the editions after an answer
+abbrev pub numbers_after : Holdings (List ℕ) → Result Applied Fault → List ℕ
+numbers_after before result = edition_numbers (summary_after before result).items
+
 -- the answers of a store that is shut: the command fails, or is refused for its id, which no store is asked for
 abbrev pub IsOfShut : List ℕ → Result Applied Fault → Type 0
 IsOfShut id (Ok applied) = ⊥
@@ -91,7 +95,7 @@ IsPlanned summary old id command change = (M : Catalogue) → Rests known old M 
 abbrev pub FailsToAct : {S : Type 0} → Ghosts S → Holdings (List ℕ) → List ℕ → Command Edition → (Database → Type 0) → Held S → Held S → Fault → Type 0
 FailsToAct {S} g summary id command P old new fault =
     (change : TableChange) × IsPlanned summary (state g old) id command change
-    × ((listed : Listed) × AreListed change.edition listed × FailsToEnd g (statements_of known change listed) P old new fault)
+    × FailsToEnd g (statements_of known change) P old new fault
 
 -- A command fails that is not refused: what is kept under its id was not read; or nothing was kept, and the change was not
 -- made.

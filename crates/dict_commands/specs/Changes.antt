@@ -1,8 +1,6 @@
 -- What each part of a command's change makes of the records.
 use Rattle.std.specs.Prelude.{ℕ, ◌≤◌, not, List, [], ◌∷◌, ◌++◌, filter, Option, Some, None, IfSome}
 use Rattle.std.specs.List.{AllByRecursion}
-use Rattle.dict_index.specs.Limits.{most_octets}
-use Rattle.dict_index.specs.Line.{Line}
 use Rattle.dict_catalogue.specs.Items.{Item, numbers_of, edition_numbers}
 use Rattle.dict_catalogue.specs.Steps.{KeptFor}
 use Rattle.dict_catalogue.specs.Tests.{Holdings}
@@ -10,12 +8,12 @@ use Rattle.dict_catalogue.specs.Views.{item_shown, summary_shown, kept_shown}
 use Rattle.dict_catalogue.specs.declared.commands.Command.{Command}
 use Rattle.dict_catalogue.specs.declared.commands.Command.TheVariants.{Install, Rollback, Retire, PutVirtual, Place}
 use Rattle.dict_catalogue.specs.declared.planning.PlannedChange.{PlannedChange as Planned}
-use Rattle.dict_records.specs.Records.{Item as ItemRecord, Member, Edition}
-use Rattle.dict_records.specs.Keyed.{Piece}
-use Rattle.dict_derived.specs.Entries.{Filed}
-use Rattle.dict_derived.specs.AllTables.{AllTables}
+use Rattle.dict_records.specs.Records.{Item as ItemRecord, Member, Edition, Part}
+use Rattle.dict_index_lines.specs.Stored.{stored_index}
+use Rattle.dict_files.specs.Files.{installed_parts}
+use Rattle.dict_files.specs.AllTables.{AllTables}
 use Rattle.dict_rows.specs.Written.{numbered, mark_record, item_record, kept_record}
-use Rattle.dict_rows.specs.After.{Installed, TableChange, all_members, is_gone}
+use Rattle.dict_rows.specs.After.{Installed, TableChange, all_members, is_gone, installed_editions, installed_entries}
 use Rattle.dict_rows.specs.Versions.{known}
 use Rattle.dict_commands.specs.Kept.{IsStorable, AreStorable}
 
@@ -36,24 +34,27 @@ with_more_members more all = record all { members = all.members ++ more }
 abbrev pub with_more_editions : List Edition → AllTables → AllTables
 with_more_editions more all = record all { editions = all.editions ++ more }
 
-abbrev pub with_more_entries : List Filed → AllTables → AllTables
-with_more_entries more all = record all { entries = all.entries ++ more }
+abbrev pub with_more_parts : List Part → AllTables → AllTables
+with_more_parts more all = record all { parts = all.parts ++ more }
 
-abbrev pub with_more_words : List Piece → AllTables → AllTables
-with_more_words more all = record all { words = all.words ++ more }
+-- without the parts of these editions, and without the editions: their records, their entries and their parts
+abbrev pub without_parts : List ℕ → AllTables → AllTables
+without_parts gone all = record all { parts = filter (λ row. not (is_gone gone row.edition)) all.parts }
 
-abbrev pub with_more_grams : List Piece → AllTables → AllTables
-with_more_grams more all = record all { grams = all.grams ++ more }
+abbrev pub without_editions : List ℕ → AllTables → AllTables
+without_editions gone all = record all {
+  editions = filter (λ row. not (is_gone gone row.number)) all.editions;
+  entries = filter (λ row. not (is_gone gone row.edition)) all.entries;
+  parts = filter (λ row. not (is_gone gone row.edition)) all.parts;
+}
 
--- a table without the rows of one edition
-abbrev pub without_entries_of : ℕ → AllTables → AllTables
-without_entries_of number all = record all { entries = filter (λ row. not (is_gone (number ∷ []) row.edition)) all.entries }
-
-abbrev pub without_words_of : ℕ → AllTables → AllTables
-without_words_of number all = record all { words = filter (λ row. not (is_gone (number ∷ []) row.edition)) all.words }
-
-abbrev pub without_grams_of : ℕ → AllTables → AllTables
-without_grams_of number all = record all { grams = filter (λ row. not (is_gone (number ∷ []) row.edition)) all.grams }
+-- with the edition that is installed, where there is one
+abbrev pub with_installed : Option Installed → AllTables → AllTables
+with_installed edition all = record all {
+  editions = all.editions ++ installed_editions edition;
+  entries = all.entries ++ installed_entries edition;
+  parts = all.parts ++ installed_parts edition;
+}
 
 -- the mark, the items and the members written anew
 abbrev pub with_mark : ℕ → AllTables → AllTables
@@ -77,6 +78,14 @@ installed_by number (Retire name) = None
 installed_by number (PutVirtual name title members) = None
 installed_by number (Place name at) = None
 
+-- the octets of the index of the edition that a command installs
+abbrev pub index_by : Command → List ℕ
+index_by (Install name edition) = stored_index edition.now.lines
+index_by (Rollback name) = []
+index_by (Retire name) = []
+index_by (PutVirtual name title members) = []
+index_by (Place name at) = []
+
 -- what is written where a command was planned so
 abbrev pub change_by : List ℕ → Command → Planned → TableChange
 change_by id command planned = record {
@@ -97,8 +106,3 @@ pub record IsWritable (planned : Planned) : Type 0 where
 -- each edition of a summary has a number that an install made
 abbrev pub IsInRange : Holdings (List ℕ) → Type 0
 IsInRange summary = AllByRecursion (λ number. number ≤ summary.installs) (edition_numbers summary.items)
-
--- an entry's interval is within the limit of a text
-pub record IsShort (line : Line) : Type 0 where
-  pub offset : line.offset ≤ most_octets
-  pub size : line.size ≤ most_octets

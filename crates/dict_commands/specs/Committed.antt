@@ -11,7 +11,6 @@ use Rattle.sqlite.specs.Held.{Held}
 use Rattle.sqlite_trees.specs.declared.store.Store.{Ghosts}
 use Rattle.dict_rows.specs.After.{TableChange}
 use Rattle.dict_rows.specs.Versions.{known}
-use Rattle.dict_commands.specs.Listed.{Listed, AreListed}
 use Rattle.dict_commands.specs.Statements.{statements_of}
 use Rattle.dict_desk.specs.declared.fault.Fault.TheVariants.{Memory}
 
@@ -30,4 +29,4 @@ pub record IsCommitted (P : Database → Type 0) (s : State) : Type 0 where
 -- statements failed behind those before it, or its commit did.
 abbrev pub FailsToCommit : {S : Type 0} → Ghosts S → TableChange → (Database → Type 0) → Held S → Held S → Fault → Type 0
 FailsToCommit {S} g change P old new fault =
-    ((fault ≡ Memory) × (new ≡ old)) ⊎ ((listed : Listed) × AreListed change.edition listed × FailsToEnd g (statements_of known change listed) P old new fault)
+    ((fault ≡ Memory) × (new ≡ old)) ⊎ FailsToEnd g (statements_of known change) P old new fault

@@ -1,5 +1,5 @@
 -- What is decided of a command before anything is written.
-use Rattle.std.specs.Prelude.{◌≡◌, ℕ, List, Some, None}
+use Rattle.std.specs.Prelude.{◌≡◌, ℕ, ◌<◌, ◌^◌, length, List, Some, None}
 use Rattle.std.specs.List.{AllByRecursion}
 use Rattle.dict_catalogue.specs.Commands.{Command as ACommand}
 use Rattle.dict_catalogue.specs.Tests.{Holdings, refusal_of}
@@ -19,9 +19,9 @@ IsDeclined before command NotACatalogue = ⊥
 IsDeclined before command Damaged = ⊥
 IsDeclined before command NewerSchema = ⊥
 
--- each entry of an edition that is installed lies within its text
+-- each entry of an edition that is installed lies within its text, which is short enough for its index
 abbrev pub LiesWithin : Command → Type 0
-LiesWithin (Install name edition) = AllByRecursion (IsWithin edition.now.text) edition.now.lines
+LiesWithin (Install name edition) = AllByRecursion (IsWithin edition.now.text) edition.now.lines × (length edition.now.text < 64 ^ 6)
 LiesWithin (Rollback name) = Unit {0}
 LiesWithin (Retire name) = Unit {0}
 LiesWithin (PutVirtual name title members) = Unit {0}

@@ -1,5 +1,5 @@
--- The rows of an edition that a command is to install, filed part by part in a transaction that stays open between calls.
-use Rattle.std.specs.Prelude.{◌≡◌, ◌≢◌, ◌⊎◌, ℕ, ◌+◌, ◌≤◌, pos, true, false, not, IsTrue, List, ◌++◌, Option, Some, None, codes, map, filter, flat_map, take, drop, length, IsPermutation, string_bytes}
+-- The files of an edition that a command is to install, their parts filed some at a time in a transaction that stays open between calls.
+use Rattle.std.specs.Prelude.{◌≡◌, ◌≢◌, ◌⊎◌, ℕ, ◌+◌, ◌≤◌, pos, true, false, IsTrue, List, ◌++◌, Option, Some, None, codes, map, filter, take, drop, length, IsPermutation}
 use Rattle.sqlite.specs.Effect.{Database}
 use Rattle.sqlite.specs.Order.{Row}
 use Rattle.sqlite.specs.State.{State, HasCleanDisk, KeepsCommit, Survives}
@@ -10,7 +10,8 @@ use Rattle.sqlite.specs.declared.error.ErrorCode.TheVariants as code
 use Rattle.sqlite_trees.specs.declared.store.Store.{Ghosts}
 use Rattle.dict_sql.specs.Effects.{equals_number, rows_of}
 use Rattle.dict_sql.specs.Statements.{Statement, FailsInTurn}
-use Rattle.dict_records.specs.Keyed.{Piece}
+use Rattle.dict_records.specs.Records.{Part}
+use Rattle.dict_index_lines.specs.Stored.{stored_index}
 use Rattle.dict_catalogue.specs.Tests.{Holdings, refusal_of}
 use Rattle.dict_catalogue.specs.Effects.{effect, editions_gone}
 use Rattle.dict_catalogue.specs.Steps.{KeptFor}
@@ -18,58 +19,43 @@ use Rattle.dict_catalogue.specs.Views.{command_shown}
 use Rattle.dict_catalogue.specs.declared.commands.Command.{Command as Typed}
 use Rattle.dict_desk.specs.declared.fault.Fault.{Fault}
 use Rattle.dict_desk.specs.declared.fault.Fault.TheVariants.{Memory, Disk}
-use Rattle.dict_rows.specs.After.{is_gone, installed_entries}
-use Rattle.dict_derived.specs.Entries.{Filed, filed, plain, derived, piece_at}
-use Rattle.dict_derived.specs.Placed.{gram_rows}
-use Rattle.dict_derived.specs.AllTables.{AllTables}
-use Rattle.dict_derived.specs.declared.reader.Pieces.TheVariants.{Words, Grams}
+use Rattle.dict_rows.specs.After.{Installed, is_gone}
+use Rattle.dict_files.specs.Files.{parts_under}
+use Rattle.dict_files.specs.AllTables.{AllTables}
 use Rattle.dict_commands.specs.Kept.{HasRecords, IsUsable, SparesOthers, HoldsReplies, IsStorable, AreStorable}
-use Rattle.dict_commands.specs.Changes.{installed_by}
-use Rattle.dict_commands.specs.declared.filing.FiledEntry.{FiledEntry}
-use Rattle.dict_commands.specs.declared.filing.FiledWord.{FiledWord}
+use Rattle.dict_commands.specs.Changes.{installed_by, without_parts}
+use Rattle.dict_commands.specs.declared.files.EditionFiles.{EditionFiles}
 use Rattle.dict_commands.specs.declared.filing.Filing.{Filing}
 
 -- ---- what is filed
 
--- a row of the edition of this number, as the record that its table gets
-abbrev pub entry_of : ℕ → FiledEntry → Filed
-entry_of number row = record { edition = pos number; ord = row.ord; headword = string_bytes row.headword; start = row.start; length = row.length; key = row.key; reversed = row.reversed.items; shown = string_bytes row.shown }
+-- the parts of the files of an edition: those of its index, and then those of its text
+abbrev pub parts_of_files : EditionFiles → List Part
+parts_of_files files = parts_under (pos files.number) files.index.now files.text.now
 
-abbrev pub word_of : ℕ → FiledWord → Piece
-word_of number row = piece_at (pos number) (pos row.ord) row.word.items
+abbrev pub parts_of_filing : Filing → List Part
+parts_of_filing f = parts_under (pos f.number) f.index.items f.text.items
 
-abbrev pub entries_of : Filing → List Filed
-entries_of f = map (entry_of f.number) f.entries.items
-
-abbrev pub words_of : Filing → List Piece
-words_of f = map (word_of f.number) f.words.items
-
-abbrev pub grams_of : Filing → List Piece
-grams_of f = gram_rows (pos f.number) f.grams.items
-
--- The rows are those of an edition: each entry has its key, read in either direction, and the words and the grams are what is
--- derived of the entries. The tables can hold the numbers.
+-- the tables can hold the numbers
 pub record IsDrawnUp (f : Filing) : Type 0 where
   pub number : IsStorable f.number
   pub gone : AreStorable f.gone.items
-  pub entries : map filed (map plain (entries_of f)) ≡ entries_of f
-  pub words : IsPermutation (words_of f) (flat_map (derived Words) (map plain (entries_of f)))
-  pub grams : IsPermutation (grams_of f) (flat_map (derived Grams) (map plain (entries_of f)))
 
--- all rows are filed
-pub record IsWhole (f : Filing) : Type 0 where
-  pub entries : length f.entries.items ≤ f.entries_filed
-  pub words : length f.words.items ≤ f.words_filed
-  pub grams : length f.grams.items ≤ f.grams_filed
+-- all parts are filed
+abbrev pub IsWhole : Filing → Type 0
+IsWhole f = length (parts_of_filing f) ≤ f.parts_filed
 
--- none is filed
+-- none is filed, and none of an edition that goes is taken out
 pub record HasNoneFiled (f : Filing) : Type 0 where
-  pub entries : f.entries_filed ≡ 0
-  pub words : f.words_filed ≡ 0
-  pub grams : f.grams_filed ≡ 0
-  pub parts : f.parts_taken ≡ 0
+  pub filed : f.parts_filed ≡ 0
+  pub taken : f.parts_taken ≡ 0
 
--- What is to be filed of a command over this summary: nothing where the summary refuses it, or it installs nothing; else the rows
+-- the files are those of the edition that is installed, under its number
+abbrev pub IsOfEdition : Filing → Option Installed → Type 0
+IsOfEdition f None = ⊥
+IsOfEdition f (Some new) = (f.number ≡ new.number) × (f.index.items ≡ stored_index new.reading.lines) × (f.text.items ≡ new.reading.text)
+
+-- What is to be filed of a command over this summary: nothing where the summary refuses it, or it installs nothing; else the files
 -- of the edition that it installs, under the next number, beside the numbers of the editions that go.
 abbrev pub IsFilingFor : Holdings (List ℕ) → Typed → Option Filing → Type 0
 IsFilingFor before command None = (refusal_of before (command_shown command) ≢ None) ⊎ ((number : ℕ) → installed_by number command ≡ None)
@@ -77,37 +63,25 @@ IsFilingFor before command (Some f) =
     (refusal_of before (command_shown command) ≡ None)
     × (f.number ≡ before.installs + 1)
     × (f.gone.items ≡ editions_gone before.items (effect (command_shown command) before).items)
-    × (map plain (entries_of f) ≡ installed_entries (installed_by f.number command))
+    × IsOfEdition f (installed_by f.number command)
     × HasNoneFiled f
 
 -- only how much was filed differs
 abbrev pub HasSameRows : Filing → Filing → Type 0
-HasSameRows old new = new ≡ record old { parts_taken = new.parts_taken; entries_filed = new.entries_filed; words_filed = new.words_filed; grams_filed = new.grams_filed }
+HasSameRows old new = new ≡ record old { parts_taken = new.parts_taken; parts_filed = new.parts_filed }
 
 -- ---- what the database has meanwhile
 
--- what was filed so far stands behind the records of its table
+-- what was filed so far stands behind the parts of other editions
 abbrev pub filed_by : Filing → AllTables → AllTables
-filed_by f all = record all {
-  entries = all.entries ++ take f.entries_filed (entries_of f);
-  words = all.words ++ take f.words_filed (words_of f);
-  grams = all.grams ++ take f.grams_filed (grams_of f);
-}
+filed_by f all = record all { parts = all.parts ++ take f.parts_filed (parts_of_filing f) }
 
--- without the entries, words and grams of these editions; their own records stay
-abbrev pub without_rows_of : List ℕ → AllTables → AllTables
-without_rows_of gone t = record t {
-  entries = filter (λ row. not (is_gone gone row.edition)) t.entries;
-  words = filter (λ row. not (is_gone gone row.edition)) t.words;
-  grams = filter (λ row. not (is_gone gone row.edition)) t.grams;
-}
-
--- Whatever records were committed, the database keeps these and what was filed, whatever rows the editions that go still have;
+-- Whatever records were committed, the database keeps these and what was filed, whatever parts the editions that go still have;
 -- and tables that are none of the product's have the rows that they had.
 abbrev pub IsAhead : Filing → Database → Database → Type 0
 IsAhead f committed now =
     (all : AllTables) → HasRecords committed all
-    → (seen : AllTables) × HasRecords now seen × (without_rows_of f.gone.items seen ≡ without_rows_of f.gone.items (filed_by f all)) × SparesOthers committed now
+    → (seen : AllTables) × HasRecords now seen × (without_parts f.gone.items seen ≡ without_parts f.gone.items (filed_by f all)) × SparesOthers committed now
 
 -- a store as a rollback would leave it: what it shows is what was committed
 abbrev pub rested : State → State
@@ -130,9 +104,7 @@ HasSameUnder name number old new = IsPermutation (rows_under name number old) (r
 -- what stands under this number is what stood there
 pub record KeepsEdition (number : ℕ) (old new : Database) : Type 0 where
   pub editions : HasSameUnder (codes "edition") number old new
-  pub entries : HasSameUnder (codes "entry") number old new
-  pub words : HasSameUnder (codes "word") number old new
-  pub grams : HasSameUnder (codes "gram") number old new
+  pub parts : HasSameUnder (codes "dictcat_part") number old new
 
 -- what a database shows that is ahead of another one: the tables are there, each edition that neither goes nor comes has what it had,
 -- and the same replies are kept

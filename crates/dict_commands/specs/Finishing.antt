@@ -1,7 +1,7 @@
 -- The rest of a command whose edition was filed.
-use Rattle.std.specs.Prelude.{◌≡◌, ◌⊎◌, ◌≤◌, ℕ, List, ◌++◌, map, flat_map, false, pos, IsTrue, IfErr, OnOk, Result, Option}
+use Rattle.std.specs.Prelude.{◌≡◌, ◌⊎◌, ◌≤◌, ℕ, List, ◌++◌, map, flat_map, true, false, pos, IsTrue, IfErr, OnOk, Result, Option}
 use Rattle.sqlite.specs.Effect.{Database}
-use Rattle.sqlite.specs.State.{State, HasCleanDisk, IsUnchanged, KeepsCommit, Survives}
+use Rattle.sqlite.specs.State.{State, HasCleanDisk, IsUnchanged, IsRolledBack, Survives}
 use Rattle.sqlite.specs.Held.{Held, state}
 use Rattle.sqlite_trees.specs.declared.store.Store.{Ghosts}
 use Rattle.dict_sql.specs.Statements.{Statement}
@@ -13,18 +13,17 @@ use Rattle.dict_desk.specs.Faults.{is_failure}
 use Rattle.dict_holdings.specs.Faults.{fault_of}
 use Rattle.dict_desk.specs.declared.fault.Fault.{Fault}
 use Rattle.dict_rows.specs.Versions.{known}
-use Rattle.dict_rows.specs.After.{Installed, TableChange, is_gone, installed_editions, installed_entries}
-use Rattle.dict_derived.specs.Entries.{plain}
-use Rattle.dict_derived.specs.AllTables.{AllTables, all_after, without_editions}
+use Rattle.dict_rows.specs.After.{Installed, TableChange, is_gone, installed_editions}
+use Rattle.dict_files.specs.AllTables.{AllTables, all_after}
 use Rattle.dict_holdings.specs.Holds.{Holds, IsLeftAs}
 use Rattle.dict_holdings.specs.Writing.{FailsAtLast}
-use Rattle.dict_commands.specs.Kept.{HasRecords, SparesOthers, AddsAbove}
-use Rattle.dict_commands.specs.Changes.{IsInRange, with_mark, with_items, with_members, with_more_editions, with_reply}
+use Rattle.dict_commands.specs.Kept.{HasRecords, SparesOthers, KeepsTexts}
+use Rattle.dict_commands.specs.Changes.{IsInRange, with_mark, with_items, with_members, with_more_editions, without_editions, with_reply}
 use Rattle.dict_commands.specs.Statements.{summary_anew, taking, adding_edition, replying}
 use Rattle.dict_commands.specs.Committed.{IsTreesOf}
-use Rattle.dict_commands.specs.Answers.{Answers, has_written, summary_after, IsOfApply, IsOfShut, IsPlanned, HoldsAfter, FailsToApply}
+use Rattle.dict_commands.specs.Answers.{Answers, has_written, summary_after, numbers_after, IsOfApply, IsOfShut, IsPlanned, HoldsAfter, FailsToApply}
 use Rattle.dict_commands.specs.declared.applied.Applied.{Applied}
-use Rattle.dict_commands.specs.Filing.{rested, entries_of, FailsInside}
+use Rattle.dict_commands.specs.Filing.{IsOfEdition, rested, FailsInside}
 use Rattle.dict_commands.specs.declared.filing.Filing.{Filing}
 
 -- behind what was filed: the summary anew, what is left of the editions that go, the record of the edition, and the reply
@@ -40,10 +39,10 @@ finished change all =
     (with_more_editions (installed_editions change.edition)
     (without_editions change.gone (with_members change.summary.items (with_items change.summary.items (with_mark change.summary.installs all)))))
 
--- the filing has the rows of the edition that is installed, and no other edition goes
+-- the filing has the files of the edition that is installed, and no other editions go
 pub record IsOfChange (f : Filing) (edition : Option Installed) (gone : List ℕ) : Type 0 where
   pub gone_is : f.gone.items ≡ gone
-  pub entries : map plain (entries_of f) ≡ installed_entries edition
+  pub files : IsOfEdition f edition
   pub stays : is_gone gone (pos f.number) ≡ false
 
 -- Whatever records were committed, those that the database keeps lack the rest of the change, and nothing else.
@@ -62,7 +61,7 @@ pub record IsAppliedOver (summary : Holdings (List ℕ)) (id : List ℕ) (comman
   pub lives : HasCleanDisk new → IsTrue new.is_open → IsTrue old.is_open
   pub shut : HasCleanDisk new → old.is_open ≡ false → IsOfShut id result
   pub others : HasCleanDisk new → OnOk result (SparesOthers old.committed new.committed)
-  pub above : HasCleanDisk new → OnOk result (AddsAbove summary.installs old.committed new.committed)
+  pub above : HasCleanDisk new → OnOk result (KeepsTexts summary.installs (numbers_after summary result) old.committed new.committed)
   pub refused : HasCleanDisk new → IfErr result (λ fault. is_failure fault ≡ false → new.committed ≡ old.committed)
   pub grows : summary.installs ≤ (summary_after summary result).installs
   pub kinds : IfErr result IsOfApply
@@ -76,8 +75,16 @@ module _ {S : Type 0} (g : Ghosts S) where
       (change : TableChange) × IsPlanned summary (rested (state g old)) id command change
       × (FailsInside g fault_of (finishing known change) old new fault ⊎ FailsAtLast g (finishing known change) (HoldsAfter summary (rested (state g old)) id command) old new fault)
 
+  -- What was filed is undone: where a transaction was open it was rolled back, and where none was nothing has changed.
+  abbrev pub IsUndone : Held S → Held S → Type 0
+  IsUndone old new = ((old.in_transaction ≡ false) × (new ≡ old)) ⊎ IsRolledBack (state g old) (state g new)
+
+  -- Nothing was written: nothing has changed, or a lookup in an open transaction failed, and that was rolled back.
+  abbrev pub LooksOnly : Held S → Held S → Type 0
+  LooksOnly old new = (new ≡ old) ⊎ ((old.in_transaction ≡ true) × (IsUnchanged (state g old) (state g new) ⊎ IsRolledBack (state g old) (state g new)))
+
   -- A command over a filing fails that is not refused: what was filed is undone, and it fails anew; or the rest isn't made.
   abbrev pub FailsToApplyFiled : Holdings (List ℕ) → List ℕ → Command Edition → Held S → Held S → Fault → Type 0
   FailsToApplyFiled summary id command old new fault =
-      ((mid : Held S) × KeepsCommit (state g old) (state g mid) × Survives (state g old) (state g mid) (λ _. ⊥) × FailsToApply g summary id command mid new fault)
+      ((mid : Held S) × IsUndone old mid × Survives (state g old) (state g mid) (λ _. ⊥) × FailsToApply g summary id command mid new fault)
       ⊎ ((mid : Held S) × IsUnchanged (state g old) (state g mid) × Survives (state g old) (state g mid) (λ _. ⊥) × FailsToFinish summary id command mid new fault)

@@ -1,20 +1,19 @@
--- The records that the product's tables keep, those that are derived among them, and what a call makes of them.
-use Rattle.std.specs.Prelude.{◌≡◌, ◌≢◌, ℕ, ◌≤◌, pos, List, Some, codes, map, filter, drop, Contains}
+-- The records that the product's tables keep, the parts of files among them, and what a call makes of them.
+use Rattle.std.specs.Prelude.{◌≡◌, ◌≢◌, ℕ, ◌≤◌, List, Some, codes, map, IsPermutation}
 use Rattle.std.specs.List.{AllByRecursion}
 use Rattle.sqlite.specs.Effect.{Database}
 use Rattle.sqlite.specs.Schema.{Schema}
 use Rattle.sqlite.specs.Table.{Table}
-use Rattle.sqlite.specs.Order.{Row}
-use Rattle.dict_sql.specs.Effects.{equals_number, rows_of}
 use Rattle.dict_sql.specs.Encodings.{kept_row}
 use Rattle.dict_catalogue.specs.Steps.{KeptFor}
 use Rattle.dict_catalogue.specs.WellFormed.{IsEachOnce}
 use Rattle.dict_rows.specs.Written.{kept_record}
 use Rattle.dict_tables.specs.Found.{found_table}
 use Rattle.dict_rows.specs.Versions.{known, layout_of}
-use Rattle.dict_derived.specs.AllTables.{AllTables}
+use Rattle.dict_files.specs.AllTables.{AllTables}
 use Rattle.dict_holdings.specs.Holds.{HasLayout, Keeps}
 use Rattle.dict_holdings.specs.Readings.{name_of, readings, KeepsAll}
+use Rattle.dict_holdings.specs.Texts.{text_rows}
 
 -- the database has the product's tables, and they keep these records
 pub record HasRecords (db : Database) (all : AllTables) : Type 0 where
@@ -38,14 +37,10 @@ pub record SparesOthers (old new : Database) : Type 0 where
 abbrev pub Turns : (AllTables → AllTables) → Database → Database → Type 0
 Turns f old new = (all : AllTables) → HasRecords old all → HasRecords new (f all) × SparesOthers old new
 
--- the records that stand under the number of an edition, without their rowids
-abbrev pub edition_records : ℕ → Database → List Row
-edition_records number db = map (drop 1) (filter (equals_number 1 (pos number)) (rows_of (codes "edition") db))
-
--- What stands under a number up to that of the installs before stood there then, with its text and all: a number is never given
--- twice, and an edition that stays is not written anew.
-abbrev pub AddsAbove : ℕ → Database → Database → Type 0
-AddsAbove installs old new = (number : ℕ) → number ≤ installs → AllByRecursion (Contains (edition_records number old)) (edition_records number new)
+-- Under each of these numbers that an install before was given stands the text that stood there: a number is never given twice, and
+-- the text of an edition that stays is not written anew.
+abbrev pub KeepsTexts : ℕ → List ℕ → Database → Database → Type 0
+KeepsTexts installs numbers old new = AllByRecursion (λ number. number ≤ installs → IsPermutation (text_rows number old) (text_rows number new)) numbers
 
 -- the table of the replies has a row for each of these and no others, and no id is among them twice: whatever other tables have
 pub record HoldsReplies (db : Database) (kept : List KeptFor) : Type 0 where

@@ -1,6 +1,5 @@
 pub mod Kept
 pub mod Changes
-pub mod Listed
 pub mod Statements
 pub mod Writes
 pub mod Decided

@@ -6,18 +6,19 @@ use Rattle.sqlite.specs.Held.{Held, state}
 use Rattle.sqlite.specs.declared.error.Error.{Error}
 use Rattle.sqlite_trees.specs.declared.store.Store.{Ghosts}
 use Rattle.dict_sql.specs.Statements.{Statement}
-use Rattle.dict_derived.specs.AllTables.{AllTables}
-use Rattle.dict_commands.specs.Filing.{IsAhead, without_rows_of}
+use Rattle.dict_files.specs.AllTables.{AllTables}
+use Rattle.dict_commands.specs.Changes.{without_parts}
+use Rattle.dict_commands.specs.Filing.{IsAhead}
 use Rattle.dict_commands.specs.Writes.{Wrote, FailsToWrite}
 use Rattle.dict_commands.specs.declared.filing.Filing.{Filing}
 
 module _ {S : Type 0} (g : Ghosts S) where
-  -- rows of the edition of this number were taken out, and nothing else has changed
+  -- parts of the edition of this number were taken out, and nothing else has changed
   pub record Trims (number : ℕ) (old new : Held S) : Type 0 where
     pub statements : List Statement
     pub effect : AllTables → AllTables
     pub wrote : Wrote g statements effect old new
-    pub others : (all : AllTables) → without_rows_of (number ∷ []) (effect all) ≡ without_rows_of (number ∷ []) all
+    pub others : (all : AllTables) → without_parts (number ∷ []) (effect all) ≡ without_parts (number ∷ []) all
 
   -- What was ahead of a database by so much is ahead of it by so much more.
   pub record Files (before after : Filing) (old new : Held S) : Type 0 where

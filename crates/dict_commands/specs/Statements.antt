@@ -1,23 +1,20 @@
 -- The statements of a command that acts, in their order.
-use Rattle.std.specs.Prelude.{ℕ, ℤ, pos, true, List, [], ◌∷◌, ◌++◌, codes, map, flat_map, Option, Some, None}
-use Rattle.sqlite.specs.declared.types.Value.{Value}
-use Rattle.sqlite.specs.declared.types.Value.TheVariants.{Int, Blob as Bytes}
+use Rattle.std.specs.Prelude.{ℕ, ℤ, pos, true, List, [], ◌∷◌, ◌++◌, codes, map, flat_map, Option}
 use Rattle.dict_tables.specs.Tables.{table_of}
 use Rattle.dict_tables.specs.declared.tables.StoreTable.{StoreTable}
 use Rattle.dict_tables.specs.declared.tables.StoreTable.TheVariants as table
 use Rattle.dict_sql.specs.Effects.{equals_number}
-use Rattle.dict_sql.specs.Encodings.{mark_row, item_row, member_row, edition_row, kept_row}
-use Rattle.dict_sql.specs.Keyed.{keyed_entry_row, piece_row}
+use Rattle.dict_sql.specs.Encodings.{mark_row, item_row, member_row, kept_row}
 use Rattle.dict_sql.specs.Statements.{Statement, add, remove}
-use Rattle.dict_keyed_sql.specs.Bounds.{is_below}
-use Rattle.dict_records.specs.Records.{Mark, Item as ItemRecord, Member, Edition, Kept}
-use Rattle.dict_records.specs.Keyed.{Piece}
-use Rattle.dict_derived.specs.Entries.{Filed, filed}
+use Rattle.dict_header_sql.specs.Records.{header_row}
+use Rattle.dict_part_sql.specs.Records.{part_row}
+use Rattle.dict_part_sql.specs.Chosen.{is_from}
+use Rattle.dict_records.specs.Records.{Mark, Item as ItemRecord, Member, Edition, Part, Kept, header_of}
+use Rattle.dict_files.specs.Files.{installed_parts}
 use Rattle.dict_catalogue.specs.Items.{Item}
 use Rattle.dict_catalogue.specs.Steps.{KeptFor}
-use Rattle.dict_rows.specs.Written.{numbered, mark_record, item_record, edition_record, entry_record, kept_record}
-use Rattle.dict_rows.specs.After.{Installed, TableChange, all_members}
-use Rattle.dict_commands.specs.Listed.{Listed}
+use Rattle.dict_rows.specs.Written.{numbered, mark_record, item_record, kept_record}
+use Rattle.dict_rows.specs.After.{Installed, TableChange, all_members, installed_editions}
 
 -- all records of a table are taken out
 abbrev pub clearing : StoreTable → Statement
@@ -33,17 +30,12 @@ adding_item it = add (codes "item") (item_row it)
 abbrev pub adding_member : Member → Statement
 adding_member it = add (codes "member") (member_row it)
 
+-- an edition's has no text: that stands in parts
 abbrev pub adding_edition : Edition → Statement
-adding_edition it = add (codes "edition") (edition_row it)
+adding_edition it = add (codes "edition") (header_row (header_of it))
 
-abbrev pub adding_entry : Filed → Statement
-adding_entry it = add (codes "entry") (keyed_entry_row it)
-
-abbrev pub adding_word : Piece → Statement
-adding_word it = add (codes "word") (piece_row it)
-
-abbrev pub adding_gram : Piece → Statement
-adding_gram it = add (codes "gram") (piece_row it)
+abbrev pub adding_part : Part → Statement
+adding_part it = add (codes "dictcat_part") (part_row it)
 
 abbrev pub adding_kept : Kept → Statement
 adding_kept it = add (codes "kept") (kept_row it)
@@ -61,55 +53,39 @@ members_anew items = clearing table.Member ∷ map adding_member (all_members it
 abbrev pub summary_anew : {A : Type 0} → ℕ → ℕ → List (Item A) → List Statement
 summary_anew version installs items = mark_anew version installs ++ (items_anew items ++ members_anew items)
 
--- the rows of the edition of this number are taken out of a table, those that are below a bound, or all
-abbrev pub taking_below : List ℕ → ℕ → Value → Statement
-taking_below name number bound = remove name (is_below (pos number) bound)
-
+-- the rows of the edition of this number are taken out of a table; of its text the parts from one on
 abbrev pub taking_of : List ℕ → ℕ → Statement
 taking_of name number = remove name (equals_number 1 (pos number))
 
--- part by part: those below each of these bounds, one after the other, and then the rest
-abbrev pub taking_parts : {X : Type 0} → List ℕ → ℕ → (X → Value) → List X → List Statement
-taking_parts name number bound parts = map (λ x. taking_below name number (bound x)) parts ++ taking_of name number ∷ []
+abbrev pub taking_from : ℕ → ℤ → Statement
+taking_from number from = remove (codes "dictcat_part") (is_from (pos number) (pos 1) from)
 
--- a word or a gram is below the text of one octet, an entry is below a place
-abbrev pub octet_bound : ℕ → Value
-octet_bound octet = Bytes (octet ∷ [])
+-- its parts go some at a time: those of its text from each of these on, one after the other, and then the rest
+abbrev pub taking_parts : ℕ → List ℤ → List Statement
+taking_parts number parts = map (taking_from number) parts ++ taking_of (codes "dictcat_part") number ∷ []
 
-abbrev pub place_bound : ℤ → Value
-place_bound place = Int place
+-- from its last part on a text goes 256 parts, which are 4 MiB, at a time
+abbrev pub last_parts : List ℤ
+last_parts =
+    pos 3840 ∷ pos 3584 ∷ pos 3328 ∷ pos 3072 ∷ pos 2816 ∷ pos 2560 ∷ pos 2304 ∷ pos 2048 ∷ pos 1792 ∷ pos 1536 ∷ pos 1280 ∷ pos 1024 ∷ pos 768 ∷ pos 512 ∷ pos 256 ∷ []
 
--- the octets and the places by which every edition goes: letters, so that parts are about as large, and what is past ASCII
-abbrev pub gram_octets : List ℕ
-gram_octets = 97 ∷ 98 ∷ 101 ∷ 102 ∷ 105 ∷ 106 ∷ 109 ∷ 111 ∷ 112 ∷ 114 ∷ 115 ∷ 116 ∷ 117 ∷ 128 ∷ 160 ∷ 192 ∷ 208 ∷ 209 ∷ 224 ∷ []
-
-abbrev pub word_octets : List ℕ
-word_octets = 99 ∷ 102 ∷ 109 ∷ 112 ∷ 115 ∷ 116 ∷ 128 ∷ 208 ∷ []
-
-abbrev pub entry_places : List ℤ
-entry_places = pos 32768 ∷ pos 65536 ∷ pos 98304 ∷ pos 131072 ∷ pos 163840 ∷ pos 196608 ∷ pos 229376 ∷ []
-
--- the grams, the words and the entries of the edition of this number are taken out part by part, and then its own record
+-- the parts of the edition of this number are taken out, and then its own record
 abbrev pub taking : ℕ → List Statement
-taking number =
-    taking_parts (codes "gram") number octet_bound gram_octets
-    ++ (taking_parts (codes "word") number octet_bound word_octets ++ (taking_parts (codes "entry") number place_bound entry_places ++ taking_of (codes "edition") number ∷ []))
+taking number = taking_parts number last_parts ++ taking_of (codes "edition") number ∷ []
 
--- the entries of the edition that is installed are added, if there is one, its words and grams, and then its own record
-abbrev pub installing : Option Installed → Listed → List Statement
-installing None listed = []
-installing (Some new) listed =
-    map adding_entry (map filed (numbered (entry_record new.number) 0 new.reading.lines))
-    ++ (map adding_word listed.words ++ (map adding_gram listed.grams ++ adding_edition (edition_record new.owner new.number new.reading) ∷ []))
+-- the parts of the edition that is installed are added, if there is one, those of its index and then those of its text, and then
+-- its own record
+abbrev pub installing : Option Installed → List Statement
+installing edition = map adding_part (installed_parts edition) ++ map adding_edition (installed_editions edition)
 
 -- the editions that go are taken out, and then the one that is installed is added
-abbrev pub exchanging : List ℕ → Option Installed → Listed → List Statement
-exchanging gone edition listed = flat_map taking gone ++ installing edition listed
+abbrev pub exchanging : List ℕ → Option Installed → List Statement
+exchanging gone edition = flat_map taking gone ++ installing edition
 
 -- the reply is kept
 abbrev pub replying : KeptFor → List Statement
 replying kept = adding_kept (kept_record kept) ∷ []
 
 -- all of them
-abbrev pub statements_of : ℕ → TableChange → Listed → List Statement
-statements_of version change listed = summary_anew version change.summary.installs change.summary.items ++ (exchanging change.gone change.edition listed ++ replying change.kept)
+abbrev pub statements_of : ℕ → TableChange → List Statement
+statements_of version change = summary_anew version change.summary.installs change.summary.items ++ (exchanging change.gone change.edition ++ replying change.kept)

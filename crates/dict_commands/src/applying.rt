@@ -8,10 +8,10 @@ ghost use Rattle.dict_catalogue.specs.Tests.{refusal_of};
 ghost use Rattle.dict_catalogue.specs.Views.{summary_shown, command_meant, command_shown};
 ghost use Rattle.dict_desk.specs.Faults.{is_failure};
 ghost use Rattle.dict_holdings.specs.Holds.{Holds, Rests, IsLeftAs};
-ghost use Rattle.dict_commands.specs.Kept.{SparesOthers, AddsAbove};
+ghost use Rattle.dict_commands.specs.Kept.{SparesOthers, KeepsTexts};
 ghost use Rattle.dict_commands.specs.Changes.{IsInRange};
 ghost use Rattle.dict_commands.specs.Committed.{IsTreesOf};
-ghost use Rattle.dict_commands.specs.Answers.{HoldsBy, Answers, has_written, summary_after, IsOfApply, IsOfShut, FailsToAct, FailsToApply};
+ghost use Rattle.dict_commands.specs.Answers.{HoldsBy, Answers, has_written, summary_after, numbers_after, IsOfApply, IsOfShut, FailsToAct, FailsToApply};
 ghost use Rattle.dict_commands.specs.Installed.{HasInstalled};
 ghost use Rattle.dict_rows.specs.Versions.{known};
 
@@ -46,7 +46,7 @@ fn apply_new<S: Alter>(
     ensures failed { HasCleanDisk (state S.Store conn.new) → IfErr result (λ fault. is_failure fault ≡ true → ((fault ≡ Fault.Memory) × (conn.new ≡ conn.old) × (refusal_of (summary_shown summary.now) (command_shown command.now) ≡ None)) ⊎ FailsToAct S.Store (summary_shown summary.now) id.now (command_meant command.now) (λ db. (M : Catalogue) → Rests known (state S.Store conn.old) M → summary_of M ≡ summary_shown summary.now → kept_under M.kept id.now ≡ None → Holds known db (step M id.now (command_meant command.now)).catalogue) conn.old conn.new fault) }
     ensures others { HasCleanDisk (state S.Store conn.new) → OnOk result (SparesOthers (state S.Store conn.old).now (state S.Store conn.new).now) }
     ensures beside { Survives (state S.Store conn.old) (state S.Store conn.new) (λ trees. IsTrue (state S.Store conn.old).is_open → IsTreesOf (SparesOthers (state S.Store conn.old).now) trees) }
-    ensures above { HasCleanDisk (state S.Store conn.new) → OnOk result (AddsAbove summary.now.installs (state S.Store conn.old).now (state S.Store conn.new).now) }
+    ensures above { HasCleanDisk (state S.Store conn.new) → OnOk result (KeepsTexts summary.now.installs (numbers_after (summary_shown summary.now) result) (state S.Store conn.old).now (state S.Store conn.new).now) }
     ensures installed { HasCleanDisk (state S.Store conn.new) → HasInstalled command.now result (state S.Store conn.new).now }
     ensures stays { HasCleanDisk (state S.Store conn.new) → IsTrue (state S.Store conn.new).is_open → OnErr result ((state S.Store conn.new).committed ≡ (state S.Store conn.old).committed) }
     ensures refused { IfErr result (λ fault. is_failure fault ≡ false → (state S.Store conn.new).now ≡ (state S.Store conn.old).now) }
@@ -68,10 +68,9 @@ fn apply_new<S: Alter>(
 ///
 /// An unlawful id is refused; an id that is kept is answered its reply again, and nothing is written, whatever the command;
 /// else the command's own tests decide, and then it does its effect, and its reply is kept. All memory for the answer is
-/// taken before the commit, which is the last call of the store. What is derived of an edition that is installed is made
-/// before anything is written. Tables that are none of the product's keep their rows, also in what a stop leaves. An edition that
-/// is installed gets a number above that of each install before, and stands under it with its title, its info and its text; one that
-/// stays keeps its record as it was.
+/// taken before the commit, which is the last call of the store. The index of an edition that is installed is made before anything is
+/// written. Tables that are none of the product's keep their rows, also in what a stop leaves. An edition that is installed gets a
+/// number above that of each install before, under which its text stands; one that stays keeps its text as it was.
 ///
 /// `Memory` tells that a growth was refused before the commit: nothing has changed while the store is open. `Disk` tells
 /// that a read or a statement failed for another cause, or the commit did, for whatever cause: what a stop leaves is what it
@@ -96,7 +95,7 @@ pub fn apply<S: Alter>(
     ensures failed { HasCleanDisk (state S.Store conn.new) → IfErr result (λ fault. is_failure fault ≡ true → FailsToApply S.Store (summary_shown summary.now) id.now (command_meant command.now) conn.old conn.new fault) }
     ensures others { HasCleanDisk (state S.Store conn.new) → OnOk result (SparesOthers (state S.Store conn.old).now (state S.Store conn.new).now) }
     ensures beside { Survives (state S.Store conn.old) (state S.Store conn.new) (IsTreesOf (SparesOthers (state S.Store conn.old).now)) }
-    ensures above { HasCleanDisk (state S.Store conn.new) → OnOk result (AddsAbove summary.now.installs (state S.Store conn.old).now (state S.Store conn.new).now) }
+    ensures above { HasCleanDisk (state S.Store conn.new) → OnOk result (KeepsTexts summary.now.installs (numbers_after (summary_shown summary.now) result) (state S.Store conn.old).now (state S.Store conn.new).now) }
     ensures installed { HasCleanDisk (state S.Store conn.new) → HasInstalled command.now result (state S.Store conn.new).now }
     ensures stays { HasCleanDisk (state S.Store conn.new) → IsTrue (state S.Store conn.new).is_open → OnErr result ((state S.Store conn.new).committed ≡ (state S.Store conn.old).committed) }
     ensures refused { HasCleanDisk (state S.Store conn.new) → IfErr result (λ fault. is_failure fault ≡ false → (state S.Store conn.new).now ≡ (state S.Store conn.old).now) }

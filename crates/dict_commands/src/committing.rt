@@ -5,79 +5,51 @@ ghost use Rattle.sqlite.specs.Held.{state};
 ghost use Rattle.dict_sql.specs.Effects.{WhileOpen};
 ghost use Rattle.dict_desk.specs.Faults.{is_disk};
 ghost use Rattle.dict_rows.specs.Versions.{known};
-ghost use Rattle.dict_derived.specs.AllTables.{all_after};
+ghost use Rattle.dict_files.specs.AllTables.{all_after};
 ghost use Rattle.dict_holdings.specs.Writing.{FailsToEnd};
 ghost use Rattle.dict_commands.specs.Kept.{Turns, IsUsable};
-ghost use Rattle.dict_commands.specs.Changes.{change_by, IsWritable};
-ghost use Rattle.dict_commands.specs.Listed.{AreRowsOf, keys_by, listed_by};
+ghost use Rattle.dict_commands.specs.Changes.{change_by, index_by, IsWritable};
 ghost use Rattle.dict_commands.specs.Statements.{statements_of};
 ghost use Rattle.dict_commands.specs.Committed.{IsCommitted, IsTreesOf, Stays, IsOfStore, FailsToCommit};
 
-use crate::derivation::{DerivedRows, derive_rows, installed_keys};
+use crate::files::installed_index;
 use crate::writing::write_all;
 use dict_catalogue::{Command, PlannedChange};
 use dict_desk::Fault;
 use dict_holdings::fault_of;
-use dict_match::Key;
 use dict_sql::commit::commit;
 use sqlite::{Alter, Connection};
 use std::alloc::Global;
 
-// Makes what was planned of a command by one commit, with what was derived of the keys of the edition that it installs.
-fn commit_rows<S: Alter>(
+// Makes what was planned of a command by one commit, where the index of the edition that it installs is these octets.
+fn commit_files<S: Alter>(
     conn: &mut Connection<S>,
     id: &str,
     command: &Command,
     change: &PlannedChange,
-    rows: DerivedRows,
+    index: &[u8],
 ) -> Result<(), Fault>
     requires autocommit { conn.old.in_transaction ≡ false }
     requires usable { WhileOpen (state S.Store conn.old) IsUsable }
     requires writable { IsWritable change.now }
-    requires rows { AreRowsOf (keys_by command.now) rows }
+    requires index { index.now ≡ index_by command.now }
     ensures made { HasCleanDisk (state S.Store conn.new) → OnOk result (IsCommitted (Turns (all_after known (change_by id.now command.now change.now)) (state S.Store conn.old).now) (state S.Store conn.new)) }
     ensures lives { HasCleanDisk (state S.Store conn.new) → IsTrue (state S.Store conn.new).is_open → IsTrue (state S.Store conn.old).is_open }
     ensures stays { HasCleanDisk (state S.Store conn.new) → OnErr result (Stays (state S.Store conn.old) (state S.Store conn.new)) }
     ensures adds_none { IfErr result (λ fault. is_disk fault ≡ false → Survives (state S.Store conn.old) (state S.Store conn.new) (λ _. ⊥)) }
-    ensures failed { HasCleanDisk (state S.Store conn.new) → IfErr result (FailsToEnd S.Store (statements_of known (change_by id.now command.now change.now) (listed_by change.now.summary.installs rows.entry)) (Turns (all_after known (change_by id.now command.now change.now)) (state S.Store conn.old).now) conn.old conn.new) }
+    ensures failed { HasCleanDisk (state S.Store conn.new) → IfErr result (FailsToEnd S.Store (statements_of known (change_by id.now command.now change.now)) (Turns (all_after known (change_by id.now command.now change.now)) (state S.Store conn.old).now) conn.old conn.new) }
     ensures kinds { IfErr result IsOfStore }
     ensures autocommit { (state S.Store conn.new).in_transaction ≡ false }
     ensures crash { Survives (state S.Store conn.old) (state S.Store conn.new) (IsTreesOf (Turns (all_after known (change_by id.now command.now change.now)) (state S.Store conn.old).now)) }
 {
     let mut tx = conn.transaction();
-    if let Err(error) = write_all(&mut tx, id, command, change, rows) {
+    if let Err(error) = write_all(&mut tx, id, command, change, index) {
         return Err(fault_of(error));
     }
     match commit(tx) {
         Ok(()) => Ok(()),
         Err(_) => Err(Fault::Disk),
     }
-}
-
-// The same, of the keys of the edition: what is derived of them is made first.
-fn commit_keys<S: Alter>(
-    alloc: Global,
-    conn: &mut Connection<S>,
-    id: &str,
-    command: &Command,
-    change: &PlannedChange,
-    keys: &[Key],
-) -> Result<(), Fault>
-    requires autocommit { conn.old.in_transaction ≡ false }
-    requires usable { WhileOpen (state S.Store conn.old) IsUsable }
-    requires writable { IsWritable change.now }
-    requires keys { keys.now ≡ keys_by command.now }
-    ensures made { HasCleanDisk (state S.Store conn.new) → OnOk result (IsCommitted (Turns (all_after known (change_by id.now command.now change.now)) (state S.Store conn.old).now) (state S.Store conn.new)) }
-    ensures lives { HasCleanDisk (state S.Store conn.new) → IsTrue (state S.Store conn.new).is_open → IsTrue (state S.Store conn.old).is_open }
-    ensures stays { HasCleanDisk (state S.Store conn.new) → OnErr result (Stays (state S.Store conn.old) (state S.Store conn.new)) }
-    ensures adds_none { IfErr result (λ fault. is_disk fault ≡ false → Survives (state S.Store conn.old) (state S.Store conn.new) (λ _. ⊥)) }
-    ensures failed { HasCleanDisk (state S.Store conn.new) → IfErr result (FailsToCommit S.Store (change_by id.now command.now change.now) (Turns (all_after known (change_by id.now command.now change.now)) (state S.Store conn.old).now) conn.old conn.new) }
-    ensures kinds { IfErr result IsOfStore }
-    ensures autocommit { (state S.Store conn.new).in_transaction ≡ false }
-    ensures crash { Survives (state S.Store conn.old) (state S.Store conn.new) (IsTreesOf (Turns (all_after known (change_by id.now command.now change.now)) (state S.Store conn.old).now)) }
-{
-    let rows = derive_rows(alloc, keys)?;
-    commit_rows(conn, id, command, change, rows)
 }
 
 /// Makes what was planned of a command by one commit, with its reply for the id of its request.
@@ -104,6 +76,6 @@ pub(crate) fn commit_change<S: Alter>(
     ensures autocommit { (state S.Store conn.new).in_transaction ≡ false }
     ensures crash { Survives (state S.Store conn.old) (state S.Store conn.new) (IsTreesOf (Turns (all_after known (change_by id.now command.now change.now)) (state S.Store conn.old).now)) }
 {
-    let keys = installed_keys(alloc, command)?;
-    commit_keys(alloc, conn, id, command, change, &keys)
+    let index = installed_index(alloc, command)?;
+    commit_files(conn, id, command, change, &index)
 }

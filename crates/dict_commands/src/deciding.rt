@@ -27,7 +27,7 @@ pub(crate) fn decide(
     }
 }
 
-/// Each entry of an edition that is installed lies within its text.
+/// Each entry of an edition that is installed lies within its text, which is short enough for its index.
 ///
 /// It does nothing. Its clause is what holds of every command.
 pub(crate) fn lies_within(command: &Command)
@@ -35,5 +35,6 @@ pub(crate) fn lies_within(command: &Command)
 {
     if let Command::Install { edition, .. } = command {
         edition.entries();
+        edition.text();
     }
 }

@@ -1,90 +1,62 @@
 // A command over a connection on which the edition that it installs may be filed already.
-ghost use Rattle.std.specs.Prelude.{◌≡◌, ◌⊎◌, ◌∷◌, [], ℕ, true, false, None, Err, IsTrue, IfErr, IfSome, OnErr, OnOk, map};
-ghost use Rattle.std.specs.List.{AllByRecursion};
+ghost use Rattle.std.specs.Prelude.{◌≡◌, ◌⊎◌, true, false, None, Err, IsTrue, IfErr, IfNone, IfSome, OnErr, OnOk, map};
 ghost use Rattle.sqlite.specs.Effect.{IsDatabase};
 ghost use Rattle.sqlite.specs.State.{HasCleanDisk, IsUnchanged, KeepsCommit, Survives};
 ghost use Rattle.sqlite.specs.Held.{Held, state};
 ghost use Rattle.dict_name.specs.Names.{is_request_id};
 ghost use Rattle.dict_sql.specs.Effects.{WhileOpen};
-ghost use Rattle.dict_index.specs.Views.{line_of};
+ghost use Rattle.dict_index_lines.specs.Stored.{stored_index};
 ghost use Rattle.dict_catalogue.specs.Steps.{Catalogue, summary_of, kept_under, step};
 ghost use Rattle.dict_catalogue.specs.Views.{summary_shown, command_shown, command_meant, IsChange};
 ghost use Rattle.dict_desk.specs.Faults.{is_disk, is_failure};
 ghost use Rattle.dict_holdings.specs.Faults.{fault_of};
 ghost use Rattle.dict_rows.specs.Versions.{known};
 ghost use Rattle.dict_rows.specs.After.{installed_editions};
-ghost use Rattle.dict_rows.specs.Written.{numbered, edition_record, entry_record};
-ghost use Rattle.dict_derived.specs.AllTables.{all_after};
-ghost use Rattle.dict_derived.specs.Entries.{plain};
+ghost use Rattle.dict_files.specs.AllTables.{all_after};
 ghost use Rattle.dict_holdings.specs.Holds.{Rests};
 ghost use Rattle.dict_holdings.specs.Writing.{FailsAtLast};
 ghost use Rattle.dict_commands.specs.Kept.{IsUsable, Turns, IsStorable};
-ghost use Rattle.dict_commands.specs.Changes.{change_by, installed_by, with_more_editions, IsInRange, IsShort, IsWritable};
+ghost use Rattle.dict_commands.specs.Changes.{change_by, installed_by, with_more_editions, IsInRange, IsWritable};
 ghost use Rattle.dict_commands.specs.Statements.{adding_edition};
 ghost use Rattle.dict_commands.specs.Committed.{IsCommitted, IsOfStore, IsTreesOf};
 ghost use Rattle.dict_commands.specs.Answers.{HoldsBy, Answers, summary_after, FailsToApply};
 ghost use Rattle.dict_commands.specs.Writes.{Wrote, FailsToWrite, Spares};
-ghost use Rattle.dict_commands.specs.Filing.{entry_of, IsDrawnUp, IsUnderway, rested, FailsInside};
+ghost use Rattle.dict_commands.specs.Filing.{IsDrawnUp, IsUnderway, rested, FailsInside};
 ghost use Rattle.dict_commands.specs.Installed.{HasInstalled};
-ghost use Rattle.dict_commands.specs.Finishing.{finishing, finished, AwaitsRest, IsOfChange, IsAppliedOver, FailsToFinish, FailsToApplyFiled};
+ghost use Rattle.dict_commands.specs.Finishing.{finishing, finished, AwaitsRest, IsOfChange, IsAppliedOver, IsUndone, LooksOnly, FailsToFinish, FailsToApplyFiled};
 
 use crate::applied::Applied;
 use crate::applying::apply;
 use crate::deciding::{decide, lies_within};
-use crate::editions::take_editions;
-use crate::filing::{FiledEntry, Filing};
+use crate::editions::{add_record, take_editions};
+use crate::files::index_of;
+use crate::filing::Filing;
 use crate::replies::kept_reply;
 use crate::writing::{add_reply, write_summary};
 use dict_catalogue::{Command, CommandRefusal, PlannedChange, Summary};
 use dict_desk::Fault;
 use dict_holdings::fault_of;
-use dict_index::{Edition, Entry};
+use dict_index::Edition;
 use dict_name::is_request_id;
-use dict_rows::edition_row;
-use dict_sql::insert::insert_edition;
 use dict_sql::transaction::{OpenTransaction, commit_open, roll_back};
 use sqlite::{Alter, Connection, Error};
 use std::alloc::Global;
 
-// Whether this is the row of the entry at a place.
-fn is_row_of(row: &FiledEntry, ord: u64, entry: &Entry) -> bool
-    requires ord { IsStorable ord }
-    requires short { IsShort (line_of entry.now) }
-    ensures { IsTrue result → (number : ℕ) → plain (entry_of number row.now) ≡ entry_record number ord (line_of entry.now) }
+// Whether these are the files of the edition. Its index is written again; where there is no memory for that, they aren't known to be.
+fn has_files(alloc: Global, filing: &Filing, edition: &Edition) -> bool
+    ensures { IsTrue result → (filing.now.index.items ≡ stored_index edition.now.lines) × (filing.now.text.items ≡ edition.now.text) }
 {
-    row.ord == ord as i64
-        && row.headword.as_str() == entry.headword
-        && row.start == entry.offset as i64
-        && row.length == entry.size as i64
-        && row.shown.as_str() == entry.shown
-}
-
-// Whether these are the rows of entries, each at its place.
-fn are_rows_of(rows: &[FiledEntry], entries: &[Entry]) -> bool
-    requires { AllByRecursion (λ entry. IsShort (line_of entry)) entries.now }
-    ensures { IsTrue result → (number : ℕ) → map plain (map (entry_of number) rows.now) ≡ numbered (entry_record number) 0 (map line_of entries.now) }
-{
-    if rows.len() != entries.len() {
+    if filing.text.as_slice() != edition.text() {
         return false;
     }
-    for (ord, entry) in entries.iter().enumerate() {
-        if !is_row_of(&rows[ord], ord as u64, entry) {
-            return false;
-        }
-    }
-    true
+    let Ok(index) = index_of(alloc, edition) else {
+        return false;
+    };
+    filing.index == index
 }
 
-// Whether these are the rows of the edition.
-fn has_entries(filing: &Filing, edition: &Edition) -> bool
-    ensures { IsTrue result → (number : ℕ) → map plain (map (entry_of number) filing.now.entries.items) ≡ numbered (entry_record number) 0 edition.now.lines }
-{
-    let _text = edition.text();
-    are_rows_of(&filing.entries, edition.entries())
-}
-
-// Whether the filing has the rows of the edition that the command installs, and the same editions go.
-fn is_of_change(filing: &Filing, command: &Command, change: &PlannedChange) -> bool
+// Whether the filing has the files of the edition that the command installs, and the same editions go.
+fn is_of_change(alloc: Global, filing: &Filing, command: &Command, change: &PlannedChange) -> bool
     ensures { IsTrue result → IsOfChange filing.now (installed_by change.now.summary.installs command.now) change.now.gone.items }
 {
     let Command::Install { edition, .. } = command else {
@@ -93,7 +65,7 @@ fn is_of_change(filing: &Filing, command: &Command, change: &PlannedChange) -> b
     filing.number == change.summary.installs
         && filing.gone == change.gone
         && !change.gone.contains(&filing.number)
-        && has_entries(filing, edition)
+        && has_files(alloc, filing, edition)
 }
 
 // What the command does, where all of the edition that it installs is filed, and no reply is kept under the id.
@@ -113,6 +85,7 @@ fn filed_change<S: Alter>(
     ensures inside { IfSome result (λ _. HasCleanDisk (state S.Store conn.new) → conn.new.in_transaction ≡ true) }
     ensures same { IfSome result (λ _. HasCleanDisk (state S.Store conn.new) → IsUnchanged (state S.Store conn.old) (state S.Store conn.new)) }
     ensures awaits { IfSome result (λ change. HasCleanDisk (state S.Store conn.new) → IsTrue (state S.Store conn.new).is_open → AwaitsRest (change_by id.now command.now change) (state S.Store conn.new).committed (state S.Store conn.new).now) }
+    ensures left { HasCleanDisk (state S.Store conn.new) → IfNone result (LooksOnly S.Store conn.old conn.new) }
     ensures free { IfSome result (λ _. HasCleanDisk (state S.Store conn.new) → (M : Catalogue) → Rests known (rested (state S.Store conn.new)) M → kept_under M.kept id.now ≡ None) }
     ensures keeps { HasCleanDisk (state S.Store conn.new) → KeepsCommit (state S.Store conn.old) (state S.Store conn.new) }
     ensures survives { Survives (state S.Store conn.old) (state S.Store conn.new) (λ _. ⊥) }
@@ -123,33 +96,13 @@ fn filed_change<S: Alter>(
     let Ok(change) = decide(alloc, summary, command) else {
         return None;
     };
-    if !is_of_change(filing, command, &change) {
+    if !is_of_change(alloc, filing, command, &change) {
         return None;
     }
     let Ok(None) = kept_reply(alloc, conn, id) else {
         return None;
     };
     Some(change)
-}
-
-// Adds the record of an edition.
-fn add_record<S: Alter, T: OpenTransaction<S>>(
-    tx: &mut T,
-    owner: &str,
-    number: u64,
-    edition: &Edition,
-) -> Result<(), Error>
-    requires number { IsStorable number }
-    requires usable { WhileOpen (state S.Store (T.held tx.old)) IsUsable }
-    ensures same_reference { T.reference tx.new ≡ T.reference tx.old }
-    ensures wrote { OnOk result (Wrote S.Store (adding_edition (edition_record owner.now number edition.now) ∷ []) (with_more_editions (edition_record owner.now number edition.now ∷ [])) (T.held tx.old) (T.held tx.new)) }
-    ensures usable { OnOk result (WhileOpen (state S.Store (T.held tx.new)) IsUsable) }
-    ensures failed { IfErr result (FailsToWrite S.Store (adding_edition (edition_record owner.now number edition.now) ∷ []) (T.held tx.old) (T.held tx.new)) }
-    ensures spares { Spares S.Store (T.held tx.old) (T.held tx.new) }
-{
-    let row = edition_row(owner, number, edition);
-    insert_edition(tx, &row)?;
-    Ok(())
 }
 
 // Adds the record of the edition that the command installs, if it installs one.
@@ -240,7 +193,7 @@ fn apply_anew<S: Alter>(
     requires holds { HoldsBy (summary_shown summary.now) (rested (state S.Store conn.old)) }
     requires range { IsInRange (summary_shown summary.now) }
     ensures applied { IsAppliedOver (summary_shown summary.now) id.now (command_meant command.now) (state S.Store conn.old) (state S.Store conn.new) result }
-    ensures failed { HasCleanDisk (state S.Store conn.new) → IfErr result (λ fault. is_failure fault ≡ true → (mid : Held S) × KeepsCommit (state S.Store conn.old) (state S.Store mid) × Survives (state S.Store conn.old) (state S.Store mid) (λ _. ⊥) × FailsToApply S.Store (summary_shown summary.now) id.now (command_meant command.now) mid conn.new fault) }
+    ensures failed { HasCleanDisk (state S.Store conn.new) → IfErr result (λ fault. is_failure fault ≡ true → (mid : Held S) × IsUndone S.Store conn.old mid × Survives (state S.Store conn.old) (state S.Store mid) (λ _. ⊥) × FailsToApply S.Store (summary_shown summary.now) id.now (command_meant command.now) mid conn.new fault) }
     ensures installed { HasCleanDisk (state S.Store conn.new) → IsTrue (state S.Store conn.new).is_open → HasInstalled command.now result (state S.Store conn.new).committed }
     ensures stays { HasCleanDisk (state S.Store conn.new) → IsTrue (state S.Store conn.new).is_open → OnErr result ((state S.Store conn.new).committed ≡ (state S.Store conn.old).committed) }
 {

@@ -10,7 +10,7 @@ ghost use Rattle.dict_catalogue.specs.Tests.{refusal_of};
 ghost use Rattle.dict_catalogue.specs.WellFormed.{IsLawfulCommand};
 ghost use Rattle.dict_rows.specs.After.{TableChange, IsChange};
 ghost use Rattle.dict_rows.specs.Versions.{known};
-ghost use Rattle.dict_derived.specs.AllTables.{all_after};
+ghost use Rattle.dict_files.specs.AllTables.{all_after};
 ghost use Rattle.dict_holdings.specs.Holds.{Holds};
 ghost use Rattle.dict_commands.specs.Kept.{IsUsable, Turns};
 ghost use Rattle.dict_commands.specs.Changes.{IsInRange};
@@ -24,8 +24,8 @@ pub fn summaries_in_range()
     ensures { (M : Catalogue) → IsWellFormed M → IsInRange (summary_of M) }
 {}
 
-/// A command that makes of all records what `all_after` says leaves a database that holds the catalogue after it, with what
-/// is derived of its entries.
+/// A command that makes of all records what `all_after` says leaves a database that holds the catalogue after it, with the parts of
+/// its files.
 ///
 /// It does nothing. Its clause is the law.
 pub fn command_holds()
@@ -33,7 +33,8 @@ pub fn command_holds()
         → IsChange M id command change → Holds known new (with_effect M id command) }
 {}
 
-/// While an edition is filed, each edition that neither goes nor comes has the rows that it had, and the same replies are kept.
+/// While an edition is filed, each edition that neither goes nor comes has the record and the parts that it had, and the same replies
+/// are kept.
 ///
 /// It does nothing. Its clause is the law.
 pub fn shows_still()

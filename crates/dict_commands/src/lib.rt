@@ -1,12 +1,12 @@
-//! Editors' commands on the tables of one database, those of what is derived among them: each by one transaction, the whole of it or nothing, and once.
+//! Editors' commands on the tables of one database, that of the parts of files among them: each by one transaction, the whole of it or nothing, and once.
 #![tactic(auto)]
 
 mod applied;
 mod applying;
 mod committing;
 mod deciding;
-mod derivation;
 mod editions;
+mod files;
 mod filing;
 mod finishing;
 mod laws;

@@ -1,62 +1,40 @@
 // One bounded part of a filing, in a transaction that stays open when it is done.
-ghost use Rattle.std.specs.Prelude.{◌≡◌, ◌≢◌, ◌+◌, ◌≤◌, ◌<◌, true, false, IsTrue, Some, IfErr, IfOk, IfSome, OnErr, OnOk, length, map, pos};
+ghost use Rattle.std.specs.Prelude.{◌≡◌, ◌≢◌, ◌+◌, ◌≤◌, ◌<◌, true, false, IsTrue, Some, IfErr, IfOk, IfSome, OnErr, OnOk, length, pos};
 ghost use Rattle.sqlite.specs.Disk.{MoreFaults};
 ghost use Rattle.sqlite.specs.State.{HasCleanDisk, KeepsCommit, Survives, is_disk_error};
 ghost use Rattle.sqlite.specs.Held.{state};
 ghost use Rattle.dict_sql.specs.Effects.{WhileOpen};
 ghost use Rattle.dict_catalogue.specs.Views.{summary_shown};
-ghost use Rattle.dict_records.specs.Keyed.{lent_keyed_entry, lent_word};
 ghost use Rattle.dict_rows.specs.After.{is_gone};
 ghost use Rattle.dict_commands.specs.Kept.{IsUsable, IsStorable, AreStorable};
-ghost use Rattle.dict_commands.specs.Changes.{with_more_entries, with_more_words};
 ghost use Rattle.dict_commands.specs.Committed.{IsOfStore};
-ghost use Rattle.dict_commands.specs.Statements.{adding_entry, adding_word};
-ghost use Rattle.dict_commands.specs.Writes.{Wrote, FailsToWrite, Spares};
-ghost use Rattle.dict_commands.specs.Filing.{entry_of, word_of, IsDrawnUp, IsWhole, HasNoneFiled, HasSameRows, rested, IsUnderway, fault_filed, FailsToFile};
+ghost use Rattle.dict_commands.specs.Writes.{Spares};
+ghost use Rattle.dict_commands.specs.Filing.{parts_of_files, parts_of_filing, IsDrawnUp, IsWhole, HasNoneFiled, HasSameRows, rested, IsUnderway, fault_filed, FailsToFile};
 ghost use Rattle.dict_commands.specs.Parts.{Files, Trims, FailsSomewhere};
 
-use crate::editions::add_grams;
-use crate::filing::{FiledEntry, FiledWord, Filing};
+use crate::editions::LAST_PARTS;
+use crate::files::{EditionFiles, add_parts};
+use crate::filing::Filing;
 use dict_catalogue::Summary;
 use dict_desk::Fault;
-use dict_keyed_sql::{
-    delete_entries_below, delete_grams_below, delete_words_below, insert_keyed_entry, insert_word,
-};
-use dict_records::{KeyedEntry, Word};
+use dict_part_sql::{delete_parts, delete_parts_from};
 use dict_sql::transaction::{OpenTransaction, begin, roll_back};
 use sqlite::{Alter, Connection, Error, ErrorCode};
 
-// So many rows are filed at a time.
-const ROWS: usize = 512;
+// So many parts are filed at a time: 1 MiB.
+const PARTS: usize = 64;
 
-// An edition that goes is taken out in so many parts: its grams by the two octets that they begin with, then its words in the same
-// way, and then its entries by their places, as many at a time as are filed.
-const PIECE_PARTS: usize = 2048;
+// An edition that goes is taken out so many times: its text from each of the bounds on, and then the rest.
+const BOUNDS: usize = 16;
 
-const PARTS: usize = 4608;
+// A text of so few octets comes in place of one that is about as small, which goes as one part of the command.
+const FEW: usize = 1_048_576;
 
-// An edition of so few entries comes in place of one that is about as small, which goes as one part of the command.
-const FEW: usize = 2048;
-
-// Where those that begin with one octet are cut.
-const SECONDS: [u8; 8] = [0, b'd', b'h', b'l', b'o', b'r', b'u', 0xa0];
-
-// The octets below which a part of the words or of the grams is.
-fn pieces_bound(part: usize) -> [u8; 2] {
-    let first = u8::try_from(part / 8).unwrap_or(255);
-    [first, SECONDS[part % 8]]
-}
-
-// The place below which a part of the entries is.
-fn entries_bound(part: usize) -> i64 {
-    i64::try_from(part).unwrap_or(0).saturating_mul(512)
-}
-
-// Takes out a part of the grams of the edition of this number.
-fn take_grams_below<S: Alter, T: OpenTransaction<S>>(
+// Takes out the parts of the text of the edition of this number from one on.
+fn take_from<S: Alter, T: OpenTransaction<S>>(
     tx: &mut T,
     number: u64,
-    bound: &[u8],
+    from: i64,
 ) -> Result<(), Error>
     requires number { IsStorable number }
     requires usable { WhileOpen (state S.Store (T.held tx.old)) IsUsable }
@@ -65,15 +43,28 @@ fn take_grams_below<S: Alter, T: OpenTransaction<S>>(
     ensures failed { IfErr result (FailsSomewhere S.Store (T.held tx.old) (T.held tx.new)) }
     ensures spares { Spares S.Store (T.held tx.old) (T.held tx.new) }
 {
-    delete_grams_below(tx, number as i64, bound)?;
+    delete_parts_from(tx, number as i64, 1, from)?;
     Ok(())
 }
 
-// Takes out a part of its words.
-fn take_words_below<S: Alter, T: OpenTransaction<S>>(
+// Takes out what is left of its parts.
+fn take_rest<S: Alter, T: OpenTransaction<S>>(tx: &mut T, number: u64) -> Result<(), Error>
+    requires number { IsStorable number }
+    requires usable { WhileOpen (state S.Store (T.held tx.old)) IsUsable }
+    ensures same_reference { T.reference tx.new ≡ T.reference tx.old }
+    ensures trims { OnOk result (Trims S.Store number (T.held tx.old) (T.held tx.new)) }
+    ensures failed { IfErr result (FailsSomewhere S.Store (T.held tx.old) (T.held tx.new)) }
+    ensures spares { Spares S.Store (T.held tx.old) (T.held tx.new) }
+{
+    delete_parts(tx, number as i64)?;
+    Ok(())
+}
+
+// Takes the edition of this number out from one bound on, or what is left of it behind the last.
+fn take_bound<S: Alter, T: OpenTransaction<S>>(
     tx: &mut T,
     number: u64,
-    bound: &[u8],
+    bound: usize,
 ) -> Result<(), Error>
     requires number { IsStorable number }
     requires usable { WhileOpen (state S.Store (T.held tx.old)) IsUsable }
@@ -82,117 +73,10 @@ fn take_words_below<S: Alter, T: OpenTransaction<S>>(
     ensures failed { IfErr result (FailsSomewhere S.Store (T.held tx.old) (T.held tx.new)) }
     ensures spares { Spares S.Store (T.held tx.old) (T.held tx.new) }
 {
-    delete_words_below(tx, number as i64, bound)?;
-    Ok(())
-}
-
-// Takes out a part of its entries.
-fn take_entries_below<S: Alter, T: OpenTransaction<S>>(
-    tx: &mut T,
-    number: u64,
-    bound: i64,
-) -> Result<(), Error>
-    requires number { IsStorable number }
-    requires usable { WhileOpen (state S.Store (T.held tx.old)) IsUsable }
-    ensures same_reference { T.reference tx.new ≡ T.reference tx.old }
-    ensures trims { OnOk result (Trims S.Store number (T.held tx.old) (T.held tx.new)) }
-    ensures failed { IfErr result (FailsSomewhere S.Store (T.held tx.old) (T.held tx.new)) }
-    ensures spares { Spares S.Store (T.held tx.old) (T.held tx.new) }
-{
-    delete_entries_below(tx, number as i64, bound)?;
-    Ok(())
-}
-
-// Takes out one part of the edition of this number.
-fn take_part<S: Alter, T: OpenTransaction<S>>(
-    tx: &mut T,
-    number: u64,
-    part: usize,
-) -> Result<(), Error>
-    requires number { IsStorable number }
-    requires usable { WhileOpen (state S.Store (T.held tx.old)) IsUsable }
-    ensures same_reference { T.reference tx.new ≡ T.reference tx.old }
-    ensures trims { OnOk result (Trims S.Store number (T.held tx.old) (T.held tx.new)) }
-    ensures failed { IfErr result (FailsSomewhere S.Store (T.held tx.old) (T.held tx.new)) }
-    ensures spares { Spares S.Store (T.held tx.old) (T.held tx.new) }
-{
-    if part < PIECE_PARTS {
-        return take_grams_below(tx, number, &pieces_bound(part));
+    match LAST_PARTS.get(bound) {
+        Some(from) => take_from(tx, number, *from),
+        None => take_rest(tx, number),
     }
-    let part = part - PIECE_PARTS;
-    if part < PIECE_PARTS {
-        return take_words_below(tx, number, &pieces_bound(part));
-    }
-    take_entries_below(tx, number, entries_bound(part - PIECE_PARTS + 1))
-}
-
-// The record of an entry under this number, lent.
-fn lend_entry(number: u64, row: &FiledEntry) -> KeyedEntry<&str, &[u8]>
-    requires { IsStorable number }
-    ensures { lent_keyed_entry result ≡ entry_of number row.now }
-{
-    KeyedEntry {
-        edition: number as i64,
-        ord: row.ord,
-        headword: row.headword.as_str(),
-        start: row.start,
-        length: row.length,
-        key: row.key.as_bytes(),
-        reversed: row.reversed.as_slice(),
-        shown: row.shown.as_str(),
-    }
-}
-
-// The record of a word under this number, lent.
-fn lend_word(number: u64, row: &FiledWord) -> Word<&[u8]>
-    requires { IsStorable number }
-    ensures { lent_word result ≡ word_of number row.now }
-{
-    Word {
-        edition: number as i64,
-        word: row.word.as_slice(),
-        ord: i64::from(row.ord),
-    }
-}
-
-// Adds entries under this number.
-fn add_entry_rows<S: Alter, T: OpenTransaction<S>>(
-    tx: &mut T,
-    number: u64,
-    rows: &[FiledEntry],
-) -> Result<(), Error>
-    requires number { IsStorable number }
-    requires usable { WhileOpen (state S.Store (T.held tx.old)) IsUsable }
-    ensures same_reference { T.reference tx.new ≡ T.reference tx.old }
-    ensures wrote { OnOk result (Wrote S.Store (map adding_entry (map (entry_of number) rows.now)) (with_more_entries (map (entry_of number) rows.now)) (T.held tx.old) (T.held tx.new)) }
-    ensures failed { IfErr result (FailsToWrite S.Store (map adding_entry (map (entry_of number) rows.now)) (T.held tx.old) (T.held tx.new)) }
-    ensures spares { Spares S.Store (T.held tx.old) (T.held tx.new) }
-{
-    'each: for item in rows {
-        let row = lend_entry(number, item);
-        insert_keyed_entry(tx, &row)?;
-    }
-    Ok(())
-}
-
-// Adds words under this number.
-fn add_word_rows<S: Alter, T: OpenTransaction<S>>(
-    tx: &mut T,
-    number: u64,
-    rows: &[FiledWord],
-) -> Result<(), Error>
-    requires number { IsStorable number }
-    requires usable { WhileOpen (state S.Store (T.held tx.old)) IsUsable }
-    ensures same_reference { T.reference tx.new ≡ T.reference tx.old }
-    ensures wrote { OnOk result (Wrote S.Store (map adding_word (map (word_of number) rows.now)) (with_more_words (map (word_of number) rows.now)) (T.held tx.old) (T.held tx.new)) }
-    ensures failed { IfErr result (FailsToWrite S.Store (map adding_word (map (word_of number) rows.now)) (T.held tx.old) (T.held tx.new)) }
-    ensures spares { Spares S.Store (T.held tx.old) (T.held tx.new) }
-{
-    'each: for item in rows {
-        let row = lend_word(number, item);
-        insert_word(tx, &row)?;
-    }
-    Ok(())
 }
 
 // How many are filed behind the next part, of so many, of which some are.
@@ -200,75 +84,40 @@ fn part_end(filed: usize, all: usize) -> usize
     requires { filed ≤ all }
     ensures { (filed ≤ result) × (result ≤ all) }
 {
-    if all - filed <= ROWS {
+    if all - filed <= PARTS {
         return all;
     }
-    filed + ROWS
+    filed + PARTS
 }
 
-// Files the next of the entries. It answers how many are filed then.
-fn file_entries<S: Alter, T: OpenTransaction<S>>(
-    tx: &mut T,
-    filing: &Filing,
-) -> Result<usize, Error>
+// Files the next parts. It answers how many are filed then.
+fn file_parts<S: Alter, T: OpenTransaction<S>>(tx: &mut T, filing: &Filing) -> Result<usize, Error>
     requires number { IsStorable filing.now.number }
-    requires some { filing.now.entries_filed < length filing.now.entries.items }
+    requires some { filing.now.parts_filed < length (parts_of_filing filing.now) }
     requires usable { WhileOpen (state S.Store (T.held tx.old)) IsUsable }
     ensures same_reference { T.reference tx.new ≡ T.reference tx.old }
-    ensures files { IfOk result (λ to. Files S.Store filing.now (record filing.now { entries_filed = to }) (T.held tx.old) (T.held tx.new)) }
+    ensures files { IfOk result (λ to. Files S.Store filing.now (record filing.now { parts_filed = to }) (T.held tx.old) (T.held tx.new)) }
     ensures failed { IfErr result (FailsSomewhere S.Store (T.held tx.old) (T.held tx.new)) }
     ensures spares { Spares S.Store (T.held tx.old) (T.held tx.new) }
 {
-    let to = part_end(filing.entries_filed, filing.entries.len());
-    let rows = &filing.entries[filing.entries_filed..to];
-    add_entry_rows(tx, filing.number, rows)?;
+    let files = filing.files();
+    let to = part_end(filing.parts_filed, files.part_count());
+    add_parts(tx, &files, filing.parts_filed, to)?;
     Ok(to)
 }
 
-// Files the next of the words. It answers how many are filed then.
-fn file_words<S: Alter, T: OpenTransaction<S>>(tx: &mut T, filing: &Filing) -> Result<usize, Error>
-    requires number { IsStorable filing.now.number }
-    requires some { filing.now.words_filed < length filing.now.words.items }
-    requires usable { WhileOpen (state S.Store (T.held tx.old)) IsUsable }
-    ensures same_reference { T.reference tx.new ≡ T.reference tx.old }
-    ensures files { IfOk result (λ to. Files S.Store filing.now (record filing.now { words_filed = to }) (T.held tx.old) (T.held tx.new)) }
-    ensures failed { IfErr result (FailsSomewhere S.Store (T.held tx.old) (T.held tx.new)) }
-    ensures spares { Spares S.Store (T.held tx.old) (T.held tx.new) }
-{
-    let to = part_end(filing.words_filed, filing.words.len());
-    let rows = &filing.words[filing.words_filed..to];
-    add_word_rows(tx, filing.number, rows)?;
-    Ok(to)
-}
-
-// Files the next of the grams. It answers how many are filed then.
-fn file_grams<S: Alter, T: OpenTransaction<S>>(tx: &mut T, filing: &Filing) -> Result<usize, Error>
-    requires number { IsStorable filing.now.number }
-    requires some { filing.now.grams_filed < length filing.now.grams.items }
-    requires usable { WhileOpen (state S.Store (T.held tx.old)) IsUsable }
-    ensures same_reference { T.reference tx.new ≡ T.reference tx.old }
-    ensures files { IfOk result (λ to. Files S.Store filing.now (record filing.now { grams_filed = to }) (T.held tx.old) (T.held tx.new)) }
-    ensures failed { IfErr result (FailsSomewhere S.Store (T.held tx.old) (T.held tx.new)) }
-    ensures spares { Spares S.Store (T.held tx.old) (T.held tx.new) }
-{
-    let to = part_end(filing.grams_filed, filing.grams.len());
-    let rows = &filing.grams[filing.grams_filed..to];
-    add_grams(tx, filing.number, rows)?;
-    Ok(to)
-}
-
-// The edition that goes of which the next part is taken out, where they go in parts.
+// The edition that goes of which the next bound is taken out, where they go so.
 fn next_gone(filing: &Filing) -> Option<u64>
     requires { AreStorable filing.now.gone.items }
     ensures { IfSome result (λ number. IsStorable number × (is_gone filing.now.gone.items (pos number) ≡ true)) }
 {
-    if filing.entries.len() < FEW {
+    if filing.text.len() < FEW {
         return None;
     }
-    filing.gone.get(filing.parts_taken / PARTS).copied()
+    filing.gone.get(filing.parts_taken / BOUNDS).copied()
 }
 
-// Takes out the next part of an edition that goes, or files the next rows of one table.
+// Takes an edition that goes out from the next bound on, or files the next parts.
 fn next_part<S: Alter, T: OpenTransaction<S>>(tx: &mut T, filing: &mut Filing) -> Result<(), Error>
     requires drawn { IsDrawnUp filing.old }
     requires usable { WhileOpen (state S.Store (T.held tx.old)) IsUsable }
@@ -279,32 +128,35 @@ fn next_part<S: Alter, T: OpenTransaction<S>>(tx: &mut T, filing: &mut Filing) -
     ensures spares { Spares S.Store (T.held tx.old) (T.held tx.new) }
 {
     if let Some(number) = next_gone(filing) {
-        take_part(tx, number, filing.parts_taken % PARTS)?;
+        take_bound(tx, number, filing.parts_taken % BOUNDS)?;
         filing.parts_taken = filing.parts_taken.saturating_add(1);
         return Ok(());
     }
-    if filing.entries_filed < filing.entries.len() {
-        filing.entries_filed = file_entries(tx, filing)?;
-        return Ok(());
-    }
-    if filing.words_filed < filing.words.len() {
-        filing.words_filed = file_words(tx, filing)?;
-        return Ok(());
-    }
-    if filing.grams_filed < filing.grams.len() {
-        filing.grams_filed = file_grams(tx, filing)?;
+    if !filing.is_whole() {
+        filing.parts_filed = file_parts(tx, filing)?;
     }
     Ok(())
 }
 
 impl Filing {
-    /// Whether all rows are filed.
-    pub(crate) fn is_whole(&self) -> bool
-        ensures { IsTrue result → IsWhole self.now }
+    // Its files.
+    fn files(&self) -> EditionFiles<'_>
+        ensures parts { parts_of_files result ≡ parts_of_filing self.now }
+        ensures number { result.number ≡ self.now.number }
     {
-        self.entries.len() <= self.entries_filed
-            && self.words.len() <= self.words_filed
-            && self.grams.len() <= self.grams_filed
+        EditionFiles {
+            number: self.number,
+            index: &self.index,
+            text: &self.text,
+        }
+    }
+
+    /// Whether all parts are filed.
+    pub(crate) fn is_whole(&self) -> bool
+        ensures whole { IsTrue result → IsWhole self.now }
+        ensures some { result ≡ false → self.now.parts_filed < length (parts_of_filing self.now) }
+    {
+        self.files().part_count() <= self.parts_filed
     }
 
     // Nothing is filed.
@@ -313,9 +165,7 @@ impl Filing {
         ensures none { HasNoneFiled self.new }
     {
         self.parts_taken = 0;
-        self.entries_filed = 0;
-        self.words_filed = 0;
-        self.grams_filed = 0;
+        self.parts_filed = 0;
     }
 }
 
@@ -359,7 +209,7 @@ fn fault_filed(error: Error) -> Option<Fault>
 /// Files the next part of an edition that is to come over this summary, in a transaction that is open when this returns; where none
 /// was, it begins one, and files from the start. It answers whether there is more.
 ///
-/// What is committed stays, and so does what a stop may leave. What the connection shows is what is committed and the rows that were
+/// What is committed stays, and so does what a stop may leave. What the connection shows is what is committed and the parts that were
 /// filed, without some of those of the editions that go. At an error the transaction is undone with all that was filed:
 /// `Memory` tells that a growth was refused, `Disk` that the disk failed. None tells that it can't be filed: another number than the
 /// filing's is the next of the summary, or a statement was refused.

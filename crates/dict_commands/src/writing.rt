@@ -8,14 +8,12 @@ ghost use Rattle.dict_sql.specs.Effects.{WhileOpen};
 ghost use Rattle.dict_catalogue.specs.Items.{numbers_of};
 ghost use Rattle.dict_catalogue.specs.Views.{item_shown, kept_shown};
 ghost use Rattle.dict_rows.specs.Versions.{known};
-ghost use Rattle.dict_derived.specs.AllTables.{all_after, without_editions, with_installed};
+ghost use Rattle.dict_files.specs.AllTables.{all_after};
 ghost use Rattle.dict_commands.specs.Kept.{IsUsable, IsStorable, AreStorable};
 ghost use Rattle.dict_commands.specs.Statements.{summary_anew, exchanging, replying, statements_of};
-ghost use Rattle.dict_commands.specs.Changes.{with_mark, with_items, with_members, with_reply, installed_by, change_by, IsWritable};
-ghost use Rattle.dict_commands.specs.Listed.{AreRowsOf, keys_by, listed_by};
+ghost use Rattle.dict_commands.specs.Changes.{with_mark, with_items, with_members, with_reply, without_editions, with_installed, installed_by, index_by, change_by, IsWritable};
 ghost use Rattle.dict_commands.specs.Writes.{Wrote, FailsToWrite, Spares};
 
-use crate::derivation::DerivedRows;
 use crate::editions::{add_installed, take_editions};
 use crate::small::{write_items, write_mark, write_members};
 use dict_catalogue::{Command, Kept, PlannedChange, Summary};
@@ -44,26 +42,26 @@ pub(crate) fn write_summary<S: Alter, T: OpenTransaction<S>>(
     Ok(())
 }
 
-// Takes out the editions that go, and adds the one that the command installs, with what was derived of its keys.
+// Takes out the editions that go, and adds the one that the command installs, where its index is these octets.
 fn write_editions<S: Alter, T: OpenTransaction<S>>(
     tx: &mut T,
     gone: &[u64],
     installs: u64,
     command: &Command,
-    rows: DerivedRows,
+    index: &[u8],
 ) -> Result<(), Error>
     requires gone { AreStorable gone.now }
     requires installs { IsStorable installs }
-    requires rows { AreRowsOf (keys_by command.now) rows }
+    requires index { index.now ≡ index_by command.now }
     requires usable { WhileOpen (state S.Store (T.held tx.old)) IsUsable }
     ensures same_reference { T.reference tx.new ≡ T.reference tx.old }
-    ensures wrote { OnOk result (Wrote S.Store (exchanging gone.now (installed_by installs command.now) (listed_by installs rows.entry)) (λ all. with_installed (installed_by installs command.now) (without_editions gone.now all)) (T.held tx.old) (T.held tx.new)) }
+    ensures wrote { OnOk result (Wrote S.Store (exchanging gone.now (installed_by installs command.now)) (λ all. with_installed (installed_by installs command.now) (without_editions gone.now all)) (T.held tx.old) (T.held tx.new)) }
     ensures usable { OnOk result (WhileOpen (state S.Store (T.held tx.new)) IsUsable) }
-    ensures failed { IfErr result (FailsToWrite S.Store (exchanging gone.now (installed_by installs command.now) (listed_by installs rows.entry)) (T.held tx.old) (T.held tx.new)) }
+    ensures failed { IfErr result (FailsToWrite S.Store (exchanging gone.now (installed_by installs command.now)) (T.held tx.old) (T.held tx.new)) }
     ensures spares { Spares S.Store (T.held tx.old) (T.held tx.new) }
 {
     take_editions(tx, gone)?;
-    add_installed(tx, installs, command, rows)?;
+    add_installed(tx, installs, command, index)?;
     Ok(())
 }
 
@@ -88,27 +86,27 @@ pub(crate) fn add_reply<S: Alter, T: OpenTransaction<S>>(
     Ok(())
 }
 
-/// Writes all that a planned command does, with what was derived of the keys of the edition that it installs, and its reply
-/// for the id of its request.
+/// Writes all that a planned command does, where the index of the edition that it installs is these octets, and its reply for the
+/// id of its request.
 pub(crate) fn write_all<S: Alter, T: OpenTransaction<S>>(
     tx: &mut T,
     id: &str,
     command: &Command,
     change: &PlannedChange,
-    rows: DerivedRows,
+    index: &[u8],
 ) -> Result<(), Error>
     requires writable { IsWritable change.now }
-    requires rows { AreRowsOf (keys_by command.now) rows }
+    requires index { index.now ≡ index_by command.now }
     requires usable { WhileOpen (state S.Store (T.held tx.old)) IsUsable }
     ensures same_reference { T.reference tx.new ≡ T.reference tx.old }
-    ensures wrote { OnOk result (Wrote S.Store (statements_of known (change_by id.now command.now change.now) (listed_by change.now.summary.installs rows.entry)) (all_after known (change_by id.now command.now change.now)) (T.held tx.old) (T.held tx.new)) }
+    ensures wrote { OnOk result (Wrote S.Store (statements_of known (change_by id.now command.now change.now)) (all_after known (change_by id.now command.now change.now)) (T.held tx.old) (T.held tx.new)) }
     ensures sound { HasCleanDisk (state S.Store (T.held tx.new)) → OnOk result (IsDatabase (state S.Store (T.held tx.new)).now) }
     ensures inside { HasCleanDisk (state S.Store (T.held tx.new)) → OnOk result ((state S.Store (T.held tx.new)).in_transaction ≡ true) }
-    ensures failed { IfErr result (FailsToWrite S.Store (statements_of known (change_by id.now command.now change.now) (listed_by change.now.summary.installs rows.entry)) (T.held tx.old) (T.held tx.new)) }
+    ensures failed { IfErr result (FailsToWrite S.Store (statements_of known (change_by id.now command.now change.now)) (T.held tx.old) (T.held tx.new)) }
     ensures spares { Spares S.Store (T.held tx.old) (T.held tx.new) }
 {
     write_summary(tx, &change.summary)?;
-    write_editions(tx, &change.gone, change.summary.installs, command, rows)?;
+    write_editions(tx, &change.gone, change.summary.installs, command, index)?;
     add_reply(tx, id, &change.kept)?;
     Ok(())
 }

@@ -9,7 +9,8 @@ use Rattle.dict_catalogue.specs.Views.{command_meant, command_shown, kept_shown,
 use Rattle.dict_commands.proofs.ApplyLemmas.{kept_step, rests_unchanged, holds_now, holds_again, not_shut, new_fails, failed_answers}
 use Rattle.dict_commands.proofs.WriteLemmas.{clean_before, others_none}
 use Rattle.dict_commands.proofs.LoopLemmas.{each_err}
-use Rattle.dict_commands.specs.Kept.{AddsAbove, SparesOthers}
+use Rattle.dict_commands.specs.Kept.{KeepsTexts, SparesOthers}
+use Rattle.dict_commands.specs.Answers.{numbers_after}
 use Rattle.dict_commands.proofs.AboveLemmas.{above_same, none_refused}
 use Rattle.dict_commands.specs.Committed.{IsTreesOf}
 use Rattle.sqlite.specs.Effect.{Database}
@@ -66,7 +67,8 @@ returns-clause-shut g c = λ clean shut.
 pub returns-in_err-kept-clause-failed : goal.returns-in_err-kept-clause-failed
 returns-in_err-kept-clause-failed g c clean =
     let new = c.kept_reply.new.conn in
-    passed_on (λ fault. is_failure fault ≡ true → FailsToApply g.S.Store (summary_shown c.args.summary.now) c.args.id.now (command_meant c.args.command.now) c.args.conn.now new fault) c.in_err-kept.field-0.0 c.from_residual.result c.from_residual.ensures.1
+    passed_on (λ fault. is_failure fault ≡ true → FailsToApply g.S.Store (summary_shown c.args.summary.now) c.args.id.now (command_meant c.args.command.now) c.args.conn.now new fault) c.in_err-kept.field-0.0
+    c.from_residual.result c.from_residual.ensures.1
     (λ real. inl (c.in_err-kept.ensures.failed clean))
 
 pub returns-clause-failed : goal.returns-clause-failed
@@ -116,14 +118,14 @@ returns-clause-beside g c =
     subst (λ a. IsTreesOf (SparesOthers a) trees) same.now_is (left same.is_open)) c.kept_reply.ensures.survives c.apply_new.ensures.beside
 
 pub returns-in-Some-clause-above : goal.returns-in-Some-clause-above
-returns-in-Some-clause-above g c clean = above_same c.args.summary.now.installs (state g.S.Store c.args.conn.now).now (state g.S.Store c.kept_reply.new.conn).now (c.in_ok-kept.ensures.same clean).0.now_is
+returns-in-Some-clause-above g c clean = above_same c.args.summary.now.installs _ (state g.S.Store c.args.conn.now).now (state g.S.Store c.kept_reply.new.conn).now (c.in_ok-kept.ensures.same clean).0.now_is
 
 pub returns-clause-above : goal.returns-clause-above
 returns-clause-above g c = λ clean.
     let mid = state g.S.Store c.kept_reply.new.conn in
     let new = state g.S.Store c.apply_new.new.conn in
     let same = (c.in_ok-kept.ensures.same (clean_before mid new c.apply_new.ensures.crash clean)).0.now_is in
-    subst (λ (db : Database). OnOk c.apply_new.result (AddsAbove c.args.summary.now.installs db new.now)) same (c.apply_new.ensures.above clean)
+    subst (λ (db : Database). OnOk c.apply_new.result (KeepsTexts c.args.summary.now.installs (numbers_after (summary_shown c.args.summary.now) c.apply_new.result) db new.now)) same (c.apply_new.ensures.above clean)
 
 pub returns-clause-refused : goal.returns-clause-refused
 returns-clause-refused g c = λ clean.

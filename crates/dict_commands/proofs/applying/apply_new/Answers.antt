@@ -12,7 +12,7 @@ use Rattle.dict_sql.proofs.StreamLemmas.{passed_on}
 use Rattle.dict_catalogue.specs.Steps.{Catalogue, summary_of, kept_under, step}
 use Rattle.dict_desk.specs.Faults.{is_failure}
 use Rattle.dict_desk.specs.declared.fault.Fault.TheVariants.{Memory}
-use Rattle.dict_derived.specs.AllTables.{with_derived, all_after}
+use Rattle.dict_files.specs.AllTables.{with_derived, all_after}
 use Rattle.dict_rows.specs.Versions.{known}
 use Rattle.dict_holdings.specs.Holds.{Holds, Rests}
 use Rattle.dict_commands.specs.Answers.{FailsToAct}
@@ -28,7 +28,8 @@ returns-in_err-change-clause-value g c = λ clean M rests is new.
 pub returns-in_err-commit_change-clause-value : goal.returns-in_err-commit_change-clause-value
 returns-in_err-commit_change-clause-value g c = λ clean M rests is new.
     let p = err_from_is_err_and c.from_residual-in_err-commit_change.result c.from_residual-in_err-commit_change.ensures.1 in
-    rw (p.1, p.2) (failed_answers (state g.S.Store c.args.conn.now) (state g.S.Store c.commit_change.new.conn) M c.args.id.now _ c.in_err-commit_change.field-0.0 c.in_err-commit_change.ensures.kinds (c.in_err-commit_change.ensures.stays clean) rests)
+    rw (p.1, p.2) (failed_answers (state g.S.Store c.args.conn.now) (state g.S.Store c.commit_change.new.conn) M c.args.id.now _ c.in_err-commit_change.field-0.0 c.in_err-commit_change.ensures.kinds
+    (c.in_err-commit_change.ensures.stays clean) rests)
 
 pub returns-clause-value : goal.returns-clause-value
 returns-clause-value g c = λ clean M rests is new.
@@ -64,9 +65,11 @@ returns-in_err-commit_change-clause-failed g c clean =
     let change = change_by c.args.id.now c.args.command.now c.in_ok-change.change in
     let planned = is_planned c.args.id.now c.args.command.now c.in_ok-change.change summary c.in_ok-change.ensures.planned c.lies_within.ensures (state g.S.Store old) in
     let none = refusal_of summary (command_shown c.args.command.now) ≡ None in
-    passed_on (λ fault. is_failure fault ≡ true → ((fault ≡ Memory) × (new ≡ old) × none) ⊎ FailsToAct g.S.Store summary c.args.id.now (command_meant c.args.command.now) P old new fault) fault c.from_residual-in_err-commit_change.result c.from_residual-in_err-commit_change.ensures.1
+    passed_on (λ fault. is_failure fault ≡ true → ((fault ≡ Memory) × (new ≡ old) × none) ⊎ FailsToAct g.S.Store summary c.args.id.now (command_meant c.args.command.now) P old new fault) fault
+    c.from_residual-in_err-commit_change.result c.from_residual-in_err-commit_change.ensures.1
     (λ real. commit_fails g.S.Store none c.in_ok-change.ensures.planned.0 summary c.args.id.now (command_meant c.args.command.now) change old planned (Turns (all_after known change) (state g.S.Store old).now) P new fault
-    (λ db turns M rests is new. holds_after M c.args.id.now c.args.command.now c.in_ok-change.change summary c.requires.id new is c.in_ok-change.ensures.planned c.is_lawful.ensures c.lies_within.ensures (state g.S.Store old).now db (holds_now (state g.S.Store old) M rests) turns)
+    (λ db turns M rests is new. holds_after M c.args.id.now c.args.command.now c.in_ok-change.change summary c.requires.id new is c.in_ok-change.ensures.planned c.is_lawful.ensures c.lies_within.ensures
+    (state g.S.Store old).now db (holds_now (state g.S.Store old) M rests) turns)
     (c.in_err-commit_change.ensures.failed clean))
 
 pub commit_change-requires-clause-usable : goal.commit_change-requires-clause-usable
@@ -81,14 +84,21 @@ returns-clause-others g c clean =
     let old = state g.S.Store c.args.conn.now in
     let new = state g.S.Store c.commit_change.new.conn in
     let done = c.in_ok-commit_change.ensures.made clean in
-    others_committed (summary_shown c.args.summary.now) old new (all_after known (change_by c.args.id.now c.args.command.now c.in_ok-change.change)) c.requires.holds (clean_before old new c.commit_change.ensures.crash clean) (c.commit_change.ensures.lives clean done.is_open) done
+    others_committed (summary_shown c.args.summary.now) old new (all_after known (change_by c.args.id.now c.args.command.now c.in_ok-change.change)) c.requires.holds
+    (clean_before old new c.commit_change.ensures.crash clean) (c.commit_change.ensures.lives clean done.is_open) done
 
 pub returns-clause-beside : goal.returns-clause-beside
 returns-clause-beside g c =
     let old = state g.S.Store c.args.conn.now in
     let new = state g.S.Store c.commit_change.new.conn in
     survives_weaker old new _ _
-    (λ clean trees it live. (it.0, it.1, it.2, others_spared (summary_shown c.args.summary.now) old (all_after known (change_by c.args.id.now c.args.command.now c.in_ok-change.change)) c.requires.holds (clean_before old new c.commit_change.ensures.crash clean) live it.0 it.3))
+    (λ clean trees it live. (
+      it.0,
+      it.1,
+      it.2,
+      others_spared (summary_shown c.args.summary.now) old (all_after known (change_by c.args.id.now c.args.command.now c.in_ok-change.change)) c.requires.holds
+          (clean_before old new c.commit_change.ensures.crash clean) live it.0 it.3,
+    ))
     c.commit_change.ensures.crash
 
 pub returns-in_err-commit_change-clause-beside : goal.returns-in_err-commit_change-clause-beside
@@ -96,7 +106,13 @@ returns-in_err-commit_change-clause-beside g c =
     let old = state g.S.Store c.args.conn.now in
     let new = state g.S.Store c.commit_change.new.conn in
     survives_weaker old new _ _
-    (λ clean trees it live. (it.0, it.1, it.2, others_spared (summary_shown c.args.summary.now) old (all_after known (change_by c.args.id.now c.args.command.now c.in_ok-change.change)) c.requires.holds (clean_before old new c.commit_change.ensures.crash clean) live it.0 it.3))
+    (λ clean trees it live. (
+      it.0,
+      it.1,
+      it.2,
+      others_spared (summary_shown c.args.summary.now) old (all_after known (change_by c.args.id.now c.args.command.now c.in_ok-change.change)) c.requires.holds
+          (clean_before old new c.commit_change.ensures.crash clean) live it.0 it.3,
+    ))
     c.commit_change.ensures.crash
 
 pub returns-clause-above : goal.returns-clause-above
@@ -104,14 +120,16 @@ returns-clause-above g c clean =
     let old = state g.S.Store c.args.conn.now in
     let new = state g.S.Store c.commit_change.new.conn in
     let done = c.in_ok-commit_change.ensures.made clean in
-    above_committed (summary_shown c.args.summary.now) c.args.id.now c.args.command.now c.in_ok-change.change c.in_ok-change.ensures.planned old new c.requires.holds (clean_before old new c.commit_change.ensures.crash clean) (c.commit_change.ensures.lives clean done.is_open) done
+    above_committed (summary_shown c.args.summary.now) c.args.id.now c.args.command.now c.in_ok-change.change c.in_ok-change.ensures.planned old new c.requires.holds
+    (clean_before old new c.commit_change.ensures.crash clean) (c.commit_change.ensures.lives clean done.is_open) done
 
 pub returns-clause-installed : goal.returns-clause-installed
 returns-clause-installed g c clean =
     let old = state g.S.Store c.args.conn.now in
     let new = state g.S.Store c.commit_change.new.conn in
     let done = c.in_ok-commit_change.ensures.made clean in
-    installed_there (summary_shown c.args.summary.now) c.args.id.now c.args.command.now c.in_ok-change.change old new c.requires.holds (clean_before old new c.commit_change.ensures.crash clean) (c.commit_change.ensures.lives clean done.is_open) done
+    installed_there (summary_shown c.args.summary.now) c.args.id.now c.args.command.now c.in_ok-change.change c.in_ok-change.ensures.planned c.in_ok-change.ensures.writable.0 c.lies_within.ensures old new
+    c.requires.holds (clean_before old new c.commit_change.ensures.crash clean) (c.commit_change.ensures.lives clean done.is_open) done
 
 pub returns-clause-grows : goal.returns-clause-grows
 returns-clause-grows g c = grows_by (summary_shown c.args.summary.now) c.args.command.now c.in_ok-change.change c.in_ok-change.ensures.planned
@@ -121,7 +139,8 @@ returns-in_err-commit_change-clause-refused g c =
     let old = state g.S.Store c.args.conn.now in
     let new = state g.S.Store c.commit_change.new.conn in
     let fault = c.in_err-commit_change.field-0.0 in
-    passed_on (λ fault. is_failure fault ≡ false → new.now ≡ old.now) fault c.from_residual-in_err-commit_change.result c.from_residual-in_err-commit_change.ensures.1 (λ no. absurd (none_refused fault c.in_err-commit_change.ensures.kinds no))
+    passed_on (λ fault. is_failure fault ≡ false → new.now ≡ old.now) fault c.from_residual-in_err-commit_change.result c.from_residual-in_err-commit_change.ensures.1
+    (λ no. absurd (none_refused fault c.in_err-commit_change.ensures.kinds no))
 
 pub returns-in_err-commit_change-clause-stays : goal.returns-in_err-commit_change-clause-stays
 returns-in_err-commit_change-clause-stays g c = λ clean live.

@@ -2,7 +2,7 @@ use Rattle.std.proofs.Common.{subst, refl, get_or, [], ◌∷◌, ◌∙◌}
 use Rattle.std.specs.Prelude.{flat_map}
 use Rattle.std.proofs.lemmas.List.{take_all}
 use Rattle.dict_sql.proofs.StreamLemmas.{passed_on}
-use Rattle.dict_derived.specs.AllTables.{without_editions}
+use Rattle.dict_commands.specs.Changes.{without_editions}
 use Rattle.dict_commands.specs.Statements.{taking}
 use Rattle.dict_commands.specs.Writes.{Wrote, FailsToWrite}
 use Rattle.dict_commands.proofs.WriteLemmas.{wrote_as, wrote_none, spares_none, spares_then}
@@ -29,7 +29,8 @@ each-preserved g c =
     let i = c.each.number-index in
     record {
       same_reference = c.take_edition.ensures.same_reference ∙ c.each.invariant.same_reference;
-      wrote = loop_wrote g.S.Store (flat_map taking) without_editions gone i (taking (get_or gone i 0)) (without_editions (get_or gone i 0 ∷ [])) (taken_next gone i c.each-test.true) first mid new c.each.invariant.wrote c.take_edition.ensures.spares
+      wrote = loop_wrote g.S.Store (flat_map taking) without_editions gone i (taking (get_or gone i 0)) (without_editions (get_or gone i 0 ∷ [])) (taken_next gone i c.each-test.true) first mid new c.each.invariant.wrote
+          c.take_edition.ensures.spares
           (λ db all it. next_gone db gone i c.each-test.true all it) c.in_ok-take_edition.ensures.wrote;
       usable = c.in_ok-take_edition.ensures.usable;
       spares = spares_then g.S.Store first mid new c.each.invariant.spares c.take_edition.ensures.spares;
@@ -52,4 +53,5 @@ returns-in_err-take_edition-clause-failed g c =
     let i = c.each.number-index in
     let e = c.in_err-take_edition.field-0.0 in
     passed_on (FailsToWrite g.S.Store (flat_map taking gone) first new) e c.from_residual.result c.from_residual.ensures.1
-    (loop_failed g.S.Store (flat_map taking) without_editions gone i (taking (get_or gone i 0)) (without_editions (get_or gone i 0 ∷ [])) (taken_next gone i c.each-test.true) first mid new c.each.invariant.wrote c.take_edition.ensures.spares taken_grows e c.in_err-take_edition.ensures.failed)
+    (loop_failed g.S.Store (flat_map taking) without_editions gone i (taking (get_or gone i 0)) (without_editions (get_or gone i 0 ∷ [])) (taken_next gone i c.each-test.true) first mid new c.each.invariant.wrote
+    c.take_edition.ensures.spares taken_grows e c.in_err-take_edition.ensures.failed)

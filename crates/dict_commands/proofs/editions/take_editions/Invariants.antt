@@ -3,7 +3,7 @@ use Rattle.std.proofs.Common.{◌≡◌, take}
 use Rattle.std.specs.Prelude.{flat_map}
 use Rattle.sqlite.specs.Held.{state}
 use Rattle.dict_sql.specs.Effects.{WhileOpen}
-use Rattle.dict_derived.specs.AllTables.{without_editions}
+use Rattle.dict_commands.specs.Changes.{without_editions}
 use Rattle.dict_commands.specs.Kept.{IsUsable}
 use Rattle.dict_commands.specs.Statements.{taking}
 use Rattle.dict_commands.specs.Writes.{Wrote, Spares}

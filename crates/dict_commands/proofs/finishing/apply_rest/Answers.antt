@@ -1,7 +1,7 @@
 use Rattle.std.proofs.Common.{refl}
 use Rattle.sqlite.specs.Held.{state}
 use Rattle.dict_catalogue.specs.Views.{summary_shown}
-use Rattle.dict_derived.specs.AllTables.{all_after, with_derived}
+use Rattle.dict_files.specs.AllTables.{all_after, with_derived}
 use Rattle.dict_rows.specs.Versions.{known}
 use Rattle.dict_commands.specs.Kept.{Turns}
 use Rattle.dict_commands.specs.Committed.{IsCommitted}
@@ -17,12 +17,14 @@ commit_rest-requires-clause-usable g c = λ clean live. let it = c.requires.hold
 
 pub returns-clause-applied : goal.returns-clause-applied
 returns-clause-applied g c =
-    rest_done (summary_shown c.args.summary.now) c.args.id.now c.args.command.now c.args.change (state g.S.Store c.args.conn.now) (state g.S.Store c.commit_rest.new.conn) c.requires.id c.requires.planned.0 c.is_lawful.ensures c.lies_within.ensures c.requires.free c.requires.holds c.commit_rest.ensures.crash c.commit_rest.ensures.ended
+    rest_done (summary_shown c.args.summary.now) c.args.id.now c.args.command.now c.args.change (state g.S.Store c.args.conn.now) (state g.S.Store c.commit_rest.new.conn) c.requires.id c.requires.planned.0
+    c.is_lawful.ensures c.lies_within.ensures c.requires.free c.requires.holds c.commit_rest.ensures.crash c.commit_rest.ensures.ended
     c.in_default.ensures.made c.commit_rest.ensures.lives c.requires.planned.2
 
 pub returns-in-Err-clause-applied : goal.returns-in-Err-clause-applied
 returns-in-Err-clause-applied g c =
-    rest_failed (summary_shown c.args.summary.now) c.args.id.now c.args.command.now c.args.change (state g.S.Store c.args.conn.now) (state g.S.Store c.commit_rest.new.conn) c.requires.id c.requires.planned.0 c.is_lawful.ensures c.lies_within.ensures c.requires.free c.requires.holds c.commit_rest.ensures.crash c.commit_rest.ensures.ended
+    rest_failed (summary_shown c.args.summary.now) c.args.id.now c.args.command.now c.args.change (state g.S.Store c.args.conn.now) (state g.S.Store c.commit_rest.new.conn) c.requires.id c.requires.planned.0
+    c.is_lawful.ensures c.lies_within.ensures c.requires.free c.requires.holds c.commit_rest.ensures.crash c.commit_rest.ensures.ended
     c.in-Err.fault c.in-Err.ensures.kinds c.in-Err.ensures.keeps c.in-Err.ensures.adds_none c.requires.range
 
 pub returns-in-Err-clause-failed : goal.returns-in-Err-clause-failed
@@ -36,7 +38,8 @@ returns-clause-installed g c = λ clean live.
     let new = state g.S.Store c.commit_rest.new.conn in
     let made = c.in_default.ensures.made clean in
     let done : IsCommitted (Turns (all_after known (change_by c.args.id.now c.args.command.now c.args.change)) old.committed) (rested new) = record { is_open = made.is_open; settled = refl; holds = made.holds; only = made.only } in
-    installed_there (summary_shown c.args.summary.now) c.args.id.now c.args.command.now c.args.change (rested old) (rested new) c.requires.holds (clean_before old new c.commit_rest.ensures.crash clean) (c.commit_rest.ensures.lives clean live)
+    installed_there (summary_shown c.args.summary.now) c.args.id.now c.args.command.now c.args.change c.requires.planned.0 c.requires.planned.1 c.lies_within.ensures (rested old) (rested new) c.requires.holds
+    (clean_before old new c.commit_rest.ensures.crash clean) (c.commit_rest.ensures.lives clean live)
     done
 
 pub returns-in-Err-clause-stays : goal.returns-in-Err-clause-stays

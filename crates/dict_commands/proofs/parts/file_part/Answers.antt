@@ -31,7 +31,8 @@ next_part-requires-clause-drawn g c = drawn_same c.args.filing.now c.begin_filin
 pub next_part-requires-clause-usable : goal.next_part-requires-clause-usable
 next_part-requires-clause-usable g c =
     let begun = c.begin_filing.new.conn in
-    underway_usable g.S.Store c.begin_filing.new.filing begun (usable_begun g.S.Store c.begin_filing.new.filing c.args.conn.now begun c.begin_filing.ensures.begun c.requires.usable) c.begin_filing.ensures.underway (ap (λ (h : Held _). h.in_transaction) c.begin_filing.ensures.begun)
+    underway_usable g.S.Store c.begin_filing.new.filing begun (usable_begun g.S.Store c.begin_filing.new.filing c.args.conn.now begun c.begin_filing.ensures.begun c.requires.usable) c.begin_filing.ensures.underway
+    (ap (λ (h : Held _). h.in_transaction) c.begin_filing.ensures.begun)
 
 pub returns-clause-rows : goal.returns-clause-rows
 returns-clause-rows g c = same_rows_then c.args.filing.now c.begin_filing.new.filing c.next_part.new.filing c.begin_filing.ensures.rows c.next_part.ensures.rows
@@ -54,13 +55,15 @@ returns-in-Err-clause-faulted g c clean told =
     let new = c.roll_back-in-Err.new.conn in
     let early = clean_before (state g.S.Store mid) (state g.S.Store new) c.roll_back-in-Err.ensures.survives clean in
     let within = subst (λ (h : Held _). FailsInTurn g.S.Store c.in-Err.ensures.failed.0 h mid c.in-Err.error) c.begin_filing.ensures.begun (c.in-Err.ensures.failed.1 early) in
-    told_more (state g.S.Store c.args.conn.now) (state g.S.Store mid) (state g.S.Store new) (told_counts g.S.Store c.in-Err.ensures.failed.0 _ mid c.in-Err.error within (c.fault_filed.ensures.disk told)) c.roll_back-in-Err.ensures.survives.counts
+    told_more (state g.S.Store c.args.conn.now) (state g.S.Store mid) (state g.S.Store new) (told_counts g.S.Store c.in-Err.ensures.failed.0 _ mid c.in-Err.error within (c.fault_filed.ensures.disk told))
+    c.roll_back-in-Err.ensures.survives.counts
 
 pub returns-clause-underway : goal.returns-clause-underway
 returns-clause-underway g c =
     let begun = c.begin_filing.new.conn in
     let new = c.next_part.new.tx in
-    underway_more g.S.Store c.begin_filing.new.filing c.next_part.new.filing begun new (clean_before (state g.S.Store begun) (state g.S.Store new) c.next_part.ensures.spares.survives) c.next_part.ensures.spares.keeps (ap (λ (h : Held _). h.in_transaction) c.begin_filing.ensures.begun) c.begin_filing.ensures.underway c.in_default.ensures.files
+    underway_more g.S.Store c.begin_filing.new.filing c.next_part.new.filing begun new (clean_before (state g.S.Store begun) (state g.S.Store new) c.next_part.ensures.spares.survives) c.next_part.ensures.spares.keeps
+    (ap (λ (h : Held _). h.in_transaction) c.begin_filing.ensures.begun) c.begin_filing.ensures.underway c.in_default.ensures.files
 
 pub returns-in-Err-clause-underway : goal.returns-in-Err-clause-underway
 returns-in-Err-clause-underway g c = λ clean live inside. absurd (Rattle.std.proofs.lemmas.Bool.false≢true (sym (c.roll_back-in-Err.ensures.ended clean) ∙ inside))
@@ -76,7 +79,8 @@ returns-in-Err-clause-keeps g c clean =
     let mid = c.next_part.new.tx in
     let new = c.roll_back-in-Err.new.conn in
     let early = clean_before (state g.S.Store mid) (state g.S.Store new) c.roll_back-in-Err.ensures.survives clean in
-    keeps_then (state g.S.Store c.args.conn.now) (state g.S.Store mid) (state g.S.Store new) (keeps_begun g.S.Store c.args.conn.now c.begin_filing.new.conn (state g.S.Store mid) c.begin_filing.ensures.begun (c.next_part.ensures.spares.keeps early))
+    keeps_then (state g.S.Store c.args.conn.now) (state g.S.Store mid) (state g.S.Store new)
+    (keeps_begun g.S.Store c.args.conn.now c.begin_filing.new.conn (state g.S.Store mid) c.begin_filing.ensures.begun (c.next_part.ensures.spares.keeps early))
     (undone_keeps g.S.Store mid new (c.roll_back-in-Err.ensures.undone clean) c.roll_back-in-Err.ensures.unchanged)
 
 pub returns-in-Err-clause-failed : goal.returns-in-Err-clause-failed
@@ -98,10 +102,12 @@ returns-in-Err-clause-failed g c clean =
 
 pub returns-clause-survives : goal.returns-clause-survives
 returns-clause-survives g c =
-    survives_begin g.S.Store c.args.conn.now (state g.S.Store c.next_part.new.tx) (λ _. ⊥) (subst (λ (h : Held _). Survives (state g.S.Store h) (state g.S.Store c.next_part.new.tx) (λ _. ⊥)) c.begin_filing.ensures.begun c.next_part.ensures.spares.survives)
+    survives_begin g.S.Store c.args.conn.now (state g.S.Store c.next_part.new.tx) (λ _. ⊥)
+    (subst (λ (h : Held _). Survives (state g.S.Store h) (state g.S.Store c.next_part.new.tx) (λ _. ⊥)) c.begin_filing.ensures.begun c.next_part.ensures.spares.survives)
 
 pub returns-in-Err-clause-survives : goal.returns-in-Err-clause-survives
 returns-in-Err-clause-survives g c =
     survives_then (state g.S.Store c.args.conn.now) (state g.S.Store c.next_part.new.tx) (state g.S.Store c.roll_back-in-Err.new.conn) (λ _. ⊥) (λ _. ⊥) (λ _. ⊥) (λ _ db none. none) (λ _ db none. none)
-    (survives_begin g.S.Store c.args.conn.now (state g.S.Store c.next_part.new.tx) (λ _. ⊥) (subst (λ (h : Held _). Survives (state g.S.Store h) (state g.S.Store c.next_part.new.tx) (λ _. ⊥)) c.begin_filing.ensures.begun c.next_part.ensures.spares.survives))
+    (survives_begin g.S.Store c.args.conn.now (state g.S.Store c.next_part.new.tx) (λ _. ⊥)
+    (subst (λ (h : Held _). Survives (state g.S.Store h) (state g.S.Store c.next_part.new.tx) (λ _. ⊥)) c.begin_filing.ensures.begun c.next_part.ensures.spares.survives))
     c.roll_back-in-Err.ensures.survives

@@ -22,7 +22,10 @@ each-preserved g c =
     let one = c.in_ok-add_members_of.ensures.wrote in
     record {
       same_reference = c.add_members_of.ensures.same_reference ∙ c.each.invariant.same_reference;
-      wrote = adding_wrote g.S.Store adding_member with_more_members members_last (λ l. all_members (map item_shown l)) c.args.items.now c.each.item-index (numbered (member_record (name_of (item_shown c.item-item.result))) 0 (members_of (item_shown c.item-item.result))) (joined_next item_shown c.args.items.now c.each.item-index c.item-item.result low c.item-item.is (λ item. numbered (member_record (name_of item)) 0 (members_of item))) first mid new c.each.invariant.wrote spares one;
+      wrote = adding_wrote g.S.Store adding_member with_more_members members_last (λ l. all_members (map item_shown l)) c.args.items.now c.each.item-index
+          (numbered (member_record (name_of (item_shown c.item-item.result))) 0 (members_of (item_shown c.item-item.result)))
+          (joined_next item_shown c.args.items.now c.each.item-index c.item-item.result low c.item-item.is (λ item. numbered (member_record (name_of item)) 0 (members_of item))) first mid new c.each.invariant.wrote spares
+          one;
       usable = c.in_ok-add_members_of.ensures.usable;
       spares = spares_then g.S.Store first mid new c.each.invariant.spares spares;
     }
@@ -39,7 +42,8 @@ each-init g c =
 
 pub returns-clause-wrote : goal.returns-clause-wrote
 returns-clause-wrote g c =
-    subst (λ l. Wrote g.S.Store (map adding_member (all_members (map item_shown l))) (with_more_members (all_members (map item_shown l))) (g.T.OpenTransaction.held c.args.tx.now) (g.T.OpenTransaction.held c.each.tx)) (take_all c.each.item-index c.args.items.now c.each-test.false) c.each.invariant.wrote
+    subst (λ l. Wrote g.S.Store (map adding_member (all_members (map item_shown l))) (with_more_members (all_members (map item_shown l))) (g.T.OpenTransaction.held c.args.tx.now) (g.T.OpenTransaction.held c.each.tx))
+    (take_all c.each.item-index c.args.items.now c.each-test.false) c.each.invariant.wrote
 
 pub returns-in_err-add_members_of-clause-spares : goal.returns-in_err-add_members_of-clause-spares
 returns-in_err-add_members_of-clause-spares g c =
@@ -59,4 +63,7 @@ returns-in_err-add_members_of-clause-failed g c =
     let e = c.in_err-add_members_of.field-0.0 in
     let two = c.in_err-add_members_of.ensures.failed in
     passed_on (FailsToWrite g.S.Store (map adding_member (all_members (map item_shown c.args.items.now))) first new) e c.from_residual.result c.from_residual.ensures.1
-    (adding_failed g.S.Store adding_member with_more_members members_last (λ l. all_members (map item_shown l)) c.args.items.now c.each.item-index (numbered (member_record (name_of (item_shown c.item-item.result))) 0 (members_of (item_shown c.item-item.result))) (joined_next item_shown c.args.items.now c.each.item-index c.item-item.result low c.item-item.is (λ item. numbered (member_record (name_of item)) 0 (members_of item))) first mid new c.each.invariant.wrote spares (joined_grows item_shown (λ item. numbered (member_record (name_of item)) 0 (members_of item))) e two)
+    (adding_failed g.S.Store adding_member with_more_members members_last (λ l. all_members (map item_shown l)) c.args.items.now c.each.item-index
+    (numbered (member_record (name_of (item_shown c.item-item.result))) 0 (members_of (item_shown c.item-item.result)))
+    (joined_next item_shown c.args.items.now c.each.item-index c.item-item.result low c.item-item.is (λ item. numbered (member_record (name_of item)) 0 (members_of item))) first mid new c.each.invariant.wrote spares
+    (joined_grows item_shown (λ item. numbered (member_record (name_of item)) 0 (members_of item))) e two)

@@ -21,11 +21,15 @@ loop-place-preserved g c =
     let new = (g.T.OpenTransaction.held c.insert_item.new.tx) in
     let low : c.loop-place.place < length c.args.items.now = omega arith in
     let spares = spares_added g.S.Store (codes "item") (item_row (lent_item c.item_row-row.result)) mid new c.insert_item.ensures.survives c.insert_item.result c.insert_item.ensures.added c.insert_item.ensures.failed in
-    let one = wrote_record g.S.Store (codes "item") item_row (λ r. with_more_items (r ∷ [])) (lent_item c.item_row-row.result) (item_record c.loop-place.place (item_shown c.index-items-place.result)) (c.item_row-row.ensures) mid new c.insert_item.ensures.survives items_added c.in_ok-insert_item.ensures.added in
+    let one = wrote_record g.S.Store (codes "item") item_row (λ r. with_more_items (r ∷ [])) (lent_item c.item_row-row.result) (item_record c.loop-place.place (item_shown c.index-items-place.result))
+    (c.item_row-row.ensures) mid new c.insert_item.ensures.survives items_added c.in_ok-insert_item.ensures.added in
     record {
       same_reference = c.insert_item.ensures.same_reference ∙ c.loop-place.invariant.same_reference;
-      wrote = adding_wrote g.S.Store adding_item with_more_items items_last (λ l. numbered item_record 0 (map item_shown l)) c.args.items.now c.loop-place.place (item_record c.loop-place.place (item_shown c.index-items-place.result) ∷ []) (numbered_next item_shown c.args.items.now c.loop-place.place c.index-items-place.result low c.index-items-place.is item_record) first mid new c.loop-place.invariant.wrote spares one;
-      usable = usable_then g.S.Store (map adding_item (item_record c.loop-place.place (item_shown c.index-items-place.result) ∷ [])) (with_more_items (item_record c.loop-place.place (item_shown c.index-items-place.result) ∷ [])) mid new c.loop-place.invariant.usable one spares;
+      wrote = adding_wrote g.S.Store adding_item with_more_items items_last (λ l. numbered item_record 0 (map item_shown l)) c.args.items.now c.loop-place.place
+          (item_record c.loop-place.place (item_shown c.index-items-place.result) ∷ []) (numbered_next item_shown c.args.items.now c.loop-place.place c.index-items-place.result low c.index-items-place.is item_record) first
+          mid new c.loop-place.invariant.wrote spares one;
+      usable = usable_then g.S.Store (map adding_item (item_record c.loop-place.place (item_shown c.index-items-place.result) ∷ []))
+          (with_more_items (item_record c.loop-place.place (item_shown c.index-items-place.result) ∷ [])) mid new c.loop-place.invariant.usable one spares;
       spares = spares_then g.S.Store first mid new c.loop-place.invariant.spares spares;
     }
 
@@ -41,7 +45,8 @@ loop-place-init g c =
 
 pub returns-clause-wrote : goal.returns-clause-wrote
 returns-clause-wrote g c =
-    subst (λ l. Wrote g.S.Store (map adding_item (numbered item_record 0 (map item_shown l))) (with_more_items (numbered item_record 0 (map item_shown l))) (g.T.OpenTransaction.held c.args.tx.now) (g.T.OpenTransaction.held c.loop-place.tx)) (take_all c.loop-place.place c.args.items.now (omega arith)) c.loop-place.invariant.wrote
+    subst (λ l. Wrote g.S.Store (map adding_item (numbered item_record 0 (map item_shown l))) (with_more_items (numbered item_record 0 (map item_shown l))) (g.T.OpenTransaction.held c.args.tx.now)
+    (g.T.OpenTransaction.held c.loop-place.tx)) (take_all c.loop-place.place c.args.items.now (omega arith)) c.loop-place.invariant.wrote
 
 pub returns-in_err-insert_item-clause-spares : goal.returns-in_err-insert_item-clause-spares
 returns-in_err-insert_item-clause-spares g c =
@@ -59,9 +64,12 @@ returns-in_err-insert_item-clause-failed g c =
     let low : c.loop-place.place < length c.args.items.now = omega arith in
     let spares = spares_added g.S.Store (codes "item") (item_row (lent_item c.item_row-row.result)) mid new c.insert_item.ensures.survives c.insert_item.result c.insert_item.ensures.added c.insert_item.ensures.failed in
     let e = c.in_err-insert_item.field-0.0 in
-    let two = failed_record g.S.Store (codes "item") item_row (λ r. with_more_items (r ∷ [])) (lent_item c.item_row-row.result) (item_record c.loop-place.place (item_shown c.index-items-place.result)) (c.item_row-row.ensures) mid new c.insert_item.ensures.survives e c.in_err-insert_item.ensures.failed in
+    let two = failed_record g.S.Store (codes "item") item_row (λ r. with_more_items (r ∷ [])) (lent_item c.item_row-row.result) (item_record c.loop-place.place (item_shown c.index-items-place.result))
+    (c.item_row-row.ensures) mid new c.insert_item.ensures.survives e c.in_err-insert_item.ensures.failed in
     passed_on (FailsToWrite g.S.Store (map adding_item (numbered item_record 0 (map item_shown c.args.items.now))) first new) e c.from_residual.result c.from_residual.ensures.1
-    (adding_failed g.S.Store adding_item with_more_items items_last (λ l. numbered item_record 0 (map item_shown l)) c.args.items.now c.loop-place.place (item_record c.loop-place.place (item_shown c.index-items-place.result) ∷ []) (numbered_next item_shown c.args.items.now c.loop-place.place c.index-items-place.result low c.index-items-place.is item_record) first mid new c.loop-place.invariant.wrote spares (numbered_grows item_shown item_record) e two)
+    (adding_failed g.S.Store adding_item with_more_items items_last (λ l. numbered item_record 0 (map item_shown l)) c.args.items.now c.loop-place.place
+    (item_record c.loop-place.place (item_shown c.index-items-place.result) ∷ []) (numbered_next item_shown c.args.items.now c.loop-place.place c.index-items-place.result low c.index-items-place.is item_record) first
+    mid new c.loop-place.invariant.wrote spares (numbered_grows item_shown item_record) e two)
 
 pub insert_item-requires : goal.insert_item-requires
 insert_item-requires g c = λ clean lives. has_items (state g.S.Store (g.T.OpenTransaction.held c.loop-place.tx)).now (c.loop-place.invariant.usable clean lives)

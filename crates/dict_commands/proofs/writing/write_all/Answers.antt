@@ -1,13 +1,12 @@
 use Rattle.std.proofs.Common.{map, ◌++◌}
 use Rattle.dict_sql.proofs.StreamLemmas.{passed_on}
-use Rattle.dict_derived.specs.AllTables.{AllTables}
+use Rattle.dict_files.specs.AllTables.{AllTables}
 use Rattle.dict_commands.specs.Writes.{Wrote, FailsToWrite}
 use Rattle.dict_commands.proofs.WriteLemmas.{wrote_then, failed_before, failed_after, spares_then}
 use Rattle.dict_catalogue.specs.Views.{item_shown, kept_shown}
 use Rattle.dict_rows.specs.Versions.{known}
-use Rattle.dict_derived.specs.AllTables.{without_editions, with_installed}
+use Rattle.dict_commands.specs.Changes.{without_editions, with_installed}
 use Rattle.dict_commands.specs.Changes.{with_mark, with_items, with_members, with_reply, installed_by, change_by}
-use Rattle.dict_commands.specs.Listed.{listed_by}
 use Rattle.dict_commands.specs.Statements.{summary_anew, exchanging, replying, statements_of}
 use Rattle.dict_commands.proofs.writing.write_all.Goals as goal
 
@@ -16,14 +15,27 @@ returns-clause-wrote g c =
     let first = (g.T.OpenTransaction.held c.args.tx.now) in
     let s0 = (g.T.OpenTransaction.held c.write_summary.new.tx) in
     let spares0 = c.write_summary.ensures.spares in
-    let wrote0 : Wrote g.S.Store (summary_anew known c.args.change.now.summary.installs (map item_shown c.args.change.now.summary.items.items)) ((λ (all : AllTables). with_members (map item_shown c.args.change.now.summary.items.items) (with_items (map item_shown c.args.change.now.summary.items.items) (with_mark c.args.change.now.summary.installs all)))) first s0 = c.in_ok-write_summary.ensures.wrote in
+    let wrote0 : Wrote g.S.Store (summary_anew known c.args.change.now.summary.installs (map item_shown c.args.change.now.summary.items.items))
+    ((λ (all : AllTables). with_members (map item_shown c.args.change.now.summary.items.items) (with_items (map item_shown c.args.change.now.summary.items.items) (with_mark c.args.change.now.summary.installs all))))
+    first s0 = c.in_ok-write_summary.ensures.wrote in
     let s1 = (g.T.OpenTransaction.held c.write_editions.new.tx) in
     let spares1 = c.write_editions.ensures.spares in
-    let wrote1 : Wrote g.S.Store (exchanging c.args.change.now.gone.items (installed_by c.args.change.now.summary.installs c.args.command.now) (listed_by c.args.change.now.summary.installs c.args.rows)) ((λ (all : AllTables). with_installed (installed_by c.args.change.now.summary.installs c.args.command.now) (without_editions c.args.change.now.gone.items all))) s0 s1 = rw c.deref.ensures.value at c.in_ok-write_editions.ensures.wrote in
+    let wrote1 : Wrote g.S.Store (exchanging c.args.change.now.gone.items (installed_by c.args.change.now.summary.installs c.args.command.now))
+    ((λ (all : AllTables). with_installed (installed_by c.args.change.now.summary.installs c.args.command.now) (without_editions c.args.change.now.gone.items all))) s0 s1 = rw c.deref.ensures.value
+    at c.in_ok-write_editions.ensures.wrote in
     let s2 = (g.T.OpenTransaction.held c.add_reply.new.tx) in
     let spares2 = c.add_reply.ensures.spares in
-    let wrote2 : Wrote g.S.Store (replying (record { id = c.args.id.now; reply = kept_shown c.args.change.now.kept })) (with_reply (record { id = c.args.id.now; reply = kept_shown c.args.change.now.kept })) s1 s2 = c.in_ok-add_reply.ensures.wrote in
-    (wrote_then g.S.Store (summary_anew known c.args.change.now.summary.installs (map item_shown c.args.change.now.summary.items.items)) ((exchanging c.args.change.now.gone.items (installed_by c.args.change.now.summary.installs c.args.command.now) (listed_by c.args.change.now.summary.installs c.args.rows)) ++ ((replying (record { id = c.args.id.now; reply = kept_shown c.args.change.now.kept })))) ((λ (all : AllTables). with_members (map item_shown c.args.change.now.summary.items.items) (with_items (map item_shown c.args.change.now.summary.items.items) (with_mark c.args.change.now.summary.installs all)))) (λ (all : AllTables). (with_reply (record { id = c.args.id.now; reply = kept_shown c.args.change.now.kept }) ((λ (all : AllTables). with_installed (installed_by c.args.change.now.summary.installs c.args.command.now) (without_editions c.args.change.now.gone.items all)) all))) first s0 s2 wrote0 (wrote_then g.S.Store (exchanging c.args.change.now.gone.items (installed_by c.args.change.now.summary.installs c.args.command.now) (listed_by c.args.change.now.summary.installs c.args.rows)) ((replying (record { id = c.args.id.now; reply = kept_shown c.args.change.now.kept }))) ((λ (all : AllTables). with_installed (installed_by c.args.change.now.summary.installs c.args.command.now) (without_editions c.args.change.now.gone.items all))) (λ (all : AllTables). (with_reply (record { id = c.args.id.now; reply = kept_shown c.args.change.now.kept }) all)) s0 s1 s2 wrote1 wrote2 spares2) (spares_then g.S.Store s0 s1 s2 spares1 spares2))
+    let wrote2 : Wrote g.S.Store (replying (record { id = c.args.id.now; reply = kept_shown c.args.change.now.kept })) (with_reply (record { id = c.args.id.now; reply = kept_shown c.args.change.now.kept })) s1 s2 =
+    c.in_ok-add_reply.ensures.wrote in
+    (wrote_then g.S.Store (summary_anew known c.args.change.now.summary.installs (map item_shown c.args.change.now.summary.items.items))
+    ((exchanging c.args.change.now.gone.items (installed_by c.args.change.now.summary.installs c.args.command.now)) ++ ((replying (record { id = c.args.id.now; reply = kept_shown c.args.change.now.kept }))))
+    ((λ (all : AllTables). with_members (map item_shown c.args.change.now.summary.items.items) (with_items (map item_shown c.args.change.now.summary.items.items) (with_mark c.args.change.now.summary.installs all))))
+    (λ (all : AllTables). (with_reply (record { id = c.args.id.now; reply = kept_shown c.args.change.now.kept })
+    ((λ (all : AllTables). with_installed (installed_by c.args.change.now.summary.installs c.args.command.now) (without_editions c.args.change.now.gone.items all)) all))) first s0 s2 wrote0
+    (wrote_then g.S.Store (exchanging c.args.change.now.gone.items (installed_by c.args.change.now.summary.installs c.args.command.now))
+    ((replying (record { id = c.args.id.now; reply = kept_shown c.args.change.now.kept })))
+    ((λ (all : AllTables). with_installed (installed_by c.args.change.now.summary.installs c.args.command.now) (without_editions c.args.change.now.gone.items all)))
+    (λ (all : AllTables). (with_reply (record { id = c.args.id.now; reply = kept_shown c.args.change.now.kept }) all)) s0 s1 s2 wrote1 wrote2 spares2) (spares_then g.S.Store s0 s1 s2 spares1 spares2))
 
 pub returns-clause-spares : goal.returns-clause-spares
 returns-clause-spares g c =
@@ -62,29 +74,51 @@ returns-in_err-write_summary-clause-failed g c =
     let s0 = (g.T.OpenTransaction.held c.write_summary.new.tx) in
     let spares0 = c.write_summary.ensures.spares in
     let e = c.in_err-write_summary.field-0.0 in
-    passed_on (FailsToWrite g.S.Store (statements_of known (change_by c.args.id.now c.args.command.now c.args.change.now) (listed_by c.args.change.now.summary.installs c.args.rows)) first s0) e c.from_residual.result c.from_residual.ensures.1 ((failed_before g.S.Store (summary_anew known c.args.change.now.summary.installs (map item_shown c.args.change.now.summary.items.items)) ((exchanging c.args.change.now.gone.items (installed_by c.args.change.now.summary.installs c.args.command.now) (listed_by c.args.change.now.summary.installs c.args.rows)) ++ ((replying (record { id = c.args.id.now; reply = kept_shown c.args.change.now.kept })))) first s0 e (c.in_err-write_summary.ensures.failed)))
+    passed_on (FailsToWrite g.S.Store (statements_of known (change_by c.args.id.now c.args.command.now c.args.change.now)) first s0) e c.from_residual.result c.from_residual.ensures.1
+    ((failed_before g.S.Store (summary_anew known c.args.change.now.summary.installs (map item_shown c.args.change.now.summary.items.items))
+    ((exchanging c.args.change.now.gone.items (installed_by c.args.change.now.summary.installs c.args.command.now)) ++ ((replying (record { id = c.args.id.now; reply = kept_shown c.args.change.now.kept })))) first s0 e
+    (c.in_err-write_summary.ensures.failed)))
 
 pub returns-in_err-write_editions-clause-failed : goal.returns-in_err-write_editions-clause-failed
 returns-in_err-write_editions-clause-failed g c =
     let first = (g.T.OpenTransaction.held c.args.tx.now) in
     let s0 = (g.T.OpenTransaction.held c.write_summary.new.tx) in
     let spares0 = c.write_summary.ensures.spares in
-    let wrote0 : Wrote g.S.Store (summary_anew known c.args.change.now.summary.installs (map item_shown c.args.change.now.summary.items.items)) ((λ (all : AllTables). with_members (map item_shown c.args.change.now.summary.items.items) (with_items (map item_shown c.args.change.now.summary.items.items) (with_mark c.args.change.now.summary.installs all)))) first s0 = c.in_ok-write_summary.ensures.wrote in
+    let wrote0 : Wrote g.S.Store (summary_anew known c.args.change.now.summary.installs (map item_shown c.args.change.now.summary.items.items))
+    ((λ (all : AllTables). with_members (map item_shown c.args.change.now.summary.items.items) (with_items (map item_shown c.args.change.now.summary.items.items) (with_mark c.args.change.now.summary.installs all))))
+    first s0 = c.in_ok-write_summary.ensures.wrote in
     let s1 = (g.T.OpenTransaction.held c.write_editions.new.tx) in
     let spares1 = c.write_editions.ensures.spares in
     let e = c.in_err-write_editions.field-0.0 in
-    passed_on (FailsToWrite g.S.Store (statements_of known (change_by c.args.id.now c.args.command.now c.args.change.now) (listed_by c.args.change.now.summary.installs c.args.rows)) first s1) e c.from_residual-in_err-write_editions.result c.from_residual-in_err-write_editions.ensures.1 ((failed_after g.S.Store (summary_anew known c.args.change.now.summary.installs (map item_shown c.args.change.now.summary.items.items)) ((exchanging c.args.change.now.gone.items (installed_by c.args.change.now.summary.installs c.args.command.now) (listed_by c.args.change.now.summary.installs c.args.rows)) ++ ((replying (record { id = c.args.id.now; reply = kept_shown c.args.change.now.kept })))) ((λ (all : AllTables). with_members (map item_shown c.args.change.now.summary.items.items) (with_items (map item_shown c.args.change.now.summary.items.items) (with_mark c.args.change.now.summary.installs all)))) first s0 s1 e wrote0 spares1 (failed_before g.S.Store (exchanging c.args.change.now.gone.items (installed_by c.args.change.now.summary.installs c.args.command.now) (listed_by c.args.change.now.summary.installs c.args.rows)) ((replying (record { id = c.args.id.now; reply = kept_shown c.args.change.now.kept }))) s0 s1 e (rw c.deref.ensures.value at c.in_err-write_editions.ensures.failed))))
+    passed_on (FailsToWrite g.S.Store (statements_of known (change_by c.args.id.now c.args.command.now c.args.change.now)) first s1) e c.from_residual-in_err-write_editions.result
+    c.from_residual-in_err-write_editions.ensures.1 ((failed_after g.S.Store (summary_anew known c.args.change.now.summary.installs (map item_shown c.args.change.now.summary.items.items))
+    ((exchanging c.args.change.now.gone.items (installed_by c.args.change.now.summary.installs c.args.command.now)) ++ ((replying (record { id = c.args.id.now; reply = kept_shown c.args.change.now.kept }))))
+    ((λ (all : AllTables). with_members (map item_shown c.args.change.now.summary.items.items) (with_items (map item_shown c.args.change.now.summary.items.items) (with_mark c.args.change.now.summary.installs all))))
+    first s0 s1 e wrote0 spares1 (failed_before g.S.Store (exchanging c.args.change.now.gone.items (installed_by c.args.change.now.summary.installs c.args.command.now))
+    ((replying (record { id = c.args.id.now; reply = kept_shown c.args.change.now.kept }))) s0 s1 e (rw c.deref.ensures.value at c.in_err-write_editions.ensures.failed))))
 
 pub returns-in_err-add_reply-clause-failed : goal.returns-in_err-add_reply-clause-failed
 returns-in_err-add_reply-clause-failed g c =
     let first = (g.T.OpenTransaction.held c.args.tx.now) in
     let s0 = (g.T.OpenTransaction.held c.write_summary.new.tx) in
     let spares0 = c.write_summary.ensures.spares in
-    let wrote0 : Wrote g.S.Store (summary_anew known c.args.change.now.summary.installs (map item_shown c.args.change.now.summary.items.items)) ((λ (all : AllTables). with_members (map item_shown c.args.change.now.summary.items.items) (with_items (map item_shown c.args.change.now.summary.items.items) (with_mark c.args.change.now.summary.installs all)))) first s0 = c.in_ok-write_summary.ensures.wrote in
+    let wrote0 : Wrote g.S.Store (summary_anew known c.args.change.now.summary.installs (map item_shown c.args.change.now.summary.items.items))
+    ((λ (all : AllTables). with_members (map item_shown c.args.change.now.summary.items.items) (with_items (map item_shown c.args.change.now.summary.items.items) (with_mark c.args.change.now.summary.installs all))))
+    first s0 = c.in_ok-write_summary.ensures.wrote in
     let s1 = (g.T.OpenTransaction.held c.write_editions.new.tx) in
     let spares1 = c.write_editions.ensures.spares in
-    let wrote1 : Wrote g.S.Store (exchanging c.args.change.now.gone.items (installed_by c.args.change.now.summary.installs c.args.command.now) (listed_by c.args.change.now.summary.installs c.args.rows)) ((λ (all : AllTables). with_installed (installed_by c.args.change.now.summary.installs c.args.command.now) (without_editions c.args.change.now.gone.items all))) s0 s1 = rw c.deref.ensures.value at c.in_ok-write_editions.ensures.wrote in
+    let wrote1 : Wrote g.S.Store (exchanging c.args.change.now.gone.items (installed_by c.args.change.now.summary.installs c.args.command.now))
+    ((λ (all : AllTables). with_installed (installed_by c.args.change.now.summary.installs c.args.command.now) (without_editions c.args.change.now.gone.items all))) s0 s1 = rw c.deref.ensures.value
+    at c.in_ok-write_editions.ensures.wrote in
     let s2 = (g.T.OpenTransaction.held c.add_reply.new.tx) in
     let spares2 = c.add_reply.ensures.spares in
     let e = c.in_err-add_reply.field-0.0 in
-    passed_on (FailsToWrite g.S.Store (statements_of known (change_by c.args.id.now c.args.command.now c.args.change.now) (listed_by c.args.change.now.summary.installs c.args.rows)) first s2) e c.from_residual-in_err-add_reply.result c.from_residual-in_err-add_reply.ensures.1 ((failed_after g.S.Store (summary_anew known c.args.change.now.summary.installs (map item_shown c.args.change.now.summary.items.items)) ((exchanging c.args.change.now.gone.items (installed_by c.args.change.now.summary.installs c.args.command.now) (listed_by c.args.change.now.summary.installs c.args.rows)) ++ ((replying (record { id = c.args.id.now; reply = kept_shown c.args.change.now.kept })))) ((λ (all : AllTables). with_members (map item_shown c.args.change.now.summary.items.items) (with_items (map item_shown c.args.change.now.summary.items.items) (with_mark c.args.change.now.summary.installs all)))) first s0 s2 e wrote0 (spares_then g.S.Store s0 s1 s2 spares1 spares2) (failed_after g.S.Store (exchanging c.args.change.now.gone.items (installed_by c.args.change.now.summary.installs c.args.command.now) (listed_by c.args.change.now.summary.installs c.args.rows)) ((replying (record { id = c.args.id.now; reply = kept_shown c.args.change.now.kept }))) ((λ (all : AllTables). with_installed (installed_by c.args.change.now.summary.installs c.args.command.now) (without_editions c.args.change.now.gone.items all))) s0 s1 s2 e wrote1 spares2 c.in_err-add_reply.ensures.failed)))
+    passed_on (FailsToWrite g.S.Store (statements_of known (change_by c.args.id.now c.args.command.now c.args.change.now)) first s2) e c.from_residual-in_err-add_reply.result c.from_residual-in_err-add_reply.ensures.1
+    ((failed_after g.S.Store (summary_anew known c.args.change.now.summary.installs (map item_shown c.args.change.now.summary.items.items))
+    ((exchanging c.args.change.now.gone.items (installed_by c.args.change.now.summary.installs c.args.command.now)) ++ ((replying (record { id = c.args.id.now; reply = kept_shown c.args.change.now.kept }))))
+    ((λ (all : AllTables). with_members (map item_shown c.args.change.now.summary.items.items) (with_items (map item_shown c.args.change.now.summary.items.items) (with_mark c.args.change.now.summary.installs all))))
+    first s0 s2 e wrote0 (spares_then g.S.Store s0 s1 s2 spares1 spares2)
+    (failed_after g.S.Store (exchanging c.args.change.now.gone.items (installed_by c.args.change.now.summary.installs c.args.command.now))
+    ((replying (record { id = c.args.id.now; reply = kept_shown c.args.change.now.kept })))
+    ((λ (all : AllTables). with_installed (installed_by c.args.change.now.summary.installs c.args.command.now) (without_editions c.args.change.now.gone.items all))) s0 s1 s2 e wrote1 spares2
+    c.in_err-add_reply.ensures.failed)))

@@ -1,11 +1,10 @@
 use Rattle.dict_sql.proofs.StreamLemmas.{passed_on}
-use Rattle.dict_derived.specs.AllTables.{AllTables}
+use Rattle.dict_files.specs.AllTables.{AllTables}
 use Rattle.dict_commands.specs.Writes.{Wrote, FailsToWrite}
 use Rattle.dict_commands.proofs.WriteLemmas.{wrote_then, failed_before, failed_after, spares_then}
 use Rattle.std.specs.Prelude.{flat_map}
-use Rattle.dict_derived.specs.AllTables.{without_editions, with_installed}
+use Rattle.dict_commands.specs.Changes.{without_editions, with_installed}
 use Rattle.dict_commands.specs.Changes.{installed_by}
-use Rattle.dict_commands.specs.Listed.{listed_by}
 use Rattle.dict_commands.specs.Statements.{taking, installing, exchanging}
 use Rattle.dict_commands.proofs.writing.write_editions.Goals as goal
 
@@ -17,8 +16,9 @@ returns-clause-wrote g c =
     let wrote0 : Wrote g.S.Store (flat_map taking c.args.gone.now) (without_editions c.args.gone.now) first s0 = c.in_ok-take_editions.ensures.wrote in
     let s1 = (g.T.OpenTransaction.held c.add_installed.new.tx) in
     let spares1 = c.add_installed.ensures.spares in
-    let wrote1 : Wrote g.S.Store (installing (installed_by c.args.installs c.args.command.now) (listed_by c.args.installs c.args.rows)) (with_installed (installed_by c.args.installs c.args.command.now)) s0 s1 = c.in_ok-add_installed.ensures.wrote in
-    (wrote_then g.S.Store (flat_map taking c.args.gone.now) ((installing (installed_by c.args.installs c.args.command.now) (listed_by c.args.installs c.args.rows))) (without_editions c.args.gone.now) (λ (all : AllTables). (with_installed (installed_by c.args.installs c.args.command.now) all)) first s0 s1 wrote0 wrote1 spares1)
+    let wrote1 : Wrote g.S.Store (installing (installed_by c.args.installs c.args.command.now)) (with_installed (installed_by c.args.installs c.args.command.now)) s0 s1 = c.in_ok-add_installed.ensures.wrote in
+    (wrote_then g.S.Store (flat_map taking c.args.gone.now) ((installing (installed_by c.args.installs c.args.command.now))) (without_editions c.args.gone.now)
+    (λ (all : AllTables). (with_installed (installed_by c.args.installs c.args.command.now) all)) first s0 s1 wrote0 wrote1 spares1)
 
 pub returns-clause-spares : goal.returns-clause-spares
 returns-clause-spares g c =
@@ -44,7 +44,8 @@ returns-in_err-take_editions-clause-failed g c =
     let s0 = (g.T.OpenTransaction.held c.take_editions.new.tx) in
     let spares0 = c.take_editions.ensures.spares in
     let e = c.in_err-take_editions.field-0.0 in
-    passed_on (FailsToWrite g.S.Store (exchanging c.args.gone.now (installed_by c.args.installs c.args.command.now) (listed_by c.args.installs c.args.rows)) first s0) e c.from_residual.result c.from_residual.ensures.1 ((failed_before g.S.Store (flat_map taking c.args.gone.now) ((installing (installed_by c.args.installs c.args.command.now) (listed_by c.args.installs c.args.rows))) first s0 e (c.in_err-take_editions.ensures.failed)))
+    passed_on (FailsToWrite g.S.Store (exchanging c.args.gone.now (installed_by c.args.installs c.args.command.now)) first s0) e c.from_residual.result c.from_residual.ensures.1
+    ((failed_before g.S.Store (flat_map taking c.args.gone.now) ((installing (installed_by c.args.installs c.args.command.now))) first s0 e (c.in_err-take_editions.ensures.failed)))
 
 pub returns-in_err-add_installed-clause-failed : goal.returns-in_err-add_installed-clause-failed
 returns-in_err-add_installed-clause-failed g c =
@@ -55,4 +56,6 @@ returns-in_err-add_installed-clause-failed g c =
     let s1 = (g.T.OpenTransaction.held c.add_installed.new.tx) in
     let spares1 = c.add_installed.ensures.spares in
     let e = c.in_err-add_installed.field-0.0 in
-    passed_on (FailsToWrite g.S.Store (exchanging c.args.gone.now (installed_by c.args.installs c.args.command.now) (listed_by c.args.installs c.args.rows)) first s1) e c.from_residual-in_err-add_installed.result c.from_residual-in_err-add_installed.ensures.1 ((failed_after g.S.Store (flat_map taking c.args.gone.now) ((installing (installed_by c.args.installs c.args.command.now) (listed_by c.args.installs c.args.rows))) (without_editions c.args.gone.now) first s0 s1 e wrote0 spares1 c.in_err-add_installed.ensures.failed))
+    passed_on (FailsToWrite g.S.Store (exchanging c.args.gone.now (installed_by c.args.installs c.args.command.now)) first s1) e c.from_residual-in_err-add_installed.result c.from_residual-in_err-add_installed.ensures.1
+    ((failed_after g.S.Store (flat_map taking c.args.gone.now) ((installing (installed_by c.args.installs c.args.command.now))) (without_editions c.args.gone.now) first s0 s1 e wrote0 spares1
+    c.in_err-add_installed.ensures.failed))

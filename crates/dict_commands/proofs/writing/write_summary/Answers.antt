@@ -1,6 +1,6 @@
 use Rattle.std.proofs.Common.{map, ◌++◌}
 use Rattle.dict_sql.proofs.StreamLemmas.{passed_on}
-use Rattle.dict_derived.specs.AllTables.{AllTables}
+use Rattle.dict_files.specs.AllTables.{AllTables}
 use Rattle.dict_commands.specs.Writes.{Wrote, FailsToWrite}
 use Rattle.dict_commands.proofs.WriteLemmas.{wrote_then, failed_before, failed_after, spares_then}
 use Rattle.dict_catalogue.specs.Views.{item_shown}
@@ -21,7 +21,10 @@ returns-clause-wrote g c =
     let s2 = (g.T.OpenTransaction.held c.write_members.new.tx) in
     let spares2 = c.write_members.ensures.spares in
     let wrote2 : Wrote g.S.Store (members_anew (map item_shown c.args.summary.now.items.items)) (with_members (map item_shown c.args.summary.now.items.items)) s1 s2 = rw c.deref-2.ensures.value at c.in_ok-write_members.ensures.wrote in
-    (wrote_then g.S.Store (mark_anew known c.args.summary.now.installs) ((items_anew (map item_shown c.args.summary.now.items.items)) ++ ((members_anew (map item_shown c.args.summary.now.items.items)))) (with_mark c.args.summary.now.installs) (λ (all : AllTables). (with_members (map item_shown c.args.summary.now.items.items) (with_items (map item_shown c.args.summary.now.items.items) all))) first s0 s2 wrote0 (wrote_then g.S.Store (items_anew (map item_shown c.args.summary.now.items.items)) ((members_anew (map item_shown c.args.summary.now.items.items))) (with_items (map item_shown c.args.summary.now.items.items)) (λ (all : AllTables). (with_members (map item_shown c.args.summary.now.items.items) all)) s0 s1 s2 wrote1 wrote2 spares2) (spares_then g.S.Store s0 s1 s2 spares1 spares2))
+    (wrote_then g.S.Store (mark_anew known c.args.summary.now.installs) ((items_anew (map item_shown c.args.summary.now.items.items)) ++ ((members_anew (map item_shown c.args.summary.now.items.items))))
+    (with_mark c.args.summary.now.installs) (λ (all : AllTables). (with_members (map item_shown c.args.summary.now.items.items) (with_items (map item_shown c.args.summary.now.items.items) all))) first s0 s2 wrote0
+    (wrote_then g.S.Store (items_anew (map item_shown c.args.summary.now.items.items)) ((members_anew (map item_shown c.args.summary.now.items.items))) (with_items (map item_shown c.args.summary.now.items.items))
+    (λ (all : AllTables). (with_members (map item_shown c.args.summary.now.items.items) all)) s0 s1 s2 wrote1 wrote2 spares2) (spares_then g.S.Store s0 s1 s2 spares1 spares2))
 
 pub returns-clause-spares : goal.returns-clause-spares
 returns-clause-spares g c =
@@ -60,7 +63,9 @@ returns-in_err-write_mark-clause-failed g c =
     let s0 = (g.T.OpenTransaction.held c.write_mark.new.tx) in
     let spares0 = c.write_mark.ensures.spares in
     let e = c.in_err-write_mark.field-0.0 in
-    passed_on (FailsToWrite g.S.Store (summary_anew known c.args.summary.now.installs (map item_shown c.args.summary.now.items.items)) first s0) e c.from_residual.result c.from_residual.ensures.1 ((failed_before g.S.Store (mark_anew known c.args.summary.now.installs) ((items_anew (map item_shown c.args.summary.now.items.items)) ++ ((members_anew (map item_shown c.args.summary.now.items.items)))) first s0 e (c.in_err-write_mark.ensures.failed)))
+    passed_on (FailsToWrite g.S.Store (summary_anew known c.args.summary.now.installs (map item_shown c.args.summary.now.items.items)) first s0) e c.from_residual.result c.from_residual.ensures.1
+    ((failed_before g.S.Store (mark_anew known c.args.summary.now.installs) ((items_anew (map item_shown c.args.summary.now.items.items)) ++ ((members_anew (map item_shown c.args.summary.now.items.items)))) first s0 e
+    (c.in_err-write_mark.ensures.failed)))
 
 pub returns-in_err-write_items-clause-failed : goal.returns-in_err-write_items-clause-failed
 returns-in_err-write_items-clause-failed g c =
@@ -71,7 +76,11 @@ returns-in_err-write_items-clause-failed g c =
     let s1 = (g.T.OpenTransaction.held c.write_items.new.tx) in
     let spares1 = c.write_items.ensures.spares in
     let e = c.in_err-write_items.field-0.0 in
-    passed_on (FailsToWrite g.S.Store (summary_anew known c.args.summary.now.installs (map item_shown c.args.summary.now.items.items)) first s1) e c.from_residual-in_err-write_items.result c.from_residual-in_err-write_items.ensures.1 ((failed_after g.S.Store (mark_anew known c.args.summary.now.installs) ((items_anew (map item_shown c.args.summary.now.items.items)) ++ ((members_anew (map item_shown c.args.summary.now.items.items)))) (with_mark c.args.summary.now.installs) first s0 s1 e wrote0 spares1 (failed_before g.S.Store (items_anew (map item_shown c.args.summary.now.items.items)) ((members_anew (map item_shown c.args.summary.now.items.items))) s0 s1 e (rw c.deref.ensures.value at c.in_err-write_items.ensures.failed))))
+    passed_on (FailsToWrite g.S.Store (summary_anew known c.args.summary.now.installs (map item_shown c.args.summary.now.items.items)) first s1) e c.from_residual-in_err-write_items.result
+    c.from_residual-in_err-write_items.ensures.1 ((failed_after g.S.Store (mark_anew known c.args.summary.now.installs)
+    ((items_anew (map item_shown c.args.summary.now.items.items)) ++ ((members_anew (map item_shown c.args.summary.now.items.items)))) (with_mark c.args.summary.now.installs) first s0 s1 e wrote0 spares1
+    (failed_before g.S.Store (items_anew (map item_shown c.args.summary.now.items.items)) ((members_anew (map item_shown c.args.summary.now.items.items))) s0 s1 e
+    (rw c.deref.ensures.value at c.in_err-write_items.ensures.failed))))
 
 pub returns-in_err-write_members-clause-failed : goal.returns-in_err-write_members-clause-failed
 returns-in_err-write_members-clause-failed g c =
@@ -85,4 +94,8 @@ returns-in_err-write_members-clause-failed g c =
     let s2 = (g.T.OpenTransaction.held c.write_members.new.tx) in
     let spares2 = c.write_members.ensures.spares in
     let e = c.in_err-write_members.field-0.0 in
-    passed_on (FailsToWrite g.S.Store (summary_anew known c.args.summary.now.installs (map item_shown c.args.summary.now.items.items)) first s2) e c.from_residual-in_err-write_members.result c.from_residual-in_err-write_members.ensures.1 ((failed_after g.S.Store (mark_anew known c.args.summary.now.installs) ((items_anew (map item_shown c.args.summary.now.items.items)) ++ ((members_anew (map item_shown c.args.summary.now.items.items)))) (with_mark c.args.summary.now.installs) first s0 s2 e wrote0 (spares_then g.S.Store s0 s1 s2 spares1 spares2) (failed_after g.S.Store (items_anew (map item_shown c.args.summary.now.items.items)) ((members_anew (map item_shown c.args.summary.now.items.items))) (with_items (map item_shown c.args.summary.now.items.items)) s0 s1 s2 e wrote1 spares2 rw c.deref-2.ensures.value at c.in_err-write_members.ensures.failed)))
+    passed_on (FailsToWrite g.S.Store (summary_anew known c.args.summary.now.installs (map item_shown c.args.summary.now.items.items)) first s2) e c.from_residual-in_err-write_members.result
+    c.from_residual-in_err-write_members.ensures.1 ((failed_after g.S.Store (mark_anew known c.args.summary.now.installs)
+    ((items_anew (map item_shown c.args.summary.now.items.items)) ++ ((members_anew (map item_shown c.args.summary.now.items.items)))) (with_mark c.args.summary.now.installs) first s0 s2 e wrote0
+    (spares_then g.S.Store s0 s1 s2 spares1 spares2) (failed_after g.S.Store (items_anew (map item_shown c.args.summary.now.items.items)) ((members_anew (map item_shown c.args.summary.now.items.items)))
+    (with_items (map item_shown c.args.summary.now.items.items)) s0 s1 s2 e wrote1 spares2 rw c.deref-2.ensures.value at c.in_err-write_members.ensures.failed)))

@@ -1,0 +1,50 @@
+use Rattle.std.proofs.Common.{codes, [], ◌∷◌}
+use Rattle.sqlite.specs.Held.{state}
+use Rattle.dict_header_sql.specs.Records.{header_row}
+use Rattle.dict_sql.proofs.StreamLemmas.{passed_on}
+use Rattle.dict_records.specs.Typed.{lent_header}
+use Rattle.dict_rows.specs.Written.{edition_record}
+use Rattle.dict_commands.specs.Changes.{with_more_editions}
+use Rattle.dict_commands.specs.Statements.{adding_edition}
+use Rattle.dict_commands.specs.Writes.{Wrote, FailsToWrite}
+use Rattle.dict_commands.proofs.TableLemmas.{has_editions}
+use Rattle.dict_commands.proofs.WriteLemmas.{spares_added, usable_then}
+use Rattle.dict_commands.proofs.AddLemmas.{wrote_header, failed_header}
+use Rattle.dict_commands.proofs.editions.add_record.Goals as goal
+
+pub insert_header-requires : goal.insert_header-requires
+insert_header-requires g c = λ clean lives. has_editions (state g.S.Store (g.T.OpenTransaction.held c.args.tx.now)).now (c.requires.usable clean lives)
+
+pub returns-clause-wrote : goal.returns-clause-wrote
+returns-clause-wrote g c =
+    wrote_header g.S.Store (lent_header c.header_row-row.result) (edition_record c.args.owner.now c.args.number c.args.edition.now) c.header_row-row.ensures (g.T.OpenTransaction.held c.args.tx.now)
+    (g.T.OpenTransaction.held c.insert_header.new.tx) c.insert_header.ensures.survives c.in_ok-insert_header.ensures.added
+
+pub returns-clause-usable : goal.returns-clause-usable
+returns-clause-usable g c =
+    let first = (g.T.OpenTransaction.held c.args.tx.now) in
+    let new = (g.T.OpenTransaction.held c.insert_header.new.tx) in
+    let spares = spares_added g.S.Store (codes "edition") (header_row (lent_header c.header_row-row.result)) first new c.insert_header.ensures.survives c.insert_header.result c.insert_header.ensures.added c.insert_header.ensures.failed in
+    let record_of = edition_record c.args.owner.now c.args.number c.args.edition.now in
+    let wrote : Wrote g.S.Store (adding_edition record_of ∷ []) (with_more_editions (record_of ∷ [])) first new = wrote_header g.S.Store (lent_header c.header_row-row.result) record_of c.header_row-row.ensures first new
+    c.insert_header.ensures.survives c.in_ok-insert_header.ensures.added in
+    usable_then g.S.Store (adding_edition record_of ∷ []) (with_more_editions (record_of ∷ [])) first new c.requires.usable wrote spares
+
+pub returns-clause-spares : goal.returns-clause-spares
+returns-clause-spares g c =
+    spares_added g.S.Store (codes "edition") (header_row (lent_header c.header_row-row.result)) (g.T.OpenTransaction.held c.args.tx.now) (g.T.OpenTransaction.held c.insert_header.new.tx) c.insert_header.ensures.survives
+    c.insert_header.result c.insert_header.ensures.added c.insert_header.ensures.failed
+
+pub returns-in_err-insert_header-clause-spares : goal.returns-in_err-insert_header-clause-spares
+returns-in_err-insert_header-clause-spares g c =
+    spares_added g.S.Store (codes "edition") (header_row (lent_header c.header_row-row.result)) (g.T.OpenTransaction.held c.args.tx.now) (g.T.OpenTransaction.held c.insert_header.new.tx) c.insert_header.ensures.survives
+    c.insert_header.result c.insert_header.ensures.added c.insert_header.ensures.failed
+
+pub returns-in_err-insert_header-clause-failed : goal.returns-in_err-insert_header-clause-failed
+returns-in_err-insert_header-clause-failed g c =
+    let first = (g.T.OpenTransaction.held c.args.tx.now) in
+    let new = (g.T.OpenTransaction.held c.insert_header.new.tx) in
+    let record_of = edition_record c.args.owner.now c.args.number c.args.edition.now in
+    let e = c.in_err-insert_header.field-0.0 in
+    passed_on (FailsToWrite g.S.Store (adding_edition record_of ∷ []) first new) e c.from_residual.result c.from_residual.ensures.1
+    (failed_header g.S.Store (lent_header c.header_row-row.result) record_of c.header_row-row.ensures first new c.insert_header.ensures.survives e c.in_err-insert_header.ensures.failed)
