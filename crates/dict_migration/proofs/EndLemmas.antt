@@ -1,29 +1,26 @@
 -- What a migration that was committed leaves.
-use Rattle.std.proofs.Common.{◌≡◌, ◌≢◌, ◌∙◌, ◌==◌, ◌<◌, ◌≤◌, ℕ, ℤ, pos, true, false, List, [], ◌∷◌, ◌++◌, map, Some, None, refl, sym, ap, subst, arith}
-use Rattle.std.specs.Prelude.{IsTrue, flat_map}
+use Rattle.std.proofs.Common.{◌≡◌, ◌∙◌, ◌==◌, ◌<◌, ◌≤◌, ℕ, ℤ, pos, true, false, List, [], ◌∷◌, ◌++◌, map, Some, None, refl, sym, ap, subst}
 use Rattle.sqlite.specs.Effect.{Database, IsDatabase}
 use Rattle.sqlite.specs.Held.{Held, state}
-use Rattle.sqlite.specs.Schema.{Schema}
-use Rattle.sqlite.specs.State.{State, HasCleanDisk, Survives}
+use Rattle.sqlite.specs.State.{State}
 use Rattle.sqlite.specs.Tree.{Trees}
-use Rattle.sqlite.proofs.StateLemmas.{survives_weaker}
 use Rattle.sqlite_trees.specs.declared.store.Store.{Ghosts}
 use Rattle.dict_index.specs.Edition.{Edition}
 use Rattle.dict_catalogue.specs.Items.{Item, regular, virtual, edition_numbers, item_as, numbers_of}
 use Rattle.dict_catalogue.specs.Steps.{Catalogue, summary_of}
 use Rattle.dict_catalogue.specs.Tests.{Holdings}
 use Rattle.dict_tables.proofs.MadeLemmas.{differ}
-use Rattle.dict_sql.specs.Effects.{HasApartRowids, rows_of}
-use Rattle.dict_rows.specs.Versions.{Layout, Plain, Keyed, layout_of, known}
+use Rattle.dict_rows.specs.Versions.{Layout, Plain, Keyed, Shown, layout_of, known}
 use Rattle.dict_holdings.specs.Holds.{HasLayout, Holds, IsLeftAs, Rests}
-use Rattle.dict_migration.specs.Migrated.{HoldsOlder, IsMigrated, MayMigrate}
+use Rattle.dict_migration.specs.Migrated.{IsMigrated, MayMigrate}
 use Rattle.dict_migration.specs.Moved.{AreTreesOf, IsOutcome}
 use Rattle.dict_migration.specs.Older.{IsOld, layout_as}
-use Rattle.dict_migration.specs.declared.aside.Older.{Older}
+use Rattle.dict_migration.specs.declared.older.Older.{Older}
 use Rattle.dict_migration.proofs.MovedLemmas.{moved}
 use Rattle.dict_migration.proofs.StopLemmas.{migrated}
 
-pub outcome_of : {S : Type 0} (g : Ghosts S) (older : Older) (numbers : List ℤ) (installs : ℕ) (old begun : Held S) (new : Database) → begun ≡ record old { in_transaction = true } → IsOutcome older numbers installs (state g begun) new → IsOutcome older numbers installs (state g old) new
+pub outcome_of : {S : Type 0} (g : Ghosts S) (older : Older) (numbers : List ℤ) (installs : ℕ) (old begun : Held S) (new : Database) → begun ≡ record old { in_transaction = true }
+    → IsOutcome older numbers installs (state g begun) new → IsOutcome older numbers installs (state g old) new
 outcome_of g older numbers installs old begun new is it =
     let there = subst (λ h. IsOutcome older numbers installs (state g h) new) is it in
     record { was_open = there.was_open; moved = there.moved }
@@ -50,8 +47,11 @@ summary_installs N summary is = ap (λ (s : Holdings (List ℕ)). s.installs) (s
 pub plain_one : (version : ℕ) → version ≡ 1 → layout_of version ≡ Plain
 plain_one version is = ap layout_of is
 
-pub keyed_other : (version : ℕ) → (version == 1) ≡ false → version < 4 → layout_of version ≡ Keyed
-keyed_other version other low = rw (other, differ version 4 low) refl
+pub shown_four : (version : ℕ) → version ≡ 4 → layout_of version ≡ Shown
+shown_four version is = ap layout_of is
+
+pub keyed_other : (version : ℕ) → (version == 1) ≡ false → (version == 4) ≡ false → version < 5 → layout_of version ≡ Keyed
+keyed_other version one four low = rw (one, four, differ version 5 low) refl
 
 -- ---- a store at rest that holds a catalogue under an older version
 
@@ -64,7 +64,8 @@ is_old version older is s N rests sound =
       marks = held.keeps.0.apart;
     }
 
-module _ (version : ℕ) (older : Older) (is : layout_of version ≡ layout_as older) (s : State) (N : Catalogue) (rests : Rests version s N) (sound : IsDatabase s.now) (numbers : List ℤ) (installs : ℕ) (numbers_are : numbers ≡ map pos (edition_numbers N.items)) (installs_are : installs ≡ N.installs) where
+module _ (version : ℕ) (older : Older) (is : layout_of version ≡ layout_as older) (s : State) (N : Catalogue) (rests : Rests version s N) (sound : IsDatabase s.now)
+    (numbers : List ℤ) (installs : ℕ) (numbers_are : numbers ≡ map pos (edition_numbers N.items)) (installs_are : installs ≡ N.installs) where
   pub outcome_migrated : (new : Database) → IsOutcome older numbers installs s new → IsMigrated version s.committed new
   outcome_migrated new it =
       let held : Holds version s.now N = subst (λ (d : Database). Holds version d N) (sym rests.settled) rests.holds in

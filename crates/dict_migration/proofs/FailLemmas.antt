@@ -1,11 +1,12 @@
 -- Where a part of a migration fails.
-use Rattle.std.proofs.Common.{◌≡◌, ◌⊎◌, ◌∙◌, ℕ, ℤ, List, true, codes, inl, inr, ap, refl, subst}
+use Rattle.std.proofs.Common.{◌≡◌, ◌⊎◌, ◌∙◌, ◌++◌, ◌∷◌, ℕ, List, true, inl, inr, ap, refl, subst}
 use Rattle.sqlite.specs.Order.{Row}
 use Rattle.sqlite.specs.State.{State, Survives}
 use Rattle.sqlite.specs.declared.error.Error.{Error}
 use Rattle.sqlite.specs.Held.{Held, state}
 use Rattle.sqlite.proofs.StateLemmas.{survives_then}
 use Rattle.sqlite_trees.specs.declared.store.Store.{Ghosts}
+use Rattle.dict_sql.specs.Drops.{FailsToDrop}
 use Rattle.dict_sql.specs.Inserts.{FailsToInsert}
 use Rattle.dict_sql.specs.declared.records.ReadError.{ReadError}
 use Rattle.dict_sql.specs.declared.records.ReadError.TheVariants.{NoRecord, Store}
@@ -14,11 +15,10 @@ use Rattle.dict_catalogue.specs.Tests.{Holdings}
 use Rattle.dict_desk.specs.declared.fault.Fault.{Fault}
 use Rattle.dict_desk.specs.declared.fault.Fault.TheVariants.{Memory, Disk}
 use Rattle.dict_holdings.specs.Faults.{fault_of_read}
-use Rattle.dict_migration_sql.specs.Copied.{FailsToCopy}
 use Rattle.dict_migration_sql.proofs.CopyLemmas.{none_more}
-use Rattle.dict_migration.specs.declared.aside.Older.{Older}
-use Rattle.dict_migration.specs.Parts.{Part, reading, putting, FailsBy}
-use Rattle.dict_migration.specs.Places.{Place, InCopy, columns_of}
+use Rattle.dict_migration.specs.Older.{DroppedInTurn}
+use Rattle.dict_migration.specs.Parts.{Part, FailsBy, dropping}
+use Rattle.dict_migration.specs.Places.{Place, Dropping}
 use Rattle.dict_migration.specs.Failing.{FailsInside, FailsToSign, IsBeyond}
 use Rattle.dict_migration.proofs.PlaceLemmas.{Leads}
 
@@ -28,7 +28,8 @@ module _ {S : Type 0} (g : Ghosts S) where
   fails_here P part old new e place fails = record { at = old; before = none_more (state g old); inside = λ h. h; part = part; place = place; fails = fails }
 
   -- others went well before
-  pub fails_later : (P Q : Place) (old mid new : Held S) (e : ReadError) → Survives (state g old) (state g mid) (λ _. ⊥) → ((state g old).in_transaction ≡ true → (state g mid).in_transaction ≡ true) → Leads P (state g mid).now Q (state g old).now
+  pub fails_later : (P Q : Place) (old mid new : Held S) (e : ReadError) → Survives (state g old) (state g mid) (λ _. ⊥) → ((state g old).in_transaction ≡ true → (state g mid).in_transaction ≡ true)
+      → Leads P (state g mid).now Q (state g old).now
       → FailsInside g P mid new e → FailsInside g Q old new e
   fails_later P Q old mid new e survives inside leads h = record {
     at = h.at;
@@ -43,16 +44,17 @@ module _ {S : Type 0} (g : Ghosts S) where
   pub fails_within : (P Q : Place) (old new : Held S) (e : ReadError) → Leads P (state g old).now Q (state g old).now → FailsInside g P old new e → FailsInside g Q old new e
   fails_within P Q old new e leads h = record { at = h.at; before = h.before; inside = h.inside; part = h.part; place = leads h.part (state g h.at).now h.place; fails = h.fails }
 
-  pub fails_copy : (older : Older) (number : ℤ) (old new : Held S) (e : ReadError) → FailsToCopy g (columns_of older) number old new e → FailsInside g (InCopy older number) old new e
-  fails_copy older number old new NoRecord h = fails_here (InCopy older number) (reading (codes "entry") (columns_of older) number) old new NoRecord (inl (refl, refl)) h
-  fails_copy older number old new (Store e) (inl h) = fails_here (InCopy older number) (reading (codes "entry") (columns_of older) number) old new (Store e) (inl (refl, refl)) h
-  fails_copy older number old new (Store e) (inr h) = record {
-    at = h.at;
-    before = h.before;
-    inside = h.inside;
-    part = putting (codes "dictcat_entry") h.row;
-    place = inr (record { put = h.put; row = h.row; rest = h.rest; these = h.these; is = refl; added = h.added });
-    fails = h.fails;
+  -- a table isn't dropped, behind those before it
+  pub fails_at : (names gone : List (List ℕ)) (name : List ℕ) (rest : List (List ℕ)) → gone ++ name ∷ rest ≡ names → (old mid new : Held S) (e : Error) → Survives (state g old) (state g mid) (λ _. ⊥)
+      → ((state g old).in_transaction ≡ true → (state g mid).in_transaction ≡ true) → DroppedInTurn gone (state g old).now (state g mid).now → FailsToDrop name (state g mid) (state g new) e → FailsInside g
+      (Dropping names) old new (Store e)
+  fails_at names gone name rest these old mid new e survives inside dropped fails = record {
+    at = mid;
+    before = survives;
+    inside = inside;
+    part = dropping name;
+    place = record { gone = gone; name = name; rest = rest; these = these; is = refl; dropped = dropped };
+    fails = fails;
   }
 
 -- a row that wasn't put in, told as another one that is the same

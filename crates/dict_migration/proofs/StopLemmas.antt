@@ -1,5 +1,5 @@
 -- What a migration makes, and what a stop in it leaves.
-use Rattle.std.proofs.Common.{◌≡◌, ◌↔◌, ◌<◌, ◌≤◌, ℕ, List, sym, subst, inl, inr, arith}
+use Rattle.std.proofs.Common.{◌≡◌, ◌↔◌, ℕ, List, sym, subst, inl, inr, arith}
 use Rattle.std.specs.Prelude.{IsTrue, Option, Some, None}
 use Rattle.std.specs.List.{Contains}
 use Rattle.sqlite.specs.Effect.{Database, IsDatabase}
@@ -7,12 +7,12 @@ use Rattle.sqlite.specs.Tree.{Trees}
 use Rattle.sqlite.specs.State.{State, HasCleanDisk, Survives}
 use Rattle.dict_catalogue.specs.Steps.{Catalogue}
 use Rattle.dict_rows.specs.Versions.{known, IsVersion}
-use Rattle.dict_derived.specs.AllTables.{as_version}
-use Rattle.dict_derived.proofs.VersionLemmas.{same_stands}
-use Rattle.dict_holdings.specs.Holds.{Holds, IsHeld, IsLeft, IsLeftAs}
+use Rattle.dict_files.specs.AllTables.{as_version}
+use Rattle.dict_files.proofs.VersionLemmas.{same_stands}
+use Rattle.dict_holdings.specs.Holds.{Holds, IsHeld}
 use Rattle.dict_migration.specs.Migrated.{IsMigrated, HoldsOlder, MayMigrate}
 use Rattle.dict_migration.specs.Leaves.{StandsFor, LeavesOneOf}
-use Rattle.dict_holdings.proofs.OneLemmas.{one_catalogue, one_held, left_held, held_known, left_known}
+use Rattle.dict_holdings.proofs.OneLemmas.{one_catalogue, one_held, left_held, left_known}
 
 pub migrated : (version : ℕ) (old new : Database) (M : Catalogue) → IsMigrated version old new → Holds version old M → Holds known new M
 migrated version old new M m h = record {
@@ -37,7 +37,8 @@ was_left db M (Some N) sound held stands = let same : N ≡ M = one_held db N M 
 clean_before : (old new : State) (P : Trees → Type 0) → Survives old new P → HasCleanDisk new → HasCleanDisk old
 clean_before old new P s clean = omega (arith, s.clean)
 
-pub stopped : (old new : State) → (IsTrue old.is_open → IsDatabase old.committed) → (IsTrue old.is_open → old.may_leave old.committed.trees) → Survives old new (MayMigrate old) → (ms : List (Option Catalogue)) → LeavesOneOf old ms → LeavesOneOf new ms
+pub stopped : (old new : State) → (IsTrue old.is_open → IsDatabase old.committed) → (IsTrue old.is_open → old.may_leave old.committed.trees) → Survives old new (MayMigrate old)
+    → (ms : List (Option Catalogue)) → LeavesOneOf old ms → LeavesOneOf new ms
 stopped old new sound stays survives ms leaves clean trees left =
     let before : HasCleanDisk old = clean_before old new (MayMigrate old) survives clean in
     elim (survives.crash clean trees left) [

@@ -18,7 +18,7 @@ use Rattle.dict_catalogue.specs.Tests.{Holdings}
 use Rattle.dict_rows.specs.Versions.{known, layout_of}
 use Rattle.dict_holdings.specs.Faults.{fault_of_read}
 use Rattle.dict_holdings.specs.Holds.{Holds}
-use Rattle.dict_migration.specs.declared.aside.Older.{Older}
+use Rattle.dict_migration.specs.declared.older.Older.{Older}
 use Rattle.dict_migration.specs.Older.{layout_as}
 use Rattle.dict_migration.specs.Parts.{Part, FailsBy}
 use Rattle.dict_migration.specs.Places.{Place, InMove}

@@ -1,10 +1,11 @@
 pub mod Migrated
 pub mod Leaves
 pub mod Steps
-pub mod UnderWay
 pub mod Older
 pub mod Moved
 pub mod Making
 pub mod Parts
 pub mod Places
 pub mod Failing
+pub mod Written
+pub mod Spared

@@ -3,16 +3,17 @@ use Rattle.std.specs.Prelude.{◌≡◌, ◌⊎◌, ◌++◌, ℕ, true, List, [
 use Rattle.sqlite.specs.Effect.{Database}
 use Rattle.sqlite.specs.State.{State, Survives, Fails, IsRolledBack}
 use Rattle.sqlite.specs.Held.{Held, state}
+use Rattle.sqlite.specs.Table.{Table}
 use Rattle.sqlite.specs.declared.error.Error.{Error}
 use Rattle.sqlite_trees.specs.declared.store.Store.{Ghosts}
 use Rattle.dict_tables.specs.declared.tables.StoreTable.{StoreTable}
-use Rattle.dict_tables.specs.declared.tables.StoreTable.TheVariants.{Mark, Item, Member, Edition, Kept}
-use Rattle.dict_sql.specs.Creates.{FailsToMakeAll}
-use Rattle.dict_sql.specs.Effects.{GoesOn}
+use Rattle.dict_tables.specs.declared.tables.StoreTable.TheVariants.{Mark, Item, Member, Kept}
+use Rattle.dict_sql.specs.Creates.{Makes, FailsToMake}
 use Rattle.dict_sql.specs.Encodings.{mark_row}
 use Rattle.dict_sql.specs.Statements as sql
 use Rattle.dict_sql.specs.Statements.{Statement, make, add}
-use Rattle.dict_keyed_sql.specs.Made.{AreKeyedMade, keyed_trees}
+use Rattle.dict_header_sql.specs.Table.{header}
+use Rattle.dict_part_sql.specs.Table.{part}
 use Rattle.dict_rows.specs.Written.{mark_record}
 use Rattle.dict_desk.specs.declared.fault.Fault.{Fault}
 use Rattle.dict_desk.specs.declared.fault.Fault.TheVariants.{Disk}
@@ -20,26 +21,26 @@ use Rattle.dict_holdings.specs.Faults.{fault_of}
 
 -- the tables of which no version has another form
 abbrev pub lasting_tables : List StoreTable
-lasting_tables = Mark ∷ Item ∷ Member ∷ Edition ∷ Kept ∷ []
+lasting_tables = Mark ∷ Item ∷ Member ∷ Kept ∷ []
 
--- a statement over those, or all that make the tables of what is derived, with their indexes
+-- a statement over those, or a table is made that only the known version has
 pub data Step : Type 0 where
   one : Statement → Step
-  derived_tables : Step
+  making : Table → Step
 
 -- it has done what it says
 abbrev pub Succeeds : Step → State → State → Type 0
 Succeeds (one statement) old new = sql.Succeeds statement old new
-Succeeds derived_tables old new = AreKeyedMade old.now new.now × GoesOn old new
+Succeeds (making table) old new = Makes table old new
 
 -- it failed, for the cause that the error names
 abbrev pub FailsTo : Step → State → State → Error → Type 0
 FailsTo (one statement) old new e = sql.FailsTo statement old new e
-FailsTo derived_tables old new e = FailsToMakeAll keyed_trees old new e
+FailsTo (making table) old new e = FailsToMake table old new e
 
 -- the steps of a creation: each table is made, and then the mark of the empty catalogue is added
 abbrev pub creation : ℕ → List Step
-creation version = map one (map make lasting_tables) ++ derived_tables ∷ one (add (codes "mark") (mark_row (mark_record version 0))) ∷ []
+creation version = map one (map make lasting_tables) ++ making (header 0) ∷ making (part 0) ∷ one (add (codes "mark") (mark_row (mark_record version 0))) ∷ []
 
 module _ {S : Type 0} (g : Ghosts S) where
   -- Each has done what it says, one after the other, and a stop leaves what it left before.

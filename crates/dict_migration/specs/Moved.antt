@@ -1,20 +1,23 @@
 -- A whole migration, before its commit.
-use Rattle.std.specs.Prelude.{◌≡◌, ℕ, ℤ, true, IsTrue, List, codes}
+use Rattle.std.specs.Prelude.{◌≡◌, ℕ, ℤ, true, IsTrue, List, codes, map}
 use Rattle.sqlite.specs.Effect.{Database, IsDatabase}
 use Rattle.sqlite.specs.State.{State}
 use Rattle.sqlite.specs.Tree.{Trees}
 use Rattle.dict_desk.specs.declared.fault.Fault.{Fault}
 use Rattle.dict_desk.specs.declared.fault.Fault.TheVariants.{Refused, Memory, Disk, Closed, NotACatalogue, Damaged, NewerSchema}
-use Rattle.dict_tables.specs.Keyed.{helper}
-use Rattle.dict_sql.specs.Drops.{IsDropped}
+use Rattle.dict_records.specs.Records.{Header}
+use Rattle.dict_sql.specs.Added.{AreAdded}
+use Rattle.dict_sql.specs.Creates.{IsMade}
 use Rattle.dict_sql.specs.Effects.{IsAdded, IsRemoved}
 use Rattle.dict_sql.specs.Encodings.{mark_row}
-use Rattle.dict_keyed_sql.specs.Made.{AreKeyedMade}
+use Rattle.dict_header_sql.specs.Records.{header_row}
+use Rattle.dict_header_sql.specs.Table.{header}
+use Rattle.dict_part_sql.specs.Table.{part}
 use Rattle.dict_rows.specs.Versions.{known}
 use Rattle.dict_rows.specs.Written.{mark_record}
-use Rattle.dict_migration.specs.declared.aside.Older.{Older}
-use Rattle.dict_migration.specs.Older.{IsAside}
-use Rattle.dict_migration.specs.Steps.{AreFiled}
+use Rattle.dict_migration.specs.declared.older.Older.{Older}
+use Rattle.dict_migration.specs.Older.{DroppedInTurn, gone_names}
+use Rattle.dict_migration.specs.Steps.{AreParted}
 
 -- the mark was taken out, and that of the known version was put in, with this count of installs
 pub record IsMarked (installs : ℕ) (old new : Database) : Type 0 where
@@ -22,21 +25,29 @@ pub record IsMarked (installs : ℕ) (old new : Database) : Type 0 where
   pub taken : IsRemoved (codes "mark") (λ _. true) old cleared
   pub put : IsAdded (codes "mark") (mark_row (mark_record known installs)) cleared new
 
--- the old tables were put aside, the new ones were made, and the editions were filed
-pub record IsRefilled (older : Older) (numbers : List ℤ) (old new : Database) : Type 0 where
-  pub put_aside : Database
-  pub with_tables : Database
-  pub aside : IsAside older numbers old put_aside
-  pub made : AreKeyedMade put_aside with_tables
-  pub filed : AreFiled numbers with_tables new
+-- the table of parts was made, the files of these editions were put into it, and the old tables were dropped; these are the
+-- editions' headers
+pub record AreTakenApart (older : Older) (numbers : List ℤ) (headers : List Header) (old new : Database) : Type 0 where
+  pub with_table : Database
+  pub with_files : Database
+  pub made : IsMade (part 0) old with_table
+  pub parted : AreParted older numbers headers with_table with_files
+  pub gone : DroppedInTurn (gone_names older) with_files new
 
--- then the helper was dropped, and the mark was written anew
+-- the table of editions was made again, without texts, and these headers were put in
+pub record AreHeaded (headers : List Header) (old new : Database) : Type 0 where
+  pub with_table : Database
+  pub made : IsMade (header 0) old with_table
+  pub added : AreAdded (codes "edition") (map header_row headers) with_table new
+
+-- all of it, and then the mark was written anew
 pub record IsMoved (older : Older) (numbers : List ℤ) (installs : ℕ) (old new : Database) : Type 0 where
-  pub refilled : Database
-  pub without_helper : Database
-  pub fills : IsRefilled older numbers old refilled
-  pub dropped : IsDropped (helper 0).name refilled without_helper
-  pub marked : IsMarked installs without_helper new
+  pub headers : List Header
+  pub apart : Database
+  pub headed : Database
+  pub takes : AreTakenApart older numbers headers old apart
+  pub heads : AreHeaded headers apart headed
+  pub marked : IsMarked installs headed new
 
 -- what is made of an open store
 pub record IsOutcome (older : Older) (numbers : List ℤ) (installs : ℕ) (old : State) (new : Database) : Type 0 where

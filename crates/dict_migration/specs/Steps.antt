@@ -1,67 +1,83 @@
--- What the parts of a migration do to a database, one edition after the other.
-use Rattle.std.specs.Prelude.{◌≡◌, ◌≤ℤ◌, ℕ, ℤ, false, List, [], ◌∷◌, map, drop, filter, codes, IsPermutation}
-use Rattle.std.specs.List.{AllByRecursion}
-use Rattle.sqlite.specs.Effect.{Database}
-use Rattle.sqlite.specs.Table.{Table}
-use Rattle.sqlite_schema.specs.Names.{same_name}
-use Rattle.dict_records.specs.Records.{Entry, ShowsHeadword}
-use Rattle.dict_match.specs.Key.{key_of}
-use Rattle.dict_tables.specs.Definitions.{IsDefinition}
-use Rattle.dict_tables.specs.Found.{HasOwn}
+-- What is read of an edition of an older version, and how its files are put in.
+use Rattle.std.specs.Prelude.{◌≡◌, ◌≤ℤ◌, ◌<◌, ◌^◌, ℕ, pos, negsuc, false, ℤ, List, [], ◌∷◌, map, drop, filter, codes, IsPermutation}
+use Rattle.sqlite.specs.Does.{lacks_sequence}
+use Rattle.sqlite.specs.Effect.{Database, IsDatabase}
+use Rattle.sqlite.specs.Order.{Row}
+use Rattle.dict_records.specs.Records.{Edition, Entry, Header, header_of}
+use Rattle.dict_index_lines.specs.Stored.{IsColumn}
 use Rattle.dict_sql.specs.Added.{AreAdded}
-use Rattle.dict_tables.specs.Keyed as keyed
 use Rattle.dict_sql.specs.Effects.{Has, equals_number, rows_of}
-use Rattle.dict_sql.specs.Encodings.{entry_row}
-use Rattle.dict_sql.specs.Keyed.{keyed_entry_row, piece_row}
-use Rattle.dict_migration_sql.specs.Copied.{IsCopied}
+use Rattle.dict_sql.specs.Encodings.{edition_row}
+use Rattle.dict_tables.specs.Room.{LeavesRoom}
+use Rattle.dict_tables.specs.Tables.{edition}
+use Rattle.dict_header_sql.specs.Table.{header}
+use Rattle.dict_part_sql.specs.Records.{part_row}
+use Rattle.dict_part_sql.specs.Table.{part}
+use Rattle.dict_migration_sql.specs.Entries.{entry_of}
 use Rattle.dict_rows.specs.Order.{InOrder}
-use Rattle.dict_derived.specs.Entries.{filed, derived_from}
-use Rattle.dict_derived.specs.declared.reader.Pieces.TheVariants.{Words, Grams}
+use Rattle.dict_files.specs.Files.{index_octets, parts_under}
+use Rattle.dict_holdings.specs.Readings.{AreShownIn}
+use Rattle.dict_migration.specs.declared.older.Older.{Older}
+use Rattle.dict_migration.specs.Older.{entry_cells, form_of, layout_as, looked_at}
 
--- the entries of these editions were put aside, one edition after the other
-abbrev pub AreCopied : List ℤ → Database → Database → Type 0
-AreCopied [] old new = new ≡ old
-AreCopied (number ∷ numbers) old new = (mid : Database) × IsCopied number old mid × AreCopied numbers mid new
+-- the rows of the editions and of the entries that have the number
+abbrev pub edition_rows : ℤ → Database → List Row
+edition_rows number db = filter (equals_number 1 number) (rows_of (codes "edition") db)
 
--- the entries of an edition that wait, in their order
-pub record Wait (number : ℤ) (db : Database) (entries : List Entry) : Type 0 where
-  pub rows : IsPermutation (map entry_row entries) (map (drop 1) (filter (equals_number 1 number) (rows_of (codes "dictcat_entry") db)))
+abbrev pub entry_rows : ℤ → Database → List Row
+entry_rows number db = filter (equals_number 1 number) (rows_of (codes "entry") db)
+
+-- one record has the number, and this is it
+abbrev pub IsEditionOf : ℤ → Database → Edition → Type 0
+IsEditionOf number db edition = IsPermutation (edition_row edition ∷ []) (map (drop 1) (edition_rows number db))
+
+-- these are the entries that have the number, in their order, each with what is shown of it
+pub record AreEntriesOf (older : Older) (number : ℤ) (db : Database) (entries : List Entry) : Type 0 where
+  pub rows : IsPermutation (map (entry_cells older) entries) (map (λ row. drop 1 (looked_at older row)) (entry_rows number db))
   pub order : InOrder (λ a b. a.ord ≤ℤ b.ord) entries
-  pub shown : AllByRecursion ShowsHeadword entries
+  pub shown : AreShownIn (layout_as older) entries
 
-abbrev pub keys_of : List Entry → List (List ℕ)
-keys_of entries = map (λ (e : Entry). key_of e.headword) entries
-
--- An edition's entries that wait were filed: each with its key, then the words of all keys, and then their grams. Each table
--- else is as it was.
-pub record IsFiledOne (number : ℤ) (old new : Database) : Type 0 where
+-- the octets are those of their lines
+pub record IsIndexOf (older : Older) (number : ℤ) (db : Database) (octets : List ℕ) : Type 0 where
   pub entries : List Entry
-  pub wait : Wait number old entries
-  pub with_entries : Database
-  pub with_words : Database
-  pub filed : AreAdded (codes "entry") (map keyed_entry_row (map filed entries)) old with_entries
-  pub words : AreAdded (codes "word") (map piece_row (derived_from Words number 0 (keys_of entries))) with_entries with_words
-  pub grams : AreAdded (codes "gram") (map piece_row (derived_from Grams number 0 (keys_of entries))) with_words new
+  pub lines : AreEntriesOf older number db entries
+  pub written : octets ≡ index_octets entries
+
+-- a number that has at most six digits in base 64
+abbrev pub IsShort : ℤ → Type 0
+IsShort (pos n) = n < 64 ^ 6
+IsShort (negsuc n) = ⊥
+
+-- The entry has a line: its texts are columns, and its numbers have a spelling. Each entry of a file that holds a catalogue has one.
+pub record HasLine (e : Entry) : Type 0 where
+  pub headword : IsColumn e.headword
+  pub shown : IsColumn e.shown
+  pub start : IsShort e.start
+  pub length : IsShort e.length
+
+-- The files of an edition were put in, in parts: its index, which is made of its entries, and its text. This is its header.
+pub record IsPartedOne (older : Older) (number : ℤ) (header : Header) (old new : Database) : Type 0 where
+  pub edition : Edition
+  pub entries : List Entry
+  pub one : IsEditionOf number old edition
+  pub header_is : header ≡ header_of edition
+  pub lines : AreEntriesOf older number old entries
+  pub added : AreAdded (codes "dictcat_part") (map part_row (parts_under number (index_octets entries) edition.body)) old new
 
 -- the same of these editions, one after the other
-abbrev pub AreFiled : List ℤ → Database → Database → Type 0
-AreFiled [] old new = new ≡ old
-AreFiled (number ∷ numbers) old new = (mid : Database) × IsFiledOne number old mid × AreFiled numbers mid new
+abbrev pub AreParted : Older → List ℤ → List Header → Database → Database → Type 0
+AreParted older [] headers old new = (headers ≡ []) × (new ≡ old)
+AreParted older (number ∷ numbers) headers old new =
+    (mid : Database) × (header : Header) × (rest : List Header) × (headers ≡ header ∷ rest) × IsPartedOne older number header old mid × AreParted older numbers rest mid new
 
--- the name is none of the tables that are dropped, made again or made between
-pub record IsBeside (name : List ℕ) : Type 0 where
-  pub entries : same_name name (codes "entry") ≡ false
-  pub words : same_name name (codes "word") ≡ false
-  pub grams : same_name name (codes "gram") ≡ false
-  pub helper : same_name name (codes "dictcat_entry") ≡ false
+-- the tables that an edition's files are read from and put into
+pub record HasThree (older : Older) (db : Database) : Type 0 where
+  pub editions : Has edition db
+  pub entries : Has (entry_of (form_of older)) db
+  pub parts : Has part db
 
--- each of the other tables that was had is had still, with the rows that it had
-abbrev pub Spares : Database → Database → Type 0
-Spares old new = (other : ℕ → Table) → IsDefinition other → IsBeside (other 0).name → HasOwn old.schema other → HasOwn new.schema other × (rows_of (other 0).name new ≡ rows_of (other 0).name old)
-
--- the tables that editions are filed from and into
-pub record HasFour (db : Database) : Type 0 where
-  pub helper : Has keyed.helper db
-  pub entries : Has keyed.entry db
-  pub words : Has keyed.word db
-  pub grams : Has keyed.gram db
+-- there is room for the table of headers, and no table waits for its counter
+pub record MayBeHeaded (db : Database) : Type 0 where
+  pub room : LeavesRoom db.schema (header 0)
+  pub counted : lacks_sequence db.schema ≡ false
+  pub sound : IsDatabase db

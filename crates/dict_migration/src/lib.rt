@@ -1,13 +1,17 @@
 //! From the tables of an older version to those of the known one, in one transaction, and the empty ones made.
 #![tactic(auto)]
 
-mod aside;
-mod filing;
+mod dropping;
+mod editions;
+mod files;
+mod heading;
+mod index;
 mod laws;
+mod lines;
 mod making;
 mod marking;
 mod migrating;
-mod pieces;
+mod older;
 
 pub use laws::{migrated_holds, stopped_migration};
 pub use making::create;

@@ -13,10 +13,12 @@ ghost use Rattle.dict_desk.specs.Faults.{is_disk};
 ghost use Rattle.dict_holdings.specs.Holds.{Holds, Rests, IsLeftAs, HasPlace};
 ghost use Rattle.dict_holdings.specs.Writing.{Stays, IsOfCreation};
 ghost use Rattle.dict_migration.specs.Making.{creation, FailsToEnd, RunInTurn, FailsInTurn};
+ghost use Rattle.dict_migration.specs.Spared.{SparesOthers};
 
 use dict_desk::Fault;
+use dict_header_sql::create_header_table;
 use dict_holdings::{fault_of, has_place};
-use dict_keyed_sql::create_keyed_tables;
+use dict_part_sql::create_part_table;
 use dict_rows::{KNOWN_VERSION, mark_row};
 use dict_sql::commit::commit;
 use dict_sql::create::create_table;
@@ -41,12 +43,13 @@ fn make_each<S: Alter>(tx: &mut Transaction<'_, S>, tables: &[StoreTable]) -> Re
     Ok(())
 }
 
-// Makes the tables and the indexes, with the mark of the empty catalogue.
+// Makes the tables, with the mark of the empty catalogue.
 fn make_all<S: Alter>(tx: &mut Transaction<'_, S>) -> Result<(), Error>
     requires ready { WhileOpen (seen S.Store tx.old) IsReady }
     requires place { WhileOpen (seen S.Store tx.old) (λ db. HasPlace db.schema) }
     ensures same_reference { tx.new.conn.ghost_name ≡ tx.old.conn.ghost_name }
     ensures made { HasCleanDisk (seen S.Store tx.new) → OnOk result (Holds known (seen S.Store tx.new).now empty_catalogue × IsDatabase (seen S.Store tx.new).now) }
+    ensures spares { HasCleanDisk (seen S.Store tx.new) → OnOk result (SparesOthers (seen S.Store tx.old).now (seen S.Store tx.new).now) }
     ensures inside { HasCleanDisk (seen S.Store tx.new) → OnOk result ((seen S.Store tx.new).in_transaction ≡ true) }
     ensures ran { HasCleanDisk (seen S.Store tx.new) → OnOk result (RunInTurn S.Store (creation known) tx.old.conn.now tx.new.conn.now) }
     ensures failed { HasCleanDisk (seen S.Store tx.new) → IfErr result (FailsInTurn S.Store (creation known) tx.old.conn.now tx.new.conn.now) }
@@ -59,27 +62,28 @@ fn make_all<S: Alter>(tx: &mut Transaction<'_, S>) -> Result<(), Error>
             StoreTable::Mark,
             StoreTable::Item,
             StoreTable::Member,
-            StoreTable::Edition,
             StoreTable::Kept,
         ],
     )?;
-    create_keyed_tables(tx)?;
+    create_header_table(tx)?;
+    create_part_table(tx)?;
     let mark = mark_row(KNOWN_VERSION, 0);
     insert_mark(tx, &mark)?;
     Ok(())
 }
 
-/// Makes the tables and the indexes of the known version, of the empty catalogue, in a database that has none of them, by one
+/// Makes the tables of the known version, of the empty catalogue, in a database that has none of them, by one
 /// commit.
 ///
 /// `NotACatalogue` tells that there is no place for them: one of their names is in use, or a name that is kept for the product,
-/// or a table waits for its counter. `Memory` tells that a growth was refused before the commit. After both all is as it was.
+/// or a table waits for its counter. The tables of others stay as they are. `Memory` tells that a growth was refused before the commit. After both all is as it was.
 /// `Disk` tells that a statement failed for another cause, or that the commit did for any: once the file is opened anew, the
 /// tables are there whole or not at all. These are all faults of it.
 pub fn create<S: Alter>(conn: &mut Connection<S>) -> Result<(), Fault>
     requires { conn.old.in_transaction ≡ false }
     ensures rests { HasCleanDisk (state S.Store conn.new) → OnOk result (Rests known (state S.Store conn.new) empty_catalogue) }
     ensures only { HasCleanDisk (state S.Store conn.new) → OnOk result ((trees : _) → (state S.Store conn.new).may_leave trees → IsLeftAs known empty_catalogue trees) }
+    ensures spares { HasCleanDisk (state S.Store conn.new) → OnOk result (SparesOthers (state S.Store conn.old).now (state S.Store conn.new).now) }
     ensures place { OnOk result (HasPlace (state S.Store conn.old).now.schema) }
     ensures no_place { (result ≡ Err Fault.NotACatalogue) ↔ (HasPlace (state S.Store conn.old).now.schema → ⊥) }
     ensures unchanged { result ≡ Err Fault.NotACatalogue → conn.new ≡ conn.old }

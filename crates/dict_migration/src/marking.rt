@@ -1,17 +1,14 @@
-// The end of a migration: the helper goes, and the mark is that of the known version.
+// The end of a migration: the mark is that of the known version.
 ghost use Rattle.std.specs.Prelude.{◌≡◌, ◌≤◌, true, IfErr, OnOk};
 ghost use Rattle.sqlite.specs.State.{HasCleanDisk, KeepsCommit, Survives};
-ghost use Rattle.dict_tables.specs.Keyed.{helper};
 ghost use Rattle.dict_tables.specs.Tables.{mark};
 ghost use Rattle.dict_sql.specs.Deletes.{HasToRemove};
-ghost use Rattle.dict_sql.specs.Drops.{IsDropped};
 ghost use Rattle.dict_sql.specs.Effects.{WhileOpen, seen};
 ghost use Rattle.dict_migration.specs.Moved.{IsMarked};
 ghost use Rattle.dict_sql.specs.declared.records.ReadError.TheVariants.{Store};
 ghost use Rattle.dict_migration.specs.Places.{InMark};
 ghost use Rattle.dict_migration.specs.Failing.{FailsInside};
 
-use dict_migration_sql::drop_helper;
 use dict_rows::{KNOWN_VERSION, mark_row};
 use dict_sql::delete::clear_table;
 use dict_sql::insert::insert_mark;

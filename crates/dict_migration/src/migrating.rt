@@ -8,24 +8,28 @@ ghost use Rattle.dict_catalogue.specs.Items.{edition_numbers as numbers_in};
 ghost use Rattle.dict_catalogue.specs.Steps.{Catalogue, summary_of};
 ghost use Rattle.dict_catalogue.specs.Views.{summary_shown};
 ghost use Rattle.dict_desk.specs.Faults.{is_disk};
+ghost use Rattle.dict_records.specs.Typed.{owned_header};
 ghost use Rattle.dict_rows.specs.Versions.{layout_of, known};
 ghost use Rattle.dict_sql.specs.Effects.{WhileOpen, seen};
 ghost use Rattle.dict_holdings.specs.Holds.{Holds, IsLeftAs, Rests};
 ghost use Rattle.dict_holdings.specs.Writing.{Stays};
 ghost use Rattle.dict_migration.specs.Migrated.{IsMigrated, MayMigrate};
-ghost use Rattle.dict_migration.specs.Moved.{AreTreesOf, IsCommitted, IsOfMigration, IsOutcome, IsRefilled};
+ghost use Rattle.dict_migration.specs.Moved.{AreTakenApart, AreTreesOf, IsCommitted, IsOfMigration, IsOutcome};
 ghost use Rattle.dict_migration.specs.Older.{IsOld, layout_as};
-ghost use Rattle.dict_migration.specs.Places.{InMove, InRefill};
+ghost use Rattle.dict_migration.specs.Places.{InApart, InMove};
+ghost use Rattle.dict_migration.specs.Spared.{SparesOthers};
 ghost use Rattle.dict_migration.specs.Failing.{FailsInside, FailsToEnd, FailsToMigrate, FailsToSign};
 
-use crate::aside::{Older, put_aside};
-use crate::filing::file_editions;
+use crate::dropping::drop_old;
+use crate::editions::part_editions;
+use crate::heading::head_editions;
 use crate::marking::renew_mark;
+use crate::older::Older;
 use dict_catalogue::{Summary, edition_numbers};
 use dict_desk::Fault;
 use dict_holdings::fault_of_read;
-use dict_keyed_sql::create_keyed_tables;
-use dict_migration_sql::drop_helper;
+use dict_part_sql::create_part_table;
+use dict_records::Header;
 use dict_sql::commit::commit;
 use dict_sql::records::ReadError;
 use sqlite::{Alter, Connection, Transaction};
@@ -34,25 +38,26 @@ use std::alloc::Global;
 /// The greatest number that a column holds.
 const MAX_NUMBER: u64 = 9_223_372_036_854_775_807;
 
-// Puts the old tables aside, makes the new ones, and files these editions.
-fn refill<S: Alter>(
+// Makes the table of parts, puts the files of these editions in, and drops the old tables. It answers the editions' headers.
+fn take_apart<S: Alter>(
     alloc: Global,
     tx: &mut Transaction<'_, S>,
     layout: Older,
     numbers: &[i64],
-) -> Result<(), ReadError>
+) -> Result<Vec<Header<String>>, ReadError>
     requires { WhileOpen (seen S.Store tx.old) (IsOld layout) }
     ensures same_reference { tx.new.conn.ghost_name ≡ tx.old.conn.ghost_name }
-    ensures filled { HasCleanDisk (seen S.Store tx.new) → OnOk result (IsRefilled layout numbers.now (seen S.Store tx.old).now (seen S.Store tx.new).now) }
+    ensures apart { HasCleanDisk (seen S.Store tx.new) → IfOk result (λ headers. AreTakenApart layout numbers.now (map owned_header headers.items) (seen S.Store tx.old).now (seen S.Store tx.new).now) }
+    ensures opened { HasCleanDisk (seen S.Store tx.new) → OnOk result (IsTrue (seen S.Store tx.old).is_open) }
     ensures inside { HasCleanDisk (seen S.Store tx.new) → OnOk result ((seen S.Store tx.new).in_transaction ≡ true) }
-    ensures failed { HasCleanDisk (seen S.Store tx.new) → IfErr result (FailsInside S.Store (InRefill layout numbers.now) tx.old.conn.now tx.new.conn.now) }
+    ensures failed { HasCleanDisk (seen S.Store tx.new) → IfErr result (FailsInside S.Store (InApart layout numbers.now) tx.old.conn.now tx.new.conn.now) }
     ensures keeps { HasCleanDisk (seen S.Store tx.new) → KeepsCommit (seen S.Store tx.old) (seen S.Store tx.new) }
     ensures survives { Survives (seen S.Store tx.old) (seen S.Store tx.new) (λ _. ⊥) }
 {
-    put_aside(alloc, tx, layout, numbers)?;
-    create_keyed_tables(tx)?;
-    file_editions(alloc, tx, numbers)?;
-    Ok(())
+    create_part_table(tx)?;
+    let headers = part_editions(alloc, tx, layout, numbers)?;
+    drop_old(tx, layout)?;
+    Ok(headers)
 }
 
 // All that is done before the commit.
@@ -72,8 +77,8 @@ fn migrate_inside<S: Alter>(
     ensures keeps { HasCleanDisk (seen S.Store tx.new) → KeepsCommit (seen S.Store tx.old) (seen S.Store tx.new) }
     ensures survives { Survives (seen S.Store tx.old) (seen S.Store tx.new) (λ _. ⊥) }
 {
-    refill(alloc, tx, layout, numbers)?;
-    drop_helper(tx)?;
+    let headers = take_apart(alloc, tx, layout, numbers)?;
+    head_editions(tx, &headers)?;
     renew_mark(tx, installs)?;
     Ok(())
 }
@@ -144,14 +149,17 @@ fn older_layout(version: u64) -> Older
     ensures { layout_of version ≡ layout_as result }
 {
     if version == 1 {
-        Older::Plain
-    } else {
-        Older::Keyed
+        return Older::Plain;
     }
+    if version == 4 {
+        return Older::Shown;
+    }
+    Older::Keyed
 }
 
-/// Makes of the tables of an older version those of the known one, by one commit: of the same catalogue, each entry with its key,
-/// and the words and the grams of all keys. The record of an edition, with its text, stays as it was. It holds one edition at a time.
+/// Makes of the tables of an older version those of the known one, by one commit: of the same catalogue, the index of each edition,
+/// with what is shown of each entry, and its text as parts of files. What an older version derived of headwords isn't looked at. It
+/// holds one edition at a time. The tables of others stay as they are.
 ///
 /// `Memory` tells that a growth was refused before the commit: all is as it was. `Disk` tells that a statement failed for
 /// another cause, or the commit did, for whatever cause: the next opening finds the catalogue under the older version or under
@@ -167,6 +175,7 @@ pub fn migrate<S: Alter>(
     requires holds { HasCleanDisk (state S.Store conn.old) → IsTrue (state S.Store conn.old).is_open → (M : Catalogue) × Rests version (state S.Store conn.old) M × (summary_of M ≡ summary_shown summary.now) }
     ensures rests { HasCleanDisk (state S.Store conn.new) → OnOk result ((M : Catalogue) → Holds version (state S.Store conn.old).committed M → Rests known (state S.Store conn.new) M) }
     ensures migrated { HasCleanDisk (state S.Store conn.new) → OnOk result (IsMigrated version (state S.Store conn.old).committed (state S.Store conn.new).committed) }
+    ensures spares { HasCleanDisk (state S.Store conn.new) → OnOk result (SparesOthers (state S.Store conn.old).committed (state S.Store conn.new).committed) }
     ensures only { HasCleanDisk (state S.Store conn.new) → OnOk result ((M : Catalogue) → Holds version (state S.Store conn.old).committed M → (trees : Trees) → (state S.Store conn.new).may_leave trees → IsLeftAs known M trees) }
     ensures lives { HasCleanDisk (state S.Store conn.new) → IsTrue (state S.Store conn.new).is_open → IsTrue (state S.Store conn.old).is_open }
     ensures stays { HasCleanDisk (state S.Store conn.new) → OnErr result (Stays (state S.Store conn.old) (state S.Store conn.new)) }

@@ -10,6 +10,8 @@ use Rattle.dict_migration.specs.Making.{creation, RunInTurn, FailsInTurn}
 use Rattle.dict_holdings.proofs.CommitLemmas.{leaves, only_left, done, before_commit, commit_fails, keeps_begun, stays_undone}
 use Rattle.dict_migration.proofs.making.create.Goals as goal
 use Rattle.dict_rows.specs.Versions.{known}
+use Rattle.dict_migration.specs.Spared.{SparesOthers}
+use Rattle.sqlite.specs.Effect.{Database}
 
 pub returns-in-Ok-clause-rests : goal.returns-in-Ok-clause-rests
 returns-in-Ok-clause-rests g c clean =
@@ -23,6 +25,21 @@ returns-in-Ok-clause-rests g c clean =
     let rests : Rests known (state g.S.Store end) empty_catalogue = record { is_open = shown.is_open; settled = shown.now_is ∙ sym shown.committed_is; holds = there } in
     subst (λ h. Rests known (state g.S.Store h) empty_catalogue) same rests
 
+pub returns-in-Ok-clause-spares : goal.returns-in-Ok-clause-spares
+returns-in-Ok-clause-spares g c clean =
+    let old = c.args.conn.now in
+    let begun = c.transaction-tx.result.conn.now in
+    let mid = c.make_all.new.tx.conn.now in
+    let end = c.commit.new.tx.0 in
+    let same : end ≡ c.conn-2-1.given.0 = search rules in
+    let late : HasCleanDisk (state g.S.Store end) = search rules in
+    let early : HasCleanDisk (state g.S.Store mid) = before_commit g.S.Store old begun mid end (λ db. Holds known db empty_catalogue) c.transaction-tx.ensures.begun
+    c.make_all.ensures.survives c.commit.ensures.survives c.in_default.ensures.made late in
+    let shown = (c.in-Ok.ensures.committed late).1 in
+    let spares : SparesOthers (state g.S.Store old).now (state g.S.Store mid).now = subst (λ h. SparesOthers (state g.S.Store h).now (state g.S.Store mid).now) c.transaction-tx.ensures.begun (c.in_default.ensures.spares early) in
+    let there = subst (λ (d : Database). SparesOthers (state g.S.Store old).now d) (sym shown.now_is) spares in
+    subst (λ h. SparesOthers (state g.S.Store old).now (state g.S.Store h).now) same there
+
 pub returns-in-Ok-clause-only : goal.returns-in-Ok-clause-only
 returns-in-Ok-clause-only g c clean =
     let old = c.args.conn.now in
@@ -32,7 +49,8 @@ returns-in-Ok-clause-only g c clean =
     let same : end ≡ c.conn-2-1.given.0 = search rules in
     let late : HasCleanDisk (state g.S.Store end) = search rules in
     let shown = (c.in-Ok.ensures.committed late).1 in
-    let there = only_left g.S.Store old begun mid end (λ db. Holds known db empty_catalogue) c.transaction-tx.ensures.begun c.make_all.ensures.survives c.commit.ensures.survives c.in_default.ensures.made late shown (c.in-Ok.ensures.only late) in
+    let there = only_left g.S.Store old begun mid end (λ db. Holds known db empty_catalogue) c.transaction-tx.ensures.begun
+    c.make_all.ensures.survives c.commit.ensures.survives c.in_default.ensures.made late shown (c.in-Ok.ensures.only late) in
     subst (λ h. (trees : Trees) → (state g.S.Store h).may_leave trees → IsLeftAs known empty_catalogue trees) same there
 
 pub returns-in-Ok-clause-crash : goal.returns-in-Ok-clause-crash
@@ -77,7 +95,8 @@ returns-in-Err-commit-clause-failed g c clean other =
     let end = c.commit.new.tx.0 in
     let same : end ≡ c.conn-2-1.given.0 = search rules in
     let late : HasCleanDisk (state g.S.Store end) = search rules in
-    let early : HasCleanDisk (state g.S.Store mid) = before_commit g.S.Store old begun mid end (λ db. Holds known db empty_catalogue) c.transaction-tx.ensures.begun c.make_all.ensures.survives c.commit.ensures.survives c.in_default.ensures.made late in
+    let early : HasCleanDisk (state g.S.Store mid) = before_commit g.S.Store old begun mid end (λ db. Holds known db empty_catalogue) c.transaction-tx.ensures.begun
+    c.make_all.ensures.survives c.commit.ensures.survives c.in_default.ensures.made late in
     inr (record {
       told = refl;
       last = mid;
@@ -85,7 +104,8 @@ returns-in-Err-commit-clause-failed g c clean other =
       before = survives_begin g.S.Store old (state g.S.Store mid) (λ _. ⊥) (subst (λ h. Survives (state g.S.Store h) (state g.S.Store mid) (λ _. ⊥)) c.transaction-tx.ensures.begun c.make_all.ensures.survives);
       written = (c.in_default.ensures.made early).0;
       error = c.in-Err-commit.field-0;
-      fails = subst (λ h. Fails (state g.S.Store mid) (state g.S.Store h) ⊥ c.in-Err-commit.field-0) same (commit_fails (state g.S.Store mid) (state g.S.Store end) c.in-Err-commit.field-0 (c.in_default.ensures.inside early) (c.in-Err-commit.ensures.failed late));
+      fails = subst (λ h. Fails (state g.S.Store mid) (state g.S.Store h) ⊥ c.in-Err-commit.field-0) same
+          (commit_fails (state g.S.Store mid) (state g.S.Store end) c.in-Err-commit.field-0 (c.in_default.ensures.inside early) (c.in-Err-commit.ensures.failed late));
     })
 
 pub returns-in-Err-commit-clause-stays : goal.returns-in-Err-commit-clause-stays
@@ -96,7 +116,8 @@ returns-in-Err-commit-clause-stays g c clean =
     let end = c.commit.new.tx.0 in
     let same : end ≡ c.conn-2-1.given.0 = search rules in
     let late : HasCleanDisk (state g.S.Store end) = search rules in
-    let early : HasCleanDisk (state g.S.Store mid) = before_commit g.S.Store old begun mid end (λ db. Holds known db empty_catalogue) c.transaction-tx.ensures.begun c.make_all.ensures.survives c.commit.ensures.survives c.in_default.ensures.made late in
+    let early : HasCleanDisk (state g.S.Store mid) = before_commit g.S.Store old begun mid end (λ db. Holds known db empty_catalogue) c.transaction-tx.ensures.begun
+    c.make_all.ensures.survives c.commit.ensures.survives c.in_default.ensures.made late in
     subst (λ h. Stays (state g.S.Store old) (state g.S.Store h)) same (stays_undone (state g.S.Store old) (state g.S.Store mid) (state g.S.Store end)
     (keeps_begun g.S.Store old begun (state g.S.Store mid) c.transaction-tx.ensures.begun (c.make_all.ensures.keeps early))
     (commit_fails (state g.S.Store mid) (state g.S.Store end) c.in-Err-commit.field-0 (c.in_default.ensures.inside early) (c.in-Err-commit.ensures.failed late)).3)

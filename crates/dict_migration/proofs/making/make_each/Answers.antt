@@ -46,8 +46,10 @@ each-preserved g c =
     let first = λ (clean : HasCleanDisk new). let start : HasCleanDisk old = omega (arith, c.each.invariant.survives.clean, was clean) in start in
     record {
       same_reference = c.create_table.ensures.same_reference ∙ c.each.invariant.same_reference;
-      made = λ clean. next_made ts i (get_or ts i Mark) (got ts i Mark c.each-test.true) c.requires.apart old mid (c.requires.ready (first clean)) (c.each.invariant.keeps (was clean)) (c.each.invariant.made (was clean)) new (c.in_ok-create_table.ensures.made clean).0;
-      ran = λ clean. run_next g.S.Store make ts i (get_or ts i Mark) (got ts i Mark c.each-test.true) c.args.tx.now.conn.now c.each.tx.conn.now c.create_table.new.tx.conn.now (c.each.invariant.ran (was clean)) (c.in_ok-create_table.ensures.made clean) c.create_table.ensures.survives;
+      made = λ clean. next_made ts i (get_or ts i Mark) (got ts i Mark c.each-test.true) c.requires.apart old mid (c.requires.ready (first clean))
+          (c.each.invariant.keeps (was clean)) (c.each.invariant.made (was clean)) new (c.in_ok-create_table.ensures.made clean).0;
+      ran = λ clean. run_next g.S.Store make ts i (get_or ts i Mark) (got ts i Mark c.each-test.true) c.args.tx.now.conn.now c.each.tx.conn.now c.create_table.new.tx.conn.now
+          (c.each.invariant.ran (was clean)) (c.in_ok-create_table.ensures.made clean) c.create_table.ensures.survives;
       goes = λ clean _. goes_then old mid new (c.each.invariant.keeps (was clean)) (c.in_ok-create_table.ensures.made clean).1;
       mode = λ clean _. (c.in_ok-create_table.ensures.made clean).1.mode;
       keeps = λ clean. keeps_then old mid new (c.each.invariant.keeps (was clean)) (goes_keeps mid new (c.in_ok-create_table.ensures.made clean).1);

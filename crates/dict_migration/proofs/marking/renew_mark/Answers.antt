@@ -58,4 +58,5 @@ returns-in_err-insert_mark-clause-failed g c clean =
     let Q = InMark c.args.installs in
     let fails = subst (λ (m : Mark). FailsToInsert (codes "mark") (mark_row m) (state g.S.Store mid) (state g.S.Store new) e) c.mark_row-row.ensures (c.in_err-insert_mark.ensures.failed clean) in
     passed_on (λ e. FailsInside g.S.Store Q old new (Store e)) e c.from_residual-in_err-insert_mark.result c.from_residual-in_err-insert_mark.ensures.1
-    (fails_later g.S.Store P Q old mid new (Store e) c.clear_table.ensures.survives (λ begun. removed.1.mode) (λ part at it. inr ((state g.S.Store mid).now, removed.0, it)) (fails_here g.S.Store P (putting (codes "mark") row) mid new (Store e) (refl, refl) fails))
+    (fails_later g.S.Store P Q old mid new (Store e) c.clear_table.ensures.survives (λ begun. removed.1.mode) (λ part at it. inr ((state g.S.Store mid).now, removed.0, it))
+    (fails_here g.S.Store P (putting (codes "mark") row) mid new (Store e) (refl, refl) fails))

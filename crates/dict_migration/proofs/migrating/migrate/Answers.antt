@@ -1,6 +1,7 @@
-use Rattle.std.proofs.Common.{◌≡◌, ◌∙◌, ℤ, List, arith, inl, inr, refl, subst}
+use Rattle.std.proofs.Common.{◌∙◌, ℤ, List, arith, inl, inr, refl, subst}
 use Rattle.std.specs.Prelude.{IsTrue, Result, Ok, Err, IfErr, OnErr, OnOk}
 use Rattle.std.proofs.lemmas.Result.{on_ok_weaker}
+use Rattle.sqlite.specs.Effect.{Database}
 use Rattle.sqlite.specs.Held.{state}
 use Rattle.sqlite.specs.State.{HasCleanDisk}
 use Rattle.sqlite.proofs.StateLemmas.{survives_weaker}
@@ -12,6 +13,8 @@ use Rattle.dict_migration.specs.Migrated.{MayMigrate}
 use Rattle.dict_holdings.specs.Writing.{Stays}
 use Rattle.dict_migration.specs.Moved.{AreTreesOf, IsCommitted, IsOutcome}
 use Rattle.dict_migration.proofs.EndLemmas.{is_old, outcome_holds, outcome_left, outcome_may, outcome_migrated, summary_installs, summary_numbers}
+use Rattle.dict_migration.specs.Spared.{SparesOthers}
+use Rattle.dict_migration.proofs.OtherLemmas.{others_moved}
 use Rattle.dict_migration.proofs.migrating.migrate.Goals as goal
 
 pub migrate_from-requires-clause-old : goal.migrate_from-requires-clause-old
@@ -49,6 +52,19 @@ returns-clause-migrated g c clean =
     let it = c.requires.holds clean0 opened in
     outcome_migrated c.args.version c.older_layout.result c.older_layout.ensures old it.0 it.1 (c.is_live.ensures opened).0 c.deref.result.now c.args.summary.now.installs
     (c.deref.ensures.value ∙ (c.in-Ok.ensures.same ∙ summary_numbers it.0 summary it.2)) (summary_installs it.0 summary it.2) new.committed made.holds)
+    (c.migrate_from.ensures.made clean)
+
+pub returns-clause-spares : goal.returns-clause-spares
+returns-clause-spares g c clean =
+    let old = state g.S.Store c.args.conn.now in
+    let new = state g.S.Store c.migrate_from.new.conn in
+    let clean0 : HasCleanDisk old = omega (arith, c.migrate_from.ensures.crash.clean, clean) in
+    on_ok_weaker c.migrate_from.result
+    (λ made.
+    let opened = made.holds.was_open in
+    let it = c.requires.holds clean0 opened in
+    let its = is_old c.args.version c.older_layout.result c.older_layout.ensures old it.0 it.1 (c.is_live.ensures opened).0 in
+    subst (λ (d : Database). SparesOthers d new.committed) it.1.settled (others_moved c.older_layout.result c.deref.result.now c.args.summary.now.installs old.now new.committed its made.holds.moved))
     (c.migrate_from.ensures.made clean)
 
 pub returns-clause-only : goal.returns-clause-only
@@ -108,7 +124,8 @@ returns-clause-failed g c clean =
               told = last.told;
               last = last.last;
               before = last.before;
-              written = outcome_holds c.args.version older c.older_layout.ensures old it.0 it.1 (c.is_live.ensures opened).0 c.deref.result.now installs (numbers ∙ summary_numbers it.0 summary it.2) (summary_installs it.0 summary it.2) (state g.S.Store last.last).now last.written;
+              written = outcome_holds c.args.version older c.older_layout.ensures old it.0 it.1 (c.is_live.ensures opened).0 c.deref.result.now installs
+                  (numbers ∙ summary_numbers it.0 summary it.2) (summary_installs it.0 summary it.2) (state g.S.Store last.last).now last.written;
               error = last.error;
               fails = last.fails;
             })

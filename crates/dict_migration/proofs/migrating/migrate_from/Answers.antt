@@ -1,4 +1,4 @@
-use Rattle.std.proofs.Common.{◌≡◌, rules, sym, ap, subst, ◌∙◌, refl, arith, inl, inr}
+use Rattle.std.proofs.Common.{◌≡◌, rules, sym, subst, ◌∙◌, refl, arith, inl, inr}
 use Rattle.sqlite.specs.Effect.{Database, IsDatabase}
 use Rattle.sqlite.specs.State.{HasCleanDisk, Survives, Fails, IsRolledBack}
 use Rattle.sqlite.specs.Held.{state}
@@ -101,5 +101,6 @@ returns-in-Err-commit-clause-failed g c clean =
       before = survives_begin g.S.Store old (state g.S.Store mid) (λ _. ⊥) (subst (λ h. Survives (state g.S.Store h) (state g.S.Store mid) (λ _. ⊥)) c.transaction-tx.ensures.begun c.migrate_inside.ensures.survives);
       written = outcome_of g.S.Store c.args.layout c.args.numbers.now c.args.installs old begun (state g.S.Store mid).now c.transaction-tx.ensures.begun (c.in_default.ensures.moved early).0;
       error = c.in-Err-commit.field-0;
-      fails = subst (λ h. Fails (state g.S.Store mid) (state g.S.Store h) ⊥ c.in-Err-commit.field-0) same (commit_fails (state g.S.Store mid) (state g.S.Store end) c.in-Err-commit.field-0 (c.in_default.ensures.inside early) (c.in-Err-commit.ensures.failed late));
+      fails = subst (λ h. Fails (state g.S.Store mid) (state g.S.Store h) ⊥ c.in-Err-commit.field-0) same
+          (commit_fails (state g.S.Store mid) (state g.S.Store end) c.in-Err-commit.field-0 (c.in_default.ensures.inside early) (c.in-Err-commit.ensures.failed late));
     })
