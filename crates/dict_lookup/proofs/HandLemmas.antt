@@ -1,5 +1,9 @@
 -- Rows that are handed out one after another.
 use Rattle.std.proofs.Common.{◌≡◌, ℕ, zero, suc, ◌+◌, ◌<◌, List, [], ◌∷◌, ◌++◌, take, drop, get_or, length, refl, sym, ap, subst, ◌∙◌, arith}
+use Rattle.std.specs.Prelude.{Result, Ok, map}
+use Rattle.dict_desk.specs.Shown.{Row, row}
+use Rattle.dict_desk.specs.declared.fault.Fault.{Fault}
+use Rattle.dict_search.specs.Entries.{Indexed, entry_at, entries_at, row_in}
 use Rattle.dict_desk.specs.declared.sink.Demand.{Demand}
 use Rattle.dict_desk.specs.declared.sink.Demand.TheVariants.{More, Stop}
 
@@ -26,3 +30,31 @@ module _ {X Y : Type 0} (r : X → Y) (made : List X → List Y) (none : made []
 pub more_by : (turn : Demand) → (turn ≡ Stop → ⊥) → turn ≡ More
 more_by More apart = refl
 more_by Stop apart = absurd (apart refl)
+
+-- what a sink wants, as the value of a call that didn't fail
+abbrev wants : Demand → Result Demand Fault
+wants demand = Ok demand
+
+pub ok_demand : (a b : Demand) → wants a ≡ wants b → a ≡ b
+ok_demand a b e = cc
+
+pub demand_ok : (a b : Demand) → a ≡ b → wants a ≡ wants b
+demand_ok a b e = ap wants e
+
+-- the row of an entry with its text
+pub entry_row : (text : List ℕ) (entry : Indexed) (shown octets : List ℕ) (start size : ℕ) → shown ≡ entry.shown → start ≡ entry.start → size ≡ entry.size → octets ≡ take size (drop start text) → row shown octets ≡ row_in text entry
+entry_row text entry shown octets start size a b c is = λ i. row (a i) ((is ∙ (λ j. take (c j) (drop (b j) text))) i)
+
+-- those before a place, and the others
+pub made_front : (r : Indexed → Row) (index : List Indexed) (places : List ℕ) (i : ℕ) → map r (entries_at index places) ≡ map r (entries_at index (take i places)) ++ map r (entries_at index (drop i places))
+made_front r index places zero = zero_front places
+  where
+    zero_front : (places : List ℕ) → map r (entries_at index places) ≡ map r (entries_at index (take 0 places)) ++ map r (entries_at index (drop 0 places))
+    zero_front [] = refl
+    zero_front (place ∷ places) = refl
+made_front r index [] (suc i) = refl
+made_front r index (place ∷ places) (suc i) = ap (λ (l : List Row). r (entry_at index place) ∷ l) (made_front r index places i)
+
+-- what was taken, where the sink is as it was
+pub still_takes : {S R : Type 0} (takes : S → R → S → Type 0) (a b c : S) (rows : R) → c ≡ b → takes a rows b → takes a rows c
+still_takes {S} takes a b c rows same h = subst (λ (s : S). takes a rows s) (sym same) h

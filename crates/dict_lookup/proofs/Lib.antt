@@ -1,10 +1,12 @@
+pub mod AskLemmas
+pub mod CutLemmas
 pub mod FailLemmas
 pub mod HandLemmas
 pub mod HeldLemmas
 pub mod IndexLemmas
 pub mod ListLemmas
-pub mod ReadLemmas
+pub mod PartLemmas
 pub mod RecordLemmas
+pub mod RowLemmas
 pub mod StateLemmas
 pub mod TakenLemmas
-pub mod TextLemmas

@@ -5,19 +5,24 @@ use Rattle.sqlite.specs.declared.error.Error.{Error}
 use Rattle.sqlite.specs.Order.{Row}
 use Rattle.sqlite.specs.Effect.{Database}
 use Rattle.sqlite.specs.State.{State, IsUnchanged, Fails}
-use Rattle.dict_tables.specs.Tables.{edition}
+use Rattle.dict_records.specs.Records.{header_of}
 use Rattle.dict_sql.specs.Effects.{Has, equals_number, rows_of}
-use Rattle.dict_sql.specs.Columns.{HasColumns, edition_columns}
-use Rattle.dict_sql.specs.Encodings.{edition_row}
+use Rattle.dict_sql.specs.Columns.{HasColumns}
+use Rattle.dict_header_sql.specs.Table.{header}
+use Rattle.dict_header_sql.specs.Records.{header_row, header_columns}
+use Rattle.dict_part_sql.specs.Table.{part}
+use Rattle.dict_part_sql.specs.Chosen.{is_of_file}
+use Rattle.dict_part_sql.specs.Records.{part_columns}
 use Rattle.dict_index.specs.Edition.{ReadEdition}
 use Rattle.dict_rows.specs.Written.{edition_record}
 pub use Rattle.dict_holdings.specs.Faults.{fault_of, fault_of_read, IsOfStore}
 use Rattle.dict_desk.specs.declared.fault.Fault.{Fault}
 use Rattle.dict_desk.specs.declared.fault.Fault.TheVariants.{Refused, Memory, Disk, Closed, NotACatalogue, Damaged, NewerSchema}
 
--- the table that a lookup reads
-abbrev pub HasLookupTables : Database → Type 0
-HasLookupTables db = Has edition db
+-- the tables that lookups read: the headers of editions, and the parts of their files
+pub record HasLookupTables (db : Database) : Type 0 where
+  pub headers : Has header db
+  pub parts : Has part db
 
 -- ---- what the database holds under the number of an edition
 
@@ -25,20 +30,20 @@ HasLookupTables db = Has edition db
 abbrev pub rows_under : List ℕ → ℕ → Database → List Row
 rows_under name number db = map (drop 1) (filter (equals_number 1 (pos number)) (rows_of name db))
 
--- The database has this title, this info and this text under this number: one record has the number. Where an entry's interval lies is
--- no matter of the record.
+-- The database has this title and this info under this number: one header has the number.
 pub record HoldsOne (db : Database) (number : ℕ) (reading : ReadEdition) : Type 0 where
   pub few : number ≤ 9223372036854775807
   pub owner : List ℕ
-  pub row : IsPermutation (edition_row (edition_record owner number reading) ∷ []) (rows_under (codes "edition") number db)
+  pub row : IsPermutation (header_row (header_of (edition_record owner number reading)) ∷ []) (rows_under (codes "edition") number db)
 
 -- the number as a column has it: one that no column can have is no edition's, nor is the one that stands for it
 abbrev pub column_of : ℕ → ℕ
 column_of number = if nat_le number 9223372036854775807 then number else 0
 
--- what stands under this number can be read: each row stands for a record
-abbrev pub IsReadable : Database → ℕ → Type 0
-IsReadable db number = AllByRecursion (HasColumns edition_columns) (filter (equals_number 1 (pos number)) (rows_of (codes "edition") db))
+-- what stands under this number can be read: each row stands for a header, or for a part of the text
+pub record IsReadable (db : Database) (number : ℕ) : Type 0 where
+  pub headers : AllByRecursion (HasColumns header_columns) (filter (equals_number 1 (pos number)) (rows_of (codes "edition") db))
+  pub parts : AllByRecursion (HasColumns part_columns) (filter (is_of_file (pos number) (pos 1)) (rows_of (codes "dictcat_part") db))
 
 -- ---- why a lookup fails, and how it leaves the store
 

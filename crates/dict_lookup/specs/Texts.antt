@@ -1,47 +1,65 @@
--- The texts of editions, which the entries of an index cut, and those that are kept in memory beside a database.
-use Rattle.std.specs.Prelude.{◌≡◌, ◌⊎◌, ◌≤◌, ℕ, List, map}
+-- The texts of editions, which the entries of an index cut, and those of their parts that are kept in memory beside a database.
+use Rattle.std.specs.Prelude.{◌≡◌, ◌⊎◌, ◌≤◌, ◌<◌, ◌^◌, ℕ, false, IsTrue, List, [], map, length, slice_index_or}
 use Rattle.std.specs.List.{AllByRecursion}
-use Rattle.sqlite.specs.Effect.{Database}
 use Rattle.sqlite.specs.Held.{Held, state}
-use Rattle.sqlite.specs.State.{IsUnchanged}
+use Rattle.sqlite.specs.State.{State, HasCleanDisk, IsUnchanged, Survives}
 use Rattle.sqlite_trees.specs.declared.store.Store.{Ghosts}
 use Rattle.dict_index.specs.Line.{Line}
-use Rattle.dict_index.specs.Edition.{Edition, ReadEdition, entry_in}
+use Rattle.dict_index.specs.Edition.{Edition, entry_in}
+use Rattle.dict_parts.specs.Parts.{parts_of}
+use Rattle.dict_holdings.specs.Texts.{HoldsText}
 use Rattle.dict_search.specs.Entries.{Indexed, entry_of}
-use Rattle.dict_texts.specs.Texts.{with_text}
-use Rattle.dict_lookup.specs.Searches.{HoldsOne}
+use Rattle.dict_texts.specs.Texts.{Key, with_text}
+use Rattle.dict_desk.specs.declared.fault.Fault.{Fault}
+use Rattle.dict_desk.specs.declared.fault.Fault.TheVariants.{Memory}
+use Rattle.dict_lookup.specs.Searches.{FailsToLookUp, column_of}
 
--- the entries of the index are those of lines that cut the edition's entries out of the text
+-- The entries of the index are those of lines that cut the edition's entries out of the text, which is as short as each that is stored.
 pub record Cuts (index : List Indexed) (edition : Edition) (text : List ℕ) : Type 0 where
   pub lines : List Line
   pub entries : index ≡ map entry_of lines
   pub cut : edition.entries ≡ map (entry_in text) lines
+  pub short : length text < 64 ^ 6
 
 -- The index is of the edition: it cuts its entries out of some text. What lookups count and list is so, whatever the text.
 abbrev pub IsIndexOf : List Indexed → Edition → Type 0
 IsIndexOf index edition = (text : List ℕ) × Cuts index edition text
 
--- a text that is kept under the edition's number is one of which the index cuts its entries
-abbrev pub IsCutFrom : ℕ → List Indexed → Edition → ℕ × List ℕ → Type 0
-IsCutFrom number index edition kept = kept.0 ≡ number → Cuts index edition kept.1
+-- what is kept under the edition's number and a part's is that part of the text
+abbrev pub IsPartOf : ℕ → List ℕ → Key × List ℕ → Type 0
+IsPartOf number text kept = kept.0.0 ≡ number → kept.1 ≡ slice_index_or (parts_of text) kept.0.1 []
 
-abbrev pub AreCutFrom : ℕ → List Indexed → Edition → List (ℕ × List ℕ) → Type 0
-AreCutFrom number index edition texts = AllByRecursion (IsCutFrom number index edition) texts
+abbrev pub ArePartsOf : ℕ → List ℕ → List (Key × List ℕ) → Type 0
+ArePartsOf number text texts = AllByRecursion (IsPartOf number text) texts
 
--- the text that the database has under the number is one
-pub record HoldsCut (db : Database) (number : ℕ) (index : List Indexed) (edition : Edition) : Type 0 where
-  pub reading : ReadEdition
-  pub one : HoldsOne db number reading
-  pub cuts : Cuts index edition reading.text
+-- each part is kept under the number of an edition that an install has made
+abbrev pub AreMade : ℕ → List (Key × List ℕ) → Type 0
+AreMade installs texts = AllByRecursion (λ kept. kept.0.0 ≤ installs) texts
 
--- each of the texts is kept under a number that an install has made
-abbrev pub AreMade : ℕ → List (ℕ × List ℕ) → Type 0
-AreMade installs texts = AllByRecursion (λ kept. kept.0 ≤ installs) texts
+-- the texts are as they were, or this part was put among them, under a number that an install has made
+abbrev pub MayKeep : ℕ → Key → List ℕ → List (Key × List ℕ) → List (Key × List ℕ) → Type 0
+MayKeep installs key octets old new = (new ≡ old) ⊎ ((key.0 ≤ installs) × (new ≡ with_text key octets old))
 
--- the texts are as they were, or this one was put among them, under a number that an install has made
-abbrev pub MayKeep : ℕ → ℕ → List ℕ → List (ℕ × List ℕ) → List (ℕ × List ℕ) → Type 0
-MayKeep installs number text old new = (new ≡ old) ⊎ ((number ≤ installs) × (new ≡ with_text number text old))
+-- The text of the edition of this number: what is kept of it are its parts, and while the store is open, the database has it.
+pub record HasText (s : State) (number : ℕ) (text : List ℕ) (texts : List (Key × List ℕ)) : Type 0 where
+  pub kept : ArePartsOf number text texts
+  pub held : IsTrue s.is_open → HoldsText s.now number text
 
--- the connection wasn't asked, or was read from
-abbrev pub IsAtMostRead : {S : Type 0} → Ghosts S → Held S → Held S → Type 0
-IsAtMostRead {S} g old new = (new ≡ old) ⊎ IsUnchanged (state g old) (state g new)
+module _ {S : Type 0} (g : Ghosts S) where
+  -- the connection wasn't asked, or was read from
+  abbrev pub IsAtMostRead : Held S → Held S → Type 0
+  IsAtMostRead old new = (new ≡ old) ⊎ IsUnchanged (state g old) (state g new)
+
+  -- Between two states parts of the text of an edition were asked for, whether they were given or not: the connection survives; what is
+  -- kept under a number are parts of each text of which they were before, and which the database has where it is this number; and the
+  -- numbers are those of installs.
+  pub record Asks (installs number : ℕ) (old new : Held S) (before after : List (Key × List ℕ)) : Type 0 where
+    pub mode : old.in_transaction ≡ false → new.in_transaction ≡ false
+    pub survives : Survives (state g old) (state g new) (λ _. ⊥)
+    pub texts : HasCleanDisk (state g new) → (other : ℕ) (text : List ℕ) → ArePartsOf other text before → (other ≡ number → IsTrue (state g old).is_open → HoldsText (state g old).now other text) → ArePartsOf other text after
+    pub made : AreMade installs before → AreMade installs after
+
+  -- Entries weren't handed out with their texts: a growth was refused, and nothing has changed; or what is to be read under the number
+  -- wasn't read.
+  abbrev pub FailsToFind : ℕ → Held S → Held S → Fault → Type 0
+  FailsToFind number old new fault = ((fault ≡ Memory) × (new ≡ old)) ⊎ FailsToLookUp (column_of number) (state g old) (state g new) fault

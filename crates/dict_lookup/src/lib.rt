@@ -1,11 +1,12 @@
 //! What is asked of one edition of the catalogue that a file holds.
 //!
-//! What a query finds, how much of it and under which headwords, an index tells that is in memory (`dict_search`). The database is asked for an edition's info and its text alone. After a call there are the texts that the caller keeps.
+//! What a query finds, how much of it and under which headwords, an index tells that is in memory (`dict_search`). The database is asked for an edition's info and the parts of its text alone. After a call there are the parts of texts that the caller keeps.
 #![tactic(auto)]
 
 mod found;
 mod laws;
 mod lookups;
+mod parts;
 mod record;
 
 pub use laws::held_laws;

@@ -1,20 +1,19 @@
 // What is asked of an edition.
-ghost use Rattle.std.specs.Prelude.{◌≡◌, ◌⊎◌, ◌+◌, ℕ, false, List, IsTrue, Ok, Some, nat_eq, option_map, IfOk, IfErr, IsErr, OnOk, OnErr};
-ghost use Rattle.std.specs.Map.{lookup, remove_entry};
+ghost use Rattle.std.specs.Prelude.{◌≡◌, ◌+◌, ℕ, false, List, IsTrue, Ok, IfOk, IfErr, IsErr, OnOk, OnErr};
 ghost use Rattle.sqlite.specs.State.{HasCleanDisk, IsUnchanged, Survives};
 ghost use Rattle.sqlite.specs.Held.{state};
 ghost use Rattle.dict_sql.specs.Effects.{WhileOpen};
 ghost use Rattle.dict_index.specs.Edition.{Edition, ReadEdition, edition_of};
 ghost use Rattle.dict_desk.specs.Shown.{Row as ShownRow, found_rows, headword_rows, info_rows, count_of};
 ghost use Rattle.dict_desk.specs.Handing.{Hands};
-ghost use Rattle.dict_search.specs.Entries.{Indexed};
-ghost use Rattle.dict_search.specs.Found.{found_entries, count_selected};
+ghost use Rattle.dict_search.specs.Found.{count_selected};
+ghost use Rattle.dict_holdings.specs.Texts.{HoldsText};
 ghost use Rattle.dict_lookup.specs.Searches.{HasLookupTables, HoldsOne, FailsToLookUp, IsOfStore, column_of};
-ghost use Rattle.dict_lookup.specs.Texts.{Cuts, IsIndexOf, AreCutFrom, HoldsCut, AreMade, MayKeep, IsAtMostRead};
-ghost use Rattle.dict_lookup.specs.Taken.{more_taken, rows_for, rows_read};
+ghost use Rattle.dict_lookup.specs.Texts.{Cuts, IsIndexOf, ArePartsOf, AreMade, IsAtMostRead, FailsToFind};
+ghost use Rattle.dict_lookup.specs.Taken.{more_taken};
 
 use crate::found::{hand_found, hand_headwords};
-use crate::record::{edition_of_number, info_of_number};
+use crate::record::info_of_number;
 use dict_derived::is_tested;
 use dict_desk::{Demand, End, Fault, Row, RowSink, What};
 use dict_match::{Key, Strategy};
@@ -22,44 +21,6 @@ use dict_search::{Counted, Index, edition_laws};
 use dict_texts::Texts;
 use sqlite::{Alter, Connection};
 use std::alloc::{AllocError, Global};
-
-// Keeps a text under its number, where that is one of an install. A refused growth leaves it unkept.
-fn keep(texts: &mut Texts, installs: u64, number: u64, text: Vec<u8>)
-    ensures { MayKeep installs number text.items texts.old texts.new }
-{
-    if number > installs {
-        return;
-    }
-    let _put = texts.put(number, text);
-}
-
-// The text of the edition of a number, if there is one: the one that is kept, which is taken out, or else the one that is read.
-fn take_text<S: Alter>(
-    alloc: Global,
-    conn: &mut Connection<S>,
-    texts: &mut Texts,
-    number: u64,
-    rows_taken: &mut u64,
-) -> Result<Option<Vec<u8>>, Fault>
-    requires { WhileOpen (state S.Store conn.old) HasLookupTables }
-    ensures cut { HasCleanDisk (state S.Store conn.new) → (index : List Indexed) (edition : Edition) → AreCutFrom number index edition texts.old → (IsTrue (state S.Store conn.old).is_open → HoldsCut (state S.Store conn.old).now number index edition) → IfOk result (λ found. (text : List ℕ) × (option_map (λ octets. octets.items) found ≡ Some text) × Cuts index edition text) }
-    ensures left { texts.new ≡ remove_entry (nat_eq number) texts.old }
-    ensures taken { HasCleanDisk (state S.Store conn.new) → (reading : ReadEdition) → HoldsOne (state S.Store conn.old).now number reading → OnOk result (rows_taken.new ≡ more_taken rows_taken.old (rows_for (lookup (nat_eq number) texts.old))) }
-    ensures same { HasCleanDisk (state S.Store conn.new) → OnOk result (IsAtMostRead S.Store conn.old conn.new) }
-    ensures failed { HasCleanDisk (state S.Store conn.new) → IfErr result (FailsToLookUp (column_of number) (state S.Store conn.old) (state S.Store conn.new)) }
-    ensures kinds { IfErr result IsOfStore }
-    ensures mode { conn.old.in_transaction ≡ false → conn.new.in_transaction ≡ false }
-    ensures survives { Survives (state S.Store conn.old) (state S.Store conn.new) (λ _. ⊥) }
-{
-    let _taken = *rows_taken;
-    if let Some(text) = texts.take(number) {
-        return Ok(Some(text));
-    }
-    match edition_of_number(alloc, conn, number, rows_taken)? {
-        Some(edition) => Ok(Some(edition.body)),
-        None => Ok(None),
-    }
-}
 
 /// Hands one row to the sink, which shows nothing: what the edition's database says of itself. It counts the rows that
 /// its statement hands over. Of a number that no edition has nothing is told. The edition's text isn't read.
@@ -98,12 +59,13 @@ pub fn info<S: Alter, T: RowSink>(
 }
 
 /// Hands the entries of the edition that the query finds by the strategy to the sink, in the order of the index, each as
-/// a row of what is shown of it and its text. It counts the entries that it looks at, and the rows that its statement hands over: where
-/// the sink stops and the strategy tests no entry, those that were handed out. Of a number that no edition has nothing is told.
+/// a row of what is shown of it and its text. It counts the entries that it looks at, and the rows that its statements hand over, one
+/// for each part of a text that is read: where the sink stops and the strategy tests no entry, those entries that were handed out.
 ///
-/// What is found the index tells, which is the edition's. Where that is nothing, no text is wanted. Else the text is the one that is
-/// kept under the number, if one is; else it is read, and kept from then on, unless a growth is refused, which is no fault. What is kept
-/// under other numbers was so before. A number above the count of installs is no edition's, and nothing is kept under it.
+/// What is found the index tells, which is the edition's. The text of each entry is cut out of the parts in which it lies: those that
+/// are kept under the number of the edition and their own, and the others, which are read, and kept from then on, unless a growth is
+/// refused, which is no fault. What is kept under other numbers was so before. A number above the count of installs is no edition's, and
+/// nothing is kept under it. Where nothing is found, no part is asked for.
 ///
 /// `Memory` tells that a growth was refused, `Disk` that the store failed, or that the limit on steps was met. The database
 /// stays as it is.
@@ -120,13 +82,13 @@ pub fn find<S: Alter, T: RowSink>(
     rows_taken: &mut u64,
 ) -> Result<End, Fault>
     requires { WhileOpen (state S.Store conn.old) HasLookupTables }
-    ensures value { HasCleanDisk (state S.Store conn.new) → (edition : Edition) → IsIndexOf index.now edition → AreCutFrom number index.now edition texts.old → (IsTrue (state S.Store conn.old).is_open → HoldsCut (state S.Store conn.old).now number index.now edition) → Hands T.takes T.stops sink.old sink.new (found_rows strategy query.now edition) result }
-    ensures texts { HasCleanDisk (state S.Store conn.new) → (other : ℕ) (entries : List Indexed) (edition : Edition) → AreCutFrom other entries edition texts.old → (other ≡ number → IsTrue (state S.Store conn.old).is_open → HoldsCut (state S.Store conn.old).now other entries edition) → AreCutFrom other entries edition texts.new }
+    ensures value { HasCleanDisk (state S.Store conn.new) → (edition : Edition) (text : List ℕ) → Cuts index.now edition text → ArePartsOf number text texts.old → (IsTrue (state S.Store conn.old).is_open → HoldsText (state S.Store conn.old).now number text) → Hands T.takes T.stops sink.old sink.new (found_rows strategy query.now edition) result }
+    ensures texts { HasCleanDisk (state S.Store conn.new) → (other : ℕ) (text : List ℕ) → ArePartsOf other text texts.old → (other ≡ number → IsTrue (state S.Store conn.old).is_open → HoldsText (state S.Store conn.old).now other text) → ArePartsOf other text texts.new }
     ensures made { AreMade installs texts.old → AreMade installs texts.new }
     ensures handed { (rows : List ShownRow) × Hands T.takes T.stops sink.old sink.new rows result }
-    ensures taken { HasCleanDisk (state S.Store conn.new) → (reading : ReadEdition) → HoldsOne (state S.Store conn.old).now number reading → result ≡ Ok End.All → rows_taken.new ≡ more_taken rows_taken.old (count_selected strategy query.now index.now + rows_read (lookup (nat_eq number) texts.old) (found_entries strategy query.now index.now)) }
+    ensures taken { result ≡ Ok End.All → (read : ℕ) × (rows_taken.new ≡ more_taken rows_taken.old (count_selected strategy query.now index.now + read)) }
     ensures same { HasCleanDisk (state S.Store conn.new) → OnOk result (IsAtMostRead S.Store conn.old conn.new) }
-    ensures failed { HasCleanDisk (state S.Store conn.new) → IfErr result (λ fault. ((fault ≡ Fault.Memory) × (conn.new ≡ conn.old)) ⊎ FailsToLookUp (column_of number) (state S.Store conn.old) (state S.Store conn.new) fault) }
+    ensures failed { HasCleanDisk (state S.Store conn.new) → IfErr result (FailsToFind S.Store number conn.old conn.new) }
     ensures kinds { IfErr result IsOfStore }
     ensures mode { conn.old.in_transaction ≡ false → conn.new.in_transaction ≡ false }
     ensures survives { Survives (state S.Store conn.old) (state S.Store conn.new) (λ _. ⊥) }
@@ -135,19 +97,26 @@ pub fn find<S: Alter, T: RowSink>(
     let found = index.find(alloc, strategy, query.as_bytes())?;
     let selected = found.looked_at as u64;
     let places = found.places.as_slice();
-    if places.is_empty() {
-        *rows_taken = rows_taken.saturating_add(selected);
-        return Ok(End::All);
-    }
-    let Some(text) = take_text(alloc, conn, texts, number, rows_taken)? else {
-        *rows_taken = rows_taken.saturating_add(selected);
-        return Ok(End::All);
-    };
     let mut handed = 0;
-    let end = hand_found(index, places, text.as_slice(), sink, &mut handed);
-    *rows_taken = rows_taken.saturating_add(looked_at(strategy, end, selected, handed));
-    keep(texts, installs, number, text);
-    Ok(end)
+    match hand_found(
+        alloc,
+        conn,
+        texts,
+        installs,
+        number,
+        index,
+        places,
+        sink,
+        &mut handed,
+        rows_taken,
+    ) {
+        Ok(end) => {
+            let looked = looked_at(strategy, end, selected, handed);
+            *rows_taken = rows_taken.saturating_add(looked);
+            Ok(end)
+        }
+        Err(fault) => Err(fault),
+    }
 }
 
 // How many entries were looked at. Where the sink has stopped, that is as many as were handed out, if the strategy tests none before.

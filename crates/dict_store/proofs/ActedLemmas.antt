@@ -8,7 +8,7 @@ use Rattle.sqlite.specs.Held.{Held, state}
 use Rattle.sqlite_trees.specs.declared.store.Store.{Ghosts}
 use Rattle.dict_index.specs.Edition.{Edition}
 use Rattle.dict_name.specs.Names.{is_request_id}
-use Rattle.dict_catalogue.specs.Items.{Stored, editions_of}
+use Rattle.dict_catalogue.specs.Items.{Stored, editions_of, edition_numbers}
 use Rattle.dict_catalogue.specs.Commands.{Command}
 use Rattle.dict_catalogue.specs.Effects.{KeptReply, installs_after}
 use Rattle.dict_catalogue.specs.Tests.{Holdings, refusal_of}
@@ -21,14 +21,15 @@ use Rattle.dict_catalogue.specs.declared.commands.Command.TheVariants.{Install, 
 use Rattle.dict_catalogue.specs.declared.fault.CommandRefusal.{CommandRefusal}
 use Rattle.dict_commands.specs.Answers.{summary_after}
 use Rattle.dict_commands.specs.Filing.{rested}
-use Rattle.dict_commands.specs.Installed.{HasInstalled, HasRecordOf}
-use Rattle.dict_commands.specs.Kept.{AddsAbove}
+use Rattle.dict_commands.specs.Installed.{HasInstalled, HasTextOf}
+use Rattle.dict_commands.specs.Kept.{KeepsTexts}
 use Rattle.dict_commands.specs.declared.applied.Applied.{Applied}
 use Rattle.dict_commands.specs.declared.applied.Applied.TheVariants.{Repeated, Done}
 use Rattle.dict_desk.specs.declared.fault.Fault.{Fault}
 use Rattle.dict_holdings.specs.Holds.{Holds, Rests}
 use Rattle.dict_indexes.specs.Indexes.{entries_under}
-use Rattle.dict_lookup.specs.Texts.{AreCutFrom, AreMade}
+use Rattle.dict_lookup.specs.Texts.{ArePartsOf, AreMade}
+use Rattle.dict_texts.specs.Texts.{Key}
 use Rattle.dict_rows.specs.Versions.{known}
 use Rattle.dict_search.specs.Entries.{Indexed}
 use Rattle.dict_store.specs.Applied.{AppliesOver}
@@ -37,12 +38,14 @@ use Rattle.dict_store.specs.Indexed.{HasPut, HasSettled, index_coming}
 use Rattle.dict_store.specs.Kept.{texts_after}
 use Rattle.dict_store.specs.declared.last.LastCall.{LastCall}
 use Rattle.dict_store.specs.declared.last.LastCall.TheVariants.{Fine}
-use Rattle.dict_store.proofs.DeskLemmas.{cut_after}
+use Rattle.dict_store.proofs.DeskLemmas.{parts_after}
 use Rattle.dict_store.proofs.IndexedLemmas.{all_is, all_stay, all_then, each_both, each_low, each_numbered, next_number, stays_is, Is}
 use Rattle.dict_store.proofs.KeeperLemmas.{catalogue_by}
+use Rattle.dict_store.proofs.TextLemmas.{texts_stay}
 
 -- a command whose new id is answered was accepted, and did its effect
-acted_by : (M : Catalogue) (id : List ℕ) (command : Command Edition) (refusal : Option CommandRefusal) → refusal_of (holdings M) command ≡ refusal → (reply : KeptReply) → (decided M id command refusal).reply ≡ accepted reply → (decided M id command refusal).catalogue ≡ with_effect M id command
+acted_by : (M : Catalogue) (id : List ℕ) (command : Command Edition) (refusal : Option CommandRefusal) → refusal_of (holdings M) command ≡ refusal → (reply : KeptReply)
+    → (decided M id command refusal).reply ≡ accepted reply → (decided M id command refusal).catalogue ≡ with_effect M id command
 acted_by M id command (Some refusal) is reply e = absurd (cc)
 acted_by M id command None is reply e = refl
 
@@ -55,16 +58,18 @@ acted M id command reply free e = by_id (is_request_id id) refl
         ap (λ (o : Outcome). o.catalogue) is ∙ acted_by M id command (refusal_of (holdings M) command) refl reply (sym (ap (λ (o : Outcome). o.reply) is) ∙ e)
     by_id false unlawful = absurd (let is : (step M id command).reply ≡ accepted reply = e in let other = rw unlawful at is in cc)
 
--- the record of an install stands under the next number
-record_at : (command : Typed) (installs n : ℕ) (db : Database) → n ≡ installs_after (command_meant command) installs → HasRecordOf command n db → HasRecordOf command (installs + 1) db
-record_at (Install name edition) installs n db is there = subst (λ (n : ℕ). HasRecordOf (Install name edition) n db) is there
+-- the text of an install stands under the next number
+record_at : (command : Typed) (installs n : ℕ) (db : Database) → n ≡ installs_after (command_meant command) installs → HasTextOf command n db → HasTextOf command (installs + 1) db
+record_at (Install name edition) installs n db is there = subst (λ (n : ℕ). HasTextOf (Install name edition) n db) is there
 record_at (Rollback name) installs n db is there = tt
 record_at (Retire name) installs n db is there = tt
 record_at (PutVirtual name title members) installs n db is there = tt
 record_at (Place name at) installs n db is there = tt
 
-module _ {S : Type 0} (g : Ghosts S) (old new : Held S) (summary : Holdings (List ℕ)) (before : LastCall) (id : List ℕ) (typed : Typed) (open_before : is_closed before ≡ false) (indexes mid settled : List (ℕ × List Indexed)) (kept texts : List (ℕ × List ℕ)) (made : AreMade summary.installs kept)
-    (number : ℕ) (next : number ≡ min (summary.installs + 1) (2 ^ 64 - 1)) (put : HasPut number (index_coming typed) indexes mid) (M : Catalogue) (shown : Shows g (record { conn = old; summary = summary; last = before; indexes = indexes; texts = kept }) M) (clean : HasCleanDisk (state g new)) (first : HasCleanDisk (state g old)) where
+module _ {S : Type 0} (g : Ghosts S) (old new : Held S) (summary : Holdings (List ℕ)) (before : LastCall) (id : List ℕ) (typed : Typed) (open_before : is_closed before ≡ false)
+    (indexes mid settled : List (ℕ × List Indexed)) (kept texts : List (Key × List ℕ)) (made : AreMade summary.installs kept)
+    (number : ℕ) (next : number ≡ min (summary.installs + 1) (2 ^ 64 - 1)) (put : HasPut number (index_coming typed) indexes mid) (M : Catalogue)
+    (shown : Shows g (record { conn = old; summary = summary; last = before; indexes = indexes; texts = kept }) M) (clean : HasCleanDisk (state g new)) (first : HasCleanDisk (state g old)) where
   abbrev was : DeskState S
   was = record { conn = old; summary = summary; last = before; indexes = indexes; texts = kept }
 
@@ -84,22 +89,24 @@ module _ {S : Type 0} (g : Ghosts S) (old new : Held S) (summary : Holdings (Lis
   then_by after last = record { conn = new; summary = after; last = last; indexes = settled; texts = texts }
 
   -- it failed, or was refused
-  failed_served : (fault : Fault) → (IsTrue (state g new).is_open → IsTrue (state g old).is_open) → (IsTrue (state g new).is_open → (state g new).committed ≡ (state g old).committed) → HasSettled number (Err fault) mid settled → texts ≡ texts_after (last_by {T = Applied} (Err fault)) kept
+  failed_served : (fault : Fault) → (IsTrue (state g new).is_open → IsTrue (state g old).is_open) → (IsTrue (state g new).is_open → (state g new).committed ≡ (state g old).committed)
+      → HasSettled number (Err fault) mid settled → texts ≡ texts_after (last_by {T = Applied} (Err fault)) kept
       → AreServed g (then_by summary (last_by {T = Applied} (Err fault))) M
   failed_served fault lives stays goes is =
       all_stay g was new typed mid settled M shown.well_formed put_next (then_by summary (last_by {T = Applied} (Err fault))) (λ _. open_before) lives stays (λ q apart. goes q (λ e. apart (e ∙ number_is)))
-      (λ stored one. subst (AreCutFrom stored.number one.index stored.content) (sym is) (cut_after (last_by {T = Applied} (Err fault)) stored.number one.index stored.content kept one.kept)) (shown.served first)
+      (λ stored one. subst (ArePartsOf stored.number one.text) (sym is) (parts_after (last_by {T = Applied} (Err fault)) stored.number one.text kept one.kept)) (shown.served first)
 
-  module _ (over_lives : IsTrue (state g new).is_open → IsTrue (state g old).is_open) (adds : IsTrue (state g new).is_open → AddsAbove summary.installs (state g old).committed (state g new).committed) where
-    adds_next : IsTrue (state g new).is_open → AddsAbove M.installs (state g old).committed (state g new).committed
-    adds_next live = subst (λ (n : ℕ). AddsAbove n (state g old).committed (state g new).committed) installs_is (adds live)
-
+  module _ (over_lives : IsTrue (state g new).is_open → IsTrue (state g old).is_open) where
     -- its reply was kept
-    repeated_served : (IsTrue (state g new).is_open → Holds known (state g new).committed M) → ((q : ℕ) → q ≢ number → entries_under q settled ≡ entries_under q mid) → texts ≡ kept → AreServed g (then_by summary Fine) M
-    repeated_served holds goes is =
-        subst (λ (t : List (ℕ × List ℕ)). AreServed g (record { conn = new; summary = summary; last = Fine; indexes = settled; texts = t }) M) (sym is)
-        (all_then g was new typed mid settled M shown.well_formed put_next made_next summary open_before over_lives M holds adds_next
-        (each_both (IsServed g was) (λ (stored : Stored Edition). stored.number ≤ M.installs) (Is g was new typed mid settled M shown.well_formed put_next) (λ stored a b. stays_is g was new typed mid settled M shown.well_formed put_next stored a b) M.items (shown.served first) (each_low M shown.well_formed))
+    repeated_served : Holds known (state g new).committed M → KeepsTexts summary.installs (edition_numbers summary.items) (state g old).committed (state g new).committed
+        → ((q : ℕ) → q ≢ number → entries_under q settled ≡ entries_under q mid) → texts ≡ kept
+        → AreServed g (then_by summary Fine) M
+    repeated_served holds stay goes is =
+        subst (λ (t : List (Key × List ℕ)). AreServed g (record { conn = new; summary = summary; last = Fine; indexes = settled; texts = t }) M) (sym is)
+        (all_then g was new typed mid settled M shown.well_formed put_next made_next summary open_before over_lives M holds
+        (each_both (IsServed g was) (λ (stored : Stored Edition). stored.number ≤ M.installs) (Is g was new typed mid settled M shown.well_formed put_next)
+        (λ stored a b. stays_is g was new typed mid settled M shown.well_formed put_next stored a b) M.items (shown.served first) (each_low M shown.well_formed))
+        (texts_stay M summary (sym shown.summary) M.installs (state g old).committed (state g new).committed (subst (λ (n : ℕ). KeepsTexts n (edition_numbers summary.items) (state g old).committed (state g new).committed) installs_is stay))
         (each_both (λ (stored : Stored Edition). stored.number ≤ M.installs) (λ (stored : Stored Edition). stored.number ≤ M.installs) (λ (stored : Stored Edition). entries_under stored.number settled ≡ entries_under stored.number mid)
         (λ stored low _. goes stored.number (λ e. let no : ⊥ = omega (arith, low, e, number_is) in no)) M.items (each_low M shown.well_formed) (each_low M shown.well_formed)))
 
@@ -107,15 +114,19 @@ module _ {S : Type 0} (g : Ghosts S) (old new : Held S) (summary : Holdings (Lis
     outcome = step M id (command_meant typed)
 
     -- it acted
-    done_served : (after : Summary) (reply : Kept) → kept_under M.kept id ≡ None → outcome.reply ≡ accepted (kept_shown reply) → summary_of outcome.catalogue ≡ summary_shown after → Holds known (state g new).committed outcome.catalogue → HasRecordOf typed after.installs (state g new).committed
-        → HasSettled number (Ok (Done reply after)) mid settled → texts ≡ kept → AreServed g (then_by (summary_shown after) Fine) outcome.catalogue
-    done_served after reply free told sums holds there goes is =
+    done_served : (after : Summary) (reply : Kept) → kept_under M.kept id ≡ None → outcome.reply ≡ accepted (kept_shown reply) → summary_of outcome.catalogue ≡ summary_shown after
+        → Holds known (state g new).committed outcome.catalogue → HasTextOf typed after.installs (state g new).committed
+        → KeepsTexts summary.installs (edition_numbers (summary_shown after).items) (state g old).committed (state g new).committed → HasSettled number (Ok (Done reply after)) mid settled
+        → texts ≡ kept → AreServed g (then_by (summary_shown after) Fine) outcome.catalogue
+    done_served after reply free told sums holds there stay goes is =
         let did : outcome.catalogue ≡ with_effect M id (command_meant typed) = acted M id (command_meant typed) (kept_shown reply) free told in
         let installs : after.installs ≡ installs_after (command_meant typed) M.installs = ap (λ (h : Holdings (List ℕ)). h.installs) (sym sums) ∙ ap (λ (c : Catalogue). c.installs) did in
-        subst (λ (t : List (ℕ × List ℕ)). AreServed g (record { conn = new; summary = summary_shown after; last = Fine; indexes = settled; texts = t }) outcome.catalogue) (sym is)
-        (all_then g was new typed mid settled M shown.well_formed put_next made_next (summary_shown after) open_before over_lives outcome.catalogue (λ _. holds) adds_next
+        subst (λ (t : List (Key × List ℕ)). AreServed g (record { conn = new; summary = summary_shown after; last = Fine; indexes = settled; texts = t }) outcome.catalogue) (sym is)
+        (all_then g was new typed mid settled M shown.well_formed put_next made_next (summary_shown after) open_before over_lives outcome.catalogue holds
         (subst (λ (c : Catalogue). AllByRecursion (λ item. AllByRecursion (Is g was new typed mid settled M shown.well_formed put_next) (editions_of item)) c.items) (sym did)
         (all_is g was new typed mid settled M shown.well_formed put_next id (record_at typed M.installs after.installs (state g new).committed installs there) (shown.served first)))
+        (texts_stay outcome.catalogue (summary_shown after) sums M.installs (state g old).committed (state g new).committed
+        (subst (λ (n : ℕ). KeepsTexts n (edition_numbers (summary_shown after).items) (state g old).committed (state g new).committed) installs_is stay))
         (each_numbered (λ n. entries_under n settled ≡ entries_under n mid) outcome.catalogue after sums goes))
 
   live_before : {A : Type 0} (b : Bool) → (state g old).is_open ≡ b → (IsTrue (state g old).is_open → A) → ((state g old).is_open ≡ false → ⊥) → A
@@ -125,12 +136,14 @@ module _ {S : Type 0} (g : Ghosts S) (old new : Held S) (summary : Holdings (Lis
   rests_before : IsTrue (state g old).is_open → Rests known (rested (state g old)) M
   rests_before live = record { is_open = live; settled = refl; holds = shown.holds open_before first live }
 
-  pub served_by : (result : Result Applied Fault) → AppliesOver g summary id (command_meant typed) old new result → HasSettled number result mid settled → texts ≡ texts_after (last_by result) kept → (IsTrue (state g new).is_open → HasInstalled typed result (state g new).committed)
+  pub served_by : (result : Result Applied Fault) → AppliesOver g summary id (command_meant typed) old new result → HasSettled number result mid settled → texts ≡ texts_after (last_by result) kept
+      → (IsTrue (state g new).is_open → HasInstalled typed result (state g new).committed)
       → (IsTrue (state g new).is_open → OnErr result ((state g new).committed ≡ (state g old).committed)) → AreServed g (then_by (summary_after summary result) (last_by result)) (catalogue_by M (step M id (command_meant typed)) result)
   served_by (Ok (Repeated reply)) over goes is installed stays =
       live_before (state g old).is_open refl
-      (λ live. repeated_served (over.lives clean) (over.above clean) (λ _. (over.value clean M (rests_before live) (sym shown.summary)).2.holds) goes is) (λ dead. over.shut clean dead)
+      (λ live. let rests = (over.value clean M (rests_before live) (sym shown.summary)).2 in repeated_served (over.lives clean) rests.holds (over.above clean rests.is_open) goes is) (λ dead. over.shut clean dead)
   served_by (Ok (Done reply after)) over goes is installed stays =
       live_before (state g old).is_open refl
-      (λ live. let h = over.value clean M (rests_before live) (sym shown.summary) in done_served (over.lives clean) (over.above clean) after reply h.0 h.1 h.2 h.3.holds (installed h.3.is_open) goes is) (λ dead. over.shut clean dead)
+      (λ live. let h = over.value clean M (rests_before live) (sym shown.summary) in done_served (over.lives clean) after reply h.0 h.1 h.2 h.3.holds (installed h.3.is_open) (over.above clean h.3.is_open) goes is)
+      (λ dead. over.shut clean dead)
   served_by (Err fault) over goes is installed stays = failed_served fault (over.lives clean) stays goes is

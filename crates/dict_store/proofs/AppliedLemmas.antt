@@ -19,11 +19,11 @@ use Rattle.dict_desk.specs.declared.fault.Fault.{Fault}
 use Rattle.dict_desk.specs.declared.fault.Fault.TheVariants.{Refused, Memory, Disk, Closed, NotACatalogue, Damaged, NewerSchema}
 use Rattle.dict_rows.specs.Versions.{known}
 use Rattle.dict_holdings.specs.Holds.{Holds, Rests, IsLeftAs}
-use Rattle.dict_commands.specs.Kept.{AddsAbove}
+use Rattle.dict_commands.specs.Kept.{KeepsTexts}
 use Rattle.dict_commands.specs.Changes.{IsInRange}
 use Rattle.dict_commands.specs.Filing.{rested}
 use Rattle.dict_commands.specs.Finishing.{IsAppliedOver, FailsToApplyFiled}
-use Rattle.dict_commands.specs.Answers.{HoldsBy, Answers, has_written, summary_after, IsOfApply, IsOfShut, FailsToApply}
+use Rattle.dict_commands.specs.Answers.{HoldsBy, Answers, has_written, numbers_after, summary_after, IsOfApply, IsOfShut, FailsToApply}
 use Rattle.dict_commands.specs.declared.applied.Applied.{Applied}
 use Rattle.dict_commands.specs.declared.applied.Applied.TheVariants.{Repeated, Done}
 use Rattle.dict_store.specs.Applied.{AppliesOver}
@@ -59,7 +59,8 @@ module _ {S : Type 0} (g : Ghosts S) (summary : Holdings (List ℕ)) (id : List 
 
   -- no transaction was open
   module _ (none : old.in_transaction ≡ false) (settled : HasCleanDisk (state g old) → IsTrue (state g old).is_open → old.in_transaction ≡ false → (state g old).now ≡ (state g old).committed)
-      (crash : Survives (state g old) (state g new) (Left (Rests known (state g old)))) (holds : HoldsBy (summary_after summary result) (state g new)) (lives : HasCleanDisk (state g new) → IsTrue (state g new).is_open → IsTrue (state g old).is_open) where
+      (crash : Survives (state g old) (state g new) (Left (Rests known (state g old)))) (holds : HoldsBy (summary_after summary result) (state g new))
+      (lives : HasCleanDisk (state g new) → IsTrue (state g new).is_open → IsTrue (state g old).is_open) where
     first : HasCleanDisk (state g new) → HasCleanDisk (state g old)
     first clean = omega (arith, crash.clean)
 
@@ -71,10 +72,11 @@ module _ {S : Type 0} (g : Ghosts S) (summary : Holdings (List ℕ)) (id : List 
         subst (λ (db : Database). P db (state g new).committed) (settled (first clean) (lives clean live) none)
         (subst (λ (db : Database). P (state g old).now db) (holds clean live).1.settled h)
 
-    pub applied_alone : (HasCleanDisk (state g new) → (M : Catalogue) → Rests known (state g old) M → summary_of M ≡ summary → Answers (state g new) M id (step M id command) result) → (has_written result ≡ false → Survives (state g old) (state g new) (λ _. ⊥))
+    pub applied_alone : (HasCleanDisk (state g new) → (M : Catalogue) → Rests known (state g old) M → summary_of M ≡ summary → Answers (state g new) M id (step M id command) result)
+        → (has_written result ≡ false → Survives (state g old) (state g new) (λ _. ⊥))
         → (HasCleanDisk (state g new) → (state g old).is_open ≡ false → IsOfShut id result)
         → (HasCleanDisk (state g new) → IfErr result (λ fault. is_failure fault ≡ true → FailsToApply g summary id command old new fault))
-        → (HasCleanDisk (state g new) → OnOk result (AddsAbove summary.installs (state g old).now (state g new).now))
+        → (HasCleanDisk (state g new) → OnOk result (KeepsTexts summary.installs (numbers_after summary result) (state g old).now (state g new).now))
         → (HasCleanDisk (state g new) → IfErr result (λ fault. is_failure fault ≡ false → (state g new).now ≡ (state g old).now))
         → summary.installs ≤ (summary_after summary result).installs → IfErr result IsOfApply → IsInRange (summary_after summary result) → new.in_transaction ≡ false → AppliesOver g summary id command old new result
     applied_alone value spares shut failed above refused grows kinds range ended = record {
@@ -83,8 +85,9 @@ module _ {S : Type 0} (g : Ghosts S) (summary : Holdings (List ℕ)) (id : List 
       crash = survives_weaker (state g old) (state g new) (Left (Rests known (state g old))) (Left (Rests known (rested (state g old)))) (λ clean trees h. (h.0, λ M rests is. h.1 M (rests_before clean M rests) is)) crash;
       shut = shut;
       lives = lives;
-      failed = λ clean. err_weaker (λ fault. is_failure fault ≡ true → FailsToApply g summary id command old new fault) (λ fault. is_failure fault ≡ true → FailsToApplyOver g summary id command old new fault) result (λ fault h failure. inl (h failure)) (failed clean);
-      above = λ clean live. as_committed (λ (a b : Database). OnOk result (AddsAbove summary.installs a b)) clean live (above clean);
+      failed = λ clean. err_weaker (λ fault. is_failure fault ≡ true → FailsToApply g summary id command old new fault) (λ fault. is_failure fault ≡ true → FailsToApplyOver g summary id command old new fault) result
+          (λ fault h failure. inl (h failure)) (failed clean);
+      above = λ clean live. as_committed (λ (a b : Database). OnOk result (KeepsTexts summary.installs (numbers_after summary result) a b)) clean live (above clean);
       refused = λ clean live. as_committed (λ (a b : Database). IfErr result (λ fault. is_failure fault ≡ false → b ≡ a)) clean live (refused clean);
       grows = grows;
       kinds = kinds;
@@ -96,9 +99,11 @@ module _ {S : Type 0} (g : Ghosts S) (summary : Holdings (List ℕ)) (id : List 
 
   -- one was
   module _ (inside : old.in_transaction ≡ true) (value : HasCleanDisk (state g new) → (M : Catalogue) → Rests known (rested (state g old)) M → summary_of M ≡ summary → Answers (rested (state g new)) M id (step M id command) result)
-      (failed : HasCleanDisk (state g new) → IfErr result (λ fault. is_failure fault ≡ true → FailsToApplyFiled g summary id command old new fault)) (holds : HoldsBy (summary_after summary result) (rested (state g new))) (range : IsInRange summary) where
+      (failed : HasCleanDisk (state g new) → IfErr result (λ fault. is_failure fault ≡ true → FailsToApplyFiled g summary id command old new fault))
+      (holds : HoldsBy (summary_after summary result) (rested (state g new))) (range : IsInRange summary) where
     fails : HasCleanDisk (state g new) → IfErr result (λ fault. is_failure fault ≡ true → FailsToApplyOver g summary id command old new fault)
-    fails clean = err_weaker (λ fault. is_failure fault ≡ true → FailsToApplyFiled g summary id command old new fault) (λ fault. is_failure fault ≡ true → FailsToApplyOver g summary id command old new fault) result (λ fault h failure. inr (inside, h failure)) (failed clean)
+    fails clean = err_weaker (λ fault. is_failure fault ≡ true → FailsToApplyFiled g summary id command old new fault) (λ fault. is_failure fault ≡ true → FailsToApplyOver g summary id command old new fault) result
+        (λ fault h failure. inr (inside, h failure)) (failed clean)
 
     lawful : IsAppliedOver summary id command (state g old) (state g new) result → (HasCleanDisk (state g new) → IsTrue (state g new).is_open → (state g new).now ≡ (state g new).committed) → AppliesOver g summary id command old new result
     lawful over settled = record {
@@ -127,7 +132,7 @@ module _ {S : Type 0} (g : Ghosts S) (summary : Holdings (List ℕ)) (id : List 
       shut = λ clean shut. subst (IsOfShut id) (sym told) (other, refl);
       lives = λ clean live. subst (λ (h : Held S). IsTrue (state g h).is_open) same live;
       failed = fails;
-      above = λ clean live. subst (λ (r : Result Applied Fault). OnOk r (AddsAbove summary.installs (state g old).committed (state g new).committed)) (sym told) tt;
+      above = λ clean live. subst (λ (r : Result Applied Fault). OnOk r (KeepsTexts summary.installs (numbers_after summary r) (state g old).committed (state g new).committed)) (sym told) tt;
       refused = λ clean live. subst (λ (r : Result Applied Fault). IfErr r (λ fault. is_failure fault ≡ false → (state g new).committed ≡ (state g old).committed)) (sym told) (λ _. ap (λ (h : Held S). (state g h).committed) same);
       grows = subst (λ (r : Result Applied Fault). summary.installs ≤ (summary_after summary r).installs) (sym told) (omega arith);
       kinds = subst (λ (r : Result Applied Fault). IfErr r IsOfApply) (sym told) tt;
@@ -137,7 +142,8 @@ module _ {S : Type 0} (g : Ghosts S) (summary : Holdings (List ℕ)) (id : List 
       inside = λ clean there. same;
     }
 
-    pub applied_beside : (is_request_id id ≡ true → IsAppliedOver summary id command (state g old) (state g new) result) → (HasCleanDisk (state g new) → is_request_id id ≡ true → IsTrue (state g new).is_open → (state g new).now ≡ (state g new).committed)
+    pub applied_beside : (is_request_id id ≡ true → IsAppliedOver summary id command (state g old) (state g new) result)
+        → (HasCleanDisk (state g new) → is_request_id id ≡ true → IsTrue (state g new).is_open → (state g new).now ≡ (state g new).committed)
         → (is_request_id id ≡ false → (result ≡ Err (Refused BadRequestId)) × (new ≡ old)) → AppliesOver g summary id command old new result
     applied_beside over settled refused = by_id (is_request_id id) refl
       where

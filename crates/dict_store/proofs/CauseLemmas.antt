@@ -26,6 +26,7 @@ use Rattle.dict_commands.specs.declared.filing.Filing.{Filing}
 use Rattle.dict_commands.specs.declared.applied.Applied.{Applied}
 use Rattle.dict_commands.specs.declared.applied.Applied.TheVariants.{Repeated, Done}
 use Rattle.dict_search.specs.Entries.{Indexed}
+use Rattle.dict_texts.specs.Texts.{Key}
 use Rattle.dict_store.specs.Desk.{DeskState, IsAtRest, is_closed, reply_of}
 use Rattle.dict_store.specs.Causes.{GivesWay, FailsToApplyOver, FailsToApplyTo}
 use Rattle.dict_store.specs.Prepared.{IsAlike, Undoes}
@@ -35,7 +36,8 @@ no_limit : (limit : Option ℕ) → limit ≡ None → IsSome limit → ⊥
 no_limit limit is some = false≢true (sym (ap is_some is) ∙ some)
 
 -- a lookup, or a reading of a kept reply, behind what was undone of what was prepared
-module _ {S : Type 0} (g : Ghosts S) (first : DeskState S) (old new : Held S) (summary : Holdings (List ℕ)) (filing : Option Filing) (indexes : List (ℕ × List Indexed)) (texts : List (ℕ × List ℕ)) (before after : LastCall) (open_before : is_closed before ≡ false) (rest : IsAtRest g before summary filing old)
+module _ {S : Type 0} (g : Ghosts S) (first : DeskState S) (old new : Held S) (summary : Holdings (List ℕ)) (filing : Option Filing) (indexes : List (ℕ × List Indexed))
+    (texts : List (Key × List ℕ)) (before after : LastCall) (open_before : is_closed before ≡ false) (rest : IsAtRest g before summary filing old)
     (survives : Survives (state g old) (state g new) (λ _. ⊥)) (undone : HasCleanDisk (state g new) → Undoes g first.conn old) where
   -- what an open desk has committed is a catalogue's, and it has no limit on steps
   read_holds : HasCleanDisk (state g new) → IsUnchanged (state g old) (state g new) → (M : Catalogue) × Holds known (state g old).committed M
@@ -101,7 +103,8 @@ closed_gives_way g old new fault h = subst (GivesWay g old new) (sym h.0) (h.1, 
 
 -- a command
 module _ {S : Type 0} (g : Ghosts S) (old : DeskState S) (id : List ℕ) (command : Command Edition) (new : DeskState S) where
-  fails_as : (fault : Fault) → IsOfApply fault → (is_failure fault ≡ true → FailsToApplyOver g old.summary id command old.conn new.conn fault) → is_failure fault ≡ true → FailsToApplyTo g old (record { id = id; command = command }) new fault
+  fails_as : (fault : Fault) → IsOfApply fault → (is_failure fault ≡ true → FailsToApplyOver g old.summary id command old.conn new.conn fault) → is_failure fault ≡ true
+      → FailsToApplyTo g old (record { id = id; command = command }) new fault
   fails_as (Refused refusal) kind h failure = absurd (false≢true failure)
   fails_as Memory kind h failure = inr (h failure)
   fails_as Disk kind h failure = h failure

@@ -20,7 +20,8 @@ use Rattle.dict_desk.proofs.HandingLemmas.{hands_front}
 use Rattle.dict_holdings.specs.Faults as reading
 use Rattle.dict_holdings.specs.Holds.{HasLayout, Holds, IsLeft}
 use Rattle.dict_lookup.specs.Searches.{FailsToLookUp}
-use Rattle.dict_lookup.specs.Texts.{AreCutFrom, AreMade, IsAtMostRead}
+use Rattle.dict_lookup.specs.Texts.{ArePartsOf, AreMade, IsAtMostRead}
+use Rattle.dict_texts.specs.Texts.{Key}
 use Rattle.dict_commands.specs.Changes.{IsInRange}
 use Rattle.dict_commands.specs.Filing.{IsAhead}
 use Rattle.dict_commands.specs.declared.filing.Filing.{Filing}
@@ -55,7 +56,8 @@ continues_by number old new (Ok value) same failed = unchanged_continues old new
 continues_by number old new (Err fault) same failed = fails_continues number old new fault failed
 
 -- of a lookup that asks the store for a text at most
-pub found_continues : {S T : Type 0} (g : Ghosts S) (number : ℕ) (old new : Held S) (result : Result T Fault) → OnOk result (IsAtMostRead g old new) → IfErr result (λ fault. ((fault ≡ Memory) × (new ≡ old)) ⊎ FailsToLookUp number (state g old) (state g new) fault) → Continues (state g old) (state g new)
+pub found_continues : {S T : Type 0} (g : Ghosts S) (number : ℕ) (old new : Held S) (result : Result T Fault) → OnOk result (IsAtMostRead g old new)
+    → IfErr result (λ fault. ((fault ≡ Memory) × (new ≡ old)) ⊎ FailsToLookUp number (state g old) (state g new) fault) → Continues (state g old) (state g new)
 found_continues g number old new (Ok value) (inl same) failed = subst (λ (h : Held _). Continues (state g old) (state g h)) (sym same) (same_continues (state g old))
 found_continues g number old new (Ok value) (inr same) failed = unchanged_continues (state g old) (state g new) same
 found_continues g number old new (Err fault) same (inl h) = subst (λ (h : Held _). Continues (state g old) (state g h)) (sym h.1) (same_continues (state g old))
@@ -70,7 +72,8 @@ replies_continue old new (Ok value) same failed = unchanged_continues old new sa
 replies_continue old new (Err fault) same failed = reply_continues old new fault failed
 
 -- and a reading behind it, in no transaction
-pub continues_then : (old mid new : State) → old.in_transaction ≡ false → Continues old mid → (IsTrue new.is_open → IsTrue mid.is_open) → (IsTrue new.is_open → new.now ≡ mid.now) → (IsTrue new.is_open → new.committed ≡ mid.committed) → new.in_transaction ≡ false → Continues old new
+pub continues_then : (old mid new : State) → old.in_transaction ≡ false → Continues old mid → (IsTrue new.is_open → IsTrue mid.is_open) → (IsTrue new.is_open → new.now ≡ mid.now)
+    → (IsTrue new.is_open → new.committed ≡ mid.committed) → new.in_transaction ≡ false → Continues old new
 continues_then old mid new none first lives now committed ended = record {
   was_open = λ live. first.was_open (lives live);
   committed = λ live. committed live ∙ first.committed (lives live);
@@ -106,7 +109,8 @@ module _ {S : Type 0} (g : Ghosts S) where
   -- ---- what is prepared
 
   -- the tables are those of the known version, also beside rows that are filed
-  pub own_by : (summary : Holdings (List ℕ)) (filing : Option Filing) (h : Held S) → HasCommitted summary (state g h) → (HasCleanDisk (state g h) → IsTrue (state g h).is_open → h.in_transaction ≡ false → (state g h).now ≡ (state g h).committed)
+  pub own_by : (summary : Holdings (List ℕ)) (filing : Option Filing) (h : Held S) → HasCommitted summary (state g h)
+      → (HasCleanDisk (state g h) → IsTrue (state g h).is_open → h.in_transaction ≡ false → (state g h).now ≡ (state g h).committed)
       → HasFiled g filing h → HasCleanDisk (state g h) → IsTrue (state g h).is_open → HasLayout (layout_of known) (state g h).now.schema
   own_by summary filing h holds settled filed clean live = by_mode h.in_transaction refl
     where
@@ -124,7 +128,8 @@ module _ {S : Type 0} (g : Ghosts S) where
   filed_less before after h (inr gone) filed = subst (λ (f : Option Filing). HasFiled g f h) (sym gone.0) (λ clean. gone.1)
 
   pub at_rest : (last : LastCall) (summary : Holdings (List ℕ)) (filing : Option Filing) (h : Held S) → h.step_limit ≡ None → IsInRange summary → (is_closed last ≡ false → HasCommitted summary (state g h))
-      → (is_closed last ≡ false → HasCleanDisk (state g h) → IsTrue (state g h).is_open → h.in_transaction ≡ false → (state g h).now ≡ (state g h).committed) → (is_closed last ≡ false → HasFiled g filing h) → IsAtRest g last summary filing h
+      → (is_closed last ≡ false → HasCleanDisk (state g h) → IsTrue (state g h).is_open → h.in_transaction ≡ false → (state g h).now ≡ (state g h).committed)
+      → (is_closed last ≡ false → HasFiled g filing h) → IsAtRest g last summary filing h
   at_rest last summary filing h limit range holds settled filed = record {
     limit = limit;
     range = range;
@@ -140,7 +145,8 @@ module _ {S : Type 0} (g : Ghosts S) where
       left (clean_behind (state g old.conn) (state g new.conn) survives clean) trees (elim (survives.crash clean trees may) as (λ _. (state g old.conn).may_leave trees) [ inl h ↦ h | inr h ↦ absurd h ])
 
 -- what is prepared, of a connection that goes on
-module _ {S : Type 0} (g : Ghosts S) (old new : Held S) (first : HasCleanDisk (state g new) → HasCleanDisk (state g old)) (goes : HasCleanDisk (state g new) → Continues (state g old) (state g new)) (mode : old.in_transaction ≡ false → new.in_transaction ≡ false) where
+module _ {S : Type 0} (g : Ghosts S) (old new : Held S) (first : HasCleanDisk (state g new) → HasCleanDisk (state g old)) (goes : HasCleanDisk (state g new) → Continues (state g old) (state g new))
+    (mode : old.in_transaction ≡ false → new.in_transaction ≡ false) where
   pub filed_still : (filing : Option Filing) → HasFiled g filing old → HasFiled g filing new
   filed_still None none = λ clean. mode (none (first clean))
   filed_still (Some f) some = (
@@ -156,15 +162,15 @@ module _ {S : Type 0} (g : Ghosts S) (old new : Held S) (first : HasCleanDisk (s
 
 -- ---- the texts that are kept
 
-pub texts_keep : (last : LastCall) (summary : Holdings (List ℕ)) (texts : List (ℕ × List ℕ)) → AreMade summary.installs texts → KeepsTexts last summary (texts_after last texts)
+pub texts_keep : (last : LastCall) (summary : Holdings (List ℕ)) (texts : List (Key × List ℕ)) → AreMade summary.installs texts → KeepsTexts last summary (texts_after last texts)
 texts_keep Fine summary texts made = record { made = made; none = λ failed. absurd (false≢true failed) }
 texts_keep Failed summary texts made = record { made = tt; none = λ failed. refl }
 texts_keep Closed summary texts made = record { made = tt; none = λ failed. refl }
 
-pub cut_after : (last : LastCall) (number : ℕ) (index : List Indexed) (edition : Edition) (texts : List (ℕ × List ℕ)) → AreCutFrom number index edition texts → AreCutFrom number index edition (texts_after last texts)
-cut_after Fine number index edition texts are = are
-cut_after Failed number index edition texts are = tt
-cut_after Closed number index edition texts are = tt
+pub parts_after : (last : LastCall) (number : ℕ) (text : List ℕ) (texts : List (Key × List ℕ)) → ArePartsOf number text texts → ArePartsOf number text (texts_after last texts)
+parts_after Fine number text texts are = are
+parts_after Failed number text texts are = tt
+parts_after Closed number text texts are = tt
 
 module _ {S : Type 0} (g : Ghosts S) (old new : Held S) (summary : Holdings (List ℕ)) (filing : Option Filing) (before after : LastCall) (open_before : is_closed before ≡ false) (rest : IsAtRest g before summary filing old)
     (survives : Survives (state g old) (state g new) (λ _. ⊥)) (goes : HasCleanDisk (state g new) → Continues (state g old) (state g new)) where
@@ -187,29 +193,32 @@ module _ {S : Type 0} (g : Ghosts S) (old new : Held S) (summary : Holdings (Lis
   rests_on mode = at_rest g after summary filing new (survives.limit ∙ rest.limit) rest.range (λ fine. committed_on) (λ fine. settled_on) (λ fine. filed_still g old new clean_first goes mode filing (rest.filed open_before))
 
   -- the desk, which keeps these texts now
-  pub desk_on : (old.in_transaction ≡ false → new.in_transaction ≡ false) → (kept texts : List (ℕ × List ℕ)) → texts ≡ texts_after after kept → AreMade summary.installs kept → IsAtRest g after summary filing new × KeepsTexts after summary texts
+  pub desk_on : (old.in_transaction ≡ false → new.in_transaction ≡ false) → (kept texts : List (Key × List ℕ)) → texts ≡ texts_after after kept → AreMade summary.installs kept
+      → IsAtRest g after summary filing new × KeepsTexts after summary texts
   desk_on mode kept texts is made = (rests_on mode, subst (KeepsTexts after summary) (sym is) (texts_keep after summary kept made))
 
-  module _ (indexes : List (ℕ × List Indexed)) (kept : List (ℕ × List ℕ)) (M : Catalogue) (shown : Shows g (record { conn = old; summary = summary; last = before; indexes = indexes; texts = kept }) M) where
+  module _ (indexes : List (ℕ × List Indexed)) (kept : List (Key × List ℕ)) (M : Catalogue) (shown : Shows g (record { conn = old; summary = summary; last = before; indexes = indexes; texts = kept }) M) where
     -- what is shown, with these texts
-    pub shows_with : (texts : List (ℕ × List ℕ))
-        → (HasCleanDisk (state g new) → (stored : Stored Edition) (one : IsServed g (record { conn = old; summary = summary; last = before; indexes = indexes; texts = kept }) stored) → AreCutFrom stored.number one.index stored.content texts)
+    pub shows_with : (texts : List (Key × List ℕ))
+        → (HasCleanDisk (state g new) → (stored : Stored Edition) (one : IsServed g (record { conn = old; summary = summary; last = before; indexes = indexes; texts = kept }) stored) → ArePartsOf stored.number one.text texts)
         → Shows g (record { conn = new; summary = summary; last = after; indexes = indexes; texts = texts }) M
     shows_with texts cut = record {
       summary = shown.summary;
       well_formed = shown.well_formed;
       holds = λ fine clean live. subst (λ (db : Database). Holds known db M) (sym ((goes clean).committed live)) (shown.holds open_before (clean_first clean) ((goes clean).was_open live));
-      served = λ clean. served_still g (record { conn = old; summary = summary; last = before; indexes = indexes; texts = kept }) (record { conn = new; summary = summary; last = after; indexes = indexes; texts = texts }) (λ q. refl) (λ _. open_before) (goes clean).was_open (goes clean).committed (cut clean) M (shown.served (clean_first clean));
+      served = λ clean. served_still g (record { conn = old; summary = summary; last = before; indexes = indexes; texts = kept }) (record { conn = new; summary = summary; last = after; indexes = indexes; texts = texts })
+          (λ q. refl) (λ _. open_before) (goes clean).was_open (goes clean).committed (cut clean) M (shown.served (clean_first clean));
     }
 
-    pub shows_on : (texts : List (ℕ × List ℕ)) → texts ≡ texts_after after kept → Shows g (record { conn = new; summary = summary; last = after; indexes = indexes; texts = texts }) M
-    shows_on texts is = shows_with texts (λ clean stored one. subst (AreCutFrom stored.number one.index stored.content) (sym is) (cut_after after stored.number one.index stored.content kept one.kept))
+    pub shows_on : (texts : List (Key × List ℕ)) → texts ≡ texts_after after kept → Shows g (record { conn = new; summary = summary; last = after; indexes = indexes; texts = texts }) M
+    shows_on texts is = shows_with texts (λ clean stored one. subst (ArePartsOf stored.number one.text) (sym is) (parts_after after stored.number one.text kept one.kept))
 
     pub held : HasCleanDisk (state g new) → IsTrue (state g old).is_open → Holds known (state g old).committed M
     held clean live = shown.holds open_before (clean_first clean) live
 
 -- what was handed out over a store that may be shut
-pub handed_by : {K : Type 0} (takes stops : K → List Row → K → Type 0) (first last : K) (rows : List Row) (result : Result End Fault) (live : Bool) → (live ≡ true → Hands takes stops first last rows result) → (live ≡ false → IsErr result × (last ≡ first)) → takes first [] first
+pub handed_by : {K : Type 0} (takes stops : K → List Row → K → Type 0) (first last : K) (rows : List Row) (result : Result End Fault) (live : Bool) → (live ≡ true → Hands takes stops first last rows result)
+    → (live ≡ false → IsErr result × (last ≡ first)) → takes first [] first
     → Hands takes stops first last rows result
 handed_by takes stops first last rows result true value shut none = value refl
 handed_by takes stops first last rows (Ok end) false value shut none = absurd (false≢true (shut refl).0)

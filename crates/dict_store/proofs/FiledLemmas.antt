@@ -1,6 +1,6 @@
 -- What a database that has rows of a filing beside what is committed shows of that still.
-use Rattle.std.proofs.Common.{◌≡◌, ℕ, Bool, List, [], ◌∷◌, map, drop, filter, codes, ap, subst, ◌∙◌}
-use Rattle.std.specs.Prelude.{ℤ, pos}
+use Rattle.std.proofs.Common.{◌≡◌, ℕ, Bool, List, [], ◌∷◌, map, drop, filter, codes, refl, ap, sym, subst, ◌∙◌}
+use Rattle.std.specs.Prelude.{ℤ, pos, IsPermutation}
 use Rattle.std.specs.List.{AllByRecursion}
 use Rattle.std.proofs.lemmas.List.Sorted.{IsPermutation-trans}
 use Rattle.sqlite.specs.Effect.{Database}
@@ -10,18 +10,26 @@ use Rattle.dict_text.proofs.AllLemmas.{all_filter}
 use Rattle.dict_index.specs.Edition.{ReadEdition}
 use Rattle.dict_catalogue.specs.Steps.{Catalogue}
 use Rattle.dict_sql.specs.Columns.{Content, Number, Name, Octets, HasColumns}
-use Rattle.dict_sql.specs.Effects.{equals_number, rows_of}
-use Rattle.dict_sql.specs.Encodings.{edition_row, kept_row}
+use Rattle.dict_sql.specs.Effects.{equals_number, rows_of, same_value}
+use Rattle.dict_sql.specs.Encodings.{kept_row}
+use Rattle.dict_header_sql.specs.Records.{header_row}
+use Rattle.dict_part_sql.specs.Chosen.{is_of_file}
+use Rattle.dict_records.specs.Records.{header_of}
 use Rattle.dict_rows.specs.Versions.{known, layout_of}
 use Rattle.dict_rows.specs.Written.{edition_record}
 use Rattle.dict_rows.proofs.OrderLemmas.{all_same}
-use Rattle.dict_derived.specs.AllTables.{AllTables, with_derived}
+use Rattle.dict_rows.proofs.PartLemmas.{filter_filter}
+use Rattle.dict_files.specs.AllTables.{AllTables, with_derived}
 use Rattle.dict_holdings.specs.Holds.{HasLayout, Holds, Keeps}
+use Rattle.dict_holdings.specs.Texts.{HoldsText, text_rows}
 use Rattle.dict_lookup.specs.Searches.{HoldsOne, IsReadable, rows_under}
+use Rattle.dict_lookup.proofs.RowLemmas.{column_behind, filter_map}
+use Rattle.sqlite_trees.proofs.ListLemmas.{IsPermutation-filter}
 use Rattle.dict_commands.specs.Kept.{HasRecords, IsUsable, HoldsReplies}
 use Rattle.dict_commands.specs.Filing.{IsAhead, KeepsEdition}
 use Rattle.dict_commands.specs.declared.filing.Filing.{Filing}
-use Rattle.dict_commands.proofs.TableLemmas.{editions_kept, kept_kept}
+use Rattle.dict_commands.proofs.TableLemmas.{editions_kept, kept_kept, parts_kept}
+use Rattle.dict_store.proofs.TextLemmas.{text_carried}
 
 -- ---- rows with their rowids and without
 
@@ -38,8 +46,21 @@ whole_rows : (columns : List Content) (rows : List Row) → AllByRecursion (HasC
 whole_rows columns [] h ids = tt
 whole_rows columns (row ∷ rows) h ids = (whole_row columns row h.0 ids.0, whole_rows columns rows h.1 ids.1)
 
-abbrev edition_cells : List Content
-edition_cells = Number ∷ Name ∷ Name ∷ Name ∷ Octets ∷ []
+abbrev header_cells : List Content
+header_cells = Number ∷ Name ∷ Name ∷ Name ∷ []
+
+abbrev part_cells : List Content
+part_cells = Number ∷ Number ∷ Number ∷ Octets ∷ []
+
+-- of the parts of an edition, those of its text
+abbrev text_test : Row → Bool
+text_test row = same_value (column row 1) (Int (pos 1))
+
+text_among : (number : ℕ) (db : Database) → filter text_test (rows_under (codes "dictcat_part") number db) ≡ text_rows number db
+text_among number db =
+    let rows = rows_of (codes "dictcat_part") db in
+    filter_map (drop 1) (equals_number 2 (pos 1)) text_test (λ row. ap (λ v. same_value v (Int (pos 1))) (sym (column_behind row 1 (drop 1 row) refl))) (filter (equals_number 1 (pos number)) rows)
+    ∙ ap (map (drop 1)) (filter_filter (equals_number 2 (pos 1)) (equals_number 1 (pos number)) (is_of_file (pos number) (pos 1)) (λ row. refl) rows)
 
 -- ---- an edition that neither goes nor comes
 
@@ -48,16 +69,34 @@ module _ (number : ℕ) (committed now : Database) (keeps : KeepsEdition number 
   one_still reading h = record {
     few = h.few;
     owner = h.owner;
-    row = IsPermutation-trans (edition_row (edition_record h.owner number reading) ∷ []) (rows_under (codes "edition") number committed) (rows_under (codes "edition") number now) h.row keeps.editions;
+    row = IsPermutation-trans (header_row (header_of (edition_record h.owner number reading)) ∷ []) (rows_under (codes "edition") number committed) (rows_under (codes "edition") number now) h.row keeps.editions;
   }
+
+  text_rows_still : IsPermutation (text_rows number committed) (text_rows number now)
+  text_rows_still =
+      let before = rows_under (codes "dictcat_part") number committed in
+      let after = rows_under (codes "dictcat_part") number now in
+      subst (λ (l : List Row). IsPermutation l (text_rows number now)) (text_among number committed)
+      (subst (IsPermutation (filter text_test before)) (text_among number now) (IsPermutation-filter text_test before after keeps.parts))
+
+  pub text_still : (text : List ℕ) → HoldsText committed number text → HoldsText now number text
+  text_still text held = text_carried committed now number text text_rows_still held
 
   pub readable_still : IsUsable now → IsReadable committed number → IsReadable now number
   readable_still usable h =
       let of_number : Row → Bool = equals_number 1 (pos number) in
-      let editions : List Row = filter of_number (rows_of (codes "edition") now) in
-      whole_rows edition_cells editions
-      (all_same (HasColumns edition_cells) (rows_under (codes "edition") number committed) (rows_under (codes "edition") number now) keeps.editions (cells edition_cells (filter of_number (rows_of (codes "edition") committed)) h))
-      (all_filter (λ (row : Row). (n : ℤ) × (column row 0 ≡ Int n)) of_number (rows_of (codes "edition") now) (editions_kept now usable.0 usable.1).apart.integers)
+      let of_text : Row → Bool = is_of_file (pos number) (pos 1) in
+      let headers : List Row = filter of_number (rows_of (codes "edition") now) in
+      let parts : List Row = filter of_text (rows_of (codes "dictcat_part") now) in
+      record {
+        headers = whole_rows header_cells headers
+            (all_same (HasColumns header_cells) (rows_under (codes "edition") number committed) (rows_under (codes "edition") number now) keeps.editions
+            (cells header_cells (filter of_number (rows_of (codes "edition") committed)) h.headers))
+            (all_filter (λ (row : Row). (n : ℤ) × (column row 0 ≡ Int n)) of_number (rows_of (codes "edition") now) (editions_kept now usable.0 usable.1).apart.integers);
+        parts = whole_rows part_cells parts
+            (all_same (HasColumns part_cells) (text_rows number committed) (text_rows number now) text_rows_still (cells part_cells (filter of_text (rows_of (codes "dictcat_part") committed)) h.parts))
+            (all_filter (λ (row : Row). (n : ℤ) × (column row 0 ≡ Int n)) of_text (rows_of (codes "dictcat_part") now) (parts_kept now usable.0 usable.1).apart.integers);
+      }
 
 -- ---- beside what is filed
 

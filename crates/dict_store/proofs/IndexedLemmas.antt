@@ -1,6 +1,6 @@
 -- The indexes of a desk over a command.
 use Rattle.std.proofs.Common.{◌≡◌, ◌≢◌, ◌⊎◌, inl, inr, ℕ, ◌+◌, ◌-◌, ◌^◌, ◌≤◌, Bool, true, false, cond, List, [], ◌∷◌, map, length, nat_eq, refl, sym, ap, subst, ◌∙◌, arith}
-use Rattle.std.specs.Prelude.{IsTrue, min, Contains, Option, Some, None}
+use Rattle.std.specs.Prelude.{IsTrue, min, Contains, IsPermutation, Option, Some, None}
 use Rattle.std.specs.List.{AllByRecursion}
 use Rattle.std.proofs.lemmas.Bool.{eqb-true, false≢true}
 use Rattle.std.proofs.lemmas.List.Elements.{All-contains_itself, recursion_from_All}
@@ -19,26 +19,26 @@ use Rattle.dict_catalogue.specs.declared.commands.Command.TheVariants.{Install, 
 use Rattle.dict_catalogue.specs.declared.summary.Item.{Item as TypedItem}
 use Rattle.dict_catalogue.specs.declared.summary.Summary.{Summary}
 use Rattle.dict_catalogue.proofs.WellFormedLemmas.{IfInstalled, each_after}
-use Rattle.dict_commands.specs.Installed.{HasRecordOf}
-use Rattle.dict_commands.specs.Kept.{AddsAbove, edition_records}
+use Rattle.dict_commands.specs.Installed.{HasTextOf}
 use Rattle.dict_desk.specs.Shown.{HasEdition}
 use Rattle.dict_holdings.specs.Holds.{Holds}
 use Rattle.dict_indexes.specs.Indexes.{entries_under}
-use Rattle.dict_lookup.specs.Texts.{AreCutFrom, AreMade, Cuts, HoldsCut}
+use Rattle.dict_holdings.specs.Texts.{HoldsText, text_rows}
+use Rattle.dict_lookup.specs.Texts.{ArePartsOf, AreMade, Cuts}
+use Rattle.dict_texts.specs.Texts.{Key}
 use Rattle.dict_lookup.proofs.ListLemmas.{all_unmapped}
 use Rattle.dict_rows.specs.Versions.{known}
-use Rattle.dict_rows.specs.Written.{edition_record}
 use Rattle.dict_rows.proofs.OrderLemmas.{all_with}
 use Rattle.dict_search.specs.Entries.{Indexed, entry_of}
-use Rattle.dict_sql.specs.Encodings.{edition_row}
 use Rattle.dict_store.specs.Desk.{DeskState, IsServed, AreServed, is_closed}
 use Rattle.dict_store.specs.Indexed.{HasPut, index_coming}
 use Rattle.dict_store.specs.declared.last.LastCall.TheVariants.{Fine}
-use Rattle.dict_store.proofs.TextLemmas.{cut_carried, cut_come}
+use Rattle.dict_store.proofs.TextLemmas.{text_carried, text_short}
 
 -- ---- what holds of each edition
 
-pub each_both : (P Q R : Stored Edition → Type 0) → ((stored : Stored Edition) → P stored → Q stored → R stored) → (items : List (Item Edition)) → AllByRecursion (λ item. AllByRecursion P (editions_of item)) items → AllByRecursion (λ item. AllByRecursion Q (editions_of item)) items
+pub each_both : (P Q R : Stored Edition → Type 0) → ((stored : Stored Edition) → P stored → Q stored → R stored) → (items : List (Item Edition)) → AllByRecursion (λ item. AllByRecursion P (editions_of item)) items
+    → AllByRecursion (λ item. AllByRecursion Q (editions_of item)) items
     → AllByRecursion (λ item. AllByRecursion R (editions_of item)) items
 each_both P Q R f items p q =
     all_with (λ item. AllByRecursion P (editions_of item)) (λ item. AllByRecursion Q (editions_of item)) (λ item. AllByRecursion R (editions_of item)) (λ item a b. all_with P Q R f (editions_of item) a b) items p q
@@ -47,14 +47,16 @@ each_both P Q R f items p q =
 pub each_low : (M : Catalogue) → IsWellFormed M → AllByRecursion (λ item. AllByRecursion (λ (stored : Stored Edition). stored.number ≤ M.installs) (editions_of item)) M.items
 each_low M well =
     all_weaker (λ (item : Item Edition). AllByRecursion (λ n. (1 ≤ n) × (n ≤ M.installs)) (numbers_of item)) (λ item. AllByRecursion (λ (stored : Stored Edition). stored.number ≤ M.installs) (editions_of item))
-    (λ item h. all_weaker (λ (stored : Stored Edition). (1 ≤ stored.number) × (stored.number ≤ M.installs)) (λ (stored : Stored Edition). stored.number ≤ M.installs) (λ stored low. low.1) (editions_of item) (all_unmapped (λ n. (1 ≤ n) × (n ≤ M.installs)) (λ (stored : Stored Edition). stored.number) (editions_of item) h)) M.items
+    (λ item h. all_weaker (λ (stored : Stored Edition). (1 ≤ stored.number) × (stored.number ≤ M.installs)) (λ (stored : Stored Edition). stored.number ≤ M.installs) (λ stored low. low.1)
+    (editions_of item) (all_unmapped (λ n. (1 ≤ n) × (n ≤ M.installs)) (λ (stored : Stored Edition). stored.number) (editions_of item) h)) M.items
     (all_flat_map_parts (λ n. (1 ≤ n) × (n ≤ M.installs)) numbers_of M.items well.edition_range)
 
 -- each stands in the catalogue
 pub each_has : (M : Catalogue) → AllByRecursion (λ item. AllByRecursion (λ (stored : Stored Edition). HasEdition M stored.number stored.content) (editions_of item)) M.items
 each_has M =
     all_weaker (Contains M.items) (λ item. AllByRecursion (λ (stored : Stored Edition). HasEdition M stored.number stored.content) (editions_of item))
-    (λ item there. all_weaker (Contains (editions_of item)) (λ (stored : Stored Edition). HasEdition M stored.number stored.content) (λ stored at. record { item = item; stands = there; stored = at }) (editions_of item) (recursion_from_All (Contains (editions_of item)) (editions_of item) (All-contains_itself (editions_of item))))
+    (λ item there. all_weaker (Contains (editions_of item)) (λ (stored : Stored Edition). HasEdition M stored.number stored.content) (λ stored at. record { item = item; stands = there; stored = at })
+    (editions_of item) (recursion_from_All (Contains (editions_of item)) (editions_of item) (All-contains_itself (editions_of item))))
     M.items (recursion_from_All (Contains M.items) M.items (All-contains_itself M.items))
 
 -- what holds under the numbers of a summary
@@ -66,9 +68,11 @@ same_numbers P (virtual name title members) h = h
 pub each_numbered : (P : ℕ → Type 0) (M : Catalogue) (after : Summary) → summary_of M ≡ summary_shown after → AllByRecursion (λ item. AllByRecursion P (numbers_of (item_shown item))) after.items.items
     → AllByRecursion (λ item. AllByRecursion (λ (stored : Stored Edition). P stored.number) (editions_of item)) M.items
 each_numbered P M after is h =
-    let shown : AllByRecursion (λ item. AllByRecursion P (numbers_of item)) (map item_shown after.items.items) = all_map (λ (item : TypedItem). AllByRecursion P (numbers_of (item_shown item))) (λ item. AllByRecursion P (numbers_of item)) item_shown (λ item p. p) after.items.items h in
+    let shown : AllByRecursion (λ item. AllByRecursion P (numbers_of item)) (map item_shown after.items.items) = all_map (λ (item : TypedItem). AllByRecursion P (numbers_of (item_shown item)))
+    (λ item. AllByRecursion P (numbers_of item)) item_shown (λ item p. p) after.items.items h in
     let same : map (item_as (λ (edition : Edition). edition.title)) M.items ≡ map item_shown after.items.items = ap (λ (s : Holdings (List ℕ)). s.items) is in
-    let parts = all_unmapped (λ (item : Item (List ℕ)). AllByRecursion P (numbers_of item)) (item_as (λ (edition : Edition). edition.title)) M.items (subst (λ (l : List (Item (List ℕ))). AllByRecursion (λ item. AllByRecursion P (numbers_of item)) l) (sym same) shown) in
+    let parts = all_unmapped (λ (item : Item (List ℕ)). AllByRecursion P (numbers_of item)) (item_as (λ (edition : Edition). edition.title)) M.items
+    (subst (λ (l : List (Item (List ℕ))). AllByRecursion (λ item. AllByRecursion P (numbers_of item)) l) (sym same) shown) in
     all_weaker (λ (item : Item Edition). AllByRecursion P (numbers_of (item_as (λ (edition : Edition). edition.title) item))) (λ item. AllByRecursion (λ (stored : Stored Edition). P stored.number) (editions_of item))
     (λ item p. all_unmapped P (λ (stored : Stored Edition). stored.number) (editions_of item) (same_numbers P item p)) M.items parts
 
@@ -112,23 +116,23 @@ put_at number index old new h = h number ∙ put_there number (nat_eq number num
 
 -- ---- the editions after a command
 
--- no text is kept under the number that comes
-none_cut : (installs : ℕ) (number : ℕ) (index : List Indexed) (edition : Edition) (texts : List (ℕ × List ℕ)) → number ≡ installs + 1 → AreMade installs texts → AreCutFrom number index edition texts
-none_cut installs number index edition [] is made = tt
-none_cut installs number index edition (kept ∷ texts) is made = ((λ same. absurd (let low = made.0 in let no : ⊥ = omega (arith, low, same, is) in no)), none_cut installs number index edition texts is made.1)
+-- nothing is kept under the number that comes
+none_kept : (installs : ℕ) (number : ℕ) (text : List ℕ) (texts : List (Key × List ℕ)) → number ≡ installs + 1 → AreMade installs texts → ArePartsOf number text texts
+none_kept installs number text [] is made = tt
+none_kept installs number text (kept ∷ texts) is made = ((λ same. absurd (let low = made.0 in let no : ⊥ = omega (arith, low, same, is) in no)), none_kept installs number text texts is made.1)
 
-module _ {S : Type 0} (g : Ghosts S) (before : DeskState S) (new : Held S) (command : Typed) (mid after : List (ℕ × List Indexed)) (M : Catalogue) (well : IsWellFormed M) (put : HasPut (M.installs + 1) (index_coming command) before.indexes mid) where
+module _ {S : Type 0} (g : Ghosts S) (before : DeskState S) (new : Held S) (command : Typed) (mid after : List (ℕ × List Indexed)) (M : Catalogue) (well : IsWellFormed M)
+    (put : HasPut (M.installs + 1) (index_coming command) before.indexes mid) where
   -- an edition that was there, or the one that comes
   Stays : Stored Edition → Type 0
   Stays stored = IsServed g before stored × (stored.number ≤ M.installs)
 
   pub record Comes (stored : Stored Edition) : Type 0 where
-    pub owner : List ℕ
     pub reading : ReadEdition
     pub number : stored.number ≡ M.installs + 1
     pub says : stored.content ≡ edition_of reading
     pub coming : index_coming command ≡ Some (map entry_of reading.lines)
-    pub there : Contains (edition_records (M.installs + 1) (state g new).committed) (edition_row (edition_record owner (M.installs + 1) reading))
+    pub there : HoldsText (state g new).committed (M.installs + 1) reading.text
 
   pub Is : Stored Edition → Type 0
   Is stored = Stays stored ⊎ Comes stored
@@ -137,61 +141,73 @@ module _ {S : Type 0} (g : Ghosts S) (before : DeskState S) (new : Held S) (comm
   unfolding Stays Is
   stays_is stored one low = inl (one, low)
 
-  if_comes : (command' : Typed) → command' ≡ command → HasRecordOf command' (M.installs + 1) (state g new).committed → IfInstalled Is (M.installs + 1) (command_meant command')
+  if_comes : (command' : Typed) → command' ≡ command → HasTextOf command' (M.installs + 1) (state g new).committed → IfInstalled Is (M.installs + 1) (command_meant command')
   unfolding IfInstalled Is
-  if_comes (Install name edition) same there = inr (record { owner = name.now; reading = edition.now; number = refl; says = refl; coming = ap index_coming (sym same); there = there })
+  if_comes (Install name edition) same there = inr (record { reading = edition.now; number = refl; says = refl; coming = ap index_coming (sym same); there = there })
   if_comes (Rollback name) same there = tt
   if_comes (Retire name) same there = tt
   if_comes (PutVirtual name title members) same there = tt
   if_comes (Place name at) same there = tt
 
-  pub all_is : (id : List ℕ) → HasRecordOf command (M.installs + 1) (state g new).committed → AreServed g before M → AllByRecursion (λ item. AllByRecursion Is (editions_of item)) (with_effect M id (command_meant command)).items
+  pub all_is : (id : List ℕ) → HasTextOf command (M.installs + 1) (state g new).committed → AreServed g before M → AllByRecursion (λ item. AllByRecursion Is (editions_of item)) (with_effect M id (command_meant command)).items
   unfolding Stays Is
   all_is id there served =
       each_after Stays Is (M.installs + 1) (command_meant command) M.items (λ one h. inl h) (if_comes command refl there)
       (each_both (IsServed g before) (λ (stored : Stored Edition). stored.number ≤ M.installs) Stays (λ stored a b. (a, b)) M.items served (each_low M well))
 
   -- how it stands then
-  module _ (made : AreMade M.installs before.texts) (summary : Holdings (List ℕ)) (fine : is_closed before.last ≡ false) (was_open : IsTrue (state g new).is_open → IsTrue (state g before.conn).is_open) (M' : Catalogue) (holds : IsTrue (state g new).is_open → Holds known (state g new).committed M')
-      (adds : IsTrue (state g new).is_open → AddsAbove M.installs (state g before.conn).committed (state g new).committed) where
+  module _ (made : AreMade M.installs before.texts) (summary : Holdings (List ℕ)) (fine : is_closed before.last ≡ false) (was_open : IsTrue (state g new).is_open → IsTrue (state g before.conn).is_open)
+      (M' : Catalogue) (holds : Holds known (state g new).committed M') where
     abbrev desk_then : DeskState S
     desk_then = record { conn = new; summary = summary; last = Fine; indexes = after; texts = before.texts }
 
-    one_then : (stored : Stored Edition) → Is stored → HasEdition M' stored.number stored.content → entries_under stored.number after ≡ entries_under stored.number mid → IsServed g desk_then stored
+    -- where it was there, its text stays
+    abbrev TextStays : Stored Edition → Type 0
+    TextStays stored = stored.number ≤ M.installs → IsPermutation (text_rows stored.number (state g before.conn).committed) (text_rows stored.number (state g new).committed)
+
+    one_then : (stored : Stored Edition) → Is stored → HasEdition M' stored.number stored.content → TextStays stored → entries_under stored.number after ≡ entries_under stored.number mid → IsServed g desk_then stored
     unfolding Stays Is
-    one_then stored (inl stays) has same =
+    one_then stored (inl stays) has text same =
         let one = stays.0 in
         let apart : M.installs + 1 ≢ stored.number = λ e. (let low = stays.1 in let no : ⊥ = omega (arith, low, e) in no) in
         record {
           index = one.index;
           stands = same ∙ (put_beside (M.installs + 1) (index_coming command) before.indexes mid put stored.number apart ∙ one.stands);
-          is = one.is;
+          text = one.text;
+          cuts = one.cuts;
           kept = one.kept;
-          held = λ open' live. cut_carried (state g before.conn).committed (state g new).committed stored.number one.index stored.content M' (holds live) has M.installs (adds live) stays.1 (one.held fine (was_open live));
+          held = λ open' live. text_carried (state g before.conn).committed (state g new).committed stored.number one.text (text stays.1) (one.held fine (was_open live));
         }
-    one_then stored (inr comes) has same =
+    one_then stored (inr comes) has text same =
         let index = map entry_of comes.reading.lines in
-        let cuts : Cuts index stored.content comes.reading.text = record { lines = comes.reading.lines; entries = refl; cut = ap (λ (e : Edition). e.entries) comes.says } in
+        let there : HoldsText (state g new).committed stored.number comes.reading.text = subst (λ (n : ℕ). HoldsText (state g new).committed n comes.reading.text) (sym comes.number) comes.there in
+        let short = text_short (state g new).committed M' stored.number stored.content holds has comes.reading.text there in
+        let cuts : Cuts index stored.content comes.reading.text = record { lines = comes.reading.lines; entries = refl; cut = ap (λ (e : Edition). e.entries) comes.says; short = short } in
         let stands : entries_under (M.installs + 1) mid ≡ Some index = put_at (M.installs + 1) index before.indexes mid (subst (λ (coming : Option (List Indexed)). HasPut (M.installs + 1) coming before.indexes mid) comes.coming put) in
         record {
           index = index;
           stands = same ∙ subst (λ (n : ℕ). entries_under n mid ≡ Some index) (sym comes.number) stands;
-          is = (comes.reading.text, cuts);
-          kept = none_cut M.installs stored.number index stored.content before.texts comes.number made;
-          held = λ open' live. cut_come (state g before.conn).committed (state g new).committed stored.number index stored.content M' (holds live) has comes.owner comes.reading
-              (subst (λ (n : ℕ). Contains (edition_records n (state g new).committed) (edition_row (edition_record comes.owner n comes.reading))) (sym comes.number) comes.there) cuts;
+          text = comes.reading.text;
+          cuts = cuts;
+          kept = none_kept M.installs stored.number comes.reading.text before.texts comes.number made;
+          held = λ open' live. there;
         }
 
-    pub all_then : AllByRecursion (λ item. AllByRecursion Is (editions_of item)) M'.items → AllByRecursion (λ item. AllByRecursion (λ (stored : Stored Edition). entries_under stored.number after ≡ entries_under stored.number mid) (editions_of item)) M'.items → AreServed g desk_then M'
-    all_then is same =
-        each_both (λ stored. Is stored × HasEdition M' stored.number stored.content) (λ (stored : Stored Edition). entries_under stored.number after ≡ entries_under stored.number mid) (IsServed g desk_then) (λ stored both e. one_then stored both.0 both.1 e) M'.items
-        (each_both Is (λ (stored : Stored Edition). HasEdition M' stored.number stored.content) (λ stored. Is stored × HasEdition M' stored.number stored.content) (λ stored a b. (a, b)) M'.items is (each_has M')) same
+    pub all_then : AllByRecursion (λ item. AllByRecursion Is (editions_of item)) M'.items → AllByRecursion (λ item. AllByRecursion TextStays (editions_of item)) M'.items
+        → AllByRecursion (λ item. AllByRecursion (λ (stored : Stored Edition). entries_under stored.number after ≡ entries_under stored.number mid) (editions_of item)) M'.items → AreServed g desk_then M'
+    all_then is stay same =
+        each_both (λ stored. Is stored × HasEdition M' stored.number stored.content × TextStays stored) (λ (stored : Stored Edition). entries_under stored.number after ≡ entries_under stored.number mid)
+        (IsServed g desk_then) (λ stored all e. one_then stored all.0 all.1 all.2 e) M'.items
+        (each_both Is (λ (stored : Stored Edition). HasEdition M' stored.number stored.content × TextStays stored) (λ stored. Is stored × HasEdition M' stored.number stored.content × TextStays stored)
+        (λ stored a b. (a, b.0, b.1)) M'.items is
+        (each_both (λ (stored : Stored Edition). HasEdition M' stored.number stored.content) TextStays (λ stored. HasEdition M' stored.number stored.content × TextStays stored) (λ stored a b. (a, b)) M'.items (each_has M') stay)) same
 
   -- a command that didn't act leaves them
-  module _ (new_desk : DeskState S) (fine : is_closed new_desk.last ≡ false → is_closed before.last ≡ false) (was_open : IsTrue (state g new_desk.conn).is_open → IsTrue (state g before.conn).is_open) (committed : IsTrue (state g new_desk.conn).is_open → (state g new_desk.conn).committed ≡ (state g before.conn).committed)
+  module _ (new_desk : DeskState S) (fine : is_closed new_desk.last ≡ false → is_closed before.last ≡ false) (was_open : IsTrue (state g new_desk.conn).is_open → IsTrue (state g before.conn).is_open)
+      (committed : IsTrue (state g new_desk.conn).is_open → (state g new_desk.conn).committed ≡ (state g before.conn).committed)
       (settled : (q : ℕ) → q ≢ M.installs + 1 → entries_under q new_desk.indexes ≡ entries_under q mid) where
-    pub all_stay : ((stored : Stored Edition) (one : IsServed g before stored) → AreCutFrom stored.number one.index stored.content new_desk.texts) → AreServed g before M → AreServed g new_desk M
-    all_stay cut served =
+    pub all_stay : ((stored : Stored Edition) (one : IsServed g before stored) → ArePartsOf stored.number one.text new_desk.texts) → AreServed g before M → AreServed g new_desk M
+    all_stay parts served =
         each_both (IsServed g before) (λ (stored : Stored Edition). stored.number ≤ M.installs) (IsServed g new_desk) stay M.items served (each_low M well)
       where
         stay : (stored : Stored Edition) → IsServed g before stored → stored.number ≤ M.installs → IsServed g new_desk stored
@@ -200,7 +216,8 @@ module _ {S : Type 0} (g : Ghosts S) (before : DeskState S) (new : Held S) (comm
             record {
               index = one.index;
               stands = settled stored.number (λ e. apart (sym e)) ∙ (put_beside (M.installs + 1) (index_coming command) before.indexes mid put stored.number apart ∙ one.stands);
-              is = one.is;
-              kept = cut stored one;
-              held = λ open' live. subst (λ (db : Database). HoldsCut db stored.number one.index stored.content) (sym (committed live)) (one.held (fine open') (was_open live));
+              text = one.text;
+              cuts = one.cuts;
+              kept = parts stored one;
+              held = λ open' live. subst (λ (db : Database). HoldsText db stored.number one.text) (sym (committed live)) (one.held (fine open') (was_open live));
             }

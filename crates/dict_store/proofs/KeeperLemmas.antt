@@ -36,6 +36,7 @@ use Rattle.dict_store.specs.declared.last.LastCall.{LastCall}
 use Rattle.dict_store.proofs.DeskLemmas.{at_rest, filed_less, texts_keep}
 use Rattle.dict_rows.specs.Versions.{known}
 use Rattle.dict_holdings.proofs.OneLemmas.{left_known}
+use Rattle.dict_texts.specs.Texts.{Key}
 
 -- ---- kept replies
 
@@ -63,11 +64,12 @@ catalogue_by M outcome (Ok (Done kept summary)) = outcome.catalogue
 catalogue_by M outcome (Err fault) = M
 
 -- what a command answers over a store that is open
-module _ {S : Type 0} (g : Ghosts S) (new : Held S) (M : Catalogue) (id : List ℕ) (outcome : Outcome) (indexes : List (ℕ × List Indexed)) (texts : List (ℕ × List ℕ)) where
+module _ {S : Type 0} (g : Ghosts S) (new : Held S) (M : Catalogue) (id : List ℕ) (outcome : Outcome) (indexes : List (ℕ × List Indexed)) (texts : List (Key × List ℕ)) where
   abbrev desk_by : Holdings (List ℕ) → LastCall → DeskState S
   desk_by summary last = record { conn = new; summary = summary; last = last; indexes = indexes; texts = texts }
 
-  shown_by : (summary : Holdings (List ℕ)) (last : LastCall) (N : Catalogue) → summary ≡ summary_of N → IsWellFormed N → (IsTrue (state g new).is_open → Rests known (rested (state g new)) N) → (HasCleanDisk (state g new) → AreServed g (desk_by summary last) N) → Shows g (desk_by summary last) N
+  shown_by : (summary : Holdings (List ℕ)) (last : LastCall) (N : Catalogue) → summary ≡ summary_of N → IsWellFormed N → (IsTrue (state g new).is_open → Rests known (rested (state g new)) N)
+      → (HasCleanDisk (state g new) → AreServed g (desk_by summary last) N) → Shows g (desk_by summary last) N
   shown_by summary last N is well rests served = record { summary = is; well_formed = well; holds = λ fine clean live. (rests live).holds; served = served }
 
   pub applies_open : (summary : Holdings (List ℕ)) (result : Result Applied Fault) → summary ≡ summary_of M → IsWellFormed M → Answers (rested (state g new)) M id outcome result
@@ -93,14 +95,17 @@ unlawful_step : (M : Catalogue) (id : List ℕ) (command : Command Edition) → 
 unlawful_step M id command unlawful = rw unlawful refl
 
 -- and over one that is shut
-pub applies_shut : {S : Type 0} (g : Ghosts S) (new : Held S) (M : Catalogue) (id : List ℕ) (command : Command Edition) (indexes : List (ℕ × List Indexed)) (texts : List (ℕ × List ℕ)) (summary : Holdings (List ℕ)) (result : Result Applied Fault) → IsOfShut id result
+pub applies_shut : {S : Type 0} (g : Ghosts S) (new : Held S) (M : Catalogue) (id : List ℕ) (command : Command Edition) (indexes : List (ℕ × List Indexed)) (texts : List (Key × List ℕ)) (summary : Holdings (List ℕ)) (result : Result Applied Fault) → IsOfShut id result
     → (HasCleanDisk (state g new) → AreServed g (desk_by g new M id (step M id command) indexes texts (summary_after summary result) (last_by result)) (catalogue_by M (step M id command) result))
     → ((last : LastCall) → (HasCleanDisk (state g new) → AreServed g (desk_by g new M id (step M id command) indexes texts summary last) M) → Shows g (desk_by g new M id (step M id command) indexes texts summary last) M)
     → Applies (Shows g (desk_by g new M id (step M id command) indexes texts (summary_after summary result) (last_by result))) M (step M id command) (reply_of result)
 applies_shut g new M id command indexes texts summary (Ok applied) h served shown = absurd h
 applies_shut g new M id command indexes texts summary (Err (Refused refusal)) h served shown =
-    let is = unlawful_step M id command h.0 in
-    (ap (λ (o : Outcome). o.reply) is ∙ ap refused (sym h.1), subst (λ (o : Outcome). Shows g (desk_by g new M id (step M id command) indexes texts summary (last_by {T = Applied} (Err (Refused refusal)))) o.catalogue) (sym is) (shown (last_by {T = Applied} (Err (Refused refusal))) served))
+    let is = unlawful_step M id command h.0 in (
+      ap (λ (o : Outcome). o.reply) is ∙ ap refused (sym h.1),
+      subst (λ (o : Outcome). Shows g (desk_by g new M id (step M id command) indexes texts summary (last_by {T = Applied} (Err (Refused refusal)))) o.catalogue)
+          (sym is) (shown (last_by {T = Applied} (Err (Refused refusal))) served),
+    )
 applies_shut g new M id command indexes texts summary (Err Memory) h served shown = shown (last_by {T = Applied} (Err Memory)) served
 applies_shut g new M id command indexes texts summary (Err Disk) h served shown = inl (shown (last_by {T = Applied} (Err Disk)) served)
 applies_shut g new M id command indexes texts summary (Err Closed) h served shown = absurd h
@@ -169,7 +174,7 @@ closed_by (Err NewerSchema) = refl
 -- ---- a desk
 
 module _ {S : Type 0} (g : Ghosts S) (old new : Held S) (summary : Holdings (List ℕ)) (filing : Option Filing) (before : LastCall) (id : List ℕ) (command : Command Edition) (result : Result Applied Fault)
-    (open_before : is_closed before ≡ false) (rest : IsAtRest g before summary filing old) (over : AppliesOver g summary id command old new result) (indexes mid settled : List (ℕ × List Indexed)) (kept texts : List (ℕ × List ℕ)) where
+    (open_before : is_closed before ≡ false) (rest : IsAtRest g before summary filing old) (over : AppliesOver g summary id command old new result) (indexes mid settled : List (ℕ × List Indexed)) (kept texts : List (Key × List ℕ)) where
   clean_first : HasCleanDisk (state g new) → HasCleanDisk (state g old)
   clean_first clean = omega (arith, over.crash.clean)
 
@@ -182,7 +187,8 @@ module _ {S : Type 0} (g : Ghosts S) (old new : Held S) (summary : Holdings (Lis
   no_more : Survives (state g old) (state g new) (λ _. ⊥) → (ms : List (Option Catalogue)) → LeavesOneOf g desk_before ms → LeavesOneOf g desk_after ms
   no_more survives ms left clean trees may = left (clean_first clean) trees (elim (survives.crash clean trees may) as (λ _. (state g old).may_leave trees) [ inl h ↦ h | inr h ↦ absurd h ])
 
-  one_more : (M : Catalogue) → (IsTrue (state g old).is_open → Rests known (rested (state g old)) M) → summary_of M ≡ summary → (ms : List (Option Catalogue)) → LeavesOneOf g desk_before ms → LeavesOneOf g desk_after (Some (step M id command).catalogue ∷ ms)
+  one_more : (M : Catalogue) → (IsTrue (state g old).is_open → Rests known (rested (state g old)) M) → summary_of M ≡ summary → (ms : List (Option Catalogue)) → LeavesOneOf g desk_before ms
+      → LeavesOneOf g desk_after (Some (step M id command).catalogue ∷ ms)
   one_more M rests is ms left clean trees may =
       elim (over.crash.crash clean trees may) as (λ _. (m : Option Catalogue) × Contains (Some (step M id command).catalogue ∷ ms) m × StandsFor m trees) [
         | inl h ↦ let it = left (clean_first clean) trees h in (it.0, contains_later (Some (step M id command).catalogue) it.0 ms it.1, it.2)
@@ -200,10 +206,12 @@ module _ {S : Type 0} (g : Ghosts S) (old new : Held S) (summary : Holdings (Lis
   by_open A true if_open if_shut = if_open refl
   by_open A false if_open if_shut = if_shut refl
 
-  pub applies : HasCleanDisk (state g new) → (M : Catalogue) → Shows g desk_before M → (HasCleanDisk (state g new) → AreServed g desk_after (catalogue_by M (step M id command) result)) → Applies (Shows g desk_after) M (step M id command) (reply_of result)
+  pub applies : HasCleanDisk (state g new) → (M : Catalogue) → Shows g desk_before M → (HasCleanDisk (state g new) → AreServed g desk_after (catalogue_by M (step M id command) result))
+      → Applies (Shows g desk_after) M (step M id command) (reply_of result)
   applies clean M shown served = by_open (Applies (Shows g desk_after) M (step M id command) (reply_of result)) (state g old).is_open
       (λ live. applies_open g new M id (step M id command) settled texts summary result shown.summary shown.well_formed (over.value clean M (rests_before M shown clean live) (sym shown.summary)) served)
-      (λ closed. applies_shut g new M id command settled texts summary result (over.shut clean closed) served (λ last served. record { summary = shown.summary; well_formed = shown.well_formed; holds = λ fine clean live. (shut_after clean closed M live).holds; served = served }))
+      (λ closed. applies_shut g new M id command settled texts summary result (over.shut clean closed) served
+      (λ last served. record { summary = shown.summary; well_formed = shown.well_formed; holds = λ fine clean live. (shut_after clean closed M live).holds; served = served }))
 
   pub spared : has_written result ≡ false → LeavesNoMore (LeavesOneOf g desk_before) (LeavesOneOf g desk_after)
   spared none = no_more (over.spares none)
@@ -212,7 +220,8 @@ module _ {S : Type 0} (g : Ghosts S) (old new : Held S) (summary : Holdings (Lis
   leaves clean M shown = by_open (Leaves (LeavesOneOf g desk_before) (LeavesOneOf g desk_after) (is_some (kept_under M.kept id)) (step M id command).catalogue (reply_of result)) (state g old).is_open
       (λ live. leaves_open (LeavesOneOf g desk_before) (LeavesOneOf g desk_after) M id (rested (state g new)) (step M id command) result (over.value clean M (rests_before M shown clean live) (sym shown.summary)) spared
       (λ all clean_now trees may. (Some (step M id command).catalogue, (0, omega arith, refl), left_known (step M id command).catalogue trees (all trees may))) (one_more M (rests_before M shown clean) (sym shown.summary)))
-      (λ closed. leaves_shut (LeavesOneOf g desk_before) (LeavesOneOf g desk_after) (is_some (kept_under M.kept id)) (step M id command).catalogue id result (over.shut clean closed) spared (one_more M (rests_before M shown clean) (sym shown.summary)))
+      (λ closed. leaves_shut (LeavesOneOf g desk_before) (LeavesOneOf g desk_after) (is_some (kept_under M.kept id)) (step M id command).catalogue id result (over.shut clean closed) spared
+      (one_more M (rests_before M shown clean) (sym shown.summary)))
 
   pub spares_all : (ms : List (Option Catalogue)) → LeavesOneOf g desk_before ms → IfErr (reply_of result) (λ fault. is_disk fault ≡ false → LeavesOneOf g desk_after ms)
   spares_all = spares_by (LeavesOneOf g desk_before) (LeavesOneOf g desk_after) result spared
@@ -233,7 +242,8 @@ module _ {S : Type 0} (g : Ghosts S) (old new : Held S) (summary : Holdings (Lis
   -- the desk after the call, by what its fields became
   module _ (after : Holdings (List ℕ)) (last : LastCall) (told : Result Kept Fault) (after_is : after ≡ summary_after summary result) (last_is : last ≡ last_by result) (told_is : told ≡ reply_of result) where
     desk_is : desk_after ≡ record { conn = new; summary = after; last = last; indexes = settled; texts = texts }
-    desk_is = ap {B = DeskState S} (λ (s : Holdings (List ℕ)). record { conn = new; summary = s; last = last_by result; indexes = settled; texts = texts }) (sym after_is) ∙ ap {B = DeskState S} (λ (l : LastCall). record { conn = new; summary = after; last = l; indexes = settled; texts = texts }) (sym last_is)
+    desk_is = ap {B = DeskState S} (λ (s : Holdings (List ℕ)). record { conn = new; summary = s; last = last_by result; indexes = settled; texts = texts }) (sym after_is) ∙ ap {B = DeskState S}
+        (λ (l : LastCall). record { conn = new; summary = after; last = l; indexes = settled; texts = texts }) (sym last_is)
 
     abbrev desk_told : DeskState S
     desk_told = record { conn = new; summary = after; last = last; indexes = settled; texts = texts }
@@ -247,7 +257,8 @@ module _ {S : Type 0} (g : Ghosts S) (old new : Held S) (summary : Holdings (Lis
           subst (KeepsTexts last after) (sym is) (texts_keep last after kept (more_installs summary.installs after.installs more kept keeps.made)),
         )
 
-    pub told_applies : HasCleanDisk (state g new) → (M : Catalogue) → Shows g desk_before M → (HasCleanDisk (state g new) → AreServed g desk_after (catalogue_by M (step M id command) result)) → Applies (Shows g desk_told) M (step M id command) told
+    pub told_applies : HasCleanDisk (state g new) → (M : Catalogue) → Shows g desk_before M → (HasCleanDisk (state g new) → AreServed g desk_after (catalogue_by M (step M id command) result))
+        → Applies (Shows g desk_told) M (step M id command) told
     told_applies clean M shown served = subst (λ (r : Result Kept Fault). Applies (Shows g desk_told) M (step M id command) r) (sym told_is)
         (subst (λ (d : DeskState S). Applies (Shows g d) M (step M id command) (reply_of result)) desk_is (applies clean M shown served))
 

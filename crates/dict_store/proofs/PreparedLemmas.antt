@@ -13,10 +13,11 @@ use Rattle.dict_rows.specs.After.{is_gone}
 use Rattle.dict_rows.specs.Tables.{same_number}
 use Rattle.dict_rows.specs.Versions.{known, layout_of}
 use Rattle.dict_rows.proofs.TakenLemmas.{nat_same}
-use Rattle.dict_derived.specs.AllTables.{with_derived}
+use Rattle.dict_files.specs.AllTables.{with_derived}
 use Rattle.dict_holdings.specs.Holds.{HasLayout, Holds}
 use Rattle.dict_sql.specs.Effects.{Has}
 use Rattle.dict_tables.specs.Tables.{kept}
+use Rattle.dict_holdings.specs.Texts.{HoldsText}
 use Rattle.dict_lookup.specs.Searches.{HoldsOne, IsReadable, column_of}
 use Rattle.dict_commands.specs.Kept.{IsUsable, HoldsReplies}
 use Rattle.dict_commands.specs.Filing.{IsAhead, KeepsEdition, ShowsStill}
@@ -25,7 +26,7 @@ use Rattle.dict_commands.proofs.KeptLemmas.{holds_replies}
 use Rattle.dict_store.specs.Desk.{HasFiled, IsAtRest, is_closed}
 use Rattle.dict_store.specs.Prepared.{IsAlike, IsApart}
 use Rattle.dict_store.specs.declared.last.LastCall.{LastCall}
-use Rattle.dict_store.proofs.FiledLemmas.{one_still, readable_still, replies_still}
+use Rattle.dict_store.proofs.FiledLemmas.{one_still, readable_still, replies_still, text_still}
 
 -- none of the numbers is this one
 stays_by : (number one : ℕ) (gone : List ℕ) (b : Bool) → same_number (pos one) (pos number) ≡ b → one ≢ number → is_gone gone (pos number) ≡ false → (b || is_gone gone (pos number)) ≡ false
@@ -41,12 +42,13 @@ usable committed M holds = (with_derived holds.tables, record { own = holds.own;
 
 -- the table of the replies is there
 pub kept_there : (db : Database) → HasLayout (layout_of known) db.schema → Has kept db
-kept_there db own = let it = own.tables.1.1.1.1.1.0 in (it.at, it.tree, it.has)
+kept_there db own = let it = own.tables.1.1.1.0 in (it.at, it.tree, it.has)
 
 -- where nothing is filed, all is as it was committed
 pub same_alike : (number : ℕ) (committed now : Database) → now ≡ committed → IsAlike number committed now
 same_alike number committed now same = record {
   one = λ reading one. subst (λ (db : Database). HoldsOne db number reading) (sym same) one;
+  text = λ text held. subst (λ (db : Database). HoldsText db number text) (sym same) held;
   readable = λ readable. subst (λ (db : Database). IsReadable db (column_of number)) (sym same) readable;
 }
 
@@ -58,6 +60,7 @@ module _ (law : (f : Filing) (committed now : Database) → IsUsable committed �
       let keeps : (n : ℕ) → AllByRecursion (λ one. one ≢ n) f.gone.items × (f.number ≢ n) → KeepsEdition n committed now = λ n others. still.editions n (stays n f.gone.items others.0) (λ same. others.1 (sym same)) in
       record {
         one = one_still number committed now (keeps number apart);
+        text = text_still number committed now (keeps number apart);
         readable = readable_still (column_of number) committed now (keeps (column_of number) as_column) still.usable;
       }
 
@@ -91,7 +94,8 @@ apart_alone (Some f) number h none = inl none
 
 -- ---- replies
 
-module _ {S : Type 0} (g : Ghosts S) (last : LastCall) (summary : Holdings (List ℕ)) (filing : Option Filing) (h : Held S) (fine : is_closed last ≡ false) (rest : IsAtRest g last summary filing h) (clean : HasCleanDisk (state g h)) (live : IsTrue (state g h).is_open) where
+module _ {S : Type 0} (g : Ghosts S) (last : LastCall) (summary : Holdings (List ℕ)) (filing : Option Filing) (h : Held S) (fine : is_closed last ≡ false) (rest : IsAtRest g last summary filing h)
+    (clean : HasCleanDisk (state g h)) (live : IsTrue (state g h).is_open) where
   abbrev committed : Database
   committed = (state g h).committed
 
@@ -115,5 +119,6 @@ module _ {S : Type 0} (g : Ghosts S) (last : LastCall) (summary : Holdings (List
   replies_seen M holds = either (λ (db : Database). HoldsReplies db M.kept) (holds_replies known committed M holds) (λ f N held ahead. replies_still f committed now M holds ahead)
 
 -- the tables of what is committed are those of the product
-pub usable_by : {S : Type 0} (g : Ghosts S) (last : LastCall) (summary : Holdings (List ℕ)) (filing : Option Filing) (h : Held S) → is_closed last ≡ false → IsAtRest g last summary filing h → HasCleanDisk (state g h) → IsTrue (state g h).is_open → IsUsable (state g h).committed
+pub usable_by : {S : Type 0} (g : Ghosts S) (last : LastCall) (summary : Holdings (List ℕ)) (filing : Option Filing) (h : Held S) → is_closed last ≡ false → IsAtRest g last summary filing h
+    → HasCleanDisk (state g h) → IsTrue (state g h).is_open → IsUsable (state g h).committed
 usable_by g last summary filing h fine rest clean live = let it = rest.holds fine clean live in usable (state g h).committed it.0 it.1

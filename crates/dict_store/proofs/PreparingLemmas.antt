@@ -16,8 +16,8 @@ use Rattle.dict_desk.specs.declared.fault.Fault.TheVariants.{Refused, Memory, Di
 use Rattle.dict_rows.specs.Versions.{known}
 use Rattle.dict_holdings.specs.Faults.{FailsToLookUp}
 use Rattle.dict_holdings.specs.Holds.{Holds}
-use Rattle.dict_index.specs.Edition.{Edition}
-use Rattle.dict_lookup.specs.Texts.{AreCutFrom}
+use Rattle.dict_lookup.specs.Texts.{ArePartsOf}
+use Rattle.dict_texts.specs.Texts.{Key}
 use Rattle.dict_search.specs.Entries.{Indexed}
 use Rattle.dict_commands.specs.Committed.{IsOfStore}
 use Rattle.dict_commands.specs.Filing.{IsDrawnUp}
@@ -29,7 +29,7 @@ use Rattle.dict_store.specs.Kept.{KeepsTexts, texts_after, texts_behind}
 use Rattle.dict_store.specs.Prepared.{Undoes, last_behind}
 use Rattle.dict_store.specs.declared.last.LastCall.{LastCall}
 use Rattle.dict_store.specs.declared.last.LastCall.TheVariants.{Closed}
-use Rattle.dict_store.proofs.DeskLemmas.{at_rest, committed_on, cut_after, settled_on, shows_with, undone_continues}
+use Rattle.dict_store.proofs.DeskLemmas.{at_rest, committed_on, parts_after, settled_on, shows_with, undone_continues}
 use Rattle.dict_store.proofs.ServedLemmas.{served_still}
 
 pub or_true : (b : Bool) → (b || true) ≡ true
@@ -41,30 +41,34 @@ or_false false = refl
 or_false true = refl
 
 -- the texts that are kept behind what was prepared
-pub cut_behind : {T : Type 0} (result : Result T Fault) (number : ℕ) (index : List Indexed) (edition : Edition) (texts : List (ℕ × List ℕ)) → AreCutFrom number index edition texts → AreCutFrom number index edition (texts_behind result texts)
-cut_behind (Ok value) number index edition texts are = are
-cut_behind (Err fault) number index edition texts are = tt
+pub parts_behind : {T : Type 0} (result : Result T Fault) (number : ℕ) (text : List ℕ) (texts : List (Key × List ℕ)) → ArePartsOf number text texts → ArePartsOf number text (texts_behind result texts)
+parts_behind (Ok value) number text texts are = are
+parts_behind (Err fault) number text texts are = tt
 
 module _ {S : Type 0} (g : Ghosts S) where
   -- ---- a desk that is closed
 
-  pub closed_rests : (summary : Holdings (List ℕ)) (filing left : Option Filing) (before : LastCall) (old new : Held S) → IsAtRest g before summary filing old → Survives (state g old) (state g new) (λ _. ⊥) → IsAtRest g Closed summary left new
+  pub closed_rests : (summary : Holdings (List ℕ)) (filing left : Option Filing) (before : LastCall) (old new : Held S) → IsAtRest g before summary filing old
+      → Survives (state g old) (state g new) (λ _. ⊥) → IsAtRest g Closed summary left new
   closed_rests summary filing left before old new rest survives =
       at_rest g Closed summary left new (survives.limit ∙ rest.limit) rest.range (λ fine. absurd (true≢false fine)) (λ fine. absurd (true≢false fine)) (λ fine. absurd (true≢false fine))
 
   -- ---- a call that failed, or prepared something, and changed nothing else
 
-  pub rests_as : (summary : Holdings (List ℕ)) (filing : Option Filing) (before after : LastCall) (h : Held S) → is_closed before ≡ false → IsAtRest g before summary filing h → (left : Option Filing) → HasFiled g left h → IsAtRest g after summary left h
+  pub rests_as : (summary : Holdings (List ℕ)) (filing : Option Filing) (before after : LastCall) (h : Held S) → is_closed before ≡ false → IsAtRest g before summary filing h
+      → (left : Option Filing) → HasFiled g left h → IsAtRest g after summary left h
   rests_as summary filing before after h fine rest left filed = at_rest g after summary left h rest.limit rest.range (λ _. rest.holds fine) (λ _. rest.settled fine) (λ _. filed)
 
-  pub shows_as : (summary : Holdings (List ℕ)) (before after : LastCall) (h : Held S) → is_closed before ≡ false → (old new : List (ℕ × List Indexed)) → ((q : ℕ) → entries_under q new ≡ entries_under q old) → (kept texts : List (ℕ × List ℕ)) → texts ≡ texts_after after kept
+  pub shows_as : (summary : Holdings (List ℕ)) (before after : LastCall) (h : Held S) → is_closed before ≡ false → (old new : List (ℕ × List Indexed)) → ((q : ℕ) → entries_under q new ≡ entries_under q old)
+      → (kept texts : List (Key × List ℕ)) → texts ≡ texts_after after kept
       → (M : Catalogue) → Shows g (record { conn = h; summary = summary; last = before; indexes = old; texts = kept }) M → Shows g (record { conn = h; summary = summary; last = after; indexes = new; texts = texts }) M
   shows_as summary before after h fine old new same kept texts is M shown = record {
     summary = shown.summary;
     well_formed = shown.well_formed;
     holds = λ _ clean live. shown.holds fine clean live;
-    served = λ clean. served_still g (record { conn = h; summary = summary; last = before; indexes = old; texts = kept }) (record { conn = h; summary = summary; last = after; indexes = new; texts = texts }) same (λ _. fine) (λ live. live) (λ live. refl)
-        (λ stored one. subst (AreCutFrom stored.number one.index stored.content) (sym is) (cut_after after stored.number one.index stored.content kept one.kept)) M (shown.served clean);
+    served = λ clean. served_still g (record { conn = h; summary = summary; last = before; indexes = old; texts = kept }) (record { conn = h; summary = summary; last = after; indexes = new; texts = texts }) same
+        (λ _. fine) (λ live. live) (λ live. refl)
+        (λ stored one. subst (ArePartsOf stored.number one.text) (sym is) (parts_after after stored.number one.text kept one.kept)) M (shown.served clean);
   }
 
   -- nothing is prepared
@@ -87,7 +91,8 @@ module _ {S : Type 0} (g : Ghosts S) (old new : Held S) (summary : Holdings (Lis
       (λ _. settled_on g old new summary filing last last fine rest survives (λ clean. undone_continues g old new (undone clean)))
       (λ _. filed)
 
-  pub undone_shows : (after : LastCall) (indexes : List (ℕ × List Indexed)) (texts : List (ℕ × List ℕ)) (M : Catalogue) → Shows g (record { conn = old; summary = summary; last = last; indexes = indexes; texts = texts }) M → Shows g (record { conn = new; summary = summary; last = after; indexes = indexes; texts = texts }) M
+  pub undone_shows : (after : LastCall) (indexes : List (ℕ × List Indexed)) (texts : List (Key × List ℕ)) (M : Catalogue) → Shows g (record { conn = old; summary = summary; last = last; indexes = indexes; texts = texts }) M
+      → Shows g (record { conn = new; summary = summary; last = after; indexes = indexes; texts = texts }) M
   undone_shows after indexes texts M shown = shows_with g old new summary filing last after fine rest survives (λ clean. undone_continues g old new (undone clean)) indexes texts M shown texts (λ clean stored one. one.kept)
 
 -- ---- a reading beside what was prepared failed, and that was undone
@@ -129,25 +134,29 @@ module _ {S : Type 0} (g : Ghosts S) (old new : Held S) (summary : Holdings (Lis
       let it = rest.holds fine (clean_first clean) ((keeps clean).was_open live) in
       (it.0, subst (λ (db : Database). Holds known db it.0) (sym ((keeps clean).committed live)) it.1, it.2)
 
-  pub prepared_rests : (after : LastCall) (left : Option Filing) → (HasCleanDisk (state g new) → IsTrue (state g new).is_open → new.in_transaction ≡ false → (state g new).now ≡ (state g new).committed) → HasFiled g left new → IsAtRest g after summary left new
+  pub prepared_rests : (after : LastCall) (left : Option Filing) → (HasCleanDisk (state g new) → IsTrue (state g new).is_open → new.in_transaction ≡ false → (state g new).now ≡ (state g new).committed)
+      → HasFiled g left new → IsAtRest g after summary left new
   prepared_rests after left settled filed = at_rest g after summary left new (survives.limit ∙ rest.limit) rest.range (λ _. prepared_committed) (λ _. settled) (λ _. filed)
 
-  pub prepared_keeps : {T : Type 0} (result : Result T Fault) (after : LastCall) → after ≡ last_behind before result → (kept texts : List (ℕ × List ℕ)) → texts ≡ texts_behind result kept → KeepsTexts before summary kept → KeepsTexts after summary texts
+  pub prepared_keeps : {T : Type 0} (result : Result T Fault) (after : LastCall) → after ≡ last_behind before result → (kept texts : List (Key × List ℕ)) → texts ≡ texts_behind result kept
+      → KeepsTexts before summary kept → KeepsTexts after summary texts
   prepared_keeps (Ok value) after by kept texts is keeps = subst (KeepsTexts after summary) (sym is) (subst (λ (l : LastCall). KeepsTexts l summary kept) (sym by) keeps)
   prepared_keeps (Err fault) after by kept texts is keeps = subst (KeepsTexts after summary) (sym is) (record { made = tt; none = λ failed. refl })
 
-  pub prepared_shows : {T : Type 0} (result : Result T Fault) (after : LastCall) (indexes : List (ℕ × List Indexed)) (kept texts : List (ℕ × List ℕ)) → texts ≡ texts_behind result kept → (M : Catalogue)
+  pub prepared_shows : {T : Type 0} (result : Result T Fault) (after : LastCall) (indexes : List (ℕ × List Indexed)) (kept texts : List (Key × List ℕ)) → texts ≡ texts_behind result kept → (M : Catalogue)
       → Shows g (record { conn = old; summary = summary; last = before; indexes = indexes; texts = kept }) M → Shows g (record { conn = new; summary = summary; last = after; indexes = indexes; texts = texts }) M
   prepared_shows result after indexes kept texts is M shown = record {
     summary = shown.summary;
     well_formed = shown.well_formed;
     holds = λ open' clean live. subst (λ (db : Database). Holds known db M) (sym ((keeps clean).committed live)) (shown.holds fine (clean_first clean) ((keeps clean).was_open live));
-    served = λ clean. served_still g (record { conn = old; summary = summary; last = before; indexes = indexes; texts = kept }) (record { conn = new; summary = summary; last = after; indexes = indexes; texts = texts }) (λ q. refl) (λ _. fine) (keeps clean).was_open (keeps clean).committed
-        (λ stored one. subst (AreCutFrom stored.number one.index stored.content) (sym is) (cut_behind result stored.number one.index stored.content kept one.kept)) M (shown.served (clean_first clean));
+    served = λ clean. served_still g (record { conn = old; summary = summary; last = before; indexes = indexes; texts = kept }) (record { conn = new; summary = summary; last = after; indexes = indexes; texts = texts })
+        (λ q. refl) (λ _. fine) (keeps clean).was_open (keeps clean).committed
+        (λ stored one. subst (ArePartsOf stored.number one.text) (sym is) (parts_behind result stored.number one.text kept one.kept)) M (shown.served (clean_first clean));
   }
 
 -- behind a part a transaction is open, or it failed, and what is seen is committed
-pub part_settled : {S T E : Type 0} (g : Ghosts S) (h : Held S) (result : Result T E) → (HasCleanDisk (state g h) → OnOk result (h.in_transaction ≡ true)) → (HasCleanDisk (state g h) → OnErr result (IsTrue (state g h).is_open → (state g h).now ≡ (state g h).committed))
+pub part_settled : {S T E : Type 0} (g : Ghosts S) (h : Held S) (result : Result T E) → (HasCleanDisk (state g h) → OnOk result (h.in_transaction ≡ true))
+    → (HasCleanDisk (state g h) → OnErr result (IsTrue (state g h).is_open → (state g h).now ≡ (state g h).committed))
     → HasCleanDisk (state g h) → IsTrue (state g h).is_open → h.in_transaction ≡ false → (state g h).now ≡ (state g h).committed
 part_settled g h (Ok value) inside settled clean live none = absurd (false≢true (sym none ∙ inside clean))
 part_settled g h (Err fault) inside settled clean live none = settled clean live
@@ -207,7 +216,8 @@ open_closed last result fine kind = (λ is. absurd (subst (λ (r : Result _ Faul
 -- ---- what is expected is let go of
 
 module _ {S T : Type 0} (old new : DeskState S) where
-  pub forgotten_failed : (result : Result T Fault) → OnOk result (new.last ≡ old.last) → IfErr result (λ fault. is_failure fault ≡ true) → OnErr result (has_failed new.last ≡ true) → has_failed new.last ≡ (has_failed old.last || has_failed_by result)
+  pub forgotten_failed : (result : Result T Fault) → OnOk result (new.last ≡ old.last) → IfErr result (λ fault. is_failure fault ≡ true) → OnErr result (has_failed new.last ≡ true)
+      → has_failed new.last ≡ (has_failed old.last || has_failed_by result)
   forgotten_failed (Ok value) same failing failed = ap has_failed same ∙ sym (or_false (has_failed old.last))
   forgotten_failed (Err fault) same failing failed = failing_or old.last new.last fault failing failed
 

@@ -73,11 +73,13 @@ module _ {S : Type 0} (g : Ghosts S) (old new : DeskState S) (M : Catalogue) (re
   so_many : (answered : ℕ) → LeavesOneOf g new (Some (after M (take answered requests)) ∷ []) → HasCleanDisk (state g new.conn) → (trees : Trees) → (state g new.conn).may_leave trees → HoldsFront M requests answered trees
   so_many answered left clean trees may = (answered, omega arith, omega arith, alone_left (after M (take answered requests)) trees (sole_left (after M (take answered requests)) left clean trees may))
 
-  pub halts_keeps : (stand : ℕ) (fault : Fault) → HaltsAt (Shows g new) (LeavesOneOf g old) (LeavesOneOf g new) M requests stand fault → HasCleanDisk (state g new.conn) → (trees : Trees) → (state g new.conn).may_leave trees → HoldsFront M requests stand trees
+  pub halts_keeps : (stand : ℕ) (fault : Fault) → HaltsAt (Shows g new) (LeavesOneOf g old) (LeavesOneOf g new) M requests stand fault → HasCleanDisk (state g new.conn) → (trees : Trees)
+      → (state g new.conn).may_leave trees → HoldsFront M requests stand trees
   halts_keeps stand (fault.Refused refusal) h clean trees may = absurd h
   halts_keeps stand fault.Memory h clean trees may = so_many stand (h.left (Some (after M (take stand requests)) ∷ []) (left_after (take stand requests))) clean trees may
   halts_keeps stand fault.Disk h clean trees may =
-      elim (two_left (after M (take (stand + 1) requests)) (after M (take stand requests)) (h.left (Some (after M (take stand requests)) ∷ []) (left_after (take stand requests))) clean trees may) as (λ _. HoldsFront M requests stand trees) [
+      elim (two_left (after M (take (stand + 1) requests)) (after M (take stand requests)) (h.left (Some (after M (take stand requests)) ∷ []) (left_after (take stand requests))) clean trees may) as
+      (λ _. HoldsFront M requests stand trees) [
         | inl more ↦ (stand + 1, omega arith, omega arith, alone_left (after M (take (stand + 1) requests)) trees more)
         | inr same ↦ (stand, omega arith, omega arith, alone_left (after M (take stand requests)) trees same)
       ]
@@ -136,6 +138,7 @@ module _ {S T : Type 0} (g : Ghosts S) (old new : DeskState S) (requests : List 
   call_goes_on (Err halted) h = tt
 
   -- as many as were asked for
-  pub counted_meant : {R : Type 0} (asked : List R) (mean : R → Request) (result : Result T Halted) → requests ≡ map mean asked → length (map mean asked) ≡ length asked → IfOk result (λ value. size value ≡ length asked) → IfOk result (λ value. size value ≡ length requests)
+  pub counted_meant : {R : Type 0} (asked : List R) (mean : R → Request) (result : Result T Halted) → requests ≡ map mean asked → length (map mean asked) ≡ length asked
+      → IfOk result (λ value. size value ≡ length asked) → IfOk result (λ value. size value ≡ length requests)
   counted_meant asked mean (Ok value) is same h = h ∙ sym same ∙ ap length (sym is)
   counted_meant asked mean (Err halted) is same h = tt

@@ -49,7 +49,8 @@ module _ {S : Type 0} (g : Ghosts S) (conn read left : Held S) (survives : Survi
     fails = h.fails;
   }
 
-  moves_read : (version : ℕ) (summary : Holdings (List ℕ)) (fault : Fault) → (state g read).now ≡ (state g conn).now → (state g read).committed ≡ (state g conn).committed → FailsToMove g version summary read left fault → FailsToMove g version summary conn left fault
+  moves_read : (version : ℕ) (summary : Holdings (List ℕ)) (fault : Fault) → (state g read).now ≡ (state g conn).now → (state g read).committed ≡ (state g conn).committed
+      → FailsToMove g version summary read left fault → FailsToMove g version summary conn left fault
   moves_read version summary fault same committed h = record {
     older = h.older;
     layout = h.layout;

@@ -11,30 +11,31 @@ use Rattle.dict_catalogue.specs.Items.{Stored, Item, editions_of}
 use Rattle.dict_catalogue.specs.Steps.{Catalogue}
 use Rattle.dict_indexes.specs.Indexes.{entries_under}
 use Rattle.dict_desk.specs.Shown.{HasEdition}
-use Rattle.dict_lookup.specs.Searches.{HoldsOne}
-use Rattle.dict_lookup.specs.Texts.{AreCutFrom, HoldsCut}
+use Rattle.dict_holdings.specs.Texts.{HoldsText}
+use Rattle.dict_lookup.specs.Texts.{ArePartsOf}
 use Rattle.dict_lookup.proofs.FailLemmas.{all_contains}
-use Rattle.dict_search.specs.Entries.{Indexed}
 use Rattle.dict_store.specs.Prepared.{IsAlike}
 use Rattle.dict_store.specs.Desk.{DeskState, IsServed, AreServed, is_closed}
 
 -- what holds of each edition of each item
-pub each_edition : (P Q : Stored Edition → Type 0) → ((stored : Stored Edition) → P stored → Q stored) → (items : List (Item Edition)) → AllByRecursion (λ item. AllByRecursion P (editions_of item)) items → AllByRecursion (λ item. AllByRecursion Q (editions_of item)) items
+pub each_edition : (P Q : Stored Edition → Type 0) → ((stored : Stored Edition) → P stored → Q stored) → (items : List (Item Edition)) → AllByRecursion (λ item. AllByRecursion P (editions_of item)) items
+    → AllByRecursion (λ item. AllByRecursion Q (editions_of item)) items
 each_edition P Q f items h = all_weaker (λ item. AllByRecursion P (editions_of item)) (λ item. AllByRecursion Q (editions_of item)) (λ item p. all_weaker P Q f (editions_of item) p) items h
 
 module _ {S : Type 0} (g : Ghosts S) (old new : DeskState S) (same : (q : ℕ) → entries_under q new.indexes ≡ entries_under q old.indexes) (fine : is_closed new.last ≡ false → is_closed old.last ≡ false)
     (was_open : IsTrue (state g new.conn).is_open → IsTrue (state g old.conn).is_open) (committed : IsTrue (state g new.conn).is_open → (state g new.conn).committed ≡ (state g old.conn).committed) where
-  pub one_still : (stored : Stored Edition) (one : IsServed g old stored) → AreCutFrom stored.number one.index stored.content new.texts → IsServed g new stored
-  one_still stored one cut = record {
+  pub one_still : (stored : Stored Edition) (one : IsServed g old stored) → ArePartsOf stored.number one.text new.texts → IsServed g new stored
+  one_still stored one parts = record {
     index = one.index;
     stands = same stored.number ∙ one.stands;
-    is = one.is;
-    kept = cut;
-    held = λ open' live. subst (λ (db : Database). HoldsCut db stored.number one.index stored.content) (sym (committed live)) (one.held (fine open') (was_open live));
+    text = one.text;
+    cuts = one.cuts;
+    kept = parts;
+    held = λ open' live. subst (λ (db : Database). HoldsText db stored.number one.text) (sym (committed live)) (one.held (fine open') (was_open live));
   }
 
-  pub served_still : ((stored : Stored Edition) (one : IsServed g old stored) → AreCutFrom stored.number one.index stored.content new.texts) → (M : Catalogue) → AreServed g old M → AreServed g new M
-  served_still cut M h = each_edition (IsServed g old) (IsServed g new) (λ stored one. one_still stored one (cut stored one)) M.items h
+  pub served_still : ((stored : Stored Edition) (one : IsServed g old stored) → ArePartsOf stored.number one.text new.texts) → (M : Catalogue) → AreServed g old M → AreServed g new M
+  served_still parts M h = each_edition (IsServed g old) (IsServed g new) (λ stored one. one_still stored one (parts stored one)) M.items h
 
 -- ---- one edition
 
@@ -44,6 +45,6 @@ served_one g desk M number edition has served =
     all_contains (IsServed g desk) (editions_of has.item) (record { number = number; content = edition }) (all_contains (λ item. AllByRecursion (IsServed g desk) (editions_of item)) M.items has.item served has.stands) has.stored
 
 -- what is committed under a number is seen, where nothing of it is prepared
-pub seen_cut : (number : ℕ) (committed now : Database) → IsAlike number committed now → (other : ℕ) → other ≡ number → (index : List Indexed) (edition : Edition) → HoldsCut committed other index edition → HoldsCut now other index edition
-seen_cut number committed now alike other same index edition cut =
-    record { reading = cut.reading; one = subst (λ (n : ℕ). HoldsOne now n cut.reading) (sym same) (alike.one cut.reading (subst (λ (n : ℕ). HoldsOne committed n cut.reading) same cut.one)); cuts = cut.cuts }
+pub seen_text : (number : ℕ) (committed now : Database) → IsAlike number committed now → (other : ℕ) → other ≡ number → (text : List ℕ) → HoldsText committed other text → HoldsText now other text
+seen_text number committed now alike other same text held =
+    subst (λ (n : ℕ). HoldsText now n text) (sym same) (alike.text text (subst (λ (n : ℕ). HoldsText committed n text) same held))

@@ -1,54 +1,59 @@
 -- The texts that editions have over a command.
-use Rattle.std.proofs.Common.{◌≡◌, ℕ, ◌≤◌, List, [], ◌∷◌, refl, sym, ap, subst, arith}
-use Rattle.std.specs.Prelude.{Contains}
+use Rattle.std.proofs.Common.{◌≡◌, ℕ, ◌<◌, ◌≤◌, ◌^◌, List, [], ◌∷◌, ◌++◌, map, length, refl, ap, sym, subst, ◌∙◌, arith}
+use Rattle.std.specs.Prelude.{pos, Some, None, IsPermutation}
 use Rattle.std.specs.List.{AllByRecursion}
+use Rattle.std.proofs.lemmas.List.Sorted.{IsPermutation-trans}
 use Rattle.sqlite.specs.Effect.{Database}
-use Rattle.sqlite.specs.Order.{Row, column}
-use Rattle.dict_index.specs.Edition.{Edition, ReadEdition}
-use Rattle.dict_catalogue.specs.Steps.{Catalogue}
+use Rattle.dict_text.proofs.AllLemmas.{all_flat_map_parts, all_weaker}
+use Rattle.dict_index.specs.Edition.{Edition}
+use Rattle.dict_catalogue.specs.Items.{Stored, Item, regular, virtual, editions_of, numbers_of, edition_numbers, item_as}
+use Rattle.dict_catalogue.specs.Tests.{Holdings}
+use Rattle.dict_catalogue.specs.Steps.{Catalogue, summary_of}
 use Rattle.dict_desk.specs.Shown.{HasEdition}
 use Rattle.dict_rows.specs.Versions.{known}
-use Rattle.dict_rows.specs.Written.{edition_record}
-use Rattle.dict_rows.proofs.OrderLemmas.{one_once, same_from}
-use Rattle.dict_sql.specs.Encodings.{edition_row}
+use Rattle.dict_files.specs.Files.{file_parts}
+use Rattle.dict_part_sql.specs.Records.{part_row}
 use Rattle.dict_holdings.specs.Holds.{Holds}
-use Rattle.dict_lookup.specs.Searches.{HoldsOne}
-use Rattle.dict_lookup.specs.Texts.{AreMade, Cuts, HoldsCut}
-use Rattle.dict_lookup.proofs.FailLemmas.{all_contains}
-use Rattle.dict_lookup.proofs.HeldLemmas.{held_one}
-use Rattle.dict_lookup.proofs.RecordLemmas.{octets_in}
-use Rattle.dict_commands.specs.Kept.{AddsAbove, edition_records}
-use Rattle.dict_search.specs.Entries.{Indexed}
+use Rattle.dict_holdings.specs.Texts.{HoldsText, text_rows}
+use Rattle.dict_lookup.specs.Texts.{AreMade}
+use Rattle.dict_lookup.proofs.HeldLemmas.{held_one, text_once}
+use Rattle.dict_lookup.proofs.ListLemmas.{all_unmapped}
+use Rattle.dict_commands.specs.Kept.{KeepsTexts}
+use Rattle.dict_texts.specs.Texts.{Key}
 
--- the one record that stands under a number
-one_record : (db : Database) (number : ℕ) (reading : ReadEdition) (one : HoldsOne db number reading) → edition_records number db ≡ edition_row (edition_record one.owner number reading) ∷ []
-one_record db number reading one =
-    one_once (edition_row (edition_record one.owner number reading)) (edition_records number db) (same_from (edition_row (edition_record one.owner number reading) ∷ []) (edition_records number db) one.row)
+-- a text that stays
+pub text_carried : (old new : Database) (number : ℕ) (text : List ℕ) → IsPermutation (text_rows number old) (text_rows number new) → HoldsText old number text → HoldsText new number text
+text_carried old new number text same held = record { few = held.few; rows = IsPermutation-trans (map part_row (file_parts (pos number) (pos 1) text)) (text_rows number old) (text_rows number new) held.rows same }
 
--- a record that is there is that one, and has its text
-text_is : (db : Database) (number : ℕ) (reading : ReadEdition) (one : HoldsOne db number reading) (r : Row) → Contains (edition_records number db) r → octets_in (column r 4) ≡ reading.text
-text_is db number reading one r there =
-    let row : Row = edition_row (edition_record one.owner number reading) in
-    let alone : Contains (row ∷ []) r = subst (λ (l : List Row). Contains l r) (one_record db number reading one) there in
-    ap (λ (r : Row). octets_in (column r 4)) (all_contains (λ (r : Row). r ≡ row) (row ∷ []) r (refl, tt) alone)
+-- the text of an edition is as short as each that is stored
+pub text_short : (db : Database) (M : Catalogue) (number : ℕ) (edition : Edition) → Holds known db M → HasEdition M number edition → (text : List ℕ) → HoldsText db number text → length text < 64 ^ 6
+text_short db M number edition holds has text held =
+    let it = held_one db M number edition holds has in
+    subst (λ (t : List ℕ). length t < 64 ^ 6) (text_once db number it.0.text text it.3 held) it.4.short
 
-module _ (old new : Database) (number : ℕ) (index : List Indexed) (edition : Edition) where
-  -- an edition that stays has its text still
-  pub cut_carried : (M : Catalogue) → Holds known new M → HasEdition M number edition → (installs : ℕ) → AddsAbove installs old new → number ≤ installs → HoldsCut old number index edition → HoldsCut new number index edition
-  cut_carried M holds has installs adds low was =
-      let it = held_one new M number edition holds has in
-      let row : Row = edition_row (edition_record it.1.owner number it.0) in
-      let there : Contains (edition_records number old) row = (subst (AllByRecursion (Contains (edition_records number old))) (one_record new number it.0 it.1) (adds number low)).0 in
-      record { reading = it.0; one = it.1; cuts = subst (Cuts index edition) (sym (text_is old number was.reading was.one row there)) was.cuts }
+-- ---- under the numbers of a summary
 
-  -- and one that comes has its own
-  pub cut_come : (M : Catalogue) → Holds known new M → HasEdition M number edition → (owner : List ℕ) (reading : ReadEdition) → Contains (edition_records number new) (edition_row (edition_record owner number reading)) → Cuts index edition reading.text → HoldsCut new number index edition
-  cut_come M holds has owner reading there cuts =
-      let it = held_one new M number edition holds has in
-      record { reading = it.0; one = it.1; cuts = subst (Cuts index edition) (text_is new number it.0 it.1 (edition_row (edition_record owner number reading)) there) cuts }
+numbers_same : (item : Item Edition) → numbers_of (item_as (λ (edition : Edition). edition.title) item) ≡ numbers_of item
+numbers_same (regular name current None) = refl
+numbers_same (regular name current (Some former)) = refl
+numbers_same (virtual name title members) = refl
+
+all_same_numbers : (items : List (Item Edition)) → edition_numbers (map (item_as (λ (edition : Edition). edition.title)) items) ≡ edition_numbers items
+all_same_numbers [] = refl
+all_same_numbers (item ∷ items) = λ i. numbers_same item i ++ all_same_numbers items i
+
+-- the texts that stay under the numbers of a summary stay under those of each edition
+pub texts_stay : (M : Catalogue) (summary : Holdings (List ℕ)) → summary_of M ≡ summary → (installs : ℕ) (old new : Database) → KeepsTexts installs (edition_numbers summary.items) old new
+    → AllByRecursion (λ item. AllByRecursion (λ (stored : Stored Edition). stored.number ≤ installs → IsPermutation (text_rows stored.number old) (text_rows stored.number new)) (editions_of item)) M.items
+texts_stay M summary is installs old new keeps =
+    let P : ℕ → Type 0 = λ number. number ≤ installs → IsPermutation (text_rows number old) (text_rows number new) in
+    let numbers : edition_numbers summary.items ≡ edition_numbers M.items = ap (λ (s : Holdings (List ℕ)). edition_numbers s.items) (sym is) ∙ all_same_numbers M.items in
+    all_weaker (λ (item : Item Edition). AllByRecursion P (numbers_of item)) (λ item. AllByRecursion (λ (stored : Stored Edition). P stored.number) (editions_of item))
+    (λ item h. all_unmapped P (λ (stored : Stored Edition). stored.number) (editions_of item) h) M.items
+    (all_flat_map_parts P numbers_of M.items (subst (AllByRecursion P) numbers keeps))
 
 -- ---- the texts that are kept
 
-pub more_installs : (a b : ℕ) → a ≤ b → (texts : List (ℕ × List ℕ)) → AreMade a texts → AreMade b texts
+pub more_installs : (a b : ℕ) → a ≤ b → (texts : List (Key × List ℕ)) → AreMade a texts → AreMade b texts
 more_installs a b low [] made = tt
 more_installs a b low (kept ∷ texts) made = (let first = made.0 in omega (arith, first, low), more_installs a b low texts made.1)

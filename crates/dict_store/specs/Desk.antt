@@ -14,7 +14,9 @@ use Rattle.dict_desk.specs.Faults.{is_disk, is_failure}
 use Rattle.dict_desk.specs.declared.fault.Fault.{Fault}
 use Rattle.dict_holdings.specs.Holds.{HasLayout, Holds}
 use Rattle.dict_indexes.specs.Indexes.{entries_under}
-use Rattle.dict_lookup.specs.Texts.{AreCutFrom, HoldsCut, IsIndexOf}
+use Rattle.dict_holdings.specs.Texts.{HoldsText}
+use Rattle.dict_lookup.specs.Texts.{Cuts, ArePartsOf}
+use Rattle.dict_texts.specs.Texts.{Key}
 pub use Rattle.dict_migration.specs.Leaves.{StandsFor}
 use Rattle.dict_search.specs.Entries.{Indexed}
 use Rattle.dict_commands.specs.Changes.{IsInRange}
@@ -27,14 +29,14 @@ use Rattle.dict_store.specs.declared.last.LastCall.{LastCall}
 use Rattle.dict_store.specs.declared.last.LastCall.TheVariants.{Fine, Failed, Closed}
 use Rattle.dict_rows.specs.Versions.{known, layout_of}
 
--- the connection, the summary in memory, and how the last call by `&mut` ended; the indexes of editions by their numbers, and the texts
--- that are kept
+-- the connection, the summary in memory, and how the last call by `&mut` ended; the indexes of editions by their numbers, and the parts
+-- of texts that are kept
 pub record DeskState (S : Type 0) : Type 0 where
   pub conn : Held S
   pub summary : Holdings (List ℕ)
   pub last : LastCall
   pub indexes : List (ℕ × List Indexed)
-  pub texts : List (ℕ × List ℕ)
+  pub texts : List (Key × List ℕ)
 
 abbrev pub is_closed : LastCall → Bool
 is_closed Fine = false
@@ -80,14 +82,15 @@ module _ {S : Type 0} (g : Ghosts S) where
     pub filed : is_closed last ≡ false → HasFiled filing h
     pub own : is_closed last ≡ false → HasCleanDisk (state g h) → IsTrue (state g h).is_open → HasLayout (layout_of known) (state g h).now.schema
 
-  -- Lookups in an edition are answered by it: under its number stands an index of it; and the index cuts its entries out of each text
-  -- that is kept under the number, and while the desk isn't closed and the store is open, out of the one that is committed under it.
+  -- Lookups in an edition are answered by it: under its number stands an index that cuts its entries out of a text; what is kept under the
+  -- number are parts of this text; and while the desk isn't closed and the store is open, this is the one that is committed under it.
   pub record IsServed (desk : DeskState S) (stored : Stored Edition) : Type 0 where
     pub index : List Indexed
     pub stands : entries_under stored.number desk.indexes ≡ Some index
-    pub is : IsIndexOf index stored.content
-    pub kept : AreCutFrom stored.number index stored.content desk.texts
-    pub held : is_closed desk.last ≡ false → IsTrue (state g desk.conn).is_open → HoldsCut (state g desk.conn).committed stored.number index stored.content
+    pub text : List ℕ
+    pub cuts : Cuts index stored.content text
+    pub kept : ArePartsOf stored.number text desk.texts
+    pub held : is_closed desk.last ≡ false → IsTrue (state g desk.conn).is_open → HoldsText (state g desk.conn).committed stored.number text
 
   -- so it is of each edition of the catalogue, current and former
   abbrev pub AreServed : DeskState S → Catalogue → Type 0

@@ -13,14 +13,17 @@ use Rattle.dict_commands.specs.declared.applied.Applied.{Applied}
 use Rattle.dict_commands.specs.declared.applied.Applied.TheVariants.{Repeated, Done}
 use Rattle.dict_desk.specs.declared.fault.Fault.{Fault}
 use Rattle.dict_indexes.specs.Indexes.{entries_under}
-use Rattle.dict_lookup.specs.Texts.{HoldsCut}
+use Rattle.dict_holdings.specs.Texts.{HoldsText}
+use Rattle.dict_lookup.specs.Texts.{Cuts}
 use Rattle.dict_search.specs.Entries.{Indexed, entry_of}
 
 -- Under the edition's number stands an index that cuts its entries out of the text which the database has under it.
 pub record IsHeldCut (db : Database) (indexes : List (ℕ × List Indexed)) (stored : Stored Edition) : Type 0 where
   pub index : List Indexed
   pub stands : entries_under stored.number indexes ≡ Some index
-  pub held : HoldsCut db stored.number index stored.content
+  pub text : List ℕ
+  pub held : HoldsText db stored.number text
+  pub cuts : Cuts index stored.content text
 
 -- so it is of each edition of the catalogue, current and former
 abbrev pub AreHeldCut : Database → Catalogue → List (ℕ × List Indexed) → Type 0

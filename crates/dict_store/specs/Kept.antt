@@ -3,22 +3,23 @@ use Rattle.std.specs.Prelude.{◌≡◌, ℕ, true, List, [], Result, Ok, Err}
 use Rattle.dict_catalogue.specs.Tests.{Holdings}
 use Rattle.dict_desk.specs.declared.fault.Fault.{Fault}
 use Rattle.dict_lookup.specs.Texts.{AreMade}
+use Rattle.dict_texts.specs.Texts.{Key}
 use Rattle.dict_store.specs.Desk.{has_failed}
 use Rattle.dict_store.specs.declared.last.LastCall.{LastCall}
 use Rattle.dict_store.specs.declared.last.LastCall.TheVariants.{Fine, Failed, Closed}
 
--- the texts that are kept after a call that ended so
-abbrev pub texts_after : LastCall → List (ℕ × List ℕ) → List (ℕ × List ℕ)
+-- the parts of texts that are kept after a call that ended so
+abbrev pub texts_after : LastCall → List (Key × List ℕ) → List (Key × List ℕ)
 texts_after Fine texts = texts
 texts_after Failed texts = []
 texts_after Closed texts = []
 
 -- and behind what was prepared
-abbrev pub texts_behind : {T : Type 0} → Result T Fault → List (ℕ × List ℕ) → List (ℕ × List ℕ)
+abbrev pub texts_behind : {T : Type 0} → Result T Fault → List (Key × List ℕ) → List (Key × List ℕ)
 texts_behind (Ok value) texts = texts
 texts_behind (Err fault) texts = []
 
--- Each text is kept under a number that an install has made, and none behind a fault from 40 on.
-pub record KeepsTexts (last : LastCall) (summary : Holdings (List ℕ)) (texts : List (ℕ × List ℕ)) : Type 0 where
+-- Each part is kept under the number of an edition that an install has made, and none behind a fault from 40 on.
+pub record KeepsTexts (last : LastCall) (summary : Holdings (List ℕ)) (texts : List (Key × List ℕ)) : Type 0 where
   pub made : AreMade summary.installs texts
   pub none : has_failed last ≡ true → texts ≡ []

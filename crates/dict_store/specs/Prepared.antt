@@ -1,5 +1,5 @@
 -- What is seen beside what is prepared of a change, and how that is undone.
-use Rattle.std.specs.Prelude.{◌≡◌, ◌≢◌, ◌⊎◌, ℕ, false, IsTrue, Option, Some, None, Result, Ok, Err}
+use Rattle.std.specs.Prelude.{◌≡◌, ◌≢◌, ◌⊎◌, ℕ, false, IsTrue, List, Option, Some, None, Result, Ok, Err}
 use Rattle.std.specs.List.{AllByRecursion}
 use Rattle.sqlite.specs.Effect.{Database}
 use Rattle.sqlite.specs.Held.{Held, state}
@@ -7,6 +7,7 @@ use Rattle.sqlite.specs.State.{State, IsRolledBack, Survives}
 use Rattle.sqlite_trees.specs.declared.store.Store.{Ghosts}
 use Rattle.dict_index.specs.Edition.{ReadEdition}
 use Rattle.dict_desk.specs.declared.fault.Fault.{Fault}
+use Rattle.dict_holdings.specs.Texts.{HoldsText}
 use Rattle.dict_lookup.specs.Searches.{HoldsOne, IsReadable, column_of}
 pub use Rattle.dict_commands.specs.Filing.{rested}
 use Rattle.dict_commands.specs.declared.filing.Filing.{Filing}
@@ -18,9 +19,10 @@ abbrev pub last_behind : {T : Type 0} → LastCall → Result T Fault → LastCa
 last_behind last (Ok value) = last
 last_behind last (Err fault) = last_by {T = Unit {0}} (Err fault)
 
--- Under this number the record is seen that is committed under it; and what stands there can be read, if it could.
+-- Under this number the header and the text are seen that are committed under it; and what stands there can be read, if it could.
 pub record IsAlike (number : ℕ) (committed now : Database) : Type 0 where
   pub one : (reading : ReadEdition) → HoldsOne committed number reading → HoldsOne now number reading
+  pub text : (text : List ℕ) → HoldsText committed number text → HoldsText now number text
   pub readable : IsReadable committed (column_of number) → IsReadable now (column_of number)
 
 -- A store that is open was so before, and what was committed is so still. It shows what it did, in the same transaction or in none; or

@@ -1,5 +1,5 @@
 // What is asked of an edition, answered by the index that stands under its number.
-ghost use Rattle.std.specs.Prelude.{◌≡◌, ◌⊎◌, ℕ, false, List, None, Ok, Some, IsTrue, IfOk, IfErr, OnOk};
+ghost use Rattle.std.specs.Prelude.{◌≡◌, ℕ, false, List, None, Ok, Some, IsTrue, IfOk, IfErr, OnOk};
 ghost use Rattle.sqlite.specs.State.{HasCleanDisk, Survives};
 ghost use Rattle.sqlite.specs.Held.{state};
 ghost use Rattle.dict_sql.specs.Effects.{WhileOpen};
@@ -8,8 +8,9 @@ ghost use Rattle.dict_desk.specs.Shown.{Row as ShownRow, found_rows, headword_ro
 ghost use Rattle.dict_desk.specs.Handing.{Hands};
 ghost use Rattle.dict_indexes.specs.Indexes.{entries_under};
 ghost use Rattle.dict_search.specs.Entries.{Indexed};
-ghost use Rattle.dict_lookup.specs.Texts.{IsIndexOf, AreCutFrom, HoldsCut, AreMade, IsAtMostRead};
-ghost use Rattle.dict_lookup.specs.Searches.{HasLookupTables, FailsToLookUp, IsOfStore, column_of};
+ghost use Rattle.dict_holdings.specs.Texts.{HoldsText};
+ghost use Rattle.dict_lookup.specs.Texts.{Cuts, IsIndexOf, ArePartsOf, AreMade, IsAtMostRead, FailsToFind};
+ghost use Rattle.dict_lookup.specs.Searches.{HasLookupTables, IsOfStore};
 
 use dict_desk::{End, Fault, RowSink, What};
 use dict_indexes::Indexes;
@@ -73,13 +74,13 @@ pub(crate) fn find_under<S: Alter, T: RowSink>(
     rows_taken: &mut u64,
 ) -> Result<End, Fault>
     requires { WhileOpen (state S.Store conn.old) HasLookupTables }
-    ensures value { HasCleanDisk (state S.Store conn.new) → (index : List Indexed) (edition : Edition) → entries_under number indexes.now ≡ Some index → IsIndexOf index edition → AreCutFrom number index edition texts.old → (IsTrue (state S.Store conn.old).is_open → HoldsCut (state S.Store conn.old).now number index edition) → Hands T.takes T.stops sink.old sink.new (found_rows strategy query.now edition) result }
+    ensures value { HasCleanDisk (state S.Store conn.new) → (index : List Indexed) (edition : Edition) (text : List ℕ) → entries_under number indexes.now ≡ Some index → Cuts index edition text → ArePartsOf number text texts.old → (IsTrue (state S.Store conn.old).is_open → HoldsText (state S.Store conn.old).now number text) → Hands T.takes T.stops sink.old sink.new (found_rows strategy query.now edition) result }
     ensures none { entries_under number indexes.now ≡ None → (result ≡ Ok End.All) × (sink.new ≡ sink.old) × (conn.new ≡ conn.old) }
-    ensures texts { HasCleanDisk (state S.Store conn.new) → (other : ℕ) (entries : List Indexed) (edition : Edition) → AreCutFrom other entries edition texts.old → (other ≡ number → IsTrue (state S.Store conn.old).is_open → HoldsCut (state S.Store conn.old).now other entries edition) → AreCutFrom other entries edition texts.new }
+    ensures texts { HasCleanDisk (state S.Store conn.new) → (other : ℕ) (text : List ℕ) → ArePartsOf other text texts.old → (other ≡ number → IsTrue (state S.Store conn.old).is_open → HoldsText (state S.Store conn.old).now other text) → ArePartsOf other text texts.new }
     ensures made { AreMade installs texts.old → AreMade installs texts.new }
     ensures handed { (rows : List ShownRow) × Hands T.takes T.stops sink.old sink.new rows result }
     ensures same { HasCleanDisk (state S.Store conn.new) → OnOk result (IsAtMostRead S.Store conn.old conn.new) }
-    ensures failed { HasCleanDisk (state S.Store conn.new) → IfErr result (λ fault. ((fault ≡ Fault.Memory) × (conn.new ≡ conn.old)) ⊎ FailsToLookUp (column_of number) (state S.Store conn.old) (state S.Store conn.new) fault) }
+    ensures failed { HasCleanDisk (state S.Store conn.new) → IfErr result (FailsToFind S.Store number conn.old conn.new) }
     ensures kinds { IfErr result IsOfStore }
     ensures mode { conn.old.in_transaction ≡ false → conn.new.in_transaction ≡ false }
     ensures survives { Survives (state S.Store conn.old) (state S.Store conn.new) (λ _. ⊥) }

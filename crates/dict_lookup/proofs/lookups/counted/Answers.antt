@@ -13,12 +13,16 @@ pub returns-in-Entries-clause-count : goal.returns-in-Entries-clause-count
 returns-in-Entries-clause-count c =
     let index = c.args.index.now in
     let query = c.args.query.now in
-    each_ok c.count_entries.result (λ (counted : Counted). counted.count ≡ length (found_entries c.args.strategy query index)) (λ (counted : Counted). (edition : Edition) → IsIndexOf index edition → counted.count ≡ count_of c.args.what c.args.strategy query edition)
-    (λ counted h edition is. h ∙ (entries_counted c.args.strategy query index edition c.edition_laws.ensures.entries_counted is ∙ ap (λ (what : What). count_of what c.args.strategy query edition) (sym c.in-Entries.is))) c.count_entries.ensures.count
+    each_ok c.count_entries.result (λ (counted : Counted). counted.count ≡ length (found_entries c.args.strategy query index))
+    (λ (counted : Counted). (edition : Edition) → IsIndexOf index edition → counted.count ≡ count_of c.args.what c.args.strategy query edition)
+    (λ counted h edition is. h ∙ (entries_counted c.args.strategy query index edition c.edition_laws.ensures.entries_counted is
+    ∙ ap (λ (what : What). count_of what c.args.strategy query edition) (sym c.in-Entries.is))) c.count_entries.ensures.count
 
 pub returns-in-Headwords-clause-count : goal.returns-in-Headwords-clause-count
 returns-in-Headwords-clause-count c =
     let index = c.args.index.now in
     let query = c.args.query.now in
-    each_ok c.count_headwords.result (λ (counted : Counted). counted.count ≡ length (found_headwords c.args.strategy query index)) (λ (counted : Counted). (edition : Edition) → IsIndexOf index edition → counted.count ≡ count_of c.args.what c.args.strategy query edition)
-    (λ counted h edition is. h ∙ (headwords_counted c.args.strategy query index edition c.edition_laws.ensures.headwords_counted is ∙ ap (λ (what : What). count_of what c.args.strategy query edition) (sym c.in-Headwords.is))) c.count_headwords.ensures.count
+    each_ok c.count_headwords.result (λ (counted : Counted). counted.count ≡ length (found_headwords c.args.strategy query index))
+    (λ (counted : Counted). (edition : Edition) → IsIndexOf index edition → counted.count ≡ count_of c.args.what c.args.strategy query edition)
+    (λ counted h edition is. h ∙ (headwords_counted c.args.strategy query index edition c.edition_laws.ensures.headwords_counted is
+    ∙ ap (λ (what : What). count_of what c.args.strategy query edition) (sym c.in-Headwords.is))) c.count_headwords.ensures.count

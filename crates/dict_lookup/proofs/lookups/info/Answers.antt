@@ -5,6 +5,9 @@ use Rattle.dict_desk.proofs.HandingLemmas.{hands_all, hands_stopped}
 use Rattle.dict_lookup.proofs.RecordLemmas.{text_there, text_told}
 use Rattle.dict_lookup.proofs.lookups.info.Goals as goal
 
+pub info_of_number-requires : goal.info_of_number-requires
+info_of_number-requires g c = λ clean live. (c.requires clean live).headers
+
 pub returns-in_default-clause-value : goal.returns-in_default-clause-value
 returns-in_default-clause-value g c clean reading one = absurd (text_there c.in_ok-info.field-0 reading.info (c.in_ok-info.ensures.value clean reading one) c.in_default.not-Some)
 

@@ -50,7 +50,8 @@ returns-clause-continues g c clean =
     let mid = state g.S.Store c.kept_reply.new.conn in
     let new = state g.S.Store c.read_again.new.conn in
     let honest = clean_behind mid new c.read_again.ensures.survives clean in
-    continues_then old mid new c.requires.autocommit (unchanged_continues old mid (c.in-Ok.ensures.same honest)) (c.read_again.ensures.lives clean) (c.read_again.ensures.now clean) (c.read_again.ensures.committed clean) c.read_again.ensures.autocommit
+    continues_then old mid new c.requires.autocommit (unchanged_continues old mid (c.in-Ok.ensures.same honest)) (c.read_again.ensures.lives clean) (c.read_again.ensures.now clean)
+    (c.read_again.ensures.committed clean) c.read_again.ensures.autocommit
 
 pub returns-clause-survives : goal.returns-clause-survives
 returns-clause-survives g c = survives_then _ _ _ (λ _. ⊥) (λ _. ⊥) (λ _. ⊥) (λ _ db none. none) (λ _ db none. none) c.kept_reply.ensures.survives c.read_again.ensures.survives

@@ -88,7 +88,8 @@ returns-clause-every g c = λ clean M held.
     let same = c.in_ok-version.ensures.committed there found.1.is_open in
     let first : IsHeld old.committed found.0 = record { version = c.in_ok-version.version; known = c.in_ok-version.ensures.version; holds = subst (λ (db : Database). Holds c.in_ok-version.version db found.0) same found.1.holds } in
     let is = c.one_is_held.ensures.held old.committed found.0 M first held in
-    subst (λ (N : Catalogue). Rests known new N × (summary_of N ≡ summary_shown c.in_ok-version.summary) × AreHeldCut new.committed N c.in_ok-version.indexes) is (c.in_ok-renew.ensures.rests clean found.0 found.1.holds, found.2, c.in_ok-renew.ensures.cut clean found.0 c.in_ok-version.indexes found.3)
+    subst (λ (N : Catalogue). Rests known new N × (summary_of N ≡ summary_shown c.in_ok-version.summary) × AreHeldCut new.committed N c.in_ok-version.indexes) is
+    (c.in_ok-renew.ensures.rests clean found.0 found.1.holds, found.2, c.in_ok-renew.ensures.cut clean found.0 c.in_ok-version.indexes found.3)
 
 pub returns-clause-same : goal.returns-clause-same
 returns-clause-same g c = λ clean M.

@@ -29,4 +29,5 @@ returns-else-version-lt-KNOWN_VERSION-clause-cut g c = λ clean M indexes indexe
 
 pub returns-then-version-lt-KNOWN_VERSION-clause-cut : goal.returns-then-version-lt-KNOWN_VERSION-clause-cut
 returns-then-version-lt-KNOWN_VERSION-clause-cut g c = λ clean.
-    on_ok_weaker c.migrate.result (λ migrated M indexes indexed. indexed_moved c.args.version (state g.S.Store c.args.conn.now).committed (state g.S.Store c.migrate.new.conn).committed migrated M indexes indexed) (c.migrate.ensures.migrated clean)
+    on_ok_weaker c.migrate.result (λ migrated M indexes indexed. indexed_moved c.args.version (state g.S.Store c.args.conn.now).committed (state g.S.Store c.migrate.new.conn).committed migrated M indexes indexed)
+    (c.migrate.ensures.migrated clean)

@@ -11,6 +11,7 @@ use Rattle.dict_store.proofs.closing.let_go.Goals as goal
 pub returns-clause-holds : goal.returns-clause-holds
 returns-clause-holds g c =
     subst
-    (λ (desk : DeskState _). is_closed desk.last ≡ false → HasCleanDisk (state g.S.Store desk.conn) → IsTrue (state g.S.Store desk.conn).is_open → (M : Catalogue) → Shows g.S.Store desk M → IsLeft M (state g.S.Store desk.conn).committed.trees)
+    (λ (desk : DeskState _). is_closed desk.last ≡ false → HasCleanDisk (state g.S.Store desk.conn) → IsTrue (state g.S.Store desk.conn).is_open → (M : Catalogue) → Shows g.S.Store desk M → IsLeft M
+    (state g.S.Store desk.conn).committed.trees)
     c.desk.view_is
     (committed_holds g.S.Store c.desk.inside.conn (summary_shown c.desk.inside.summary) c.desk.inside.last c.desk.inside.indexes c.desk.inside.texts c.is_whole.ensures.live)

@@ -19,7 +19,8 @@ apply-requires-clause-holds g c = λ clean live.
 pub returns-then-is_autocommit-clause-over : goal.returns-then-is_autocommit-clause-over
 returns-then-is_autocommit-clause-over g c =
     let none : c.args.conn.now.in_transaction ≡ false = search rules in
-    applied_alone g.S.Store (summary_shown c.args.summary.now) c.args.id.now (command_meant c.args.command.now) c.args.conn.now c.apply.new.conn c.apply.result none c.requires.settled c.apply.ensures.crash c.apply.ensures.holds c.apply.ensures.lives
+    applied_alone g.S.Store (summary_shown c.args.summary.now) c.args.id.now
+    (command_meant c.args.command.now) c.args.conn.now c.apply.new.conn c.apply.result none c.requires.settled c.apply.ensures.crash c.apply.ensures.holds c.apply.ensures.lives
     c.apply.ensures.value c.apply.ensures.spares c.apply.ensures.shut c.apply.ensures.failed c.apply.ensures.above c.apply.ensures.refused c.apply.ensures.grows c.apply.ensures.kinds c.apply.ensures.range c.apply.ensures.autocommit
 
 pub apply_filed-requires-clause-drawn : goal.apply_filed-requires-clause-drawn
@@ -34,7 +35,8 @@ apply_filed-requires-clause-holds g c = λ clean live. let it = c.requires.holds
 pub returns-clause-over : goal.returns-clause-over
 returns-clause-over g c =
     let inside : c.args.conn.now.in_transaction ≡ true = search rules in
-    applied_beside g.S.Store (summary_shown c.args.summary.now) c.args.id.now (command_meant c.args.command.now) c.args.conn.now c.apply_filed.new.conn c.apply_filed.result inside c.apply_filed.ensures.value c.apply_filed.ensures.failed c.apply_filed.ensures.holds c.requires.range
+    applied_beside g.S.Store (summary_shown c.args.summary.now) c.args.id.now
+    (command_meant c.args.command.now) c.args.conn.now c.apply_filed.new.conn c.apply_filed.result inside c.apply_filed.ensures.value c.apply_filed.ensures.failed c.apply_filed.ensures.holds c.requires.range
     c.apply_filed.ensures.applied c.apply_filed.ensures.settled c.apply_filed.ensures.unlawful
 
 pub returns-in_default-clause-over : goal.returns-in_default-clause-over

@@ -7,7 +7,8 @@ use Rattle.dict_store.proofs.promise.apply_to_file.Goals as goal
 
 pub returns-clause-answered : goal.returns-clause-answered
 returns-clause-answered g c = call_keeps g.S.Store c.args.desk.now c.apply_all.new.desk (requests_meant c.args.requests.now) (λ v. v.items) vec_len c.apply_all.result
-    (counted_meant g.S.Store c.args.desk.now c.apply_all.new.desk (requests_meant c.args.requests.now) (λ v. v.items) vec_len c.args.requests.now request_meant c.apply_all.result refl (length-map c.args.requests.now request_meant) c.apply_all.ensures.counted)
+    (counted_meant g.S.Store c.args.desk.now c.apply_all.new.desk (requests_meant c.args.requests.now) (λ v. v.items) vec_len c.args.requests.now request_meant c.apply_all.result refl
+    (length-map c.args.requests.now request_meant) c.apply_all.ensures.counted)
     c.apply_all.ensures.value
 
 pub returns-clause-halted : goal.returns-clause-halted

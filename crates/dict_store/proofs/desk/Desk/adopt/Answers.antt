@@ -65,4 +65,5 @@ returns-in-Err-clause-failed g c = λ clean is.
 
 pub returns-in-Err-clause-stays : goal.returns-in-Err-clause-stays
 returns-in-Err-clause-stays g c = λ clean live.
-    subst (λ conn. ((state g.S.Store c.read_renewed.new.conn).now ≡ (state g.S.Store conn).now) × ((state g.S.Store c.read_renewed.new.conn).committed ≡ (state g.S.Store conn).committed)) c.set_step_limit.ensures (c.in-Err.ensures.stays clean live)
+    subst (λ conn. ((state g.S.Store c.read_renewed.new.conn).now ≡ (state g.S.Store conn).now) × ((state g.S.Store c.read_renewed.new.conn).committed ≡ (state g.S.Store conn).committed)) c.set_step_limit.ensures
+    (c.in-Err.ensures.stays clean live)

@@ -33,7 +33,8 @@ read_committed-outcome-requires-clause-holds g c = λ clean live.
 pub invariant_of-self : goal.invariant_of-self
 invariant_of-self g c =
     let before : is_closed c.self.inside.last ≡ false = ap is_closed (ap (λ (d : DeskState _). d.last) c.self.view_is ∙ c.in_ok-withdraw.ensures.last) ∙ c.in_ok-withdraw.ensures.open in
-    desk_on g.S.Store c.self.inside.conn c.read_committed-outcome.new.conn (summary_shown c.self.inside.summary) c.self.inside.filing c.self.inside.last c.last_by-self-inside.result before c.self.invariant.0 c.read_committed-outcome.ensures.survives
+    desk_on g.S.Store c.self.inside.conn c.read_committed-outcome.new.conn
+    (summary_shown c.self.inside.summary) c.self.inside.filing c.self.inside.last c.last_by-self-inside.result before c.self.invariant.0 c.read_committed-outcome.ensures.survives
     c.read_committed-outcome.ensures.continues (λ _. c.read_committed-outcome.ensures.autocommit) c.self.inside.texts c.forget_by.new.texts c.forget_by.ensures c.self.invariant.1.made
 
 ok_clean : {T E : Type 0} (C X : Type 0) (result : Result T E) → (C → OnOk result X) → IfOk result (λ _. C → X)
@@ -48,7 +49,8 @@ returns-clause-shows g c = λ clean M shown.
     let before : is_closed c.self.inside.last ≡ false = ap is_closed (ap (λ (d : DeskState _). d.last) c.self.view_is ∙ c.in_ok-withdraw.ensures.last) ∙ c.in_ok-withdraw.ensures.open in
     let honest = clean_behind (state g.S.Store c.self.inside.conn) (state g.S.Store c.read_committed-outcome.new.conn) c.read_committed-outcome.ensures.survives clean in
     let mid = subst (λ (d : DeskState _). HasCleanDisk (state g.S.Store d.conn)) c.self.view_is honest in
-    shows_on g.S.Store c.self.inside.conn c.read_committed-outcome.new.conn (summary_shown c.self.inside.summary) c.self.inside.filing c.self.inside.last c.last_by-self-inside.result before c.self.invariant.0 c.read_committed-outcome.ensures.survives c.read_committed-outcome.ensures.continues
+    shows_on g.S.Store c.self.inside.conn c.read_committed-outcome.new.conn
+    (summary_shown c.self.inside.summary) c.self.inside.filing c.self.inside.last c.last_by-self-inside.result before c.self.invariant.0 c.read_committed-outcome.ensures.survives c.read_committed-outcome.ensures.continues
     c.self.inside.indexes c.self.inside.texts M (subst (λ (d : DeskState _). Shows g.S.Store d M) (sym c.self.view_is) (c.withdraw.ensures.shows mid M shown)) c.forget_by.new.texts c.forget_by.ensures
 
 pub returns-clause-spares : goal.returns-clause-spares
@@ -60,7 +62,8 @@ pub returns-clause-same : goal.returns-clause-same
 returns-clause-same g c = λ clean live.
     let honest = clean_behind (state g.S.Store c.self.inside.conn) (state g.S.Store c.read_committed-outcome.new.conn) c.read_committed-outcome.ensures.survives clean in
     let mid = subst (λ (d : DeskState _). HasCleanDisk (state g.S.Store d.conn)) c.self.view_is honest in
-    let goes = subst (λ (d : DeskState _). Continues (state g.S.Store c.args.self.now.conn) (state g.S.Store d.conn)) (sym c.self.view_is) (undone_continues g.S.Store c.args.self.now.conn c.withdraw.new.self.conn (c.withdraw.ensures.undone mid)) in
+    let goes = subst (λ (d : DeskState _). Continues (state g.S.Store c.args.self.now.conn) (state g.S.Store d.conn)) (sym c.self.view_is)
+    (undone_continues g.S.Store c.args.self.now.conn c.withdraw.new.self.conn (c.withdraw.ensures.undone mid)) in
     (c.read_committed-outcome.ensures.continues clean).committed live ∙ goes.committed ((c.read_committed-outcome.ensures.continues clean).was_open live)
 
 pub returns-clause-told : goal.returns-clause-told
@@ -69,7 +72,8 @@ returns-clause-told g c =
     (λ clean.
     let honest = clean_behind (state g.S.Store c.self.inside.conn) (state g.S.Store c.read_committed-outcome.new.conn) c.read_committed-outcome.ensures.survives clean in
     let mid = subst (λ (d : DeskState _). HasCleanDisk (state g.S.Store d.conn)) c.self.view_is honest in
-    let goes = subst (λ (d : DeskState _). Continues (state g.S.Store c.args.self.now.conn) (state g.S.Store d.conn)) (sym c.self.view_is) (undone_continues g.S.Store c.args.self.now.conn c.withdraw.new.self.conn (c.withdraw.ensures.undone mid)) in
+    let goes = subst (λ (d : DeskState _). Continues (state g.S.Store c.args.self.now.conn) (state g.S.Store d.conn)) (sym c.self.view_is)
+    (undone_continues g.S.Store c.args.self.now.conn c.withdraw.new.self.conn (c.withdraw.ensures.undone mid)) in
     c.read_committed-outcome.ensures.told clean (state g.S.Store c.args.self.now.conn).committed goes.committed)
 
 pub returns-clause-not_held : goal.returns-clause-not_held
@@ -78,13 +82,16 @@ returns-clause-not_held g c =
     (λ clean.
     let honest = clean_behind (state g.S.Store c.self.inside.conn) (state g.S.Store c.read_committed-outcome.new.conn) c.read_committed-outcome.ensures.survives clean in
     let mid = subst (λ (d : DeskState _). HasCleanDisk (state g.S.Store d.conn)) c.self.view_is honest in
-    let goes = subst (λ (d : DeskState _). Continues (state g.S.Store c.args.self.now.conn) (state g.S.Store d.conn)) (sym c.self.view_is) (undone_continues g.S.Store c.args.self.now.conn c.withdraw.new.self.conn (c.withdraw.ensures.undone mid)) in
+    let goes = subst (λ (d : DeskState _). Continues (state g.S.Store c.args.self.now.conn) (state g.S.Store d.conn)) (sym c.self.view_is)
+    (undone_continues g.S.Store c.args.self.now.conn c.withdraw.new.self.conn (c.withdraw.ensures.undone mid)) in
     c.read_committed-outcome.ensures.not_held clean (state g.S.Store c.args.self.now.conn).committed goes.committed)
 
 pub returns-clause-broken : goal.returns-clause-broken
 returns-clause-broken g c = λ clean.
     let honest = clean_behind (state g.S.Store c.self.inside.conn) (state g.S.Store c.read_committed-outcome.new.conn) c.read_committed-outcome.ensures.survives clean in
     let mid = subst (λ (d : DeskState _). HasCleanDisk (state g.S.Store d.conn)) c.self.view_is honest in
-    let goes = subst (λ (d : DeskState _). Continues (state g.S.Store c.args.self.now.conn) (state g.S.Store d.conn)) (sym c.self.view_is) (undone_continues g.S.Store c.args.self.now.conn c.withdraw.new.self.conn (c.withdraw.ensures.undone mid)) in
+    let goes = subst (λ (d : DeskState _). Continues (state g.S.Store c.args.self.now.conn) (state g.S.Store d.conn)) (sym c.self.view_is)
+    (undone_continues g.S.Store c.args.self.now.conn c.withdraw.new.self.conn (c.withdraw.ensures.undone mid)) in
     let first = subst (λ (d : DeskState _). Survives (state g.S.Store c.args.self.now.conn) (state g.S.Store d.conn) (λ _. ⊥)) (sym c.self.view_is) c.withdraw.ensures.survives in
-    err_weaker _ _ c.read_committed-outcome.result (λ (fault : Fault) h is. failed_behind (state g.S.Store c.args.self.now.conn) (state g.S.Store c.self.inside.conn) (state g.S.Store c.read_committed-outcome.new.conn) goes first c.read_committed-outcome.ensures.survives honest (h is)) (c.read_committed-outcome.ensures.failed clean)
+    err_weaker _ _ c.read_committed-outcome.result (λ (fault : Fault) h is. failed_behind (state g.S.Store c.args.self.now.conn) (state g.S.Store c.self.inside.conn)
+    (state g.S.Store c.read_committed-outcome.new.conn) goes first c.read_committed-outcome.ensures.survives honest (h is)) (c.read_committed-outcome.ensures.failed clean)

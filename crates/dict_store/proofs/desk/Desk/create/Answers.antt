@@ -15,7 +15,8 @@ pub returns-in-Ok-clause-shows : goal.returns-in-Ok-clause-shows
 returns-in-Ok-clause-shows g c = c.over.ensures.shows empty_catalogue c.new.ensures empty_well_formed c.in-Ok.ensures.rests (λ clean. tt)
 
 pub returns-in-Ok-clause-only : goal.returns-in-Ok-clause-only
-returns-in-Ok-clause-only g c = subst (λ (d : DeskState _). LeavesOneOf g.S.Store d (Some empty_catalogue ∷ [])) (sym c.over.ensures.is) (λ clean trees may. (Some empty_catalogue, alone empty_catalogue, left_known empty_catalogue trees (c.in-Ok.ensures.only clean trees may)))
+returns-in-Ok-clause-only g c = subst (λ (d : DeskState _). LeavesOneOf g.S.Store d (Some empty_catalogue ∷ [])) (sym c.over.ensures.is)
+    (λ clean trees may. (Some empty_catalogue, alone empty_catalogue, left_known empty_catalogue trees (c.in-Ok.ensures.only clean trees may)))
 
 pub returns-in-Ok-clause-rests : goal.returns-in-Ok-clause-rests
 returns-in-Ok-clause-rests g c = subst (λ (d : DeskState _). HasCleanDisk (state g.S.Store d.conn) → Rests known (state g.S.Store d.conn) empty_catalogue) (sym c.over.ensures.is) c.in-Ok.ensures.rests

@@ -18,7 +18,8 @@ kept_reply-requires g c = λ clean live.
 pub invariant_of-self : goal.invariant_of-self
 invariant_of-self g c =
     let before : is_closed c.self.inside.last ≡ false = search rules in
-    desk_on g.S.Store c.self.inside.conn c.kept_reply.new.conn (summary_shown c.self.inside.summary) c.self.inside.filing c.self.inside.last Fine before c.self.invariant.0 c.kept_reply.ensures.survives (λ clean. unchanged_continues (state g.S.Store c.self.inside.conn) (state g.S.Store c.kept_reply.new.conn) (c.in-Ok.ensures.same clean))
+    desk_on g.S.Store c.self.inside.conn c.kept_reply.new.conn (summary_shown c.self.inside.summary) c.self.inside.filing c.self.inside.last Fine before c.self.invariant.0 c.kept_reply.ensures.survives
+    (λ clean. unchanged_continues (state g.S.Store c.self.inside.conn) (state g.S.Store c.kept_reply.new.conn) (c.in-Ok.ensures.same clean))
     c.kept_reply.ensures.mode c.self.inside.texts c.self.inside.texts refl c.self.invariant.1.made
 
 pub returns-in-Ok-clause-value : goal.returns-in-Ok-clause-value
@@ -39,8 +40,10 @@ invariant_of-self-in-Err g c =
     let before : is_closed c.self.inside.last ≡ false = search rules in
     let inside : c.self.inside.conn.in_transaction ≡ true = search rules in (
       undone_rests g.S.Store c.self.inside.conn c.undo.new.conn (summary_shown c.self.inside.summary) c.self.inside.filing c.self.inside.last before c.self.invariant.0 (survives_both g.S.Store c.self.inside.conn c.kept_reply.new.conn c.undo.new.conn inside c.kept_reply.ensures.survives c.undo.ensures.survives) (λ clean. undone_behind g.S.Store c.self.inside.conn c.kept_reply.new.conn c.undo.new.conn inside c.kept_reply.ensures.survives c.undo.ensures.survives c.in-Err.field-0
-          (c.in-Err.ensures.failed (clean_behind (state g.S.Store c.kept_reply.new.conn) (state g.S.Store c.undo.new.conn) c.undo.ensures.survives clean)) (c.undo.ensures.undone clean) (c.undo.ensures.ended clean)) c.let_go_when_ended.new.filing
-          (filed_less g.S.Store c.self.inside.filing c.let_go_when_ended.new.filing c.undo.new.conn c.let_go_when_ended.ensures (ended_filed g.S.Store c.self.inside.conn c.kept_reply.new.conn c.undo.new.conn inside c.kept_reply.ensures.survives c.undo.ensures.survives c.self.inside.filing (c.self.invariant.0.filed before) c.undo.ensures.ended)),
+          (c.in-Err.ensures.failed (clean_behind (state g.S.Store c.kept_reply.new.conn) (state g.S.Store c.undo.new.conn) c.undo.ensures.survives clean)) (c.undo.ensures.undone clean)
+          (c.undo.ensures.ended clean)) c.let_go_when_ended.new.filing
+          (filed_less g.S.Store c.self.inside.filing c.let_go_when_ended.new.filing c.undo.new.conn c.let_go_when_ended.ensures
+          (ended_filed g.S.Store c.self.inside.conn c.kept_reply.new.conn c.undo.new.conn inside c.kept_reply.ensures.survives c.undo.ensures.survives c.self.inside.filing (c.self.invariant.0.filed before) c.undo.ensures.ended)),
       c.self.invariant.1,
     )
 
@@ -56,9 +59,11 @@ returns-in-Err-clause-shows g c = λ clean M shown.
     let before : is_closed c.self.inside.last ≡ false = search rules in
     let inside : c.self.inside.conn.in_transaction ≡ true = search rules in
     undone_shows g.S.Store c.self.inside.conn c.undo.new.conn (summary_shown c.self.inside.summary) c.self.inside.filing c.self.inside.last before c.self.invariant.0 (survives_both g.S.Store c.self.inside.conn c.kept_reply.new.conn c.undo.new.conn inside c.kept_reply.ensures.survives c.undo.ensures.survives) (λ clean. undone_behind g.S.Store c.self.inside.conn c.kept_reply.new.conn c.undo.new.conn inside c.kept_reply.ensures.survives c.undo.ensures.survives c.in-Err.field-0
-    (c.in-Err.ensures.failed (clean_behind (state g.S.Store c.kept_reply.new.conn) (state g.S.Store c.undo.new.conn) c.undo.ensures.survives clean)) (c.undo.ensures.undone clean) (c.undo.ensures.ended clean)) c.self.inside.last c.self.inside.indexes c.self.inside.texts M (subst (λ (d : DeskState _). Shows g.S.Store d M) (sym c.self.view_is) shown)
+    (c.in-Err.ensures.failed (clean_behind (state g.S.Store c.kept_reply.new.conn) (state g.S.Store c.undo.new.conn) c.undo.ensures.survives clean)) (c.undo.ensures.undone clean)
+    (c.undo.ensures.ended clean)) c.self.inside.last c.self.inside.indexes c.self.inside.texts M (subst (λ (d : DeskState _). Shows g.S.Store d M) (sym c.self.view_is) shown)
 
 pub returns-in-Err-clause-survives : goal.returns-in-Err-clause-survives
 returns-in-Err-clause-survives g c =
     let inside : c.self.inside.conn.in_transaction ≡ true = search rules in
-    subst (λ (d : DeskState _). Survives (state g.S.Store d.conn) (state g.S.Store c.undo.new.conn) (λ _. ⊥)) c.self.view_is (survives_both g.S.Store c.self.inside.conn c.kept_reply.new.conn c.undo.new.conn inside c.kept_reply.ensures.survives c.undo.ensures.survives)
+    subst (λ (d : DeskState _). Survives (state g.S.Store d.conn) (state g.S.Store c.undo.new.conn) (λ _. ⊥)) c.self.view_is
+    (survives_both g.S.Store c.self.inside.conn c.kept_reply.new.conn c.undo.new.conn inside c.kept_reply.ensures.survives c.undo.ensures.survives)

@@ -17,4 +17,5 @@ returns-then-are_apart-clause-alike g c =
     (alike_by c.shows_still.ensures g.S.Store c.self.inside.last (summary_shown c.self.inside.summary) c.self.inside.filing c.self.inside.conn before c.self.invariant.0 c.args.number apart.0 apart.1)
 
 pub returns-clause-alike : goal.returns-clause-alike
-returns-clause-alike g c = on_ok_weaker c.withdraw.result (λ settled clean live. same_alike c.args.number (state g.S.Store c.withdraw.new.self.conn).committed (state g.S.Store c.withdraw.new.self.conn).now (settled clean live)) c.withdraw.ensures.settled
+returns-clause-alike g c = on_ok_weaker c.withdraw.result (λ settled clean live. same_alike c.args.number (state g.S.Store c.withdraw.new.self.conn).committed
+    (state g.S.Store c.withdraw.new.self.conn).now (settled clean live)) c.withdraw.ensures.settled

@@ -36,7 +36,8 @@ apply_over-outcome-requires-clause-holds g c =
 pub invariant_of-self-2 : goal.invariant_of-self-2
 invariant_of-self-2 g c =
     let before : is_closed c.self.inside.last ≡ false = search rules in
-    told_rests g.S.Store c.self.inside.conn c.apply_over-outcome.new.conn (summary_shown c.self.inside.summary) c.self.inside.filing c.self.inside.last c.args.id.now (command_meant c.args.command.now) c.apply_over-outcome.result before c.self.invariant.0
+    told_rests g.S.Store c.self.inside.conn c.apply_over-outcome.new.conn (summary_shown c.self.inside.summary) c.self.inside.filing c.self.inside.last c.args.id.now
+    (command_meant c.args.command.now) c.apply_over-outcome.result before c.self.invariant.0
     c.apply_over-outcome.ensures.over c.self.inside.indexes c.put_coming.new.indexes c.settle.new.indexes c.self.inside.texts c.forget_by-2.new.texts
     (summary_shown c.take_over.new.summary) c.last_by-self-inside.result c.take_over.result c.take_over.ensures.after c.last_by-self-inside.ensures c.take_over.ensures.reply
     c.forget_by-2.ensures c.self.invariant.1 c.let_go_when_ended.new.filing c.let_go_when_ended.ensures
@@ -47,19 +48,24 @@ returns-clause-value g c = λ clean M shown.
     let first : HasCleanDisk (state g.S.Store c.self.inside.conn) = omega (arith, c.apply_over-outcome.ensures.over.crash.clean, clean) in
     let was = subst (λ desk. Shows g.S.Store desk M) (sym c.self.view_is) shown in
     let texts = c.forget_by-2.ensures ∙ ap (λ (l : LastCall). texts_after l c.self.inside.texts) c.last_by-self-inside.ensures in
-    told_applies g.S.Store c.self.inside.conn c.apply_over-outcome.new.conn (summary_shown c.self.inside.summary) c.self.inside.filing c.self.inside.last c.args.id.now (command_meant c.args.command.now) c.apply_over-outcome.result before c.self.invariant.0
+    told_applies g.S.Store c.self.inside.conn c.apply_over-outcome.new.conn (summary_shown c.self.inside.summary) c.self.inside.filing c.self.inside.last c.args.id.now
+    (command_meant c.args.command.now) c.apply_over-outcome.result before c.self.invariant.0
     c.apply_over-outcome.ensures.over c.self.inside.indexes c.put_coming.new.indexes c.settle.new.indexes c.self.inside.texts c.forget_by-2.new.texts
     (summary_shown c.take_over.new.summary) c.last_by-self-inside.result c.take_over.result c.take_over.ensures.after c.last_by-self-inside.ensures c.take_over.ensures.reply
     clean M was
     (λ clean.
-    served_by g.S.Store c.self.inside.conn c.apply_over-outcome.new.conn (summary_shown c.self.inside.summary) c.self.inside.last c.args.id.now c.args.command.now before c.self.inside.indexes c.put_coming.new.indexes c.settle.new.indexes c.self.inside.texts c.forget_by-2.new.texts c.self.invariant.1.made
-    c.saturating_add-number.result c.saturating_add-number.ensures c.in-Ok.ensures.put M was clean first c.apply_over-outcome.result c.apply_over-outcome.ensures.over c.settle.ensures.settled texts (c.apply_over-outcome.ensures.installed clean) (c.apply_over-outcome.ensures.stays clean))
+    served_by g.S.Store c.self.inside.conn c.apply_over-outcome.new.conn
+    (summary_shown c.self.inside.summary) c.self.inside.last c.args.id.now c.args.command.now before c.self.inside.indexes c.put_coming.new.indexes c.settle.new.indexes c.self.inside.texts c.forget_by-2.new.texts c.self.invariant.1.made
+    c.saturating_add-number.result c.saturating_add-number.ensures c.in-Ok.ensures.put M was clean first c.apply_over-outcome.result c.apply_over-outcome.ensures.over c.settle.ensures.settled texts
+    (c.apply_over-outcome.ensures.installed clean) (c.apply_over-outcome.ensures.stays clean))
 
 pub returns-clause-leaves : goal.returns-clause-leaves
 returns-clause-leaves g c = λ clean M shown.
     let before : is_closed c.self.inside.last ≡ false = search rules in
-    subst (λ desk. Leaves (LeavesOneOf g.S.Store desk) (LeavesOneOf g.S.Store (record { conn = c.apply_over-outcome.new.conn; summary = summary_shown c.take_over.new.summary; last = c.last_by-self-inside.result; indexes = c.settle.new.indexes; texts = c.forget_by-2.new.texts }))
-    (is_some (kept_under M.kept c.args.id.now)) (step M c.args.id.now (command_meant c.args.command.now)).catalogue c.take_over.result) c.self.view_is (told_leaves g.S.Store c.self.inside.conn c.apply_over-outcome.new.conn (summary_shown c.self.inside.summary) c.self.inside.filing c.self.inside.last c.args.id.now (command_meant c.args.command.now) c.apply_over-outcome.result before c.self.invariant.0
+    subst (λ desk. Leaves (LeavesOneOf g.S.Store desk) (LeavesOneOf g.S.Store
+    (record { conn = c.apply_over-outcome.new.conn; summary = summary_shown c.take_over.new.summary; last = c.last_by-self-inside.result; indexes = c.settle.new.indexes; texts = c.forget_by-2.new.texts }))
+    (is_some (kept_under M.kept c.args.id.now)) (step M c.args.id.now (command_meant c.args.command.now)).catalogue c.take_over.result) c.self.view_is (told_leaves g.S.Store c.self.inside.conn c.apply_over-outcome.new.conn
+    (summary_shown c.self.inside.summary) c.self.inside.filing c.self.inside.last c.args.id.now (command_meant c.args.command.now) c.apply_over-outcome.result before c.self.invariant.0
     c.apply_over-outcome.ensures.over c.self.inside.indexes c.put_coming.new.indexes c.settle.new.indexes c.self.inside.texts c.forget_by-2.new.texts
     (summary_shown c.take_over.new.summary) c.last_by-self-inside.result c.take_over.result c.take_over.ensures.after c.last_by-self-inside.ensures c.take_over.ensures.reply
     clean M (subst (λ desk. Shows g.S.Store desk M) (sym c.self.view_is) shown))
@@ -67,7 +73,8 @@ returns-clause-leaves g c = λ clean M shown.
 pub returns-clause-spares : goal.returns-clause-spares
 returns-clause-spares g c = λ ms left.
     let before : is_closed c.self.inside.last ≡ false = search rules in
-    told_spares g.S.Store c.self.inside.conn c.apply_over-outcome.new.conn (summary_shown c.self.inside.summary) c.self.inside.filing c.self.inside.last c.args.id.now (command_meant c.args.command.now) c.apply_over-outcome.result before c.self.invariant.0
+    told_spares g.S.Store c.self.inside.conn c.apply_over-outcome.new.conn (summary_shown c.self.inside.summary) c.self.inside.filing c.self.inside.last c.args.id.now
+    (command_meant c.args.command.now) c.apply_over-outcome.result before c.self.invariant.0
     c.apply_over-outcome.ensures.over c.self.inside.indexes c.put_coming.new.indexes c.settle.new.indexes c.self.inside.texts c.forget_by-2.new.texts
     (summary_shown c.take_over.new.summary) c.last_by-self-inside.result c.take_over.result c.take_over.ensures.after c.last_by-self-inside.ensures c.take_over.ensures.reply
     ms (subst (λ desk. LeavesOneOf g.S.Store desk ms) (sym c.self.view_is) left)
@@ -77,7 +84,8 @@ returns-clause-failed g c = ap has_failed c.last_by-self-inside.ensures ∙ fail
 
 pub returns-clause-caused : goal.returns-clause-caused
 returns-clause-caused g c = λ clean.
-    subst (λ desk. IfErr c.take_over.result (λ fault. is_failure fault ≡ true → FailsToApplyTo g.S.Store desk (record { id = c.args.id.now; command = command_meant c.args.command.now }) (record { conn = c.apply_over-outcome.new.conn; summary = summary_shown c.take_over.new.summary; last = c.last_by-self-inside.result; indexes = c.settle.new.indexes; texts = c.forget_by-2.new.texts }) fault)) c.self.view_is
+    subst (λ desk. IfErr c.take_over.result (λ fault. is_failure fault ≡ true → FailsToApplyTo g.S.Store desk (record { id = c.args.id.now; command = command_meant c.args.command.now })
+    (record { conn = c.apply_over-outcome.new.conn; summary = summary_shown c.take_over.new.summary; last = c.last_by-self-inside.result; indexes = c.settle.new.indexes; texts = c.forget_by-2.new.texts }) fault)) c.self.view_is
     (fails_to_apply g.S.Store (record { conn = c.self.inside.conn; summary = summary_shown c.self.inside.summary; last = c.self.inside.last; indexes = c.self.inside.indexes; texts = c.self.inside.texts }) c.args.id.now (command_meant c.args.command.now) (record { conn = c.apply_over-outcome.new.conn; summary = summary_shown c.take_over.new.summary; last = c.last_by-self-inside.result; indexes = c.settle.new.indexes; texts = c.forget_by-2.new.texts })
     c.apply_over-outcome.result c.take_over.result c.take_over.ensures.reply c.apply_over-outcome.ensures.over.kinds (c.apply_over-outcome.ensures.over.failed clean))
 
@@ -96,7 +104,8 @@ invariant_of-self g c =
 pub returns-in_default-clause-value : goal.returns-in_default-clause-value
 returns-in_default-clause-value g c = λ clean M shown.
     let before : is_closed c.self.inside.last ≡ false = search rules in
-    shows_as g.S.Store (summary_shown c.self.inside.summary) c.self.inside.last Failed c.self.inside.conn before c.self.inside.indexes c.put_coming.new.indexes (err_by c.put_coming.result c.in_default.not-Ok c.put_coming.ensures.refused) c.self.inside.texts c.forget_by.new.texts c.forget_by.ensures M
+    shows_as g.S.Store (summary_shown c.self.inside.summary) c.self.inside.last Failed c.self.inside.conn before c.self.inside.indexes c.put_coming.new.indexes
+    (err_by c.put_coming.result c.in_default.not-Ok c.put_coming.ensures.refused) c.self.inside.texts c.forget_by.new.texts c.forget_by.ensures M
     (subst (λ (d : DeskState _). Shows g.S.Store d M) (sym c.self.view_is) shown)
 
 pub returns-in_default-clause-leaves : goal.returns-in_default-clause-leaves

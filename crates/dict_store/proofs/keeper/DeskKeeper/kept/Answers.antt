@@ -39,8 +39,10 @@ returns-clause-value g c = λ clean M shown.
     let first = clean_behind (state g.S.Store c.kept_beside.new.self.conn) (state g.S.Store c.withdraw.new.self.conn) c.withdraw.ensures.survives mid in
     let holds = held g.S.Store c.self.inside.conn c.kept_reply-outcome.new.conn (summary_shown c.self.inside.summary) c.self.inside.filing c.self.inside.last c.last_by-self-inside.result before c.self.invariant.0 c.kept_reply-outcome.ensures.survives (λ clean. replies_continue (state g.S.Store c.self.inside.conn) (state g.S.Store c.kept_reply-outcome.new.conn) c.kept_reply-outcome.result (c.kept_reply-outcome.ensures.same clean) (c.kept_reply-outcome.ensures.failed clean))
     c.self.inside.indexes c.self.inside.texts M (subst (λ (d : DeskState _). Shows g.S.Store d M) (sym c.self.view_is) (c.withdraw.ensures.shows mid M (c.kept_beside.ensures.shows first M shown))) clean in
-    kept_value (λ reply. (kept : _) → HoldsReplies (state g.S.Store c.self.inside.conn).now kept → option_map kept_shown reply ≡ kept_under kept c.args.id.now) (λ reply. option_map kept_shown reply ≡ kept_under M.kept c.args.id.now) c.kept_reply-outcome.result (state g.S.Store c.self.inside.conn) (state g.S.Store c.kept_reply-outcome.new.conn)
-    (λ reply live alone. alone M.kept (replies_seen g.S.Store c.self.inside.last (summary_shown c.self.inside.summary) c.self.inside.filing c.self.inside.conn before c.self.invariant.0 honest live M (holds live))) (c.kept_reply-outcome.ensures.same clean) (c.kept_reply-outcome.ensures.alone clean)
+    kept_value (λ reply. (kept : _) → HoldsReplies (state g.S.Store c.self.inside.conn).now kept → option_map kept_shown reply ≡ kept_under kept c.args.id.now)
+    (λ reply. option_map kept_shown reply ≡ kept_under M.kept c.args.id.now) c.kept_reply-outcome.result (state g.S.Store c.self.inside.conn) (state g.S.Store c.kept_reply-outcome.new.conn)
+    (λ reply live alone. alone M.kept (replies_seen g.S.Store c.self.inside.last (summary_shown c.self.inside.summary) c.self.inside.filing c.self.inside.conn before c.self.invariant.0 honest live M (holds live)))
+    (c.kept_reply-outcome.ensures.same clean) (c.kept_reply-outcome.ensures.alone clean)
 
 pub returns-clause-shows : goal.returns-clause-shows
 returns-clause-shows g c = λ clean M shown.
@@ -60,12 +62,14 @@ returns-clause-leaves g c = λ ms left.
 pub returns-clause-caused : goal.returns-clause-caused
 returns-clause-caused g c =
     let before : is_closed c.self.inside.last ≡ false = ap is_closed (ap (λ (d : DeskState _). d.last) c.self.view_is ∙ c.in_ok-withdraw.ensures.last) ∙ c.in_ok-withdraw.ensures.open in
-    reply_gives_way g.S.Store c.args.self.now c.self.inside.conn c.kept_reply-outcome.new.conn (summary_shown c.self.inside.summary) c.self.inside.filing c.self.inside.indexes c.forget_by.new.texts c.self.inside.last c.last_by-self-inside.result before c.self.invariant.0 c.kept_reply-outcome.ensures.survives
+    reply_gives_way g.S.Store c.args.self.now c.self.inside.conn c.kept_reply-outcome.new.conn
+    (summary_shown c.self.inside.summary) c.self.inside.filing c.self.inside.indexes c.forget_by.new.texts c.self.inside.last c.last_by-self-inside.result before c.self.invariant.0 c.kept_reply-outcome.ensures.survives
     (λ clean.
     let honest = clean_behind (state g.S.Store c.self.inside.conn) (state g.S.Store c.kept_reply-outcome.new.conn) c.kept_reply-outcome.ensures.survives clean in
     let mid = subst (λ (d : DeskState _). HasCleanDisk (state g.S.Store d.conn)) c.self.view_is honest in
     let first = clean_behind (state g.S.Store c.kept_beside.new.self.conn) (state g.S.Store c.withdraw.new.self.conn) c.withdraw.ensures.survives mid in
     let none : is_closed c.args.self.now.last ≡ false = ap is_closed (sym (none_by c.kept_beside.result c.in_default.not-Some c.kept_beside.ensures.last)) ∙ c.in_ok-withdraw.ensures.open in
     subst (λ (d : DeskState _). Undoes g.S.Store c.args.self.now.conn d.conn) (sym c.self.view_is)
-    (undone_twice g.S.Store c.args.self.now.conn c.kept_beside.new.self.conn c.withdraw.new.self.conn (none_by c.kept_beside.result c.in_default.not-Some (c.kept_beside.ensures.ended first none)) (none_by c.kept_beside.result c.in_default.not-Some (c.kept_beside.ensures.undone first)) (c.withdraw.ensures.undone mid)))
+    (undone_twice g.S.Store c.args.self.now.conn c.kept_beside.new.self.conn c.withdraw.new.self.conn (none_by c.kept_beside.result c.in_default.not-Some (c.kept_beside.ensures.ended first none))
+    (none_by c.kept_beside.result c.in_default.not-Some (c.kept_beside.ensures.undone first)) (c.withdraw.ensures.undone mid)))
     (ap (λ (d : DeskState _). d.conn.in_transaction) c.self.view_is ∙ c.in_ok-withdraw.ensures.ended) c.kept_reply-outcome.result c.kept_reply-outcome.ensures.kinds c.kept_reply-outcome.ensures.failed

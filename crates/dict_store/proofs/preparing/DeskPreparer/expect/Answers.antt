@@ -17,7 +17,8 @@ plan_filing-requires g c = c.self.invariant.0.range
 pub invariant_of-self : goal.invariant_of-self
 invariant_of-self g c =
     let before : is_closed c.self.inside.last ≡ false = ap is_closed (ap (λ (d : DeskState _). d.last) c.self.view_is ∙ c.in_ok-withdraw.ensures.last) ∙ c.in_ok-withdraw.ensures.open in (
-      rests_as g.S.Store (summary_shown c.self.inside.summary) c.self.inside.filing c.self.inside.last c.self.inside.last c.self.inside.conn before c.self.invariant.0 c.in-Ok.filing (planned_filed g.S.Store c.in-Ok.filing c.self.inside.conn c.in-Ok.ensures.drawn (ap (λ (d : DeskState _). d.conn.in_transaction) c.self.view_is ∙ c.in_ok-withdraw.ensures.ended)),
+      rests_as g.S.Store (summary_shown c.self.inside.summary) c.self.inside.filing c.self.inside.last c.self.inside.last c.self.inside.conn before c.self.invariant.0 c.in-Ok.filing
+          (planned_filed g.S.Store c.in-Ok.filing c.self.inside.conn c.in-Ok.ensures.drawn (ap (λ (d : DeskState _). d.conn.in_transaction) c.self.view_is ∙ c.in_ok-withdraw.ensures.ended)),
       c.self.invariant.1,
     )
 

@@ -30,22 +30,26 @@ file_next-outcome-requires-clause-settled g c =
 pub invariant_of-self : goal.invariant_of-self
 invariant_of-self g c =
     let before : is_closed c.self.inside.last ≡ false = search rules in (
-      prepared_rests g.S.Store c.self.inside.conn c.file_next-outcome.new.conn (summary_shown c.self.inside.summary) c.self.inside.filing c.self.inside.last before c.self.invariant.0 c.file_next-outcome.ensures.survives c.file_next-outcome.ensures.keeps
+      prepared_rests g.S.Store c.self.inside.conn c.file_next-outcome.new.conn
+          (summary_shown c.self.inside.summary) c.self.inside.filing c.self.inside.last before c.self.invariant.0 c.file_next-outcome.ensures.survives c.file_next-outcome.ensures.keeps
           c.last_behind-self-inside.result c.let_go_when_ended.new.filing c.file_next-outcome.ensures.settled
           (filed_less g.S.Store c.file_next-outcome.new.filing c.let_go_when_ended.new.filing c.file_next-outcome.new.conn c.let_go_when_ended.ensures c.file_next-outcome.ensures.filed),
-      prepared_keeps g.S.Store c.self.inside.conn c.file_next-outcome.new.conn (summary_shown c.self.inside.summary) c.self.inside.filing c.self.inside.last before c.self.invariant.0 c.file_next-outcome.ensures.survives c.file_next-outcome.ensures.keeps
+      prepared_keeps g.S.Store c.self.inside.conn c.file_next-outcome.new.conn
+          (summary_shown c.self.inside.summary) c.self.inside.filing c.self.inside.last before c.self.invariant.0 c.file_next-outcome.ensures.survives c.file_next-outcome.ensures.keeps
           c.file_next-outcome.result c.last_behind-self-inside.result c.last_behind-self-inside.ensures c.self.inside.texts c.forget_behind.new.texts c.forget_behind.ensures c.self.invariant.1,
     )
 
 pub returns-clause-shows : goal.returns-clause-shows
 returns-clause-shows g c = λ clean M shown.
     let before : is_closed c.self.inside.last ≡ false = search rules in
-    prepared_shows g.S.Store c.self.inside.conn c.file_next-outcome.new.conn (summary_shown c.self.inside.summary) c.self.inside.filing c.self.inside.last before c.self.invariant.0 c.file_next-outcome.ensures.survives c.file_next-outcome.ensures.keeps
+    prepared_shows g.S.Store c.self.inside.conn c.file_next-outcome.new.conn
+    (summary_shown c.self.inside.summary) c.self.inside.filing c.self.inside.last before c.self.invariant.0 c.file_next-outcome.ensures.survives c.file_next-outcome.ensures.keeps
     c.file_next-outcome.result c.last_behind-self-inside.result c.self.inside.indexes c.self.inside.texts c.forget_behind.new.texts c.forget_behind.ensures M (subst (λ (d : DeskState _). Shows g.S.Store d M) (sym c.self.view_is) shown)
 
 pub returns-clause-leaves : goal.returns-clause-leaves
 returns-clause-leaves g c = λ ms left.
-    leaves_on g.S.Store (record { conn = c.self.inside.conn; summary = summary_shown c.self.inside.summary; last = c.self.inside.last; indexes = c.self.inside.indexes; texts = c.self.inside.texts }) (record { conn = c.file_next-outcome.new.conn; summary = summary_shown c.self.inside.summary; last = c.last_behind-self-inside.result; indexes = c.self.inside.indexes; texts = c.forget_behind.new.texts })
+    leaves_on g.S.Store (record { conn = c.self.inside.conn; summary = summary_shown c.self.inside.summary; last = c.self.inside.last; indexes = c.self.inside.indexes; texts = c.self.inside.texts })
+    (record { conn = c.file_next-outcome.new.conn; summary = summary_shown c.self.inside.summary; last = c.last_behind-self-inside.result; indexes = c.self.inside.indexes; texts = c.forget_behind.new.texts })
     c.file_next-outcome.ensures.survives ms (subst (λ (d : DeskState _). LeavesOneOf g.S.Store d ms) (sym c.self.view_is) left)
 
 pub returns-clause-failed : goal.returns-clause-failed
@@ -63,7 +67,8 @@ pub returns-clause-caused : goal.returns-clause-caused
 returns-clause-caused g c = λ clean.
     prepared_caused g.S.Store c.args.self.now (record { conn = c.file_next-outcome.new.conn; summary = summary_shown c.self.inside.summary; last = c.last_behind-self-inside.result; indexes = c.self.inside.indexes; texts = c.forget_behind.new.texts }) c.file_next-outcome.result c.file_next-outcome.ensures.kinds
     (subst (λ (d : DeskState _). KeepsCommit (state g.S.Store d.conn) (state g.S.Store c.file_next-outcome.new.conn)) c.self.view_is (c.file_next-outcome.ensures.keeps clean))
-    (subst (λ (d : DeskState _). IfErr c.file_next-outcome.result (λ fault. fault ≡ Disk → MoreFaults (state g.S.Store d.conn).faults (state g.S.Store c.file_next-outcome.new.conn).faults)) c.self.view_is (c.file_next-outcome.ensures.faulted clean))
+    (subst (λ (d : DeskState _). IfErr c.file_next-outcome.result (λ fault. fault ≡ Disk → MoreFaults (state g.S.Store d.conn).faults (state g.S.Store c.file_next-outcome.new.conn).faults)) c.self.view_is
+    (c.file_next-outcome.ensures.faulted clean))
 
 pub returns-clause-closed : goal.returns-clause-closed
 returns-clause-closed g c =

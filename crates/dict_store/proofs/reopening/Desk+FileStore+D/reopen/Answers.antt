@@ -13,7 +13,8 @@ returns-clause-reopened g c = IfOk-weaker c.open_over.result _ _ (λ next over. 
 pub returns-clause-follows : goal.returns-clause-follows
 returns-clause-follows g c =
     let files = c.files_of-files.result in
-    IfOk-weaker c.open_over.result _ _ (λ next over clean ms leaves. shows_one_of g.met.D.Disk.seen_may_stay c.args.self files files c.files_of-files.ensures (λ image out. out) (λ clean. clean) next over clean ms leaves) c.open_over.ensures.opened
+    IfOk-weaker c.open_over.result _ _ (λ next over clean ms leaves. shows_one_of g.met.D.Disk.seen_may_stay c.args.self files files c.files_of-files.ensures (λ image out. out)
+    (λ clean. clean) next over clean ms leaves) c.open_over.ensures.opened
 
 pub returns-clause-unopened : goal.returns-clause-unopened
 returns-clause-unopened g c =

@@ -18,16 +18,29 @@ returns-clause-restarted g c =
     let d = g.D.Disk in
     let was = c.files_of-files.result in
     let stopped : Files _ = record { log = c.crash.new.self; db = c.crash-2.new.self } in
-    let sure = λ (clean : AreClean d stopped.log stopped.db). let parts = and_parts (d.is_clean stopped.log) (d.is_clean stopped.db) clean in and_from (d.is_clean was.log) (d.is_clean was.db) (c.crash.ensures.clean parts.0) (c.crash-2.ensures.clean parts.1) in
+    let sure = λ (clean : AreClean d stopped.log stopped.db). let parts = and_parts (d.is_clean stopped.log) (d.is_clean stopped.db) clean in and_from (d.is_clean was.log)
+    (d.is_clean was.db) (c.crash.ensures.clean parts.0) (c.crash-2.ensures.clean parts.1) in
     let back : (image : Image) → outcomes d stopped.log stopped.db image → outcomes d was.log was.db image = λ image out. (c.crash.ensures.crash image.log out.0, c.crash-2.ensures.crash image.db out.1) in
-    IfOk-weaker c.open_over.result _ _ (λ next over. record { files = was; let_go = c.files_of-files.ensures; stopped = stopped; stop = record { left = (c.crash.ensures.left, c.crash-2.ensures.left); crash = back; clean = sure }; over = over }) c.open_over.ensures.opened
+    IfOk-weaker c.open_over.result _ _ (λ next over. record {
+      files = was;
+      let_go = c.files_of-files.ensures;
+      stopped = stopped;
+      stop = record {
+        left =
+            (c.crash.ensures.left, c.crash-2.ensures.left);
+        crash = back;
+        clean = sure;
+      };
+      over = over;
+    }) c.open_over.ensures.opened
 
 pub returns-clause-shows : goal.returns-clause-shows
 returns-clause-shows g c =
     let d = g.D.Disk in
     let was = c.files_of-files.result in
     let stopped : Files _ = record { log = c.crash.new.self; db = c.crash-2.new.self } in
-    let sure = λ (clean : AreClean d stopped.log stopped.db). let parts = and_parts (d.is_clean stopped.log) (d.is_clean stopped.db) clean in and_from (d.is_clean was.log) (d.is_clean was.db) (c.crash.ensures.clean parts.0) (c.crash-2.ensures.clean parts.1) in
+    let sure = λ (clean : AreClean d stopped.log stopped.db). let parts = and_parts (d.is_clean stopped.log) (d.is_clean stopped.db) clean in and_from (d.is_clean was.log)
+    (d.is_clean was.db) (c.crash.ensures.clean parts.0) (c.crash-2.ensures.clean parts.1) in
     let back : (image : Image) → outcomes d stopped.log stopped.db image → outcomes d was.log was.db image = λ image out. (c.crash.ensures.crash image.log out.0, c.crash-2.ensures.crash image.db out.1) in
     IfOk-weaker c.open_over.result _ _ (λ next over clean before requests answered leaves. shows_front g.met.D.Disk.seen_may_stay c.args.self was stopped c.files_of-files.ensures back sure next over clean before requests answered leaves) c.open_over.ensures.opened
 
@@ -36,7 +49,8 @@ returns-clause-follows g c =
     let d = g.D.Disk in
     let was = c.files_of-files.result in
     let stopped : Files _ = record { log = c.crash.new.self; db = c.crash-2.new.self } in
-    let sure = λ (clean : AreClean d stopped.log stopped.db). let parts = and_parts (d.is_clean stopped.log) (d.is_clean stopped.db) clean in and_from (d.is_clean was.log) (d.is_clean was.db) (c.crash.ensures.clean parts.0) (c.crash-2.ensures.clean parts.1) in
+    let sure = λ (clean : AreClean d stopped.log stopped.db). let parts = and_parts (d.is_clean stopped.log) (d.is_clean stopped.db) clean in and_from (d.is_clean was.log)
+    (d.is_clean was.db) (c.crash.ensures.clean parts.0) (c.crash-2.ensures.clean parts.1) in
     let back : (image : Image) → outcomes d stopped.log stopped.db image → outcomes d was.log was.db image = λ image out. (c.crash.ensures.crash image.log out.0, c.crash-2.ensures.crash image.db out.1) in
     IfOk-weaker c.open_over.result _ _ (λ next over clean ms leaves. shows_one_of g.met.D.Disk.seen_may_stay c.args.self was stopped c.files_of-files.ensures back sure next over clean ms leaves) c.open_over.ensures.opened
 
@@ -47,7 +61,8 @@ returns-clause-unopened g c =
     let gone = c.files_of-files.ensures in
     let stays = g.met.D.Disk.seen_may_stay in
     let stopped : Files _ = record { log = c.crash.new.self; db = c.crash-2.new.self } in
-    let sure = λ (clean : AreClean d stopped.log stopped.db). let parts = and_parts (d.is_clean stopped.log) (d.is_clean stopped.db) clean in and_from (d.is_clean was.log) (d.is_clean was.db) (c.crash.ensures.clean parts.0) (c.crash-2.ensures.clean parts.1) in
+    let sure = λ (clean : AreClean d stopped.log stopped.db). let parts = and_parts (d.is_clean stopped.log) (d.is_clean stopped.db) clean in and_from (d.is_clean was.log)
+    (d.is_clean was.db) (c.crash.ensures.clean parts.0) (c.crash-2.ensures.clean parts.1) in
     let back : (image : Image) → outcomes d stopped.log stopped.db image → outcomes d was.log was.db image = λ image out. (c.crash.ensures.crash image.log out.0, c.crash-2.ensures.crash image.db out.1) in
     IfErr-weaker c.open_over.result _ _ (λ left over. record {
       files = was;
