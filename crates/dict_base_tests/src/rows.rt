@@ -2,5 +2,6 @@
 
 mod changes;
 mod limits;
+mod lines;
 mod orders;
 mod records;

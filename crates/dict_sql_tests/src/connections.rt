@@ -1,6 +1,6 @@
 //! The runs, each over memory and over two files that memory holds.
 
-use crate::{inside, plain};
+use crate::{inside, older, plain};
 use dict_sql_checks::{close, open};
 use sqlite::{Connection, Files};
 use sqlite_disk::{Disk, Memory};
@@ -21,6 +21,13 @@ fn entries_inside_in_memory(rt: HostRuntime) -> Result<(), Fail> {
     let alloc = rt.alloc();
     let mut conn = Connection::open_in_memory(alloc)?;
     inside::run(&rt, alloc, &mut conn)
+}
+
+#[test]
+fn older_tables_in_memory(rt: HostRuntime) -> Result<(), Fail> {
+    let alloc = rt.alloc();
+    let mut conn = Connection::open_in_memory(alloc)?;
+    older::run(&rt, alloc, &mut conn)
 }
 
 fn new_files(alloc: Global) -> Files<Memory> {

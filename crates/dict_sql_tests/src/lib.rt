@@ -8,4 +8,6 @@ mod connections;
 #[cfg(test)]
 mod inside;
 #[cfg(test)]
+mod older;
+#[cfg(test)]
 mod plain;

@@ -1,6 +1,6 @@
-//! Files of schemas 1 to 4, as statements: what `.dump` of stock `sqlite3` (3.40.1) writes of each, but for its PRAGMA and its transaction.
+//! Files of schemas 1 to 5, as statements: what `.dump` of stock `sqlite3` (3.40.1) writes of each, but for its PRAGMA and its transaction.
 
-/// What files of schemas 1 to 3 share but for the row of `mark`: the databases `ore` and `gem`, and a list `all` of both.
+/// What files of schemas 1 to 4 share but for the row of `mark`: the databases `ore` and `gem`, and a list `all` of both.
 pub const SHARED: &str =
     "CREATE TABLE mark (id INTEGER NOT NULL PRIMARY KEY, magic TEXT NOT NULL, version INTEGER NOT NULL, installs INTEGER NOT NULL) STRICT; \
      CREATE TABLE item (place INTEGER NOT NULL PRIMARY KEY, name TEXT NOT NULL UNIQUE, kind INTEGER NOT NULL, title TEXT, current INTEGER, former INTEGER) STRICT; \
@@ -55,13 +55,33 @@ const KEYED: &str =
      CREATE INDEX dictcat_entry_key ON entry (edition, key); \
      CREATE INDEX dictcat_entry_rkey ON entry (edition, rkey)";
 
-/// A file of schemas 1, 2 or 3, as its tables but for the entries, its mark, and its entries.
+// Their entries in schema 4, whose derived tables may hold anything: nobody looks at them.
+const ENTRIES_SHOWN: &str =
+    "CREATE TABLE entry (edition INTEGER NOT NULL, ord INTEGER NOT NULL, headword TEXT NOT NULL, start INTEGER NOT NULL, length INTEGER NOT NULL, key BLOB NOT NULL, rkey BLOB NOT NULL, shown TEXT NOT NULL, PRIMARY KEY (edition, ord)) STRICT;
+     INSERT INTO entry VALUES(1,0,'iron',23,11,X'69726f6e',X'6e6f7269','iron'); \
+     INSERT INTO entry VALUES(2,0,'opal',25,15,X'6f70616c',X'6c61706f','opal'); \
+     INSERT INTO entry VALUES(2,1,'Fire Opal',25,15,X'66697265206f70616c',X'6c61706f2065726966','Fire Opal'); \
+     INSERT INTO entry VALUES(2,2,'dot',40,5,X'646f74',X'746f64','dot'); \
+     CREATE TABLE word (edition INTEGER NOT NULL, word BLOB NOT NULL, ord INTEGER NOT NULL, PRIMARY KEY (edition, word, ord)) STRICT; \
+     INSERT INTO word VALUES(1,X'69726f6e',0); \
+     INSERT INTO word VALUES(2,X'6f70616c',0); \
+     CREATE TABLE gram (edition INTEGER NOT NULL, gram BLOB NOT NULL, ord INTEGER NOT NULL, PRIMARY KEY (edition, gram, ord)) STRICT; \
+     INSERT INTO gram VALUES(1,X'69726f',0); \
+     CREATE INDEX dictcat_entry_key ON entry (edition, key); \
+     CREATE INDEX dictcat_entry_rkey ON entry (edition, rkey)";
+
+/// A file of schemas 1 to 4, as its tables but for the entries, its mark, and its entries.
 pub type Older = [&'static str; 3];
 
-static OLDER: [Older; 3] = [
+static OLDER: [Older; 4] = [
     [SHARED, "INSERT INTO mark VALUES(1,'dictcat',1,2)", PLAIN],
     [SHARED, "INSERT INTO mark VALUES(1,'dictcat',2,2)", KEYED],
     [SHARED, "INSERT INTO mark VALUES(1,'dictcat',3,2)", KEYED],
+    [
+        SHARED,
+        "INSERT INTO mark VALUES(1,'dictcat',4,2)",
+        ENTRIES_SHOWN,
+    ],
 ];
 
 /// The same catalogue in a file of each older schema.
@@ -190,3 +210,22 @@ pub const SHOWN: &str =
      INSERT INTO gram VALUES(1,X'646f74',2); \
      CREATE INDEX dictcat_entry_key ON entry (edition, key); \
      CREATE INDEX dictcat_entry_rkey ON entry (edition, rkey)";
+
+/// Schema 5: the same catalogue as that of schema 4.
+pub const PARTED: &str =
+    "CREATE TABLE mark (id INTEGER NOT NULL PRIMARY KEY, magic TEXT NOT NULL, version INTEGER NOT NULL, installs INTEGER NOT NULL) STRICT; \
+     INSERT INTO mark VALUES(1,'dictcat',5,2); \
+     CREATE TABLE item (place INTEGER NOT NULL PRIMARY KEY, name TEXT NOT NULL UNIQUE, kind INTEGER NOT NULL, title TEXT, current INTEGER, former INTEGER) STRICT; \
+     INSERT INTO item VALUES(0,'gem',0,NULL,2,1); \
+     CREATE TABLE member (owner TEXT NOT NULL, ord INTEGER NOT NULL, name TEXT NOT NULL, PRIMARY KEY (owner, ord), UNIQUE (owner, name)) STRICT; \
+     CREATE TABLE kept (id TEXT NOT NULL PRIMARY KEY, number INTEGER NOT NULL UNIQUE, verb TEXT NOT NULL, name TEXT NOT NULL, edition INTEGER) STRICT; \
+     INSERT INTO kept VALUES('r1',1,'install','gem',1); \
+     INSERT INTO kept VALUES('r2',2,'install','gem',2); \
+     CREATE TABLE edition (number INTEGER NOT NULL PRIMARY KEY, owner TEXT NOT NULL, title TEXT NOT NULL, info TEXT NOT NULL) STRICT; \
+     INSERT INTO edition VALUES(1,'gem','Gems',''); \
+     INSERT INTO edition VALUES(2,'gem','Gems','About gems'); \
+     CREATE TABLE dictcat_part (edition INTEGER NOT NULL, file INTEGER NOT NULL, number INTEGER NOT NULL, octets BLOB NOT NULL, PRIMARY KEY (edition, file, number)) STRICT; \
+     INSERT INTO dictcat_part VALUES(1,0,0,X'6f70616c095a09500a46697265204f70616c095a09500a646f74096f09460a'); \
+     INSERT INTO dictcat_part VALUES(1,1,0,X'30302d64617461626173652d73686f72740a202047656d730a6f70616c0a2020612073746f6e650a2e646f740a'); \
+     INSERT INTO dictcat_part VALUES(2,0,0,X'6f70616c094109430a46697265204f70616c09430943094f70616c2c20666972650a6f70616c2066697265094509430ac38974c3a9094709430a61626364094909430a62636420616263094b09430a6f70616c094d09430a53747261c39f65094f09430a61f0b18d8a095109430a632b2b095309430a2b202b095509430a61095709430a'); \
+     INSERT INTO dictcat_part VALUES(2,1,0,X'302131213221332134213521362137213821392161216221')";

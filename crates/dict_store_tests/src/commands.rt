@@ -216,16 +216,14 @@ const ONE: &[Row] = &[GEM];
 // What a new catalogue has.
 const NEW: &[(&str, i64)] = &[
     (
-        "SELECT count(*) FROM mark WHERE id = 1 AND magic = 'dictcat' AND version = 4 AND installs = 0",
+        "SELECT count(*) FROM mark WHERE id = 1 AND magic = 'dictcat' AND version = 5 AND installs = 0",
         1,
     ),
     ("SELECT count(*) FROM mark", 1),
     ("SELECT count(*) FROM item", 0),
     ("SELECT count(*) FROM member", 0),
     ("SELECT count(*) FROM edition", 0),
-    ("SELECT count(*) FROM entry", 0),
-    ("SELECT count(*) FROM word", 0),
-    ("SELECT count(*) FROM gram", 0),
+    ("SELECT count(*) FROM dictcat_part", 0),
     ("SELECT count(*) FROM kept", 0),
 ];
 
@@ -247,27 +245,18 @@ const ROWS: &[(&str, i64)] = &[
     ("SELECT current FROM item", 3),
     ("SELECT former FROM item", 1),
     ("SELECT count(*) FROM edition", 2),
-    ("SELECT count(*) FROM entry WHERE edition = 1", 3),
-    ("SELECT count(*) FROM entry WHERE edition = 3", 12),
-    ("SELECT count(*) FROM entry", 15),
-    ("SELECT count(*) FROM entry WHERE headword <> shown", 1),
+    ("SELECT count(*) FROM dictcat_part", 4),
     (
-        "SELECT count(*) FROM entry WHERE edition = 3 AND ord = 1 AND headword = 'Fire Opal' AND shown = 'Opal, fire' AND start = 27 AND length = 2 AND key = x'66697265206f70616c' AND rkey = x'6c61706f2065726966'",
+        "SELECT count(*) FROM dictcat_part WHERE edition = 1 AND file = 0 AND number = 0 AND octets = x'6f70616c095a09500a46697265204f70616c095a09500a646f74096f09460a'",
         1,
     ),
-    ("SELECT count(*) FROM word WHERE edition = 1", 4),
-    ("SELECT count(*) FROM word WHERE edition = 3", 15),
-    ("SELECT count(*) FROM word", 19),
     (
-        "SELECT count(*) FROM word WHERE edition = 3 AND word = x'c3a974c3a9' AND ord = 3",
+        "SELECT count(*) FROM dictcat_part WHERE edition = 3 AND file = 0 AND number = 0 AND octets = x'6f70616c095a09430a46697265204f70616c09620943094f70616c2c20666972650a6f70616c2066697265096409430ac38974c3a9096609430a61626364096809430a62636420616263096a09430a6f70616c096c09430a53747261c39f65096e09430a61f0b18d8a097009430a632b2b097209430a2b202b097409430a61097609430a'",
         1,
     ),
-    ("SELECT count(*) FROM gram WHERE edition = 1", 10),
-    ("SELECT count(*) FROM gram WHERE edition = 3", 37),
-    ("SELECT count(*) FROM gram", 47),
     (
-        "SELECT count(*) FROM gram WHERE edition = 3 AND gram = x'f0b18d' AND ord = 8",
-        1,
+        "SELECT length(octets) FROM dictcat_part WHERE edition = 3 AND file = 1 AND number = 0",
+        59,
     ),
     ("SELECT count(*) FROM kept", 4),
 ];

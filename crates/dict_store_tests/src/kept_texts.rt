@@ -1,4 +1,4 @@
-//! The text of an edition is read once, while the desk is open: by the first lookup that hands out its entries.
+//! A part of an edition's text is read once, while the desk is open: by the first lookup that hands out an entry whose body lies in it.
 
 use crate::checks::{holds, same_text};
 use crate::taken::found;
@@ -11,7 +11,7 @@ use std::process::Abort;
 use std::test::Fail;
 
 /// Commands, and behind them lookups: the number of an edition, a headword, what is handed out, and how many rows the statements
-/// hand over for it: one of the edition where its text is read, and one of each entry.
+/// hand over for it: one of the part where it is read, and one for each entry that is looked at.
 #[derive(Clone, Copy)]
 struct Case(
     &'static [(&'static str, Asked)],

@@ -1,6 +1,6 @@
-//! Files that stock `sqlite3` wrote are opened, those of schemas 1 to 3 by making the tables of schema 4: they have the same catalogue.
+//! Files that stock `sqlite3` wrote are opened, those of schemas 1 to 4 by making the tables of schema 5: they have the same catalogue.
 use crate::steps::{Row, Step, over_memory};
-use dict_store_fixtures::{Asked, CAPITALS, SHOWN, Source, older_files};
+use dict_store_fixtures::{Asked, CAPITALS, PARTED, SHOWN, Source, older_files};
 use std::test::Fail;
 
 const LISTED: &str = "ore Ores 1; gem Gems 2; all All +ore +gem; ";
@@ -43,21 +43,32 @@ const REPEATED: &[Row] = &[
 
 // What a migration leaves of others, and makes.
 const LEFT: &[(&str, i64)] = &[
-    ("SELECT version FROM mark", 4),
+    ("SELECT version FROM mark", 5),
     ("SELECT installs FROM mark", 2),
     ("SELECT count(*) FROM mark", 1),
-    ("SELECT count(*) FROM entry", 4),
-    ("SELECT count(*) FROM entry WHERE shown = headword", 4),
+    ("SELECT count(*) FROM edition", 2),
+    ("SELECT count(*) FROM dictcat_part", 4),
+    ("SELECT count(*) FROM dictcat_part WHERE number = 0", 4),
     (
-        "SELECT count(*) FROM entry WHERE edition = 2 AND ord = 1 AND key = x'66697265206f70616c' AND rkey = x'6c61706f2065726966'",
+        "SELECT count(*) FROM dictcat_part WHERE edition = 1 AND file = 0 AND octets = x'69726f6e0958094c0a'",
         1,
     ),
-    ("SELECT count(*) FROM word", 5),
-    ("SELECT count(*) FROM gram", 12),
+    (
+        "SELECT count(*) FROM dictcat_part WHERE edition = 2 AND file = 0 AND octets = x'6f70616c095a09500a46697265204f70616c095a09500a646f74096f09460a'",
+        1,
+    ),
+    (
+        "SELECT count(*) FROM dictcat_part WHERE edition = 1 AND file = 1 AND octets = x'30302d64617461626173652d73686f72740a4f7265730a69726f6e0a20206f72650a'",
+        1,
+    ),
+    (
+        "SELECT count(*) FROM sqlite_schema WHERE name IN ('entry', 'word', 'gram', 'by_headword')",
+        0,
+    ),
     ("SELECT count(*) FROM kept", 3),
     (
         "SELECT count(*) FROM sqlite_schema WHERE name LIKE 'dictcat_%'",
-        2,
+        1,
     ),
     (
         "SELECT count(*) FROM sqlite_schema WHERE name IN ('last', 'others')",
@@ -73,10 +84,11 @@ const OTHERS: &str =
 const INDEXES: &str =
     "CREATE INDEX by_headword ON entry (headword); CREATE INDEX others ON item (kind)";
 
-// In the first file, an index that goes with the old table has a name that the new one needs. In the others, what an older
-// version has derived is made wrong.
-static CHANGED: [&str; 3] = [
+// In the first file, an index that goes with the old table has a name that was the product's. In the others, what an older
+// version has derived is made wrong, which nobody looks at.
+static CHANGED: [&str; 4] = [
     "CREATE INDEX dictcat_entry_key ON entry (headword)",
+    "UPDATE entry SET key = x'00', rkey = x'ff'; DELETE FROM gram; INSERT INTO word VALUES (9, x'61', 0), (1, x'61', 7)",
     "UPDATE entry SET key = x'00', rkey = x'ff'; DELETE FROM gram; INSERT INTO word VALUES (9, x'61', 0), (1, x'61', 7)",
     "UPDATE entry SET key = x'00', rkey = x'ff'; DELETE FROM gram; INSERT INTO word VALUES (9, x'61', 0), (1, x'61', 7)",
 ];
@@ -101,17 +113,14 @@ const ETE: &[Row] = &[Row(
     "ete Mots 1; ",
 )];
 
-// The keys of a headword in capitals are made anew.
+// A headword in capitals stays as it is.
 const ETE_LEFT: &[(&str, i64)] = &[
-    ("SELECT version FROM mark", 4),
+    ("SELECT version FROM mark", 5),
+    ("SELECT count(*) FROM dictcat_part", 2),
     (
-        "SELECT count(*) FROM entry WHERE key = x'c3a974c3a9' AND rkey = x'a9c374a9c3' AND shown = 'ÉTÉ'",
+        "SELECT count(*) FROM dictcat_part WHERE file = 0 AND octets = x'c38954c389095a09480a'",
         1,
     ),
-    ("SELECT count(*) FROM word WHERE word = x'c3a974c3a9'", 1),
-    ("SELECT count(*) FROM word", 1),
-    ("SELECT count(*) FROM gram WHERE gram = x'a974c3'", 1),
-    ("SELECT count(*) FROM gram", 3),
 ];
 
 static CAPITAL: [Step; 5] = [
@@ -140,8 +149,30 @@ const GEMS_TWICE: &[Row] = &[
     ),
 ];
 
-// A file of schema 4 is opened as it is.
-static KNOWN: [Step; 3] = [Step::Batch(SHOWN), Step::Made(GEMS_TWICE), Step::Keep(&[])];
+// What is shown of an entry of schema 4 comes along, and so does the former edition.
+const SHOWN_LEFT: &[(&str, i64)] = &[
+    ("SELECT version FROM mark", 5),
+    ("SELECT count(*) FROM edition", 2),
+    ("SELECT count(*) FROM dictcat_part", 4),
+    (
+        "SELECT count(*) FROM dictcat_part WHERE edition = 2 AND file = 0 AND octets = x'6f70616c094109430a46697265204f70616c09430943094f70616c2c20666972650a6f70616c2066697265094509430ac38974c3a9094709430a61626364094909430a62636420616263094b09430a6f70616c094d09430a53747261c39f65094f09430a61f0b18d8a095109430a632b2b095309430a2b202b095509430a61095709430a'",
+        1,
+    ),
+];
+
+static FOURTH: [Step; 6] = [
+    Step::Batch(SHOWN),
+    Step::Batch(
+        "UPDATE entry SET key = x'00', rkey = x'ff'; DELETE FROM gram; INSERT INTO word VALUES (9, x'61', 0)",
+    ),
+    Step::Made(GEMS_TWICE),
+    Step::Open(&[]),
+    Step::Numbers(SHOWN_LEFT),
+    Step::Keep(&[]),
+];
+
+// A file of schema 5 is opened as it is.
+static KNOWN: [Step; 3] = [Step::Batch(PARTED), Step::Made(GEMS_TWICE), Step::Keep(&[])];
 
 #[test]
 fn files_of_others(rt: HostRuntime) -> Result<(), Fail> {
@@ -163,5 +194,6 @@ fn files_of_others(rt: HostRuntime) -> Result<(), Fail> {
         over_memory(&rt, rt.alloc(), steps.as_slice())?;
     }
     over_memory(&rt, rt.alloc(), &CAPITAL)?;
+    over_memory(&rt, rt.alloc(), &FOURTH)?;
     over_memory(&rt, rt.alloc(), &KNOWN)
 }

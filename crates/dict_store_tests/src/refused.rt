@@ -10,6 +10,7 @@ use std::test::Fail;
 // Each of these takes a name, or refers to one, that a store needs.
 const IN_USE: &[(&str, Fault)] = &[
     ("CREATE TABLE kept (a TEXT) STRICT", Fault::NotACatalogue),
+    ("CREATE TABLE Entry (a TEXT) STRICT", Fault::NotACatalogue),
     ("CREATE TABLE Word (a TEXT) STRICT", Fault::NotACatalogue),
     (
         "CREATE TABLE dictcat_more (a TEXT) STRICT",
@@ -24,7 +25,7 @@ const IN_USE: &[(&str, Fault)] = &[
         Fault::NotACatalogue,
     ),
     (
-        "CREATE TABLE others (a TEXT REFERENCES dictcat_entry (a)) STRICT",
+        "CREATE TABLE others (a TEXT REFERENCES dictcat_part (a)) STRICT",
         Fault::NotACatalogue,
     ),
 ];
@@ -55,7 +56,7 @@ const STATEMENTS: &[(&str, Fault)] = &[
     // Its editions.
     ("DELETE FROM edition WHERE number = 1", Fault::Damaged),
     (
-        "INSERT INTO edition VALUES (3, 'gem', 'Gems', '', x'')",
+        "INSERT INTO edition VALUES (3, 'gem', 'Gems', '')",
         Fault::Damaged,
     ),
     (
@@ -70,61 +71,139 @@ const STATEMENTS: &[(&str, Fault)] = &[
         "UPDATE edition SET title = ' Gems' WHERE number = 2",
         Fault::Damaged,
     ),
+    // The lines of an index: the last without its end, none, two and five columns, numbers that are spelled otherwise, negative or past 64^6,
+    // a reserved headword and none, a body past the text, and one from the midst of a line.
     (
-        "UPDATE edition SET body = x'' WHERE number = 2",
-        Fault::Damaged,
-    ),
-    // Its entries.
-    ("DELETE FROM entry WHERE headword = 'opal'", Fault::Damaged),
-    ("DELETE FROM entry WHERE headword = 'dot'", Fault::Damaged),
-    (
-        "UPDATE entry SET ord = 7 WHERE headword = 'dot'",
+        "UPDATE dictcat_part SET octets = x'6f70616c095a09500a46697265204f70616c095a09500a646f74096f0946' WHERE edition = 2 AND file = 0",
         Fault::Damaged,
     ),
     (
-        "UPDATE entry SET start = 31 WHERE headword = 'opal'",
+        "UPDATE dictcat_part SET octets = x'0a6f70616c095a09500a46697265204f70616c095a09500a646f74096f09460a' WHERE edition = 2 AND file = 0",
         Fault::Damaged,
     ),
     (
-        "UPDATE entry SET headword = 'opak' WHERE headword = 'opal'",
+        "UPDATE dictcat_part SET octets = x'6f70616c095a0a46697265204f70616c095a09500a646f74096f09460a' WHERE edition = 2 AND file = 0",
         Fault::Damaged,
     ),
     (
-        "INSERT INTO entry VALUES (9, 0, 'tin', 0, 1, x'74696e', x'6e6974', 'tin')",
-        Fault::Damaged,
-    ),
-    // What is shown of them.
-    (
-        "UPDATE entry SET shown = '' WHERE headword = 'opal'",
+        "UPDATE dictcat_part SET octets = x'6f70616c095a0950094f70616c090a46697265204f70616c095a09500a646f74096f09460a' WHERE edition = 2 AND file = 0",
         Fault::Damaged,
     ),
     (
-        "UPDATE entry SET shown = 'o\tpal' WHERE headword = 'opal'",
+        "UPDATE dictcat_part SET octets = x'6f70616c09415a09500a46697265204f70616c095a09500a646f74096f09460a' WHERE edition = 2 AND file = 0",
         Fault::Damaged,
     ),
     (
-        "UPDATE entry SET shown = 'xxxxxxxxxxxxxxxxxxxxxxxxxxxxxxxxxxxxxxxxxxxxxxxxxxxxxxxxxxxxxxxxxxxxxxxxxxxxxxxxxxxxxxxxxxxxxxxxxxxxxxxxxxxxxxxxxxxxxxxxxxxxxxxxxxxxxxxxxxxxxxxxxxxxxxxxxxxxxxxxxxxxxxxxxxxxxxxxxxxxxxxxxxxxxxxxxxxxxxxxxxxxxxxxxxxxxxxxxxxxxxxxxxxxxxxxxxxxxxxxxxxxxxxxxxxxxxxx' WHERE headword = 'opal'",
-        Fault::Damaged,
-    ),
-    // Their keys, words and grams.
-    (
-        "UPDATE entry SET key = x'6f70616b' WHERE headword = 'opal'",
+        "UPDATE dictcat_part SET octets = x'6f70616c095a0941500a46697265204f70616c095a09500a646f74096f09460a' WHERE edition = 2 AND file = 0",
         Fault::Damaged,
     ),
     (
-        "UPDATE entry SET rkey = x'746f64' WHERE headword = 'opal'",
+        "UPDATE dictcat_part SET octets = x'6f70616c095a090a46697265204f70616c095a09500a646f74096f09460a' WHERE edition = 2 AND file = 0",
         Fault::Damaged,
     ),
-    ("INSERT INTO word VALUES (2, x'61', 0)", Fault::Damaged),
-    ("INSERT INTO word VALUES (9, x'61', 0)", Fault::Damaged),
     (
-        "UPDATE word SET ord = 9 WHERE word = x'646f74'",
+        "UPDATE dictcat_part SET octets = x'6f70616c092d5a09500a46697265204f70616c095a09500a646f74096f09460a' WHERE edition = 2 AND file = 0",
         Fault::Damaged,
     ),
-    ("DELETE FROM word WHERE word = x'646f74'", Fault::Damaged),
-    ("INSERT INTO gram VALUES (2, x'616161', 0)", Fault::Damaged),
-    ("INSERT INTO gram VALUES (9, x'616161', 0)", Fault::Damaged),
-    ("DELETE FROM gram WHERE gram = x'646f74'", Fault::Damaged),
+    (
+        "UPDATE dictcat_part SET octets = x'6f70616c09414141414141415a09500a46697265204f70616c095a09500a646f74096f09460a' WHERE edition = 2 AND file = 0",
+        Fault::Damaged,
+    ),
+    (
+        "UPDATE dictcat_part SET octets = x'30302d64617461626173652d696e666f095a09500a46697265204f70616c095a09500a646f74096f09460a' WHERE edition = 2 AND file = 0",
+        Fault::Damaged,
+    ),
+    (
+        "UPDATE dictcat_part SET octets = x'095a09500a46697265204f70616c095a09500a646f74096f09460a' WHERE edition = 2 AND file = 0",
+        Fault::Damaged,
+    ),
+    (
+        "UPDATE dictcat_part SET octets = x'6f70616c095a094241410a46697265204f70616c095a09500a646f74096f09460a' WHERE edition = 2 AND file = 0",
+        Fault::Damaged,
+    ),
+    (
+        "UPDATE dictcat_part SET octets = x'6f7061ff095a09500a46697265204f70616c095a09500a646f74096f09460a' WHERE edition = 2 AND file = 0",
+        Fault::Damaged,
+    ),
+    // What is shown: the headword, nothing, and too long a text.
+    (
+        "UPDATE dictcat_part SET octets = x'6f70616c095a0950096f70616c0a46697265204f70616c095a09500a646f74096f09460a' WHERE edition = 2 AND file = 0",
+        Fault::Damaged,
+    ),
+    (
+        "UPDATE dictcat_part SET octets = x'6f70616c095a0950090a46697265204f70616c095a09500a646f74096f09460a' WHERE edition = 2 AND file = 0",
+        Fault::Damaged,
+    ),
+    (
+        "UPDATE dictcat_part SET octets = x'6f70616c095a095009787878787878787878787878787878787878787878787878787878787878787878787878787878787878787878787878787878787878787878787878787878787878787878787878787878787878787878787878787878787878787878787878787878787878787878787878787878787878787878787878787878787878787878787878787878787878787878787878787878787878787878787878787878787878787878787878787878787878787878787878787878787878787878787878787878787878787878787878787878787878787878787878787878787878787878787878787878787878787878787878787878787878787878787878787878780a46697265204f70616c095a09500a646f74096f09460a' WHERE edition = 2 AND file = 0",
+        Fault::Damaged,
+    ),
+    // The parts: one missing, empty, of a number that isn't the next, of a third file, of no edition; a text whose body is none.
+    (
+        "DELETE FROM dictcat_part WHERE edition = 2 AND file = 1",
+        Fault::Damaged,
+    ),
+    (
+        "UPDATE dictcat_part SET octets = x'' WHERE edition = 2 AND file = 1",
+        Fault::Damaged,
+    ),
+    (
+        "UPDATE dictcat_part SET octets = x'' WHERE edition = 2 AND file = 0",
+        Fault::Damaged,
+    ),
+    (
+        "UPDATE dictcat_part SET number = 1 WHERE edition = 2 AND file = 1",
+        Fault::Damaged,
+    ),
+    (
+        "UPDATE dictcat_part SET number = -1 WHERE edition = 2 AND file = 0",
+        Fault::Damaged,
+    ),
+    (
+        "INSERT INTO dictcat_part VALUES (2, 1, 1, x'61')",
+        Fault::Damaged,
+    ),
+    (
+        "INSERT INTO dictcat_part VALUES (2, 0, 1, x'61')",
+        Fault::Damaged,
+    ),
+    (
+        "INSERT INTO dictcat_part VALUES (2, 2, 0, x'61')",
+        Fault::Damaged,
+    ),
+    (
+        "INSERT INTO dictcat_part VALUES (2, -1, 0, x'61')",
+        Fault::Damaged,
+    ),
+    (
+        "INSERT INTO dictcat_part VALUES (9, 0, 0, x'61')",
+        Fault::Damaged,
+    ),
+    (
+        "UPDATE dictcat_part SET edition = 1 - edition + 2 WHERE file = 1",
+        Fault::Damaged,
+    ),
+    (
+        "UPDATE dictcat_part SET octets = x'30302d64617461626173652d73686f72740a202047656d730a6f70616c0a202061207374ff6e650a2e646f740a' WHERE edition = 2 AND file = 1",
+        Fault::Damaged,
+    ),
+    // A text of two parts, the first too short or too long, or the second not the next.
+    (
+        "UPDATE dictcat_part SET octets = CAST(substr('00-database-short\n  Gems\nopal\n  a stone\n.dot\n' || replace('aaaaaaaaaaaaaaaaaaaaaaaaaaaaaaaaaaaaaaaaaaaaaaaaaaaaaaaaaaaaaaaaaaaaaaaaaaaaaaaaaaaaaaaaaaaaaaaaaaaaaaaaaaaaaaaaaaaaaaaaaaaaaaaa', 'a', 'aaaaaaaaaaaaaaaaaaaaaaaaaaaaaaaaaaaaaaaaaaaaaaaaaaaaaaaaaaaaaaaaaaaaaaaaaaaaaaaaaaaaaaaaaaaaaaaaaaaaaaaaaaaaaaaaaaaaaaaaaaaaaaaa'), 1, 16383) AS BLOB) WHERE edition = 2 AND file = 1; INSERT INTO dictcat_part VALUES (2, 1, 1, x'61')",
+        Fault::Damaged,
+    ),
+    (
+        "UPDATE dictcat_part SET octets = CAST(substr('00-database-short\n  Gems\nopal\n  a stone\n.dot\n' || replace('aaaaaaaaaaaaaaaaaaaaaaaaaaaaaaaaaaaaaaaaaaaaaaaaaaaaaaaaaaaaaaaaaaaaaaaaaaaaaaaaaaaaaaaaaaaaaaaaaaaaaaaaaaaaaaaaaaaaaaaaaaaaaaaa', 'a', 'aaaaaaaaaaaaaaaaaaaaaaaaaaaaaaaaaaaaaaaaaaaaaaaaaaaaaaaaaaaaaaaaaaaaaaaaaaaaaaaaaaaaaaaaaaaaaaaaaaaaaaaaaaaaaaaaaaaaaaaaaaaaaaaa'), 1, 16385) AS BLOB) WHERE edition = 2 AND file = 1",
+        Fault::Damaged,
+    ),
+    (
+        "UPDATE dictcat_part SET octets = CAST(substr('00-database-short\n  Gems\nopal\n  a stone\n.dot\n' || replace('aaaaaaaaaaaaaaaaaaaaaaaaaaaaaaaaaaaaaaaaaaaaaaaaaaaaaaaaaaaaaaaaaaaaaaaaaaaaaaaaaaaaaaaaaaaaaaaaaaaaaaaaaaaaaaaaaaaaaaaaaaaaaaaa', 'a', 'aaaaaaaaaaaaaaaaaaaaaaaaaaaaaaaaaaaaaaaaaaaaaaaaaaaaaaaaaaaaaaaaaaaaaaaaaaaaaaaaaaaaaaaaaaaaaaaaaaaaaaaaaaaaaaaaaaaaaaaaaaaaaaaa'), 1, 16384) AS BLOB) WHERE edition = 2 AND file = 1; INSERT INTO dictcat_part VALUES (2, 1, 2, x'61')",
+        Fault::Damaged,
+    ),
+    (
+        "UPDATE dictcat_part SET octets = CAST(substr('00-database-short\n  Gems\nopal\n  a stone\n.dot\n' || replace('aaaaaaaaaaaaaaaaaaaaaaaaaaaaaaaaaaaaaaaaaaaaaaaaaaaaaaaaaaaaaaaaaaaaaaaaaaaaaaaaaaaaaaaaaaaaaaaaaaaaaaaaaaaaaaaaaaaaaaaaaaaaaaaa', 'a', 'aaaaaaaaaaaaaaaaaaaaaaaaaaaaaaaaaaaaaaaaaaaaaaaaaaaaaaaaaaaaaaaaaaaaaaaaaaaaaaaaaaaaaaaaaaaaaaaaaaaaaaaaaaaaaaaaaaaaaaaaaaaaaaaa'), 1, 16384) AS BLOB) WHERE edition = 2 AND file = 1; INSERT INTO dictcat_part VALUES (2, 1, 1, x'')",
+        Fault::Damaged,
+    ),
     // The replies that are kept, and the mark.
     (
         "UPDATE kept SET number = 9 WHERE number = 2",
@@ -137,20 +216,17 @@ const STATEMENTS: &[(&str, Fault)] = &[
     ("UPDATE mark SET installs = 3", Fault::Damaged),
     // The tables and their indexes.
     ("DROP TABLE kept", Fault::Damaged),
-    ("DROP TABLE word", Fault::Damaged),
-    ("DROP TABLE gram", Fault::Damaged),
-    ("DROP INDEX dictcat_entry_key", Fault::Damaged),
-    ("DROP INDEX dictcat_entry_rkey", Fault::Damaged),
+    ("DROP TABLE dictcat_part", Fault::Damaged),
     (
-        "DROP INDEX dictcat_entry_rkey; CREATE INDEX dictcat_entry_rkey ON entry (rkey)",
+        "CREATE UNIQUE INDEX more ON edition (title)",
         Fault::Damaged,
     ),
     (
-        "CREATE UNIQUE INDEX more ON entry (headword)",
+        "DROP TABLE dictcat_part; CREATE TABLE dictcat_part (edition INTEGER NOT NULL, file INTEGER NOT NULL, number INTEGER NOT NULL, octets BLOB NOT NULL) STRICT",
         Fault::Damaged,
     ),
     (
-        "CREATE TABLE others (a TEXT REFERENCES gram (a)) STRICT",
+        "CREATE TABLE others (a TEXT REFERENCES dictcat_part (a)) STRICT",
         Fault::Damaged,
     ),
     (
@@ -161,7 +237,8 @@ const STATEMENTS: &[(&str, Fault)] = &[
     ("UPDATE mark SET version = 1", Fault::Damaged),
     ("UPDATE mark SET version = 2", Fault::Damaged),
     ("UPDATE mark SET version = 3", Fault::Damaged),
-    ("UPDATE mark SET version = 5", Fault::NewerSchema),
+    ("UPDATE mark SET version = 4", Fault::Damaged),
+    ("UPDATE mark SET version = 6", Fault::NewerSchema),
     ("UPDATE mark SET version = 9", Fault::NewerSchema),
     ("UPDATE mark SET version = 0", Fault::NotACatalogue),
     ("UPDATE mark SET version = -4", Fault::NotACatalogue),
@@ -169,31 +246,22 @@ const STATEMENTS: &[(&str, Fault)] = &[
     ("UPDATE mark SET id = 2", Fault::NotACatalogue),
     ("DELETE FROM mark", Fault::NotACatalogue),
     (
-        "INSERT INTO mark VALUES (2, 'dictcat', 4, 2)",
+        "INSERT INTO mark VALUES (2, 'dictcat', 5, 2)",
         Fault::NotACatalogue,
     ),
     ("DROP TABLE mark", Fault::NotACatalogue),
 ];
 
-// Each of these, in a file of schema 1, takes a name that the new tables or the helper of their making need; or a table is gone.
+// Each of these, in a file of schema 1, takes a name that the new table needs, or refers to it; or a table is gone.
 const OLDER: &[(&str, Fault)] = &[
-    ("CREATE TABLE word (a TEXT) STRICT", Fault::Damaged),
-    ("CREATE TABLE GRAM (a TEXT) STRICT", Fault::Damaged),
-    ("CREATE VIEW dictcat_entry AS SELECT 1", Fault::Damaged),
+    ("CREATE TABLE dictcat_part (a TEXT) STRICT", Fault::Damaged),
+    ("CREATE VIEW dictcat_part AS SELECT 1", Fault::Damaged),
     (
-        "CREATE TABLE others (a TEXT) STRICT; CREATE INDEX dictcat_entry_key ON others (a)",
+        "CREATE TABLE others (a TEXT) STRICT; CREATE INDEX DICTCAT_PART ON others (a)",
         Fault::Damaged,
     ),
     (
-        "CREATE INDEX dictcat_entry_rkey ON item (kind)",
-        Fault::Damaged,
-    ),
-    (
-        "CREATE TABLE others (a TEXT REFERENCES gram (a)) STRICT",
-        Fault::Damaged,
-    ),
-    (
-        "CREATE TABLE others (a TEXT REFERENCES dictcat_entry (a)) STRICT",
+        "CREATE TABLE others (a TEXT REFERENCES dictcat_part (a)) STRICT",
         Fault::Damaged,
     ),
     ("DROP TABLE entry", Fault::Damaged),
@@ -217,7 +285,7 @@ pub(crate) fn refuse_each(
     for (statement, fault) in rows {
         let mut steps = first.to_vec(alloc)?;
         steps.push(Step::Batch(*statement))?;
-        steps.push(Step::Refuse(is_new, *fault))?;
+        steps.push(Step::Refuse(is_new, *fault, *statement))?;
         over_memory(rt, alloc, steps.as_slice())?;
     }
     Ok(())
@@ -243,7 +311,7 @@ const OTHERS: &[(&str, i64)] = &[
 static BESIDE: [Step; 6] = [
     Step::Batch("CREATE TABLE extra (a TEXT) STRICT; INSERT INTO extra VALUES ('its own')"),
     Step::Make(CATALOGUE),
-    Step::Batch("CREATE INDEX others ON entry (headword)"),
+    Step::Batch("CREATE INDEX others ON edition (title)"),
     Step::Keep(&[]),
     Step::Open(RETIRED),
     Step::Numbers(OTHERS),
@@ -251,9 +319,9 @@ static BESIDE: [Step; 6] = [
 
 // Where there is no store none is opened, and over one none is made.
 static TWICE: [Step; 3] = [
-    Step::Refuse(false, Fault::NotACatalogue),
+    Step::Refuse(false, Fault::NotACatalogue, "no catalogue"),
     Step::Make(&[]),
-    Step::Refuse(true, Fault::NotACatalogue),
+    Step::Refuse(true, Fault::NotACatalogue, "a catalogue"),
 ];
 
 #[test]

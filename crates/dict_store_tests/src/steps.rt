@@ -37,8 +37,8 @@ pub(crate) enum Step {
     Open(&'static [Row]),
     /// The same, and no row changes.
     Keep(&'static [Row]),
-    /// No store is made, or the one that is there isn't opened, by this fault. No row changes.
-    Refuse(bool, Fault),
+    /// No store is made, or the one that is there isn't opened, by this fault, after what is named. No row changes.
+    Refuse(bool, Fault, &'static str),
     /// Lookups.
     Look,
     /// Items, up to the last that there may be.
@@ -89,6 +89,13 @@ fn act<K: Keeper + Counted>(
     Ok(shown(alloc, desk)?)
 }
 
+fn name_of(step: &Step) -> &'static str {
+    match step {
+        Step::Refuse(_, _, name) => *name,
+        _ => "a catalogue that is opened",
+    }
+}
+
 // A step over the desk of tables, which shows what the lists do then, and is sound.
 fn on_desk<S: Alter + Drop>(
     rt: &impl Abort,
@@ -98,7 +105,7 @@ fn on_desk<S: Alter + Drop>(
     step: &Step,
     wanted: &str,
 ) -> Result<(), Fail> {
-    holds(rt, !matches!(step, Step::Refuse(_, _)), "no desk");
+    holds(rt, !matches!(step, Step::Refuse(_, _, _)), name_of(step));
     let found = act(rt, alloc, desk, editions, step)?;
     same_text(rt, found.as_str(), wanted, "both desks");
     holds(rt, desk.audit().is_ok(), "a sound desk");
@@ -114,7 +121,7 @@ fn over_desk<S: Alter + Drop>(
     step: &Step,
     wanted: &str,
 ) -> (Connection<S>, Result<(), Fail>) {
-    let is_new = matches!(step, Step::Make(_) | Step::Refuse(true, _));
+    let is_new = matches!(step, Step::Make(_) | Step::Refuse(true, _, _));
     match desk_over(alloc, conn, is_new) {
         Ok(desk) => {
             let mut desk = desk;
@@ -122,8 +129,11 @@ fn over_desk<S: Alter + Drop>(
             (connection_of(desk), end)
         }
         Err((conn, fault)) => match step {
-            Step::Refuse(_, due) if *due == fault => (conn, Ok(())),
-            _ => (conn, Err(Fail::new("no desk"))),
+            Step::Refuse(_, due, _) if *due == fault => (conn, Ok(())),
+            _ => {
+                holds(rt, false, name_of(step));
+                (conn, Err(Fail::new("no desk")))
+            }
         },
     }
 }
@@ -178,7 +188,7 @@ fn done<S: Alter + Drop>(
             (conn, end)
         }
         Step::Speak(input, output) => spoken::speak(rt, alloc, conn, *input, *output),
-        Step::Keep(_) | Step::Refuse(_, _) => {
+        Step::Keep(_) | Step::Refuse(_, _, _) => {
             beside_all_rows(rt, alloc, conn, editions, step, wanted)
         }
         _ => over_desk(rt, alloc, conn, editions, step, wanted),

@@ -17,12 +17,13 @@ pub(crate) fn has_numbers<S: Alter>(
     Ok(true)
 }
 
-// All rows of the tables.
-static TABLES: [&str; 9] = [
+// All rows of the tables, those of older schemas among them.
+static TABLES: [&str; 10] = [
     "SELECT rowid, * FROM mark ORDER BY 1",
     "SELECT rowid, * FROM item ORDER BY 1",
     "SELECT rowid, * FROM member ORDER BY 1",
     "SELECT rowid, * FROM edition ORDER BY 1",
+    "SELECT rowid, * FROM dictcat_part ORDER BY 1",
     "SELECT rowid, * FROM entry ORDER BY 1",
     "SELECT rowid, * FROM word ORDER BY 1",
     "SELECT rowid, * FROM gram ORDER BY 1",

@@ -1,0 +1,274 @@
+//! Texts and indexes that end before, at and behind the end of a part: what is stored is what was installed, and a body over several parts is handed out whole.
+
+use crate::checks::{holds, same_text};
+use crate::tables::has_numbers;
+use crate::taken::found;
+use dict_catalogue::Command;
+use dict_desk::{Fault, Keeper};
+use dict_index::{Edition, read_edition};
+use dict_match::Strategy;
+use dict_store::Desk;
+use dict_store_fixtures::{connection_of, desk_over};
+use sqlite::{Alter, Connection};
+use std::alloc::{AllocError, Global};
+use std::process::Abort;
+use std::test::Fail;
+
+/// How many octets stand behind the title, the index, how many parts the text has, and its entries: a headword, where its body begins, and how long it is.
+/// The first is looked up first, and lies in each part.
+#[derive(Clone, Copy)]
+struct Case(
+    usize,
+    &'static str,
+    u32,
+    &'static [(&'static str, usize, usize)],
+);
+
+const TITLE: &str = "00-database-short\n  Lines\n";
+
+static CASES: [Case; 10] = [
+    Case(
+        0,
+        "00-database-short\tA\ta\nall\tA\ta\n",
+        1,
+        &[("all", 0, 26)],
+    ),
+    Case(
+        1,
+        "00-database-short\tA\ta\nall\tA\tb\nlast\ta\tB\n",
+        1,
+        &[("all", 0, 27), ("last", 26, 1)],
+    ),
+    Case(
+        16358,
+        "00-database-short\tA\ta\nall\tA\tEAA\nlast\tD//\tB\n",
+        1,
+        &[("all", 0, 16384), ("last", 16383, 1)],
+    ),
+    Case(
+        16359,
+        "00-database-short\tA\ta\nall\tA\tEAB\nlast\tEAA\tB\nover\tD/8\tF\n",
+        2,
+        &[("all", 0, 16385), ("last", 16384, 1), ("over", 16380, 5)],
+    ),
+    Case(
+        16383,
+        "00-database-short\tA\ta\nall\tA\tEAZ\nlast\tEAY\tB\nover\tD/8\tJ\n",
+        2,
+        &[("all", 0, 16409), ("last", 16408, 1), ("over", 16380, 9)],
+    ),
+    Case(
+        16384,
+        "00-database-short\tA\ta\nall\tA\tEAa\nlast\tEAZ\tB\nover\tD/8\tJ\n",
+        2,
+        &[("all", 0, 16410), ("last", 16409, 1), ("over", 16380, 9)],
+    ),
+    Case(
+        16385,
+        "00-database-short\tA\ta\nall\tA\tEAb\nlast\tEAa\tB\nover\tD/8\tJ\n",
+        2,
+        &[("all", 0, 16411), ("last", 16410, 1), ("over", 16380, 9)],
+    ),
+    Case(
+        32768,
+        "00-database-short\tA\ta\nall\tA\tIAa\nlast\tIAZ\tB\nover\tD/8\tJ\nsecond\tEAA\tEAA\n",
+        3,
+        &[
+            ("all", 0, 32794),
+            ("last", 32793, 1),
+            ("over", 16380, 9),
+            ("second", 16384, 16384),
+        ],
+    ),
+    Case(
+        32742,
+        "00-database-short\tA\ta\nall\tA\tIAA\nlast\tH//\tB\nover\tD/8\tJ\nsecond\tEAA\tEAA\n",
+        2,
+        &[
+            ("all", 0, 32768),
+            ("last", 32767, 1),
+            ("over", 16380, 9),
+            ("second", 16384, 16384),
+        ],
+    ),
+    Case(
+        70000,
+        "00-database-short\tA\ta\nall\tA\tRGK\nlast\tRGJ\tB\nover\tD/8\tJ\nsecond\tEAA\tEAA\n",
+        5,
+        &[
+            ("all", 0, 70026),
+            ("last", 70025, 1),
+            ("over", 16380, 9),
+            ("second", 16384, 16384),
+        ],
+    ),
+];
+
+// The octet at a place behind the title: lines of 64.
+fn letter(place: usize, size: usize) -> char {
+    if place % 64 == 63 || place.wrapping_add(1) == size {
+        '\n'
+    } else {
+        b'a'.wrapping_add((place % 26) as u8) as char
+    }
+}
+
+fn text_of(alloc: Global, size: usize) -> Result<String, AllocError> {
+    let mut text = String::new(alloc);
+    text.push_str(TITLE)?;
+    for place in 0..size {
+        text.push(letter(place, size))?;
+    }
+    Ok(text)
+}
+
+fn install<K: Keeper>(desk: &mut K, edition: &Edition) -> Result<(), Fault> {
+    let name = "lines";
+    let _kept = desk.apply(name, &Command::Install { name, edition })?;
+    Ok(())
+}
+
+// What is handed out for an entry is its headword and its body.
+fn answer_of(alloc: Global, headword: &str, body: &str) -> Result<String, AllocError> {
+    format!(in alloc; "{headword}={body}/")
+}
+
+fn look<S: Alter + Drop>(
+    rt: &impl Abort,
+    alloc: Global,
+    desk: &mut Desk<S>,
+    case: &Case,
+    text: &str,
+) -> Result<(), Fail> {
+    for (headword, start, length) in case.3 {
+        let answer = found(alloc, desk, 1, Strategy::Exact, *headword, usize::MAX)?;
+        let body = text.get(*start..start.wrapping_add(*length)).unwrap_or("");
+        let wanted = answer_of(alloc, *headword, body)?;
+        same_text(rt, answer.text.as_str(), wanted.as_str(), case.1);
+    }
+    Ok(())
+}
+
+// The first lookup of a desk reads each part once, and another of the same reads none.
+fn parts_are_read_once<S: Alter + Drop>(
+    rt: &impl Abort,
+    alloc: Global,
+    desk: &mut Desk<S>,
+    case: &Case,
+    text: &str,
+) -> Result<(), Fail> {
+    let before = desk.rows_taken();
+    look(rt, alloc, desk, case, text)?;
+    let first = desk.rows_taken().saturating_sub(before);
+    let entries = case.3.len() as u64;
+    holds(
+        rt,
+        first == entries.saturating_add(u64::from(case.2)),
+        case.1,
+    );
+    let before = desk.rows_taken();
+    look(rt, alloc, desk, case, text)?;
+    let again = desk.rows_taken().saturating_sub(before);
+    holds(rt, again == entries, case.1);
+    Ok(())
+}
+
+fn desk_of<S: Alter + Drop>(
+    alloc: Global,
+    conn: Connection<S>,
+    is_new: bool,
+) -> Result<Desk<S>, Fail> {
+    match desk_over(alloc, conn, is_new) {
+        Ok(desk) => Ok(desk),
+        Err(_) => Err(Fail::new("no desk")),
+    }
+}
+
+// The text is installed, and handed out so by this desk and by one that is opened behind it.
+fn goes_around(rt: &impl Abort, alloc: Global, case: &Case) -> Result<(), Fail> {
+    let text = text_of(alloc, case.0)?;
+    let edition = read_edition(alloc, case.1.as_bytes(), text.as_str().as_bytes())?;
+    let mut desk = desk_of(alloc, Connection::open_in_memory(alloc)?, true)?;
+    install(&mut desk, &edition)?;
+    parts_are_read_once(rt, alloc, &mut desk, case, text.as_str())?;
+    let mut desk = desk_of(alloc, connection_of(desk), false)?;
+    parts_are_read_once(rt, alloc, &mut desk, case, text.as_str())?;
+    let mut conn = connection_of(desk);
+    let wanted = [
+        (
+            "SELECT count(*) FROM dictcat_part WHERE edition = 1 AND file = 1",
+            i64::from(case.2),
+        ),
+        (
+            "SELECT sum(length(octets)) FROM dictcat_part WHERE edition = 1 AND file = 1",
+            text.as_str().len() as i64,
+        ),
+    ];
+    holds(rt, has_numbers(&mut conn, &wanted)?, case.1);
+    Ok(())
+}
+
+#[test]
+fn texts_go_around_parts(rt: HostRuntime) -> Result<(), Fail> {
+    let alloc = rt.alloc();
+    for case in &CASES {
+        goes_around(&rt, alloc, case)?;
+    }
+    Ok(())
+}
+
+/// The first letters of all headwords, how many lines an index has, of how many octets each, how many parts, and the headword of a line, which is the last, or
+/// lies over the end of a part.
+#[derive(Clone, Copy)]
+struct Lines(&'static str, u32, i64, i64, &'static str);
+
+static LINES: [Lines; 5] = [
+    Lines("headwo", 1_023, 16, 1, "headwo01022"),
+    Lines("headwo", 1_024, 16, 1, "headwo01023"),
+    Lines("headwo", 1_025, 16, 2, "headwo01024"),
+    Lines("headwo", 2_048, 16, 2, "headwo02047"),
+    Lines("headw", 1_100, 15, 2, "headw01092"),
+];
+
+fn index_of(alloc: Global, lines: Lines) -> Result<String, AllocError> {
+    let letters = lines.0;
+    let mut index = String::new(alloc);
+    index.push_str("00-database-short\tA\ta\n")?;
+    for number in 0..lines.1 {
+        index.push_str(format!(in alloc; "{letters}{number:05}\tA\ta\n")?.as_str())?;
+    }
+    Ok(index)
+}
+
+fn index_goes_around(rt: &impl Abort, alloc: Global, lines: Lines) -> Result<(), Fail> {
+    let index = index_of(alloc, lines)?;
+    let edition = read_edition(alloc, index.as_str().as_bytes(), TITLE.as_bytes())?;
+    let mut desk = desk_of(alloc, Connection::open_in_memory(alloc)?, true)?;
+    install(&mut desk, &edition)?;
+    let mut desk = desk_of(alloc, connection_of(desk), false)?;
+    let answer = found(alloc, &mut desk, 1, Strategy::Exact, lines.4, usize::MAX)?;
+    let wanted = answer_of(alloc, lines.4, TITLE)?;
+    same_text(rt, answer.text.as_str(), wanted.as_str(), lines.4);
+    let mut conn = connection_of(desk);
+    let wanted = [
+        (
+            "SELECT count(*) FROM dictcat_part WHERE edition = 1 AND file = 0",
+            lines.3,
+        ),
+        (
+            "SELECT sum(length(octets)) FROM dictcat_part WHERE edition = 1 AND file = 0",
+            i64::from(lines.1).saturating_mul(lines.2),
+        ),
+    ];
+    holds(rt, has_numbers(&mut conn, &wanted)?, lines.4);
+    Ok(())
+}
+
+#[test]
+fn indexes_go_around_parts(rt: HostRuntime) -> Result<(), Fail> {
+    let alloc = rt.alloc();
+    for lines in &LINES {
+        index_goes_around(&rt, alloc, *lines)?;
+    }
+    Ok(())
+}
