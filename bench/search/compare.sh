@@ -2,8 +2,7 @@
 # Asks an index in memory 2,000 queries over each of some dictionaries, by each strategy, and holds its four answers (entries,
 # headwords, and the counts of both) against the filter of the whole list: bench/search/compare.sh [INDEX..]
 # Without INDEX it takes every dictionary of Debian's that is installed (/usr/share/dictd), and 262,144 made lines. It says how
-# many agreed, and ends with 1 unless all did. Outside the gate: it needs python3, and up to 1.2 ms of the processor for an entry,
-# three minutes for WordNet.
+# many agreed, and ends with 1 unless all did. Outside the gate: it needs python3, and some minutes for a large dictionary.
 set -e
 here=$(cd "$(dirname "$0")" && pwd)
 source "$here/build.sh"

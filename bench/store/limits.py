@@ -4,6 +4,7 @@ Parts: `lookups`, `installs`, `openings`, `migrations`, `removals`; all of them 
 the made databases are there after the first run, and the files. Seconds and microseconds are of the processor, by the system's
 count for the process (user and system); memory is the peak of the process.
 """
+import functools
 import os
 import pathlib
 import random
@@ -28,7 +29,8 @@ OLD_TABLES = (
     "CREATE TABLE entry (edition INTEGER NOT NULL, ord INTEGER NOT NULL, headword TEXT NOT NULL, start INTEGER NOT NULL, length INTEGER NOT NULL, PRIMARY KEY (edition, ord)) STRICT",
     "CREATE TABLE kept (id TEXT NOT NULL PRIMARY KEY, number INTEGER NOT NULL UNIQUE, verb TEXT NOT NULL, name TEXT NOT NULL, edition INTEGER) STRICT",
 )
-OLD_COLUMNS = {"mark": "id, magic, 1, installs", "entry": "edition, ord, headword, start, length"}
+OLD_COLUMNS = {"mark": "id, magic, 1, installs"}
+DIGITS = b"ABCDEFGHIJKLMNOPQRSTUVWXYZabcdefghijklmnopqrstuvwxyz0123456789+/"
 
 
 def run(*words, status=0):
@@ -225,18 +227,52 @@ def older(path, to):
     for text in OLD_TABLES:
         rows.execute(text)
         table = text.split()[2]
-        rows.execute(f"INSERT INTO main.{table} SELECT {OLD_COLUMNS.get(table, '*')} FROM newer.{table} ORDER BY newer.{table}.rowid")
+        if table in ("mark", "item", "member", "kept"):
+            rows.execute(f"INSERT INTO main.{table} SELECT {OLD_COLUMNS.get(table, '*')} FROM newer.{table} ORDER BY newer.{table}.rowid")
+    for header in rows.execute("SELECT number, owner, title, info FROM newer.edition ORDER BY number").fetchall():
+        rows.execute("INSERT INTO main.edition VALUES (?, ?, ?, ?, ?)", [*header, octets(rows, header[0], 1)])
+        lines = octets(rows, header[0], 0).split(b"\n")[:-1]
+        entries = ((header[0], place, *entry_of(line)) for place, line in enumerate(lines))
+        rows.executemany("INSERT INTO main.entry VALUES (?, ?, ?, ?, ?)", entries)
     rows.execute("COMMIT")
     rows.close()
 
 
+def octets(rows, number, file):
+    """The octets of an edition's index (0) or of its text (1): those of its parts."""
+    sought = "SELECT octets FROM newer.dictcat_part WHERE edition = ? AND file = ? ORDER BY number"
+    return b"".join(part for (part,) in rows.execute(sought, [number, file]))
+
+
+def entry_of(line):
+    """The headword, where the body begins and how long it is."""
+    head, *numbers = line.split(b"\t")[:3]
+    return head.decode(), *(functools.reduce(lambda value, digit: value * 64 + DIGITS.index(digit), spelled, 0) for spelled in numbers)
+
+
 def migrations(program, small, large):
+    """From schema 1, and from 4 where OLDER names a program that makes files of it (that of `dist/` at commit 500f3b9e)."""
+    before = os.environ.get("OLDER")
     for made, what in ((small, "65,536 lines"), (large, "the largest edition")):
         old = made.work / f"old{made.lines}.db"
         older(made.file(), old)
-        clock, seconds, memory, _ = run(program, "list", copied(old, made.work / "migrated.db"))
-        told(f"migration of {what} from schema 1", f"{seconds:.1f} s, by the clock {clock:.1f}; file and log {sizes(made.work / 'migrated.db')} MB")
-        bounded("memory of that migration", memory, "MB", 400, ".0f")
+        migrated(program, old, f"{what} from schema 1")
+        if before:
+            fourth = made.work / f"fourth{made.lines}.db"
+            for end in ("", "-wal", "-shm"):
+                pathlib.Path(f"{fourth}{end}").unlink(missing_ok=True)
+            run(before, "create", fourth)
+            run(before, "install", fourth, "made", "r1", made.index, made.text)
+            _, seconds, _, _ = run(before, "list", fourth)
+            told(f"an opening of {what} by the program of schema 4", f"{seconds:.1f} s")
+            migrated(program, fourth, f"{what} from schema 4")
+
+
+def migrated(program, old, what):
+    path = copied(old, old.with_name("migrated.db"))
+    clock, seconds, memory, _ = run(program, "list", path)
+    told(f"migration of {what}", f"{seconds:.1f} s, by the clock {clock:.1f}; file and log {sizes(path)} MB")
+    bounded("memory of that migration", memory, "MB", 260, ".0f")
 
 
 def removals(program, small, large):
