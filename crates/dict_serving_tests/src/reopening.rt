@@ -149,7 +149,7 @@ fn a_session_outlives_a_failed_store(rt: HostRuntime) -> Result<(), Fail> {
     let alloc = rt.alloc();
     // The file of the log answers so many calls: those by which the catalogue is made and read, and some of the install.
     let files = Files {
-        log: Fuse::new(Memory::new(alloc), 52),
+        log: Fuse::new(Memory::new(alloc), 40),
         db: Fuse::new(Memory::new(alloc), u64::MAX),
     };
     same(&rt, &outlived(&rt, alloc, files)?, &1);
