@@ -180,28 +180,7 @@ const STATEMENTS: &[(&str, Fault)] = &[
         Fault::Damaged,
     ),
     (
-        "UPDATE dictcat_part SET edition = 1 - edition + 2 WHERE file = 1",
-        Fault::Damaged,
-    ),
-    (
         "UPDATE dictcat_part SET octets = x'30302d64617461626173652d73686f72740a202047656d730a6f70616c0a202061207374ff6e650a2e646f740a' WHERE edition = 2 AND file = 1",
-        Fault::Damaged,
-    ),
-    // A text of two parts, the first too short or too long, or the second not the next.
-    (
-        "UPDATE dictcat_part SET octets = CAST(substr('00-database-short\n  Gems\nopal\n  a stone\n.dot\n' || replace('aaaaaaaaaaaaaaaaaaaaaaaaaaaaaaaaaaaaaaaaaaaaaaaaaaaaaaaaaaaaaaaaaaaaaaaaaaaaaaaaaaaaaaaaaaaaaaaaaaaaaaaaaaaaaaaaaaaaaaaaaaaaaaaa', 'a', 'aaaaaaaaaaaaaaaaaaaaaaaaaaaaaaaaaaaaaaaaaaaaaaaaaaaaaaaaaaaaaaaaaaaaaaaaaaaaaaaaaaaaaaaaaaaaaaaaaaaaaaaaaaaaaaaaaaaaaaaaaaaaaaaa'), 1, 16383) AS BLOB) WHERE edition = 2 AND file = 1; INSERT INTO dictcat_part VALUES (2, 1, 1, x'61')",
-        Fault::Damaged,
-    ),
-    (
-        "UPDATE dictcat_part SET octets = CAST(substr('00-database-short\n  Gems\nopal\n  a stone\n.dot\n' || replace('aaaaaaaaaaaaaaaaaaaaaaaaaaaaaaaaaaaaaaaaaaaaaaaaaaaaaaaaaaaaaaaaaaaaaaaaaaaaaaaaaaaaaaaaaaaaaaaaaaaaaaaaaaaaaaaaaaaaaaaaaaaaaaaa', 'a', 'aaaaaaaaaaaaaaaaaaaaaaaaaaaaaaaaaaaaaaaaaaaaaaaaaaaaaaaaaaaaaaaaaaaaaaaaaaaaaaaaaaaaaaaaaaaaaaaaaaaaaaaaaaaaaaaaaaaaaaaaaaaaaaaa'), 1, 16385) AS BLOB) WHERE edition = 2 AND file = 1",
-        Fault::Damaged,
-    ),
-    (
-        "UPDATE dictcat_part SET octets = CAST(substr('00-database-short\n  Gems\nopal\n  a stone\n.dot\n' || replace('aaaaaaaaaaaaaaaaaaaaaaaaaaaaaaaaaaaaaaaaaaaaaaaaaaaaaaaaaaaaaaaaaaaaaaaaaaaaaaaaaaaaaaaaaaaaaaaaaaaaaaaaaaaaaaaaaaaaaaaaaaaaaaaa', 'a', 'aaaaaaaaaaaaaaaaaaaaaaaaaaaaaaaaaaaaaaaaaaaaaaaaaaaaaaaaaaaaaaaaaaaaaaaaaaaaaaaaaaaaaaaaaaaaaaaaaaaaaaaaaaaaaaaaaaaaaaaaaaaaaaaa'), 1, 16384) AS BLOB) WHERE edition = 2 AND file = 1; INSERT INTO dictcat_part VALUES (2, 1, 2, x'61')",
-        Fault::Damaged,
-    ),
-    (
-        "UPDATE dictcat_part SET octets = CAST(substr('00-database-short\n  Gems\nopal\n  a stone\n.dot\n' || replace('aaaaaaaaaaaaaaaaaaaaaaaaaaaaaaaaaaaaaaaaaaaaaaaaaaaaaaaaaaaaaaaaaaaaaaaaaaaaaaaaaaaaaaaaaaaaaaaaaaaaaaaaaaaaaaaaaaaaaaaaaaaaaaaa', 'a', 'aaaaaaaaaaaaaaaaaaaaaaaaaaaaaaaaaaaaaaaaaaaaaaaaaaaaaaaaaaaaaaaaaaaaaaaaaaaaaaaaaaaaaaaaaaaaaaaaaaaaaaaaaaaaaaaaaaaaaaaaaaaaaaaa'), 1, 16384) AS BLOB) WHERE edition = 2 AND file = 1; INSERT INTO dictcat_part VALUES (2, 1, 1, x'')",
         Fault::Damaged,
     ),
     // The replies that are kept, and the mark.
