@@ -3,8 +3,22 @@
 noted=$top/out/sources
 made_from=$top/out/built-from
 
-# One sum over crates.txt and all sources and proofs of the crates. It is noted, and made anew only where one of them, or
-# a folder of them, has changed since.
+# The crates that the program stands on, and its own, a line each; with them what crates.txt says of each.
+program_lines() {
+    (cd "$top" && awk -F: '
+        /^[a-z0-9_]+:/ { line[$1] = $0; needs[$1] = $2 }
+        END {
+            ask[1] = "dictcat"; seen["dictcat"] = 1; last = 1
+            for (at = 1; at <= last; at++) {
+                print line[ask[at]]
+                count = split(needs[ask[at]], each, " ")
+                for (i = 1; i <= count; i++) if (each[i] in line && !(each[i] in seen)) { seen[each[i]] = 1; ask[++last] = each[i] }
+            }
+        }' crates.txt | LC_ALL=C sort)
+}
+
+# One sum over what crates.txt says of these crates and all their sources and proofs: no crate of tests is among them. It is
+# noted, and made anew only where a file of any crate, or a folder of them, has changed since.
 sources_sum() {
     if [[ -f $noted && $top/crates.txt -ot $noted ]] && [[ -z $(cd "$top" && find crates -name out -prune -o \
         \( -type d -o -name '*.rt' -o -name '*.antt' \) -newer "$noted" -print -quit) ]]; then
@@ -14,9 +28,10 @@ sources_sum() {
     mkdir -p "$top/out"
     local sum begun=$noted.begun
     : >"$begun"
-    sum=$(cd "$top" && {
-        sha256sum crates.txt
-        find crates -name out -prune -o -type f \( -name '*.rt' -o -name '*.antt' \) -print0 | LC_ALL=C sort -z | xargs -0 sha256sum
+    sum=$(cd "$top" && lines=$(program_lines) && {
+        printf '%s\n' "$lines"
+        sed 's|:.*||; s|^|crates/|' <<<"$lines" | tr '\n' '\0' | xargs -0 -I{} find {} -name out -prune -o -type f \
+            \( -name '*.rt' -o -name '*.antt' \) -print0 | LC_ALL=C sort -z | xargs -0 sha256sum
     } | sha256sum | cut -d ' ' -f 1)
     # The note is as old as the beginning, so that what changed meanwhile counts as newer.
     printf '%s\n' "$sum" >"$noted.new"
