@@ -1,13 +1,22 @@
 //! Keys at every edge, and what is selected beside the filter of a whole list.
 use crate::checks::{holds, same_text, same_text_of};
-use dict_derived::{
-    Derived, NotDerived, PieceReader, Pieces, Selection, by_edition, derive, derived_after,
-    due_rows, grams_of, inserted_rows, is_tested, range_law, same_under_versions, search_laws,
-    select, sorted_grams, sorted_words, words_of, worked_pieces,
-};
+use dict_derived::{Selection, is_kept, is_tested, range_law, search_laws, select};
 use dict_match::{Key, Strategy, key_of, matches, words};
 use std::alloc::{AllocError, Global};
 use std::test::Fail;
+
+/// The key of a headword, and its octets in reverse order.
+#[derive(Drop)]
+struct Derived {
+    key: Key,
+    reversed: Vec<u8>,
+}
+
+fn derive(alloc: Global, headword: &str) -> Result<Derived, AllocError> {
+    let key = key_of(alloc, headword)?;
+    let reversed = key.as_bytes().iter().rev().copied().collect(alloc)?;
+    Ok(Derived { key, reversed })
+}
 
 static EDGES: [&str; 25] = [
     "",
@@ -120,7 +129,7 @@ fn the_edges_are_found_by_their_selections(rt: HostRuntime) -> Result<(), Fail> 
     Ok(())
 }
 
-static SELECTED: [(Strategy, &[u8], &str); 6] = [
+static SELECTED: [(Strategy, &[u8], &str); 8] = [
     (
         Strategy::Prefix,
         b"a\xff",
@@ -139,8 +148,15 @@ static SELECTED: [(Strategy, &[u8], &str); 6] = [
     (
         Strategy::Substring,
         b"\xd0\xb0\xd0\xb1",
-        "Grams([176, 208, 177], [208, 176, 208])",
+        "Grams([176, 208, 177], [176, 208, 177])",
     ),
+    (
+        Strategy::Substring,
+        b"\xd0\xb0\xd0\xb1\xd0\xb2",
+        "Grams([176, 208, 177], [177, 208, 178])",
+    ),
+    // a letter of three octets before one of two
+    (Strategy::Substring, b"\xe2\x82\xd0", "All"),
     (Strategy::Substring, b"ab", "All"),
     (Strategy::Exact, b"", "Nothing"),
 ];
@@ -162,50 +178,11 @@ fn octet_255_ends_a_range(rt: HostRuntime) -> Result<(), Fail> {
     Ok(())
 }
 
-// A key, its words and its grams, each with a comma behind it.
-static PIECES: [(&str, &str, &str); 5] = [
-    ("b a b c", "a,b,c,", " a , b ,a b,b a,b c,"),
-    ("abcabc", "abcabc,", "abc,bca,cab,"),
-    ("aaaa", "aaaa,", "aaa,"),
-    ("ab", "ab,", ""),
-    ("", "", ""),
-];
-
-fn push_piece(told: &mut String, piece: &[u8]) -> Result<(), AllocError> {
-    told.push_str(str::from_utf8(piece).unwrap_or("not UTF-8"))?;
-    told.push(',')
-}
-
-fn told_words(alloc: Global, key: &[u8]) -> Result<String, AllocError> {
-    let mut told = String::new(alloc);
-    for word in &words_of(alloc, key)? {
-        push_piece(&mut told, word)?;
-    }
-    Ok(told)
-}
-
-fn told_grams(alloc: Global, key: &[u8]) -> Result<String, AllocError> {
-    let mut told = String::new(alloc);
-    for gram in &grams_of(alloc, key)? {
-        push_piece(&mut told, gram)?;
-    }
-    Ok(told)
-}
-
 #[test]
-fn words_and_grams_once_and_in_order(rt: HostRuntime) -> Result<(), Fail> {
-    for (key, words, grams) in &PIECES {
-        same_text(
-            &rt,
-            told_words(rt.alloc(), key.as_bytes())?.as_str(),
-            *words,
-        );
-        same_text(
-            &rt,
-            told_grams(rt.alloc(), key.as_bytes())?.as_str(),
-            *grams,
-        );
-    }
+fn runs_up_to_a_character_are_left_out(rt: HostRuntime) -> Result<(), Fail> {
+    holds(&rt, is_kept(b"abc"), "three letters");
+    holds(&rt, is_kept(b"ab\xbf"), "the last octet of a character");
+    holds(&rt, !is_kept(b"ab\xc0"), "the first octet of a character");
     Ok(())
 }
 
@@ -249,154 +226,5 @@ fn selections_find_what_the_whole_list_has(rt: HostRuntime) -> Result<(), Fail> 
         let text = headword(alloc, &mut state)?;
         same_text_of(&rt, told_others(alloc, &text, &list)?.as_str(), "", &text);
     }
-    Ok(())
-}
-
-// Rows of a table for the keys "b a" and "a" of edition 7: an edition, a piece, a place.
-static WORDS: [(i64, &[u8], i64); 4] = [(7, b"a", 0), (7, b"a", 1), (7, b"b", 0), (7, b"b", 0)];
-
-static GRAMS: [(i64, &[u8], i64); 1] = [(7, b"b a", 0)];
-
-// Of another edition, of no key, no word of its key, of a place before the first; one that is due, and one that stands behind it out of order.
-static OTHERS: [(i64, &[u8], i64); 6] = [
-    (8, b"a", 0),
-    (7, b"a", 2),
-    (7, b"b", 1),
-    (7, b"a", -1),
-    (7, b"b", 0),
-    (7, b"a", 0),
-];
-
-/// Takes the rows: for each a `+` where it is taken and a `-` where it is refused, and behind them what the end says.
-fn told_taken(
-    alloc: Global,
-    pieces: Pieces,
-    rows: &[(i64, &[u8], i64)],
-) -> Result<String, AllocError> {
-    let mut keys: Vec<Key> = Vec::new(alloc);
-    keys.push(key_of(alloc, "b a")?)?;
-    keys.push(key_of(alloc, "a")?)?;
-    let mut reader = PieceReader::begin(alloc, pieces, 7, &keys)?;
-    let mut told = String::new(alloc);
-    for (edition, piece, place) in rows {
-        let row = reader.take(*edition, Vec::from_slice(alloc, piece)?, *place);
-        told.push(if row == Err(NotDerived) { '-' } else { '+' })?;
-    }
-    told.push_str(if reader.finish() == Err(NotDerived) {
-        " others"
-    } else {
-        " all"
-    })?;
-    Ok(told)
-}
-
-#[test]
-fn the_derived_rows_are_taken_and_no_others(rt: HostRuntime) -> Result<(), Fail> {
-    let alloc = rt.alloc();
-    same_text(
-        &rt,
-        told_taken(alloc, Pieces::Words, &WORDS)?.as_str(),
-        "+++- all",
-    );
-    same_text(
-        &rt,
-        told_taken(alloc, Pieces::Grams, &GRAMS)?.as_str(),
-        "+ all",
-    );
-    same_text(
-        &rt,
-        told_taken(alloc, Pieces::Words, &OTHERS)?.as_str(),
-        "----+- others",
-    );
-    Ok(())
-}
-
-// The keys of an edition, all their words and all their grams, each with its place and a comma behind it.
-static EDITION: [&str; 4] = ["b a b", "abcab", "", "a b"];
-
-static PLACED_WORDS: &str = "a0,a3,abcab1,b0,b3,";
-
-static PLACED_GRAMS: &str = " a 0,a b0,a b3,abc1,b a0,bca1,cab1,";
-
-fn keys_of_edition(alloc: Global) -> Result<Vec<Key>, AllocError> {
-    let mut keys = Vec::new(alloc);
-    for headword in &EDITION {
-        keys.push(key_of(alloc, headword)?)?;
-    }
-    Ok(keys)
-}
-
-fn push_placed(told: &mut String, piece: &[u8], ord: u32) -> Result<(), AllocError> {
-    told.push_str(str::from_utf8(piece).unwrap_or("not UTF-8"))?;
-    told.push(char::from_digit(ord, 10).unwrap_or('?'))?;
-    told.push(',')
-}
-
-fn told_sorted_words(alloc: Global, keys: &[Key]) -> Result<String, AllocError> {
-    let mut told = String::new(alloc);
-    for placed in &sorted_words(alloc, keys)? {
-        push_placed(&mut told, placed.word, placed.ord)?;
-    }
-    Ok(told)
-}
-
-fn told_sorted_grams(alloc: Global, keys: &[Key]) -> Result<String, AllocError> {
-    let mut told = String::new(alloc);
-    for placed in &sorted_grams(alloc, keys)? {
-        push_placed(&mut told, &placed.gram, placed.ord)?;
-    }
-    Ok(told)
-}
-
-#[test]
-fn the_pieces_of_an_edition_are_sorted(rt: HostRuntime) -> Result<(), Fail> {
-    let alloc = rt.alloc();
-    let keys = keys_of_edition(alloc)?;
-    same_text(&rt, told_sorted_words(alloc, &keys)?.as_str(), PLACED_WORDS);
-    same_text(&rt, told_sorted_grams(alloc, &keys)?.as_str(), PLACED_GRAMS);
-    due_rows();
-    by_edition();
-    inserted_rows();
-    derived_after();
-    same_under_versions();
-    worked_pieces();
-    Ok(())
-}
-
-/// Whether a reader takes all the sorted words of the keys, and no others are due.
-fn are_all_words(alloc: Global, keys: &[Key]) -> Result<bool, AllocError> {
-    let mut reader = PieceReader::begin(alloc, Pieces::Words, 7, keys)?;
-    for placed in &sorted_words(alloc, keys)? {
-        let word = Vec::from_slice(alloc, placed.word)?;
-        if reader.take(7, word, i64::from(placed.ord)).is_err() {
-            return Ok(false);
-        }
-    }
-    Ok(reader.finish().is_ok())
-}
-
-/// The same of grams.
-fn are_all_grams(alloc: Global, keys: &[Key]) -> Result<bool, AllocError> {
-    let mut reader = PieceReader::begin(alloc, Pieces::Grams, 7, keys)?;
-    for placed in &sorted_grams(alloc, keys)? {
-        let gram = Vec::from_slice(alloc, &placed.gram)?;
-        if reader.take(7, gram, i64::from(placed.ord)).is_err() {
-            return Ok(false);
-        }
-    }
-    Ok(reader.finish().is_ok())
-}
-
-#[test]
-fn a_reader_takes_the_sorted_pieces(rt: HostRuntime) -> Result<(), Fail> {
-    let alloc = rt.alloc();
-    let mut state = 29;
-    let mut keys = Vec::new(alloc);
-    for _ in 0..2_000 {
-        let text = headword(alloc, &mut state)?;
-        keys.push(key_of(alloc, &text)?)?;
-    }
-    holds(&rt, are_all_words(alloc, &keys)?, "words");
-    holds(&rt, are_all_grams(alloc, &keys)?, "grams");
     Ok(())
 }

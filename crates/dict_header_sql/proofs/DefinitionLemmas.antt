@@ -3,7 +3,7 @@ use Rattle.std.proofs.Common.{◌≡◌, true, refl}
 use Rattle.sqlite.specs.Table.{Table}
 use Rattle.sqlite_schema.specs.Names.{same_name}
 use Rattle.dict_tables.specs.Definitions.{IsDefinition, are_named_apart, names_of}
-use Rattle.dict_tables.specs.Keyed.{helper, table_of}
+use Rattle.dict_tables.specs.Keyed.{table_of}
 use Rattle.dict_tables.specs.Tables as store
 use Rattle.dict_tables.specs.declared.keyed.KeyedTable.{KeyedTable}
 use Rattle.dict_tables.specs.declared.keyed.KeyedTable.TheVariants.{Entry, Word, Gram}
@@ -34,7 +34,3 @@ unfolding same_name
 from_keyed Entry = (refl, refl)
 from_keyed Word = (refl, refl)
 from_keyed Gram = (refl, refl)
-
-pub from_helper : (are_named_apart (header 0) (helper 0) ≡ true) × (are_named_apart (helper 0) (header 0) ≡ true)
-unfolding same_name
-from_helper = (refl, refl)

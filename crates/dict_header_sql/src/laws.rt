@@ -17,5 +17,4 @@ pub fn definition_laws()
     ensures beside { (other : Table) → (are_named_apart (header 0) other ≡ are_named_apart (store.edition 0) other) × (are_named_apart other (header 0) ≡ are_named_apart other (store.edition 0)) }
     ensures store { (other : StoreTable) → (other ≡ Edition → ⊥) → (are_named_apart (header 0) (store.table_of other 0) ≡ true) × (are_named_apart (store.table_of other 0) (header 0) ≡ true) }
     ensures keyed { (other : KeyedTable) → (are_named_apart (header 0) (keyed.table_of other 0) ≡ true) × (are_named_apart (keyed.table_of other 0) (header 0) ≡ true) }
-    ensures helper { (are_named_apart (header 0) (keyed.helper 0) ≡ true) × (are_named_apart (keyed.helper 0) (header 0) ≡ true) }
 {}

@@ -1,5 +1,5 @@
 -- The texts that read the tables, whole or of one edition.
-use Rattle.std.proofs.Common.{◌≡◌, ℕ, ℤ, List, [], ◌∷◌, codes, false, Some, None, refl, ◌∙◌, lit≤}
+use Rattle.std.proofs.Common.{◌≡◌, ℕ, ℤ, List, [], ◌∷◌, codes, false, Some, refl, ◌∙◌, lit≤}
 use Rattle.sqlite.specs.declared.types.Value.TheVariants.{Int}
 use Rattle.sqlite.specs.Order.{Row, column}
 use Rattle.sqlite.specs.Term.{Term, col, op2}
@@ -16,12 +16,12 @@ use Rattle.dict_sql.specs.Effects.{equals_number, shown}
 use Rattle.dict_sql.proofs.CompareLemmas.{and_true, equals_is}
 use Rattle.dict_sql.proofs.DeleteLemmas.{column_expr, parameter_expr, equals_expr, tests_equals}
 use Rattle.dict_sql.proofs.ListLemmas.{passes}
-use Rattle.dict_sql.proofs.ReadFaults.{Takes, a_number, nothing as no_values}
+use Rattle.dict_sql.proofs.ReadFaults.{Takes, a_number}
 use Rattle.dict_sql.proofs.ReadLemmas.{rowid_expr, rowid_shown, all_shown, source_of, core_of, select_of, outputs_of}
 use Rattle.dict_sql.proofs.ReadTexts.{ReadsTable, sort_by, key_at}
 use Rattle.dict_sql.proofs.TextLemmas.{parsed_or}
 use Rattle.dict_tables.specs.Keyed.{entry, word, gram}
-use Rattle.dict_keyed_sql.specs.Texts.{list_text, select_text}
+use Rattle.dict_keyed_sql.specs.Texts.{select_text}
 use Rattle.dict_tables.specs.declared.keyed.KeyedTable.TheVariants as keyed
 
 abbrev pub of_column : Carried
@@ -30,32 +30,6 @@ of_column = record { collation = Some Binary; is_written = false }
 -- the edition is the one that is given
 abbrev pub test_edition : List Term
 test_edition = op2 (by.Compare compare.Eq Binary) (col 1 1) (col 0 0) ∷ []
-
-unfoldable pub read_all_entry : Parsed
-unfolding everything
-read_all_entry = parsed_or (first (list_text keyed.Entry))
-
-pub reads_all_entry : ReadsTable (list_text keyed.Entry) read_all_entry entry None [] 99999 (sort_by (codes "2") ∷ sort_by (codes "3") ∷ []) (key_at 1 ∷ key_at 2 ∷ []) (1 ∷ 2 ∷ []) 99995 of_column
-unfolding everything read_all_entry rowid_expr rowid_shown all_shown source_of core_of select_of sort_by
-reads_all_entry = record {
-  read = refl;
-  statement = λ tree. refl;
-  formats = refl;
-  orders = λ tree. refl;
-  no_rowid = λ tree. refl;
-  few = λ at tree. refl;
-  some = λ at tree. refl;
-  tests = λ schema at tree is. refl;
-  sorts = λ schema at tree. refl;
-  shows = λ at tree params r. refl;
-  keyed = λ tree params r. refl;
-  compares = λ a b. refl;
-  accepted = λ schema at tree alone low. rw (low, alone) refl;
-}
-
-pub takes_all_entry : Takes (list_text keyed.Entry) read_all_entry entry [] (key_at 1 ∷ key_at 2 ∷ []) no_values
-unfolding everything read_all_entry
-takes_all_entry = record { whole = lit≤ tt; names = λ x. refl; typed = λ schema at tree alone low x. rw (low, alone) refl }
 
 unfoldable pub read_of_entry : Parsed
 unfolding everything
@@ -86,32 +60,6 @@ takes_of_entry = record { whole = lit≤ tt; names = λ x. refl; typed = λ sche
 pub is_of_entry : (tree : ℕ) (n : ℤ) (row : Row) → passes (Int n ∷ []) test_edition row ≡ equals_number 1 n (shown (entry tree) row)
 is_of_entry tree n row = and_true _ ∙ equals_is (column row 1) n
 
-unfoldable pub read_all_word : Parsed
-unfolding everything
-read_all_word = parsed_or (first (list_text keyed.Word))
-
-pub reads_all_word : ReadsTable (list_text keyed.Word) read_all_word word None [] 99999 (sort_by (codes "2") ∷ sort_by (codes "3") ∷ sort_by (codes "4") ∷ []) (key_at 1 ∷ key_at 2 ∷ key_at 3 ∷ []) (1 ∷ 2 ∷ 3 ∷ []) 99993 of_column
-unfolding everything read_all_word rowid_expr rowid_shown all_shown source_of core_of select_of sort_by
-reads_all_word = record {
-  read = refl;
-  statement = λ tree. refl;
-  formats = refl;
-  orders = λ tree. refl;
-  no_rowid = λ tree. refl;
-  few = λ at tree. refl;
-  some = λ at tree. refl;
-  tests = λ schema at tree is. refl;
-  sorts = λ schema at tree. refl;
-  shows = λ at tree params r. refl;
-  keyed = λ tree params r. refl;
-  compares = λ a b. refl;
-  accepted = λ schema at tree alone low. rw (low, alone) refl;
-}
-
-pub takes_all_word : Takes (list_text keyed.Word) read_all_word word [] (key_at 1 ∷ key_at 2 ∷ key_at 3 ∷ []) no_values
-unfolding everything read_all_word
-takes_all_word = record { whole = lit≤ tt; names = λ x. refl; typed = λ schema at tree alone low x. rw (low, alone) refl }
-
 unfoldable pub read_of_word : Parsed
 unfolding everything
 read_of_word = parsed_or (first (select_text keyed.Word))
@@ -140,32 +88,6 @@ takes_of_word = record { whole = lit≤ tt; names = λ x. refl; typed = λ schem
 
 pub is_of_word : (tree : ℕ) (n : ℤ) (row : Row) → passes (Int n ∷ []) test_edition row ≡ equals_number 1 n (shown (word tree) row)
 is_of_word tree n row = and_true _ ∙ equals_is (column row 1) n
-
-unfoldable pub read_all_gram : Parsed
-unfolding everything
-read_all_gram = parsed_or (first (list_text keyed.Gram))
-
-pub reads_all_gram : ReadsTable (list_text keyed.Gram) read_all_gram gram None [] 99999 (sort_by (codes "2") ∷ sort_by (codes "3") ∷ sort_by (codes "4") ∷ []) (key_at 1 ∷ key_at 2 ∷ key_at 3 ∷ []) (1 ∷ 2 ∷ 3 ∷ []) 99993 of_column
-unfolding everything read_all_gram rowid_expr rowid_shown all_shown source_of core_of select_of sort_by
-reads_all_gram = record {
-  read = refl;
-  statement = λ tree. refl;
-  formats = refl;
-  orders = λ tree. refl;
-  no_rowid = λ tree. refl;
-  few = λ at tree. refl;
-  some = λ at tree. refl;
-  tests = λ schema at tree is. refl;
-  sorts = λ schema at tree. refl;
-  shows = λ at tree params r. refl;
-  keyed = λ tree params r. refl;
-  compares = λ a b. refl;
-  accepted = λ schema at tree alone low. rw (low, alone) refl;
-}
-
-pub takes_all_gram : Takes (list_text keyed.Gram) read_all_gram gram [] (key_at 1 ∷ key_at 2 ∷ key_at 3 ∷ []) no_values
-unfolding everything read_all_gram
-takes_all_gram = record { whole = lit≤ tt; names = λ x. refl; typed = λ schema at tree alone low x. rw (low, alone) refl }
 
 unfoldable pub read_of_gram : Parsed
 unfolding everything

@@ -1,8 +1,7 @@
 -- What follows of rows that are read one at a time.
-use Rattle.std.proofs.Common.{◌≡◌, ◌++◌, ℕ, ℤ, List, [], ◌∷◌, Ok, Err, Some, None, Option, Result, IfOk, IfErr, OnOk, OnErr, IsTrue, option_map, inl, inr, refl, sym, ap, subst, arith}
-use Rattle.std.proofs.lemmas.Bool.{cases_Bool}
+use Rattle.std.proofs.Common.{◌≡◌, ◌++◌, List, [], ◌∷◌, Ok, Err, Some, None, Option, Result, IfOk, OnErr, IsTrue, inl, inr, refl, sym, ap, subst, arith}
 use Rattle.sqlite.specs.Order.{Row}
-use Rattle.sqlite.specs.declared.types.Value.TheVariants.{Int, Blob as Bytes}
+use Rattle.sqlite.specs.declared.types.Value.TheVariants.{Int}
 use Rattle.sqlite.specs.declared.error.Error.{Error}
 use Rattle.sqlite.specs.Schema.{Schema}
 use Rattle.sqlite.specs.Given.{Returns}
@@ -18,7 +17,7 @@ use Rattle.sqlite.proofs.Callers.{IsPlain, EndsIn, begins_shown, given_begin, be
 use Rattle.sqlite_trees.specs.declared.store.Store.{Ghosts}
 use Rattle.sqlite_resolve.specs.declared.compiled.Compiled.{Compiled}
 use Rattle.dict_sql.specs.Columns.{Content}
-use Rattle.dict_sql.specs.Effects.{Has, WhileOpen}
+use Rattle.dict_sql.specs.Effects.{WhileOpen}
 use Rattle.dict_sql.specs.Reads.{FailsToRead}
 use Rattle.dict_sql.specs.Streams.{IsNotBegun, FailsToMove}
 use Rattle.dict_sql.specs.declared.records.ReadError.{ReadError}
@@ -26,158 +25,85 @@ use Rattle.dict_sql.specs.declared.records.ReadError.TheVariants.{NoRecord, Stor
 use Rattle.dict_sql.proofs.Callers.{still_has}
 use Rattle.dict_sql.proofs.ListingLemmas.{shown_selects, reads_plain}
 use Rattle.dict_sql.proofs.ReadFaults.{a_number, nothing, ends_at, fails_read}
-use Rattle.dict_sql.proofs.SilentLemmas.{commits_none, never_returns, shut_query}
+use Rattle.dict_sql.proofs.SilentLemmas.{commits_none, never_returns}
 use Rattle.dict_sql.proofs.StreamLemmas.{still}
 use Rattle.dict_tables.specs.Keyed.{entry, old_entry, word, gram}
-use Rattle.dict_keyed_sql.specs.Texts.{list_text, rowid_text, select_text, key_text, range_text, reversed_text, word_text, gram_text}
+use Rattle.dict_keyed_sql.specs.Texts.{rowid_text, select_text}
 use Rattle.dict_keyed_sql.specs.Scans.{Scan, HasScanTables, scan_table, scan_text, scan_values, scan_test, IsWhole, IsFront, HasGiven, GivesOn, FailsToGive}
-use Rattle.dict_keyed_sql.specs.Scans.Scan.{All, ByRowid, Of, OldByRowid, OldOf, WithKey, Between, BetweenReversed, WithWord, WithGrams}
+use Rattle.dict_keyed_sql.specs.Scans.Scan.{ByRowid, Of, OldByRowid, OldOf}
 use Rattle.dict_tables.specs.declared.keyed.KeyedTable.TheVariants as keyed
-use Rattle.dict_keyed_sql.proofs.GramAnswers.{gram_answers, asked_grams, gram_names, asks_grams}
-use Rattle.dict_keyed_sql.proofs.GramTexts.{gram_select, read_gram_text, reads_gram_text}
-use Rattle.dict_keyed_sql.proofs.JoinFaults.{asks_plain, asks_ends, asks_answer, asks_fails}
-use Rattle.dict_keyed_sql.proofs.KeyTexts.{a_key, a_range, read_by_key, reads_by_key, takes_by_key, is_with_key, read_by_range, reads_by_range, takes_by_range, is_in_range, read_by_reversed, reads_by_reversed, takes_by_reversed, is_in_reversed_range}
 use Rattle.dict_keyed_sql.proofs.OldTexts.{read_old_of, reads_old_of, takes_old_of, is_old_of, read_old_by_rowid, reads_old_by_rowid, takes_old_by_rowid}
-use Rattle.dict_keyed_sql.proofs.ReadTexts.{read_all_entry, reads_all_entry, takes_all_entry, read_of_entry, reads_of_entry, takes_of_entry, is_of_entry, read_all_word, reads_all_word, takes_all_word, read_of_word, reads_of_word, takes_of_word, is_of_word, read_all_gram, reads_all_gram, takes_all_gram, read_of_gram, reads_of_gram, takes_of_gram, is_of_gram}
+use Rattle.dict_keyed_sql.proofs.ReadTexts.{read_of_entry, reads_of_entry, takes_of_entry, is_of_entry, read_of_word, reads_of_word, takes_of_word, is_of_word, read_of_gram, reads_of_gram, takes_of_gram, is_of_gram}
 use Rattle.dict_keyed_sql.proofs.RowidTexts.{read_entry_by_rowid, reads_entry_by_rowid, takes_entry_by_rowid, read_word_by_rowid, reads_word_by_rowid, takes_word_by_rowid, read_gram_by_rowid, reads_gram_by_rowid, takes_gram_by_rowid}
-use Rattle.dict_keyed_sql.proofs.WordAnswers.{word_answers, asked_word, word_names, asks_word}
-use Rattle.dict_keyed_sql.proofs.WordTexts.{word_select, read_word_text, reads_word_text}
 
 shows : (what : Scan) (old new : State) (rows : List Row) → HasScanTables what old.now → Shown (scan_text what) (scan_values what) old new rows → IsWhole what old.now rows
-shows (All keyed.Entry) old new rows has h = (shown_selects (list_text keyed.Entry) read_all_entry entry _ _ _ _ _ _ _ _ reads_all_entry (λ tree. refl) [] (scan_test (All keyed.Entry)) (λ tree row. refl) old new rows has h).0
 shows (ByRowid keyed.Entry) old new rows has h = (shown_selects (rowid_text keyed.Entry) read_entry_by_rowid entry _ _ _ _ _ _ _ _ reads_entry_by_rowid (λ tree. refl) [] (scan_test (ByRowid keyed.Entry)) (λ tree row. refl) old new rows has h).0
 shows OldByRowid old new rows has h = (shown_selects (rowid_text keyed.Entry) read_old_by_rowid old_entry _ _ _ _ _ _ _ _ reads_old_by_rowid (λ tree. refl) [] (scan_test OldByRowid) (λ tree row. refl) old new rows has h).0
 shows (Of keyed.Entry n) old new rows has h = (shown_selects (select_text keyed.Entry) read_of_entry entry _ _ _ _ _ _ _ _ reads_of_entry (λ tree. refl) (Int n ∷ []) (scan_test (Of keyed.Entry n)) (λ tree row. is_of_entry tree n row) old new rows has h).0
 shows (OldOf n) old new rows has h = (shown_selects (select_text keyed.Entry) read_old_of old_entry _ _ _ _ _ _ _ _ reads_old_of (λ tree. refl) (Int n ∷ []) (scan_test (OldOf n)) (λ tree row. is_old_of tree n row) old new rows has h).0
-shows (All keyed.Word) old new rows has h = (shown_selects (list_text keyed.Word) read_all_word word _ _ _ _ _ _ _ _ reads_all_word (λ tree. refl) [] (scan_test (All keyed.Word)) (λ tree row. refl) old new rows has h).0
 shows (ByRowid keyed.Word) old new rows has h = (shown_selects (rowid_text keyed.Word) read_word_by_rowid word _ _ _ _ _ _ _ _ reads_word_by_rowid (λ tree. refl) [] (scan_test (ByRowid keyed.Word)) (λ tree row. refl) old new rows has h).0
 shows (Of keyed.Word n) old new rows has h = (shown_selects (select_text keyed.Word) read_of_word word _ _ _ _ _ _ _ _ reads_of_word (λ tree. refl) (Int n ∷ []) (scan_test (Of keyed.Word n)) (λ tree row. is_of_word tree n row) old new rows has h).0
-shows (All keyed.Gram) old new rows has h = (shown_selects (list_text keyed.Gram) read_all_gram gram _ _ _ _ _ _ _ _ reads_all_gram (λ tree. refl) [] (scan_test (All keyed.Gram)) (λ tree row. refl) old new rows has h).0
 shows (ByRowid keyed.Gram) old new rows has h = (shown_selects (rowid_text keyed.Gram) read_gram_by_rowid gram _ _ _ _ _ _ _ _ reads_gram_by_rowid (λ tree. refl) [] (scan_test (ByRowid keyed.Gram)) (λ tree row. refl) old new rows has h).0
 shows (Of keyed.Gram n) old new rows has h = (shown_selects (select_text keyed.Gram) read_of_gram gram _ _ _ _ _ _ _ _ reads_of_gram (λ tree. refl) (Int n ∷ []) (scan_test (Of keyed.Gram n)) (λ tree row. is_of_gram tree n row) old new rows has h).0
-shows (WithKey n key) old new rows has h = (shown_selects key_text read_by_key entry _ _ _ _ _ _ _ _ reads_by_key (λ tree. refl) (Int n ∷ Bytes key ∷ []) (scan_test (WithKey n key)) (λ tree row. is_with_key tree n key row) old new rows has h).0
-shows (Between n low high) old new rows has h = (shown_selects range_text read_by_range entry _ _ _ _ _ _ _ _ reads_by_range (λ tree. refl) (Int n ∷ Bytes low ∷ Bytes high ∷ []) (scan_test (Between n low high)) (λ tree row. is_in_range tree n low high row) old new rows has h).0
-shows (BetweenReversed n low high) old new rows has h = (shown_selects reversed_text read_by_reversed entry _ _ _ _ _ _ _ _ reads_by_reversed (λ tree. refl) (Int n ∷ Bytes low ∷ Bytes high ∷ []) (scan_test (BetweenReversed n low high)) (λ tree row. is_in_reversed_range tree n low high row) old new rows has h).0
-shows (WithWord n w) old new rows has h = word_answers old.now.schema has.0.0 has.0.1 has.0.2 has.1.0 has.1.1 has.1.2 n w old.now.trees rows (asks_answer word_text read_word_text (asked_word old.now has.0 has.1) (word_names old.now has.0 has.1) (Int n ∷ Bytes w ∷ []) old new (asks_word old.now has.0 has.1 n w) rows h)
-shows (WithGrams n a b) old new rows has h = gram_answers old.now.schema has.0.0 has.0.1 has.0.2 has.1.0 has.1.1 has.1.2 n a b old.now.trees rows (asks_answer gram_text read_gram_text (asked_grams old.now has.0 has.1) (gram_names old.now has.0 has.1) (Int n ∷ Bytes a ∷ Bytes b ∷ []) old new (asks_grams old.now has.0 has.1 n a b) rows h)
 
 plainly : (what : Scan) (db : Database) → HasScanTables what db → IsPlain (understood db.schema (scan_text what))
-plainly (All keyed.Entry) db has = reads_plain (list_text keyed.Entry) read_all_entry entry _ _ _ _ _ _ _ _ reads_all_entry db.schema has.0 has.1 has.2
 plainly (ByRowid keyed.Entry) db has = reads_plain (rowid_text keyed.Entry) read_entry_by_rowid entry _ _ _ _ _ _ _ _ reads_entry_by_rowid db.schema has.0 has.1 has.2
 plainly OldByRowid db has = reads_plain (rowid_text keyed.Entry) read_old_by_rowid old_entry _ _ _ _ _ _ _ _ reads_old_by_rowid db.schema has.0 has.1 has.2
 plainly (Of keyed.Entry n) db has = reads_plain (select_text keyed.Entry) read_of_entry entry _ _ _ _ _ _ _ _ reads_of_entry db.schema has.0 has.1 has.2
 plainly (OldOf n) db has = reads_plain (select_text keyed.Entry) read_old_of old_entry _ _ _ _ _ _ _ _ reads_old_of db.schema has.0 has.1 has.2
-plainly (All keyed.Word) db has = reads_plain (list_text keyed.Word) read_all_word word _ _ _ _ _ _ _ _ reads_all_word db.schema has.0 has.1 has.2
 plainly (ByRowid keyed.Word) db has = reads_plain (rowid_text keyed.Word) read_word_by_rowid word _ _ _ _ _ _ _ _ reads_word_by_rowid db.schema has.0 has.1 has.2
 plainly (Of keyed.Word n) db has = reads_plain (select_text keyed.Word) read_of_word word _ _ _ _ _ _ _ _ reads_of_word db.schema has.0 has.1 has.2
-plainly (All keyed.Gram) db has = reads_plain (list_text keyed.Gram) read_all_gram gram _ _ _ _ _ _ _ _ reads_all_gram db.schema has.0 has.1 has.2
 plainly (ByRowid keyed.Gram) db has = reads_plain (rowid_text keyed.Gram) read_gram_by_rowid gram _ _ _ _ _ _ _ _ reads_gram_by_rowid db.schema has.0 has.1 has.2
 plainly (Of keyed.Gram n) db has = reads_plain (select_text keyed.Gram) read_of_gram gram _ _ _ _ _ _ _ _ reads_of_gram db.schema has.0 has.1 has.2
-plainly (WithKey n key) db has = reads_plain key_text read_by_key entry _ _ _ _ _ _ _ _ reads_by_key db.schema has.0 has.1 has.2
-plainly (Between n low high) db has = reads_plain range_text read_by_range entry _ _ _ _ _ _ _ _ reads_by_range db.schema has.0 has.1 has.2
-plainly (BetweenReversed n low high) db has = reads_plain reversed_text read_by_reversed entry _ _ _ _ _ _ _ _ reads_by_reversed db.schema has.0 has.1 has.2
-plainly (WithWord n w) db has = asks_plain word_text read_word_text (asked_word db has.0 has.1) (word_names db has.0 has.1) (Int n ∷ Bytes w ∷ []) db (asks_word db has.0 has.1 n w)
-plainly (WithGrams n a b) db has = asks_plain gram_text read_gram_text (asked_grams db has.0 has.1) (gram_names db has.0 has.1) (Int n ∷ Bytes a ∷ Bytes b ∷ []) db (asks_grams db has.0 has.1 n a b)
 
 ends : (what : Scan) (now : Database) → HasScanTables what now → (c : Compiled) → understood now.schema (scan_text what) ≡ Ok c → (db : Database) (params : Row) → EndsIn c.command db params
-ends (All keyed.Entry) now has = ends_at (list_text keyed.Entry) read_all_entry entry _ _ _ _ _ _ _ _ reads_all_entry now.schema has
 ends (ByRowid keyed.Entry) now has = ends_at (rowid_text keyed.Entry) read_entry_by_rowid entry _ _ _ _ _ _ _ _ reads_entry_by_rowid now.schema has
 ends OldByRowid now has = ends_at (rowid_text keyed.Entry) read_old_by_rowid old_entry _ _ _ _ _ _ _ _ reads_old_by_rowid now.schema has
 ends (Of keyed.Entry n) now has = ends_at (select_text keyed.Entry) read_of_entry entry _ _ _ _ _ _ _ _ reads_of_entry now.schema has
 ends (OldOf n) now has = ends_at (select_text keyed.Entry) read_old_of old_entry _ _ _ _ _ _ _ _ reads_old_of now.schema has
-ends (All keyed.Word) now has = ends_at (list_text keyed.Word) read_all_word word _ _ _ _ _ _ _ _ reads_all_word now.schema has
 ends (ByRowid keyed.Word) now has = ends_at (rowid_text keyed.Word) read_word_by_rowid word _ _ _ _ _ _ _ _ reads_word_by_rowid now.schema has
 ends (Of keyed.Word n) now has = ends_at (select_text keyed.Word) read_of_word word _ _ _ _ _ _ _ _ reads_of_word now.schema has
-ends (All keyed.Gram) now has = ends_at (list_text keyed.Gram) read_all_gram gram _ _ _ _ _ _ _ _ reads_all_gram now.schema has
 ends (ByRowid keyed.Gram) now has = ends_at (rowid_text keyed.Gram) read_gram_by_rowid gram _ _ _ _ _ _ _ _ reads_gram_by_rowid now.schema has
 ends (Of keyed.Gram n) now has = ends_at (select_text keyed.Gram) read_of_gram gram _ _ _ _ _ _ _ _ reads_of_gram now.schema has
-ends (WithKey n key) now has = ends_at key_text read_by_key entry _ _ _ _ _ _ _ _ reads_by_key now.schema has
-ends (Between n low high) now has = ends_at range_text read_by_range entry _ _ _ _ _ _ _ _ reads_by_range now.schema has
-ends (BetweenReversed n low high) now has = ends_at reversed_text read_by_reversed entry _ _ _ _ _ _ _ _ reads_by_reversed now.schema has
-ends (WithWord n w) now has = asks_ends word_text read_word_text (asked_word now has.0 has.1) (word_names now has.0 has.1) (Int n ∷ Bytes w ∷ []) now (asks_word now has.0 has.1 n w)
-ends (WithGrams n a b) now has = asks_ends gram_text read_gram_text (asked_grams now has.0 has.1) (gram_names now has.0 has.1) (Int n ∷ Bytes a ∷ Bytes b ∷ []) now (asks_grams now has.0 has.1 n a b)
-
-module _ (old new : State) where
-  word_fails : (IsTrue old.is_open → Has word old.now × Has entry old.now) → (n : ℤ) (w : List ℕ) (e : Error) → FailsToQuery word_text (Int n ∷ Bytes w ∷ []) old new e → FailsToRead old new e
-  word_fails has n w e h = elim (cases_Bool old.is_open) [
-    | inl open' ↦ (let both = has open' in asks_fails word_text read_word_text (asked_word old.now both.0 both.1) (word_names old.now both.0 both.1) (Int n ∷ Bytes w ∷ []) old new (asks_word old.now both.0 both.1 n w) e h)
-    | inr shut ↦ shut_query word_text read_word_text word_select reads_word_text.read reads_word_text.statement old new (Int n ∷ Bytes w ∷ []) e shut h
-  ]
-
-  grams_fail : (IsTrue old.is_open → Has gram old.now × Has entry old.now) → (n : ℤ) (a b : List ℕ) (e : Error) → FailsToQuery gram_text (Int n ∷ Bytes a ∷ Bytes b ∷ []) old new e → FailsToRead old new e
-  grams_fail has n a b e h = elim (cases_Bool old.is_open) [
-    | inl open' ↦ (let both = has open' in asks_fails gram_text read_gram_text (asked_grams old.now both.0 both.1) (gram_names old.now both.0 both.1) (Int n ∷ Bytes a ∷ Bytes b ∷ []) old new (asks_grams old.now both.0 both.1 n a b) e h)
-    | inr shut ↦ shut_query gram_text read_gram_text gram_select reads_gram_text.read reads_gram_text.statement old new (Int n ∷ Bytes a ∷ Bytes b ∷ []) e shut h
-  ]
 
 pub fails_to_read : (what : Scan) (old new : State) → (IsTrue old.is_open → HasScanTables what old.now) → (e : Error) → FailsToQuery (scan_text what) (scan_values what) old new e → FailsToRead old new e
-fails_to_read (All keyed.Entry) old new has = fails_read (list_text keyed.Entry) read_all_entry entry _ _ _ _ _ _ _ _ reads_all_entry nothing takes_all_entry tt old new has
 fails_to_read (ByRowid keyed.Entry) old new has = fails_read (rowid_text keyed.Entry) read_entry_by_rowid entry _ _ _ _ _ _ _ _ reads_entry_by_rowid nothing takes_entry_by_rowid tt old new has
 fails_to_read OldByRowid old new has = fails_read (rowid_text keyed.Entry) read_old_by_rowid old_entry _ _ _ _ _ _ _ _ reads_old_by_rowid nothing takes_old_by_rowid tt old new has
 fails_to_read (Of keyed.Entry n) old new has = fails_read (select_text keyed.Entry) read_of_entry entry _ _ _ _ _ _ _ _ reads_of_entry a_number takes_of_entry n old new has
 fails_to_read (OldOf n) old new has = fails_read (select_text keyed.Entry) read_old_of old_entry _ _ _ _ _ _ _ _ reads_old_of a_number takes_old_of n old new has
-fails_to_read (All keyed.Word) old new has = fails_read (list_text keyed.Word) read_all_word word _ _ _ _ _ _ _ _ reads_all_word nothing takes_all_word tt old new has
 fails_to_read (ByRowid keyed.Word) old new has = fails_read (rowid_text keyed.Word) read_word_by_rowid word _ _ _ _ _ _ _ _ reads_word_by_rowid nothing takes_word_by_rowid tt old new has
 fails_to_read (Of keyed.Word n) old new has = fails_read (select_text keyed.Word) read_of_word word _ _ _ _ _ _ _ _ reads_of_word a_number takes_of_word n old new has
-fails_to_read (All keyed.Gram) old new has = fails_read (list_text keyed.Gram) read_all_gram gram _ _ _ _ _ _ _ _ reads_all_gram nothing takes_all_gram tt old new has
 fails_to_read (ByRowid keyed.Gram) old new has = fails_read (rowid_text keyed.Gram) read_gram_by_rowid gram _ _ _ _ _ _ _ _ reads_gram_by_rowid nothing takes_gram_by_rowid tt old new has
 fails_to_read (Of keyed.Gram n) old new has = fails_read (select_text keyed.Gram) read_of_gram gram _ _ _ _ _ _ _ _ reads_of_gram a_number takes_of_gram n old new has
-fails_to_read (WithKey n key) old new has = fails_read key_text read_by_key entry _ _ _ _ _ _ _ _ reads_by_key a_key takes_by_key (n, key) old new has
-fails_to_read (Between n low high) old new has = fails_read range_text read_by_range entry _ _ _ _ _ _ _ _ reads_by_range a_range takes_by_range (n, low, high) old new has
-fails_to_read (BetweenReversed n low high) old new has = fails_read reversed_text read_by_reversed entry _ _ _ _ _ _ _ _ reads_by_reversed a_range takes_by_reversed (n, low, high) old new has
-fails_to_read (WithWord n w) old new has = word_fails old new has n w
-fails_to_read (WithGrams n a b) old new has = grams_fail old new has n a b
 
 none_committed : (what : Scan) (params : Row) (s : State) (db : Trees) → ¬ CommitsShowing (scan_text what) params s db
-none_committed (All keyed.Entry) = commits_none (list_text keyed.Entry) read_all_entry _ reads_all_entry.read (reads_all_entry.statement 0)
 none_committed (ByRowid keyed.Entry) = commits_none (rowid_text keyed.Entry) read_entry_by_rowid _ reads_entry_by_rowid.read (reads_entry_by_rowid.statement 0)
 none_committed OldByRowid = commits_none (rowid_text keyed.Entry) read_old_by_rowid _ reads_old_by_rowid.read (reads_old_by_rowid.statement 0)
 none_committed (Of keyed.Entry n) = commits_none (select_text keyed.Entry) read_of_entry _ reads_of_entry.read (reads_of_entry.statement 0)
 none_committed (OldOf n) = commits_none (select_text keyed.Entry) read_old_of _ reads_old_of.read (reads_old_of.statement 0)
-none_committed (All keyed.Word) = commits_none (list_text keyed.Word) read_all_word _ reads_all_word.read (reads_all_word.statement 0)
 none_committed (ByRowid keyed.Word) = commits_none (rowid_text keyed.Word) read_word_by_rowid _ reads_word_by_rowid.read (reads_word_by_rowid.statement 0)
 none_committed (Of keyed.Word n) = commits_none (select_text keyed.Word) read_of_word _ reads_of_word.read (reads_of_word.statement 0)
-none_committed (All keyed.Gram) = commits_none (list_text keyed.Gram) read_all_gram _ reads_all_gram.read (reads_all_gram.statement 0)
 none_committed (ByRowid keyed.Gram) = commits_none (rowid_text keyed.Gram) read_gram_by_rowid _ reads_gram_by_rowid.read (reads_gram_by_rowid.statement 0)
 none_committed (Of keyed.Gram n) = commits_none (select_text keyed.Gram) read_of_gram _ reads_of_gram.read (reads_of_gram.statement 0)
-none_committed (WithKey n key) = commits_none key_text read_by_key _ reads_by_key.read (reads_by_key.statement 0)
-none_committed (Between n low high) = commits_none range_text read_by_range _ reads_by_range.read (reads_by_range.statement 0)
-none_committed (BetweenReversed n low high) = commits_none reversed_text read_by_reversed _ reads_by_reversed.read (reads_by_reversed.statement 0)
-none_committed (WithWord n w) = commits_none word_text read_word_text word_select reads_word_text.read reads_word_text.statement
-none_committed (WithGrams n a b) = commits_none gram_text read_gram_text gram_select reads_gram_text.read reads_gram_text.statement
 
 none_returned : (what : Scan) (schema : Schema) → ¬ Returns (understood schema (scan_text what))
-none_returned (All keyed.Entry) = never_returns (list_text keyed.Entry) read_all_entry _ reads_all_entry.read (reads_all_entry.statement 0)
 none_returned (ByRowid keyed.Entry) = never_returns (rowid_text keyed.Entry) read_entry_by_rowid _ reads_entry_by_rowid.read (reads_entry_by_rowid.statement 0)
 none_returned OldByRowid = never_returns (rowid_text keyed.Entry) read_old_by_rowid _ reads_old_by_rowid.read (reads_old_by_rowid.statement 0)
 none_returned (Of keyed.Entry n) = never_returns (select_text keyed.Entry) read_of_entry _ reads_of_entry.read (reads_of_entry.statement 0)
 none_returned (OldOf n) = never_returns (select_text keyed.Entry) read_old_of _ reads_old_of.read (reads_old_of.statement 0)
-none_returned (All keyed.Word) = never_returns (list_text keyed.Word) read_all_word _ reads_all_word.read (reads_all_word.statement 0)
 none_returned (ByRowid keyed.Word) = never_returns (rowid_text keyed.Word) read_word_by_rowid _ reads_word_by_rowid.read (reads_word_by_rowid.statement 0)
 none_returned (Of keyed.Word n) = never_returns (select_text keyed.Word) read_of_word _ reads_of_word.read (reads_of_word.statement 0)
-none_returned (All keyed.Gram) = never_returns (list_text keyed.Gram) read_all_gram _ reads_all_gram.read (reads_all_gram.statement 0)
 none_returned (ByRowid keyed.Gram) = never_returns (rowid_text keyed.Gram) read_gram_by_rowid _ reads_gram_by_rowid.read (reads_gram_by_rowid.statement 0)
 none_returned (Of keyed.Gram n) = never_returns (select_text keyed.Gram) read_of_gram _ reads_of_gram.read (reads_of_gram.statement 0)
-none_returned (WithKey n key) = never_returns key_text read_by_key _ reads_by_key.read (reads_by_key.statement 0)
-none_returned (Between n low high) = never_returns range_text read_by_range _ reads_by_range.read (reads_by_range.statement 0)
-none_returned (BetweenReversed n low high) = never_returns reversed_text read_by_reversed _ reads_by_reversed.read (reads_by_reversed.statement 0)
-none_returned (WithWord n w) = never_returns word_text read_word_text word_select reads_word_text.read reads_word_text.statement
-none_returned (WithGrams n a b) = never_returns gram_text read_gram_text gram_select reads_gram_text.read reads_gram_text.statement
 
 commits_nothing : (what : Scan) (old new : State) → Survives old new (CommitsShowing (scan_text what) (scan_values what) old) → Survives old new (λ _. ⊥)
 commits_nothing what old new s = survives_weaker old new _ _ (λ clean db. none_committed what (scan_values what) old db) s
 
 tables_stay : (what : Scan) (old new : Database) → new.schema ≡ old.schema → HasScanTables what old → HasScanTables what new
-tables_stay (All t) old new same has = still_has (scan_table (All t)) old new same has
 tables_stay (ByRowid t) old new same has = still_has (scan_table (ByRowid t)) old new same has
 tables_stay (Of t n) old new same has = still_has (scan_table (Of t n)) old new same has
-tables_stay (WithKey n key) old new same has = still_has entry old new same has
 tables_stay OldByRowid old new same has = still_has old_entry old new same has
 tables_stay (OldOf n) old new same has = still_has old_entry old new same has
-tables_stay (Between n low high) old new same has = still_has entry old new same has
-tables_stay (BetweenReversed n low high) old new same has = still_has entry old new same has
-tables_stay (WithWord n w) old new same has = (still_has word old new same has.0, still_has entry old new same has.1)
-tables_stay (WithGrams n a b) old new same has = (still_has gram old new same has.0, still_has entry old new same has.1)
 
 module _ {S : Type 0} (g : Ghosts S) (what : Scan) where
   has_later : (old new : Held S) → IsUnchanged (state g old) (state g new) → HasScanTables what (state g old).now → HasScanTables what (state g new).now
@@ -229,16 +155,3 @@ module _ {S : Type 0} (g : Ghosts S) (what : Scan) (old : Held S) (has : WhileOp
   not_begun (Err e) last h =
       let alone = commits_nothing what (state g old) (state g last) h.survives in
       record { failed = λ clean. fails_to_read what (state g old) (state g last) (has (omega (arith, alone.clean, clean))) e (h.err clean); mode = h.mode; survives = alone }
-
--- ---- whatever is read
-
-module _ {S : Type 0} (g : Ghosts S) (old new : Held S) where
-  pub all_given : {R : Type 0} (stored : R → Row) (result : Result (Option R) ReadError) → OnOk result (IsUnchanged (state g old) (state g new)) → IfOk result (λ r. kit.Advances g old new (option_map stored r))
-      → IfOk result (λ r. (what : Scan) (given : List Row) → HasGiven g what old given → GivesOn g what new given (option_map stored r))
-  all_given stored (Err e) same moved = tt
-  all_given stored (Ok r) same moved = λ what given h. gives_on g what old new given (option_map stored r) same h moved
-
-  pub all_failed : {R : Type 0} (columns : List Content) (result : Result (Option R) ReadError) → IfErr result (FailsToMove g columns old new)
-      → IfErr result (λ e. (what : Scan) (given : List Row) → HasGiven g what old given → FailsToGive g columns what old new given e)
-  all_failed columns (Ok r) stopped = tt
-  all_failed columns (Err e) stopped = λ what given h. fails_to_give g what columns old new given e h stopped

@@ -1,6 +1,6 @@
 //! The table `entry` as schemas 2 and 3 have it: recognised, and read row by row.
 
-ghost use Rattle.std.specs.Prelude.{true, ◌≡◌, ◌∷◌, [], codes, IsTrue, ◌↔◌, false, IfOk, List};
+ghost use Rattle.std.specs.Prelude.{true, ◌≡◌, ◌∷◌, [], codes, IsTrue, ◌↔◌, false, IfOk};
 ghost use Rattle.std.specs.Borrow.{sem, RestsIfErr};
 ghost use Rattle.sqlite.specs.Kind.TheVariants.{Integer, Blob};
 ghost use Rattle.sqlite.specs.State.{HasCleanDisk, IsUnchanged, Survives};

@@ -1,5 +1,5 @@
 -- What a dropped table frees.
-use Rattle.std.proofs.Common.{◌≡◌, ◌==◌, ◌&&◌, ◌||◌, ◌+◌, ℕ, zero, suc, Bool, true, false, not, List, [], ◌∷◌, map, filter, find, Some, slice_get, refl, sym, ap, subst, ◌∙◌, inl, inr, arith}
+use Rattle.std.proofs.Common.{◌≡◌, ◌==◌, ◌&&◌, ◌||◌, ◌+◌, ℕ, zero, suc, Bool, true, false, not, List, [], ◌∷◌, map, filter, Some, slice_get, refl, sym, ap, subst, ◌∙◌, inl, inr, arith}
 use Rattle.std.proofs.lemmas.Bool.{cases_Bool, or_parts, or_cases, or_from, or_left, or_right}
 use Rattle.std.specs.List.{AllByRecursion, list_any}
 use Rattle.sqlite.specs.Effect.{Database, IsDatabase}
@@ -12,19 +12,16 @@ use Rattle.sqlite_schema.specs.Names.{same_name}
 use Rattle.sqlite_schema.specs.declared.schema.Index.{Index}
 use Rattle.sqlite_schema.specs.declared.schema.View.{View as Stored}
 use Rattle.sqlite_catalog.specs.Listing.{automatic, IsGuarded}
-use Rattle.sqlite_catalog.proofs.ListFacts.{filter_within}
 use Rattle.sqlite_catalog.proofs.StepLemmas.{named_once, same_itself}
 use Rattle.dict_tables.specs.Definitions.{IsDefinition, names_of}
 use Rattle.dict_tables.specs.Found.{HasOwn}
 use Rattle.dict_tables.specs.Room.{LeavesRoom, is_referred}
 use Rattle.dict_tables.proofs.MadeLemmas.{name_in, tree_in}
-use Rattle.dict_tables.proofs.PlaceLemmas.{found as found_at}
 use Rattle.dict_sql.specs.Drops.{IsDropped}
 use Rattle.dict_sql.proofs.DroppedLemmas.{own_in, drop_unreferred}
 use Rattle.dict_tables.specs.OwnNames.{is_own_name}
-use Rattle.dict_tables.specs.Indexes.{found_index}
 use Rattle.dict_migration_sql.proofs.ApartLemmas.{any_none, same_through, other_through, listed, table_index, table_view, index_view, index_index}
-use Rattle.dict_tables.proofs.UsedLemmas.{in_lists, used_is, gone_any, kept_any, none_any, any_map, and_false, and_true, find_kept}
+use Rattle.dict_tables.proofs.UsedLemmas.{in_lists, used_is, gone_any, kept_any, none_any, any_map, and_false, and_true}
 
 equal_is : (n m : ℕ) → (n == m) ≡ true → n ≡ m
 equal_is n m e = search arith
@@ -38,9 +35,6 @@ not_false false e = absurd (let h = e in cc)
 
 gone_is : (b : Bool) → b ≡ true → not b ≡ false
 gone_is b e = ap not e
-
-differs : (n m : ℕ) → (n ≡ m → ⊥) → not (n == m) ≡ true
-differs n m other = elim (cases_Bool (n == m)) [ inl same ↦ absurd (other (equal_is n m same)) | inr away ↦ ap not away ]
 
 module _ (db : Database) (whole : IsDatabase db) (table : ℕ → Table) (defined : IsDefinition table) (own : HasOwn db.schema table) where
   abbrev it : Table
@@ -186,20 +180,3 @@ module _ (table : ℕ → Table) (defined : IsDefinition table) (old new : Datab
       first_of_all : List (List ℕ) → List ℕ
       first_of_all [] = []
       first_of_all (n ∷ ns) = n
-
-  pub index_still : (name : List ℕ) (index : Index) → found_index old.schema name ≡ Some index → (index.table ≡ (table own.tree).tree → ⊥) → found_index new.schema name ≡ Some index
-  index_still name index is other =
-      let was : find (λ (i : Index). same_name i.name name) old.schema.indexes ≡ Some index = sym (found_at (λ (i : Index). same_name i.name name) old.schema.indexes) ∙ is in
-      ap (λ (s : Schema). found_index s name) schema_is
-      ∙ found_at (λ (i : Index). same_name i.name name) (filter (λ (i : Index). not (i.table == (table own.tree).tree)) old.schema.indexes)
-      ∙ find_kept (λ (i : Index). same_name i.name name) (λ (i : Index). not (i.table == (table own.tree).tree)) old.schema.indexes index was (differs index.table (table own.tree).tree other)
-
--- ---- the names of the others stay theirs
-
-module _ (table : ℕ → Table) (defined : IsDefinition table) (old new : Database) (dropped : IsDropped (table 0).name old new) (own : HasOwn old.schema table) where
-  pub still_own : (other : Table) → (other.tree ≡ (table own.tree).tree → ⊥) → (name : List ℕ) → is_own_name new.schema other name ≡ is_own_name old.schema other name
-  still_own other apart name =
-      ap (λ (s : Schema). is_own_name s other name) (dropped.schema (table own.tree) (own_in table defined old own))
-      ∙ ap (λ (is : List Index). list_any (λ n. same_name n name) (other.name ∷ map (λ (i : Index). i.name) is))
-      (filter_within (λ (i : Index). i.table == other.tree) (λ (i : Index). not (i.table == (table own.tree).tree)) old.schema.indexes
-      (λ i h here. differs i.table (table own.tree).tree (λ same. apart (sym (equal_is i.table other.tree here) ∙ same))))

@@ -1,7 +1,5 @@
-pub mod HelperTexts
 pub mod EntryTexts
 pub mod ApartLemmas
 pub mod FreedLemmas
 pub mod CopyLemmas
 pub mod DefinitionLemmas
-pub mod GoneLemmas

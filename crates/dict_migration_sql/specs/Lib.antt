@@ -1,3 +1,1 @@
-pub mod Helper
 pub mod Entries
-pub mod Copied

@@ -1,35 +1,24 @@
 //! Laws of tables and of names: each function does nothing, and its contract is the law.
 
-ghost use Rattle.std.specs.Prelude.{◌≡◌, ◌&&◌, ℕ, List, [], ◌∷◌, codes, Some, not, true, false};
+ghost use Rattle.std.specs.Prelude.{◌≡◌, ◌&&◌, ℕ, List, not, true, false};
 ghost use Rattle.std.specs.List.{list_any};
 ghost use Rattle.sqlite.specs.Effect.{Database, IsDatabase};
-ghost use Rattle.sqlite.specs.Schema.{Schema};
 ghost use Rattle.sqlite.specs.Table.{Table};
 ghost use Rattle.sqlite.specs.Change.{is_used};
 ghost use Rattle.sqlite_schema.specs.Names.{same_name};
 ghost use Rattle.sqlite_schema.specs.declared.schema.Index.{Index};
 ghost use Rattle.sqlite_rules.specs.Lists.{Has as In};
-ghost use Rattle.dict_tables.specs.Definitions.{IsDefinition, are_named_apart, names_of};
-ghost use Rattle.dict_tables.specs.Behind.{without_trees};
-ghost use Rattle.dict_tables.specs.Keyed.{helper, table_of, word, gram};
-ghost use Rattle.dict_tables.specs.Tables as store;
-ghost use Rattle.dict_tables.specs.declared.keyed.KeyedTable.{KeyedTable};
-ghost use Rattle.dict_tables.specs.declared.tables.StoreTable.{StoreTable};
-ghost use Rattle.dict_tables.specs.Found.{HasOwn, found_table};
+ghost use Rattle.dict_tables.specs.Definitions.{IsDefinition, names_of};
+ghost use Rattle.dict_tables.specs.Found.{HasOwn};
 ghost use Rattle.dict_tables.specs.Room.{LeavesRoom};
 ghost use Rattle.dict_sql.specs.Drops.{IsDropped};
-ghost use Rattle.dict_tables.specs.Indexes.{found_index};
 ghost use Rattle.dict_tables.specs.OwnNames.{is_own_name};
 ghost use Rattle.dict_migration_sql.specs.Entries.{entry_of};
 ghost use Rattle.dict_migration_sql.specs.declared.entries.EntryForm.{EntryForm};
 
-/// Each form of `entry`, and the helper, is defined for whichever tree it is made in, so that the laws of what is made and dropped hold of it; and the helper takes no name of another of the product's tables, nor one of them a name of the helper.
+/// Each form of `entry` is defined for whichever tree it is made in, so that the laws of what is made and dropped hold of it.
 pub fn definition_laws()
     ensures forms { (form : EntryForm) → IsDefinition (entry_of form) }
-    ensures helper { IsDefinition helper }
-    ensures beside { (form : EntryForm) → (are_named_apart (helper 0) (entry_of form 0) ≡ true) × (are_named_apart (entry_of form 0) (helper 0) ≡ true) }
-    ensures store { (other : StoreTable) → (are_named_apart (helper 0) (store.table_of other 0) ≡ true) × (are_named_apart (store.table_of other 0) (helper 0) ≡ true) }
-    ensures keyed { (table : KeyedTable) → (are_named_apart (helper 0) (table_of table 0) ≡ true) × (are_named_apart (table_of table 0) (helper 0) ≡ true) }
 {}
 
 /// All forms take the same names, so that one can be made where another was dropped.
@@ -45,14 +34,4 @@ pub fn names_laws()
         → is_used new.schema name ≡ (is_used old.schema name && not (is_own_name old.schema (table own.tree) name)) }
     ensures owned { (table : ℕ → Table) → IsDefinition table → (db : Database) → IsDatabase db → (own : HasOwn db.schema table) → (name : List ℕ) → list_any (λ own. same_name own name) (names_of (table 0)) ≡ true → is_own_name db.schema (table own.tree) name ≡ true }
     ensures again { (table : ℕ → Table) → IsDefinition table → (old new : Database) → IsDatabase old → IsDropped (table 0).name old new → HasOwn old.schema table → (other : Table) → names_of other ≡ names_of (table 0) → LeavesRoom new.schema other }
-    ensures index { (table : ℕ → Table) → IsDefinition table → (old new : Database) → IsDatabase old → IsDropped (table 0).name old new → (own : HasOwn old.schema table) → (name : List ℕ) (index : Index) → found_index old.schema name ≡ Some index → (index.table ≡ (table own.tree).tree → ⊥) → found_index new.schema name ≡ Some index }
-    ensures still { (table : ℕ → Table) → IsDefinition table → (old new : Database) → IsDropped (table 0).name old new → (own : HasOwn old.schema table) → (other : Table) → (other.tree ≡ (table own.tree).tree → ⊥) → (name : List ℕ) → is_own_name new.schema other name ≡ is_own_name old.schema other name }
-{}
-
-/// Where the entries were dropped, or they and then the words and the grams, the schema is what `leaves_room_behind` tested: the old one without their trees, which are those of the tables that are found by these names.
-pub fn behind_laws()
-    ensures found { (table : ℕ → Table) → IsDefinition table → (schema : Schema) → (own : HasOwn schema table) → found_table schema (table 0).name ≡ Some (table own.tree) }
-    ensures one { (form : EntryForm) → (old new : Database) → IsDropped (codes "entry") old new → (own : HasOwn old.schema (entry_of form)) → new.schema ≡ without_trees (own.tree ∷ []) old.schema }
-    ensures three { (form : EntryForm) → (first second third last : Database) → IsDropped (codes "entry") first second → IsDropped (codes "word") second third → IsDropped (codes "gram") third last
-        → (e : HasOwn first.schema (entry_of form)) → (w : HasOwn first.schema word) → (g : HasOwn first.schema gram) → last.schema ≡ without_trees (e.tree ∷ w.tree ∷ g.tree ∷ []) first.schema }
 {}

@@ -84,12 +84,6 @@ module _ (cx : Context) (next : ℕ) where
   lower_compare op table name t r c n is h d b first second third =
       lower_binary op (name_expr table name) (given_expr n) t (col 0 (n - 1)) r c nothing h (suc d) b (b - 1 - 1) (b - 1 - 1 - 1) first (lower_name table name t c is d (b - 1) second) (lower_given n d (b - 1 - 1) third)
 
-  -- `column op column`
-  pub lower_match : (op : Binary) (one_table two_table : Option Name) (one_name two_name : Name) (s t r : Term) (p q : Carried) → Names one_table one_name s p → Names two_table two_name t q → Combines op s t r p q
-      → (d b : ℕ) → nat_lt 1 b ≡ true → nat_lt 1 (b - 1) ≡ true → nat_lt 1 (b - 1 - 1) ≡ true → Lowers (suc (suc d)) (binary_expr op (name_expr one_table one_name) (name_expr two_table two_name)) b r (b - 1 - 1 - 1) nothing
-  lower_match op one_table two_table one_name two_name s t r p q is also h d b first second third =
-      lower_binary op (name_expr one_table one_name) (name_expr two_table two_name) s t r p q h (suc d) b (b - 1 - 1) (b - 1 - 1 - 1) first (lower_name one_table one_name s p is d (b - 1) second) (lower_name two_table two_name t q also d (b - 1 - 1) third)
-
   ands : (s t : Term) → Combines binary.And s t (op2 by.And s t) nothing nothing
   unfolding tests_truth tests_alias wanted_truth combine
   ands s t = record { no_truth = λ y. refl; no_alias = λ y. refl; no_word = λ y. refl; combines = λ state. refl }

@@ -2,7 +2,7 @@
 use Rattle.std.proofs.Common.{◌≡◌, ◌==◌, ℕ, true, refl, arith}
 use Rattle.sqlite_schema.specs.Names.{same_name}
 use Rattle.dict_tables.specs.Definitions.{IsDefinition, are_named_apart}
-use Rattle.dict_tables.specs.Keyed.{helper, table_of}
+use Rattle.dict_tables.specs.Keyed.{table_of}
 use Rattle.dict_tables.specs.Tables as store
 use Rattle.dict_tables.specs.declared.keyed.KeyedTable.{KeyedTable}
 use Rattle.dict_tables.specs.declared.keyed.KeyedTable.TheVariants.{Entry, Word, Gram}
@@ -30,7 +30,3 @@ unfolding same_name
 from_keyed Entry = (refl, refl)
 from_keyed Word = (refl, refl)
 from_keyed Gram = (refl, refl)
-
-pub from_helper : (are_named_apart (part 0) (helper 0) ≡ true) × (are_named_apart (helper 0) (part 0) ≡ true)
-unfolding same_name
-from_helper = (refl, refl)

@@ -54,9 +54,6 @@ pub put_old : (old : Tables) (installs : ℕ) (name title : List ℕ) (members :
 put_old old installs name title members (regular n current former) h = h
 put_old old installs name title members (virtual n t ms) h = tt
 
-pub new_edition : ℕ → Edition → Stored Edition
-new_edition number content = record { number = number; content = content }
-
 pub install_each : (old : Tables) (installs : ℕ) (name : List ℕ) (content : Edition) (number : ℕ) (items : List (Item Edition)) → AllByRecursion (AreOld old installs) items →
     AllByRecursion (AreOldOr old installs name (record { number = number; content = content })) (items_after number (install name content) items)
 install_each old installs name content number items h =

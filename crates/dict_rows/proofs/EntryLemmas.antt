@@ -2,7 +2,6 @@
 use Rattle.std.proofs.Common.{◌≡◌, ℕ, ◌+◌, ◌≤◌, ◌<◌, Bool, true, false, ◌⊎◌, inl, inr, List, [], ◌∷◌, ◌++◌, length, refl, ap, sym, subst, ◌∙◌, arith, append_assoc, Some, None}
 use Rattle.std.specs.Prelude.{pos, map, ◌==◌, IsTrue}
 use Rattle.std.specs.List.{AllByRecursion}
-use Rattle.std.proofs.lemmas.Bool.{false≢true}
 use Rattle.std.proofs.lemmas.List.{length-append, length-map, map-append}
 use Rattle.dict_records.specs.Records as spec
 use Rattle.dict_index.specs.Limits.{most_entries}
@@ -10,11 +9,11 @@ use Rattle.dict_index.specs.Line.{Line}
 use Rattle.dict_index.specs.Edition.{Edition, ReadEdition, edition_of, entry_in}
 use Rattle.dict_index.specs.WellFormed.{IsWellFormedEntry, IsWellFormedEdition}
 use Rattle.dict_text.proofs.AllLemmas.{all_push}
-use Rattle.dict_catalogue.specs.Items.{Stored, Item, regular, virtual, name_of}
+use Rattle.dict_catalogue.specs.Items.{Stored, Item, regular, virtual}
 use Rattle.dict_text.proofs.AllLemmas.{all_append, all_append_parts}
 use Rattle.dict_rows.specs.Tables.{Tables, same_number, editions_numbered, entries_of}
 use Rattle.dict_rows.specs.Written.{numbered, edition_record, entry_record}
-use Rattle.dict_rows.specs.Stands.{IsWithin, HoldsEdition, has_number, Stands}
+use Rattle.dict_rows.specs.Stands.{IsWithin, has_number, Stands}
 use Rattle.dict_rows.specs.Given.{IsEntry, IsNoEntry, IsLawfulLine}
 use Rattle.dict_rows.specs.Taken.{GoesOn, StandsForNone, IsTaken, HoldsTitle, HoldsTitles, IsLast, IsInHand, IsOfLast, items_in, HasTaken, with_edition, with_entry, next_entry}
 use Rattle.dict_rows.specs.declared.reader.Reader.{Reader}
@@ -204,10 +203,3 @@ line_is_none taken number line hand last of (inr full) = inr full
 line_is_none taken number line hand last of (inl unlawful) = inl (λ other is within lawful.
     let same : other ≡ line = line_same hand.number hand.entries other line (sym is ∙ next_is taken number line hand last of) in
     unlawful (subst (IsLawfulLine hand.text.items) same (record { within = within; lawful = lawful })))
-
-pub none_refused : (version : ℕ) (taken : Tables) (row : spec.Entry) → IsInHand None taken → IsOfLast taken row → StandsForNone version (with_entry taken row)
-none_refused version taken row none of tables M goes stands = no_last of.0 of.1 (sym of.2 ∙ none)
-  where
-    no_last : (xs : List spec.Edition) (x : spec.Edition) → xs ++ x ∷ [] ≡ [] → ⊥
-    no_last [] x e = cc
-    no_last (y ∷ xs) x e = cc

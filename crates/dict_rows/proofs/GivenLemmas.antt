@@ -13,10 +13,6 @@ use Rattle.dict_rows.specs.declared.fault.RowsFault.{RowsFault}
 use Rattle.dict_rows.specs.declared.fault.RowsFault.TheVariants.{Damaged, Memory}
 use Rattle.dict_rows.proofs.ListLemmas.{numbered_length, numbered_push, next_is, filter_more, filter_rest}
 
-pub damage_weaker : (fault : RowsFault) {P Q : Type 0} → (P → Q) → OnDamage fault P → OnDamage fault Q
-damage_weaker Damaged f h = f h
-damage_weaker Memory f h = tt
-
 -- members
 
 pub other_owner : (rows : List (Row (Member (String Global)))) (i : ℕ) (row : Row (Member (String Global))) (owner : List ℕ) → i < length rows → row ≡ get_or rows i row → bytes_eq (string_bytes row.value.owner) owner ≡ false →

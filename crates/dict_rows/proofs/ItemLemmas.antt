@@ -56,10 +56,6 @@ members_told place row members names kind found many (regular name current forme
     many (sym (numbered_length (member_record row.name) 0 names) ∙ ap length (sym found ∙ none))
 members_told place row members names kind found many (virtual name title list) e held = zero_one (sym kind ∙ ap (λ (r : spec.Item). r.kind) e)
 
-pub members_none : (names : List (List ℕ)) → length names ≡ 0 → names ≡ []
-members_none [] e = refl
-members_none (name ∷ names) e = cc
-
 -- all records
 
 pub no_item_told : (fault : RowsFault) (rows : List (Row (ItemRow (String Global)))) (members : List spec.Member) (i : ℕ) (row : Row (ItemRow (String Global))) → i < length rows → row ≡ get_or rows i row → length (take i rows) ≡ i →

@@ -130,9 +130,6 @@ order_both R S T f (x ∷ xs) h g = (all_with (R x) (S x) (T x) (f x) xs h.0 g.0
 abbrev pub Below : ℤ → ℤ → Type 0
 Below m n = (m ≤ℤ n) × (m ≡ n → ⊥)
 
-below_itself : (m n : ℤ) → Below m n → m ≡ n → ⊥
-below_itself m n h e = h.1 e
-
 le_both : (m n : ℤ) → m ≤ℤ n → n ≤ℤ m → m ≡ n
 le_both m n h g = omega (arith, ints)
 

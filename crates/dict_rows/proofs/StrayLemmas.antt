@@ -1,15 +1,14 @@
 -- Numbers that no item has.
-use Rattle.std.proofs.Common.{◌≡◌, ◌≢◌, ℕ, ◌≤◌, true, false, ◌&&◌, List, ap, sym, subst, ◌∙◌, arith}
-use Rattle.std.specs.Prelude.{ℤ, pos, length, nat_le, IsTrue}
-use Rattle.std.specs.List.{AllByRecursion, list_all, list_any}
-use Rattle.std.proofs.lemmas.Bool.{false≢true, and_parts}
+use Rattle.std.proofs.Common.{◌≡◌, ℕ, ◌≤◌, true, ◌&&◌, List, sym, subst, ◌∙◌, arith}
+use Rattle.std.specs.Prelude.{length, nat_le}
+use Rattle.std.specs.List.{AllByRecursion, list_all}
+use Rattle.std.proofs.lemmas.Bool.{and_parts}
 use Rattle.std.proofs.lemmas.Bool.Decides.{nat_tests}
 use Rattle.dict_text.proofs.AllLemmas.{all_weaker}
-use Rattle.dict_records.specs.Records as spec
 use Rattle.dict_catalogue.specs.Items.{Item, edition_numbers}
 use Rattle.dict_catalogue.specs.Steps.{Catalogue}
-use Rattle.dict_rows.specs.Tables.{Tables, same_number}
-use Rattle.dict_rows.specs.Stands.{HoldsMembers, has_number, Stands}
+use Rattle.dict_rows.specs.Tables.{Tables}
+use Rattle.dict_rows.specs.Stands.{HoldsMembers, Stands}
 use Rattle.dict_rows.specs.Tests.{is_lawful_item, is_from_one_to, has_lawful_numbers, has_lawful_items, has_known_members, has_names_once, has_numbers_once}
 use Rattle.dict_rows.specs.Given.{OnDamage}
 use Rattle.dict_rows.specs.Taken.{GoesOn, HasTaken, items_in}
@@ -23,15 +22,6 @@ pub numbers_taken : (version : ℕ) (reader : Reader) (taken tables : Tables) (M
 numbers_taken version reader taken tables M h goes stands =
     numbers_alike M.items (items_in reader)
     (items_bare 0 tables.members M.items (items_in reader) (sym stands.items ∙ goes.items ∙ h.items) stands.members (subst (λ members. AllByRecursion (HoldsMembers members) (items_in reader)) (sym goes.members) h.members))
-
-pub no_strays : (version : ℕ) (reader : Reader) (taken tables : Tables) (M : Catalogue) (number : ℤ) → has_number (items_in reader) number ≡ false → HasTaken version reader taken → GoesOn taken tables → Stands version tables M →
-    AllByRecursion (λ (row : spec.Edition). row.number ≢ number) tables.editions × AllByRecursion (λ (row : spec.Entry). row.edition ≢ number) tables.entries
-no_strays version reader taken tables M number unknown h goes stands =
-    let numbers = numbers_taken version reader taken tables M h goes stands in
-    let none : has_number M.items number ≡ false = ap (λ ns. list_any (λ one. same_number (pos one) number) ns) numbers ∙ unknown in (
-      all_weaker (λ (row : spec.Edition). IsTrue (has_number M.items row.number)) (λ (row : spec.Edition). row.number ≢ number) (λ row there same. false≢true (sym none ∙ ap (has_number M.items) (sym same) ∙ there)) tables.editions stands.numbers,
-      all_weaker (λ (row : spec.Entry). IsTrue (has_number M.items row.edition)) (λ (row : spec.Entry). row.edition ≢ number) (λ row there same. false≢true (sym none ∙ ap (has_number M.items) (sym same) ∙ there)) tables.entries stands.entries,
-    )
 
 within : (installs most number : ℕ) → installs ≤ most → is_from_one_to installs number ≡ true → number ≤ most
 within installs most number le h = let parts = and_parts (nat_le 1 number) (nat_le number installs) h in let below : number ≤ installs = grind (arith, nat_tests) in omega arith

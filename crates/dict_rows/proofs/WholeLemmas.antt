@@ -54,18 +54,6 @@ goes_then a b d g h = record {
   kept = begins_then a.kept b.kept d.kept g.kept h.kept;
 }
 
--- more editions, more entries and more replies
-pub goes_more : (taken : Tables) (editions : List spec.Edition) (entries : List spec.Entry) (kept : List spec.Kept) →
-    GoesOn taken (record { marks = taken.marks; items = taken.items; members = taken.members; editions = taken.editions ++ editions; entries = taken.entries ++ entries; kept = taken.kept ++ kept })
-goes_more taken editions entries kept = record {
-  marks = refl;
-  items = refl;
-  members = refl;
-  editions = (λ n. begins_filter (λ (r : spec.Edition). same_number r.number n) taken.editions editions);
-  entries = (λ n. begins_filter (λ (r : spec.Entry). same_number r.edition n) taken.entries entries);
-  kept = (kept, refl);
-}
-
 pub none_longer : (version : ℕ) (a b : Tables) → GoesOn a b → StandsForNone version a → StandsForNone version b
 none_longer version a b g h tables M goes stands = h tables M (goes_then a b tables g goes) stands
 
@@ -254,9 +242,6 @@ goes_read rows = record {
   entries = (λ n. begins_same (entries_of n (tables_given rows).entries));
   kept = ((tables_given rows).kept, refl);
 }
-
-pub none_at : (version : ℕ) (front tables : Tables) → GoesOn front tables → StandsForNone version front → (M : Catalogue) → Stands version tables M → ⊥
-none_at version front tables goes h M stands = h tables M goes stands
 
 pub ids_refused : (version : ℕ) (tables : Tables) (M : Catalogue) → has_once (map (λ (row : spec.Kept). row.id) tables.kept) ≡ false → Stands version tables M → ⊥
 ids_refused version tables M twice stands =

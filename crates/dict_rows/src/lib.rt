@@ -24,4 +24,4 @@ pub use laws::{
 pub use reader::Reader;
 pub use replies::verb_in;
 pub use summary::{EditionRows, Tables, summary_of};
-pub use written::{KNOWN_VERSION, edition_row, item_row, kept_row, mark_row, member_row};
+pub use written::{KNOWN_VERSION, item_row, kept_row, mark_row, member_row};

@@ -1,10 +1,10 @@
 // A reader of the records of the tables, one after another.
-ghost use Rattle.std.specs.Prelude.{◌≡◌, ◌≢◌, ◌≤◌, ◌<◌, ◌+◌, ◌⊎◌, ℕ, pos, false, IfOk, IfErr, OnOk, OnErr, IfSome, IsSome, map};
+ghost use Rattle.std.specs.Prelude.{◌≡◌, ◌≤◌, ◌<◌, ◌+◌, ◌⊎◌, ℕ, pos, IfOk, IfErr, OnOk, OnErr, IfSome, IsSome, map};
 ghost use Rattle.dict_index.specs.Limits.{most_entries};
 ghost use Rattle.dict_records.specs.Records.{shown_as};
 ghost use Rattle.dict_records.specs.Typed.{owned_edition, owned_entry, owned_kept};
-ghost use Rattle.dict_rows.specs.Tables.{Tables, same_number};
-ghost use Rattle.std.specs.List.{AllByRecursion, list_any};
+ghost use Rattle.dict_rows.specs.Tables.{Tables};
+ghost use Rattle.std.specs.List.{AllByRecursion};
 ghost use Rattle.dict_rows.specs.Given.{marks_given, items_given, members_given, OnDamage, IsEntry, IsNoEntry, IsLawfulLine, line_with};
 ghost use Rattle.dict_catalogue.specs.Steps.{Catalogue, summary_of};
 ghost use Rattle.dict_catalogue.specs.Views.{summary_shown};
@@ -12,7 +12,7 @@ ghost use Rattle.dict_rows.specs.Stands.{Stands};
 
 use crate::entries::{test_entry, test_line};
 use crate::fault::RowsFault;
-use crate::items::{is_number, items_of, number_of};
+use crate::items::{items_of, number_of};
 use crate::lawful::has_lawful_items;
 use crate::marks::{are_owned, installs_of};
 use crate::replies::{is_install, reply_of};
@@ -21,7 +21,7 @@ use dict_catalogue::{Item, MAX_ACCEPTED, Summary, edition_numbers};
 use dict_index::{MAX_LINES, is_edition_text};
 use dict_name::is_title;
 use dict_records::{Edition, Entry, Item as ItemRow, Kept, Mark, Member, Stored};
-use std::alloc::{AllocError, Global};
+use std::alloc::Global;
 
 /// The most entries of an edition: one line of an index at least is that of its title.
 const MAX_ENTRIES: u64 = MAX_LINES as u64 - 1;
@@ -108,18 +108,6 @@ fn signed_numbers(alloc: Global, numbers: &[u64]) -> Result<Vec<i64>, RowsFault>
     Ok(signed)
 }
 
-/// Whether one of the numbers stands in the column.
-fn is_one_of(numbers: &[u64], found: i64) -> bool
-    ensures { result ≡ list_any (λ one. same_number (pos one) found) numbers.now }
-{
-    for number in numbers {
-        if is_number(*number, &found) {
-            return true;
-        }
-    }
-    false
-}
-
 /// A reader of the records of the tables. It holds the items with the titles of the editions that were read, the text
 /// of one edition, and counts.
 #[derive(Drop)]
@@ -139,8 +127,7 @@ pub struct Reader {
 
 impl Reader {
     ghost use Rattle.std.specs.Prelude.{None};
-    ghost use Rattle.dict_rows.specs.Taken.{HasTaken, HasLetGo, StandsForNone, GoesOn, items_in, begun, with_edition, with_entry, with_kept, IsOfLast, HasIdsOnce, next_entry};
-    ghost use Rattle.dict_rows.specs.Stands.{has_number};
+    ghost use Rattle.dict_rows.specs.Taken.{HasTaken, HasLetGo, StandsForNone, items_in, begun, with_edition, with_entry, with_kept, IsOfLast, HasIdsOnce, next_entry};
     ghost use Rattle.dict_catalogue.specs.Items.{edition_numbers};
 
     /// Begins with the mark, the items in the order of their places, and the members in the order of theirs: all of them.
@@ -177,18 +164,6 @@ impl Reader {
     {
         let numbers = edition_numbers(alloc, &self.items)?;
         signed_numbers(alloc, &numbers)
-    }
-
-    /// Whether one of the items has an edition of this number.
-    ///
-    /// Where none has, no catalogue stands for tables with such an edition or with entries of it.
-    pub fn knows(&self, alloc: Global, number: i64) -> Result<bool, AllocError>
-        ensures known { IfOk result (λ known. known ≡ has_number (items_in self.now) number) }
-        ensures stray { IfOk result (λ known. known ≡ false → (version : ℕ) (taken tables : Tables) (M : Catalogue) → HasTaken version self.now taken → GoesOn taken tables → Stands version tables M →
-            AllByRecursion (λ row. row.number ≢ number) tables.editions × AllByRecursion (λ row. row.edition ≢ number) tables.entries) }
-    {
-        let numbers = edition_numbers(alloc, &self.items)?;
-        Ok(is_one_of(&numbers, number))
     }
 
     /// Lets the text go of the edition that was taken last, all of whose entries were taken, so that it isn't held while the

@@ -1,14 +1,13 @@
 // The records that the parts of a catalogue are written as.
 ghost use Rattle.std.specs.Prelude.{◌≡◌, ◌≤◌, IfSome};
 ghost use Rattle.std.specs.List.{AllByRecursion};
-ghost use Rattle.dict_records.specs.Typed.{lent_mark, lent_item, lent_member, lent_edition, lent_kept};
+ghost use Rattle.dict_records.specs.Typed.{lent_mark, lent_item, lent_member, lent_kept};
 ghost use Rattle.dict_catalogue.specs.Items.{numbers_of};
 ghost use Rattle.dict_catalogue.specs.Views.{item_shown, kept_shown};
-ghost use Rattle.dict_rows.specs.Written.{mark_record, item_record, member_record, edition_record, kept_record, verb_name};
+ghost use Rattle.dict_rows.specs.Written.{mark_record, item_record, member_record, kept_record, verb_name};
 
 use dict_catalogue::{Item, Kept as Reply, Verb};
-use dict_index::Edition;
-use dict_records::{Edition as EditionRow, Item as ItemRow, Kept, Mark, Member};
+use dict_records::{Item as ItemRow, Kept, Mark, Member};
 
 /// The version of the tables that is written, and the greatest that is opened.
 pub const KNOWN_VERSION: u64 = 5;
@@ -80,24 +79,6 @@ pub fn member_row<'a>(owner: &'a str, ord: u64, name: &'a str) -> Member<&'a str
         owner,
         ord: place,
         name,
-    }
-}
-
-/// The record of an edition with its number, of this owner.
-pub fn edition_row<'a>(
-    owner: &'a str,
-    number: u64,
-    edition: &Edition<'a>,
-) -> EditionRow<&'a str, &'a [u8]>
-    requires { number ≤ 9223372036854775807 }
-    ensures { lent_edition result ≡ edition_record owner.now number edition.now }
-{
-    EditionRow {
-        number: number as i64,
-        owner,
-        title: edition.title(),
-        info: edition.info(),
-        body: edition.text(),
     }
 }
 

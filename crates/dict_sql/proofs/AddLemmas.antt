@@ -1,7 +1,7 @@
 -- What the INSERT of one record of each table does.
 use Rattle.std.proofs.Common.{◌≡◌, ℕ, List, [], ◌∷◌, codes, Option, Some, None, Ok, refl, option_map, ℤ}
 use Rattle.sqlite.specs.Values.{or_null, bound_value}
-use Rattle.sqlite.specs.declared.types.Value.TheVariants.{Null, Int, Text, Blob}
+use Rattle.sqlite.specs.declared.types.Value.TheVariants.{Null, Int, Text}
 use Rattle.sqlite.specs.Kind.TheVariants.{Integer, Text as OfText}
 use Rattle.sqlite.specs.Cast.{cast}
 use Rattle.sqlite.specs.Source.TheVariants.{Values}
@@ -9,14 +9,14 @@ use Rattle.sqlite.specs.Command.TheVariants.{Insert}
 use Rattle.sqlite.specs.Listing.{understood}
 use Rattle.sqlite.specs.State.{State, Executes}
 use Rattle.sqlite.proofs.Callers.{statement_of, runs_as}
-use Rattle.dict_tables.specs.Tables.{mark, item, member, edition, entry, kept}
-use Rattle.dict_sql.specs.Inserts.{insert_mark, insert_item, insert_member, insert_edition, insert_entry, insert_kept}
-use Rattle.dict_records.specs.Records.{Mark, Item, Member, Edition, Entry, Kept}
-use Rattle.dict_sql.specs.Encodings.{number_or_null, text_or_null, mark_row, item_row, member_row, edition_row, entry_row, kept_row}
+use Rattle.dict_tables.specs.Tables.{mark, item, member, edition, kept}
+use Rattle.dict_sql.specs.Inserts.{insert_mark, insert_item, insert_member, insert_kept}
+use Rattle.dict_records.specs.Records.{Mark, Item, Member, Kept}
+use Rattle.dict_sql.specs.Encodings.{number_or_null, text_or_null, mark_row, item_row, member_row, kept_row}
 use Rattle.dict_sql.specs.Effects.{Has, IsAdded}
 use Rattle.dict_sql.proofs.InsertLemmas.{adds_chosen, adds_given, cast_int, cast_null}
 use Rattle.dict_sql.proofs.TextLemmas.{insert_command, insert_plain}
-use Rattle.dict_sql.proofs.InsertTexts.{mark_terms, read_mark, reads_mark, item_terms, read_item, reads_item, member_terms, read_member, reads_member, edition_terms, read_edition, reads_edition, entry_terms, read_entry, reads_entry, kept_terms, read_kept, reads_kept}
+use Rattle.dict_sql.proofs.InsertTexts.{mark_terms, read_mark, reads_mark, item_terms, read_item, reads_item, member_terms, read_member, reads_member, kept_terms, read_kept, reads_kept}
 
 pub cast_number : (o : Option ℤ) → cast Integer (number_or_null o) ≡ number_or_null o
 cast_number None = cast_null
@@ -61,24 +61,6 @@ adds_member old new m count has h =
     let w = runs_as insert_member (member_row m) old new s refl (Insert at (Values member_terms 4)) (insert_command insert_member read_member member (Values member_terms 4) reads_member s at tree has.2) (insert_plain insert_member read_member member (Values member_terms 4) reads_member s at tree has.2) count h in
     adds_chosen old new at (codes "member") tree (member tree).columns (member tree).key (member tree).primary (member tree).uniques (member tree).orders has.2.named has.2.is member_terms 4 (statement_of insert_member (understood s insert_member)) (member_row m)
     (Null ∷ Text m.owner ∷ Int m.ord ∷ Text m.name ∷ []) count refl (Text m.owner ∷ Int m.ord ∷ Text m.name ∷ []) (member_row m) refl (λ id. (rw (cast_int m.ord) refl)) w
-
-pub adds_edition : (old new : State) (e : Edition) (count : ℕ) → Has edition old.now → Executes insert_edition (edition_row e) old new (Ok count) → IsAdded (codes "edition") (edition_row e) old.now new.now
-adds_edition old new e count has h =
-    let at = has.0 in
-    let tree = has.1 in
-    let s = old.now.schema in
-    let w = runs_as insert_edition (edition_row e) old new s refl (Insert at (Values edition_terms 6)) (insert_command insert_edition read_edition edition (Values edition_terms 6) reads_edition s at tree has.2) (insert_plain insert_edition read_edition edition (Values edition_terms 6) reads_edition s at tree has.2) count h in
-    adds_given old new at (codes "edition") tree (edition tree).columns (edition tree).key (edition tree).primary (edition tree).uniques (edition tree).orders has.2.named has.2.is edition_terms 6 (statement_of insert_edition (understood s insert_edition)) (edition_row e)
-    (Int e.number ∷ Null ∷ Text e.owner ∷ Text e.title ∷ Text e.info ∷ Blob e.body ∷ []) count refl e.number (Null ∷ Text e.owner ∷ Text e.title ∷ Text e.info ∷ Blob e.body ∷ []) (edition_row e) refl refl w
-
-pub adds_entry : (old new : State) (e : Entry) (count : ℕ) → Has entry old.now → Executes insert_entry (entry_row e) old new (Ok count) → IsAdded (codes "entry") (entry_row e) old.now new.now
-adds_entry old new e count has h =
-    let at = has.0 in
-    let tree = has.1 in
-    let s = old.now.schema in
-    let w = runs_as insert_entry (entry_row e) old new s refl (Insert at (Values entry_terms 6)) (insert_command insert_entry read_entry entry (Values entry_terms 6) reads_entry s at tree has.2) (insert_plain insert_entry read_entry entry (Values entry_terms 6) reads_entry s at tree has.2) count h in
-    adds_chosen old new at (codes "entry") tree (entry tree).columns (entry tree).key (entry tree).primary (entry tree).uniques (entry tree).orders has.2.named has.2.is entry_terms 6 (statement_of insert_entry (understood s insert_entry)) (entry_row e)
-    (Null ∷ Int e.edition ∷ Int e.ord ∷ Text e.headword ∷ Int e.start ∷ Int e.length ∷ []) count refl (Int e.edition ∷ Int e.ord ∷ Text e.headword ∷ Int e.start ∷ Int e.length ∷ []) (entry_row e) refl (λ id. (rw (cast_int e.edition, cast_int e.ord, cast_int e.start, cast_int e.length) refl)) w
 
 pub adds_kept : (old new : State) (k : Kept) (count : ℕ) → Has kept old.now → Executes insert_kept (kept_row k) old new (Ok count) → IsAdded (codes "kept") (kept_row k) old.now new.now
 adds_kept old new k count has h =

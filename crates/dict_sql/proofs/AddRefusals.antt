@@ -1,7 +1,7 @@
 -- Why the INSERT of one record of each table is refused.
 use Rattle.std.proofs.Common.{◌≡◌, ◌⊎◌, ◌≤◌, ℕ, ℤ, List, [], ◌∷◌, codes, length, true, Option, Some, None, Err, refl, lit≤}
 use Rattle.std.proofs.lemmas.Bool.{and_from}
-use Rattle.sqlite.specs.declared.types.Value.TheVariants.{Null, Int, Text, Blob}
+use Rattle.sqlite.specs.declared.types.Value.TheVariants.{Null, Int, Text}
 use Rattle.sqlite.specs.Kind.TheVariants.{Integer, Text as OfText}
 use Rattle.sqlite.specs.Cast.{cast_all}
 use Rattle.sqlite.specs.Edit.{next_rowid}
@@ -12,10 +12,10 @@ use Rattle.sqlite.specs.declared.error.Error.{Error}
 use Rattle.sqlite_schema.specs.Rules.{is_of}
 use Rattle.sqlite_typing.specs.Types.{accepts_terms}
 use Rattle.sqlite_tied.specs.Compute.{everything}
-use Rattle.dict_tables.specs.Tables.{mark, item, member, edition, entry, kept}
-use Rattle.dict_sql.specs.Inserts.{insert_mark, insert_item, insert_member, insert_edition, insert_entry, insert_kept}
-use Rattle.dict_records.specs.Records.{Mark, Item, Member, Edition, Entry, Kept}
-use Rattle.dict_sql.specs.Encodings.{number_or_null, text_or_null, mark_row, item_row, member_row, edition_row, entry_row, kept_row}
+use Rattle.dict_tables.specs.Tables.{mark, item, member, edition, kept}
+use Rattle.dict_sql.specs.Inserts.{insert_mark, insert_item, insert_member, insert_kept}
+use Rattle.dict_records.specs.Records.{Mark, Item, Member, Kept}
+use Rattle.dict_sql.specs.Encodings.{number_or_null, text_or_null, mark_row, item_row, member_row, kept_row}
 use Rattle.dict_sql.specs.Effects.{Has}
 use Rattle.dict_sql.specs.Refusals.{RefusesToAdd, IsTooBig}
 use Rattle.dict_sql.proofs.InsertLemmas.{cast_int, cast_null}
@@ -23,7 +23,7 @@ use Rattle.dict_sql.proofs.AddLemmas.{cast_number, cast_text}
 use Rattle.dict_sql.proofs.AddFaults.{cause}
 use Rattle.dict_sql.proofs.FaultLemmas.{faults_inside}
 use Rattle.dict_sql.proofs.TextLemmas.{insert_is}
-use Rattle.dict_sql.proofs.InsertTexts.{mark_terms, read_mark, reads_mark, item_terms, read_item, reads_item, member_terms, read_member, reads_member, edition_terms, read_edition, reads_edition, entry_terms, read_entry, reads_entry, kept_terms, read_kept, reads_kept}
+use Rattle.dict_sql.proofs.InsertTexts.{mark_terms, read_mark, reads_mark, item_terms, read_item, reads_item, member_terms, read_member, reads_member, kept_terms, read_kept, reads_kept}
 
 number_suits : (o : Option ℤ) → is_of Integer (number_or_null o) ≡ true
 number_suits None = refl
@@ -95,38 +95,6 @@ member_fails old new m e has h =
     (next_rowid (old.now.trees tree)) (cast_all (member tree).columns (Text m.owner ∷ Int m.ord ∷ Text m.name ∷ [])) (rw cast_null refl)
     (rw (cast_int m.ord) (refl)) (rw (cast_int m.ord) (refl)) e
     (faults_inside insert_member read_member (Insert at (Values member_terms 4)) (member_row m) old new e (insert_is insert_member read_member member (Values member_terms 4) reads_member old.now.schema at tree has.2) whole_member.0 whole_member.1 refl refl h)
-
--- ---- edition
-
-whole_edition : (length insert_edition ≤ read_edition.tail) × (5 ≡ length read_edition.names)
-unfolding everything read_edition
-whole_edition = (lit≤ tt, refl)
-
-pub edition_fails : (old new : State) (n : Edition) (e : Error) → Has edition old.now → ExecutesInside 0 insert_edition (edition_row n) old new (Err e)
-    → (RefusesToAdd (codes "edition") (edition_row n) old e × IsUnchanged old new) ⊎ Fails old new (IsTooBig (codes "edition") (edition_row n) old.now) e
-edition_fails old new n e has h =
-    let at = has.0 in
-    let tree = has.1 in
-    cause old new at (codes "edition") tree (edition tree).columns (edition tree).key (edition tree).primary (edition tree).uniques (edition tree).orders has.2.named has.2.is edition_terms 6 insert_edition (edition_row n) (edition_row n) refl refl
-    n.number (cast_all (edition tree).columns (Null ∷ Text n.owner ∷ Text n.title ∷ Text n.info ∷ Blob n.body ∷ [])) (rw (cast_int n.number) refl)
-    (rw cast_null refl) refl e
-    (faults_inside insert_edition read_edition (Insert at (Values edition_terms 6)) (edition_row n) old new e (insert_is insert_edition read_edition edition (Values edition_terms 6) reads_edition old.now.schema at tree has.2) whole_edition.0 whole_edition.1 refl refl h)
-
--- ---- entry
-
-whole_entry : (length insert_entry ≤ read_entry.tail) × (5 ≡ length read_entry.names)
-unfolding everything read_entry
-whole_entry = (lit≤ tt, refl)
-
-pub entry_fails : (old new : State) (n : Entry) (e : Error) → Has entry old.now → ExecutesInside 0 insert_entry (entry_row n) old new (Err e)
-    → (RefusesToAdd (codes "entry") (entry_row n) old e × IsUnchanged old new) ⊎ Fails old new (IsTooBig (codes "entry") (entry_row n) old.now) e
-entry_fails old new n e has h =
-    let at = has.0 in
-    let tree = has.1 in
-    cause old new at (codes "entry") tree (entry tree).columns (entry tree).key (entry tree).primary (entry tree).uniques (entry tree).orders has.2.named has.2.is entry_terms 6 insert_entry (entry_row n) (entry_row n) refl refl
-    (next_rowid (old.now.trees tree)) (cast_all (entry tree).columns (Int n.edition ∷ Int n.ord ∷ Text n.headword ∷ Int n.start ∷ Int n.length ∷ [])) (rw cast_null refl)
-    (rw (cast_int n.edition, cast_int n.ord, cast_int n.start, cast_int n.length) (refl)) (rw (cast_int n.edition, cast_int n.ord, cast_int n.start, cast_int n.length) (refl)) e
-    (faults_inside insert_entry read_entry (Insert at (Values entry_terms 6)) (entry_row n) old new e (insert_is insert_entry read_entry entry (Values entry_terms 6) reads_entry old.now.schema at tree has.2) whole_entry.0 whole_entry.1 refl refl h)
 
 -- ---- kept
 

@@ -1,5 +1,5 @@
 -- What a caller's proof needs of the statements: the tables stay where they are, and rowids stay apart.
-use Rattle.std.proofs.Common.{◌≡◌, ◌≢◌, ℕ, zero, suc, ℤ, All, Ok, Err, Result, IsTrue, OnOk, arith, Ordering, Less, Equal, Greater, List, [], ◌∷◌, map, filter, Bool, true, false, not, inl, inr, refl, sym, ap, subst, ◌∙◌}
+use Rattle.std.proofs.Common.{◌≡◌, ◌≢◌, ℕ, zero, suc, ℤ, All, arith, Ordering, Less, Equal, Greater, List, [], ◌∷◌, map, filter, Bool, true, false, not, inl, inr, refl, sym, ap, subst, ◌∙◌}
 use Rattle.std.proofs.lemmas.Bool.{cases_Bool}
 use Rattle.std.proofs.lemmas.List.Sorted.{IsPermutation-map, IsPermutation-sym, All-permutation}
 use Rattle.std.proofs.lemmas.Map.Keys.{IsDistinct-IsPermutation}
@@ -15,8 +15,6 @@ use Rattle.sqlite.specs.declared.types.Value.{Value}
 use Rattle.sqlite.specs.declared.types.Value.TheVariants.{Int}
 use Rattle.dict_tables.specs.Found.{HasTable, HasOwn}
 use Rattle.dict_sql.specs.Effects.{Has, HasApartRowids, IsAdded, IsRemoved, rows_of, same_value}
-use Rattle.sqlite.specs.State.{State, Shows}
-use Rattle.dict_sql.specs.Creates.{IsMade}
 use Rattle.dict_sql.specs.Reads.{IsListing}
 use Rattle.dict_sql.proofs.RemoveLemmas.{same_flips}
 
@@ -111,12 +109,3 @@ apart_same xs ys same apart = record {
 
 pub apart_listed : (name columns : List ℕ) (db : Database) (rows : List Row) → IsListing name columns db rows → HasApartRowids rows → HasApartRowids (rows_of name db)
 apart_listed name columns db rows listing = apart_same rows (rows_of name db) (IsPermutation-sym _ _ listing.same)
-
--- ---- what is told after a statement and its commit
-
-pub apart_made : (table : Table) (old new : Database) → IsMade table old new → HasApartRowids (rows_of table.name new)
-apart_made table old new made = subst HasApartRowids (sym made.empty) apart_none
-
-pub after_commit : {X E : Type 0} (name : List ℕ) (result : Result X E) (old new : State) → OnOk result (IsTrue old.in_transaction × Shows old new old.now old.now false) → HasApartRowids (rows_of name old.now) → OnOk result (HasApartRowids (rows_of name new.now))
-after_commit name (Err e) old new h apart = tt
-after_commit name (Ok x) old new h apart = subst (λ (d : Database). HasApartRowids (rows_of name d)) (sym h.1.now_is) apart

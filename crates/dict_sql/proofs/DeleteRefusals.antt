@@ -1,7 +1,6 @@
 -- Why the DELETE statements of the store are refused.
-use Rattle.std.proofs.Common.{◌≡◌, ◌⊎◌, ◌≤◌, ◌==◌, ◌^◌, ℕ, ℤ, List, [], ◌∷◌, length, find, nat_le, Bool, true, false, Some, None, Option, Err, inl, inr, refl, sym, subst, lit≤}
+use Rattle.std.proofs.Common.{◌≡◌, ◌⊎◌, ◌≤◌, ◌==◌, ◌^◌, ℕ, List, [], length, find, nat_le, Bool, true, false, Some, None, Option, Err, inl, inr, refl, sym, subst, lit≤}
 use Rattle.std.proofs.lemmas.Bool.{lt-leb}
-use Rattle.sqlite.specs.declared.types.Value.TheVariants.{Int}
 use Rattle.sqlite.specs.Order.{Row}
 use Rattle.sqlite.specs.Table.{Table}
 use Rattle.sqlite.specs.Term.{Term}
@@ -14,12 +13,12 @@ use Rattle.sqlite_ast.specs.declared.Expr.{Expr}
 use Rattle.sqlite_tied.specs.Compute.{everything}
 use Rattle.sqlite_syntax.specs.declared.statement.Parsed.{Parsed}
 use Rattle.dict_tables.specs.Tables.{mark, item, member, edition, entry, table_of, kept}
-use Rattle.dict_sql.specs.Deletes.{delete_edition, clear_text, delete_entries}
+use Rattle.dict_sql.specs.Deletes.{clear_text}
 use Rattle.dict_sql.specs.Effects.{Has, HasApartRowids, rows_of, shown}
 use Rattle.dict_sql.specs.Refusals.{RefusesToRemove}
 use Rattle.dict_sql.proofs.ListLemmas.{passes}
 use Rattle.dict_sql.proofs.DeleteLemmas.{doomed}
-use Rattle.dict_sql.proofs.DeleteTexts.{ReadsDelete, command, compiles, read_mark, read_item, read_member, read_edition, read_entry, read_every_edition, read_every_entry, read_every_kept, reads_mark, reads_item, reads_member, reads_every_edition, reads_every_entry, reads_every_kept, test_edition, test_entry}
+use Rattle.dict_sql.proofs.DeleteTexts.{ReadsDelete, command, compiles, read_mark, read_item, read_member, read_every_edition, read_every_entry, read_every_kept, reads_mark, reads_item, reads_member, reads_every_edition, reads_every_entry, reads_every_kept}
 use Rattle.dict_sql.proofs.DeleteFaults.{cause}
 use Rattle.dict_sql.proofs.FaultLemmas.{faults_inside}
 use Rattle.dict_tables.specs.declared.tables.StoreTable.{StoreTable}
@@ -54,14 +53,6 @@ takes_every_entry = record { whole = lit≤ tt; names = refl; typed = λ schema 
 pub takes_every_kept : Takes (clear_text store.Kept) read_every_kept kept [] []
 unfolding everything read_every_kept
 takes_every_kept = record { whole = lit≤ tt; names = refl; typed = λ schema tree alone low. rw (low, alone) refl }
-
-pub takes_edition : (n : ℤ) → Takes delete_edition read_edition edition test_edition (Int n ∷ [])
-unfolding everything read_edition
-takes_edition n = record { whole = lit≤ tt; names = refl; typed = λ schema tree alone low. rw (low, alone) refl }
-
-pub takes_entry : (n : ℤ) → Takes delete_entries read_entry entry test_entry (Int n ∷ [])
-unfolding everything read_entry
-takes_entry n = record { whole = lit≤ tt; names = refl; typed = λ schema tree alone low. rw (low, alone) refl }
 
 module _ (text : List ℕ) (p : Parsed) (table : ℕ → Table) (condition : Option Expr) (filter : List Term) (left : ℕ) (r : ReadsDelete text p table condition filter left) (named : (tree : ℕ) → (table tree).name ≡ (table 0).name)
     (params : Row) (takes : Takes text p table filter params) (test : Row → Bool) (tested : (tree : ℕ) (row : Row) → passes params filter row ≡ test (shown (table tree) row)) (old new : State) (e : Error)

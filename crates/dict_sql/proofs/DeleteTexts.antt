@@ -1,16 +1,11 @@
 -- The texts of the DELETE statements.
-use Rattle.std.proofs.Common.{◌≡◌, ◌==◌, ◌^◌, ℕ, List, [], ◌∷◌, codes, Bool, true, false, Ok, Some, None, Option, refl, sym, subst, ◌∙◌, find, nat_le, slice_get, ℤ}
+use Rattle.std.proofs.Common.{◌≡◌, ◌==◌, ◌^◌, ℕ, List, [], Bool, true, false, Ok, Some, None, Option, refl, sym, subst, find, nat_le, slice_get}
 use Rattle.std.proofs.lemmas.Bool.{lt-leb}
-use Rattle.sqlite.specs.declared.types.Value.TheVariants.{Int}
-use Rattle.sqlite.specs.Order.{Row, column}
-use Rattle.sqlite.specs.Term.{Term, col, op2}
+use Rattle.sqlite.specs.Order.{Row}
+use Rattle.sqlite.specs.Term.{Term}
 use Rattle.sqlite.specs.Schema.{Schema}
 use Rattle.sqlite.specs.Table.{Table}
 use Rattle.sqlite.specs.Compile.{first, with_command}
-use Rattle.sqlite_sql.specs.declared.ops.BinaryOp.TheVariants as by
-use Rattle.sqlite_sql.specs.declared.ops.CompareOp.TheVariants as compare
-use Rattle.sqlite.specs.Kind.TheVariants.{Integer}
-use Rattle.sqlite.specs.Collation.TheVariants.{Binary}
 use Rattle.sqlite_tied.specs.Compute.{everything}
 use Rattle.sqlite_resolve.specs.Expr.{lower}
 use Rattle.sqlite_resolve.specs.Body.{tests}
@@ -19,21 +14,20 @@ use Rattle.sqlite_typing.specs.Types.{accepts_program}
 use Rattle.sqlite_ast.specs.declared.Expr.{Expr}
 use Rattle.sqlite_ast.specs.declared.Statement.TheVariants as written
 use Rattle.sqlite_syntax.specs.declared.statement.Parsed.{Parsed}
-use Rattle.dict_tables.specs.Tables.{needed, mark, item, member, edition, entry, table_of, kept}
+use Rattle.dict_tables.specs.Tables.{mark, item, member, edition, entry, table_of, kept}
 use Rattle.dict_tables.specs.Found.{HasTable}
-use Rattle.dict_sql.specs.Effects.{Has, HasApartRowids, IsRemoved, equals_number, rows_of, shown}
+use Rattle.dict_sql.specs.Effects.{Has, HasApartRowids, IsRemoved, rows_of, shown}
 use Rattle.sqlite.specs.State.{State, Executes}
 use Rattle.sqlite.specs.Listing.{understood}
 use Rattle.sqlite.specs.Command.{Command}
 use Rattle.sqlite.specs.Command.TheVariants.{Delete}
 use Rattle.sqlite.proofs.Callers.{IsPlain, command_of, statement_of, runs_as}
 use Rattle.dict_sql.proofs.ListLemmas.{passes}
-use Rattle.dict_sql.proofs.CompareLemmas.{and_true, equals_is}
 use Rattle.dict_sql.proofs.DeleteEffects.{removes}
-use Rattle.dict_sql.specs.Deletes.{delete_edition, clear_text, delete_entries}
+use Rattle.dict_sql.specs.Deletes.{clear_text}
 use Rattle.dict_sql.proofs.TextLemmas.{parsed_or}
 use Rattle.dict_sql.proofs.ReadLemmas.{context_of}
-use Rattle.dict_sql.proofs.DeleteLemmas.{column_expr, parameter_expr, equals_expr, doomed, tests_equals, delete_text_is}
+use Rattle.dict_sql.proofs.DeleteLemmas.{doomed, delete_text_is}
 use Rattle.dict_tables.specs.declared.tables.StoreTable.{StoreTable}
 use Rattle.dict_tables.specs.declared.tables.StoreTable.TheVariants as store
 
@@ -71,40 +65,6 @@ pub reads_member : ReadsDelete (clear_text store.Member) read_member member None
 unfolding everything read_member
 reads_member = record { read = refl; statement = λ tree. refl; formats = refl; tests = λ schema at tree is. refl; accepted = λ schema tree alone low. rw (low, alone) refl }
 
-unfoldable pub read_edition : Parsed
-unfolding everything
-read_edition = parsed_or (first delete_edition)
-
-abbrev pub test_edition : List Term
-test_edition = op2 (by.Compare compare.Eq Binary) (col 1 0) (col 0 0) ∷ []
-
-pub reads_edition : ReadsDelete delete_edition read_edition edition (Some (equals_expr (codes "number"))) test_edition 99997
-unfolding everything read_edition column_expr parameter_expr equals_expr
-reads_edition = record {
-  read = refl;
-  statement = λ tree. refl;
-  formats = refl;
-  tests = λ schema at tree is. tests_equals schema at (edition tree) is (codes "number") 0 (needed (codes "number") Integer) refl refl [] refl refl max_budget refl refl refl;
-  accepted = λ schema tree alone low. rw (low, alone) refl;
-}
-
-unfoldable pub read_entry : Parsed
-unfolding everything
-read_entry = parsed_or (first delete_entries)
-
-abbrev pub test_entry : List Term
-test_entry = op2 (by.Compare compare.Eq Binary) (col 1 1) (col 0 0) ∷ []
-
-pub reads_entry : ReadsDelete delete_entries read_entry entry (Some (equals_expr (codes "edition"))) test_entry 99997
-unfolding everything read_entry column_expr parameter_expr equals_expr
-reads_entry = record {
-  read = refl;
-  statement = λ tree. refl;
-  formats = refl;
-  tests = λ schema at tree is. tests_equals schema at (entry tree) is (codes "edition") 0 (needed (codes "edition") Integer) refl refl [] refl (rw is refl) max_budget refl refl refl;
-  accepted = λ schema tree alone low. rw (low, alone) refl;
-}
-
 unfoldable pub read_every_edition : Parsed
 unfolding everything
 read_every_edition = parsed_or (first (clear_text store.Edition))
@@ -130,15 +90,6 @@ unfolding everything read_every_kept
 reads_every_kept = record { read = refl; statement = λ tree. refl; formats = refl; tests = λ schema at tree is. refl; accepted = λ schema tree alone low. rw (low, alone) refl }
 
 -- ---- what they do
-
-pub all_go : (table : Table) (params row : Row) → passes params [] row ≡ true
-all_go table params row = refl
-
-pub edition_goes : (tree : ℕ) (n : ℤ) (row : Row) → passes (Int n ∷ []) test_edition row ≡ equals_number 1 n (shown (edition tree) row)
-edition_goes tree n row = and_true _ ∙ equals_is (column row 0) n
-
-pub entry_goes : (tree : ℕ) (n : ℤ) (row : Row) → passes (Int n ∷ []) test_entry row ≡ equals_number 1 n (shown (entry tree) row)
-entry_goes tree n row = and_true _ ∙ equals_is (column row 1) n
 
 module _ (text : List ℕ) (p : Parsed) (table : ℕ → Table) (condition : Option Expr) (filter : List Term) (left : ℕ) (r : ReadsDelete text p table condition filter left) where
   module _ (schema : Schema) (at tree : ℕ) (has : HasTable schema at (table tree)) where

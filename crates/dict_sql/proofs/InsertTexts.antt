@@ -1,41 +1,14 @@
 -- The texts of the INSERT statements.
-use Rattle.std.proofs.Common.{◌≡◌, List, [], ◌∷◌, Ok, refl}
+use Rattle.std.proofs.Common.{List, [], ◌∷◌, refl}
 use Rattle.sqlite.specs.declared.types.Value.TheVariants.{Null}
 use Rattle.sqlite.specs.Term.{Term, lit, col}
 use Rattle.sqlite.specs.Source.TheVariants.{Values}
-use Rattle.sqlite.specs.Compile.{table_defined_by, first}
-use Rattle.sqlite.specs.Listing.{understood}
+use Rattle.sqlite.specs.Compile.{first}
 use Rattle.sqlite_tied.specs.Compute.{everything}
 use Rattle.sqlite_syntax.specs.declared.statement.Parsed.{Parsed}
-use Rattle.dict_tables.specs.Tables.{mark, item, member, edition, entry, kept}
-use Rattle.dict_sql.specs.Creates.{create_text}
-use Rattle.dict_sql.specs.Inserts.{insert_mark, insert_item, insert_member, insert_edition, insert_entry, insert_kept}
+use Rattle.dict_tables.specs.Tables.{mark, item, member, kept}
+use Rattle.dict_sql.specs.Inserts.{insert_mark, insert_item, insert_member, insert_kept}
 use Rattle.dict_sql.proofs.TextLemmas.{parsed_or, ReadsInsert}
-use Rattle.dict_tables.specs.declared.tables.StoreTable.TheVariants as store
-
-defines_mark : table_defined_by (create_text store.Mark) ≡ Ok (mark 0)
-unfolding understood everything
-defines_mark = refl
-
-defines_item : table_defined_by (create_text store.Item) ≡ Ok (item 0)
-unfolding understood everything
-defines_item = refl
-
-defines_member : table_defined_by (create_text store.Member) ≡ Ok (member 0)
-unfolding understood everything
-defines_member = refl
-
-defines_edition : table_defined_by (create_text store.Edition) ≡ Ok (edition 0)
-unfolding understood everything
-defines_edition = refl
-
-defines_entry : table_defined_by (create_text store.Entry) ≡ Ok (entry 0)
-unfolding understood everything
-defines_entry = refl
-
-defines_kept : table_defined_by (create_text store.Kept) ≡ Ok (kept 0)
-unfolding understood everything
-defines_kept = refl
 
 abbrev pub mark_terms : List Term
 mark_terms = col 0 0 ∷ lit Null ∷ col 0 1 ∷ col 0 2 ∷ col 0 3 ∷ []
@@ -69,28 +42,6 @@ read_member = parsed_or (first insert_member)
 pub reads_member : ReadsInsert insert_member read_member member (Values member_terms 4)
 unfolding everything read_member
 reads_member = record { read = refl; statement = λ tree. refl; formats = refl; timeless = λ tree. refl; rows = λ schema tree. refl }
-
-abbrev pub edition_terms : List Term
-edition_terms = col 0 0 ∷ lit Null ∷ col 0 1 ∷ col 0 2 ∷ col 0 3 ∷ col 0 4 ∷ []
-
-unfoldable pub read_edition : Parsed
-unfolding everything
-read_edition = parsed_or (first insert_edition)
-
-pub reads_edition : ReadsInsert insert_edition read_edition edition (Values edition_terms 6)
-unfolding everything read_edition
-reads_edition = record { read = refl; statement = λ tree. refl; formats = refl; timeless = λ tree. refl; rows = λ schema tree. refl }
-
-abbrev pub entry_terms : List Term
-entry_terms = lit Null ∷ col 0 0 ∷ col 0 1 ∷ col 0 2 ∷ col 0 3 ∷ col 0 4 ∷ []
-
-unfoldable pub read_entry : Parsed
-unfolding everything
-read_entry = parsed_or (first insert_entry)
-
-pub reads_entry : ReadsInsert insert_entry read_entry entry (Values entry_terms 6)
-unfolding everything read_entry
-reads_entry = record { read = refl; statement = λ tree. refl; formats = refl; timeless = λ tree. refl; rows = λ schema tree. refl }
 
 abbrev pub kept_terms : List Term
 kept_terms = lit Null ∷ col 0 0 ∷ col 0 1 ∷ col 0 2 ∷ col 0 3 ∷ col 0 4 ∷ []

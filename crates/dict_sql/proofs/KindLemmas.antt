@@ -8,10 +8,9 @@ use Rattle.sqlite.specs.Table.{Table}
 use Rattle.sqlite.specs.Source.{Source}
 use Rattle.sqlite.specs.Command.{Command}
 use Rattle.sqlite.specs.Command.TheVariants.{Insert, Delete, CreateTable, DropTable, Nothing}
-use Rattle.sqlite.specs.Compile.{compiled, first, planned, meaning, command, insert_or_abort, insert, new_rows, delete, create_table, create_index, drop_table, dropped, creates, is_attached, is_reserved, with_command, returning, small, timed, target}
+use Rattle.sqlite.specs.Compile.{compiled, first, planned, meaning, command, insert_or_abort, insert, new_rows, delete, create_table, drop_table, dropped, creates, is_attached, is_reserved, with_command, returning, small, timed, target}
 use Rattle.sqlite.specs.Listing.{understood, reads_listing, if_select, is_select, listing_schema}
 use Rattle.sqlite_ast.specs.declared.Conflict.TheVariants as conflict
-use Rattle.sqlite_ast.specs.declared.CreateIndex as ast_index
 use Rattle.sqlite_ast.specs.declared.CreateTable as ast_table
 use Rattle.sqlite_ast.specs.declared.Expr.{Expr}
 use Rattle.sqlite_ast.specs.declared.Rows.{Rows}
@@ -27,7 +26,6 @@ use Rattle.sqlite_resolve.specs.declared.error.CompileError.{CompileError}
 use Rattle.sqlite_schema.specs.Names.{table_named, index_named, view_named}
 use Rattle.sqlite_schema.specs.declared.command.Returning.{Returning}
 use Rattle.sqlite_schema.specs.declared.program.Program.{Program}
-use Rattle.sqlite_schema.specs.declared.schema.Index.{Index}
 use Rattle.sqlite_syntax.specs.declared.statement.Parsed.{Parsed}
 use Rattle.dict_sql.specs.Transactions.{LeavesOpen, EndsNothing}
 
@@ -102,16 +100,6 @@ module _ (schema : Schema) (formats : List (List ℕ)) (base : ℕ) where
       (λ is_new. either LeavesOpen is_new _ (Ok Nothing)
       (then_gives {A = Table} {B = Command} LeavesOpen (define.table formats def) _ (λ t. either LeavesOpen (length t.computed == length t.stamps.places && not def.resolves) (Ok CreateTable) _ tt tt)) tt))
 
-  index_kind : (def : ast_index.CreateIndex) → IfOk (command schema formats base (written.CreateIndex def)) LeavesOpen
-  unfolding command create_index
-  index_kind def =
-      either LeavesOpen (is_reserved def.table) _ _ tt
-      (then_gives {A = ℕ} {B = Command} LeavesOpen (target schema def.table) _
-      (λ at. then_gives {A = Table} {B = Command} LeavesOpen (table_at schema at) _
-      (λ table. then_gives {A = Bool} {B = Command} LeavesOpen (creates def.if_missing def.name (index_named schema def.name) (option_or (table_named schema def.name) (view_named schema def.name))) _
-      (λ is_new. either LeavesOpen is_new _ (Ok Nothing)
-      (then_gives {A = Index} {B = Command} LeavesOpen (define.index table def) _ (λ _. tt)) tt))))
-
   drop_found : (if_exists : Bool) (at : Option ℕ) (missing : CompileError) → IfOk (dropped DropTable missing if_exists at) LeavesOpen
   drop_found if_exists (Some at) missing = tt
   drop_found if_exists None missing = either LeavesOpen if_exists (Ok Nothing) (Err missing) tt tt
@@ -133,9 +121,6 @@ module _ (text : List ℕ) (p : Parsed) (read : first text ≡ Ok p) where
 
   pub create_ends_nothing : (def : ast_table.CreateTable) → p.statement ≡ written.CreateTable def → EndsNothing text
   create_ends_nothing def is = kind_of_text LeavesOpen text p read (λ schema base. rw is (create_kind schema p.formats base def))
-
-  pub index_ends_nothing : (def : ast_index.CreateIndex) → p.statement ≡ written.CreateIndex def → EndsNothing text
-  index_ends_nothing def is = kind_of_text LeavesOpen text p read (λ schema base. rw is (index_kind schema p.formats base def))
 
   pub drop_ends_nothing : (if_exists : Bool) (name : List ℕ) → p.statement ≡ written.DropTable if_exists name → EndsNothing text
   drop_ends_nothing if_exists name is = kind_of_text LeavesOpen text p read (λ schema base. rw is (drop_kind schema p.formats base if_exists name))

@@ -36,7 +36,6 @@ pub mod Callers
 pub mod NumberLemmas
 pub mod AddedLemmas
 pub mod TurnLemmas
-pub mod CountLemmas
 pub mod KindLemmas
 pub mod TransactionLemmas
 pub mod TransactionTexts

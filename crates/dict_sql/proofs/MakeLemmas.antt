@@ -1,23 +1,20 @@
 -- What a database has once tables were made in it, one after the other.
-use Rattle.std.proofs.Common.{◌≡◌, ◌==◌, ◌<◌, ◌≤◌, ◌+◌, ◌^◌, ◌++◌, take, length, get_or, IsTrue, OnOk, Ok, Err, Result, rules, zero, suc, ℕ, List, [], ◌∷◌, find, true, false, Some, slice_get, inl, inr, refl, sym, ap, subst, ◌∙◌, arith}
+use Rattle.std.proofs.Common.{◌≡◌, ◌==◌, ◌<◌, ◌≤◌, ◌+◌, ◌^◌, ◌++◌, take, length, get_or, IsTrue, zero, suc, ℕ, List, [], ◌∷◌, find, true, false, Some, slice_get, refl, sym, ap, subst, ◌∙◌, arith}
 use Rattle.std.specs.List.{AllByRecursion, AllZip, list_any}
 use Rattle.sqlite.specs.Table.{Table}
 use Rattle.sqlite.specs.Schema.{Schema}
 use Rattle.sqlite.specs.Effect.{Database, IsDatabase}
 use Rattle.sqlite.specs.Order.{Row, column}
-use Rattle.sqlite.specs.Change.{next_tree, is_used, automatics}
+use Rattle.sqlite.specs.Change.{next_tree, is_used}
 use Rattle.sqlite.specs.State.{State, KeepsCommit}
 use Rattle.sqlite.specs.Disk.{MoreFaults}
 use Rattle.sqlite.specs.declared.error.Error.{Error}
-use Rattle.sqlite.specs.declared.error.Error.TheVariants.{SqliteFailure}
-use Rattle.sqlite.specs.declared.error.ErrorCode.TheVariants as code
-use Rattle.dict_sql.proofs.KitLemmas.{all_has, index_owner, table_below}
-use Rattle.dict_sql.specs.Refusals.{RefusesToMake}
+use Rattle.dict_sql.proofs.KitLemmas.{index_owner, table_below}
 use Rattle.sqlite.specs.Does.{lacks_sequence}
 use Rattle.sqlite_schema.specs.Names.{same_name, table_named}
 use Rattle.sqlite_schema.specs.declared.schema.Index.{Index}
 use Rattle.sqlite_catalog.specs.Listing.{IsTableRow, IsIndexRow}
-use Rattle.dict_tables.specs.Tables.{table_of, store_tables}
+use Rattle.dict_tables.specs.Tables.{table_of}
 use Rattle.dict_tables.specs.Found.{HasOwn}
 use Rattle.dict_tables.specs.Room.{HasRoom, LeavesRoom, is_referred}
 use Rattle.dict_tables.specs.Definitions.{IsDefinition, are_named_apart, names_of}
@@ -28,8 +25,7 @@ use Rattle.dict_tables.proofs.FoundLemmas.{weaker}
 use Rattle.dict_tables.proofs.TableLemmas.{name_is}
 use Rattle.dict_tables.proofs.MadeLemmas.{differ, found_is, made_own, kept_own, room_kept, room_for, unused_still, store_defined, store_apart}
 use Rattle.dict_sql.specs.Effects.{rows_of, table_in, GoesOn, CountsFaults}
-use Rattle.dict_sql.specs.Creates.{IsFree, IsMade, AreApart, MadeInTurn, AreMade, IsReady, FailsToMake, FailsToMakeAll, count_trees}
-use Rattle.dict_sql.proofs.CountLemmas.{turn_next, count_front}
+use Rattle.dict_sql.specs.Creates.{IsFree, IsMade, AreApart, MadeInTurn, AreMade, IsReady}
 
 zip_each : {A B : Type 0} (R : A → B → Type 0) (xs : List A) (ys : List B) → AllZip R xs ys → AllByRecursion (λ y. (x : A) × R x y) ys
 zip_each R [] [] h = tt
@@ -180,10 +176,6 @@ turn_free ts t old mid apart ready h = record {
   counted = turn_counted ts old mid h ready.room.counted;
 }
 
--- and so are the names of its indexes
-pub turn_unindexed : (ts : List StoreTable) (t : StoreTable) (old mid : Database) → AllByRecursion (λ u. u ≡ t → ⊥) ts → IsReady old → MadeInTurn ts old mid → LeavesRoom mid.schema (table_of t 0)
-turn_unindexed ts t old mid apart ready h = turn_leaves t ts old mid apart h (room_for old.schema ready.room t)
-
 -- ---- a loop over the tables
 
 pub more_since : (a b c : ℕ) → a ≤ b → MoreFaults b c → MoreFaults a c
@@ -218,23 +210,6 @@ module _ (ts : List StoreTable) (i : ℕ) (t : StoreTable) (at : slice_get ts i 
   pub next_made : (new : State) → IsMade (table_of t 0) mid.now new.now → MadeInTurn (take (i + 1) ts) old.now new.now
   next_made new made = subst (λ l. MadeInTurn l old.now new.now) (sym (take_one i ts t at)) (turn_more (take i ts) t old.now mid.now new.now done made)
 
-  -- no name of an index is in the way
-  unrefused : (e : Error) → IsTrue mid.is_open → RefusesToMake (table_of t 0) mid e → (e ≡ SqliteFailure code.SchemaTooBig) × (65536 < next_tree old.now.schema + count_trees ts)
-  unrefused e open' (inr many) = (many.0, let most = turn_next (take i ts) old.now mid.now done in let all = count_front ts i t at in omega (arith, many.1, most, all))
-  unrefused e open' (inl taken) =
-      let room = turn_unindexed (take i ts) t old.now mid.now (apart_before i ts t apart at) (ready (keeps.was_open open')) done in
-      absurd (let free = all_has (λ (index : Index). is_used mid.now.schema index.name ≡ false) (automatics (table_of t 0) 0 0 (table_of t 0).uniques) taken.1 room.unindexed taken.2 in let used = taken.3 in let both = rw free at used in cc)
-
-  pub next_fails : (new : State) (e : Error) → (IsTrue old.in_transaction → IsTrue mid.in_transaction) → old.faults ≤ mid.faults → FailsToMake (table_of t 0) mid new e → FailsToMakeAll (count_trees ts) old new e
-  next_fails new e mode faults f = record {
-    keeps = record { was_open = λ open'. keeps.was_open (f.keeps.was_open open'); committed = λ open'. f.keeps.committed open' ∙ keeps.committed (f.keeps.was_open open') };
-    cause = λ within. elim (f.cause (mode within)) [
-      | inl refused ↦ inl (unrefused e refused.1.0.was_open refused.0)
-      | inr fell ↦ inr (fell.0, fell.1, fell.3.autocommit, λ open'. (fell.3.undone open').0 ∙ keeps.committed (fell.3.was_open open'))
-    ];
-    counts = λ named. more_since old.faults mid.faults new.faults faults (f.counts named);
-  }
-
 pub got : {X : Type 0} (xs : List X) (i : ℕ) (d : X) → i < length xs → slice_get xs i ≡ Some (get_or xs i d)
 got [] i d low = absurd (omega (arith, low))
 got (x ∷ xs) zero d low = refl
@@ -249,14 +224,3 @@ goes_keeps a b h = record { was_open = λ _. h.was_open; committed = λ _. h.com
 -- a statement that went well goes on from where those before it went
 pub goes_then : (a b c : State) → KeepsCommit a b → GoesOn b c → GoesOn a c
 goes_then a b c keeps h = record { was_open = keeps.was_open h.was_open; is_open = h.is_open; now_is = h.now_is; committed_is = h.committed_is ∙ keeps.committed h.was_open; mode = h.mode }
-
--- ---- the six
-
-once : AreApart store_tables
-once = search rules
-
-pub all_made_once : (result : Result (Unit {0}) Error) (old new : State) → (IsTrue old.is_open → IsReady old.now) → OnOk result (MadeInTurn store_tables old.now new.now) → OnOk result (0 < 6 → GoesOn old new) → OnOk result (AreMade store_tables old.now new.now × GoesOn old new)
-all_made_once (Err e) old new ready made goes = tt
-all_made_once (Ok done) old new ready made goes =
-    let on = goes (omega arith) in
-    (all_made store_tables old.now new.now once (ready on.was_open) made, on)

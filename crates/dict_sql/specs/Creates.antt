@@ -1,22 +1,19 @@
 -- The texts that make the tables, and what CREATE TABLE does to a database.
-use Rattle.std.specs.Prelude.{◌≡◌, ◌⊎◌, ◌<◌, ◌+◌, ℕ, false, IsTrue, List, [], ◌∷◌, codes, length}
+use Rattle.std.specs.Prelude.{◌≡◌, ℕ, false, List, [], ◌∷◌, codes}
 use Rattle.std.specs.List.{AllByRecursion}
 use Rattle.sqlite.specs.Effect.{Database, IsDatabase, SparesFrozen}
 use Rattle.sqlite.specs.Table.{Table}
 use Rattle.sqlite.specs.Schema.{Schema}
-use Rattle.sqlite.specs.Change.{created, is_used, next_tree}
+use Rattle.sqlite.specs.Change.{created, is_used}
 use Rattle.sqlite.specs.Does.{lacks_sequence}
 use Rattle.dict_tables.specs.declared.tables.StoreTable.{StoreTable}
 use Rattle.dict_tables.specs.declared.tables.StoreTable.TheVariants.{Mark, Item, Member, Edition, Entry, Kept}
-use Rattle.sqlite.specs.State.{State, KeepsCommit, store_error}
-use Rattle.sqlite_trees.specs.declared.error.StoreError.{StoreError}
+use Rattle.sqlite.specs.State.{State}
 use Rattle.sqlite.specs.declared.error.Error.{Error}
-use Rattle.sqlite.specs.declared.error.Error.TheVariants.{SqliteFailure}
-use Rattle.sqlite.specs.declared.error.ErrorCode.TheVariants as code
 use Rattle.dict_tables.specs.Tables.{table_of}
 use Rattle.dict_tables.specs.Found.{HasOwn}
 use Rattle.dict_tables.specs.Room.{HasRoom}
-use Rattle.dict_sql.specs.Effects.{rows_of, FailsIn, GoesOn, CountsFaults}
+use Rattle.dict_sql.specs.Effects.{rows_of, FailsIn, GoesOn}
 use Rattle.dict_sql.specs.Refusals.{RefusesToMake}
 
 abbrev pub create_text : StoreTable → List ℕ
@@ -71,14 +68,3 @@ pub record AreMade (tables : List StoreTable) (old new : Database) : Type 0 wher
 pub record IsReady (db : Database) : Type 0 where
   pub room : HasRoom db.schema
   pub sound : IsDatabase db
-
--- the trees that the tables take: one for each, and one for each of its keys
-abbrev pub count_trees : List StoreTable → ℕ
-count_trees [] = 0
-count_trees (t ∷ ts) = 1 + length (table_of t 0).uniques + count_trees ts
-
--- Several statements of a transaction failed, which make so many trees: nothing was committed, and either the error tells that there are too many trees, since all of them have no room below 65,536, or the store failed for the cause that the error names, and the transaction is undone.
-pub record FailsToMakeAll (count : ℕ) (old new : State) (e : Error) : Type 0 where
-  pub keeps : KeepsCommit old new
-  pub cause : IsTrue old.in_transaction → ((e ≡ SqliteFailure code.SchemaTooBig) × (65536 < next_tree old.now.schema + count)) ⊎ ((cause : StoreError) × (e ≡ store_error cause) × (new.in_transaction ≡ false) × (IsTrue new.is_open → new.now ≡ old.committed))
-  pub counts : CountsFaults old new e

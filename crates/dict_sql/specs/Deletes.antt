@@ -18,12 +18,6 @@ clear_text Edition = codes "DELETE FROM edition"
 clear_text Entry = codes "DELETE FROM entry"
 clear_text Kept = codes "DELETE FROM kept"
 
-abbrev pub delete_edition : List ℕ
-delete_edition = codes "DELETE FROM edition WHERE number = ?1"
-
-abbrev pub delete_entries : List ℕ
-delete_entries = codes "DELETE FROM entry WHERE edition = ?1"
-
 -- the database has the table, and no two of its rows have one rowid
 pub record HasToRemove (table : ℕ → Table) (db : Database) : Type 0 where
   pub has : Has table db

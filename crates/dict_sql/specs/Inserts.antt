@@ -15,12 +15,6 @@ insert_item = codes "INSERT INTO item (place, name, kind, title, current, former
 abbrev pub insert_member : List ℕ
 insert_member = codes "INSERT INTO member (owner, ord, name) VALUES (?1, ?2, ?3)"
 
-abbrev pub insert_edition : List ℕ
-insert_edition = codes "INSERT INTO edition (number, owner, title, info, body) VALUES (?1, ?2, ?3, ?4, ?5)"
-
-abbrev pub insert_entry : List ℕ
-insert_entry = codes "INSERT INTO entry (edition, ord, headword, start, length) VALUES (?1, ?2, ?3, ?4, ?5)"
-
 abbrev pub insert_kept : List ℕ
 insert_kept = codes "INSERT INTO kept (id, number, verb, name, edition) VALUES (?1, ?2, ?3, ?4, ?5)"
 

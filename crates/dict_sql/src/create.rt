@@ -1,12 +1,11 @@
 //! The tables are made, inside an open transaction.
 
-ghost use Rattle.std.specs.Prelude.{◌≡◌, ◌<◌, length, map, IfErr, OnOk};
+ghost use Rattle.std.specs.Prelude.{◌≡◌, IfErr, OnOk};
 ghost use Rattle.sqlite.specs.State.{HasCleanDisk, Survives};
 ghost use Rattle.sqlite.specs.Held.{state};
-ghost use Rattle.dict_tables.specs.Tables.{table_of, store_tables};
-ghost use Rattle.dict_sql.specs.Effects.{WhileOpen, GoesOn};
-ghost use Rattle.dict_sql.specs.Creates.{IsFree, Makes, FailsToMake, IsReady, AreApart, MadeInTurn, AreMade, FailsToMakeAll, count_trees, create_text};
-ghost use Rattle.dict_sql.specs.Statements.{make, RunInTurn, FailsInTurn};
+ghost use Rattle.dict_tables.specs.Tables.{table_of};
+ghost use Rattle.dict_sql.specs.Effects.{WhileOpen};
+ghost use Rattle.dict_sql.specs.Creates.{IsFree, Makes, FailsToMake, create_text};
 
 use crate::transaction::OpenTransaction;
 use dict_tables::StoreTable;
@@ -49,48 +48,4 @@ pub fn create_table<S: Alter, T: OpenTransaction<S>>(
     ensures survives { Survives (state S.Store (T.held tx.old)) (state S.Store (T.held tx.new)) (λ _. ⊥) }
 {
     tx.execute(text_of(table), &[])
-}
-
-// Makes these tables, one after the other.
-fn create_each<S: Alter, T: OpenTransaction<S>>(
-    tx: &mut T,
-    tables: &[StoreTable],
-) -> Result<(), Error>
-    requires apart { AreApart tables.now }
-    requires ready { WhileOpen (state S.Store (T.held tx.old)) IsReady }
-    ensures same_reference { T.reference tx.new ≡ T.reference tx.old }
-    ensures made { HasCleanDisk (state S.Store (T.held tx.new)) → OnOk result (MadeInTurn tables.now (state S.Store (T.held tx.old)).now (state S.Store (T.held tx.new)).now) }
-    ensures goes { HasCleanDisk (state S.Store (T.held tx.new)) → OnOk result (0 < length tables.now → GoesOn (state S.Store (T.held tx.old)) (state S.Store (T.held tx.new))) }
-    ensures failed { HasCleanDisk (state S.Store (T.held tx.new)) → IfErr result (FailsToMakeAll (count_trees tables.now) (state S.Store (T.held tx.old)) (state S.Store (T.held tx.new))) }
-    ensures ran { HasCleanDisk (state S.Store (T.held tx.new)) → OnOk result (RunInTurn S.Store (map make tables.now) (T.held tx.old) (T.held tx.new)) }
-    ensures failed_at { HasCleanDisk (state S.Store (T.held tx.new)) → IfErr result (FailsInTurn S.Store (map make tables.now) (T.held tx.old) (T.held tx.new)) }
-    ensures survives { Survives (state S.Store (T.held tx.old)) (state S.Store (T.held tx.new)) (λ _. ⊥) }
-{
-    'each: for table in tables {
-        create_table(tx, *table)?;
-    }
-    Ok(())
-}
-
-/// Makes all tables of the store, where a schema has room for them (`dict_tables::has_room`): they are there as every statement needs them, and have no rows.
-pub fn create_tables<S: Alter, T: OpenTransaction<S>>(tx: &mut T) -> Result<(), Error>
-    requires { WhileOpen (state S.Store (T.held tx.old)) IsReady }
-    ensures same_reference { T.reference tx.new ≡ T.reference tx.old }
-    ensures made { HasCleanDisk (state S.Store (T.held tx.new)) → OnOk result (AreMade store_tables (state S.Store (T.held tx.old)).now (state S.Store (T.held tx.new)).now × GoesOn (state S.Store (T.held tx.old)) (state S.Store (T.held tx.new))) }
-    ensures failed { HasCleanDisk (state S.Store (T.held tx.new)) → IfErr result (FailsToMakeAll (count_trees store_tables) (state S.Store (T.held tx.old)) (state S.Store (T.held tx.new))) }
-    ensures ran { HasCleanDisk (state S.Store (T.held tx.new)) → OnOk result (RunInTurn S.Store (map make store_tables) (T.held tx.old) (T.held tx.new)) }
-    ensures failed_at { HasCleanDisk (state S.Store (T.held tx.new)) → IfErr result (FailsInTurn S.Store (map make store_tables) (T.held tx.old) (T.held tx.new)) }
-    ensures survives { Survives (state S.Store (T.held tx.old)) (state S.Store (T.held tx.new)) (λ _. ⊥) }
-{
-    create_each(
-        tx,
-        &[
-            StoreTable::Mark,
-            StoreTable::Item,
-            StoreTable::Member,
-            StoreTable::Edition,
-            StoreTable::Entry,
-            StoreTable::Kept,
-        ],
-    )
 }

@@ -1,15 +1,15 @@
 //! Rows that are taken out of a table, inside an open transaction.
 
-ghost use Rattle.std.specs.Prelude.{◌≡◌, true, codes, IfErr, OnOk};
+ghost use Rattle.std.specs.Prelude.{◌≡◌, true, IfErr, OnOk};
 ghost use Rattle.sqlite.specs.State.{HasCleanDisk, Survives};
 ghost use Rattle.sqlite.specs.Held.{state};
-ghost use Rattle.dict_tables.specs.Tables.{edition as edition_table, entry, table_of};
-ghost use Rattle.dict_sql.specs.Effects.{WhileOpen, equals_number};
+ghost use Rattle.dict_tables.specs.Tables.{table_of};
+ghost use Rattle.dict_sql.specs.Effects.{WhileOpen};
 ghost use Rattle.dict_sql.specs.Deletes.{HasToRemove, Removes, FailsToRemove, clear_text};
 
 use crate::transaction::OpenTransaction;
 use dict_tables::StoreTable;
-use sqlite::{Alter, Error, params};
+use sqlite::{Alter, Error};
 
 fn text_of(table: StoreTable) -> &'static str
     ensures { result.now ≡ clear_text table }
@@ -36,32 +36,4 @@ pub fn clear_table<S: Alter, T: OpenTransaction<S>>(
     ensures survives { Survives (state S.Store (T.held tx.old)) (state S.Store (T.held tx.new)) (λ _. ⊥) }
 {
     tx.execute(text_of(table), &[])
-}
-
-/// Takes out the edition of this number. It answers the count of rows that `sqlite` reports.
-pub fn delete_edition<S: Alter, T: OpenTransaction<S>>(
-    tx: &mut T,
-    number: i64,
-) -> Result<usize, Error>
-    requires { WhileOpen (state S.Store (T.held tx.old)) (HasToRemove edition_table) }
-    ensures same_reference { T.reference tx.new ≡ T.reference tx.old }
-    ensures removed { HasCleanDisk (state S.Store (T.held tx.new)) → OnOk result (Removes (codes "edition") (equals_number 1 number) (state S.Store (T.held tx.old)) (state S.Store (T.held tx.new))) }
-    ensures failed { HasCleanDisk (state S.Store (T.held tx.new)) → IfErr result (FailsToRemove (codes "edition") (equals_number 1 number) (state S.Store (T.held tx.old)) (state S.Store (T.held tx.new))) }
-    ensures survives { Survives (state S.Store (T.held tx.old)) (state S.Store (T.held tx.new)) (λ _. ⊥) }
-{
-    tx.execute("DELETE FROM edition WHERE number = ?1", params![number])
-}
-
-/// Takes out the entries of this edition. It answers the count of rows that `sqlite` reports.
-pub fn delete_entries<S: Alter, T: OpenTransaction<S>>(
-    tx: &mut T,
-    edition: i64,
-) -> Result<usize, Error>
-    requires { WhileOpen (state S.Store (T.held tx.old)) (HasToRemove entry) }
-    ensures same_reference { T.reference tx.new ≡ T.reference tx.old }
-    ensures removed { HasCleanDisk (state S.Store (T.held tx.new)) → OnOk result (Removes (codes "entry") (equals_number 1 edition) (state S.Store (T.held tx.old)) (state S.Store (T.held tx.new))) }
-    ensures failed { HasCleanDisk (state S.Store (T.held tx.new)) → IfErr result (FailsToRemove (codes "entry") (equals_number 1 edition) (state S.Store (T.held tx.old)) (state S.Store (T.held tx.new))) }
-    ensures survives { Survives (state S.Store (T.held tx.old)) (state S.Store (T.held tx.new)) (λ _. ⊥) }
-{
-    tx.execute("DELETE FROM entry WHERE edition = ?1", params![edition])
 }

@@ -3,14 +3,14 @@
 ghost use Rattle.std.specs.Prelude.{◌≡◌, codes, IfErr, OnOk};
 ghost use Rattle.sqlite.specs.State.{HasCleanDisk, Survives};
 ghost use Rattle.sqlite.specs.Held.{state};
-ghost use Rattle.dict_tables.specs.Tables.{mark, item, member, edition, entry, kept};
-ghost use Rattle.dict_records.specs.Typed.{lent_mark, lent_item, lent_member, lent_edition, lent_entry, lent_kept};
-ghost use Rattle.dict_sql.specs.Encodings.{mark_row, item_row, member_row, edition_row, entry_row, kept_row};
+ghost use Rattle.dict_tables.specs.Tables.{mark, item, member, edition, kept};
+ghost use Rattle.dict_records.specs.Typed.{lent_mark, lent_item, lent_member, lent_kept};
+ghost use Rattle.dict_sql.specs.Encodings.{mark_row, item_row, member_row, kept_row};
 ghost use Rattle.dict_sql.specs.Effects.{Has, WhileOpen};
 ghost use Rattle.dict_sql.specs.Inserts.{Inserts, FailsToInsert};
 
 use crate::transaction::OpenTransaction;
-use dict_records::{Edition, Entry, Item, Kept, Mark, Member};
+use dict_records::{Item, Kept, Mark, Member};
 use sqlite::{Alter, Error, params};
 
 /// Inserts the mark. It answers the count of written rows that `sqlite` reports.
@@ -74,45 +74,6 @@ pub fn insert_member<S: Alter, T: OpenTransaction<S>>(
     tx.execute(
         "INSERT INTO member (owner, ord, name) VALUES (?1, ?2, ?3)",
         params![given.owner, ord, given.name],
-    )
-}
-
-/// Inserts an edition, with the whole text that its entries are cut from. It answers the count of written rows that `sqlite` reports.
-pub fn insert_edition<S: Alter, T: OpenTransaction<S>>(
-    tx: &mut T,
-    given: &Edition<&str, &[u8]>,
-) -> Result<usize, Error>
-    requires { WhileOpen (state S.Store (T.held tx.old)) (Has edition) }
-    ensures same_reference { T.reference tx.new ≡ T.reference tx.old }
-    ensures added { HasCleanDisk (state S.Store (T.held tx.new)) → OnOk result (Inserts (codes "edition") (edition_row (lent_edition given.now)) (state S.Store (T.held tx.old)) (state S.Store (T.held tx.new))) }
-    ensures failed { HasCleanDisk (state S.Store (T.held tx.new)) → IfErr result (FailsToInsert (codes "edition") (edition_row (lent_edition given.now)) (state S.Store (T.held tx.old)) (state S.Store (T.held tx.new))) }
-    ensures survives { Survives (state S.Store (T.held tx.old)) (state S.Store (T.held tx.new)) (λ _. ⊥) }
-{
-    let number = given.number;
-    tx.execute(
-        "INSERT INTO edition (number, owner, title, info, body) VALUES (?1, ?2, ?3, ?4, ?5)",
-        params![number, given.owner, given.title, given.info, given.body],
-    )
-}
-
-/// Inserts an entry of an edition: its headword, and where its body stands in the text. It answers the count of written rows that `sqlite` reports.
-pub fn insert_entry<S: Alter, T: OpenTransaction<S>>(
-    tx: &mut T,
-    given: &Entry<&str>,
-) -> Result<usize, Error>
-    requires { WhileOpen (state S.Store (T.held tx.old)) (Has entry) }
-    ensures same_reference { T.reference tx.new ≡ T.reference tx.old }
-    ensures added { HasCleanDisk (state S.Store (T.held tx.new)) → OnOk result (Inserts (codes "entry") (entry_row (lent_entry given.now)) (state S.Store (T.held tx.old)) (state S.Store (T.held tx.new))) }
-    ensures failed { HasCleanDisk (state S.Store (T.held tx.new)) → IfErr result (FailsToInsert (codes "entry") (entry_row (lent_entry given.now)) (state S.Store (T.held tx.old)) (state S.Store (T.held tx.new))) }
-    ensures survives { Survives (state S.Store (T.held tx.old)) (state S.Store (T.held tx.new)) (λ _. ⊥) }
-{
-    let edition = given.edition;
-    let ord = given.ord;
-    let start = given.start;
-    let length = given.length;
-    tx.execute(
-        "INSERT INTO entry (edition, ord, headword, start, length) VALUES (?1, ?2, ?3, ?4, ?5)",
-        params![edition, ord, given.headword, start, length],
     )
 }
 

@@ -1,16 +1,16 @@
 //! The records of a small table, or those that a condition names, as lists in the order of the key.
 
-ghost use Rattle.std.specs.Prelude.{◌≡◌, ℕ, false, [], ◌∷◌, filter, map, codes, IfOk, IfErr};
+ghost use Rattle.std.specs.Prelude.{◌≡◌, false, [], ◌∷◌, filter, map, codes, IfOk, IfErr};
 ghost use Rattle.sqlite.specs.State.{HasCleanDisk, Survives};
 ghost use Rattle.sqlite.specs.Held.{state};
-ghost use Rattle.dict_tables.specs.Tables.{mark, item, member, edition as edition_table, kept};
-ghost use Rattle.dict_sql.specs.Encodings.{stored_mark, stored_item, stored_member, stored_edition, stored_kept};
-ghost use Rattle.dict_sql.specs.Columns.{mark_columns, item_columns, member_columns, edition_columns, kept_columns};
+ghost use Rattle.dict_tables.specs.Tables.{item, member, edition as edition_table, kept};
+ghost use Rattle.dict_sql.specs.Encodings.{stored_item, stored_member, stored_edition, stored_kept};
+ghost use Rattle.dict_sql.specs.Columns.{item_columns, member_columns, edition_columns, kept_columns};
 ghost use Rattle.dict_sql.specs.Effects.{Has, WhileOpen, equals_number, equals_text, rows_of};
 ghost use Rattle.dict_sql.specs.Reads.{Lists, Selects, FailsToRead, FailsToList, FailsToDecodeAll};
 
 use crate::records::{ReadError, Record};
-use dict_records::{Edition, Item, Kept, Mark, Member, Stored};
+use dict_records::{Edition, Item, Kept, Member, Stored};
 use sqlite::{Alter, Connection, Error, Row, params};
 use std::alloc::Global;
 
@@ -25,31 +25,6 @@ pub fn records_of<R: Record + Drop>(alloc: Global, rows: &[Row]) -> Result<Vec<R
         all.push(record)?;
     }
     Ok(all)
-}
-
-fn mark_rows<S: Alter>(conn: &mut Connection<S>) -> Result<Vec<Row>, Error>
-    requires { WhileOpen (state S.Store conn.old) (Has mark) }
-    ensures listed { HasCleanDisk (state S.Store conn.new) → IfOk result (λ rows. Lists (codes "mark") (1 ∷ []) (state S.Store conn.old) (state S.Store conn.new) rows.items) }
-    ensures failed { HasCleanDisk (state S.Store conn.new) → IfErr result (FailsToRead (state S.Store conn.old) (state S.Store conn.new)) }
-    ensures mode { conn.old.in_transaction ≡ false → conn.new.in_transaction ≡ false }
-    ensures survives { Survives (state S.Store conn.old) (state S.Store conn.new) (λ _. ⊥) }
-{
-    conn.query_all("SELECT rowid, * FROM mark ORDER BY 2", &[])
-}
-
-/// The mark. Where the tables are sound there is one.
-pub fn marks<S: Alter>(
-    alloc: Global,
-    conn: &mut Connection<S>,
-) -> Result<Vec<Stored<Mark<String>>>, ReadError>
-    requires { WhileOpen (state S.Store conn.old) (Has mark) }
-    ensures listed { HasCleanDisk (state S.Store conn.new) → IfOk result (λ all. Lists (codes "mark") (1 ∷ []) (state S.Store conn.old) (state S.Store conn.new) (map stored_mark all.items)) }
-    ensures failed { HasCleanDisk (state S.Store conn.new) → IfErr result (FailsToList mark_columns (rows_of (codes "mark") (state S.Store conn.old).now) (state S.Store conn.old) (state S.Store conn.new)) }
-    ensures mode { conn.old.in_transaction ≡ false → conn.new.in_transaction ≡ false }
-    ensures survives { Survives (state S.Store conn.old) (state S.Store conn.new) (λ _. ⊥) }
-{
-    let rows = mark_rows(conn)?;
-    records_of(alloc, &rows)
 }
 
 fn item_rows<S: Alter>(conn: &mut Connection<S>) -> Result<Vec<Row>, Error>

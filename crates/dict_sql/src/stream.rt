@@ -1,6 +1,6 @@
 //! The records of a large table, read one at a time.
 //!
-//! A caller begins with `read_entries` or one of its like, and then calls `next_record` until it gives none.
+//! A caller begins with `read_entries_of` or one of its like, and then calls `next_record` until it gives none.
 
 ghost use Rattle.std.specs.Prelude.{◌≡◌, false, [], List, option_map, IfOk, IfErr, IfNone, IsNone, OnOk};
 ghost use Rattle.std.specs.Borrow.{sem, RestsIfErr};
@@ -13,39 +13,11 @@ ghost use Rattle.dict_tables.specs.Tables.{edition as edition_table, entry, kept
 ghost use Rattle.dict_sql.specs.Reads.{select_by_rowid};
 ghost use Rattle.dict_sql.specs.Effects.{Has, WhileOpen};
 ghost use Rattle.dict_sql.specs.Streams.{Scan, HasGiven, GivesOn, FailsToGive, FailsToMove, IsNotBegun};
-ghost use Rattle.dict_sql.specs.Streams.Scan.{AllEditions, AllEntries, EntriesOf, AllKept, KeptById, ByRowid, EditionNumbers};
+ghost use Rattle.dict_sql.specs.Streams.Scan.{EntriesOf, AllKept, KeptById, ByRowid, EditionNumbers};
 
 use crate::records::{ReadError, Record};
 use dict_tables::StoreTable;
 use sqlite::{Alter, Connection, Error, Rows, params};
-
-/// Begins to read all editions with their whole texts, in the order of their numbers.
-///
-/// An error is the store's, or tells that the limit on steps was met.
-pub fn read_editions<S: Alter>(conn: &mut Connection<S>) -> Result<Rows<'_, S>, Error>
-    requires { WhileOpen (state S.Store conn.old) (Has edition_table) }
-    ensures* refused { sem 𝓛 (RestsIfErr (the_row S.row S.Store) conn.entry (λ rows. rows.conn.ghost_name) result (IsNotBegun S.Store conn.old result)) }
-    ensures same_reference { IfOk result (λ rows. rows.conn.ghost_name ≡ conn.entry.ghost_name) }
-    ensures begun { IfOk result (λ rows. HasCleanDisk (state S.Store rows.conn.now) → HasGiven S.Store AllEditions rows.conn.now [] × IsUnchanged (state S.Store conn.old) (state S.Store rows.conn.now)) }
-    ensures mode { IfOk result (λ rows. conn.old.in_transaction ≡ false → rows.conn.now.in_transaction ≡ false) }
-    ensures survives { IfOk result (λ rows. Survives (state S.Store conn.old) (state S.Store rows.conn.now) (λ _. ⊥)) }
-{
-    conn.query("SELECT rowid, * FROM edition ORDER BY 2", &[])
-}
-
-/// Begins to read the entries of all editions, by edition and then in their order.
-///
-/// An error is the store's, or tells that the limit on steps was met.
-pub fn read_entries<S: Alter>(conn: &mut Connection<S>) -> Result<Rows<'_, S>, Error>
-    requires { WhileOpen (state S.Store conn.old) (Has entry) }
-    ensures* refused { sem 𝓛 (RestsIfErr (the_row S.row S.Store) conn.entry (λ rows. rows.conn.ghost_name) result (IsNotBegun S.Store conn.old result)) }
-    ensures same_reference { IfOk result (λ rows. rows.conn.ghost_name ≡ conn.entry.ghost_name) }
-    ensures begun { IfOk result (λ rows. HasCleanDisk (state S.Store rows.conn.now) → HasGiven S.Store AllEntries rows.conn.now [] × IsUnchanged (state S.Store conn.old) (state S.Store rows.conn.now)) }
-    ensures mode { IfOk result (λ rows. conn.old.in_transaction ≡ false → rows.conn.now.in_transaction ≡ false) }
-    ensures survives { IfOk result (λ rows. Survives (state S.Store conn.old) (state S.Store rows.conn.now) (λ _. ⊥)) }
-{
-    conn.query("SELECT rowid, * FROM entry ORDER BY 2, 3", &[])
-}
 
 /// Begins to read the entries of this edition, in their order.
 ///

@@ -1,6 +1,6 @@
 //! The runs, each over memory and over two files that memory holds.
 
-use crate::{inside, older, plain};
+use crate::{inside, keyed, old, older, plain};
 use dict_sql_checks::{close, open};
 use sqlite::{Connection, Files};
 use sqlite_disk::{Disk, Memory};
@@ -28,6 +28,20 @@ fn older_tables_in_memory(rt: HostRuntime) -> Result<(), Fail> {
     let alloc = rt.alloc();
     let mut conn = Connection::open_in_memory(alloc)?;
     older::run(&rt, alloc, &mut conn)
+}
+
+#[test]
+fn keyed_tables_in_memory(rt: HostRuntime) -> Result<(), Fail> {
+    let alloc = rt.alloc();
+    let mut conn = Connection::open_in_memory(alloc)?;
+    keyed::run(&rt, alloc, &mut conn)
+}
+
+#[test]
+fn old_entries_in_memory(rt: HostRuntime) -> Result<(), Fail> {
+    let alloc = rt.alloc();
+    let mut conn = Connection::open_in_memory(alloc)?;
+    old::run(&rt, alloc, &mut conn)
 }
 
 fn new_files(alloc: Global) -> Files<Memory> {

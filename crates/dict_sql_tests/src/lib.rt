@@ -1,4 +1,4 @@
-//! Runs of the statements over each table without keys, over memory and over files that memory holds. A library with tests alone.
+//! Which tables are recognised, and runs of the statements over each table, over memory and over files that memory holds. A library with tests alone.
 #![tactic(auto)]
 
 #[cfg(test)]
@@ -6,8 +6,20 @@ mod checks;
 #[cfg(test)]
 mod connections;
 #[cfg(test)]
+mod definitions;
+#[cfg(test)]
+mod headers;
+#[cfg(test)]
 mod inside;
+#[cfg(test)]
+mod keyed;
+#[cfg(test)]
+mod old;
 #[cfg(test)]
 mod older;
 #[cfg(test)]
+mod parts;
+#[cfg(test)]
 mod plain;
+#[cfg(test)]
+mod rest;

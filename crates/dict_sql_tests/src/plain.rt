@@ -1,4 +1,4 @@
-//! The statements of each table on their happy path, with other tables before and after them. The tables are made by one transaction.
+//! The statements of each table on their happy path, with other tables before and after them.
 
 use crate::checks::holds;
 use dict_sql_checks::{compare_numbers, raw};
@@ -13,7 +13,7 @@ mod left_open;
 mod reads;
 mod rows;
 
-/// Makes the tables, fills them and reads them. There is no room for them a second time. A transaction is left open between calls.
+/// Makes the tables, fills them and reads them. Their names aren't free a second time. A transaction is left open between calls.
 pub(crate) fn fill<S: Alter>(
     rt: &impl Abort,
     alloc: Global,
@@ -32,7 +32,10 @@ pub(crate) fn fill<S: Alter>(
     put_all(conn)?;
     raw(
         conn,
-        "INSERT INTO mark VALUES (2, '', 9223372036854775807, -1); INSERT INTO entry (rowid, edition, ord, headword, start, length) VALUES (9223372036854775807, 3, 0, 'zinc', 0, 0)",
+        "INSERT INTO mark VALUES (2, '', 9223372036854775807, -1); \
+         INSERT INTO edition VALUES (3, 'owner', 'title', '', x''), (2, 'owner', 'title', 'it''s \"quoted\"\u{1}\t\n', x'00ff2722'); \
+         INSERT INTO entry VALUES (2, 0, '''ore''', 0, 9223372036854775807), (1, 1, 'opal', 1, 9223372036854775807), (1, 0, '', 0, 9223372036854775807); \
+         INSERT INTO entry (rowid, edition, ord, headword, start, length) VALUES (9223372036854775807, 3, 0, 'zinc', 0, 0)",
     )?;
     reads::look(rt, alloc, conn)?;
     left_open::run(rt, conn)

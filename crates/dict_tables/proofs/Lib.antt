@@ -7,6 +7,3 @@ pub mod NameLemmas
 pub mod MadeLemmas
 pub mod DroppedLemmas
 pub mod UsedLemmas
-pub mod OwnLemmas
-pub mod KeyedLemmas
-pub mod BehindLemmas

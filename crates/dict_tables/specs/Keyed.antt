@@ -1,14 +1,11 @@
 -- The tables of what is derived of headwords, and their indexes, as data.
-use Rattle.std.specs.Prelude.{ℕ, List, [], ◌∷◌, codes, None, false}
+use Rattle.std.specs.Prelude.{ℕ, [], ◌∷◌, codes, None}
 use Rattle.sqlite.specs.Kind.TheVariants.{Integer, Text, Blob}
 use Rattle.sqlite.specs.Table.{Table}
-use Rattle.sqlite_schema.specs.declared.schema.Index.{Index}
 use Rattle.sqlite_value.specs.Keys.{plain}
 use Rattle.dict_tables.specs.Tables.{needed, simple}
 use Rattle.dict_tables.specs.declared.keyed.KeyedTable.{KeyedTable}
 use Rattle.dict_tables.specs.declared.keyed.KeyedTable.TheVariants.{Entry, Word, Gram}
-use Rattle.dict_tables.specs.declared.keyed.KeyIndex.{KeyIndex}
-use Rattle.dict_tables.specs.declared.keyed.KeyIndex.TheVariants.{Key, Reversed}
 
 -- ---- entry: the headwords of each edition, where their bodies stand, and the key of each, read in either direction
 
@@ -18,11 +15,6 @@ entry tree = simple (codes "entry") tree (needed (codes "edition") Integer ∷ n
 -- the same in schemas 2 and 3, which are only read and dropped
 abbrev pub old_entry : ℕ → Table
 old_entry tree = simple (codes "entry") tree (needed (codes "edition") Integer ∷ needed (codes "ord") Integer ∷ needed (codes "headword") Text ∷ needed (codes "start") Integer ∷ needed (codes "length") Integer ∷ needed (codes "key") Blob ∷ needed (codes "rkey") Blob ∷ []) None (1 ∷ 2 ∷ []) ((1 ∷ 2 ∷ []) ∷ []) (plain ∷ [])
-
--- ---- dictcat_entry: in a migration from an older schema the entries wait here, with the columns and the key that `entry` has in schema 1, while `entry` is dropped and made again
-
-abbrev pub helper : ℕ → Table
-helper tree = simple (codes "dictcat_entry") tree (needed (codes "edition") Integer ∷ needed (codes "ord") Integer ∷ needed (codes "headword") Text ∷ needed (codes "start") Integer ∷ needed (codes "length") Integer ∷ []) None (1 ∷ 2 ∷ []) ((1 ∷ 2 ∷ []) ∷ []) (plain ∷ [])
 
 -- ---- word: the words of each key
 
@@ -40,13 +32,3 @@ abbrev pub table_of : KeyedTable → ℕ → Table
 table_of Entry = entry
 table_of Word = word
 table_of Gram = gram
-
--- ---- the indexes over the entries of an edition by their keys, read in either direction
-
--- an index that isn't unique, by the edition and one more column, each in the plain order; its tree and that of its table come with a schema
-abbrev pub by_edition_and : List ℕ → ℕ → Index
-by_edition_and name at = record { name = name; tree = 0; table = 0; columns = 1 ∷ at ∷ []; order = plain; is_unique = false }
-
-abbrev pub index_of : KeyIndex → Index
-index_of Key = by_edition_and (codes "dictcat_entry_key") 6
-index_of Reversed = by_edition_and (codes "dictcat_entry_rkey") 7

@@ -4,6 +4,4 @@ pub mod Names
 pub mod Found
 pub mod Definitions
 pub mod Room
-pub mod Indexes
 pub mod OwnNames
-pub mod Behind

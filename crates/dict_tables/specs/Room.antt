@@ -8,8 +8,6 @@ use Rattle.sqlite.specs.Does.{lacks_sequence}
 use Rattle.sqlite_schema.specs.Names.{same_name}
 use Rattle.sqlite_schema.specs.declared.schema.Reference.{Reference}
 use Rattle.dict_tables.specs.Names.{uses_table_name}
-use Rattle.dict_tables.specs.Keyed.{entry, word, gram, index_of}
-use Rattle.dict_tables.specs.declared.keyed.KeyIndex.TheVariants.{Key, Reversed}
 
 -- a foreign key names this table, in letters of either case; the table need not be there
 abbrev pub is_referred : Schema → List ℕ → Bool
@@ -39,12 +37,3 @@ pub record LeavesRoom (schema : Schema) (table : Table) : Type 0 where
   pub unused : is_used schema table.name ≡ false
   pub unreferred : is_referred schema table.name ≡ false
   pub unindexed : AllByRecursion (λ index. is_used schema index.name ≡ false) (automatics table 0 0 table.uniques)
-
--- There is room for each of the tables of what is derived of headwords, the names of the indexes are free, and no table with AUTOINCREMENT waits for its counter, which a CREATE would make too.
-pub record HasKeyedRoom (schema : Schema) : Type 0 where
-  pub entries : LeavesRoom schema (entry 0)
-  pub words : LeavesRoom schema (word 0)
-  pub grams : LeavesRoom schema (gram 0)
-  pub key : is_used schema (index_of Key).name ≡ false
-  pub reversed : is_used schema (index_of Reversed).name ≡ false
-  pub counted : lacks_sequence schema ≡ false

@@ -77,7 +77,3 @@ table_of Member = member
 table_of Edition = edition
 table_of Entry = entry
 table_of Kept = kept
-
--- in the order in which they are made
-abbrev pub store_tables : List StoreTable
-store_tables = Mark ∷ Item ∷ Member ∷ Edition ∷ Entry ∷ Kept ∷ []

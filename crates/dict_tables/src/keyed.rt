@@ -1,7 +1,7 @@
-//! The tables of what is derived of headwords and their indexes by name.
+//! The tables of what older versions derived of headwords, by name.
 
 ghost use Rattle.std.specs.Prelude.{◌≡◌};
-ghost use Rattle.dict_tables.specs.Keyed.{table_of, index_of};
+ghost use Rattle.dict_tables.specs.Keyed.{table_of};
 
 /// A table of what is derived of headwords.
 #[derive(Clone, Copy, Debug, PartialEq, Eq)]
@@ -23,27 +23,6 @@ impl KeyedTable {
             KeyedTable::Entry => "entry",
             KeyedTable::Word => "word",
             KeyedTable::Gram => "gram",
-        }
-    }
-}
-
-/// An index over the entries of an edition. It isn't unique, as entries may have equal keys.
-#[derive(Clone, Copy, Debug, PartialEq, Eq)]
-pub enum KeyIndex {
-    /// By the key.
-    Key,
-    /// By the key, read in reverse order.
-    Reversed,
-}
-
-impl KeyIndex {
-    /// The name of the index.
-    pub fn name(self) -> &'static str
-        ensures { result.now ≡ (index_of self).name }
-    {
-        match self {
-            KeyIndex::Key => "dictcat_entry_key",
-            KeyIndex::Reversed => "dictcat_entry_rkey",
         }
     }
 }

@@ -11,7 +11,7 @@ use sqlite_schema::names::same_name;
 use sqlite_schema::schema::{Schema, Table};
 
 // Whether a foreign key of this table names a table so.
-pub(crate) fn refers_to(child: &Table, name: &[u8]) -> bool
+fn refers_to(child: &Table, name: &[u8]) -> bool
     ensures { result ≡ list_any (λ (ref : Reference). same_name name.now ref.parent) child.now.references }
 {
     let references = child.references.as_slice();

@@ -1,25 +1,23 @@
 //! What is read of each table.
 
 use crate::checks::same_text;
-use dict_records::{Edition, Entry, Kept, Mark, Stored};
-use dict_sql::read::{editions_numbered, items, kept_replies_of, marks, members};
-use dict_sql::records::{EditionNumber, ReadError, Record};
+use crate::rest::told_rest;
+use dict_records::{Entry, Kept, Mark, Stored};
+use dict_sql::read::{editions_numbered, items, kept_replies_of, members};
+use dict_sql::records::{EditionNumber, ReadError};
 use dict_sql::stream::{
-    next_record, read_edition_numbers, read_editions, read_entries, read_entries_of,
-    read_kept_replies,
+    next_record, read_by_rowid, read_edition_numbers, read_entries_of, read_kept_replies,
 };
 use dict_sql_checks::told;
 use dict_tables::{StoreTable, has_table};
 use sqlite::{Alter, Connection, Error, Rows};
 use std::alloc::Global;
-use std::fmt::Debug;
 use std::process::Abort;
 use std::test::Fail;
 
 // What is read as a list, and what row by row.
 #[derive(Clone, Copy)]
 enum Wanted {
-    Marks,
     Items,
     Members,
     EditionsNumbered(i64),
@@ -29,9 +27,8 @@ enum Wanted {
 
 #[derive(Clone, Copy)]
 enum Stream {
-    Editions,
+    Marks,
     EditionNumbers,
-    Entries,
     EntriesOf(i64),
     KeptReplies,
     KeptPastAFault,
@@ -50,21 +47,11 @@ const MEMBERS: &str =
      Stored { rowid: 2, value: Member { owner: \"a\", ord: 1, name: \"ore\" } }, \
      Stored { rowid: 1, value: Member { owner: \"b\", ord: 0, name: \"gem\" } }]";
 
-const EDITIONS: &str =
-    "[Stored { rowid: 2, value: Edition { number: 2, owner: \"owner\", title: \"title\", info: \"it's \\\"quoted\\\"\\u{1}\\t\\n\", body: [0, 255, 39, 34] } }, \
-     Stored { rowid: 3, value: Edition { number: 3, owner: \"owner\", title: \"title\", info: \"\", body: [] } }]";
-
 const SECOND: &str =
     "[Stored { rowid: 2, value: Edition { number: 2, owner: \"owner\", title: \"title\", info: \"it's \\\"quoted\\\"\\u{1}\\t\\n\", body: [0, 255, 39, 34] } }]";
 
 const NUMBERS: &str = "[Stored { rowid: 2, value: EditionNumber { number: 2 } }, \
      Stored { rowid: 3, value: EditionNumber { number: 3 } }]";
-
-const ENTRIES: &str =
-    "[Stored { rowid: 3, value: Entry { edition: 1, ord: 0, headword: \"\", start: 0, length: 9223372036854775807 } }, \
-     Stored { rowid: 2, value: Entry { edition: 1, ord: 1, headword: \"opal\", start: 1, length: 9223372036854775807 } }, \
-     Stored { rowid: 1, value: Entry { edition: 2, ord: 0, headword: \"'ore'\", start: 0, length: 9223372036854775807 } }, \
-     Stored { rowid: 9223372036854775807, value: Entry { edition: 3, ord: 0, headword: \"zinc\", start: 0, length: 0 } }]";
 
 const OF_FIRST: &str =
     "[Stored { rowid: 3, value: Entry { edition: 1, ord: 0, headword: \"\", start: 0, length: 9223372036854775807 } }, \
@@ -84,45 +71,20 @@ const REPLIES_PAST_FIRST: &str =
 const SECOND_REPLY: &str =
     "[Stored { rowid: 1, value: Kept { id: \"r2\", number: 2, verb: \"install\", name: \"gem\", edition: Some(9223372036854775807) } }]";
 
-// What is read, and its records as text. Marks have every number of 64 bits. Items come in the order of their places, with a title or an edition or none; members by owner and then in their order; editions in the order of their numbers, and texts may be empty, and have quote signs and control characters; entries by edition and then in their order; kept replies in the order of their numbers.
-static READS: [(Wanted, &str); 13] = [
-    (Wanted::Marks, MARKS),
+// What is read, and its records as text. Marks have every number of 64 bits. Items come in the order of their places, with a title or an edition or none; members by owner and then in their order; editions in the order of their numbers, and texts may be empty, and have quote signs and control characters; entries of an edition in their order; kept replies in the order of their numbers.
+static READS: [(Wanted, &str); 11] = [
+    (Wanted::Streamed(Stream::Marks), MARKS),
     (Wanted::Items, ITEMS),
     (Wanted::Members, MEMBERS),
     (Wanted::EditionsNumbered(1), "[]"),
     (Wanted::EditionsNumbered(2), SECOND),
-    (Wanted::Streamed(Stream::Editions), EDITIONS),
     (Wanted::Streamed(Stream::EditionNumbers), NUMBERS),
-    (Wanted::Streamed(Stream::Entries), ENTRIES),
     (Wanted::Streamed(Stream::EntriesOf(1)), OF_FIRST),
     (Wanted::Streamed(Stream::KeptReplies), REPLIES),
     (Wanted::KeptRepliesOf("r2"), SECOND_REPLY),
     (Wanted::KeptRepliesOf("R2"), "[]"),
     (Wanted::Streamed(Stream::KeptPastAFault), REPLIES_PAST_FIRST),
 ];
-
-// The records that are still to come.
-fn rest<S: Alter, R: Record + Drop>(
-    alloc: Global,
-    rows: &mut Rows<'_, S>,
-) -> Result<Vec<R>, ReadError> {
-    let mut all = Vec::new(alloc);
-    'rows: for _ in 0..1000 {
-        match next_record(rows)? {
-            Some(record) => all.push(record)?,
-            None => return Ok(all),
-        }
-    }
-    Ok(all)
-}
-
-// Their text.
-fn told_rest<S: Alter, R: Record + Debug + Drop>(
-    alloc: Global,
-    rows: &mut Rows<'_, S>,
-) -> Result<String, ReadError> {
-    told(alloc, rest::<S, R>(alloc, rows))
-}
 
 // The text of the kept replies behind the first, which is refused where a mark is asked for.
 fn told_past_a_fault<S: Alter>(alloc: Global, rows: &mut Rows<'_, S>) -> Result<String, ReadError> {
@@ -136,16 +98,16 @@ fn told_past_a_fault<S: Alter>(alloc: Global, rows: &mut Rows<'_, S>) -> Result<
 
 fn begin<S: Alter>(conn: &mut Connection<S>, stream: Stream) -> Result<Rows<'_, S>, Error> {
     let schema = conn.schema();
-    if !has_table(schema, StoreTable::Edition)
+    if !has_table(schema, StoreTable::Mark)
+        || !has_table(schema, StoreTable::Edition)
         || !has_table(schema, StoreTable::Entry)
         || !has_table(schema, StoreTable::Kept)
     {
         return Err(Error::InvalidQuery);
     }
     match stream {
-        Stream::Editions => read_editions(conn),
+        Stream::Marks => read_by_rowid(conn, StoreTable::Mark),
         Stream::EditionNumbers => read_edition_numbers(conn),
-        Stream::Entries => read_entries(conn),
         Stream::EntriesOf(edition) => read_entries_of(conn, edition),
         Stream::KeptReplies | Stream::KeptPastAFault => read_kept_replies(conn),
     }
@@ -158,11 +120,9 @@ fn read_stream<S: Alter>(
 ) -> Result<String, ReadError> {
     let mut rows = begin(conn, stream)?;
     match stream {
-        Stream::Editions => told_rest::<S, Stored<Edition<String, Vec<u8>>>>(alloc, &mut rows),
+        Stream::Marks => told_rest::<S, Stored<Mark<String>>>(alloc, &mut rows),
         Stream::EditionNumbers => told_rest::<S, Stored<EditionNumber>>(alloc, &mut rows),
-        Stream::Entries | Stream::EntriesOf(_) => {
-            told_rest::<S, Stored<Entry<String>>>(alloc, &mut rows)
-        }
+        Stream::EntriesOf(_) => told_rest::<S, Stored<Entry<String>>>(alloc, &mut rows),
         Stream::KeptReplies => told_rest::<S, Stored<Kept<String>>>(alloc, &mut rows),
         Stream::KeptPastAFault => told_past_a_fault(alloc, &mut rows),
     }
@@ -175,8 +135,7 @@ fn read<S: Alter>(
     wanted: Wanted,
 ) -> Result<String, ReadError> {
     let schema = conn.schema();
-    if !has_table(schema, StoreTable::Mark)
-        || !has_table(schema, StoreTable::Item)
+    if !has_table(schema, StoreTable::Item)
         || !has_table(schema, StoreTable::Member)
         || !has_table(schema, StoreTable::Edition)
         || !has_table(schema, StoreTable::Kept)
@@ -184,7 +143,6 @@ fn read<S: Alter>(
         return Err(ReadError::Store(Error::InvalidQuery));
     }
     match wanted {
-        Wanted::Marks => told(alloc, marks(alloc, conn)),
         Wanted::Items => told(alloc, items(alloc, conn)),
         Wanted::Members => told(alloc, members(alloc, conn)),
         Wanted::EditionsNumbered(number) => told(alloc, editions_numbered(alloc, conn, number)),

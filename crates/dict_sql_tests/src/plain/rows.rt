@@ -3,92 +3,74 @@
 ghost use Rattle.dict_tables.specs.Tables.{table_of};
 ghost use Rattle.dict_sql.specs.Effects.{Has, WhileOpen, seen};
 
-use dict_records::{Edition, Entry, Item, Kept, Mark, Member};
+use dict_records::{Item, Kept, Mark, Member};
 use dict_sql::commit::commit;
-use dict_sql::create::create_tables;
+use dict_sql::create::create_table;
 use dict_sql::drop::drop_table;
-use dict_sql::insert::{
-    insert_edition, insert_entry, insert_item, insert_kept, insert_mark, insert_member,
-};
-use dict_tables::{StoreTable, has_room, has_table};
+use dict_sql::insert::{insert_item, insert_kept, insert_mark, insert_member};
+use dict_tables::{StoreTable, has_table, is_name_used, lacks_counting_table};
 use sqlite::{Alter, Connection, Error, Transaction};
 
-// A table and what a row of it has: texts, numbers, the number of an edition, and octets.
+static TABLES: [StoreTable; 6] = [
+    StoreTable::Mark,
+    StoreTable::Item,
+    StoreTable::Member,
+    StoreTable::Edition,
+    StoreTable::Entry,
+    StoreTable::Kept,
+];
+
+// What a row of a table has: texts, numbers, and the number of an edition.
 #[derive(Clone, Copy)]
-struct Row(
-    StoreTable,
-    [&'static str; 3],
-    [i64; 2],
-    Option<i64>,
-    &'static [u8],
-);
+struct Row(StoreTable, [&'static str; 3], [i64; 2], Option<i64>);
 
 // They are put in by this order.
-static ROWS: [Row; 15] = [
-    Row(StoreTable::Mark, ["dictcat", "", ""], [2, 8], None, b""),
-    Row(
-        StoreTable::Item,
-        ["all", "It's \"all\"", ""],
-        [1, 1],
-        None,
-        b"",
-    ),
+static ROWS: [Row; 10] = [
+    Row(StoreTable::Mark, ["dictcat", "", ""], [2, 8], None),
+    Row(StoreTable::Item, ["all", "It's \"all\"", ""], [1, 1], None),
     Row(
         StoreTable::Item,
         ["gem", "", ""],
         [0, 0],
         Some(9_223_372_036_854_775_807),
-        b"",
     ),
-    Row(StoreTable::Member, ["b", "gem", ""], [0, 0], None, b""),
-    Row(StoreTable::Member, ["a", "ore", ""], [1, 0], None, b""),
-    Row(StoreTable::Member, ["a", "gem", ""], [0, 0], None, b""),
-    Row(
-        StoreTable::Edition,
-        ["owner", "title", ""],
-        [3, 0],
-        None,
-        b"",
-    ),
-    Row(
-        StoreTable::Edition,
-        ["owner", "title", "it's \"quoted\"\u{1}\t\n"],
-        [2, 0],
-        None,
-        b"\0\xff'\"",
-    ),
-    Row(StoreTable::Entry, ["'ore'", "", ""], [2, 0], None, b""),
-    Row(StoreTable::Entry, ["opal", "", ""], [1, 1], None, b""),
-    Row(StoreTable::Entry, ["", "", ""], [1, 0], None, b""),
+    Row(StoreTable::Member, ["b", "gem", ""], [0, 0], None),
+    Row(StoreTable::Member, ["a", "ore", ""], [1, 0], None),
+    Row(StoreTable::Member, ["a", "gem", ""], [0, 0], None),
     Row(
         StoreTable::Kept,
         ["r2", "install", "gem"],
         [2, 0],
         Some(9_223_372_036_854_775_807),
-        b"",
     ),
-    Row(
-        StoreTable::Kept,
-        ["it's", "install", "gem"],
-        [1, 0],
-        None,
-        b"",
-    ),
-    Row(StoreTable::Kept, ["r3", "retire", "gem"], [3, 0], None, b""),
-    Row(StoreTable::Kept, ["r4", "retire", "ore"], [4, 0], None, b""),
+    Row(StoreTable::Kept, ["it's", "install", "gem"], [1, 0], None),
+    Row(StoreTable::Kept, ["r3", "retire", "gem"], [3, 0], None),
+    Row(StoreTable::Kept, ["r4", "retire", "ore"], [4, 0], None),
 ];
 
-/// Makes all tables where there is room for them.
-pub(crate) fn make_all<S: Alter>(conn: &mut Connection<S>) -> Result<(), Error> {
-    if !has_room(conn.schema()) || !conn.is_autocommit() {
+// Makes the table where its name is free.
+fn make<S: Alter>(conn: &mut Connection<S>, table: StoreTable) -> Result<(), Error> {
+    let schema = conn.schema();
+    if is_name_used(schema, table.name().as_bytes())
+        || lacks_counting_table(schema)
+        || !conn.is_autocommit()
+    {
         return Err(Error::InvalidQuery);
     }
     let mut tx = conn.transaction();
-    create_tables(&mut tx)?;
+    create_table(&mut tx, table)?;
     commit(tx)
 }
 
-// Inserts a row into its table.
+/// Makes all tables, where their names are free.
+pub(crate) fn make_all<S: Alter>(conn: &mut Connection<S>) -> Result<(), Error> {
+    for table in &TABLES {
+        make(conn, *table)?;
+    }
+    Ok(())
+}
+
+// Inserts a row into its table, if it is one of those that have a statement for it.
 fn add<S: Alter>(tx: &mut Transaction<'_, S>, table: StoreTable, row: &Row) -> Result<usize, Error>
     requires { WhileOpen (seen S.Store tx.old) (Has (table_of table)) }
 {
@@ -123,26 +105,6 @@ fn add<S: Alter>(tx: &mut Transaction<'_, S>, table: StoreTable, row: &Row) -> R
                 name: second,
             },
         ),
-        StoreTable::Edition => insert_edition(
-            tx,
-            &Edition {
-                number,
-                owner: first,
-                title: second,
-                info: third,
-                body: row.4,
-            },
-        ),
-        StoreTable::Entry => insert_entry(
-            tx,
-            &Entry {
-                edition: number,
-                ord: other,
-                headword: first,
-                start: other,
-                length: 9_223_372_036_854_775_807,
-            },
-        ),
         StoreTable::Kept => insert_kept(
             tx,
             &Kept {
@@ -153,6 +115,7 @@ fn add<S: Alter>(tx: &mut Transaction<'_, S>, table: StoreTable, row: &Row) -> R
                 edition: row.3,
             },
         ),
+        StoreTable::Edition | StoreTable::Entry => Err(Error::InvalidQuery),
     }
 }
 

@@ -1,4 +1,4 @@
-use Rattle.dict_header_sql.proofs.DefinitionLemmas.{header_defined, same_names, apart_as, from_store, from_keyed, from_helper}
+use Rattle.dict_header_sql.proofs.DefinitionLemmas.{header_defined, same_names, apart_as, from_store, from_keyed}
 use Rattle.dict_header_sql.proofs.laws.definition_laws.Goals as goal
 
 pub returns-clause-header : goal.returns-clause-header
@@ -15,6 +15,3 @@ returns-clause-store c = from_store
 
 pub returns-clause-keyed : goal.returns-clause-keyed
 returns-clause-keyed c = from_keyed
-
-pub returns-clause-helper : goal.returns-clause-helper
-returns-clause-helper c = from_helper

@@ -1,5 +1,5 @@
 use Rattle.dict_migration_sql.proofs.ApartLemmas.{table_index, index_index}
-use Rattle.dict_migration_sql.proofs.FreedLemmas.{freed_exactly, owned_names, room_again, index_still, still_own}
+use Rattle.dict_migration_sql.proofs.FreedLemmas.{freed_exactly, owned_names, room_again}
 use Rattle.dict_migration_sql.proofs.laws.names_laws.Goals as goal
 
 pub returns-clause-tables : goal.returns-clause-tables
@@ -16,9 +16,3 @@ returns-clause-owned c table defined db whole own = owned_names db whole table d
 
 pub returns-clause-again : goal.returns-clause-again
 returns-clause-again c = room_again
-
-pub returns-clause-index : goal.returns-clause-index
-returns-clause-index c = index_still
-
-pub returns-clause-still : goal.returns-clause-still
-returns-clause-still c = still_own

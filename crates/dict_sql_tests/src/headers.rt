@@ -1,0 +1,151 @@
+//! The table of headers is made, headers are put in and read, and one is taken out.
+
+ghost use Rattle.std.specs.Prelude.{OnOk};
+ghost use Rattle.sqlite.specs.State.{HasCleanDisk};
+ghost use Rattle.sqlite.specs.Held.{state};
+ghost use Rattle.dict_sql.specs.Effects.{HasApartRowids, WhileOpen, rows_of, seen};
+ghost use Rattle.dict_sql.specs.Deletes.{HasToRemove};
+ghost use Rattle.dict_header_sql.specs.Table.{header};
+
+use crate::checks::same_text;
+use dict_header_sql::{
+    StoredHeader, create_header_table, delete_header, has_header_table, headers_numbered,
+    infos_numbered, insert_header, next_header, read_headers_by_rowid,
+};
+use dict_records::Header;
+use dict_sql::commit::commit;
+use dict_sql::records::ReadError;
+use dict_sql_checks::told;
+use dict_tables::{StoreTable, has_table, is_name_used, lacks_counting_table};
+use sqlite::{Alter, Connection, Error, Rows, Transaction};
+use std::alloc::Global;
+use std::process::Abort;
+use std::test::Fail;
+
+const FIRST: &str =
+    "StoredHeader { rowid: 1, value: Header { number: 1, owner: \"gem\", title: \"Gems\", info: \"\" } }";
+
+const SECOND: &str =
+    "StoredHeader { rowid: 4, value: Header { number: 4, owner: \"ore\", title: \"\", info: \"of\\nores\" } }";
+
+// Makes the table where its name is free.
+fn make<S: Alter>(conn: &mut Connection<S>) -> Result<(), Error>
+    ensures { HasCleanDisk (state S.Store conn.new) → OnOk result (HasApartRowids (rows_of (header 0).name (state S.Store conn.new).now)) }
+{
+    let schema = conn.schema();
+    if is_name_used(schema, b"edition") || lacks_counting_table(schema) || !conn.is_autocommit() {
+        return Err(Error::InvalidQuery);
+    }
+    let mut tx = conn.transaction();
+    create_header_table(&mut tx)?;
+    commit(tx)
+}
+
+fn put<S: Alter>(
+    tx: &mut Transaction<'_, S>,
+    number: i64,
+    owner: &str,
+    title: &str,
+    info: &str,
+) -> Result<(), Error>
+    requires { WhileOpen (seen S.Store tx.old) (HasToRemove header) }
+    ensures { OnOk result (WhileOpen (seen S.Store tx.new) (HasToRemove header)) }
+{
+    let row = Header {
+        number,
+        owner,
+        title,
+        info,
+    };
+    insert_header(tx, &row)?;
+    Ok(())
+}
+
+fn change<S: Alter>(conn: &mut Connection<S>) -> Result<usize, Error>
+    requires { HasCleanDisk (state S.Store conn.old) → HasApartRowids (rows_of (header 0).name (state S.Store conn.old).now) }
+{
+    if !has_header_table(conn.schema()) || !conn.is_autocommit() {
+        return Err(Error::InvalidQuery);
+    }
+    let mut tx = conn.transaction();
+    put(&mut tx, 4, "ore", "", "of\nores")?;
+    put(&mut tx, 2, "gem", "Gems", "gone")?;
+    put(&mut tx, 1, "gem", "Gems", "")?;
+    let taken = delete_header(&mut tx, 2)?;
+    commit(tx)?;
+    Ok(taken)
+}
+
+// The headers that are still to come.
+fn rest<S: Alter>(alloc: Global, rows: &mut Rows<'_, S>) -> Result<Vec<StoredHeader>, ReadError> {
+    let mut all = Vec::new(alloc);
+    'rows: for _ in 0..100 {
+        match next_header(rows)? {
+            Some(header) => all.push(header)?,
+            None => break 'rows,
+        }
+    }
+    Ok(all)
+}
+
+fn all<S: Alter>(alloc: Global, conn: &mut Connection<S>) -> Result<Vec<StoredHeader>, ReadError> {
+    if !has_header_table(conn.schema()) {
+        return Err(ReadError::Store(Error::InvalidQuery));
+    }
+    let mut rows = read_headers_by_rowid(conn)?;
+    rest(alloc, &mut rows)
+}
+
+fn one<S: Alter>(
+    alloc: Global,
+    conn: &mut Connection<S>,
+    number: i64,
+) -> Result<Vec<StoredHeader>, ReadError> {
+    if !has_header_table(conn.schema()) {
+        return Err(ReadError::Store(Error::InvalidQuery));
+    }
+    headers_numbered(alloc, conn, number)
+}
+
+fn info<S: Alter>(
+    alloc: Global,
+    conn: &mut Connection<S>,
+    number: i64,
+) -> Result<Vec<String>, ReadError> {
+    if !has_header_table(conn.schema()) {
+        return Err(ReadError::Store(Error::InvalidQuery));
+    }
+    infos_numbered(alloc, conn, number)
+}
+
+// All headers by their rowids.
+fn look<S: Alter>(rt: &impl Abort, alloc: Global, conn: &mut Connection<S>) -> Result<(), Fail> {
+    let wanted = format!(in alloc; "[{FIRST}, {SECOND}]")?;
+    let found = told(alloc, all(alloc, conn))?;
+    same_text(rt, &found, &wanted);
+    Ok(())
+}
+
+// One header, and its info alone.
+fn look_at<S: Alter>(rt: &impl Abort, alloc: Global, conn: &mut Connection<S>) -> Result<(), Fail> {
+    let wanted = format!(in alloc; "[{SECOND}]")?;
+    let found = told(alloc, one(alloc, conn, 4))?;
+    same_text(rt, &found, &wanted);
+    let found = told(alloc, info(alloc, conn, 4))?;
+    same_text(rt, &found, "[\"of\\nores\"]");
+    let found = told(alloc, info(alloc, conn, 2))?;
+    same_text(rt, &found, "[]");
+    Ok(())
+}
+
+#[test]
+fn headers_in_memory(rt: HostRuntime) -> Result<(), Fail> {
+    let alloc = rt.alloc();
+    let mut conn = Connection::open_in_memory(alloc)?;
+    make(&mut conn)?;
+    assert!(rt; !has_table(conn.schema(), StoreTable::Edition));
+    let taken = change(&mut conn)?;
+    assert!(rt; taken == 1);
+    look(&rt, alloc, &mut conn)?;
+    look_at(&rt, alloc, &mut conn)
+}

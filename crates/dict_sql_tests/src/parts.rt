@@ -1,0 +1,100 @@
+//! The table of parts is made, parts are put in, and some are taken out.
+
+ghost use Rattle.std.specs.Prelude.{OnOk};
+ghost use Rattle.sqlite.specs.State.{HasCleanDisk};
+ghost use Rattle.sqlite.specs.Held.{state};
+ghost use Rattle.dict_sql.specs.Effects.{HasApartRowids, WhileOpen, rows_of, seen};
+ghost use Rattle.dict_sql.specs.Deletes.{HasToRemove};
+ghost use Rattle.dict_part_sql.specs.Table.{part};
+
+use dict_part_sql::{
+    Part, create_part_table, delete_parts, delete_parts_from, has_part_table, insert_part,
+};
+use dict_sql::commit::commit;
+use dict_tables::{is_name_used, lacks_counting_table};
+use reads::look;
+use sqlite::{Alter, Connection, Error, Transaction};
+use std::test::Fail;
+
+mod reads;
+
+// Makes the table where its name is free.
+fn make<S: Alter>(conn: &mut Connection<S>) -> Result<(), Error>
+    ensures { HasCleanDisk (state S.Store conn.new) → OnOk result (HasApartRowids (rows_of (part 0).name (state S.Store conn.new).now)) }
+{
+    let schema = conn.schema();
+    if is_name_used(schema, b"dictcat_part")
+        || lacks_counting_table(schema)
+        || !conn.is_autocommit()
+    {
+        return Err(Error::InvalidQuery);
+    }
+    let mut tx = conn.transaction();
+    create_part_table(&mut tx)?;
+    commit(tx)
+}
+
+fn put<S: Alter>(
+    tx: &mut Transaction<'_, S>,
+    edition: i64,
+    file: i64,
+    number: i64,
+    octets: &[u8],
+) -> Result<(), Error>
+    requires { WhileOpen (seen S.Store tx.old) (HasToRemove part) }
+    ensures { OnOk result (WhileOpen (seen S.Store tx.new) (HasToRemove part)) }
+{
+    let row = Part {
+        edition,
+        file,
+        number,
+        octets,
+    };
+    insert_part(tx, &row)?;
+    Ok(())
+}
+
+fn put_all<S: Alter>(tx: &mut Transaction<'_, S>) -> Result<(), Error>
+    requires { WhileOpen (seen S.Store tx.old) (HasToRemove part) }
+    ensures { OnOk result (WhileOpen (seen S.Store tx.new) (HasToRemove part)) }
+{
+    put(tx, 2, 1, 0, b"t")?;
+    put(tx, 1, 1, 1, b"b")?;
+    put(tx, 1, 1, 0, b"a")?;
+    put(tx, 1, 0, 0, b"i")?;
+    put(tx, 1, 1, 2, b"c")?;
+    put(tx, 3, 0, 0, b"x")
+}
+
+// Takes out the text of the first edition from its second part on.
+fn cut_off<S: Alter>(tx: &mut Transaction<'_, S>) -> Result<(), Error>
+    requires { WhileOpen (seen S.Store tx.old) (HasToRemove part) }
+    ensures { OnOk result (WhileOpen (seen S.Store tx.new) (HasToRemove part)) }
+{
+    delete_parts_from(tx, 1, 1, 1)?;
+    Ok(())
+}
+
+fn change<S: Alter>(conn: &mut Connection<S>) -> Result<usize, Error>
+    requires { HasCleanDisk (state S.Store conn.old) → HasApartRowids (rows_of (part 0).name (state S.Store conn.old).now) }
+{
+    if !has_part_table(conn.schema()) || !conn.is_autocommit() {
+        return Err(Error::InvalidQuery);
+    }
+    let mut tx = conn.transaction();
+    put_all(&mut tx)?;
+    cut_off(&mut tx)?;
+    let taken = delete_parts(&mut tx, 3)?;
+    commit(tx)?;
+    Ok(taken)
+}
+
+#[test]
+fn parts_in_memory(rt: HostRuntime) -> Result<(), Fail> {
+    let alloc = rt.alloc();
+    let mut conn = Connection::open_in_memory(alloc)?;
+    make(&mut conn)?;
+    let taken = change(&mut conn)?;
+    assert!(rt; taken == 1);
+    look(&rt, alloc, &mut conn)
+}
