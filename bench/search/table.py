@@ -27,7 +27,7 @@ def bound(name, sums):
         return 1
     if name in ("prefix", "suffix", "word"):
         return 0.5 + 0.1 * sums["found"] / sums["asked"]
-    if name == "substring":
+    if name == "substring-of-three":
         return 40 + 0.1 * sums["rarer"] / sums["asked"]
     return None
 
@@ -46,6 +46,6 @@ for name, sums in found.items():
     each = best[name] / sums["asked"]
     most = bound(name, sums)
     told = f", at most {most:.2f}" if most else ""
-    print(f"{name:10} {each:8.2f} us a query{told}; of each {sums['found'] / sums['asked']:.1f} found, {sums['looked'] / sums['asked']:.1f} looked at, {sums['rarer'] / sums['asked']:.1f} with the rarer gram")
+    print(f"{name:18} {each:8.2f} us a query{told}; of each {sums['found'] / sums['asked']:.1f} found, {sums['looked'] / sums['asked']:.1f} looked at, {sums['rarer'] / sums['asked']:.1f} with the rarer gram")
 for name in ("headwords-by-prefix", "headwords-by-substring"):
     print(f"{name} of the letter a: {best[name] / 1000:.1f} ms")

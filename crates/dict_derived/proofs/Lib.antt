@@ -1,12 +1,4 @@
-pub mod AfterLemmas
-pub mod BagLemmas
-pub mod DueLemmas
-pub mod ExactLemmas
-pub mod GrownLemmas
+pub mod EndLemmas
 pub mod PieceLemmas
-pub mod PlacedLemmas
 pub mod RangeLemmas
 pub mod SearchLemmas
-pub mod SortedLemmas
-pub mod TakingLemmas
-pub mod VersionLemmas

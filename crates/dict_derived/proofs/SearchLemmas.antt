@@ -1,16 +1,17 @@
 -- What a query finds is among what it looks at.
-use Rattle.std.proofs.Common.{◌≡◌, ◌≢◌, ℕ, ◌-◌, ◌≤◌, false, cond, List, [], ◌∷◌, ◌++◌, length, take, drop, reverse, refl, ap, sym, ◌∙◌, subst, arith, ltb, slice_index, IsUtf8, append_assoc, length-drop}
+use Rattle.std.proofs.Common.{◌≡◌, ◌≢◌, ℕ, zero, suc, Bool, true, filter, false, cond, List, [], ◌∷◌, ◌++◌, length, reverse, refl, ap, sym, ◌∙◌, subst, arith, IsUtf8, append_assoc}
 use Rattle.std.specs.List.{Contains}
-use Rattle.std.proofs.lemmas.Bool.{false≢true, ne_eqb, ltb-false, cond_both}
-use Rattle.std.proofs.lemmas.Grind.{common_steps}
-use Rattle.std.proofs.lemmas.List.{take-append-drop, reverse-reverse, reverse-append, append-nil}
+use Rattle.std.proofs.lemmas.Bool.{false≢true, ne_eqb}
+use Rattle.std.proofs.lemmas.List.{reverse-reverse, reverse-append, append-nil}
 use Rattle.std.proofs.lemmas.List.Elements.{Contains-append_left, Contains-append_right}
 use Rattle.dict_match.specs.Words.{words_between_blanks}
 use Rattle.dict_match.specs.Matching.{Hits, Fits, StandsIn}
 use Rattle.dict_match.specs.declared.strategy.Strategy.{Strategy}
 use Rattle.dict_match.specs.declared.strategy.Strategy.TheVariants.{Exact, Prefix, Suffix, Substring, Word, First, Last}
-use Rattle.dict_derived.specs.Derived.{IsGramOf}
-use Rattle.dict_derived.specs.Search.{Rows, NoRows, AllRows, WithGrams, Selects, by_first, both_grams, by_grams, rows_by, rows_for, is_tested}
+use Rattle.dict_derived.specs.Derived.{grams, IsGramOf}
+use Rattle.dict_derived.specs.Kept.{is_kept, kept_grams}
+use Rattle.dict_derived.proofs.PieceLemmas.{grams_are}
+use Rattle.dict_derived.specs.Search.{Rows, NoRows, Selects, by_first, last_gram, by_ends, by_grams, rows_by, rows_for, is_tested}
 use Rattle.dict_derived.proofs.RangeLemmas.{begins, holds, text-low, reverse-low}
 
 -- ---- words
@@ -30,38 +31,43 @@ among-run ks a run b word rest e r =
 
 -- ---- grams
 
-stands_left : (q k a b : List ℕ) → StandsIn q k → q ≡ a ++ b → StandsIn a k
-stands_left q k a b h e = (
-  h.0,
-  b ++ h.1,
-  h.2 ∙ ap (λ l. h.0 ++ l ++ h.1) e ∙ ap (λ l. l ++ h.1) (sym (append_assoc h.0 a b)) ∙ append_assoc (h.0 ++ a) b h.1,
+stands_within : (p q k : List ℕ) → StandsIn p q → StandsIn q k → StandsIn p k
+stands_within p q k g h = (
+  h.0 ++ g.0,
+  g.1 ++ h.1,
+  h.2 ∙ ap (λ l. h.0 ++ l ++ h.1) g.2
+      ∙ ap (λ l. l ++ h.1) (sym (append_assoc h.0 (g.0 ++ p) g.1))
+      ∙ append_assoc (h.0 ++ (g.0 ++ p)) g.1 h.1
+      ∙ ap (λ l. l ++ (g.1 ++ h.1)) (sym (append_assoc h.0 g.0 p)),
 )
 
-stands_right : (q k a b : List ℕ) → StandsIn q k → q ≡ a ++ b → StandsIn b k
-stands_right q k a b h e = (h.0 ++ a, h.1, h.2 ∙ ap (λ l. h.0 ++ l ++ h.1) e ∙ ap (λ l. l ++ h.1) (sym (append_assoc h.0 a b)))
+behind : (x : List ℕ) (xs : List (List ℕ)) (g : List ℕ) → Contains xs g → Contains (x ∷ xs) g
+behind x xs g c = Contains-append_right (x ∷ []) xs g c
 
-first_size : (q : List ℕ) → 3 ≤ length q → length (take 3 q) ≡ 3
-first_size q h = grind (arith, common_steps)
+kept_by : (b : Bool) (p : List ℕ → Bool) (x : List ℕ) (xs : List (List ℕ)) (g : List ℕ) → (Contains (filter p xs) g → Contains xs g) → Contains (cond b (x ∷ filter p xs) (filter p xs)) g → Contains (x ∷ xs) g
+kept_by true p x xs g later (zero, lt, e) = (0, omega arith, e)
+kept_by true p x xs g later (suc n, lt, e) = behind x xs g (later (n, omega (arith, lt), e))
+kept_by false p x xs g later c = behind x xs g (later c)
 
-last_size : (q : List ℕ) → 3 ≤ length q → length (drop (length q - 3) q) ≡ 3
-last_size q h = length-drop (length q - 3) q ∙ omega arith
+kept_in : (p : List ℕ → Bool) (xs : List (List ℕ)) (g : List ℕ) → Contains (filter p xs) g → Contains xs g
+kept_in p [] g c = c
+kept_in p (x ∷ xs) g c = kept_by (p x) p x xs g (kept_in p xs g) c
 
-in_turn : (q first last k : List ℕ) → IsGramOf k first → IsGramOf k last → Selects (both_grams q first last) k
-in_turn q first last k one other =
-    cond_both (ltb (slice_index q 0) 128) (WithGrams first last) (WithGrams last first) (λ rows. Selects rows k) (λ _. (one, other)) (λ _. (other, one))
+-- the first and the last of runs are among them
+has_last : (g : List ℕ) (rest : List (List ℕ)) (k : List ℕ) → IsGramOf k g → ((h : List ℕ) → Contains rest h → IsGramOf k h) → IsGramOf k (last_gram g rest)
+has_last g [] k is all = is
+has_last g (next ∷ rest) k is all = has_last next rest k (all next (head next rest)) (λ h c. all h (behind next rest h c))
+
+has_ends : (runs : List (List ℕ)) (k : List ℕ) → ((g : List ℕ) → Contains runs g → IsGramOf k g) → Selects (by_ends runs) k
+has_ends [] k all = tt
+has_ends (g ∷ rest) k all =
+    let is : IsGramOf k g = all g (head g rest) in
+    (is, has_last g rest k is (λ h c. all h (behind g rest h c)))
 
 has_grams : (q k : List ℕ) → StandsIn q k → Selects (by_grams q) k
-has_grams q k h =
-    cond_both (ltb (length q) 3) AllRows (both_grams q (take 3 q) (drop (length q - 3) q)) (λ rows. Selects rows k)
-    (λ _. tt)
-    (λ e.
-    let long : 3 ≤ length q = omega (arith, at_least (length q) e) in
-    in_turn q (take 3 q) (drop (length q - 3) q) k
-    (first_size q long, stands_left q k (take 3 q) (drop 3 q) h (sym (take-append-drop 3 q)))
-    (last_size q long, stands_right q k (take (length q - 3) q) (drop (length q - 3) q) h (sym (take-append-drop (length q - 3) q))))
-  where
-    at_least : (n : ℕ) → ltb n 3 ≡ false → 3 ≤ n
-    at_least n e = ltb-false n 3 e
+has_grams q k h = has_ends (kept_grams q) k (λ g c.
+    let of_query : IsGramOf q g = (grams_are q g).0 (kept_in is_kept (grams q) g c) in
+    (of_query.0, stands_within g q k of_query.1 h))
 
 -- ---- all strategies
 
@@ -85,14 +91,14 @@ fits Word q k t h = absurd (false≢true (sym t))
 fits First q k t h = absurd (false≢true (sym t))
 fits Last q k t h = absurd (false≢true (sym t))
 
-not_empty : (strategy : Strategy) (q : List ℕ) → q ≢ [] → rows_for strategy q ≡ rows_by strategy q
+pub not_empty : (strategy : Strategy) (q : List ℕ) → q ≢ [] → rows_for strategy q ≡ rows_by strategy q
 not_empty strategy [] h = absurd (h refl)
 not_empty strategy (x ∷ q) h = ap (λ t. cond t NoRows (rows_by strategy (x ∷ q))) (ne_eqb (length (x ∷ q)) 0 (λ e. absurd (omega arith)))
 
 pub among : (strategy : Strategy) (q k : List ℕ) → IsUtf8 k → Hits strategy q k → Selects (rows_for strategy q) k
 among strategy q k u h = let P : Rows → Type 0 = λ rows. Selects rows k in subst P (sym (not_empty strategy q h.0)) (fitting strategy q k u h.1)
 
-some_query : (strategy : Strategy) (q k : List ℕ) → Selects (rows_for strategy q) k → q ≢ []
+pub some_query : (strategy : Strategy) (q k : List ℕ) → Selects (rows_for strategy q) k → q ≢ []
 some_query strategy [] k h e = h
 some_query strategy (x ∷ q) k h e = cc
 

@@ -1,6 +1,3 @@
 pub mod Derived
-pub mod Entries
-pub mod AllTables
-pub mod Placed
-pub mod Exact
+pub mod Kept
 pub mod Search

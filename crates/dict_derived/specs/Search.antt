@@ -1,10 +1,11 @@
 -- Which entries of an edition a query looks at, told by what the tables have of each entry's key.
-use Rattle.std.specs.Prelude.{◌≡◌, ⊤, ℕ, ◌-◌, Bool, true, false, List, [], ◌∷◌, ◌++◌, length, reverse, take, drop, ◌==◌, nat_lt, slice_index, IsTrue, if◌then◌else◌}
+use Rattle.std.specs.Prelude.{◌≡◌, ⊤, ℕ, Bool, true, false, List, [], ◌∷◌, ◌++◌, length, reverse, ◌==◌, IsTrue, if◌then◌else◌}
 use Rattle.std.specs.Ordering.{is_le}
 use Rattle.dict_match.specs.declared.strategy.Strategy.{Strategy}
 use Rattle.dict_match.specs.declared.strategy.Strategy.TheVariants.{Exact, Prefix, Suffix, Substring, Word, First, Last}
 use Rattle.dict_match.specs.Words.{words_between_blanks}
 use Rattle.dict_derived.specs.Derived.{IsWordOf, IsGramOf, octets_cmp}
+use Rattle.dict_derived.specs.Kept.{kept_grams}
 use Rattle.dict_derived.specs.declared.search.Selection.{Selection}
 use Rattle.dict_derived.specs.declared.search.Selection.TheVariants as typed
 
@@ -40,13 +41,19 @@ abbrev pub by_first : List (List ℕ) → Rows
 by_first [] = AllRows
 by_first (word ∷ words) = WithWord word
 
--- Those with the first and the last gram. The one that is told first is to be looked for first: the last one where the query
--- begins with a letter of several octets, since that has parts of more letters.
-abbrev pub both_grams : List ℕ → List ℕ → List ℕ → Rows
-both_grams q first last = if nat_lt (slice_index q 0) 128 then WithGrams first last else WithGrams last first
+-- the last of a run and of those behind it
+abbrev pub last_gram : List ℕ → List (List ℕ) → List ℕ
+last_gram gram [] = gram
+last_gram gram (next ∷ rest) = last_gram next rest
 
+-- those with the first and the last of these runs, which may be one; all, where there is none
+abbrev pub by_ends : List (List ℕ) → Rows
+by_ends [] = AllRows
+by_ends (gram ∷ rest) = WithGrams gram (last_gram gram rest)
+
+-- those with the first and the last run of the query that are kept
 abbrev pub by_grams : List ℕ → Rows
-by_grams q = if nat_lt (length q) 3 then AllRows else both_grams q (take 3 q) (drop (length q - 3) q)
+by_grams q = by_ends (kept_grams q)
 
 abbrev pub rows_by : Strategy → List ℕ → Rows
 rows_by Exact q = WithKey q

@@ -1,10 +1,10 @@
 //! Which entries a query looks at.
 
-ghost use Rattle.std.specs.Prelude.{◌≡◌, ◌+◌, ◌≤◌, IfOk, length, take, drop};
+ghost use Rattle.std.specs.Prelude.{◌≡◌, IfOk, reverse};
 ghost use Rattle.dict_derived.specs.Search.{rows_of, rows_for, is_tested, with_last, by_first, by_grams};
+ghost use Rattle.dict_derived.specs.Kept.{is_kept};
 ghost use Rattle.dict_match.specs.Words.{words_between_blanks};
 
-use crate::headword::reversed;
 use dict_match::{Strategy, words};
 use std::alloc::{AllocError, Global};
 
@@ -19,7 +19,7 @@ pub enum Selection {
     Keys(Vec<u8>, Vec<u8>),
     /// Those whose key, read in reverse order, is from the first on, up to the second.
     ReversedKeys(Vec<u8>, Vec<u8>),
-    /// Those whose key has both grams, which may be equal. The first one is to be looked for first.
+    /// Those whose key has both grams, which may be equal.
     Grams([u8; 3], [u8; 3]),
     /// Those whose key has this word.
     Word(Vec<u8>),
@@ -58,6 +58,13 @@ pub fn is_tested(strategy: Strategy) -> bool
     )
 }
 
+/// The octets in reverse order.
+fn reversed(alloc: Global, octets: &[u8]) -> Result<Vec<u8>, AllocError>
+    ensures { IfOk result (λ v. v.items ≡ reverse octets.now) }
+{
+    octets.iter().rev().copied().collect(alloc)
+}
+
 /// The octets, and 255 behind them.
 fn with_last(alloc: Global, octets: &[u8]) -> Result<Vec<u8>, AllocError>
     ensures { IfOk result (λ v. v.items ≡ with_last octets.now) }
@@ -67,27 +74,36 @@ fn with_last(alloc: Global, octets: &[u8]) -> Result<Vec<u8>, AllocError>
     Ok(list)
 }
 
-/// The three octets that begin at a place.
-fn gram_at(octets: &[u8], place: usize) -> [u8; 3]
-    requires { place + 3 ≤ length octets.now }
-    ensures { result ≡ take 3 (drop place octets.now) }
+/// The least octet by which a character of several octets begins (RFC 3629, section 3).
+const FIRST_OF_SEVERAL: u8 = 0xC0;
+
+/// Whether a run of three octets is looked for: not where its last octet begins a character of several octets, since such a
+/// run tells hardly more than its first two.
+pub fn is_kept(gram: &[u8]) -> bool
+    ensures { result ≡ is_kept gram.now }
 {
-    [octets[place], octets[place + 1], octets[place + 2]]
+    match gram.get(2) {
+        Some(octet) => *octet < FIRST_OF_SEVERAL,
+        None => true,
+    }
 }
 
-/// By the first and the last gram, where there is one. The first one of a query that begins with a letter of several octets is found in more keys than the last.
+/// By the first and the last of the query's runs of three octets that are looked for, where there is one.
 fn by_grams(query: &[u8]) -> Selection
     ensures { rows_of result ≡ by_grams query.now }
 {
-    if query.len() < 3 {
-        return Selection::All;
+    let mut first = None;
+    let mut last = [0; 3];
+    for end in 3..query.len() + 1 {
+        let gram = [query[end - 3], query[end - 2], query[end - 1]];
+        if is_kept(gram.as_slice()) {
+            first = first.or(Some(gram));
+            last = gram;
+        }
     }
-    let first = gram_at(query, 0);
-    let last = gram_at(query, query.len() - 3);
-    if query[0] < 128 {
-        Selection::Grams(first, last)
-    } else {
-        Selection::Grams(last, first)
+    match first {
+        Some(gram) => Selection::Grams(gram, last),
+        None => Selection::All,
     }
 }
 

@@ -1,10 +1,11 @@
 -- Entries that lines make, and what is found among them.
-use Rattle.std.proofs.Common.{◌≡◌, ◌↔◌, ℕ, ◌<◌, Bool, true, false, cond, ◌&&◌, List, [], ◌∷◌, map, length, filter, reverse, refl, ap, sym, ◌∙◌, inl, inr, arith, IsTrue}
+use Rattle.std.proofs.Common.{◌≡◌, ◌≢◌, ◌↔◌, ℕ, eqb, ◌<◌, Bool, true, false, cond, ◌&&◌, List, [], ◌∷◌, map, length, filter, reverse, refl, ap, sym, ◌∙◌, subst, inl, inr, arith, IsTrue}
 use Rattle.std.specs.Bool.{Decides}
-use Rattle.std.specs.List.{All, range_with_len}
+use Rattle.std.specs.List.{All, Contains, range_with_len}
 use Rattle.std.specs.Ordering.{is_le}
 use Rattle.std.specs.Str.{IsUtf8}
 use Rattle.std.proofs.lemmas.Bool.{false≢true, cases_lt}
+use Rattle.std.proofs.lemmas.Bool.Decides.{Decides-eqb}
 use Rattle.std.proofs.lemmas.List.{length-map, get_or-map, get_or_past}
 use Rattle.std.proofs.lemmas.List.Elements.{filter_agree, All-get_or}
 use Rattle.std.proofs.lemmas.List.FromFn.{fill_by_all}
@@ -13,22 +14,23 @@ use Rattle.std.proofs.lemmas.Map.Keys.{sorted_from_strictly_increasing}
 use Rattle.std.proofs.lemmas.Slice.Eq.{bytes_eq-Decides}
 use Rattle.dict_match.specs.Key.{key_of}
 use Rattle.dict_match.specs.Words.{words_between_blanks}
-use Rattle.dict_match.specs.Matching.{is_hit, Hits}
+use Rattle.dict_match.specs.Matching.{is_hit, Hits, HasWords}
 use Rattle.dict_match.specs.declared.strategy.Strategy.{Strategy}
+use Rattle.dict_match.specs.declared.strategy.Strategy.TheVariants.{Exact, Prefix, Suffix, Substring, Word, First, Last}
 use Rattle.dict_match.proofs.DecideLemmas.{hit_law}
 use Rattle.dict_index.specs.Line.{Line}
 use Rattle.dict_index.specs.Edition.{entry_in, ReadEdition, edition_of}
 use Rattle.dict_derived.specs.Derived.{grams, octets_cmp, IsGramOf}
-use Rattle.dict_derived.specs.Search.{Rows, NoRows, AllRows, WithKey, BetweenKeys, BetweenReversed, WithGrams, WithWord, Selects, rows_for, is_tested}
+use Rattle.dict_derived.specs.Search.{Rows, NoRows, AllRows, WithKey, BetweenKeys, BetweenReversed, WithGrams, WithWord, Selects, by_first, rows_for}
 use Rattle.dict_derived.proofs.PieceLemmas.{grams_are}
-use Rattle.dict_derived.proofs.SearchLemmas.{among, only}
+use Rattle.dict_derived.proofs.SearchLemmas.{among, only, some_query, not_empty}
 use Rattle.dict_desk.specs.Found.{found, is_found, shown_of as entry_shown, headwords, distinct}
 use Rattle.dict_desk.specs.Shown.{row_of, found_rows, headword_rows}
 use Rattle.dict_search.specs.Entries.{Indexed, entry_of, no_entry, entry_at, entries_at, key_in, keys_of, shown_of, row_in, headword_row}
 use Rattle.dict_search.specs.Places.{key_at, places_where}
-use Rattle.dict_search.specs.Selected.{has_gram, is_selected, AreSelected}
+use Rattle.dict_search.specs.Selected.{has_gram, is_selected, finds_all, AreSelected}
 use Rattle.dict_search.specs.Found.{found_entries, found_headwords}
-use Rattle.dict_search.proofs.ListLemmas.{same_rising, filter_in, in_filter}
+use Rattle.dict_search.proofs.ListLemmas.{none_in, cases_of, same_rising, filter_in, in_filter}
 use Rattle.dict_search.proofs.PieceLemmas.{has, where_is, where_rises}
 
 -- ---- lists
@@ -113,21 +115,52 @@ text_there keys place all lt = All-get_or IsUtf8 keys place [] lt all
 pub hit_decided : (strategy : Strategy) (q k : List ℕ) → Decides (is_hit strategy q k) (Hits strategy q k)
 hit_decided strategy q k = hit_law strategy q k
 
--- no test follows: all that is looked at is found
-pub untested : (strategy : Strategy) (q : List ℕ) (keys : List (List ℕ)) → All IsUtf8 keys → is_tested strategy ≡ false → places_where (is_selected (rows_for strategy q)) keys ≡ places_where (is_hit strategy q) keys
-untested strategy q keys text plain =
+-- where all that is looked at is a hit, that is what is found
+all_hit : (strategy : Strategy) (q : List ℕ) (keys : List (List ℕ)) → All IsUtf8 keys → ((k : List ℕ) → IsUtf8 k → Selects (rows_for strategy q) k → Hits strategy q k) → places_where (is_selected (rows_for strategy q)) keys ≡ places_where (is_hit strategy q) keys
+all_hit strategy q keys text only_hits =
     let sel = is_selected (rows_for strategy q) in
     let hit = is_hit strategy q in
     same_rising (places_where sel keys) (places_where hit keys) (sorted_from_strictly_increasing (places_where sel keys) (where_rises sel keys)) (sorted_from_strictly_increasing (places_where hit keys) (where_rises hit keys)) (λ z. (
       (λ c.
           let h = (where_is sel keys z).0 c in
           let k = key_at keys z in
-          (where_is hit keys z).1 (h.0, (hit_decided strategy q k).1 (only strategy q k plain (text_there keys z text h.0) ((selects_decided (rows_for strategy q) k).0 h.1)))),
+          (where_is hit keys z).1 (h.0, (hit_decided strategy q k).1 (only_hits k (text_there keys z text h.0) ((selects_decided (rows_for strategy q) k).0 h.1)))),
       (λ c.
           let h = (where_is hit keys z).0 c in
           let k = key_at keys z in
           (where_is sel keys z).1 (h.0, (selects_decided (rows_for strategy q) k).1 (among strategy q k (text_there keys z text h.0) ((hit_decided strategy q k).0 h.1)))),
     ))
+
+-- a word that is one of a key's is a run of these
+run_of_one : (words : List (List ℕ)) (word : List ℕ) → Contains words word → HasWords words (word ∷ [])
+run_of_one [] word c = absurd (none_in word c)
+run_of_one (w ∷ words) word c = elim (cases_of w words word c) [
+  | inl is ↦ ([], words, ap (λ x. x ∷ words) is)
+  | inr there ↦ let rest = run_of_one words word there in (w ∷ rest.0, rest.1, ap (λ l. w ∷ l) rest.2)
+]
+
+one_word : (words : List (List ℕ)) → eqb (length words) 1 ≡ true → (word : List ℕ) × (words ≡ word ∷ [])
+one_word [] h = absurd (false≢true h)
+one_word (w ∷ []) h = (w, refl)
+one_word (w ∷ x ∷ words) h = absurd (omega (arith, (Decides-eqb (length (w ∷ x ∷ words)) 1).0 h))
+
+-- of a query that is one word no more is looked at than found
+word_hits : (q k : List ℕ) → finds_all Word q ≡ true → Selects (rows_for Word q) k → Hits Word q k
+word_hits q k one h =
+    let word = one_word (words_between_blanks q) one in
+    let some : q ≢ [] = some_query Word q k h in
+    let here : Contains (words_between_blanks k) word.0 = subst (λ rows. Selects rows k) (not_empty Word q some ∙ ap by_first word.1) h in
+    (some, subst (HasWords (words_between_blanks k)) (sym word.1) (run_of_one (words_between_blanks k) word.0 here))
+
+-- no test follows: all that is looked at is found
+pub untested : (strategy : Strategy) (q : List ℕ) (keys : List (List ℕ)) → All IsUtf8 keys → finds_all strategy q ≡ true → places_where (is_selected (rows_for strategy q)) keys ≡ places_where (is_hit strategy q) keys
+untested Exact q keys text plain = all_hit Exact q keys text (λ k. only Exact q k refl)
+untested Prefix q keys text plain = all_hit Prefix q keys text (λ k. only Prefix q k refl)
+untested Suffix q keys text plain = all_hit Suffix q keys text (λ k. only Suffix q k refl)
+untested Substring q keys text plain = absurd (false≢true plain)
+untested Word q keys text plain = all_hit Word q keys text (λ k u. word_hits q k plain)
+untested First q keys text plain = absurd (false≢true plain)
+untested Last q keys text plain = absurd (false≢true plain)
 
 -- those that pass the test among the places of keys that pass another one, which all have that pass it
 pub tested_among : (wide hit : List ℕ → Bool) (keys : List (List ℕ)) → ((z : ℕ) → z < length keys → hit (key_at keys z) ≡ true → wide (key_at keys z) ≡ true) → filter (λ place. hit (key_at keys place)) (places_where wide keys) ≡ places_where hit keys

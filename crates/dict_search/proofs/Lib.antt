@@ -2,11 +2,11 @@ pub mod CommonLemmas
 pub mod EditionLemmas
 pub mod IndexLemmas
 pub mod ListLemmas
+pub mod KeptLemmas
 pub mod PieceLemmas
 pub mod PlaceLemmas
 pub mod PlacedLemmas
 pub mod RankLemmas
 pub mod RarestLemmas
-pub mod RunLemmas
 pub mod ShownLemmas
 pub mod StoredLemmas

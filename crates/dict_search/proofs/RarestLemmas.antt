@@ -1,5 +1,5 @@
 -- A substring, and the runs of three octets in it.
-use Rattle.std.proofs.Common.{◌≡◌, ℕ, ◌+◌, ◌<◌, ◌≤◌, Bool, true, ◌&&◌, List, [], ◌∷◌, ◌++◌, take, drop, length, filter, ap, sym, ◌∙◌, arith, append_assoc}
+use Rattle.std.proofs.Common.{◌≡◌, ℕ, ◌+◌, ◌≤◌, ◌&&◌, List, ◌++◌, take, drop, length, filter, ap, sym, ◌∙◌, arith, append_assoc}
 use Rattle.std.specs.List.{All}
 use Rattle.std.specs.Str.{IsUtf8}
 use Rattle.std.proofs.lemmas.List.{length-drop, length-take-le, take-append-drop}
@@ -46,7 +46,8 @@ hit_stands : (q k : List ℕ) → Hits Substring q k → StandsIn q k
 hit_stands q k h = h.1
 
 -- none of those found is lost where only those of another list are tested too
-pub tested_both : (q : List ℕ) (keys : List (List ℕ)) (fewer : List ℕ) → All IsUtf8 keys → (h : HasAllWith q keys fewer) → filter (λ place. is_hit Substring q (key_at keys place)) (places_where (λ key. h.test key && is_selected (rows_for Substring q) key) keys) ≡ places_where (is_hit Substring q) keys
+pub tested_both : (q : List ℕ) (keys : List (List ℕ)) (fewer : List ℕ) → All IsUtf8 keys → (h : HasAllWith q keys fewer)
+    → filter (λ place. is_hit Substring q (key_at keys place)) (places_where (λ key. h.test key && is_selected (rows_for Substring q) key) keys) ≡ places_where (is_hit Substring q) keys
 tested_both q keys fewer text h =
     tested_among (λ key. h.test key && is_selected (rows_for Substring q) key) (is_hit Substring q) keys
     (λ z lt hit.

@@ -1,9 +1,9 @@
 -- What an index holds beside its entries.
 use Rattle.std.specs.Prelude.{List, ℕ, ◌<◌, length, map, reverse}
 use Rattle.dict_match.specs.Words.{words_between_blanks}
-use Rattle.dict_derived.specs.Derived.{grams}
 use Rattle.dict_search.specs.Entries.{Indexed, keys_of}
 use Rattle.dict_search.specs.Orders.{IsOrderOf}
+use Rattle.dict_derived.specs.Kept.{kept_grams}
 use Rattle.dict_search.specs.Pieces.{ArePlaced}
 use Rattle.std.specs.List.{All}
 use Rattle.std.specs.Str.{IsUtf8}
@@ -15,4 +15,4 @@ pub record IsIndexed (entries : List Indexed) (by_key by_reversed : List ℕ) (w
   pub keys : IsOrderOf (keys_of entries) by_key
   pub reversed : IsOrderOf (map reverse (keys_of entries)) by_reversed
   pub words_placed : ArePlaced words_between_blanks (keys_of entries) words.texts words.lists
-  pub grams_placed : ArePlaced grams (keys_of entries) trigrams.texts trigrams.lists
+  pub grams_placed : ArePlaced kept_grams (keys_of entries) trigrams.texts trigrams.lists

@@ -3,10 +3,8 @@ pub mod Common
 pub mod Entries
 pub mod Selected
 pub mod Found
-pub mod Runs
 pub mod Orders
 pub mod Pieces
 pub mod PlacedPieces
-pub mod Spans
 pub mod Stored
 pub mod Indexes

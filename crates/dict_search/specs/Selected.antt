@@ -1,10 +1,12 @@
 -- Which entries a query looks at: the selections as tests of a key.
-use Rattle.std.specs.Prelude.{◌↔◌, ℕ, ◌<◌, Bool, true, false, ◌&&◌, List, length, reverse}
+use Rattle.std.specs.Prelude.{◌↔◌, ℕ, ◌<◌, Bool, true, false, ◌&&◌, ◌==◌, List, length, reverse}
 use Rattle.std.specs.List.{Contains, list_any}
 use Rattle.std.specs.List.Sorted.{IsStrictlyIncreasing}
 use Rattle.std.specs.Ordering.{is_le}
 use Rattle.std.specs.Str.{bytes_eq}
 use Rattle.dict_match.specs.Words.{words_between_blanks}
+use Rattle.dict_match.specs.declared.strategy.Strategy.{Strategy}
+use Rattle.dict_match.specs.declared.strategy.Strategy.TheVariants.{Exact, Prefix, Suffix, Substring, Word, First, Last}
 use Rattle.dict_derived.specs.Derived.{grams, octets_cmp}
 use Rattle.dict_derived.specs.Search.{Rows, NoRows, AllRows, WithKey, BetweenKeys, BetweenReversed, WithGrams, WithWord, Selects}
 use Rattle.dict_search.specs.Places.{key_at}
@@ -38,3 +40,13 @@ is_selected (WithWord word) key = has_word word key
 pub record AreSelected (rows : Rows) (entries : List Indexed) (places : List ℕ) : Type 0 where
   pub rising : IsStrictlyIncreasing places
   pub each : (place : ℕ) → Contains places place ↔ ((place < length entries) × Selects rows (key_at (keys_of entries) place))
+
+-- All that a query looks at is found: so by a whole key, its beginning or its end, and by a word that is all of the query.
+abbrev pub finds_all : Strategy → List ℕ → Bool
+finds_all Exact query = true
+finds_all Prefix query = true
+finds_all Suffix query = true
+finds_all Substring query = false
+finds_all Word query = length (words_between_blanks query) == 1
+finds_all First query = false
+finds_all Last query = false

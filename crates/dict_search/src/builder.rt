@@ -4,8 +4,8 @@ ghost use Rattle.dict_match.specs.Key.{key_of};
 
 use crate::entries::Entries;
 use crate::index::{Index, index_of};
-use crate::spans::Span;
 use dict_match::{key_laws, key_of};
+use dict_runs::Span;
 use std::alloc::{AllocError, Global};
 use std::marker::Model;
 

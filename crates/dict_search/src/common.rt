@@ -15,7 +15,7 @@ pub(crate) fn common_places(
 ) -> Result<Vec<u32>, AllocError>
     ensures { IfOk result (λ both. (p q : List ℕ → Bool) (keys : List (List ℕ)) → fewer.now ≡ places_where p keys → more.now ≡ places_where q keys → both.items ≡ places_where (λ key. p key && q key) keys) }
 {
-    let mut both = Vec::new(alloc);
+    let mut both = Vec::with_capacity(alloc, fewer.len())?;
     let mut rest = more;
     for place in fewer {
         rest = from_place(rest, *place);

@@ -3,8 +3,7 @@ ghost use Rattle.std.specs.Prelude.{◌≡◌, [], ◌∷◌, ◌++◌, All, len
 ghost use Rattle.std.specs.Str.{IsUtf8};
 ghost use Rattle.dict_search.specs.Entries.{Indexed, entry_at, keys_of};
 
-use crate::spans::{Span, Spans};
-use crate::texts::Texts;
+use dict_runs::{Span, Spans, Texts};
 use std::alloc::{AllocError, Global};
 use std::marker::Model;
 use std::str;
@@ -63,6 +62,13 @@ impl Entries {
             Ok(text) => text,
             Err(_) => "",
         }
+    }
+
+    /// The octets of what replies show of the entry at a place; none where there is none.
+    pub(crate) fn shown_octets(&self, at: usize) -> &[u8]
+        ensures { result.now ≡ (entry_at self.now at).shown }
+    {
+        self.shown.get(at)
     }
 
     /// Where the text of the entry at a place stands; an empty span where there is none.

@@ -3,23 +3,23 @@ ghost use Rattle.std.specs.Prelude.{◌≡◌, ◌&&◌, true, false, All, IfOk,
 ghost use Rattle.std.specs.Str.{IsUtf8, bytes_eq};
 ghost use Rattle.dict_match.specs.Matching.{is_hit};
 ghost use Rattle.dict_match.specs.declared.strategy.Strategy.TheVariants.{Substring};
-ghost use Rattle.dict_derived.specs.Search.{rows_of, rows_for, is_tested};
+ghost use Rattle.dict_derived.specs.Search.{rows_of, rows_for};
 ghost use Rattle.dict_search.specs.Entries.{entry_at, entries_at, keys_of, shown_of};
 ghost use Rattle.dict_search.specs.Places.{key_at, places_where};
 ghost use Rattle.dict_search.specs.Orders.{IsOrderOf};
-ghost use Rattle.dict_search.specs.Selected.{is_selected, has_gram, has_word, AreSelected};
+ghost use Rattle.dict_search.specs.Selected.{is_selected, has_gram, has_word, finds_all, AreSelected};
 ghost use Rattle.dict_search.specs.Found.{found_places, found_entries, found_headwords, count_selected};
 
 use crate::common::common_places;
 use crate::entries::Entries;
 use crate::found::{Counted, Found};
 use crate::heads::heads_of;
-use crate::keeping::keep_hits;
+use crate::keeping::{keep_hits, keep_with_gram};
 use crate::order::{first_places, places_between, reversed_texts, sorted_places};
 use crate::pieces::{Pieces, grams_of, words_of};
 use crate::reversed::places_between_reversed;
 use crate::shown::first_shown;
-use dict_derived::{Selection, select};
+use dict_derived::{Selection, is_kept, select};
 use dict_match::Strategy;
 use std::alloc::{AllocError, Global};
 use std::marker::Model;
@@ -33,10 +33,11 @@ const FEW: usize = 64;
 pub struct Index {
     entries: Entries,
     by_key: Vec<u32>,
-    /// The first octets of the keys in that order.
-    key_heads: Vec<u32>,
+    /// The first octets of some of the keys in that order: they tell near where one stands.
+    key_heads: Vec<u64>,
     by_reversed_key: Vec<u32>,
     words: Pieces,
+    /// Runs of three octets, but for those that `is_kept` leaves out.
     grams: Pieces,
 }
 
@@ -185,6 +186,12 @@ impl Index {
     ) -> Result<Vec<u32>, AllocError>
         ensures { IfOk result (λ places. places.items ≡ places_where (λ key. has_gram first.now key && has_gram last.now key) (keys_of self.now)) }
     {
+        if !is_kept(first.as_slice()) {
+            return self.with_tested(alloc, last, first);
+        }
+        if !is_kept(last.as_slice()) {
+            return self.with_tested(alloc, first, last);
+        }
         let one = self.grams.places(first.as_slice());
         let other = self.grams.places(last.as_slice());
         if one.len() <= other.len() {
@@ -192,6 +199,32 @@ impl Index {
         } else {
             common_places(alloc, other, one)
         }
+    }
+
+    /// The places of the entries whose keys have both runs of three octets: those of the first one, tested for the other.
+    fn with_tested(
+        &self,
+        alloc: Global,
+        listed: &[u8; 3],
+        tested: &[u8; 3],
+    ) -> Result<Vec<u32>, AllocError>
+        ensures { IfOk result (λ places. places.items ≡ places_where (λ key. has_gram listed.now key && has_gram tested.now key) (keys_of self.now)) }
+    {
+        let mut places = self.with_gram(alloc, listed)?;
+        keep_with_gram(self.entries.keys(), &mut places, tested);
+        Ok(places)
+    }
+
+    /// The places of the entries whose keys have a run of three octets: of one that the index doesn't hold by a test of all.
+    fn with_gram(&self, alloc: Global, gram: &[u8; 3]) -> Result<Vec<u32>, AllocError>
+        ensures { IfOk result (λ places. places.items ≡ places_where (has_gram gram.now) (keys_of self.now)) }
+    {
+        if is_kept(gram.as_slice()) {
+            return Vec::from_slice(alloc, self.grams.places(gram.as_slice()));
+        }
+        let mut places = self.all_places(alloc)?;
+        keep_with_gram(self.entries.keys(), &mut places, gram);
+        Ok(places)
     }
 
     /// Of the places that a query looks at those that have to be tested: of a substring's, where they are many, those
@@ -205,7 +238,7 @@ impl Index {
     ) -> Result<Vec<u32>, AllocError>
         requires text { All IsUtf8 (keys_of self.now) }
         requires selected { selected.items ≡ places_where (is_selected (rows_for strategy query.now)) (keys_of self.now) }
-        ensures untested { IfOk result (λ places. is_tested strategy ≡ false → places.items ≡ places_where (is_hit strategy query.now) (keys_of self.now)) }
+        ensures untested { IfOk result (λ places. finds_all strategy query.now ≡ true → places.items ≡ places_where (is_hit strategy query.now) (keys_of self.now)) }
         ensures tested { IfOk result (λ places. filter (λ place. is_hit strategy query.now (key_at (keys_of self.now) place)) places.items ≡ places_where (is_hit strategy query.now) (keys_of self.now)) }
     {
         match strategy {

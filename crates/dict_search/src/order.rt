@@ -7,8 +7,8 @@ ghost use Rattle.dict_search.specs.Places.{key_at, places_where};
 ghost use Rattle.dict_search.specs.Orders.{place_cmp, IsOrderOf};
 ghost use Rattle.dict_search.specs.Selected.{is_between};
 
-use crate::heads::count_before;
-use crate::texts::Texts;
+use crate::heads::{all_heads, count_before};
+use dict_runs::Texts;
 use std::alloc::{AllocError, Global};
 use std::cmp::Ordering;
 
@@ -21,7 +21,11 @@ pub(crate) fn sorted_places(
     requires { count ≡ length texts.now }
     ensures { IfOk result (λ places. IsOrderOf texts.now places.items) }
 {
+    let heads = all_heads(alloc, texts)?;
     let mut places = first_places(alloc, count)?;
+    // Numbers are compared quicker than texts. The second sort looks at each place once where the first has them in order, as it
+    // always has: so no proof rests on heads.
+    places.sort_unstable_by(|a, b| compare_heads(heads.as_slice(), texts, *a, *b));
     places.sort_unstable_by(|a, b| compare(texts, *a, *b));
     Ok(places)
 }
@@ -31,6 +35,23 @@ pub(crate) fn first_places(alloc: Global, count: u32) -> Result<Vec<u32>, AllocE
     ensures { IfOk result (λ places. places.items ≡ range_with_len 0 count) }
 {
     (0..count).collect(alloc)
+}
+
+/// By the heads of the texts, and as `compare` does where these are the same.
+fn compare_heads(heads: &[u64], texts: &Texts, a: u32, b: u32) -> Ordering {
+    let one = head_at(heads, a);
+    let other = head_at(heads, b);
+    if one == other {
+        return compare(texts, a, b);
+    }
+    one.cmp(&other)
+}
+
+fn head_at(heads: &[u64], place: u32) -> u64 {
+    match heads.get(place as usize) {
+        Some(head) => *head,
+        None => 0,
+    }
 }
 
 fn compare(texts: &Texts, a: u32, b: u32) -> Ordering
@@ -65,7 +86,7 @@ pub(crate) fn places_between(
     alloc: Global,
     texts: &Texts,
     sorted: &[u32],
-    heads: &[u32],
+    heads: &[u64],
     low: &[u8],
     high: &[u8],
 ) -> Result<Vec<u32>, AllocError>
@@ -82,7 +103,7 @@ pub(crate) fn places_between(
 fn run_between<'a>(
     texts: &Texts,
     sorted: &'a [u32],
-    heads: &[u32],
+    heads: &[u64],
     low: &[u8],
     high: &[u8],
 ) -> &'a [u32]

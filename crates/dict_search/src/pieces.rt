@@ -1,18 +1,20 @@
 //! The pieces of keys, each once with the places of the keys that have it.
-ghost use Rattle.std.specs.Prelude.{◌≡◌, ◌<◌, ◌⊎◌, ◌++◌, ◌∷◌, [], ℕ, List, IfOk, OnOk, MatchOption, length, slice_index_or, if◌then◌else◌};
+ghost use Rattle.std.specs.Prelude.{◌≡◌, ◌<◌, ◌≤◌, ◌⊎◌, ◌++◌, ◌∷◌, [], ℕ, List, IfOk, OnOk, MatchOption, length, slice_index_or, if◌then◌else◌};
 ghost use Rattle.std.specs.List.{Contains};
 ghost use Rattle.std.specs.List.Sorted.{IsStrictlySortedBy};
 ghost use Rattle.dict_match.specs.Words.{words_between_blanks};
-ghost use Rattle.dict_derived.specs.Derived.{grams, octets_cmp};
+ghost use Rattle.dict_derived.specs.Derived.{octets_cmp};
 ghost use Rattle.dict_search.specs.Places.{places_where};
 ghost use Rattle.dict_search.specs.Selected.{has_piece};
+ghost use Rattle.dict_derived.specs.Kept.{kept_grams};
 ghost use Rattle.dict_search.specs.Pieces.{pairs_of, ends_with_piece, AreOccurrences, ArePlaced};
 ghost use Rattle.dict_search.specs.Common.{HasAllWith};
 ghost use Rattle.dict_search.specs.PlacedPieces.{words_placed, grams_placed};
 
-use crate::lists::PlaceLists;
+use crate::heads::{likely_places, sampled_heads};
 use crate::placed::{PlacedGram, PlacedWord, sorted_grams, sorted_words};
-use crate::texts::Texts;
+use dict_derived::is_kept;
+use dict_runs::{PlaceLists, Texts};
 use std::alloc::{AllocError, Global};
 use std::cmp::Ordering;
 
@@ -21,6 +23,8 @@ use std::cmp::Ordering;
 pub(crate) struct Pieces {
     pub texts: Texts,
     pub lists: PlaceLists,
+    /// The first octets of some of the pieces: they tell near where one stands.
+    heads: Vec<u64>,
 }
 
 /// The words of these keys. The only error is refused memory.
@@ -32,19 +36,21 @@ pub(crate) fn words_of(alloc: Global, keys: &Texts, count: u32) -> Result<Pieces
     let mut texts = Texts::new(alloc);
     let mut lists = PlaceLists::with_capacity(alloc, placed.len())?;
     group_words(&mut texts, &mut lists, placed.as_slice())?;
-    Ok(Pieces::packed(texts, lists))
+    let heads = sampled_heads(alloc, &texts)?;
+    Ok(Pieces::packed(texts, lists, heads))
 }
 
-/// The runs of three octets of these keys. The only error is refused memory.
+/// The runs of three octets of these keys that an index holds. The only error is refused memory.
 pub(crate) fn grams_of(alloc: Global, keys: &Texts, count: u32) -> Result<Pieces, AllocError>
     requires { count ≡ length keys.now }
-    ensures { IfOk result (λ pieces. ArePlaced grams keys.now pieces.texts pieces.lists) }
+    ensures { IfOk result (λ pieces. ArePlaced kept_grams keys.now pieces.texts pieces.lists) }
 {
     let placed = sorted_grams(alloc, keys, count)?;
     let mut texts = Texts::new(alloc);
     let mut lists = PlaceLists::with_capacity(alloc, placed.len())?;
     group_grams(&mut texts, &mut lists, placed.as_slice())?;
-    Ok(Pieces::packed(texts, lists))
+    let heads = sampled_heads(alloc, &texts)?;
+    Ok(Pieces::packed(texts, lists, heads))
 }
 
 /// Groups words that are in order, each with the places that stand beside it.
@@ -71,7 +77,7 @@ fn group_grams(
 ) -> Result<(), AllocError>
     requires texts { texts.old ≡ [] }
     requires lists { lists.old ≡ [] }
-    ensures { OnOk result ((keys : List (List ℕ)) → AreOccurrences grams keys (grams_placed placed.now) → ArePlaced grams keys texts.new lists.new) }
+    ensures { OnOk result ((keys : List (List ℕ)) → AreOccurrences kept_grams keys (grams_placed placed.now) → ArePlaced kept_grams keys texts.new lists.new) }
 {
     for one in placed {
         put(texts, lists, one.gram.as_slice(), one.place)?;
@@ -108,13 +114,17 @@ fn is_last(texts: &Texts, piece: &[u8]) -> bool
 
 impl Pieces {
     /// Pieces with their lists. No memory is kept for more of them.
-    fn packed(mut texts: Texts, mut lists: PlaceLists) -> Pieces
+    fn packed(mut texts: Texts, mut lists: PlaceLists, heads: Vec<u64>) -> Pieces
         ensures texts { result.texts ≡ texts }
         ensures lists { result.lists ≡ lists }
     {
         texts.shrink();
         lists.shrink();
-        Pieces { texts, lists }
+        Pieces {
+            texts,
+            lists,
+            heads,
+        }
     }
 
     /// The places of the keys that have the piece, rising.
@@ -122,7 +132,7 @@ impl Pieces {
         requires { IsStrictlySortedBy octets_cmp self.now.texts }
         ensures { (pieces_in : List ℕ → List (List ℕ)) (keys : List (List ℕ)) → ArePlaced pieces_in keys self.now.texts self.now.lists → result.now ≡ places_where (has_piece pieces_in piece.now) keys }
     {
-        match place_of(&self.texts, piece) {
+        match place_of(&self.texts, self.heads.as_slice(), piece) {
             Some(at) => self.lists.get(at),
             None => &[],
         }
@@ -130,31 +140,43 @@ impl Pieces {
 }
 
 impl Pieces {
-    /// The shortest of these places and of the lists of a query's runs of three octets, where these pieces are runs.
+    /// The shortest of these places and of the lists of those of a query's runs of three octets that an
+    /// index holds, where these pieces are runs.
     pub(crate) fn rarest<'a>(&'a self, query: &[u8], places: &'a [u32]) -> &'a [u32]
         requires { IsStrictlySortedBy octets_cmp self.now.texts }
-        ensures { (keys : List (List ℕ)) → ArePlaced grams keys self.now.texts self.now.lists → (result.now ≡ places.now) ⊎ HasAllWith query.now keys result.now }
+        ensures { (keys : List (List ℕ)) → ArePlaced kept_grams keys self.now.texts self.now.lists → (result.now ≡ places.now) ⊎ HasAllWith query.now keys result.now }
     {
         let mut rarest = places;
         for end in 3..query.len() + 1 {
-            let list = self.places(&query[end - 3..end]);
-            if list.len() < rarest.len() {
-                rarest = list;
+            let gram = &query[end - 3..end];
+            if is_kept(gram) {
+                rarest = shorter(self.places(gram), rarest);
             }
         }
         rarest
     }
 }
 
-/// Where a text stands among those that rise, if it does.
-fn place_of(texts: &Texts, wanted: &[u8]) -> Option<usize>
+/// The one of two lists that has fewer places.
+fn shorter<'a>(one: &'a [u32], other: &'a [u32]) -> &'a [u32]
+    ensures { (result.now ≡ one.now) ⊎ (result.now ≡ other.now) }
+{
+    if one.len() < other.len() { one } else { other }
+}
+
+/// Where a text stands among those that rise, if it does. Whatever the heads are, that is found; where they are those of
+/// some of the texts, with fewer looks at these.
+fn place_of(texts: &Texts, heads: &[u64], wanted: &[u8]) -> Option<usize>
     requires { IsStrictlySortedBy octets_cmp texts.now }
     ensures { MatchOption result (Contains texts.now wanted.now → ⊥) (λ at. (at < length texts.now) × (slice_index_or texts.now at [] ≡ wanted.now)) }
 {
+    let (first, last) = likely_places(heads, wanted);
     let mut low = 0;
     let mut high = texts.len();
+    let mut guess = first;
     while low < high {
-        let middle = low + (high - low) / 2;
+        let middle = middle_of(low, high, guess);
+        guess = guess_behind(guess, first, last);
         match texts.get(middle).cmp(wanted) {
             Ordering::Less => low = middle + 1,
             Ordering::Equal => return Some(middle),
@@ -162,4 +184,21 @@ fn place_of(texts: &Texts, wanted: &[u8]) -> Option<usize>
         }
     }
     None
+}
+
+/// A place to look at next: the guess if it lies within, else the middle.
+fn middle_of(low: usize, high: usize, guess: usize) -> usize
+    requires { low < high }
+    ensures low { low ≤ result }
+    ensures high { result < high }
+{
+    if low <= guess && guess < high {
+        return guess;
+    }
+    low + (high - low) / 2
+}
+
+/// What is guessed next: the last place behind the first one, and then none.
+fn guess_behind(guess: usize, first: usize, last: usize) -> usize {
+    if guess == first { last } else { usize::MAX }
 }

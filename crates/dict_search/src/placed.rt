@@ -1,14 +1,15 @@
-//! All words and all runs of three octets of keys, each with the place of its key.
+//! All words of keys, and their runs of three octets that an index holds, each with the place of its key.
 ghost use Rattle.std.specs.Prelude.{◌≡◌, ◌+◌, ◌-◌, ◌<◌, ◌≤◌, ◌^◌, ◌++◌, ◌↔◌, IfOk, OnOk, length, map, ℕ, List};
 ghost use Rattle.std.specs.List.{Contains};
 ghost use Rattle.std.specs.List.Sorted.{IsStrictlySortedBy};
 ghost use Rattle.dict_match.specs.Words.{words_between_blanks};
-ghost use Rattle.dict_derived.specs.Derived.{grams};
+ghost use Rattle.dict_derived.specs.Kept.{kept_grams};
 ghost use Rattle.dict_search.specs.Pieces.{Placed, at_place, occurrences_from, pair_cmp, AreOccurrences};
 ghost use Rattle.dict_search.specs.PlacedPieces.{words_placed, grams_placed, gram_cmp, gram_rank, FitsRank};
 
-use crate::texts::Texts;
+use dict_derived::is_kept;
 use dict_match::words;
+use dict_runs::Texts;
 use std::alloc::{AllocError, Global};
 use std::cmp::Ordering;
 
@@ -59,13 +60,15 @@ fn add_words<'a>(
     Ok(())
 }
 
-/// Puts the runs of three octets of the key at a place behind the list, each as often as it stands there.
+/// Puts the runs of three octets of the key at a place that an index holds behind the list, each as often as it stands there.
 fn add_grams(list: &mut Vec<PlacedGram>, key: &[u8], place: u32) -> Result<(), AllocError>
-    ensures { OnOk result (grams_placed list.new.items ≡ grams_placed list.old.items ++ map (at_place place) (grams key.now)) }
+    ensures { OnOk result (grams_placed list.new.items ≡ grams_placed list.old.items ++ map (at_place place) (kept_grams key.now)) }
 {
     for end in 3..key.len() + 1 {
         let gram = [key[end - 3], key[end - 2], key[end - 1]];
-        list.push(PlacedGram { gram, place })?;
+        if is_kept(gram.as_slice()) {
+            list.push(PlacedGram { gram, place })?;
+        }
     }
     Ok(())
 }
@@ -89,14 +92,14 @@ pub(crate) fn sorted_words<'a>(
     Ok(list)
 }
 
-/// The same of each run of three octets of each key.
+/// The same of each run of three octets that an index holds.
 pub(crate) fn sorted_grams(
     alloc: Global,
     keys: &Texts,
     count: u32,
 ) -> Result<Vec<PlacedGram>, AllocError>
     requires { count ≡ length keys.now }
-    ensures { IfOk result (λ list. AreOccurrences grams keys.now (grams_placed list.items)) }
+    ensures { IfOk result (λ list. AreOccurrences kept_grams keys.now (grams_placed list.items)) }
 {
     let mut runs = Vec::new(alloc);
     for place in 0..count {

@@ -6,7 +6,7 @@ ghost use Rattle.dict_search.specs.Places.{key_at, places_where};
 ghost use Rattle.dict_search.specs.Orders.{IsOrderOf};
 ghost use Rattle.dict_search.specs.Selected.{is_between};
 
-use crate::texts::Texts;
+use dict_runs::Texts;
 use std::alloc::{AllocError, Global};
 use std::cmp::Ordering;
 

@@ -17,10 +17,10 @@ pub(crate) fn first_shown(
     ensures { IfOk result (λ firsts. map shown_of (entries_at entries.now firsts.items) ≡ distinct (map shown_of (entries_at entries.now places.now))) }
 {
     distinct_law();
-    let mut seen = HashSet::new(alloc);
-    let mut firsts = Vec::new(alloc);
+    let mut seen = HashSet::with_capacity(alloc, places.len())?;
+    let mut firsts = Vec::with_capacity(alloc, places.len())?;
     for place in places {
-        if seen.insert(entries.shown(*place as usize).as_bytes())? {
+        if seen.insert(entries.shown_octets(*place as usize))? {
             firsts.push(*place)?;
         }
     }

@@ -1,35 +1,40 @@
-use Rattle.std.proofs.Common.{◌≡◌, ◌-◌, ℕ, List, cond, length, take, drop, ap, sym, ◌∙◌, arith, ltb, length-drop, true, false}
-use Rattle.std.specs.Prelude.{slice_index}
-use Rattle.std.proofs.lemmas.Bool.{le-ltb, lt-ltb}
-use Rattle.dict_derived.specs.Search.{AllRows, WithGrams, both_grams}
-use Rattle.std.proofs.lemmas.List.{take_all}
+use Rattle.std.proofs.Common.{◌≡◌, ◌+◌, ◌-◌, ◌<◌, [], ◌∷◌, Some, length, get_or, ap, sym, ◌∙◌, subst, arith}
+use Rattle.std.specs.Option.{option_or}
+use Rattle.dict_derived.specs.Kept.{is_kept}
+use Rattle.dict_derived.proofs.EndLemmas.{rows_with, AreSeen, none_seen, one_behind, kept_seen, left_out_seen, all_seen}
 use Rattle.dict_derived.proofs.search.by_grams.Goals as goal
+use Rattle.dict_derived.proofs.search.by_grams.Goals.{then-is_kept, else-is_kept}
 
--- what `by_grams` is of a text of three octets and more, by the test of its first one
-first_then : (q first last : List ℕ) → first ≡ take 3 q → last ≡ drop (length q - 3) q → ltb (length q) 3 ≡ false → ltb (slice_index q 0) 128 ≡ true
-    → WithGrams first last ≡ cond (ltb (length q) 3) AllRows (both_grams q (take 3 q) (drop (length q - 3) q))
-first_then q first last is_first is_last long small =
-    ap (λ g. WithGrams g last) is_first ∙ ap (λ g. WithGrams (take 3 q) g) is_last
-    ∙ ap (λ t. cond t (WithGrams (take 3 q) (drop (length q - 3) q)) (WithGrams (drop (length q - 3) q) (take 3 q))) (sym small)
-    ∙ ap (λ t. cond t AllRows (both_grams q (take 3 q) (drop (length q - 3) q))) (sym long)
+pub loop-end-init : goal.loop-end-init
+loop-end-init c = none_seen c.args.query.now
 
-last_then : (q first last : List ℕ) → first ≡ take 3 q → last ≡ drop (length q - 3) q → ltb (length q) 3 ≡ false → ltb (slice_index q 0) 128 ≡ false
-    → WithGrams last first ≡ cond (ltb (length q) 3) AllRows (both_grams q (take 3 q) (drop (length q - 3) q))
-last_then q first last is_first is_last long great =
-    ap (λ g. WithGrams g first) is_last ∙ ap (λ g. WithGrams (drop (length q - 3) q) g) is_first
-    ∙ ap (λ t. cond t (WithGrams (take 3 q) (drop (length q - 3) q)) (WithGrams (drop (length q - 3) q) (take 3 q))) (sym great)
-    ∙ ap (λ t. cond t AllRows (both_grams q (take 3 q) (drop (length q - 3) q))) (sym long)
-
-pub returns-then-query-lt128 : goal.returns-then-query-lt128
-returns-then-query-lt128 c =
+pub loop-end-preserved : goal.loop-end-preserved
+loop-end-preserved c =
     let q = c.args.query.now in
-    let size : length (drop (length q - 3) q) ≡ length q - (length q - 3) = length-drop (length q - 3) q in
-    let last = c.gram_at-last.ensures ∙ take_all 3 (drop (length q - 3) q) (omega (arith, size, c.if-query-lt3.false)) in
-    first_then q c.gram_at-first.result c.gram_at-last.result c.gram_at-first.ensures last (le-ltb (length q) 3 c.if-query-lt3.false) (lt-ltb (slice_index q 0) 128 c.if-query-lt128.true)
+    let end = c.loop-end.end in
+    let old = rows_with c.loop-end.first c.loop-end.last in
+    let gram = get_or q (end - 3) 0 ∷ get_or q (end - 2) 0 ∷ get_or q (end - 1) 0 ∷ [] in
+    let told : is_kept gram ≡ c.is_kept.result = ap is_kept (sym c.as_slice.ensures) ∙ sym c.is_kept.ensures in
+    let first = c.if-is_kept.first in
+    let last = c.if-is_kept.last in
+    elim c.if-is_kept.branch [
+      | then-is_kept w ↦ kept_seen q end old (rows_with first last) c.loop-end.auto.end c.loop-end-test.true (told ∙ w.if-is_kept.true)
+          (λ runs is. ap (λ f. rows_with f last) (w.first-is ∙ w.or-first.ensures) ∙ ap (rows_with (option_or c.loop-end.first (Some gram))) w.last-is ∙ one_behind runs c.loop-end.first c.loop-end.last gram is)
+          c.loop-end.invariant
+      | else-is_kept w ↦ subst (AreSeen q (end + 1)) (sym (ap (λ f. rows_with f last) w.first-is ∙ ap (rows_with c.loop-end.first) w.last-is))
+          (left_out_seen q end old c.loop-end.auto.end c.loop-end-test.true (told ∙ w.if-is_kept.false) c.loop-end.invariant)
+    ]
 
-pub returns-else-query-lt128 : goal.returns-else-query-lt128
-returns-else-query-lt128 c =
+pub returns-in-Some : goal.returns-in-Some
+returns-in-Some c =
     let q = c.args.query.now in
-    let size : length (drop (length q - 3) q) ≡ length q - (length q - 3) = length-drop (length q - 3) q in
-    let last = c.gram_at-last.ensures ∙ take_all 3 (drop (length q - 3) q) (omega (arith, size, c.if-query-lt3.false)) in
-    last_then q c.gram_at-first.result c.gram_at-last.result c.gram_at-first.ensures last (le-ltb (length q) 3 c.if-query-lt3.false) (le-ltb (slice_index q 0) 128 c.if-query-lt128.false)
+    let end = c.loop-end.end in
+    let past : length q < end - 3 + 3 = omega (arith, c.loop-end-test.false, c.loop-end.auto.end) in
+    sym (ap (λ f. rows_with f c.loop-end.last) c.in-Some.is) ∙ all_seen q end (rows_with c.loop-end.first c.loop-end.last) past c.loop-end.invariant
+
+pub returns-in-None : goal.returns-in-None
+returns-in-None c =
+    let q = c.args.query.now in
+    let end = c.loop-end.end in
+    let past : length q < end - 3 + 3 = omega (arith, c.loop-end-test.false, c.loop-end.auto.end) in
+    sym (ap (λ f. rows_with f c.loop-end.last) c.in-None.is) ∙ all_seen q end (rows_with c.loop-end.first c.loop-end.last) past c.loop-end.invariant

@@ -8,7 +8,7 @@ use Rattle.dict_search.proofs.common.common_places.Goals as goal
 use Rattle.dict_search.proofs.common.common_places.Goals.{then-begins_with+in_ok-push, else-begins_with}
 
 pub loop-place-init : goal.loop-place-init
-loop-place-init c = λ up more_up. none_gone c.args.fewer.now c.args.more.now c.args.more.now c.new-both.result.items more_up refl c.new-both.ensures.items
+loop-place-init c = λ up more_up. none_gone c.args.fewer.now c.args.more.now c.args.more.now c.in_ok-both.both.items more_up refl c.in_ok-both.ensures.items
 
 pub loop-place-preserved : goal.loop-place-preserved
 loop-place-preserved c = λ up more_up.

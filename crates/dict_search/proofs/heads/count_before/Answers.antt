@@ -15,8 +15,8 @@ pub returns-clause-point : goal.returns-clause-point
 returns-clause-point c =
     let p = before c.args.texts.now c.args.low.now in
     let xs = c.args.sorted.now in
-    let first = c.likely-first.result.0 in
-    let last = c.likely-first.result.1 in
+    let first = c.likely_run-first.result.0 in
+    let last = c.likely_run-first.result.1 in
     let count = c.partition_point-2.result in
     let is = c.if-not-is_within.false in
     let parted = parted_before c.args.texts.now xs c.args.low.now c.requires.rising in
@@ -29,7 +29,7 @@ returns-clause-point c =
     let point = IsPartitionPoint-from_clause p _ _ c.partition_point-2.ensures.partitioned all (λ a r q k. search rules) in
     let there = subst (λ l. IsPartitionPoint (λ y. p y ≡ true) (λ y. p y ≡ false) l count) rest point in
     let sizes = length-drop first (take last xs) in
-    let few : first + count ≤ last = omega (arith, subst (λ l. count ≤ length l) rest c.partition_point-2.ensures.bound, sizes, size, c.likely-first.ensures) in
-    let front : (d : ℕ) → 0 < first → p (get_or (take last xs) (first - 1) d) ≡ true = λ d lt. subst (λ x. p x ≡ true) (sym (get_or-take last xs (first - 1) d (omega (arith, lt, c.likely-first.ensures)))) (c.is_within.ensures.front is d lt) in
-    let inside : first ≤ length (take last xs) = omega (arith, size, c.likely-first.ensures) in
+    let few : first + count ≤ last = omega (arith, subst (λ l. count ≤ length l) rest c.partition_point-2.ensures.bound, sizes, size, c.likely_run-first.ensures) in
+    let front : (d : ℕ) → 0 < first → p (get_or (take last xs) (first - 1) d) ≡ true = λ d lt. subst (λ x. p x ≡ true) (sym (get_or-take last xs (first - 1) d (omega (arith, lt, c.likely_run-first.ensures)))) (c.is_within.ensures.front is d lt) in
+    let inside : first ≤ length (take last xs) = omega (arith, size, c.likely_run-first.ensures) in
     near_point p xs parted last (first + count) (λ d lt. c.is_within.ensures.behind is d lt) within few (far_point p (take last xs) first count front_part front inside there)

@@ -1,13 +1,13 @@
-use Rattle.std.proofs.Common.{◌≡◌, ℕ, Bool, false, filter, ◌∙◌, rules}
+use Rattle.std.proofs.Common.{◌≡◌, ℕ, Bool, true, filter, ◌∙◌, rules}
 use Rattle.std.proofs.lemmas.Fn.{filter_same}
 use Rattle.dict_match.specs.Matching.{is_hit}
-use Rattle.dict_derived.specs.Search.{is_tested}
 use Rattle.dict_search.specs.Places.{key_at}
+use Rattle.dict_search.specs.Selected.{finds_all}
 use Rattle.dict_search.proofs.keeping.keep_hits.Goals as goal
 
-pub returns-then-not-is_tested : goal.returns-then-not-is_tested
-returns-then-not-is_tested c =
-    let plain : is_tested c.args.strategy ≡ false = search rules in
+pub returns-then-finds_all : goal.returns-then-finds_all
+returns-then-finds_all c =
+    let plain : finds_all c.args.strategy c.args.query.now ≡ true = search rules in
     c.requires.untested plain
 
 pub returns : goal.returns

@@ -1,6 +1,6 @@
 use Rattle.std.proofs.Common.{◌≡◌, ◌≤◌, [], ◌∷◌, ◌++◌, cond, get_or, length, ap, ◌∙◌, arith}
 use Rattle.std.proofs.lemmas.List.{length-map}
-use Rattle.dict_derived.specs.Derived.{grams}
+use Rattle.dict_derived.specs.Kept.{kept_grams}
 use Rattle.dict_search.specs.declared.placed.PlacedGram.{PlacedGram}
 use Rattle.dict_search.specs.Pieces.{pairs_of, ends_with_piece}
 use Rattle.dict_search.specs.PlacedPieces.{gram_placed, grams_placed}
@@ -28,4 +28,4 @@ returns c = λ keys all.
     let placed = c.args.placed.now in
     let i = c.loop-one.one-index in
     let past : length (grams_placed placed) ≤ i = omega (arith, length-map placed gram_placed, c.loop-one-test.false) in
-    all_grouped grams keys c.loop-one.texts c.loop-one.lists (grams_placed placed) i past c.loop-one.invariant all
+    all_grouped kept_grams keys c.loop-one.texts c.loop-one.lists (grams_placed placed) i past c.loop-one.invariant all

@@ -1,5 +1,3 @@
-use Rattle.std.proofs.Common.{ℕ, List, bytes_eq}
-use denote.Ref.{Bor}
 use Rattle.dict_search.proofs.ShownLemmas.{HasShown, same_texts}
 use Rattle.dict_search.proofs.shown.first_shown.Given as goal
 

@@ -1,4 +1,4 @@
-use Rattle.std.proofs.Common.{ℕ, filter, ap, ◌∙◌}
+use Rattle.std.proofs.Common.{filter, ap, ◌∙◌}
 use Rattle.dict_match.specs.Matching.{is_hit}
 use Rattle.dict_derived.specs.Search.{rows_for}
 use Rattle.dict_search.specs.Entries.{keys_of}

@@ -1,10 +1,10 @@
-use Rattle.std.proofs.Common.{◌≡◌, ◌<◌, ℕ, Bool, List, length, filter, inl, inr, ap, sym, ◌∙◌, subst, arith}
+use Rattle.std.proofs.Common.{◌≡◌, ◌<◌, ℕ, Bool, length, filter, inl, inr, ap, ◌∙◌, subst, arith}
 use Rattle.dict_match.specs.Matching.{is_hit}
 use Rattle.dict_match.specs.declared.strategy.Strategy.TheVariants.{Substring}
-use Rattle.dict_derived.specs.Derived.{grams}
 use Rattle.dict_derived.specs.Search.{rows_for}
 use Rattle.dict_search.specs.Entries.{keys_of}
 use Rattle.dict_search.specs.Places.{key_at, places_where}
+use Rattle.dict_derived.specs.Kept.{kept_grams}
 use Rattle.dict_search.specs.Pieces.{ArePlaced}
 use Rattle.dict_search.specs.Selected.{is_selected}
 use Rattle.dict_search.proofs.EditionLemmas.{tested}
@@ -27,7 +27,7 @@ returns c =
     let q = c.args.query.now in
     let keys = keys_of c.args.self.now in
     let hit : ℕ → Bool = λ place. is_hit Substring q (key_at keys place) in
-    let placed = subst (λ l. ArePlaced grams (keys_of l) c.self.inside.grams.texts c.self.inside.grams.lists) c.self.view_is c.self.invariant.grams_placed in
+    let placed = subst (λ l. ArePlaced kept_grams (keys_of l) c.self.inside.grams.texts c.self.inside.grams.lists) c.self.view_is c.self.invariant.grams_placed in
     let shorter : length c.rarest-rarest.result.now < length c.as_slice.result.now = omega (arith, c.if-rarest-len.false, c.len-2.ensures, c.as_slice.ensures.len) in
     let more : c.as_slice-2.result.now ≡ places_where (is_selected (rows_for Substring q)) keys = c.as_slice-2.ensures.value ∙ c.requires.selected in
     elim (c.rarest-rarest.ensures keys placed) [
