@@ -69,7 +69,8 @@ fn without_text(edition: Edition<String, Vec<u8>>) -> Header<String>
     }
 }
 
-// Puts the files of the edition of a number in. It answers its header.
+// Puts the files of the edition of a number in. It answers its header. The entries are let go of before the text is read: each by
+// itself takes more memory than what is made of it.
 fn part_edition<S: Alter>(
     alloc: Global,
     tx: &mut Transaction<'_, S>,
@@ -84,8 +85,8 @@ fn part_edition<S: Alter>(
     ensures keeps { HasCleanDisk (seen S.Store tx.new) → KeepsCommit (seen S.Store tx.old) (seen S.Store tx.new) }
     ensures survives { Survives (seen S.Store tx.old) (seen S.Store tx.new) (λ _. ⊥) }
 {
-    let edition = read_record(alloc, tx, number)?;
     let index = read_index(alloc, tx, layout, number)?;
+    let edition = read_record(alloc, tx, number)?;
     let files = EditionFiles {
         number,
         index: &index,

@@ -13,6 +13,7 @@ ghost use Rattle.dict_desk.specs.Faults.{is_disk};
 ghost use Rattle.dict_holdings.specs.Holds.{Holds, Rests, IsLeftAs, HasPlace};
 ghost use Rattle.dict_holdings.specs.Writing.{Stays, IsOfCreation};
 ghost use Rattle.dict_migration.specs.Making.{creation, FailsToEnd, RunInTurn, FailsInTurn};
+ghost use Rattle.dict_migration.specs.Moved.{AreTreesOf};
 ghost use Rattle.dict_migration.specs.Spared.{SparesOthers};
 
 use dict_desk::Fault;
@@ -84,6 +85,7 @@ pub fn create<S: Alter>(conn: &mut Connection<S>) -> Result<(), Fault>
     ensures rests { HasCleanDisk (state S.Store conn.new) → OnOk result (Rests known (state S.Store conn.new) empty_catalogue) }
     ensures only { HasCleanDisk (state S.Store conn.new) → OnOk result ((trees : _) → (state S.Store conn.new).may_leave trees → IsLeftAs known empty_catalogue trees) }
     ensures spares { HasCleanDisk (state S.Store conn.new) → OnOk result (SparesOthers (state S.Store conn.old).now (state S.Store conn.new).now) }
+    ensures beside { Survives (state S.Store conn.old) (state S.Store conn.new) (AreTreesOf (SparesOthers (state S.Store conn.old).now)) }
     ensures place { OnOk result (HasPlace (state S.Store conn.old).now.schema) }
     ensures no_place { (result ≡ Err Fault.NotACatalogue) ↔ (HasPlace (state S.Store conn.old).now.schema → ⊥) }
     ensures unchanged { result ≡ Err Fault.NotACatalogue → conn.new ≡ conn.old }

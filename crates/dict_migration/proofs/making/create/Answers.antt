@@ -11,7 +11,8 @@ use Rattle.dict_holdings.proofs.CommitLemmas.{leaves, only_left, done, before_co
 use Rattle.dict_migration.proofs.making.create.Goals as goal
 use Rattle.dict_rows.specs.Versions.{known}
 use Rattle.dict_migration.specs.Spared.{SparesOthers}
-use Rattle.sqlite.specs.Effect.{Database}
+use Rattle.sqlite.specs.Effect.{Database, IsDatabase}
+use Rattle.dict_migration.specs.Moved.{AreTreesOf}
 
 pub returns-in-Ok-clause-rests : goal.returns-in-Ok-clause-rests
 returns-in-Ok-clause-rests g c clean =
@@ -70,6 +71,32 @@ returns-in-Err-commit-clause-crash g c =
     let same : end ≡ c.conn-2-1.given.0 = search rules in
     let there = leaves g.S.Store old c.transaction-tx.result.conn.now mid end (λ db. Holds known db empty_catalogue) c.transaction-tx.ensures.begun c.make_all.ensures.survives c.commit.ensures.survives c.in_default.ensures.made in
     subst (λ h. Survives (state g.S.Store old) (state g.S.Store h) (IsLeftAs known empty_catalogue)) same there
+
+pub returns-in-Ok-clause-beside : goal.returns-in-Ok-clause-beside
+returns-in-Ok-clause-beside g c =
+    let old = c.args.conn.now in
+    let begun = c.transaction-tx.result.conn.now in
+    let mid = c.make_all.new.tx.conn.now in
+    let end = c.commit.new.tx.0 in
+    let same : end ≡ c.conn-2-1.given.0 = search rules in
+    let P = λ (db : Database). SparesOthers (state g.S.Store old).now db in
+    let made : HasCleanDisk (state g.S.Store mid) → P (state g.S.Store mid).now × IsDatabase (state g.S.Store mid).now =
+    λ clean. (subst (λ h. SparesOthers (state g.S.Store h).now (state g.S.Store mid).now) c.transaction-tx.ensures.begun (c.in_default.ensures.spares clean), (c.in_default.ensures.made clean).1) in
+    let there = leaves g.S.Store old begun mid end P c.transaction-tx.ensures.begun c.make_all.ensures.survives c.commit.ensures.survives made in
+    subst (λ h. Survives (state g.S.Store old) (state g.S.Store h) (AreTreesOf P)) same there
+
+pub returns-in-Err-commit-clause-beside : goal.returns-in-Err-commit-clause-beside
+returns-in-Err-commit-clause-beside g c =
+    let old = c.args.conn.now in
+    let begun = c.transaction-tx.result.conn.now in
+    let mid = c.make_all.new.tx.conn.now in
+    let end = c.commit.new.tx.0 in
+    let same : end ≡ c.conn-2-1.given.0 = search rules in
+    let P = λ (db : Database). SparesOthers (state g.S.Store old).now db in
+    let made : HasCleanDisk (state g.S.Store mid) → P (state g.S.Store mid).now × IsDatabase (state g.S.Store mid).now =
+    λ clean. (subst (λ h. SparesOthers (state g.S.Store h).now (state g.S.Store mid).now) c.transaction-tx.ensures.begun (c.in_default.ensures.spares clean), (c.in_default.ensures.made clean).1) in
+    let there = leaves g.S.Store old begun mid end P c.transaction-tx.ensures.begun c.make_all.ensures.survives c.commit.ensures.survives made in
+    subst (λ h. Survives (state g.S.Store old) (state g.S.Store h) (AreTreesOf P)) same there
 
 pub returns-in-Err-clause-failed : goal.returns-in-Err-clause-failed
 returns-in-Err-clause-failed g c clean other =

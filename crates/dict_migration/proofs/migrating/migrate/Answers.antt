@@ -94,6 +94,27 @@ returns-clause-crash g c =
     (c.deref.ensures.value ∙ (c.in-Ok.ensures.same ∙ summary_numbers it.0 summary it.2)) (summary_installs it.0 summary it.2) c.requires.older.0 c.requires.older.1 trees left)
     c.migrate_from.ensures.crash
 
+pub returns-clause-beside : goal.returns-clause-beside
+returns-clause-beside g c =
+    let old = state g.S.Store c.args.conn.now in
+    let new = state g.S.Store c.migrate_from.new.conn in
+    survives_weaker old new (AreTreesOf (IsOutcome c.older_layout.result c.deref.result.now c.args.summary.now.installs old)) (λ trees. IsTrue old.is_open × AreTreesOf (SparesOthers old.committed) trees)
+    (λ clean trees left.
+    let clean0 : HasCleanDisk old = omega (arith, c.migrate_from.ensures.crash.clean, clean) in
+    let opened = left.3.was_open in
+    let it = c.requires.holds clean0 opened in
+    let its = is_old c.args.version c.older_layout.result c.older_layout.ensures old it.0 it.1 (c.is_live.ensures opened).0 in (
+      opened,
+      (
+        left.0,
+        left.1,
+        left.2,
+        subst (λ (d : Database). SparesOthers d left.0) it.1.settled
+            (others_moved c.older_layout.result c.deref.result.now c.args.summary.now.installs old.now left.0 its left.3.moved),
+      ),
+    ))
+    c.migrate_from.ensures.crash
+
 pub returns-in-Err-clause-failed : goal.returns-in-Err-clause-failed
 returns-in-Err-clause-failed g c clean =
     inl (record { same = refl; why = why_not_begun (summary_shown c.args.summary.now) c.in-Err.error c.fault_of_read.result c.fault_of_read.ensures.is c.in-Err.ensures.failed })
