@@ -1,5 +1,5 @@
 -- What follows where a record of a scan isn't taken.
-use Rattle.std.proofs.Common.{◌≡◌, Bool, true, false, List, [], ◌∷◌, ◌++◌, map, inr, sym, subst}
+use Rattle.std.proofs.Common.{◌≡◌, List, [], ◌∷◌, ◌++◌, map, inr, sym, subst}
 use Rattle.std.proofs.lemmas.List.{map-append}
 use Rattle.sqlite.specs.Order.{Row}
 use Rattle.sqlite.specs.Effect.{Database}
@@ -29,10 +29,6 @@ pub refused_next : {S R T : Type 0} (g : Ghosts S) (stored : R → Row) (columns
     IsUnchanged (state g old) (state g new) → HasGiven g what new (map stored given ++ stored r ∷ []) → refuses first (given ++ r ∷ []) → IsWrong stored columns refuses what (state g old).now first
 refused_next g stored columns refuses what first given r old new same gave wrong =
     inr (given ++ r ∷ [], subst (IsFront what (state g old).now) (sym (map-append stored given (r ∷ []))) (subst (λ (d : Database). IsFront what d (map stored given ++ stored r ∷ [])) same.0.now_is (front_of g what new (map stored given ++ stored r ∷ []) gave)), wrong)
-
-pub not_true : (b : Bool) → (b ≡ true → true ≡ false) → b ≡ false
-not_true true h = h cc
-not_true false h = cc
 
 -- ---- a row that is no record
 

@@ -42,9 +42,6 @@ failed_stays old new e (inr h) = same_stays old new (same_as old new h.2)
 pub clean_before : (old mid new : State) → Survives mid new (λ _. ⊥) → HasCleanDisk new → HasCleanDisk mid
 clean_before old mid new s clean = omega (arith, s.clean)
 
-pub reads_itself : (s : State) → Survives s s (λ _. ⊥) → OnlyReads s s
-reads_itself s h = record { mode = (λ m. m); survives = h; stays = (λ _. same_stays s s (same_itself s)) }
-
 pub reads_then : (old mid new : State) → OnlyReads old mid → OnlyReads mid new → OnlyReads old new
 reads_then old mid new h k = record {
   mode = (λ m. k.mode (h.mode m));

@@ -19,7 +19,8 @@ use Rattle.dict_desk.specs.declared.fault.Fault.{Fault}
 use Rattle.dict_desk.specs.declared.fault.Fault.TheVariants.{Refused, Memory, Disk, Closed, NotACatalogue, Damaged, NewerSchema}
 use Rattle.dict_rows.specs.Versions.{known}
 use Rattle.dict_holdings.specs.Holds.{Holds, Rests, IsLeftAs}
-use Rattle.dict_commands.specs.Kept.{KeepsTexts}
+use Rattle.dict_commands.specs.Committed.{IsTreesOf}
+use Rattle.dict_commands.specs.Kept.{KeepsTexts, SparesOthers}
 use Rattle.dict_commands.specs.Changes.{IsInRange}
 use Rattle.dict_commands.specs.Filing.{rested}
 use Rattle.dict_commands.specs.Finishing.{IsAppliedOver, FailsToApplyFiled}
@@ -44,6 +45,20 @@ answers_rested s M id outcome (Err Closed) h = absurd h
 answers_rested s M id outcome (Err NotACatalogue) h = absurd h
 answers_rested s M id outcome (Err Damaged) h = absurd h
 answers_rested s M id outcome (Err NewerSchema) h = absurd h
+
+-- what a stop may leave is of both kinds
+both_left : (a b : State) (P Q : Trees → Type 0) → Survives a b P → Survives a b Q → Survives a b (λ trees. P trees × Q trees)
+both_left a b P Q p q = record {
+  clean = p.clean;
+  shield = p.shield;
+  counts = p.counts;
+  limit = p.limit;
+  closes = p.closes;
+  crash = λ clean trees left. elim (p.crash clean trees left) [
+    | inl was ↦ inl was
+    | inr one ↦ elim (q.crash clean trees left) [ inl was ↦ inl was | inr two ↦ inr (one, two) ]
+  ];
+}
 
 pub err_weaker : {T : Type 0} (P Q : Fault → Type 0) (result : Result T Fault) → ((fault : Fault) → P fault → Q fault) → IfErr result P → IfErr result Q
 err_weaker P Q (Ok value) f h = tt
@@ -78,16 +93,22 @@ module _ {S : Type 0} (g : Ghosts S) (summary : Holdings (List ℕ)) (id : List 
         → (HasCleanDisk (state g new) → IfErr result (λ fault. is_failure fault ≡ true → FailsToApply g summary id command old new fault))
         → (HasCleanDisk (state g new) → OnOk result (KeepsTexts summary.installs (numbers_after summary result) (state g old).now (state g new).now))
         → (HasCleanDisk (state g new) → IfErr result (λ fault. is_failure fault ≡ false → (state g new).now ≡ (state g old).now))
+        → (HasCleanDisk (state g new) → OnOk result (SparesOthers (state g old).now (state g new).now)) → Survives (state g old) (state g new) (IsTreesOf (SparesOthers (state g old).now))
         → summary.installs ≤ (summary_after summary result).installs → IfErr result IsOfApply → IsInRange (summary_after summary result) → new.in_transaction ≡ false → AppliesOver g summary id command old new result
-    applied_alone value spares shut failed above refused grows kinds range ended = record {
+    applied_alone value spares shut failed above refused others beside grows kinds range ended = record {
       value = λ clean M rests is. answers_rested (state g new) M id (step M id command) result (value clean M (rests_before clean M rests) is);
       spares = spares;
       crash = survives_weaker (state g old) (state g new) (Left (Rests known (state g old))) (Left (Rests known (rested (state g old)))) (λ clean trees h. (h.0, λ M rests is. h.1 M (rests_before clean M rests) is)) crash;
       shut = shut;
       lives = lives;
       failed = λ clean. err_weaker (λ fault. is_failure fault ≡ true → FailsToApply g summary id command old new fault) (λ fault. is_failure fault ≡ true → FailsToApplyOver g summary id command old new fault) result
-          (λ fault h failure. inl (h failure)) (failed clean);
+          (λ fault h failure. inl (none, h failure)) (failed clean);
       above = λ clean live. as_committed (λ (a b : Database). OnOk result (KeepsTexts summary.installs (numbers_after summary result) a b)) clean live (above clean);
+      others = λ clean live. as_committed (λ (a b : Database). OnOk result (SparesOthers a b)) clean live (others clean);
+      beside = survives_weaker (state g old) (state g new) (λ trees. Left (Rests known (state g old)) trees × IsTreesOf (SparesOthers (state g old).now) trees)
+          (λ trees. IsTrue (state g old).is_open × IsTreesOf (SparesOthers (state g old).committed) trees)
+          (λ clean trees h. (h.0.0, subst (λ (db : Database). IsTreesOf (SparesOthers db) trees) (settled (first clean) h.0.0 none) h.1))
+          (both_left (state g old) (state g new) (Left (Rests known (state g old))) (IsTreesOf (SparesOthers (state g old).now)) crash beside);
       refused = λ clean live. as_committed (λ (a b : Database). IfErr result (λ fault. is_failure fault ≡ false → b ≡ a)) clean live (refused clean);
       grows = grows;
       kinds = kinds;
@@ -115,6 +136,8 @@ module _ {S : Type 0} (g : Ghosts S) (summary : Holdings (List ℕ)) (id : List 
       lives = over.lives;
       failed = fails;
       above = λ clean live. over.above clean;
+      others = λ clean live. over.others clean;
+      beside = over.beside;
       refused = λ clean live. over.refused clean;
       grows = over.grows;
       kinds = over.kinds;
@@ -133,6 +156,9 @@ module _ {S : Type 0} (g : Ghosts S) (summary : Holdings (List ℕ)) (id : List 
       lives = λ clean live. subst (λ (h : Held S). IsTrue (state g h).is_open) same live;
       failed = fails;
       above = λ clean live. subst (λ (r : Result Applied Fault). OnOk r (KeepsTexts summary.installs (numbers_after summary r) (state g old).committed (state g new).committed)) (sym told) tt;
+      others = λ clean live. subst (λ (r : Result Applied Fault). OnOk r (SparesOthers (state g old).committed (state g new).committed)) (sym told) tt;
+      beside = subst (λ (h : Held S). Survives (state g old) (state g h) (λ trees. IsTrue (state g old).is_open × IsTreesOf (SparesOthers (state g old).committed) trees)) (sym same)
+          (survives_itself (state g old) (λ trees. IsTrue (state g old).is_open × IsTreesOf (SparesOthers (state g old).committed) trees));
       refused = λ clean live. subst (λ (r : Result Applied Fault). IfErr r (λ fault. is_failure fault ≡ false → (state g new).committed ≡ (state g old).committed)) (sym told) (λ _. ap (λ (h : Held S). (state g h).committed) same);
       grows = subst (λ (r : Result Applied Fault). summary.installs ≤ (summary_after summary r).installs) (sym told) (omega arith);
       kinds = subst (λ (r : Result Applied Fault). IfErr r IsOfApply) (sym told) tt;
@@ -161,6 +187,8 @@ applied_never g summary id command h never range = record {
   lives = λ clean live. live;
   failed = λ clean. absurd (never clean);
   above = λ clean live. tt;
+  others = λ clean live. tt;
+  beside = survives_itself (state g h) (λ trees. IsTrue (state g h).is_open × IsTreesOf (SparesOthers (state g h).committed) trees);
   refused = λ clean live. absurd (never clean);
   grows = omega arith;
   kinds = tt;

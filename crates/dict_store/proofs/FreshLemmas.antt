@@ -8,17 +8,20 @@ use Rattle.sqlite_disk.specs.Events.{Event, replay, settled}
 use Rattle.sqlite_disk.specs.History.{MayLeave}
 use Rattle.sqlite_wal.proofs.LogLemmas.{SeenMayStay}
 use Rattle.sqlite.specs.Recovery.{Image}
-use Rattle.sqlite.specs.Files.{IsCleanLeft, FailsToOpenFiles, LeavesFiles}
+use Rattle.sqlite.specs.Files.{IsCleanLeft, FailsToOpenFiles, LeavesFiles, image_of}
+use Rattle.sqlite.specs.WalFiles.{outcomes}
 use Rattle.sqlite.specs.Opening.{is_open_error}
 use Rattle.sqlite.specs.declared.error.Error.{Error}
 use Rattle.sqlite.specs.declared.error.Error.TheVariants.{SqliteFailure}
 use Rattle.sqlite.specs.declared.error.ErrorCode.TheVariants as code
 use Rattle.sqlite.specs.declared.file.Leftover.{Leftover}
+use Rattle.sqlite.specs.declared.file.Leftover.TheVariants as left_of
+use Rattle.dict_catalogue.specs.Steps.{Catalogue}
 use Rattle.dict_desk.specs.declared.fault.Fault.{Fault}
 use Rattle.dict_opening.specs.Reading.{IsOfOpening}
-use Rattle.dict_store.specs.Unopened.{fault_of_files, StandsIn, HaveOctets, IsUnopened, RestLeaves}
+use Rattle.dict_store.specs.Unopened.{fault_of_files, IsOneIn, StandsIn, HaveOctets, IsUnopened, WasSealed}
 use Rattle.dict_store.specs.declared.reopening.Unopened.TheVariants as left
-use Rattle.dict_store.proofs.UnopenedLemmas.{rest_leaves}
+use Rattle.dict_store.proofs.UnopenedLemmas.{IsReady, IsSealedOneIn, rest_leaves}
 
 -- ---- a file of which no call was recorded but its first
 
@@ -48,6 +51,14 @@ octets_by {D} {g} files image log db log_only db_only log_clean db_clean = recor
   clean = and_from (g.is_clean files.log) (g.is_clean files.db) log_clean db_clean;
 }
 
+-- what stands in the octets is there where `sqlite` had begun to write them
+ready_by : {D : Type 0} {g : Ghosts D} (files : Files D) (image : Image) (m : Option Catalogue) (each : (left : Image) → outcomes g files.log files.db left → ∥ IsOneIn (m ∷ []) left ∥₁)
+    (stay : outcomes g files.log files.db (image_of g files)) → image_of g files ≡ image → StandsIn m image → (now : Leftover D g) → WasSealed image now → IsReady files (m ∷ []) each stay now
+ready_by {D} {g} files image m each stay seen stands (left_of.Files now) was = tt
+ready_by {D} {g} files image m each stay seen stands (left_of.Unopened now) was =
+    subst (λ i. ∥ IsSealedOneIn (m ∷ []) i ∥₁) (sym seen) ∣ (m, (0, omega arith, refl), (stands.0, (stands.1, was stands.0 stands.1), stands.2)) ∣₁
+ready_by {D} {g} files image m each stay seen stands (left_of.Store now) was = tt
+
 module _ {D : Type 0} {g : Ghosts D} (image : Image) (stays : SeenMayStay g) (error : Error) (fault : Fault) (told : fault ≡ fault_of_files error) (kind : IsOfOpening fault) (named : IsTrue (is_open_error error)) where
   pub unopened_from : (it : Option (Leftover D g)) → (it ≡ None → (error ≡ SqliteFailure code.CannotOpen) ⊎ ((error ≡ SqliteFailure code.OutOfMemory) ⊎ (error ≡ SqliteFailure code.DatabaseBusy)))
       → IfSome it (λ now. (files : Files D) × HaveOctets g image files × (IsCleanLeft now → FailsToOpenFiles files now error × LeavesFiles files now)) → IsUnopened image (left.Files it) fault
@@ -59,6 +70,8 @@ module _ {D : Type 0} {g : Ghosts D} (image : Image) (stays : SeenMayStay g) (er
         files = files;
         octets = octets;
         why = record { error = error; named = named; told = told; kind = kind; cause = λ still. (some.2 still).0; unharmed = λ still. (some.2 still).1 };
-        leaves = λ m stands still. subst (λ (i : Image). RestLeaves i (m ∷ []) now) octets.seen
-            (rest_leaves files (m ∷ []) (λ left out. ∣ (m, (0, omega arith, refl), subst (StandsIn m) (sym (octets.only left out)) stands) ∣₁) (stays files.log, stays files.db) now (some.2 still).1);
+        leaves = λ m stands was still.
+            let each : (left : Image) → outcomes g files.log files.db left → ∥ IsOneIn (m ∷ []) left ∥₁ = λ left out. ∣ (m, (0, omega arith, refl), subst (StandsIn m) (sym (octets.only left out)) stands) ∣₁ in
+            let stay : outcomes g files.log files.db (image_of g files) = (stays files.log, stays files.db) in
+            rest_leaves files (m ∷ []) each stay now (ready_by files image m each stay octets.seen stands now was) (some.2 still).1;
       }

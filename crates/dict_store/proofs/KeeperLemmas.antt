@@ -24,6 +24,9 @@ use Rattle.dict_desk.proofs.LeavesLemmas.{contains_later}
 use Rattle.dict_holdings.specs.Holds.{Rests, IsLeftAs}
 use Rattle.dict_commands.specs.Answers.{Answers, has_written, summary_after, IsOfShut}
 use Rattle.dict_commands.specs.Filing.{IsUnderway, rested}
+use Rattle.dict_commands.specs.Kept.{SparesOthers}
+use Rattle.dict_commands.proofs.WriteLemmas.{others_none}
+use Rattle.sqlite.specs.Effect.{Database}
 use Rattle.dict_commands.specs.declared.filing.Filing.{Filing}
 use Rattle.dict_commands.specs.declared.applied.Applied.{Applied}
 use Rattle.dict_commands.specs.declared.applied.Applied.TheVariants.{Repeated, Done}
@@ -62,6 +65,11 @@ abbrev pub catalogue_by : Catalogue → Outcome → Result Applied Fault → Cat
 catalogue_by M outcome (Ok (Repeated kept)) = M
 catalogue_by M outcome (Ok (Done kept summary)) = outcome.catalogue
 catalogue_by M outcome (Err fault) = M
+
+-- tables of others, where nothing is committed of a command that isn't answered
+pub others_by : (result : Result Applied Fault) (a b : Database) → OnOk result (SparesOthers a b) → OnErr result (b ≡ a) → SparesOthers a b
+others_by (Ok applied) a b spares same = spares
+others_by (Err fault) a b spares same = subst (SparesOthers a) (sym same) (others_none a)
 
 -- what a command answers over a store that is open
 module _ {S : Type 0} (g : Ghosts S) (new : Held S) (M : Catalogue) (id : List ℕ) (outcome : Outcome) (indexes : List (ℕ × List Indexed)) (texts : List (Key × List ℕ)) where

@@ -31,7 +31,7 @@ use Rattle.dict_store.specs.Reopened.{HoldsFrontIn, IsOfStore, IsLetGo, IsOpened
 use Rattle.dict_store.specs.Unopened.{IsOneIn, IsOneOf, IsRejected, IsUnopenedOver, IsUnopenedAgain, IsExcused, HandsBack, TellsNoHolding}
 use Rattle.dict_store.specs.declared.reopening.Unopened.{Unopened}
 use Rattle.dict_store.specs.declared.reopening.Unopened.TheVariants as left
-use Rattle.dict_store.proofs.UnopenedLemmas.{rest_leaves, excused_by}
+use Rattle.dict_store.proofs.UnopenedLemmas.{IsSealedOneIn, opens_sealed, all_ready, rest_leaves, excused_by}
 use Rattle.dict_migration.specs.Migrated.{MayMigrate}
 use Rattle.dict_migration.proofs.StopLemmas.{stands_still}
 
@@ -78,6 +78,12 @@ module _ {D : Type 0} {g : Ghosts D} (stays : SeenMayStay g) (desk : DeskState (
   -- whatever a stop leaves of them is a database, and one of these
   opens : AreClean g now.log now.db → (image : Image) → outcomes g now.log now.db image → ∥ ((db : Trees) × recovers gone.store db × HoldsDatabase image db) ∥₁
   opens clean image out = opens_again gone.store (gone.numbered (none clean)) (gone.sound (none clean)) image (may_be clean image out)
+
+  -- and no page of it waits for its sum
+  sealed_is : (ms : List (Option Catalogue)) → LeavesOneOf over_files desk ms → AreClean g now.log now.db → ∥ IsSealedOneIn ms (image_of g now) ∥₁
+  sealed_is ms leaves clean =
+      ∥∥₁_map (opens_sealed gone.store (gone.numbered (none clean)) (gone.sound (none clean)) (image_of g now) (may_be clean (image_of g now) stay))
+      (λ db. let h = leaves (early_desk clean) db.0 (gone.quiet.outcomes db.0 db.1) in (h.0, h.1, (db.0, db.2, h.2)))
 
   each_is : (ms : List (Option Catalogue)) → LeavesOneOf over_files desk ms → AreClean g now.log now.db → (image : Image) → outcomes g now.log now.db image → ∥ IsOneIn ms image ∥₁
   each_is ms leaves clean image out = ∥∥₁_map (opens clean image out) (λ db. let h = leaves (early_desk clean) db.0 (gone.quiet.outcomes db.0 db.1) in (h.0, h.1, (db.0, db.2, h.2)))
@@ -149,7 +155,8 @@ module _ {D : Type 0} {g : Ghosts D} (stays : SeenMayStay g) (desk : DeskState (
 
   pub hands_back : (it : Unopened D g) (fault : Fault) → IsUnopenedOver now it fault → (ms : List (Option Catalogue)) → LeavesOneOf over_files desk ms → HandsBack now ms it
   hands_back (left.Files None) fault h = absurd h
-  hands_back (left.Files (Some rest)) fault h = λ ms leaves clean still. rest_leaves now ms (each_is ms leaves clean) stay rest (h.unharmed still)
+  hands_back (left.Files (Some rest)) fault h = λ ms leaves clean still.
+      rest_leaves now ms (each_is ms leaves clean) stay rest (all_ready now ms (each_is ms leaves clean) stay rest (sealed_is ms leaves clean)) (h.unharmed still)
   hands_back (left.Spent both) fault h = absurd h
   hands_back (left.Database conn) fault h = λ ms leaves honest trees stop. rejected_leaves conn fault h honest ms leaves trees stop
 

@@ -1,6 +1,7 @@
 -- What a desk over a database shows, and why there is none.
 use Rattle.std.specs.Prelude.{◌≡◌, ◌<◌, ◌↔◌, ◌⊎◌, ℕ, false, [], ◌∷◌, Some, None, IsTrue}
-use Rattle.sqlite.specs.State.{HasCleanDisk, Survives}
+use Rattle.sqlite.specs.State.{State, HasCleanDisk, Survives}
+use Rattle.sqlite.specs.Tree.{Trees}
 use Rattle.sqlite.specs.Held.{Held, state}
 use Rattle.sqlite_trees.specs.declared.store.Store.{Ghosts}
 use Rattle.dict_catalogue.specs.Steps.{Catalogue, summary_of}
@@ -11,14 +12,21 @@ use Rattle.dict_holdings.specs.Holds.{Holds, IsHeld, Rests}
 use Rattle.dict_opening.specs.Reading.{IsOfOpening, HasFailed}
 use Rattle.dict_migration.specs.Failing.{IsBeyond, FailsToMove}
 use Rattle.dict_migration.specs.Migrated.{MayMigrate}
+use Rattle.dict_migration.specs.Moved.{AreTreesOf}
+use Rattle.dict_migration.specs.Spared.{SparesOthers}
 use Rattle.dict_store.specs.Desk.{DeskState, Shows, LeavesOneOf}
 use Rattle.dict_store.specs.Opened.{IsTold, IsNotHeld}
 use Rattle.dict_store.specs.declared.last.LastCall.TheVariants.{Fine}
 use Rattle.dict_rows.specs.Versions.{known}
 
+-- what an opening may commit: the store was open, and these are trees of a database in which the tables of others are as they were
+abbrev pub MayCommitBeside : State → Trees → Type 0
+MayCommitBeside s trees = IsTrue s.is_open × AreTreesOf (SparesOthers s.committed) trees
+
 module _ {S : Type 0} (g : Ghosts S) where
   -- The database holds a catalogue, which the desk over it shows, and a stop leaves that one alone. Where its tables are of an
-  -- older version, those of the known one were made of them, of the same catalogue, by one commit; else nothing was written.
+  -- older version, those of the known one were made of them, of the same catalogue, by one commit; else nothing was written. The
+  -- tables of others are as they were, and a stop leaves them so.
   pub record IsAdopted (conn : Held S) (desk : DeskState S) : Type 0 where
     pub fine : desk.last ≡ Fine
     pub shows : HasCleanDisk (state g desk.conn) → (M : Catalogue) × Rests known (state g desk.conn) M × Shows g desk M
@@ -26,6 +34,8 @@ module _ {S : Type 0} (g : Ghosts S) where
     pub same : HasCleanDisk (state g desk.conn) → (M : Catalogue) → IsHeld (state g conn).committed M ↔ Holds known (state g desk.conn).committed M
     pub unwritten : HasCleanDisk (state g desk.conn) → (M : Catalogue) → Holds known (state g conn).committed M → (state g desk.conn).committed ≡ (state g conn).committed
     pub migrated : Survives (state g (record conn { step_limit = None })) (state g desk.conn) (MayMigrate (state g conn))
+    pub others : HasCleanDisk (state g desk.conn) → SparesOthers (state g conn).committed (state g desk.conn).committed
+    pub beside : Survives (state g (record conn { step_limit = None })) (state g desk.conn) (MayCommitBeside (state g conn))
 
   -- The database holds none, and the fault tells why; or it couldn't be told, or its tables couldn't be made those of the known
   -- version. The fault is one of an opening. While the store is open, what it shows and has committed is as it was; and a stop leaves
@@ -37,6 +47,7 @@ module _ {S : Type 0} (g : Ghosts S) where
     pub same : HasCleanDisk (state g left) → IsTrue (state g left).is_open → ((state g left).now ≡ (state g conn).now) × ((state g left).committed ≡ (state g conn).committed)
     pub adds_none : is_disk fault ≡ false → Survives (state g (record conn { step_limit = None })) (state g left) (λ _. ⊥)
     pub crash : Survives (state g (record conn { step_limit = None })) (state g left) (MayMigrate (state g conn))
+    pub beside : Survives (state g (record conn { step_limit = None })) (state g left) (MayCommitBeside (state g conn))
 
   -- The database holds a catalogue under an older version, and of just this database's tables those of the known one weren't made:
   -- a number of the catalogue is above all that a column holds, or a part of its migration failed, behind all that comes before

@@ -11,7 +11,8 @@ use Rattle.dict_desk.specs.Faults.{is_failure}
 use Rattle.dict_desk.specs.declared.fault.Fault.{Fault}
 use Rattle.dict_rows.specs.Versions.{known}
 use Rattle.dict_holdings.specs.Holds.{Rests, IsLeftAs}
-use Rattle.dict_commands.specs.Kept.{KeepsTexts}
+use Rattle.dict_commands.specs.Committed.{IsTreesOf}
+use Rattle.dict_commands.specs.Kept.{KeepsTexts, SparesOthers}
 use Rattle.dict_commands.specs.Changes.{IsInRange}
 use Rattle.dict_commands.specs.Filing.{rested}
 use Rattle.dict_commands.specs.Answers.{HoldsBy, Answers, has_written, numbers_after, summary_after, IsOfApply, IsOfShut}
@@ -30,6 +31,8 @@ module _ {S : Type 0} (g : Ghosts S) where
     pub failed : HasCleanDisk (state g new) → IfErr result (λ fault. is_failure fault ≡ true → FailsToApplyOver g summary id command old new fault)
     pub above : HasCleanDisk (state g new) → IsTrue (state g new).is_open → OnOk result (KeepsTexts summary.installs (numbers_after summary result) (state g old).committed (state g new).committed)
     pub refused : HasCleanDisk (state g new) → IsTrue (state g new).is_open → IfErr result (λ fault. is_failure fault ≡ false → (state g new).committed ≡ (state g old).committed)
+    pub others : HasCleanDisk (state g new) → IsTrue (state g new).is_open → OnOk result (SparesOthers (state g old).committed (state g new).committed)
+    pub beside : Survives (state g old) (state g new) (λ trees. IsTrue (state g old).is_open × IsTreesOf (SparesOthers (state g old).committed) trees)
     pub grows : summary.installs ≤ (summary_after summary result).installs
     pub kinds : IfErr result IsOfApply
     pub range : IsInRange (summary_after summary result)

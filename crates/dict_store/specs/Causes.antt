@@ -1,7 +1,7 @@
 -- Why a call of a desk fails, and what a command does to it.
 use Rattle.std.specs.Prelude.{◌≡◌, ◌⊎◌, ℕ, true, false, IsTrue, List, Option, is_some, Result, IfErr}
 use Rattle.sqlite.specs.Disk.{MoreFaults}
-use Rattle.sqlite.specs.State.{State, HasCleanDisk, KeepsCommit, Fails}
+use Rattle.sqlite.specs.State.{State, HasCleanDisk, KeepsCommit, Fails, Survives}
 use Rattle.sqlite.specs.Held.{Held, state}
 use Rattle.sqlite.specs.declared.error.Error.{Error}
 use Rattle.sqlite_trees.specs.declared.store.Store.{Ghosts}
@@ -17,6 +17,8 @@ use Rattle.dict_desk.specs.declared.fault.Fault.{Fault}
 use Rattle.dict_desk.specs.declared.fault.Fault.TheVariants.{Refused, Memory, Disk, Closed, NotACatalogue, Damaged, NewerSchema}
 use Rattle.dict_holdings.specs.Faults.{fault_of, FailsToLookUp}
 use Rattle.dict_commands.specs.Answers.{FailsToApply}
+use Rattle.dict_commands.specs.Committed.{IsTreesOf}
+use Rattle.dict_commands.specs.Kept.{SparesOthers}
 use Rattle.dict_commands.specs.Finishing.{FailsToApplyFiled}
 use Rattle.dict_store.specs.Desk.{DeskState, Shows, LeavesOneOf, is_closed}
 use Rattle.dict_store.specs.Prepared.{Undoes}
@@ -49,10 +51,11 @@ module _ {S : Type 0} (g : Ghosts S) where
   FailsToPrepare old new Damaged = ⊥
   FailsToPrepare old new NewerSchema = ⊥
 
-  -- A command fails over a connection: its reply was not looked up, or its change was not made; or where a transaction was open, in which
-  -- an edition was filed, that was undone first, or the rest of the change was not made.
+  -- A command fails over a connection. Where no transaction was open, its reply was not looked up, or its change was not made; where one was,
+  -- in which an edition was filed, that was undone first, or the rest of the change was not made.
   abbrev pub FailsToApplyOver : Holdings (List ℕ) → List ℕ → Command Edition → Held S → Held S → Fault → Type 0
-  FailsToApplyOver summary id command old new fault = FailsToApply g summary id command old new fault ⊎ (IsTrue old.in_transaction × FailsToApplyFiled g summary id command old new fault)
+  FailsToApplyOver summary id command old new fault =
+      ((old.in_transaction ≡ false) × FailsToApply g summary id command old new fault) ⊎ (IsTrue old.in_transaction × FailsToApplyFiled g summary id command old new fault)
 
   -- A command that is not refused failed so; or it installs an edition, and memory was refused to the index of this, before the store was
   -- asked; or the desk was closed, and is as it was.
@@ -66,10 +69,12 @@ module _ {S : Type 0} (g : Ghosts S) where
   FailsToApplyTo old request new NewerSchema = ⊥
 
   -- One command was applied to a desk, and answered so: over whichever catalogue was shown, what is answered, what is shown and
-  -- what a stop may leave are those of its step; and a failure has its cause.
+  -- what a stop may leave are those of its step; a failure has its cause; and the tables of others are as they were, whatever a stop leaves.
   pub record IsAppliedTo (old : DeskState S) (request : Request) (result : Result Kept Fault) (new : DeskState S) : Type 0 where
     pub answered : HasCleanDisk (state g new.conn) → (M : Catalogue) → Shows g old M → Applies (Shows g new) M (step M request.id request.command) result
     pub left : HasCleanDisk (state g new.conn) → (M : Catalogue) → Shows g old M
         → Leaves (LeavesOneOf g old) (LeavesOneOf g new) (is_some (kept_under M.kept request.id)) (step M request.id request.command).catalogue result
     pub spared : (ms : List (Option Catalogue)) → LeavesOneOf g old ms → IfErr result (λ fault. is_disk fault ≡ false → LeavesOneOf g new ms)
     pub failed : HasCleanDisk (state g new.conn) → IfErr result (λ fault. is_failure fault ≡ true → FailsToApplyTo old request new fault)
+    pub others : HasCleanDisk (state g new.conn) → IsTrue (state g new.conn).is_open → SparesOthers (state g old.conn).committed (state g new.conn).committed
+    pub beside : Survives (state g old.conn) (state g new.conn) (λ trees. IsTrue (state g old.conn).is_open × IsTreesOf (SparesOthers (state g old.conn).committed) trees)

@@ -4,7 +4,8 @@ use Rattle.sqlite.specs.Recovery.{Image}
 use Rattle.sqlite.specs.Tree.{Trees}
 use Rattle.sqlite.specs.Files.{HoldsDatabase, IsOpened, Finds, file_state, image_of, over_files}
 use Rattle.sqlite.specs.State.{HasCleanDisk}
-use Rattle.sqlite.specs.Held.{Held, AreDatabases, state}
+use Rattle.sqlite.specs.Held.{Held, AreDatabases, IsNew, state}
+use Rattle.sqlite.specs.Start.{FindsIn}
 use Rattle.sqlite.specs.View.{IsClean, IsQuiet}
 use Rattle.sqlite.specs.FileStore.{view, faults, recovers, is_shielded, files}
 use Rattle.sqlite.specs.WalFiles.{outcomes}
@@ -68,6 +69,13 @@ module _ {D : Type 0} {d : disk.Ghosts D} where
     pub opened : HasCleanDisk (file_state conn) → IsOpened conn × Finds files conn
     pub adopted : IsAdopted over_files conn desk
     pub left : HasCleanDisk (file_state desk.conn) → (M : Catalogue) → IsLeft M (file_state conn).committed.trees → Shows over_files desk M
+
+  -- The desk adopted the database that files with these octets were opened as, of which nothing was asked before.
+  pub record IsAdoptedFrom (image : Image) (desk : DeskState (FileStore D d)) : Type 0 where
+    pub conn : Held (FileStore D d)
+    pub opened : HasCleanDisk (file_state conn) → IsOpened conn × FindsIn image (file_state conn)
+    pub new : IsNew conn
+    pub adopted : IsAdopted over_files conn desk
 
   -- The desk is over the two files that a desk let go of.
   pub record IsReopened (old new : DeskState (FileStore D d)) : Type 0 where

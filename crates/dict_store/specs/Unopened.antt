@@ -18,7 +18,7 @@ use Rattle.sqlite.specs.declared.file.Leftover.TheVariants as rest
 use Rattle.sqlite_disk.specs.Disk.{MoreFaults}
 use Rattle.sqlite_disk.specs.declared.Disk as disk
 use Rattle.sqlite_disk.specs.declared.Files.{Files as Pair}
-use Rattle.sqlite_pool.specs.Stored.{is_summed}
+use Rattle.sqlite_pool.specs.Stored.{Recovers}
 use Rattle.sqlite_store.specs.Unopened.{state_of}
 use Rattle.sqlite_store.specs.declared.store.FileStore.{FileStore}
 use Rattle.dict_catalogue.specs.Steps.{Catalogue, Request}
@@ -50,9 +50,9 @@ StandsIn m image = (db : Trees) × HoldsDatabase image db × StandsFor m db
 abbrev pub IsOneIn : List (Option Catalogue) → Image → Type 0
 IsOneIn ms image = (m : Option Catalogue) × Contains ms m × StandsIn m image
 
--- the pages of a database in these octets don't end in sums
-abbrev pub HasNoSums : Image → Type 0
-HasNoSums image = (db : Trees) (held : HoldsDatabase image db) → is_summed held.0 ≡ false
+-- No page of a database in these octets waits for its sum, as one in a log may to which a `sqlite3` without sums has written.
+abbrev pub IsSealed : Image → Type 0
+IsSealed image = (db : Trees) (held : HoldsDatabase image db) → Recovers held.0 image held.2.pages
 
 -- Two files hold these octets, and a stop leaves these alone; no wrong answer of them has been taken as true.
 pub record HaveOctets {D : Type 0} (d : disk.Ghosts D) (image : Image) (files : Pair D) : Type 0 where
@@ -61,17 +61,22 @@ pub record HaveOctets {D : Type 0} (d : disk.Ghosts D) (image : Image) (files : 
   pub clean : AreClean d files.log files.db
 
 module _ {D : Type 0} {d : disk.Ghosts D} where
-  -- A stop leaves one of these of what `sqlite` left of two files with these octets. Where it had begun to write, that is told of
-  -- files whose pages end in no sums.
-  abbrev pub RestLeaves : Image → List (Option Catalogue) → Leftover D d → Type 0
-  RestLeaves image ms (rest.Files now) = (left : Image) → outcomes d now.log now.db left → ∥ IsOneIn ms left ∥₁
-  RestLeaves image ms (rest.Unopened now) = HasNoSums image → (left : Image) → (state_of now).may_leave left → ∥ IsOneIn ms left ∥₁
-  RestLeaves image ms (rest.Store now) = (trees : Trees) → recovers now trees → ∥ IsOneOf ms trees ∥₁
+  -- A stop leaves one of these of what `sqlite` left of two files.
+  abbrev pub RestLeaves : List (Option Catalogue) → Leftover D d → Type 0
+  RestLeaves ms (rest.Files now) = (left : Image) → outcomes d now.log now.db left → ∥ IsOneIn ms left ∥₁
+  RestLeaves ms (rest.Unopened now) = (left : Image) → (state_of now).may_leave left → ∥ IsOneIn ms left ∥₁
+  RestLeaves ms (rest.Store now) = (trees : Trees) → recovers now trees → ∥ IsOneOf ms trees ∥₁
+
+  -- Where `sqlite` had begun to write two files with these octets, no page waited for its sum.
+  abbrev pub WasSealed : Image → Leftover D d → Type 0
+  WasSealed image (rest.Files now) = Unit {0}
+  WasSealed image (rest.Unopened now) = IsSealed image
+  WasSealed image (rest.Store now) = Unit {0}
 
   -- A stop leaves one of these of what is handed back of two files, while no wrong answer of them was taken as true.
   abbrev pub HandsBack : Pair D → List (Option Catalogue) → Unopened D d → Type 0
   HandsBack files ms (Files None) = ⊥
-  HandsBack files ms (Files (Some now)) = AreClean d files.log files.db → IsCleanLeft now → RestLeaves (image_of d files) ms now
+  HandsBack files ms (Files (Some now)) = AreClean d files.log files.db → IsCleanLeft now → RestLeaves ms now
   HandsBack files ms (Spent now) = AreClean d now.log now.db → (left : Image) → outcomes d now.log now.db left → ∥ IsOneIn ms left ∥₁
   HandsBack files ms (Database now) = HasCleanDisk (file_state now) → (trees : Trees) → (file_state now).may_leave trees → ∥ IsOneOf ms trees ∥₁
 
@@ -150,12 +155,13 @@ module _ {D : Type 0} {d : disk.Ghosts D} where
 
   -- ---- and files at a path
 
-  -- `sqlite` refused two files with these octets, or failed. What is handed back leaves what the octets hold.
+  -- `sqlite` refused two files with these octets, or failed. What is handed back leaves what the octets hold; where it had begun to
+  -- write, that is told of octets of which no page waited for its sum.
   pub record IsRefusedFrom (image : Image) (now : Leftover D d) (fault : Fault) : Type 0 where
     pub files : Pair D
     pub octets : HaveOctets d image files
     pub why : IsRefused files now fault
-    pub leaves : (m : Option Catalogue) → StandsIn m image → IsCleanLeft now → RestLeaves image (m ∷ []) now
+    pub leaves : (m : Option Catalogue) → StandsIn m image → WasSealed image now → IsCleanLeft now → RestLeaves (m ∷ []) now
 
   -- The database that files with these octets were opened as is handed back, and no desk adopted it. It leaves what the octets hold,
   -- and where that is a catalogue, no fault tells of what it holds.

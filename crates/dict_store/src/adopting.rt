@@ -23,7 +23,8 @@ ghost use Rattle.dict_opening.specs.Indexed.{IsIndexed};
 ghost use Rattle.dict_store.specs.Indexed.{AreHeldCut};
 ghost use Rattle.dict_search.specs.Entries.{Indexed};
 ghost use Rattle.dict_rows.specs.Versions.{known, IsVersion};
-ghost use Rattle.dict_store.specs.Adopted.{FailsToOpen};
+ghost use Rattle.dict_migration.specs.Spared.{SparesOthers};
+ghost use Rattle.dict_store.specs.Adopted.{FailsToOpen, MayCommitBeside};
 
 use crate::desk::Desk;
 use crate::kept::forget_by;
@@ -96,6 +97,8 @@ fn renew<S: Alter>(
     requires holds { HasCleanDisk (state S.Store conn.old) → (M : Catalogue) × Rests version (state S.Store conn.old) M × (summary_of M ≡ summary_shown summary.now) }
     ensures rests { HasCleanDisk (state S.Store conn.new) → OnOk result ((M : Catalogue) → Holds version (state S.Store conn.old).committed M → Rests known (state S.Store conn.new) M) }
     ensures cut { HasCleanDisk (state S.Store conn.new) → OnOk result ((M : Catalogue) (indexes : List (ℕ × List Indexed)) → IsIndexed version (state S.Store conn.old).committed M indexes → AreHeldCut (state S.Store conn.new).committed M indexes) }
+    ensures others { HasCleanDisk (state S.Store conn.new) → OnOk result (SparesOthers (state S.Store conn.old).committed (state S.Store conn.new).committed) }
+    ensures beside { Survives (state S.Store conn.old) (state S.Store conn.new) (MayCommitBeside (state S.Store conn.old)) }
     ensures unwritten { version ≡ known → conn.new ≡ conn.old }
     ensures lives { HasCleanDisk (state S.Store conn.new) → IsTrue (state S.Store conn.new).is_open → IsTrue (state S.Store conn.old).is_open }
     ensures stays { HasCleanDisk (state S.Store conn.new) → OnErr result (Stays (state S.Store conn.old) (state S.Store conn.new)) }
@@ -122,6 +125,8 @@ fn read_renewed<S: Alter>(
     ensures rests { HasCleanDisk (state S.Store conn.new) → IfOk result (λ found. (M : Catalogue) × Rests known (state S.Store conn.new) M × (summary_of M ≡ summary_shown found.0) × AreHeldCut (state S.Store conn.new).committed M found.1) }
     ensures every { HasCleanDisk (state S.Store conn.new) → IfOk result (λ found. (M : Catalogue) → IsHeld (state S.Store conn.old).committed M → Rests known (state S.Store conn.new) M × (summary_of M ≡ summary_shown found.0) × AreHeldCut (state S.Store conn.new).committed M found.1) }
     ensures same { HasCleanDisk (state S.Store conn.new) → OnOk result ((M : Catalogue) → IsHeld (state S.Store conn.old).committed M ↔ Holds known (state S.Store conn.new).committed M) }
+    ensures others { HasCleanDisk (state S.Store conn.new) → OnOk result (SparesOthers (state S.Store conn.old).committed (state S.Store conn.new).committed) }
+    ensures beside { Survives (state S.Store conn.old) (state S.Store conn.new) (MayCommitBeside (state S.Store conn.old)) }
     ensures unwritten { HasCleanDisk (state S.Store conn.new) → OnOk result ((M : Catalogue) → Holds known (state S.Store conn.old).committed M → (state S.Store conn.new).committed ≡ (state S.Store conn.old).committed) }
     ensures range { IfOk result (λ found. IsInRange (summary_shown found.0)) }
     ensures kinds { IfErr result IsOfOpening }
@@ -210,8 +215,11 @@ impl<S: Alter + Drop> Desk<S> {
         ensures only { IfOk result (λ desk. (M : Catalogue) → Shows S.Store desk M → LeavesOneOf S.Store desk (Some M ∷ [])) }
         ensures open { IfOk result (λ desk. (desk.last ≡ LastCall.Fine) × (desk.conn.in_transaction ≡ false)) }
         ensures same { IfOk result (λ desk. HasCleanDisk (state S.Store desk.conn) → (M : Catalogue) → IsHeld (state S.Store conn).committed M ↔ Holds known (state S.Store desk.conn).committed M) }
+        ensures others { IfOk result (λ desk. HasCleanDisk (state S.Store desk.conn) → SparesOthers (state S.Store conn).committed (state S.Store desk.conn).committed) }
+        ensures beside { IfOk result (λ desk. Survives (state S.Store (record conn { step_limit = None })) (state S.Store desk.conn) (MayCommitBeside (state S.Store conn))) }
         ensures unwritten { IfOk result (λ desk. HasCleanDisk (state S.Store desk.conn) → (M : Catalogue) → Holds known (state S.Store conn).committed M → (state S.Store desk.conn).committed ≡ (state S.Store conn).committed) }
         ensures migrated { IfOk result (λ desk. Survives (state S.Store (record conn { step_limit = None })) (state S.Store desk.conn) (MayMigrate (state S.Store conn))) }
+        ensures beside_left { IfErr result (λ left. Survives (state S.Store (record conn { step_limit = None })) (state S.Store left.0) (MayCommitBeside (state S.Store conn))) }
         ensures handed { IfErr result (λ left. left.0.in_transaction ≡ false) }
         ensures kinds { IfErr result (λ left. IsOfOpening left.1) }
         ensures told { IfErr result (λ left. HasCleanDisk (state S.Store left.0) → IsTold (state S.Store conn).now left.1) }

@@ -9,6 +9,8 @@ ghost use Rattle.dict_desk.specs.Faults.{is_disk};
 ghost use Rattle.dict_holdings.specs.Holds.{Holds, Rests, IsLeftAs, HasPlace};
 ghost use Rattle.dict_holdings.specs.Writing.{Stays, IsOfCreation};
 ghost use Rattle.dict_migration.specs.Making.{creation, FailsToEnd};
+ghost use Rattle.dict_migration.specs.Moved.{AreTreesOf};
+ghost use Rattle.dict_migration.specs.Spared.{SparesOthers};
 ghost use Rattle.dict_commands.specs.Changes.{IsInRange};
 ghost use Rattle.dict_commands.specs.Answers.{HoldsBy};
 ghost use Rattle.dict_store.specs.Desk.{Shows, LeavesOneOf, is_closed};
@@ -94,7 +96,7 @@ impl<S: Alter + Drop> Desk<S> {
         }
     }
 
-    /// A desk over a database in which the tables of the empty catalogue are made by one commit.
+    /// A desk over a database in which the tables of the empty catalogue are made by one commit. The tables of others stay as they are.
     ///
     /// At a fault the connection is handed back. `NotACatalogue`: there is no place for the tables. `Memory`: a growth was
     /// refused before the commit. After both all is as it was. `Disk`: the store failed. No other fault comes. The connection's limit on
@@ -107,6 +109,9 @@ impl<S: Alter + Drop> Desk<S> {
         ensures only { IfOk result (λ desk. LeavesOneOf S.Store desk (Some empty_catalogue ∷ [])) }
         ensures made { IfOk result (λ desk. Survives (state S.Store (record conn { step_limit = None })) (state S.Store desk.conn) (IsLeftAs known empty_catalogue)) }
         ensures place { IfOk result (λ desk. HasPlace (state S.Store conn).now.schema) }
+        ensures others { IfOk result (λ desk. HasCleanDisk (state S.Store desk.conn) → SparesOthers (state S.Store conn).now (state S.Store desk.conn).now) }
+        ensures beside { IfOk result (λ desk. Survives (state S.Store (record conn { step_limit = None })) (state S.Store desk.conn) (AreTreesOf (SparesOthers (state S.Store conn).now))) }
+        ensures beside_left { IfErr result (λ left. Survives (state S.Store (record conn { step_limit = None })) (state S.Store left.0) (AreTreesOf (SparesOthers (state S.Store conn).now))) }
         ensures handed { IfErr result (λ left. left.0.in_transaction ≡ false) }
         ensures no_place { IfErr result (λ left. left.1 ≡ Fault.NotACatalogue → (HasPlace (state S.Store conn).now.schema → ⊥) × (left.0 ≡ record conn { step_limit = None })) }
         ensures crash { IfErr result (λ left. Survives (state S.Store (record conn { step_limit = None })) (state S.Store left.0) (IsLeftAs known empty_catalogue)) }

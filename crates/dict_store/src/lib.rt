@@ -21,5 +21,5 @@ pub use desk::Desk;
 pub use last::LastCall;
 pub use laws::committed_may_stay;
 pub use promise::apply_to_file;
-pub use reopening::{Unopened, fault_of_files, stopped_files};
+pub use reopening::{Unopened, fault_of_files, files_without_sums, stopped_files};
 pub use session::session_over;

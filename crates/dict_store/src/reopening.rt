@@ -1,21 +1,21 @@
 // A desk over files that are opened, and over what a stop left of them.
-ghost use Rattle.std.specs.Prelude.{◌≡◌, ◌⊎◌, ℕ, List, [], ◌∷◌, codes, Option, Some, IfOk, IfErr, IsErrAnd, IsTrue};
+ghost use Rattle.std.specs.Prelude.{◌≡◌, ◌⊎◌, ℕ, false, List, [], ◌∷◌, codes, Option, Some, IfOk, IfErr, IsErrAnd, IsTrue};
 ghost use Rattle.sqlite.specs.State.{HasCleanDisk};
-ghost use Rattle.sqlite.specs.Files.{file_state, over_files};
+ghost use Rattle.sqlite.specs.Files.{HoldsDatabase, file_state, over_files};
 ghost use Rattle.sqlite.specs.FileStore as store;
 ghost use Rattle.sqlite.specs.FileStore.{view, recovers};
 ghost use Rattle.sqlite.specs.Recovery.{Image};
 ghost use Rattle.sqlite.specs.Tree.{Trees};
+ghost use Rattle.sqlite_pool.specs.Stored.{is_summed};
 ghost use Rattle.sqlite_store.specs.declared.store.FileStore.{FileStore};
 ghost use Rattle.sqlite.specs.WalFiles.{image_at};
 ghost use Rattle.dict_catalogue.specs.Steps.{Catalogue, Request};
 ghost use Rattle.dict_holdings.specs.Holds.{Rests};
 ghost use Rattle.dict_store.specs.Desk.{Shows, LeavesOneOf};
 ghost use Rattle.dict_store.specs.Promise.{HoldsFront};
-ghost use Rattle.dict_store.specs.Adopted.{IsAdopted};
 ghost use Rattle.dict_opening.specs.Reading.{IsOfOpening};
-ghost use Rattle.dict_store.specs.Reopened.{IsIn, HoldsFrontIn, IsLetGo, IsOpenedOver, IsReopened, IsRestarted, LeavesFront, ShowsFront, ShowsOneOf};
-ghost use Rattle.dict_store.specs.Unopened.{fault_of_files, IsUnopened, IsUnopenedOver, IsUnreopened, IsUnrestarted};
+ghost use Rattle.dict_store.specs.Reopened.{IsAdoptedFrom, IsIn, HoldsFrontIn, IsLetGo, IsOpenedOver, IsReopened, IsRestarted, LeavesFront, ShowsFront, ShowsOneOf};
+ghost use Rattle.dict_store.specs.Unopened.{fault_of_files, IsSealed, IsUnopened, IsUnopenedOver, IsUnreopened, IsUnrestarted};
 ghost use Rattle.dict_rows.specs.Versions.{known};
 
 use crate::closing::let_go;
@@ -83,6 +83,7 @@ impl<S: Start> Desk<FileStore<FileFrom<S>>> {
         new_has_sums: bool,
         start: S,
     ) -> Result<Desk<FileStore<FileFrom<S>>>, (Unopened<FileFrom<S>>, Fault)>
+        ensures adopted { IfOk result (IsAdoptedFrom (image_at S.Start)) }
         ensures rests { IfOk result (λ desk. HasCleanDisk (file_state desk.conn) → (M : Catalogue) × Rests known (file_state desk.conn) M × Shows over_files desk M) }
         ensures shows { IfOk result (λ desk. HasCleanDisk (file_state desk.conn) → (M : Catalogue) → IsIn M (image_at S.Start) → Shows over_files desk M) }
         ensures only { IfOk result (λ desk. (M : Catalogue) → Shows over_files desk M → LeavesOneOf over_files desk (Some M ∷ [])) }
@@ -116,7 +117,6 @@ impl<D: Disk + Drop> Desk<FileStore<D>> {
     /// `NotACatalogue`, since the disk failed or a file has its greatest length. The others are those of `adopt`. At each fault a stop
     /// leaves of what is handed back what it could leave of the desk.
     pub fn reopen(self, options: Options) -> Result<Desk<FileStore<D>>, (Unopened<D>, Fault)>
-        ensures adopted { IfOk result (λ desk. (conn : _) × IsAdopted over_files conn desk) }
         ensures reopened { IfOk result (IsReopened self) }
         ensures follows { IfOk result (λ desk. HasCleanDisk (file_state desk.conn) → (ms : List (Option Catalogue)) → LeavesOneOf over_files self ms → ∥ ShowsOneOf over_files desk ms ∥₁) }
         ensures unopened { IfErr result (λ left. IsUnreopened self left.0 left.1) }
@@ -138,7 +138,6 @@ impl<D: Crash + Drop> Desk<FileStore<D>> {
     /// back what it could leave of the desk.
     pub fn restart(self, options: Options) -> Result<Desk<FileStore<D>>, (Unopened<D>, Fault)>
         ensures shows { IfOk result (λ desk. HasCleanDisk (file_state desk.conn) → (before : Catalogue) (requests : List Request) (answered : ℕ) → LeavesFront over_files self before requests answered → ∥ ShowsFront over_files desk before requests answered ∥₁) }
-        ensures adopted { IfOk result (λ desk. (conn : _) × IsAdopted over_files conn desk) }
         ensures restarted { IfOk result (IsRestarted self) }
         ensures follows { IfOk result (λ desk. HasCleanDisk (file_state desk.conn) → (ms : List (Option Catalogue)) → LeavesOneOf over_files self ms → ∥ ShowsOneOf over_files desk ms ∥₁) }
         ensures only { IfOk result (λ desk. (M : Catalogue) → Shows over_files desk M → LeavesOneOf over_files desk (Some M ∷ [])) }
@@ -159,4 +158,11 @@ impl<D: Crash + Drop> Desk<FileStore<D>> {
 pub fn stopped_files<D: Disk>()
     ensures { (it : FileStore D D.Disk) (before : Catalogue) (requests : List Request) (answered : ℕ) (left : Image) → IsTrue (view it).is_numbered →
         ((trees : Trees) → recovers it trees → HoldsFront before requests answered trees) → (store.state it).may_leave left → ∥ HoldsFrontIn before requests answered left ∥₁ }
+{}
+
+/// In octets of files whose pages end in no sums, no page waits for its sum: what is told of octets where none does is told of those too.
+///
+/// It does nothing. Its clause is the law.
+pub fn files_without_sums()
+    ensures { (image : Image) → ((db : Trees) (held : HoldsDatabase image db) → is_summed held.0 ≡ false) → IsSealed image }
 {}

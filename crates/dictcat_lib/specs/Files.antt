@@ -1,7 +1,7 @@
 -- The files of a catalogue: the connection that they are opened as, and what is left of it.
-use Rattle.std.specs.Prelude.{◌≡◌, List, Option, Some, None, Contains, ⊤}
+use Rattle.std.specs.Prelude.{◌≡◌, true, List, Option, Some, None, Contains, ⊤}
 use Rattle.sqlite.specs.FileStore.{view, files as files_in}
-use Rattle.sqlite.specs.Files.{IsClosed, IsCleanLeft, IsOpened, file_state, over_files}
+use Rattle.sqlite.specs.Files.{IsBlankAs, IsClosed, IsCleanLeft, IsOpened, file_state, over_files}
 use Rattle.sqlite.specs.Held.{Held, IsNew}
 use Rattle.sqlite.specs.Recovery.{Image}
 use Rattle.sqlite.specs.Start.{FindsIn}
@@ -26,9 +26,11 @@ use Rattle.dictcat_lib.specs.declared.left.Left.{Left}
 use Rattle.dictcat_lib.specs.declared.left.Left.TheVariants as left
 
 module _ {D : Type 0} {g : disk.Ghosts D} where
-  -- The connection that two files with these octets were opened as: it shows what they hold, and nothing was asked of it.
+  -- The connection that two files with these octets were opened as: it shows what they hold, and nothing was asked of it. Where they held
+  -- no database, each page that is written ends in a sum, unless an earlier opening began a file without.
   pub record IsOpenedFrom (image : Image) (conn : Held (FileStore D g)) : Type 0 where
     pub live : HasCleanDisk (file_state conn) → IsOpened conn × FindsIn image (file_state conn)
+    pub sums : HasCleanDisk (file_state conn) → IsBlankAs true image → (view conn.store).has_sums ≡ true
     pub new : IsNew conn
 
   -- A connection was closed, and a stop leaves nothing more: its two files are left, whose log was copied; or its store, whose log wasn't.

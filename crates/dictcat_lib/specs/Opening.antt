@@ -1,5 +1,5 @@
 -- What comes of a task over a file's database: what its file is opened as, and a catalogue that is made, or a session.
-use Rattle.std.specs.Prelude.{◌≡◌, false, ℕ, List, [], ◌∷◌, Option, Some, None, Result, Ok, Err, codes, ⊤}
+use Rattle.std.specs.Prelude.{◌≡◌, ◌≢◌, false, ℕ, List, [], ◌∷◌, Option, Some, None, Result, Ok, Err, codes, ⊤}
 use Rattle.sqlite.specs.State.{HasCleanDisk, Survives}
 use Rattle.sqlite.specs.Held.{Held, state}
 use Rattle.sqlite_trees.specs.declared.store.Store.{Ghosts}
@@ -7,7 +7,10 @@ use Rattle.dict_catalogue.specs.Steps.{Catalogue, empty_catalogue}
 use Rattle.dict_desk.specs.Faults.{is_disk}
 use Rattle.dict_desk.specs.declared.fault.Fault.{Fault as DeskFault}
 use Rattle.dict_desk.specs.declared.fault.Fault.TheVariants.{NotACatalogue, Disk}
-use Rattle.dict_holdings.specs.Holds.{Rests, IsLeftAs, HasPlace}
+use Rattle.dict_holdings.specs.Holds.{Holds, Rests, IsLeftAs, HasPlace}
+use Rattle.dict_migration.specs.Making.{creation, FailsToEnd}
+use Rattle.dict_migration.specs.Moved.{AreTreesOf}
+use Rattle.dict_migration.specs.Spared.{SparesOthers}
 use Rattle.dict_opening.specs.Reading.{HasFailed}
 use Rattle.dict_rows.specs.Versions.{known}
 use Rattle.dict_io.specs.Streams.{StreamChange}
@@ -45,18 +48,24 @@ over_told (Err session_faults.Write) = Err faults.SessionEnded
 over_told (Err session_faults.Broken) = Err faults.SessionEnded
 
 module _ {S : Type 0} (g : Ghosts S) where
-  -- A catalogue was made in the database: the desk shows the empty one, and a stop leaves that one alone.
+  -- A catalogue was made in the database: the desk shows the empty one, and a stop leaves that one alone. The tables of others are as
+  -- they were, and a stop leaves them so.
   pub record IsCreated (conn : Held S) (desk : DeskState S) : Type 0 where
     pub place : HasPlace (state g conn).now.schema
     pub shows : Shows g desk empty_catalogue
     pub rests : HasCleanDisk (state g desk.conn) → Rests known (state g desk.conn) empty_catalogue
     pub only : LeavesOneOf g desk (Some empty_catalogue ∷ [])
+    pub others : HasCleanDisk (state g desk.conn) → SparesOthers (state g conn).now (state g desk.conn).now
+    pub beside : Survives (state g (record conn { step_limit = None })) (state g desk.conn) (AreTreesOf (SparesOthers (state g conn).now))
 
-  -- None was made: there is no place for it, or the store failed, and then a stop may leave the empty catalogue, or memory ran out.
+  -- None was made: there is no place for it; or a part of its making failed, behind those before it, or its commit did. Only where the
+  -- store failed may a stop leave the empty catalogue, beside the tables of others as they were.
   pub record IsNotCreated (conn left : Held S) (fault : DeskFault) : Type 0 where
     pub no_place : fault ≡ NotACatalogue → (HasPlace (state g conn).now.schema → ⊥) × (left ≡ record conn { step_limit = None })
     pub crash : Survives (state g (record conn { step_limit = None })) (state g left) (IsLeftAs known empty_catalogue)
+    pub failed : HasCleanDisk (state g left) → fault ≢ NotACatalogue → FailsToEnd g (creation known) (λ db. Holds known db empty_catalogue) (record conn { step_limit = None }) left fault
     pub adds_none : is_disk fault ≡ false → Survives (state g (record conn { step_limit = None })) (state g left) (λ _. ⊥)
+    pub beside : Survives (state g (record conn { step_limit = None })) (state g left) (AreTreesOf (SparesOthers (state g conn).now))
 
   -- the database of a desk was read whole, and holds a catalogue at rest
   abbrev pub IsSound : DeskState S → Type 0

@@ -33,7 +33,8 @@ pub(crate) fn open_file<'w, S: Start>(
     }
 }
 
-// Opens the file with this path, or makes it where none is there. It is done once: `start` is taken for it.
+// Opens the file with this path, or makes it where none is there: then each of its pages ends in a sum. It is done once: `start` is
+// taken for it.
 pub(crate) fn make_file<'w, S: Start>(
     rt: &HostRuntime,
     path: &'w str,
@@ -47,7 +48,7 @@ pub(crate) fn make_file<'w, S: Start>(
     let Some(first) = start.take() else {
         return Err(ProgramFault::CannotRead(path));
     };
-    match Connection::open_from(rt, path, false, first) {
+    match Connection::open_from(rt, path, true, first) {
         Ok(conn) => Ok(conn),
         Err((error, rest)) => {
             let left = Unopened::Files(rest);

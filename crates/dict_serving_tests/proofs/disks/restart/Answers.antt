@@ -6,7 +6,7 @@ use Rattle.dict_serving_tests.proofs.disks.restart.Goals as goal
 pub returns-in-Ok-clause-opened : goal.returns-in-Ok-clause-opened
 returns-in-Ok-clause-opened g c = record {
   opened = tt;
-  alone = λ clean. let over = c.in-Ok.ensures.adopted.1 in let it = over.shows clean in (it.0, it.2, over.only it.0 it.2);
+  alone = λ clean. let over = c.in-Ok.ensures.restarted.over.adopted in let it = over.shows clean in (it.0, it.2, over.only it.0 it.2);
 }
 
 pub returns-clause-opened : goal.returns-clause-opened

@@ -13,6 +13,9 @@ use Rattle.dict_migration.specs.Failing.{FailsToMigrate, FailsToMove, IsBeyond}
 use Rattle.dict_store.specs.Indexed.{AreHeldCut}
 use Rattle.dict_store.proofs.RenewLemmas.{renews_read}
 use Rattle.dict_migration.specs.Migrated.{MayMigrate, HoldsOlder}
+use Rattle.dict_migration.specs.Moved.{AreTreesOf}
+use Rattle.dict_migration.specs.Spared.{SparesOthers}
+use Rattle.dict_store.specs.Adopted.{MayCommitBeside}
 use Rattle.dict_rows.specs.Versions.{known}
 use Rattle.dict_store.proofs.adopting.read_renewed.Goals as goal
 
@@ -70,6 +73,38 @@ returns-clause-crash g c =
     let same = c.in_ok-version.ensures.committed there may.0 in
     (c.in_ok-version.ensures.lives there may.0, subst (λ (db : Database). (M : Catalogue) × HoldsOlder db M × IsLeftAs known M trees) same may.1))
     c.read.ensures.survives c.renew.ensures.crash
+
+-- and what may be committed of what was read spares the tables of others that were there
+pub returns-in_err-renew-clause-beside : goal.returns-in_err-renew-clause-beside
+returns-in_err-renew-clause-beside g c =
+    let old = state g.S.Store c.args.conn.now in
+    let read = state g.S.Store c.read.new.conn in
+    survives_then old read (state g.S.Store c.renew.new.conn) (λ _. ⊥) (MayCommitBeside read) (MayCommitBeside old) (λ _ db none. absurd none)
+    (λ clean trees may.
+    let one = c.renew.ensures.crash.clean in
+    let there : HasCleanDisk read = omega (arith, one, clean) in
+    let same = c.in_ok-version.ensures.committed there may.0 in
+    (c.in_ok-version.ensures.lives there may.0, subst (λ (db : Database). AreTreesOf (SparesOthers db) trees) same may.1))
+    c.read.ensures.survives c.renew.ensures.beside
+
+pub returns-clause-beside : goal.returns-clause-beside
+returns-clause-beside g c =
+    let old = state g.S.Store c.args.conn.now in
+    let read = state g.S.Store c.read.new.conn in
+    survives_then old read (state g.S.Store c.renew.new.conn) (λ _. ⊥) (MayCommitBeside read) (MayCommitBeside old) (λ _ db none. absurd none)
+    (λ clean trees may.
+    let one = c.renew.ensures.crash.clean in
+    let there : HasCleanDisk read = omega (arith, one, clean) in
+    let same = c.in_ok-version.ensures.committed there may.0 in
+    (c.in_ok-version.ensures.lives there may.0, subst (λ (db : Database). AreTreesOf (SparesOthers db) trees) same may.1))
+    c.read.ensures.survives c.renew.ensures.beside
+
+pub returns-clause-others : goal.returns-clause-others
+returns-clause-others g c = λ clean.
+    let one = c.renew.ensures.crash.clean in
+    let there : HasCleanDisk (state g.S.Store c.read.new.conn) = omega (arith, one, clean) in
+    let found = c.in_ok-version.ensures.rests there in
+    subst (λ (db : Database). SparesOthers db (state g.S.Store c.renew.new.conn).committed) (c.in_ok-version.ensures.committed there found.1.is_open) (c.in_ok-renew.ensures.others clean)
 
 pub returns-clause-rests : goal.returns-clause-rests
 returns-clause-rests g c = λ clean.

@@ -12,7 +12,7 @@ returns-in-Ok g c = record {
   new = (
     c.in_ok-conn.conn,
     c.in_ok-conn.ensures.opened,
-    record { place = c.in-Ok.ensures.place; shows = c.in-Ok.ensures.shows; rests = c.in-Ok.ensures.rests; only = c.in-Ok.ensures.only },
+    record { place = c.in-Ok.ensures.place; shows = c.in-Ok.ensures.shows; rests = c.in-Ok.ensures.rests; only = c.in-Ok.ensures.only; others = c.in-Ok.ensures.others; beside = c.in-Ok.ensures.beside },
   );
   shows = c.in-Ok.ensures.shows;
   only = c.in-Ok.ensures.only;
@@ -24,7 +24,7 @@ returns-in-Err g c = inr (
   c.in-Err.conn,
   c.in-Err.fault,
   c.in_ok-conn.ensures.opened,
-  record { no_place = c.in-Err.ensures.no_place; crash = c.in-Err.ensures.crash; adds_none = c.in-Err.ensures.adds_none },
+  record { no_place = c.in-Err.ensures.no_place; crash = c.in-Err.ensures.crash; failed = c.in-Err.ensures.failed; adds_none = c.in-Err.ensures.adds_none; beside = c.in-Err.ensures.beside_left },
   c.from.ensures,
   rw c.hold.ensures c.close_file.ensures,
 )

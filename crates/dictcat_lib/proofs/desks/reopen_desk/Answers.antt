@@ -15,7 +15,7 @@ returns-in_default-clause-opened g c = (rw c.hold.ensures (c.connection_of.ensur
 
 pub returns-in-Ok-clause-opened : goal.returns-in-Ok-clause-opened
 returns-in-Ok-clause-opened g c =
-    let adopted = c.in-Ok.ensures.adopted.1 in
+    let adopted = c.in-Ok.ensures.reopened.over.adopted in
     record { opened = c.in-Ok.ensures.reopened; alone = λ clean. let it = adopted.shows clean in (it.0, it.2, adopted.only it.0 it.2) }
 
 pub returns-in-Err-clause-opened : goal.returns-in-Err-clause-opened

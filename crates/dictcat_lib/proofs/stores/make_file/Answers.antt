@@ -25,4 +25,4 @@ returns-in-Err-clause-unopened g c =
     )
 
 pub returns-in-Ok-clause-opened : goal.returns-in-Ok-clause-opened
-returns-in-Ok-clause-opened g c = record { live = λ clean. (c.in-Ok.ensures.opened clean, c.in-Ok.ensures.found clean); new = c.in-Ok.ensures.fresh }
+returns-in-Ok-clause-opened g c = record { live = λ clean. (c.in-Ok.ensures.opened clean, c.in-Ok.ensures.found clean); sums = λ clean. c.in-Ok.ensures.sums clean; new = c.in-Ok.ensures.fresh }

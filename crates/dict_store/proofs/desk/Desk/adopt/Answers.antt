@@ -6,7 +6,8 @@ use Rattle.dict_holdings.specs.Holds.{Holds, IsHeld}
 use Rattle.dict_migration.specs.Migrated.{MayMigrate}
 use Rattle.dict_store.specs.Desk.{DeskState, Shows}
 use Rattle.dict_store.specs.Opened.{IsNotHeld}
-use Rattle.dict_store.specs.Adopted.{FailsToOpen}
+use Rattle.dict_migration.specs.Spared.{SparesOthers}
+use Rattle.dict_store.specs.Adopted.{FailsToOpen, MayCommitBeside}
 use Rattle.dict_store.proofs.DeskLemmas.{alone, left_alone}
 use Rattle.dict_store.proofs.desk.Desk.adopt.Goals as goal
 use Rattle.dict_rows.specs.Versions.{known}
@@ -48,6 +49,21 @@ pub returns-in-Ok-clause-migrated : goal.returns-in-Ok-clause-migrated
 returns-in-Ok-clause-migrated g c =
     let as_was = subst (λ conn. Survives (state g.S.Store conn) (state g.S.Store c.read_renewed.new.conn) (MayMigrate (state g.S.Store conn))) c.set_step_limit.ensures c.read_renewed.ensures.crash in
     subst (λ (d : DeskState _). Survives (state g.S.Store (record c.args.conn { step_limit = None })) (state g.S.Store d.conn) (MayMigrate (state g.S.Store c.args.conn))) (sym c.over.ensures.is) as_was
+
+pub returns-in-Ok-clause-others : goal.returns-in-Ok-clause-others
+returns-in-Ok-clause-others g c = λ clean.
+    let there = subst (λ (d : DeskState _). HasCleanDisk (state g.S.Store d.conn)) c.over.ensures.is clean in
+    let as_was = subst (λ conn. SparesOthers (state g.S.Store conn).committed (state g.S.Store c.read_renewed.new.conn).committed) c.set_step_limit.ensures (c.in-Ok.ensures.others there) in
+    subst (λ (d : DeskState _). SparesOthers (state g.S.Store c.args.conn).committed (state g.S.Store d.conn).committed) (sym c.over.ensures.is) as_was
+
+pub returns-in-Ok-clause-beside : goal.returns-in-Ok-clause-beside
+returns-in-Ok-clause-beside g c =
+    let as_was = subst (λ conn. Survives (state g.S.Store conn) (state g.S.Store c.read_renewed.new.conn) (MayCommitBeside (state g.S.Store conn))) c.set_step_limit.ensures c.read_renewed.ensures.beside in
+    subst (λ (d : DeskState _). Survives (state g.S.Store (record c.args.conn { step_limit = None })) (state g.S.Store d.conn) (MayCommitBeside (state g.S.Store c.args.conn))) (sym c.over.ensures.is) as_was
+
+pub returns-in-Err-clause-beside_left : goal.returns-in-Err-clause-beside_left
+returns-in-Err-clause-beside_left g c =
+    subst (λ conn. Survives (state g.S.Store conn) (state g.S.Store c.read_renewed.new.conn) (MayCommitBeside (state g.S.Store conn))) c.set_step_limit.ensures c.read_renewed.ensures.beside
 
 pub returns-in-Err-clause-crash : goal.returns-in-Err-clause-crash
 returns-in-Err-clause-crash g c =

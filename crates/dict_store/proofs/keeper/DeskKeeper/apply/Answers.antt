@@ -1,7 +1,11 @@
 use Rattle.std.proofs.Common.{◌≡◌, inl, true, false, sym, subst, ap, ◌∙◌, arith, rules}
-use Rattle.std.specs.Prelude.{is_some, IfErr}
+use Rattle.std.specs.Prelude.{IsTrue, is_some, IfErr}
 use Rattle.sqlite.specs.Held.{state}
-use Rattle.sqlite.specs.State.{HasCleanDisk}
+use Rattle.sqlite.specs.State.{State, HasCleanDisk, Survives}
+use Rattle.sqlite.specs.Tree.{Trees}
+use Rattle.dict_commands.specs.Committed.{IsTreesOf}
+use Rattle.dict_commands.specs.Kept.{SparesOthers}
+use Rattle.dict_commands.proofs.WriteLemmas.{others_none}
 use Rattle.dict_catalogue.specs.Steps.{kept_under, step}
 use Rattle.dict_catalogue.specs.Views.{summary_shown, command_meant}
 use Rattle.dict_desk.specs.Faults.{has_failed_by, is_failure}
@@ -13,10 +17,14 @@ use Rattle.dict_store.specs.declared.last.LastCall.{LastCall}
 use Rattle.dict_store.specs.declared.last.LastCall.TheVariants.{Failed}
 use Rattle.dict_store.proofs.ActedLemmas.{served_by}
 use Rattle.dict_store.proofs.CauseLemmas.{fails_to_apply}
-use Rattle.dict_store.proofs.DeskLemmas.{texts_keep}
-use Rattle.dict_store.proofs.KeeperLemmas.{err_by, told_rests, told_applies, told_leaves, told_spares, failed_by}
+use Rattle.dict_store.proofs.DeskLemmas.{survives_itself, texts_keep}
+use Rattle.dict_store.proofs.KeeperLemmas.{err_by, others_by, told_rests, told_applies, told_leaves, told_spares, failed_by}
 use Rattle.dict_store.proofs.PreparingLemmas.{rests_as, shows_as}
 use Rattle.dict_store.proofs.keeper.DeskKeeper.apply.Goals as goal
+
+-- trees of a database in which the tables of others are those that were committed
+abbrev LeftBeside : State → Trees → Type 0
+LeftBeside s trees = IsTrue s.is_open × IsTreesOf (SparesOthers s.committed) trees
 
 pub apply_over-outcome-requires-clause-filed : goal.apply_over-outcome-requires-clause-filed
 apply_over-outcome-requires-clause-filed g c =
@@ -90,7 +98,16 @@ returns-clause-caused g c = λ clean.
     c.apply_over-outcome.result c.take_over.result c.take_over.ensures.reply c.apply_over-outcome.ensures.over.kinds (c.apply_over-outcome.ensures.over.failed clean))
 
 pub returns-clause-applied : goal.returns-clause-applied
-returns-clause-applied g c = record { answered = returns-clause-value g c; left = returns-clause-leaves g c; spared = returns-clause-spares g c; failed = returns-clause-caused g c }
+returns-clause-applied g c = record {
+  answered = returns-clause-value g c;
+  left = returns-clause-leaves g c;
+  spared = returns-clause-spares g c;
+  failed = returns-clause-caused g c;
+  others = λ clean live. subst (λ (d : DeskState _). SparesOthers (state g.S.Store d.conn).committed (state g.S.Store c.apply_over-outcome.new.conn).committed) c.self.view_is
+      (others_by c.apply_over-outcome.result (state g.S.Store c.self.inside.conn).committed (state g.S.Store c.apply_over-outcome.new.conn).committed
+      (c.apply_over-outcome.ensures.over.others clean live) (c.apply_over-outcome.ensures.stays clean live));
+  beside = subst (λ (d : DeskState _). Survives (state g.S.Store d.conn) (state g.S.Store c.apply_over-outcome.new.conn) (LeftBeside (state g.S.Store d.conn))) c.self.view_is c.apply_over-outcome.ensures.over.beside;
+}
 
 -- ---- memory was refused to the index of the edition that comes
 
@@ -119,4 +136,12 @@ returns-in_default-clause-caused g c = λ clean failure. inl (err_by c.put_comin
 
 pub returns-in_default-clause-applied : goal.returns-in_default-clause-applied
 returns-in_default-clause-applied g c =
-    record { answered = returns-in_default-clause-value g c; left = returns-in_default-clause-leaves g c; spared = returns-in_default-clause-spares g c; failed = returns-in_default-clause-caused g c }
+    record {
+      answered = returns-in_default-clause-value g c;
+      left = returns-in_default-clause-leaves g c;
+      spared = returns-in_default-clause-spares g c;
+      failed = returns-in_default-clause-caused g c;
+      others = λ clean live. subst (λ (d : DeskState _). SparesOthers (state g.S.Store d.conn).committed (state g.S.Store c.self.inside.conn).committed) c.self.view_is (others_none (state g.S.Store c.self.inside.conn).committed);
+      beside = subst (λ (d : DeskState _). Survives (state g.S.Store d.conn) (state g.S.Store c.self.inside.conn) (LeftBeside (state g.S.Store d.conn))) c.self.view_is
+          (survives_itself (state g.S.Store c.self.inside.conn) (LeftBeside (state g.S.Store c.self.inside.conn)));
+    }

@@ -4,9 +4,6 @@ use Rattle.std.proofs.lemmas.Result.{IfOk-weaker, IfErr-weaker}
 use Rattle.dict_store.proofs.ReopenLemmas.{shows_one_of, tells_none, hands_back, hands_spent, excused, unopened_again, kind_of}
 use Rattle.dict_store.proofs.reopening.Desk+FileStore+D.reopen.Goals as goal
 
-pub returns-clause-adopted : goal.returns-clause-adopted
-returns-clause-adopted g c = IfOk-weaker c.open_over.result _ _ (λ next over. (over.conn, over.adopted)) c.open_over.ensures.opened
-
 pub returns-clause-reopened : goal.returns-clause-reopened
 returns-clause-reopened g c = IfOk-weaker c.open_over.result _ _ (λ next over. record { files = c.files_of-files.result; let_go = c.files_of-files.ensures; over = over }) c.open_over.ensures.opened
 

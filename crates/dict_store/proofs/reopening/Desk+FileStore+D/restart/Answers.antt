@@ -7,9 +7,6 @@ use Rattle.sqlite.specs.WalReads.{AreClean}
 use Rattle.dict_store.proofs.ReopenLemmas.{shows_front, shows_one_of, tells_none, tells_none_of_front, hands_back, excused, kind_of}
 use Rattle.dict_store.proofs.reopening.Desk+FileStore+D.restart.Goals as goal
 
-pub returns-clause-adopted : goal.returns-clause-adopted
-returns-clause-adopted g c = IfOk-weaker c.open_over.result _ _ (λ next over. (over.conn, over.adopted)) c.open_over.ensures.opened
-
 pub returns-clause-only : goal.returns-clause-only
 returns-clause-only g c = IfOk-weaker c.open_over.result _ _ (λ next over. over.adopted.only) c.open_over.ensures.opened
 

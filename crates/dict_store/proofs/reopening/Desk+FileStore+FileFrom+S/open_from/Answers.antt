@@ -10,6 +10,14 @@ use Rattle.dict_store.proofs.ReopenLemmas.{stands_after}
 use Rattle.dict_store.proofs.FreshLemmas.{seen_is, left_is, honest_is, octets_by, unopened_from}
 use Rattle.dict_store.proofs.reopening.Desk+FileStore+FileFrom+S.open_from.Goals as goal
 
+pub returns-in-Ok-adopt-clause-adopted : goal.returns-in-Ok-adopt-clause-adopted
+returns-in-Ok-adopt-clause-adopted g c = record {
+  conn = c.in-Ok.conn;
+  opened = λ clean. (c.in-Ok.ensures.opened clean, c.in-Ok.ensures.found clean);
+  new = c.in-Ok.ensures.fresh;
+  adopted = record { fine = c.in-Ok-adopt.ensures.open.0; shows = c.in-Ok-adopt.ensures.rests; only = c.in-Ok-adopt.ensures.only; same = c.in-Ok-adopt.ensures.same; unwritten = c.in-Ok-adopt.ensures.unwritten; migrated = c.in-Ok-adopt.ensures.migrated; others = c.in-Ok-adopt.ensures.others; beside = c.in-Ok-adopt.ensures.beside };
+}
+
 pub returns-in-Ok-adopt-clause-shows : goal.returns-in-Ok-adopt-clause-shows
 returns-in-Ok-adopt-clause-shows g c = λ clean M held.
     let early : HasCleanDisk (file_state c.in-Ok.conn) = omega (arith, c.in-Ok-adopt.ensures.migrated.clean, clean) in
@@ -20,7 +28,7 @@ pub returns-in-Err-adopt-clause-unopened : goal.returns-in-Err-adopt-clause-unop
 returns-in-Err-adopt-clause-unopened g c = record {
   conn = c.in-Ok.conn;
   opened = λ clean. (c.in-Ok.ensures.opened clean, c.in-Ok.ensures.found clean);
-  adopted = record { kind = c.in-Err-adopt.ensures.kinds; told = c.in-Err-adopt.ensures.told; not_held = c.in-Err-adopt.ensures.not_held; same = c.in-Err-adopt.ensures.stays; adds_none = c.in-Err-adopt.ensures.adds_none; crash = c.in-Err-adopt.ensures.crash };
+  adopted = record { kind = c.in-Err-adopt.ensures.kinds; told = c.in-Err-adopt.ensures.told; not_held = c.in-Err-adopt.ensures.not_held; same = c.in-Err-adopt.ensures.stays; adds_none = c.in-Err-adopt.ensures.adds_none; crash = c.in-Err-adopt.ensures.crash; beside = c.in-Err-adopt.ensures.beside_left };
   failed = c.in-Err-adopt.ensures.failed;
   autocommit = c.in-Err-adopt.ensures.handed;
   of_store = λ M held clean.
