@@ -1,0 +1,10 @@
+pub mod LineLemmas
+pub mod PlaceLemmas
+pub mod ColumnLemmas
+pub mod GatheredLemmas
+pub mod BehindLemmas
+pub mod TakeLemmas
+pub mod ReaderLemmas
+pub mod EndLemmas
+pub mod SliceLemmas
+pub mod ReadingLemmas
