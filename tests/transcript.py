@@ -4,7 +4,7 @@ import re
 import typing
 
 TOP = pathlib.Path(__file__).resolve().parent.parent
-ROOM = TOP / "crates" / "dictcat_transcripts"
+ROOM = TOP / "tests" / "transcripts"
 DATA = ROOM / "data"
 
 
@@ -62,7 +62,7 @@ def read(file):
 
 
 def all_files():
-    """The transcripts, in the order in which the gate runs them, which are all that there are."""
-    names = (ROOM / "args").read_text().split()
-    assert sorted(names) == sorted(it.name for it in DATA.glob("*.transcript")), "crates/dictcat_transcripts/args has other names"
+    """The transcripts in their order, which are all that there are."""
+    names = (ROOM / "order").read_text().split()
+    assert sorted(names) == sorted(it.name for it in DATA.glob("*.transcript")), "tests/transcripts/order has other names"
     return [DATA / it for it in names]

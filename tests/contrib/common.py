@@ -1,6 +1,6 @@
-"""What the tests of contrib/test share: the program, servers that end with the test, sessions, and checks that tell.
+"""What the tests of this folder share: the program, servers that end with the test, sessions, and checks that tell.
 
-Without tools/contrib-test, TOP is the clone that this file is in, DICTCAT the program that tools/program prints (which may build
+Without tests/contrib/run, TOP is the clone that this file is in, DICTCAT the program that tools/program prints (which may build
 it), and CACHE ~/.cache/dictcat-contrib-test.
 """
 import contextlib, os, pathlib, subprocess
