@@ -10,6 +10,7 @@ in that is found in both, and no more. The lines are in the order of their octet
 fourth column, the headword with a capital.
 """
 
+import os
 import random
 import sys
 
@@ -48,7 +49,8 @@ def main():
     lines, octets = int(sys.argv[1]), int(sys.argv[2])
     title = "00-database-short\n  A made database\n"
     size = (octets - len(title)) // (lines - 1)
-    with open(sys.argv[3], "w", newline="\n") as index, open(sys.argv[4], "w", newline="\n") as text:
+    paths = sys.argv[3:5]
+    with open(f"{paths[0]}.part", "w", newline="\n") as index, open(f"{paths[1]}.part", "w", newline="\n") as text:
         text.write(title)
         index.write(f"00-database-short\tA\t{spelled(len(title))}\n")
         offset = len(title)
@@ -57,6 +59,9 @@ def main():
             shown = f"\t{headword.capitalize()}" if sys.argv[5:] == ["shown"] else ""
             index.write(f"{headword}\t{spelled(offset)}\t{spelled(size)}{shown}\n")
             offset += size
+    # Under their names they are whole, also where this is stopped.
+    for path in paths:
+        os.replace(f"{path}.part", path)
 
 
 if __name__ == "__main__":

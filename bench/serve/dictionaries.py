@@ -1,6 +1,6 @@
 """dictcat beside dictd over real dictionaries: dictionaries.py PROGRAM CLIENT WORK [PART..]
 
-PARTS: `kept` (DEFINE over 65,536 lines of 5 and of 13 MB, first and again), `answers` (what both answer, compared), `requests` (the processor's time of a request), `slowest` (of 10,000 answers under 64
+PARTS: `kept` (DEFINE over 65,536 lines of 5 and of 13 MB, first and again), `long` (answers of some MB), `answers` (what both answer, compared), `requests` (the processor's time of a request), `slowest` (of 10,000 answers under 64
 connections), `crowd` (a newcomer beside readers that repeat a MATCH of 2 MB), `round` (one that asks DEFINE beside 63 that repeat the dearest MATCH of GCIDE), `memory`, `idle`, `install` (of editions by HTTP, while 32 readers ask), `growth` (the same finds over 65,536 and
 262,144 entries); without one it is all. The dictionaries are `wn`, `foldoc` and `freedict-ara-eng` of Debian's, mended for dictcat
 by contrib/import-dictd and as they came, but uncompressed, for dictd 1.13; and `made`, of 262,144 lines (make_words.py), over
@@ -17,9 +17,11 @@ import sys
 import threading
 import time
 
+sys.path.append(str(pathlib.Path(__file__).resolve().parent.parent))
+from dictd import spelled
 from lists import KINDS, write
 from serve import idle_all
-from servers import Server, install, opened, serve
+from servers import install, opened, serve, started
 
 HERE = pathlib.Path(__file__).resolve().parent
 TOP = HERE.parent.parent
@@ -29,6 +31,7 @@ PORT = 26281
 TURNS = [(count, at_once) for at_once in (1, 16) for count in (1, 8, 64)]   # connections, and lines at once
 BOUNDS = {"hits": 0.5, "misses": 0.5, "exacts": 0.5, "prefixes": 0.5, "suffixes": 0.03, "substrings": 0.05, "words": 0.05, "mix": 0.12}
 COMPARED = 400
+LONG = (1, 2, 3, 5, 8)   # megabytes
 SLOW = 3000   # microseconds of a request from which on fewer are asked
 SECONDS = float(os.environ.get("SECONDS_EACH", "1"))
 ASKED = os.environ.get("KINDS", " ".join(KINDS)).split()   # the lists that `requests` and `growth` take
@@ -78,15 +81,7 @@ def dictd(work, chosen, port=PORT):
             path.chmod(os.stat(path).st_mode | 0o055)
     process = subprocess.Popen(["dictd", "-d", "nodetach", "--locale", "C.UTF-8", "-c", conf, "--pid-file", work / f"pid-{port}"],
                                stdout=subprocess.DEVNULL, stderr=subprocess.DEVNULL)
-    for _ in range(300):
-        time.sleep(0.1)
-        assert process.poll() is None, "dictd has ended"
-        try:
-            opened(("127.0.0.1", port)).close()
-            break
-        except (OSError, AssertionError):
-            continue
-    return Server(process, ("127.0.0.1", port))
+    return started(process, ("127.0.0.1", port))
 
 
 Taken = collections.namedtuple("Taken", "answers seconds median most found rare spent")
@@ -260,7 +255,7 @@ def round_of_all(program, client, work):
     chosen, path = {"gcide": pair(program, work, "gcide", "gcide")}, work / "gcide.dear"
     path.write_text("MATCH gcide substring e\n")
     servers = {"dictcat": dictcat(program, work, chosen, "gcide.db"), "dictd": dictd(work, chosen, PORT + 7)}
-    print("\n| MATCH gcide substring e | headwords | the processor for one, ms | beside 63 that repeat it: a DEFINE, the median and the longest of 20, s | the server's processor meanwhile, s |\n|---|---|---|---|---|")
+    print("\n| MATCH gcide substring e | headwords | the processor for one, ms | beside 63 that repeat it: a DEFINE, the median and the longest of at most 20, s | the server's processor meanwhile, s |\n|---|---|---|---|---|")
     try:
         for who, server in servers.items():
             line = Line(server)
@@ -270,10 +265,13 @@ def round_of_all(program, client, work):
             readers = Client(client, server, 63, 1, path, 1e6, 0)
             readers.begin()
             time.sleep(5)
-            waits, spent = map(sorted, zip(*(waited(server, line, "opal") for _ in range(20))))
+            took, end = [], time.monotonic() + 60
+            while len(took) < 20 and (len(took) < 5 or time.monotonic() < end):
+                took.append(waited(server, line, "opal"))
+            waits, spent = map(sorted, zip(*took))
             readers.process.send_signal(signal.SIGINT)
             readers.end()
-            print(f"| {who} | {count:,} | {each.spent / each.answers * 1e3:.1f} | {waits[10]:.2f}, {waits[-1]:.2f} | {spent[10]:.2f}, {spent[-1]:.2f} |", flush=True)
+            print(f"| {who} | {count:,} | {each.spent / each.answers * 1e3:.1f} | {waits[len(took) // 2]:.2f}, {waits[-1]:.2f} (of {len(took)}) | {spent[len(took) // 2]:.2f}, {spent[-1]:.2f} |", flush=True)
     finally:
         for server in servers.values():
             server.kill()
@@ -386,7 +384,56 @@ def kept(program, client, work):
             theirs.kill()
 
 
-PARTS = ("kept", "answers", "requests", "slowest", "crowd", "round", "memory", "idle", "install", "growth")
+def whole(address, line):
+    """Milliseconds until an answer was there for a client that reads at once, or None where it was cut off."""
+    with opened(address) as it:
+        start, answer = time.monotonic(), b""
+        it.sendall(line)
+        while not answer.endswith(b"\r\n.\r\n250 ok\r\n"):
+            if not (more := it.recv(1 << 20)):
+                return None
+            answer = answer[-20:] + more
+        return (time.monotonic() - start) * 1000
+
+
+def longest_status(address, seconds):
+    """Milliseconds that one who asks STATUS waits at most, within so many seconds."""
+    most, end = 0.0, time.monotonic() + seconds
+    with opened(address) as it:
+        while (start := time.monotonic()) < end:
+            it.sendall(b"STATUS\r\n")
+            it.recv(4096)
+            most = max(most, time.monotonic() - start)
+    return most * 1000
+
+
+def long_answers(program, work):
+    """How many of ten answers of each size come whole to a client that reads at once, and who waits beside one that never reads."""
+    text, lines = b"Long answers\n", [f"00-database-short\tA\t{spelled(13)}\n"]
+    for megabytes in LONG:
+        body = b"%b\n" % (b"x" * 99) * (megabytes * 10_000)
+        lines.append(f"long{megabytes}\t{spelled(len(text))}\t{spelled(len(body))}\n")
+        text += body
+    files = [work / "in" / f"long.{end}" for end in ("index", "dict")]
+    files[0].write_text("".join(lines))
+    files[1].write_bytes(text)
+    server = dictcat(program, work, {"long": (files, files)}, "long.db")
+    try:
+        print("\n| DEFINE of an entry of | of 10 answers came whole to who reads at once | the median, ms |\n|---|---|---|")
+        for megabytes in LONG:
+            took = [whole(server.dict_address, b"DEFINE long long%d\r\n" % megabytes) for _ in range(10)]
+            there = sorted(it for it in took if it is not None)
+            print(f"| {megabytes} MB | {len(there)} | {f'{there[len(there) // 2]:.1f}' if there else ''} |", flush=True)
+        alone = longest_status(server.dict_address, 1)
+        with opened(server.dict_address) as never:
+            never.sendall(b"DEFINE long long%d\r\n" % LONG[-1])
+            beside = longest_status(server.dict_address, 1)
+        print(f"\nA STATUS waits {alone:.2f} ms at most alone, and {beside:.2f} ms beside one that asks for {LONG[-1]} MB and never reads.")
+    finally:
+        server.kill()
+
+
+PARTS = ("kept", "long", "answers", "requests", "slowest", "crowd", "round", "memory", "idle", "install", "growth")
 
 
 def main():
@@ -395,7 +442,7 @@ def main():
     assert all(it in PARTS for it in wanted), f"the parts are {' '.join(PARTS)}"
     work.mkdir(exist_ok=True)
     print(f"On {time.strftime('%d %B %Y, %H:%M')}, load {' '.join(f'{it:.1f}' for it in os.getloadavg())}")
-    chosen = pairs(program, work) if set(wanted) - {"kept", "growth", "round"} else {}
+    chosen = pairs(program, work) if set(wanted) - {"kept", "long", "growth", "round"} else {}
     (work / "in").mkdir(exist_ok=True)
     lists = {name: write(ours[0], name, work) for name, (ours, _) in chosen.items()}
     beside = [it for it in ("memory", "answers", "requests", "slowest", "crowd", "idle") if it in wanted]
@@ -413,6 +460,8 @@ def main():
         round_of_all(program, client, work)
     if "kept" in wanted:
         kept(program, client, work)
+    if "long" in wanted:
+        long_answers(program, work)
     if "install" in wanted:
         installs_while_asked(program, client, work, chosen, lists)
     if "growth" in wanted:

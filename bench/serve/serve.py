@@ -15,7 +15,7 @@ import sys
 import tempfile
 import time
 
-from servers import Server, closed, install, opened, serve
+from servers import closed, install, opened, serve, started
 
 SECONDS = float(os.environ.get("SECONDS_EACH", "2"))
 IDLE_SECONDS = float(os.environ.get("IDLE_SECONDS", "30"))
@@ -83,19 +83,18 @@ def dictd(work, examples, name="gem"):
     work.chmod(0o755)
     process = subprocess.Popen(["dictd", "-d", "nodetach", "-c", work / "dictd.conf", "--pid-file", work / "pid"],
                                stdout=subprocess.DEVNULL, stderr=subprocess.DEVNULL)
-    time.sleep(1)
-    assert process.poll() is None, "dictd has ended"
-    return Server(process, ("127.0.0.1", port))
+    return started(process, ("127.0.0.1", port))
 
 
 def ask_all(servers):
-    for name, (question, mark) in QUESTIONS.items():
-        for batch in (1, 20):
-            for count in (1, 8, 64):
-                for who, server in servers.items():
-                    rate, median, used = measure(server, count, question, mark, batch)
-                    print(f"{name:18} {count:2} connections, {batch:2} at once, {who:8}: {rate:8.0f}/s, "
-                          f"median turn {median:6.0f} us, {used:6.1f} us of the processor each", flush=True)
+    """Two tables: microseconds of the processor for an answer, and in parentheses answers in a second."""
+    for batch, how in ((1, "One line at a time"), (20, "20 lines at once")):
+        print(f"\n| {how}: µs of the processor for an answer (answers in a second) | | 1 connection | 8 connections | 64 connections |\n|---|---|---|---|---|")
+        for name, (question, mark) in QUESTIONS.items():
+            for who, server in servers.items():
+                each = [measure(server, count, question, mark, batch) for count in (1, 8, 64)]
+                print(f"| {name} | {who} | " + " | ".join(f"{used:.1f} ({rate:,.0f})" for rate, _, used in each) + " |", flush=True)
+    print()
 
 
 def idle_all(servers):
@@ -105,7 +104,7 @@ def idle_all(servers):
             before = server.times()
             time.sleep(IDLE_SECONDS)
             used, (resident, own) = server.spent_since(before), server.memory()
-            print(f"idle, {count:2} connections, {who:8}: {used * 1000:.1f} ms of the processor in {IDLE_SECONDS:.0f} s, "
+            print(f"- while nothing comes, {count} connections, {who}: {used * 1000:.1f} ms of the processor in {IDLE_SECONDS:.0f} s, "
                   f"{resident} kB of memory, {own} kB of it unshared", flush=True)
             closed(held)
 
@@ -121,7 +120,7 @@ def first_after_idling(servers):
             late.recv(4096)
             taken.append((time.perf_counter() - start) * MICRO)
         closed([late])
-        print(f"the first answer after 0.5 s of nothing, {who:8}: median {statistics.median(taken):.0f} us, "
+        print(f"- the first answer after 0.5 s of nothing, {who}: median {statistics.median(taken):.0f} us, "
               f"at most {max(taken):.0f} us", flush=True)
 
 

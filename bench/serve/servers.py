@@ -74,6 +74,19 @@ def opened(address):
     return it
 
 
+def started(process, address):
+    """A server of another program's, once it greets."""
+    for _ in range(600):
+        time.sleep(0.1)
+        assert process.poll() is None, f"{process.args[0]} has ended"
+        try:
+            opened(address).close()
+            return Server(process, address)
+        except (OSError, AssertionError):
+            continue
+    raise TimeoutError(f"{process.args[0]} doesn't greet")
+
+
 def closed(held):
     """Closes connections, and leaves the server time to see it: while 64 are open dictcat takes no other."""
     for it in held:

@@ -3,7 +3,7 @@
 NAMEs are of /usr/share/dictd (dict-wn, dict-gcide): `wn` and `gcide` where none is named. Each pair is mended as
 `contrib/import-dictd` does it, installed by the command line into one file and by HTTP into another, asked in both (each answer
 the same, and each text as the pair has it), another edition is installed over it and rolled back, the file is audited, and
-sqlite3 checks it. Printed are seconds of the processor, peaks of memory and sizes; it ends by an error where something isn't as
+sqlite3 checks it; into the other file the pair is installed twice more, and retired. Printed are seconds of the processor, peaks of memory and sizes; it ends by an error where something isn't as
 it has to be.
 """
 import json
@@ -121,6 +121,14 @@ def rolled_back(program, path, pair, lines, answer):
     assert session(program, path, lines) == answer, "otherwise after a rollback"
 
 
+def replaced(program, path, pair):
+    """The same pair over it, and a third by which the first goes, and both retired."""
+    words = ("install", path, pair.name)
+    row("the same pair over it", told(run(program, *words, "s2", pair.index, pair.text)))
+    row("and again, by which a former edition goes", told(run(program, *words, "s3", pair.index, pair.text)))
+    row("`retire` of both", told(run(program, "retire", path, pair.name, "s4")))
+
+
 def audited(program, path):
     it = run(program, "audit", path)
     assert it[3] == "sound\n", it
@@ -144,6 +152,7 @@ def seen(program, work, name):
     rolled_back(program, one, pair, lines, answer)
     audited(program, one)
     row("file and log at the end", f"{sizes(one)} MB")
+    replaced(program, other, pair)
     return pair
 
 

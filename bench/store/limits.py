@@ -33,14 +33,26 @@ OLD_COLUMNS = {"mark": "id, magic, 1, installs"}
 DIGITS = b"ABCDEFGHIJKLMNOPQRSTUVWXYZabcdefghijklmnopqrstuvwxyz0123456789+/"
 
 
+# Runs the words behind a descriptor, to which it tells what they took. A process that is begun by a large one has its peak as its own.
+SMALL_PARENT = """
+import os, sys, time
+os.set_inheritable(int(sys.argv[1]), False)
+start = time.monotonic()
+_, ended, usage = os.wait4(os.posix_spawnp(sys.argv[2], sys.argv[2:], os.environ), 0)
+took = time.monotonic() - start, usage.ru_utime + usage.ru_stime, usage.ru_maxrss / 1024, os.waitstatus_to_exitcode(ended)
+os.write(int(sys.argv[1]), " ".join(map(str, took)).encode())
+"""
+
+
 def run(*words, status=0):
-    """Seconds by the clock and by the processor, the peak of memory in MB (at least what this program has), and what was printed."""
-    start = time.monotonic()
-    process = subprocess.Popen([*map(str, words)], stdout=subprocess.PIPE, text=True)
-    told = process.stdout.read()
-    _, ended, usage = os.wait4(process.pid, 0)
-    assert os.waitstatus_to_exitcode(ended) == status, (words, ended, told)
-    return time.monotonic() - start, usage.ru_utime + usage.ru_stime, usage.ru_maxrss / 1024, told
+    """Seconds by the clock and by the processor, the peak of memory in MB, and what was printed."""
+    taken, told = os.pipe()
+    process = subprocess.run([sys.executable, "-S", "-c", SMALL_PARENT, str(told), *map(str, words)], stdout=subprocess.PIPE, text=True, pass_fds=[told])
+    os.close(told)
+    with open(taken) as it:
+        clock, seconds, memory, ended = it.read().split()
+    assert int(ended) == status, (words, ended, process.stdout)
+    return float(clock), float(seconds), float(memory), process.stdout
 
 
 def sizes(path):
@@ -202,18 +214,17 @@ def opened(program, made, what):
     told(f"opening of {what} (`list`)", f"{seconds:.2f} s, by the clock {clock:.2f}")
     lines = stages(program, "list", made.path).splitlines()
     (made.work / f"stages-open-{made.lines}.txt").write_text("\n".join(lines) + "\n")
-    at = {key: float(next(it for it in lines if key in it).split()[0]) for key in ("file::connect", "adopting::read", "the end")}
-    alone = at["adopting::read"] - at["file::connect"]
-    product = at["the end"] - at["adopting::read"]
-    bounded(f"what the product adds to `sqlite`'s {alone:.2f} s", product / alone * 100, "%", 50, ".0f", f" ({product:.2f} s)")
+    first = next((float(it.split()[0]) for it in lines if "adopting::read" in it), None)
+    if first is not None:
+        told("of that by `sqlite` alone, which tests the pages (under `gdb`)", f"{first:.2f} of {float(lines[-1].split()[0]):.2f} s")
     bounded(f"memory of that opening", memory, "MB", 400, ".0f")
 
 
 def openings(program, small, large):
-    opened(program, small, "65,536 lines")
-    opened(program, large, "the largest edition")
-    clock, seconds, memory, _ = run(program, "audit", large.path)
-    told("`audit` of it", f"{seconds:.2f} s, by the clock {clock:.2f}; {memory:.0f} MB")
+    for made, what in ((small, "65,536 lines"), (large, "the largest edition")):
+        opened(program, made, what)
+        clock, seconds, memory, _ = run(program, "audit", made.path)
+        told(f"`audit` of {what}", f"{seconds:.2f} s, by the clock {clock:.2f}; {memory:.0f} MB")
 
 
 def older(path, to):
@@ -280,11 +291,10 @@ def removals(program, small, large):
         path = copied(made.file(), made.work / "removed.db")
         _, seconds, memory, _ = made.install(path, "r2")
         told(f"install of {what} over another edition", f"{seconds:.1f} s, {memory:.0f} MB; file and log {sizes(path)} MB")
-        if made is small:
-            _, seconds, memory, _ = made.install(path, "r3")
-            told("install by which a former edition goes", f"{seconds:.1f} s, {memory:.0f} MB; file and log {sizes(path)} MB")
+        _, seconds, memory, _ = made.install(path, "r3")
+        told(f"install of {what} by which a former edition goes", f"{seconds:.1f} s, {memory:.0f} MB; file and log {sizes(path)} MB")
         _, seconds, memory, _ = run(program, "retire", path, "made", "r4")
-        told("`retire` of both editions", f"{seconds:.1f} s, {memory:.0f} MB; file and log {sizes(path)} MB")
+        told(f"`retire` of both editions of {what}", f"{seconds:.1f} s, {memory:.0f} MB; file and log {sizes(path)} MB")
 
 
 def largest(program, small, large):

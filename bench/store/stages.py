@@ -1,8 +1,7 @@
 """Tells where the seconds and the memory of one run of dictcat go: bench/store/stages.sh PROGRAM WORD..
 
 It is run by gdb, which stops the program where one of its stages begins: where a file is opened and where that has ended, at
-each statement that reads (its text is told), before the words and the grams of an edition are sorted, at each commit, and at the
-end. Each line has the seconds of the processor until then and since the line before, resident memory then and at most since
+each statement that reads (its text is told), at each commit, and at the end. Each line has the seconds of the processor until then and since the line before, resident memory then and at most since
 the line before in MB, and what begins. Statements that write are not told one by one: there are hundreds of thousands.
 """
 import os
@@ -14,8 +13,7 @@ import gdb
 PROGRAM = gdb.current_progspace().filename
 STAGES = re.compile(r"""sqlite::file::connect::|sqlite::connection::Connection::(query|query_near|commit)::
     |dict_store::adopting::read::|dict_opening::records::read_records|dict_scans::(census::test_rows|pieces::test_pieces)
-    |dict_derived::placed::sorted_|dict_index::read_edition|dict_store::keeper::DeskKeeper::apply
-    |dict_keyed_sql::create::create_keyed_tables""", re.X)
+    |dict_index::read_edition|dict_store::keeper::DeskKeeper::apply""", re.X)
 REGISTERS = ("rdi", "rsi", "rdx", "rcx", "r8", "r9")
 STATEMENTS = (b"SELECT", b"PRAGMA", b"INSERT", b"DELETE", b"CREATE")
 

@@ -1,0 +1,160 @@
+#!/usr/bin/env python3
+"""Puts what bench/figures.sh has measured into the pages of bench/: paste.py OUTDIR [STEP..]
+
+In the pages a line `<!-- STEP -->` begins a block, and `<!-- end -->` ends it: what stands between becomes what OUTDIR/STEP.md
+has. `<!-- summary -->` of bench/README.md becomes the table of what a reader wants to know, of all steps that are there, and
+`<!-- program -->` the line of which program it was, when, and how busy the machine was. With STEPs only their blocks are
+changed. Other documents name figures too: what they take is printed, to be put there by hand.
+"""
+import pathlib
+import re
+import sys
+
+HERE = pathlib.Path(__file__).resolve().parent
+PAGES = ["README.md", "serve/README.md", "store/README.md", "search/README.md"]
+
+
+def tables(text):
+    """The tables of a page: the line above each, and its rows, the head first, each a list of cells."""
+    found, above, rows = [], "", []
+    for line in [*text.splitlines(), ""]:
+        if line.startswith("|"):
+            rows.append([cell.strip() for cell in line.strip("|").split("|")])
+        else:
+            if rows:
+                found.append((above, [row for row in rows if set("".join(row)) - {"-"}]))
+                rows = []
+            above = line or above
+    return found
+
+
+class Figures:
+    """What the steps printed."""
+
+    def __init__(self, folder):
+        self.folder = folder
+
+    def text(self, step):
+        path = self.folder / f"{step}.md"
+        return path.read_text() if path.exists() else ""
+
+    def rows(self, step, sought):
+        """The rows of the first table of which the line above or the head has the words."""
+        for above, rows in tables(self.text(step)):
+            if sought in above or sought in "|".join(rows[0]):
+                return rows
+        return []
+
+    def row(self, step, sought, first):
+        """The row that begins so, without its first cell."""
+        return next((row[1:] for row in self.rows(step, sought) if row[0].startswith(first)), None)
+
+    def request(self, name, kind, turn):
+        """Microseconds of both, and answers in a second of both."""
+        rows = self.rows("asked", f"`{name}`: microseconds")
+        row = next((row for row in rows if row[0] == kind), None)
+        if row is None:
+            return None
+        cell = row[rows[0].index(turn)]
+        both, rates = re.fullmatch(r"(.*) \((.*)\)", cell).groups()
+        return *both.split(" / "), *rates.split(", ")
+
+
+def requests(figures):
+    """Rows of what a request takes of the processor at 8 connections, and of the answers in a second."""
+    kinds = {"hits": "a DEFINE over WordNet (147,309 lines, 31 MB), found", "misses": "the same, not found", "exacts": "MATCH, exact",
+             "prefixes": "MATCH by a prefix of 4 letters", "suffixes": "MATCH by a suffix of 4", "substrings": "MATCH by a substring of 5",
+             "words": "MATCH by a word", "mix": "a mix of 20 (10 found, 4 not, 6 MATCHes)"}
+    for kind, what in kinds.items():
+        if it := figures.request("wn", kind, "8 × 1"):
+            yield what, f"{it[0]} µs", f"{it[1]} µs", "asked"
+    if it := figures.request("ara", "mix", "8 × 1"):
+        yield "a mix of 20 over an Arabic dictionary", f"{it[0]} µs", f"{it[1]} µs", "asked"
+    each = [figures.request("wn", "hits", turn) for turn in ("1 × 1", "8 × 1", "64 × 1")]
+    if all(each):
+        yield "DEFINE answers a second, 1, 8, 64 connections", ", ".join(it[2] for it in each), ", ".join(it[3] for it in each), "asked"
+
+
+def waits(figures):
+    """Rows of the longest answers, and of who asks beside others."""
+    if it := figures.row("asked", "10,000 answers", "`wn`, mix"):
+        yield "the longest of 10,000 answers, 64 connections, the mix over WordNet", *(f"{cell.split(', ')[1]} ms" for cell in it), "asked"
+    both = [figures.row("asked", "MATCH wn substring e", who) for who in ("dictcat", "dictd")]
+    if all(both):
+        yield "MATCH wn substring e (104,434 headwords, 2 MB)", *(f"{it[0]} ms" for it in both), "asked"
+        yield "a greeting, and a DEFINE, beside 8 that repeat it", *(f"{it[1].replace(', ', ' and ')} s" for it in both), "asked"
+        yield "the same beside 62", *(f"{it[2].replace(', ', ' and ')} s" for it in both), "asked"
+    both = [figures.row("round", "MATCH gcide substring e", who) for who in ("dictcat", "dictd")]
+    if all(both):
+        yield "a DEFINE beside 63 that repeat a MATCH of 122,146 headwords of GCIDE: by the clock at most", *(f"{re.split('[, (]+', it[2])[1]} s" for it in both), "round"
+    if it := figures.row("kept", "DEFINE, found", "65,536 lines, 13 MB"):
+        yield "the first DEFINE over 65,536 lines, 13 MB, and those behind it", f"{it[0]}, {it[1].split(' (')[0]}", it[2].split(" (")[0], "kept"
+    if rows := figures.rows("growth", "The same finds"):
+        most = [max(float(row[at]) for row in rows[1:]) for at in (3, 6)]
+        yield "four times the lines, the same finds: at most", *(f"{it:.2f} times" for it in most), "growth"
+
+
+def store(figures):
+    """Rows of files: their memory, their sizes, installs and openings."""
+    idle = re.findall(r"^- while nothing comes, 64 connections, (dictcat|dictd): .* s, (\d+) kB of memory", figures.text("lines"), re.M)
+    if len(idle) == 2:
+        yield "64 connections over four lines: memory", *(f"{int(it) / 1000:.0f} MB" for _, it in idle), "lines"
+    for step, sought, first, what in (
+            ("debian", "`wn`", "an opening", "a start with WordNet (`list`)"), ("debian", "`wn`", "`install` by", "an install of WordNet by the command line"),
+            ("limits", "Found", "opening of the largest", "a start with the largest edition, 262,144 lines, 67 MB"),
+            ("limits", "Found", "install of 65,536 lines, first", "an install of 65,536 lines, 13 MB"),
+            ("every", "Debian's dictionaries", "32 dictionaries", "all 31 packages of Debian's imported by HTTP, one after the other"),
+            ("every", "Debian's dictionaries", "lines and octets", "lines and octets of them"), ("every", "Debian's dictionaries", "file and log", "their file and log"),
+            ("every", "Debian's dictionaries", "an opening", "a start with all of them (`list`)")):
+        if it := figures.row(step, sought, first):
+            yield what, it[0], "not measured", step
+    rows = figures.rows("install", "32 readers ask")[1:]
+    for three in (rows[at:at + 3] for at in range(0, len(rows), 3)):
+        most = [max(float(row[at].split(" ")[0]) for row in three) for at in (1, 2)]
+        yield f"an install by HTTP of {three[0][0].split(': ')[0]}, 32 readers beside it: the editor waits at most; a reader", f"{most[0]:.1f} s; {most[1]:.2f} s", "none", "install"
+    if it := re.search(r"^(\d+) kills: (.*)$", figures.text("kill"), re.M):
+        yield f"{int(it[1]):,} kills within installs", re.sub("; the file has.*", "", it[2]), "none", "kill"
+
+
+def summary(figures):
+    rows = [*requests(figures), *waits(figures), *store(figures)]
+    lines = [f"|{what}|{ours}|{theirs}|`{step}`|" for what, ours, theirs, step in rows]
+    return "\n".join(["|What|dictcat|dictd 1.13|Step|", "|---|---|---|---|", *lines])
+
+
+def program(figures):
+    lines = (figures.folder / "program").read_text().splitlines()
+    times = (figures.folder / "times").read_text().splitlines()
+    loads = [float(it) for line in times for it in re.findall(r"load (\S+) before, (\S+) behind", line)[0]]
+    return (f"All of one program, `{lines[1]}` with the sum `{lines[0][:12]}`, {lines[2]}, to {times[-1].split()[0]}, on {lines[3]}; "
+            f"load {min(loads):.1f} to {max(loads):.1f} by what was measured itself and what ran beside it.")
+
+
+def fenced(figures):
+    """What bench/search/run.sh prints, which is no table."""
+    text = figures.text("search").strip()
+    return f"```text\n{text}\n```" if text else ""
+
+
+def pasted(page, figures, steps):
+    """The page with its blocks renewed."""
+    def block(found):
+        step = found[2]
+        made = {"summary": summary, "program": program, "search": fenced}.get(step, lambda it: it.text(step).strip())
+        text = made(figures) if not steps or step in steps else ""
+        return f"{found[1]}\n{text}\n{found[4]}" if text else found[0]
+    return re.sub(r"(<!-- (\w+) -->)\n(.*?)(<!-- end -->)", block, page, flags=re.S)
+
+
+def main():
+    if len(sys.argv) < 2 or sys.argv[1].startswith("-"):
+        sys.exit(__doc__)
+    figures, steps = Figures(pathlib.Path(sys.argv[1])), sys.argv[2:]
+    for name in PAGES:
+        path = HERE / name
+        path.write_text(pasted(path.read_text(), figures, steps))
+    print(summary(figures))
+
+
+if __name__ == "__main__":
+    main()
