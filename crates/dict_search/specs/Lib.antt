@@ -8,3 +8,4 @@ pub mod Pieces
 pub mod PlacedPieces
 pub mod Stored
 pub mod Indexes
+pub mod Making

@@ -4,6 +4,7 @@ ghost use Rattle.dict_match.specs.Key.{key_of};
 
 use crate::entries::Entries;
 use crate::index::{Index, index_of};
+use crate::making::IndexMaking;
 use dict_match::{key_laws, key_of};
 use dict_runs::Span;
 use std::alloc::{AllocError, Global};
@@ -70,5 +71,15 @@ impl IndexBuilder {
         let mut entries = self.entries;
         entries.shrink();
         index_of(self.alloc, entries, count)
+    }
+
+    /// The same, of which nothing is made yet: it is made by steps.
+    pub fn making(self) -> IndexMaking
+        requires { length self < 2 ^ 32 }
+        ensures { result ≡ self }
+    {
+        let mut entries = self.entries;
+        entries.shrink();
+        IndexMaking::of(self.alloc, entries)
     }
 }

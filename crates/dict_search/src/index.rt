@@ -6,6 +6,7 @@ ghost use Rattle.dict_match.specs.declared.strategy.Strategy.TheVariants.{Substr
 ghost use Rattle.dict_derived.specs.Search.{rows_of, rows_for};
 ghost use Rattle.dict_search.specs.Entries.{entry_at, entries_at, keys_of, shown_of};
 ghost use Rattle.dict_search.specs.Places.{key_at, places_where};
+ghost use Rattle.dict_search.specs.Indexes.{IsIndexed};
 ghost use Rattle.dict_search.specs.Orders.{IsOrderOf};
 ghost use Rattle.dict_search.specs.Selected.{is_selected, has_gram, has_word, finds_all, AreSelected};
 ghost use Rattle.dict_search.specs.Found.{found_places, found_entries, found_headwords, count_selected};
@@ -83,8 +84,34 @@ pub(crate) fn index_of(alloc: Global, entries: Entries, count: u32) -> Result<In
     })
 }
 
+/// The index that holds this beside its entries.
+pub(crate) fn index_with(
+    entries: Entries,
+    by_key: Vec<u32>,
+    key_heads: Vec<u64>,
+    by_reversed_key: Vec<u32>,
+    words: Pieces,
+    grams: Pieces,
+) -> Index
+    requires { IsIndexed entries by_key.items by_reversed_key.items words grams }
+    ensures { result ≡ entries }
+{
+    Index {
+        entries,
+        by_key,
+        key_heads,
+        by_reversed_key,
+        words,
+        grams,
+    }
+}
+
 /// The places of all entries, in the order of their keys as these are read from behind.
-fn reversed_places(alloc: Global, entries: &Entries, count: u32) -> Result<Vec<u32>, AllocError>
+pub(crate) fn reversed_places(
+    alloc: Global,
+    entries: &Entries,
+    count: u32,
+) -> Result<Vec<u32>, AllocError>
     requires { count ≡ length entries.now }
     ensures { IfOk result (λ places. IsOrderOf (map reverse (keys_of entries.now)) places.items) }
 {

@@ -25,6 +25,7 @@ use dict_commands::Filing;
 use dict_desk::Fault;
 use dict_indexes::Indexes;
 use dict_migration::create;
+use dict_search::IndexMaking;
 use dict_texts::Texts;
 use sqlite::{Alter, Connection};
 use std::alloc::Global;
@@ -50,6 +51,8 @@ pub struct Desk<S: Alter + Drop> {
     pub(crate) filing: Option<Filing>,
     // How many times it may begin yet. Nothing rests on it.
     pub(crate) begins: u8,
+    // The index of the edition that may come, as far as it is made. Nothing rests on it.
+    pub(crate) coming: Option<IndexMaking>,
 }
 
 impl<S: Alter + Drop> Model for Desk<S> {
@@ -93,6 +96,7 @@ impl<S: Alter + Drop> Desk<S> {
             rows_taken: 0,
             filing: None,
             begins: 0,
+            coming: None,
         }
     }
 

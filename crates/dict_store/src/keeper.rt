@@ -84,7 +84,8 @@ impl<S: Alter + Drop> Keeper for Desk<S> {
             return Err(Fault::Closed);
         }
         let number = self.summary.installs.saturating_add(1);
-        let Ok(()) = put_coming(self.alloc, &mut self.indexes, number, command) else {
+        let made = self.coming.take();
+        let Ok(()) = put_coming(self.alloc, &mut self.indexes, number, command, made) else {
             self.last = LastCall::Failed;
             forget_by(&mut self.texts, LastCall::Failed);
             return Err(Fault::Memory);

@@ -12,6 +12,7 @@ ghost use Rattle.dict_store.specs.Desk.{HasFiled, has_failed};
 ghost use Rattle.dict_store.specs.Prepared.{LetsGo, last_behind};
 
 use crate::desk::Desk;
+use crate::indexing::{begin_coming, step_coming};
 use crate::kept::{forget_behind, forget_by};
 use crate::last::LastCall;
 use crate::withdrawing::let_go_when_ended;
@@ -19,6 +20,7 @@ use dict_catalogue::{Command, Summary};
 use dict_commands::{Filing, file_part, plan_filing};
 use dict_desk::Fault;
 use dict_preparing::Preparer;
+use dict_search::IndexMaking;
 use sqlite::{Alter, Connection};
 
 // A filing may begin so many times. A lookup that fails for want of memory undoes what was filed; after the last time nothing is
@@ -39,11 +41,18 @@ fn count_begin<S: Alter>(conn: &Connection<S>, filing: &mut Option<Filing>, begi
     *filing = None;
 }
 
-// Files a bounded part of what is to be prepared over this summary, if anything is. What can't be filed is let go of.
+// Whether there is more to prepare: more rows to file or, once all are filed, a part of the index that comes, which is made here.
+fn goes_on(more: bool, coming: &mut Option<IndexMaking>) -> bool {
+    if more { true } else { step_coming(coming) }
+}
+
+// Files a bounded part of what is to be prepared over this summary, if anything is, and once all is filed makes a
+// part of its index. What can't be filed is let go of.
 fn file_next<S: Alter>(
     conn: &mut Connection<S>,
     summary: &Summary,
     filing: &mut Option<Filing>,
+    coming: &mut Option<IndexMaking>,
 ) -> Result<bool, Fault>
     requires filed { HasFiled S.Store filing.old conn.old }
     requires usable { WhileOpen (rested (state S.Store conn.old)) IsUsable }
@@ -60,7 +69,7 @@ fn file_next<S: Alter>(
         return Ok(false);
     };
     match file_part(conn, summary, planned) {
-        Ok(more) => Ok(more),
+        Ok(more) => Ok(goes_on(more, coming)),
         Err(Some(fault)) => Err(fault),
         Err(None) => {
             *filing = None;
@@ -98,6 +107,7 @@ impl<S: Alter + Drop> Preparer for Desk<S> {
             Ok(filing) => {
                 self.filing = filing;
                 self.begins = MAX_BEGINS;
+                self.coming = begin_coming(self.alloc, command);
                 Ok(())
             }
             Err(_) => {
@@ -113,7 +123,12 @@ impl<S: Alter + Drop> Preparer for Desk<S> {
             return Err(Fault::Closed);
         }
         count_begin(&self.conn, &mut self.filing, &mut self.begins);
-        let outcome = file_next(&mut self.conn, &self.summary, &mut self.filing);
+        let outcome = file_next(
+            &mut self.conn,
+            &self.summary,
+            &mut self.filing,
+            &mut self.coming,
+        );
         forget_behind(&mut self.texts, &outcome);
         self.last = last_behind(self.last, &outcome);
         let_go_when_ended(&self.conn, &mut self.filing);

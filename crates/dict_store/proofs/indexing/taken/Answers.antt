@@ -1,0 +1,17 @@
+use Rattle.std.proofs.Common.{List, [], ◌∷◌, ◌++◌, map, sym, ap, ◌∙◌, arith}
+use Rattle.std.proofs.lemmas.List.{take_all}
+use Rattle.dict_index.specs.Views.{line_of}
+use Rattle.dict_index.specs.declared.entry.Entry.{Entry}
+use Rattle.dict_search.specs.Entries.{Indexed, entry_of}
+use Rattle.dict_store.proofs.StandingLemmas.{entries_of_lines, one_more}
+use Rattle.dict_store.proofs.indexing.taken.Goals as goal
+
+pub loop-entry-preserved : goal.loop-entry-preserved
+loop-entry-preserved c =
+    c.in_ok-push.ensures.pushed ∙ ap (λ (l : List Indexed). l ++ entry_of (line_of c.entry-item.result) ∷ []) c.loop-entry.invariant
+    ∙ one_more (λ (entry : Entry). entry_of (line_of entry)) c.args.entries.now c.loop-entry.entry-index c.entry-item.result (omega arith) c.entry-item.is
+
+pub returns : goal.returns
+returns c =
+    let all = c.loop-entry.invariant ∙ ap (map (λ (entry : Entry). entry_of (line_of entry))) (take_all c.loop-entry.entry-index c.args.entries.now (omega arith)) in
+    all ∙ sym (entries_of_lines c.args.entries.now)
