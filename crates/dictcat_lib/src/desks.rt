@@ -10,8 +10,9 @@ ghost use Rattle.dictcat_lib.specs.Catalogues.{IsMade};
 ghost use Rattle.dictcat_lib.specs.DeskOpener.{IsDesk, IsMadeDesk, IsNoDesk, IsNoDeskAgain, IsTrusted, IsUnmade};
 ghost use Rattle.dictcat_lib.specs.Files.{StillLeaves};
 
+use crate::cached::options;
 use crate::left::{Left, connection_of, hold};
-use crate::stores::{close_file, make_file, open_file, options, told_unopened};
+use crate::stores::{close_file, make_file, open_file, told_unopened};
 use dict_messages::ProgramFault;
 use dict_store::Desk;
 use sqlite::{FileFrom, FileStore, Start};
@@ -73,7 +74,7 @@ pub(crate) fn reopen_desk<'w, D: Disk + Drop>(
     ensures follows { IfOk result (Follows (Shows over_files) (LeavesOneOf over_files) IsTrusted desk) }
     ensures leaves { IfErr result (λ _. (ms : List (Option Catalogue)) → LeavesOneOf over_files desk ms → StillLeaves desk held.new ms) }
 {
-    let Some(options) = options(rt) else {
+    let Some(options) = options(rt, file) else {
         hold(held, Left::Kept(connection_of(desk)));
         return Err(ProgramFault::CannotRead(file));
     };

@@ -1,6 +1,7 @@
 //! What the program dictcat does with the words that it is given.
 #![tactic(auto)]
 
+mod cached;
 mod catalogues;
 mod desks;
 mod files;

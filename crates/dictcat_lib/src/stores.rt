@@ -4,14 +4,14 @@ ghost use Rattle.sqlite.specs.WalFiles.{image_at};
 ghost use Rattle.dictcat_lib.specs.DeskOpener.{IsNotOpened, TellsUnopened};
 ghost use Rattle.dictcat_lib.specs.Files.{IsOpenedFrom, IsPutAway};
 
+use crate::cached::open_cached;
 use crate::left::{Left, hold};
 use dict_desk::Fault as DeskFault;
 use dict_messages::ProgramFault;
 use dict_store::{Unopened, fault_of_files};
-use sqlite::{Connection, FileFrom, FileStore, Options, Start};
+use sqlite::{Connection, FileFrom, FileStore, Start};
 use sqlite_disk::Disk;
 use std::fs;
-use std::hash::{BuildHasher, RandomState};
 use std::io::ErrorKind;
 
 // Opens the file with this path, once. It has to be there. Where it isn't opened, `held` is what `sqlite` left of it, if that was asked.
@@ -48,7 +48,7 @@ pub(crate) fn make_file<'w, S: Start>(
     let Some(first) = start.take() else {
         return Err(ProgramFault::CannotRead(path));
     };
-    match Connection::open_from(rt, path, true, first) {
+    match open_cached(rt, path, first) {
         Ok(conn) => Ok(conn),
         Err((error, rest)) => {
             let left = Unopened::Files(rest);
@@ -84,10 +84,4 @@ pub(crate) fn close_file<D: Disk + Drop>(conn: Connection<FileStore<D>>) -> Left
         Ok(files) => Left::Closed(files),
         Err((_, store)) => Left::Uncopied(store),
     }
-}
-
-// How files are opened again, with a random number for the log; none where the system gives none.
-pub(crate) fn options(rt: &HostRuntime) -> Option<Options> {
-    let state = RandomState::new(rt).ok()?;
-    Some(Options::new(state.hash_one(&0u8)))
 }

@@ -1,0 +1,113 @@
+// Files at a path, opened with a cache of their size.
+ghost use Rattle.std.specs.Prelude.{codes, ◌≡◌, ◌⊎◌, ◌≤◌, true, false, None, IsTrue, IfOk, IfErr, IfSome};
+ghost use Rattle.sqlite.specs.Files.{FailsToOpenFiles, IsBlankAs, IsCleanLeft, IsOpened, LeavesFiles, file_state};
+ghost use Rattle.sqlite.specs.FileStore.{view};
+ghost use Rattle.sqlite.specs.Held.{IsNew};
+ghost use Rattle.sqlite.specs.Opening.{is_open_error};
+ghost use Rattle.sqlite.specs.Start.{FindsIn};
+ghost use Rattle.sqlite.specs.State.{HasCleanDisk};
+ghost use Rattle.sqlite.specs.WalFiles.{image_at};
+ghost use Rattle.sqlite_std_file.specs.File.{IsFresh, file_is_usable};
+
+use sqlite::{Connection, Error, ErrorCode, FileFrom, FileStore, Files, Leftover, Options, Start};
+use sqlite_std_file::OpenError;
+use std::fs;
+use std::hash::{BuildHasher, RandomState};
+use std::io::ErrorKind;
+
+const NO_MEMORY: Error = Error::SqliteFailure(ErrorCode::OutOfMemory);
+
+const CANNOT_OPEN: Error = Error::SqliteFailure(ErrorCode::CannotOpen);
+
+// The octets of a page of a file that `create` makes.
+const PAGE_SIZE: u64 = 4_096;
+
+// How many pages a cache has at least, as `sqlite` has it: 8 MB.
+const FEWEST_PAGES: usize = 2_000;
+
+// And at most: 64 MB. A cache is taken whole.
+const MOST_PAGES: usize = 16_384;
+
+// How many pages a cache has, for a file of so many octets: as many as the file, within the bounds. Page n has the place n modulo that
+// number, and an opening goes through all pages again and again: two pages with one place drive each other out each time. Where more
+// than half of a file's pages would do so, it has the fewest.
+fn cache_pages(octets: u64) -> usize
+    ensures least { 2000 ≤ result }
+    ensures most { result ≤ 16384 }
+{
+    let pages = (octets / PAGE_SIZE) as usize;
+    if pages > MOST_PAGES + MOST_PAGES / 3 {
+        return FEWEST_PAGES;
+    }
+    pages.clamp(FEWEST_PAGES, MOST_PAGES)
+}
+
+// How the files at this path are opened: with a cache of the size that the file has now, and a random number for the log; none where
+// the system gives none.
+pub(crate) fn options(rt: &HostRuntime, path: &str) -> Option<Options>
+    ensures { IfSome result (λ it. (2000 ≤ it.cache_pages) × (it.cache_pages ≤ 16384)) }
+{
+    let state = RandomState::new(rt).ok()?;
+    let octets = match fs::metadata(rt, path) {
+        Ok(found) => found.len(),
+        Err(_) => 0,
+    };
+    Some(Options {
+        cache_pages: cache_pages(octets),
+        ..Options::new(state.hash_one(&0u8))
+    })
+}
+
+// The two files at this path, which are made where they aren't there. It refuses `:memory:` and a URI, which name no file.
+fn open_pair<S: Start>(rt: &HostRuntime, path: &str, start: S) -> Result<Files<FileFrom<S>>, Error>
+    ensures memory { path.now ≡ codes ":memory:" → result ≡ Err (Error.SqliteFailure ErrorCode.CannotOpen) }
+    ensures named { IfErr result (λ e. IsTrue (is_open_error e)) }
+    ensures usable { IfOk result (λ files. IsTrue (file_is_usable S.Start files.log) × IsTrue (file_is_usable S.Start files.db)) }
+    ensures fresh { IfOk result (λ files. IsFresh true files.log × IsFresh false files.db) }
+    ensures kind { IfErr result (λ e. (e ≡ Error.SqliteFailure ErrorCode.CannotOpen) ⊎ ((e ≡ Error.SqliteFailure ErrorCode.OutOfMemory) ⊎ (e ≡ Error.SqliteFailure ErrorCode.DatabaseBusy))) }
+{
+    if path == ":memory:" || path.starts_with("file:") {
+        return Err(CANNOT_OPEN);
+    }
+    match sqlite_std_file::open(rt, path, start) {
+        Ok(files) => Ok(files),
+        Err(OpenError::OutOfMemory) => Err(NO_MEMORY),
+        Err(OpenError::Busy) => Err(Error::SqliteFailure(ErrorCode::DatabaseBusy)),
+        Err(OpenError::Io(error)) if error.kind() == ErrorKind::OutOfMemory => Err(NO_MEMORY),
+        Err(_) => Err(CANNOT_OPEN),
+    }
+}
+
+// As `Connection::open_from` does, whose clauses these are, but with a cache of the file's size: opens the files at this path, or makes
+// them, and then each page ends in a sum. `S` stands for the octets that they hold. An error comes with what is left of the files, once
+// they were opened.
+pub(crate) fn open_cached<S: Start>(
+    rt: &HostRuntime,
+    path: &str,
+    start: S,
+) -> Result<Connection<FileStore<FileFrom<S>>>, (Error, Option<Leftover<FileFrom<S>>>)>
+    ensures named { IfErr result (λ e. IsTrue (is_open_error e.0)) }
+    ensures opened { IfOk result (λ c. HasCleanDisk (file_state c) → IsOpened c) }
+    ensures found { IfOk result (λ c. HasCleanDisk (file_state c) → FindsIn (image_at S.Start) (file_state c)) }
+    ensures sums { IfOk result (λ c. HasCleanDisk (file_state c) → IsBlankAs true (image_at S.Start) → (view c.store).has_sums ≡ true) }
+    ensures fresh { IfOk result IsNew }
+    ensures unopened { IfErr result (λ e. e.1 ≡ None
+        → (e.0 ≡ Error.SqliteFailure ErrorCode.CannotOpen) ⊎ ((e.0 ≡ Error.SqliteFailure ErrorCode.OutOfMemory) ⊎ (e.0 ≡ Error.SqliteFailure ErrorCode.DatabaseBusy))) }
+    ensures cause { IfErr result (λ e. IfSome e.1 (λ left. (files : _) × IsFresh true files.log × IsFresh false files.db
+        × (IsCleanLeft left → FailsToOpenFiles files left e.0 × LeavesFiles files left))) }
+{
+    let files = match open_pair(rt, path, start) {
+        Ok(files) => files,
+        Err(error) => return Err((error, None)),
+    };
+    let Some(options) = options(rt, path) else {
+        return Err((CANNOT_OPEN, None));
+    };
+    match Connection::open_files_with(rt.alloc(), files, options, true) {
+        Ok(mut conn) => {
+            conn.set_clock(rt);
+            Ok(conn)
+        }
+        Err((error, left)) => Err((error, Some(left))),
+    }
+}
