@@ -1,13 +1,9 @@
 //! Desks over files in memory that are opened anew.
+use crate::anew::{Anew, Seen, Work, opened_anew};
 use crate::checks::holds;
-use crate::files::{opened, options};
+use crate::files::Octets;
 use crate::stops::made;
-use dict_desk::{Fault, Keeper, Lookup};
-use dict_failing_disk::failing_disk;
-use dict_store::{Desk, Unopened};
-use dict_store_fixtures::{Asked, Editions, Source, desk_over, read_editions};
-use sqlite::{Alter, Connection, FileStore, Files};
-use sqlite_disk::{Crash, Disk};
+use dict_store_fixtures::{Asked, Editions, Source, read_editions};
 use std::alloc::Global;
 use std::test::Fail;
 
@@ -29,93 +25,71 @@ enum Met {
     Other,
 }
 
-// A desk that is to be opened again, and whether its last command was done: over a new catalogue that has the database, or over
-// the one that is there, in which it is retired.
-fn begun<S: Alter + Drop>(
-    alloc: Global,
-    conn: Connection<S>,
-    editions: &Editions,
-    is_new: bool,
-) -> Option<(Desk<S>, bool)> {
-    let Ok(mut desk) = desk_over(alloc, conn, is_new) else {
-        return None;
-    };
-    let asked = if is_new {
-        Asked::Install("gem", Source::Gems)
+// What a desk that was opened again is found to be.
+fn met_by(seen: &Seen) -> Met {
+    if seen.installs == 1 && !seen.is_closed {
+        Met::Reopened
     } else {
-        Asked::Retire("gem")
-    };
-    let is_done = desk.apply("r", &asked.command(editions)).is_ok();
-    Some((desk, is_done))
-}
-
-// Whether a desk that was opened again is open and shows the one install.
-fn met_by<S: Alter + Drop>(desk: Desk<S>) -> Met {
-    match desk.summary() {
-        Ok(summary) => {
-            if summary.installs == 1 && !desk.is_closed() {
-                Met::Reopened
-            } else {
-                Met::Other
-            }
-        }
-        Err(_) => Met::Other,
+        Met::Other
     }
 }
 
-// Opens the same files again.
-fn opened_again<D: Disk + Drop>(desk: Desk<FileStore<D>>) -> Met {
-    match desk.reopen(options()) {
-        Ok(desk) => met_by(desk),
-        Err((Unopened::Spent(_), Fault::Disk)) => Met::Spent,
-        Err(_) => Met::Other,
-    }
-}
-
-// Opens what a stop leaves of the files, and then the same files again.
-fn restarted<D: Crash + Drop>(desk: Desk<FileStore<D>>) -> Met {
-    match desk.restart(options()) {
-        Ok(desk) => opened_again(desk),
-        Err(_) => Met::Other,
-    }
-}
-
-// Opens two new files again after a stop; or those that have the database after its retirement, which matters where that failed.
-fn met_over<D: Crash + Drop>(
-    alloc: Global,
-    editions: &Editions,
-    files: Files<D>,
-    is_new: bool,
-) -> Met {
-    let Ok(conn) = opened(alloc, files) else {
-        return Met::NoDesk;
-    };
-    match begun(alloc, conn, editions, is_new) {
-        Some((desk, is_done)) if is_new => {
-            let met = restarted(desk);
-            if is_done { met } else { Met::Other }
-        }
-        Some((desk, is_done)) => {
-            let met = opened_again(desk);
-            if is_done { Met::Nothing } else { met }
-        }
-        None => Met::NoDesk,
-    }
-}
-
-// The same over a log and a file of these octets, where the log fails at this call.
+// What comes of files of these octets where the log fails at this call: over a new catalogue after a stop; or over the one that is
+// there, where it matters if its command failed.
 fn met_at(
     alloc: Global,
     editions: &Editions,
-    octets: (&[u8], &[u8]),
+    octets: &Octets,
     call: u64,
-    is_new: bool,
+    work: Work,
 ) -> Result<Met, Fail> {
-    let files = Files {
-        log: failing_disk(alloc, octets.0, call, true)?,
-        db: failing_disk(alloc, octets.1, u64::MAX, true)?,
+    let is_new = work == Work::Install;
+    let (done, met) = match opened_anew(alloc, octets, call, editions, work)? {
+        Anew::NoDesk => return Ok(Met::NoDesk),
+        Anew::Opened(done, seen) => (done, met_by(&seen)),
+        Anew::Spent(done) => (done, Met::Spent),
+        Anew::Unopened(done) => (done, Met::Other),
     };
-    Ok(met_over(alloc, editions, files, is_new))
+    Ok(if done.is_applied == is_new {
+        met
+    } else if is_new {
+        Met::Other
+    } else {
+        Met::Nothing
+    })
+}
+
+/// How often files were opened again, and how often a sync had failed.
+#[derive(Clone, Copy)]
+struct Count {
+    reopened: u64,
+    spent: u64,
+}
+
+// Fails at each call, until there is no failure.
+fn fail_at_each(alloc: Global, editions: &Editions, octets: &Octets) -> Result<Count, Fail> {
+    let mut count = Count {
+        reopened: 0,
+        spent: 0,
+    };
+    for call in 0..5_000u64 {
+        match met_at(alloc, editions, octets, call, Work::Retire)? {
+            Met::NoDesk => {}
+            Met::Reopened => count.reopened = count.reopened.saturating_add(1),
+            Met::Spent => count.spent = count.spent.saturating_add(1),
+            Met::Nothing => return Ok(count),
+            Met::Other => return Err("other files were opened")?,
+        }
+    }
+    Ok(count)
+}
+
+fn is_reopened_when_new(alloc: Global, editions: &Editions) -> Result<bool, Fail> {
+    let nothing = Octets {
+        log: Vec::new(alloc),
+        db: Vec::new(alloc),
+    };
+    Ok(met_at(alloc, editions, &nothing, u64::MAX, Work::Install)? == Met::Reopened)
 }
 
 // Two new files after a stop, and those that have the database after a failure of each call of the log.
@@ -123,22 +97,14 @@ fn met_at(
 fn files_are_opened_again(rt: HostRuntime) -> Result<(), Fail> {
     let alloc = rt.alloc();
     let editions = read_editions(alloc)?;
-    let is_reopened = met_at(alloc, &editions, (&[], &[]), u64::MAX, true)? == Met::Reopened;
-    holds(&rt, is_reopened, "two new files");
+    holds(
+        &rt,
+        is_reopened_when_new(alloc, &editions)?,
+        "two new files",
+    );
     let octets = made(&rt, alloc, &editions, &GEM)?;
-    let both = (octets.log.as_slice(), octets.db.as_slice());
-    let mut reopened = 0u64;
-    let mut spent = 0u64;
-    'calls: for call in 0..5_000u64 {
-        match met_at(alloc, &editions, both, call, false)? {
-            Met::NoDesk => {}
-            Met::Reopened => reopened = reopened.saturating_add(1),
-            Met::Spent => spent = spent.saturating_add(1),
-            Met::Nothing => break 'calls,
-            Met::Other => return Err("other files were opened")?,
-        }
-    }
-    holds(&rt, reopened > 0, "reopened");
-    holds(&rt, spent > 0, "spent");
+    let count = fail_at_each(alloc, &editions, &octets)?;
+    holds(&rt, count.reopened > 0, "reopened");
+    holds(&rt, count.spent > 0, "spent");
     Ok(())
 }
