@@ -1,4 +1,4 @@
-"""Reads the transcripts of the program's commands (docs/TRANSCRIPTS.md says how they are written)."""
+"""Reads the transcripts of the program's commands (tests/transcripts/README.md says how they are written)."""
 import pathlib
 import re
 import typing
