@@ -1,7 +1,7 @@
 #!/usr/bin/env bash
 # Takes all figures of bench/ by one program in one run, the most wanted first: bench/figures.sh PROGRAM OUTDIR [STEP..]
 #
-# STEPS: asked (requests, slowest answers, and who asks beside a dear MATCH, beside dictd), growth, round, debian, limits, search,
+# STEPS: asked (requests, slowest answers, and who asks beside a dear MATCH, beside dictd), growth, start, round, debian, limits, search,
 # every (all 31 packages of Debian's imported into one server, and that file opened), install, kept, long, lines, scale
 # (tests/scale), migrations, table (that of docs/DICTIONARIES.md), memory, alike (what both answer, compared), kill;
 # without one it is all of them, in this order. What each prints goes to OUTDIR/STEP.md; how long it took and how busy the
@@ -16,7 +16,7 @@
 # well, 1 one did not, 2 the words can't be made out.
 set -uo pipefail
 here=$(cd "$(dirname "${BASH_SOURCE[0]}")" && pwd)
-all="asked growth round debian limits search every install kept long lines scale migrations table memory alike kill"
+all="asked growth start round debian limits search every install kept long lines scale migrations table memory alike kill"
 case ${1:-} in -*) sed -n '2,/^set /s/^# \{0,1\}//p' "${BASH_SOURCE[0]}"; exit $([[ $1 == -h || $1 == --help ]] || echo 2) ;; esac
 if (($# < 2)) || [[ ! -x $1 ]]; then
     echo "usage: bench/figures.sh PROGRAM OUTDIR [STEP..]" >&2
@@ -38,7 +38,8 @@ if [[ -e $work/begun || $(cat "$work/program" 2>/dev/null) != "$sum" ]]; then
     echo "$sum" >"$work/program"
 fi
 touch "$work/begun"
-{
+# A further run by the same program adds to the one before.
+[[ $(head -c 64 "$out/program" 2>/dev/null) == "$sum" ]] || {
     echo "$sum  $program"
     "$program" --version
     echo "clone $(git -C "$here" rev-parse --short=8 HEAD 2>/dev/null), $(date '+%d %B %Y, %H:%M')"
@@ -48,7 +49,7 @@ touch "$work/begun"
 run() {
     case $1 in
         asked) "$here/serve.sh" --work "$work/serve" "$program" requests slowest crowd ;;
-        growth | round | install | kept | long | memory) "$here/serve.sh" --work "$work/serve" "$program" "$1" ;;
+        growth | start | round | install | kept | long | memory) "$here/serve.sh" --work "$work/serve" "$program" "$1" ;;
         lines) "$here/serve.sh" "$program" lines ;;
         debian) "$here/store/debian.sh" "$program" ;;
         limits) "$here/store/limits.sh" --work "$work/limits" "$program" installs lookups openings removals ;;

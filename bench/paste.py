@@ -1,17 +1,22 @@
 #!/usr/bin/env python3
 """Puts what bench/figures.sh has measured into the pages of bench/: paste.py OUTDIR [STEP..]
 
-In the pages a line `<!-- STEP -->` begins a block, and `<!-- end -->` ends it: what stands between becomes what OUTDIR/STEP.md
-has. `<!-- summary -->` of bench/README.md becomes the table of what a reader wants to know, of all steps that are there, and
-`<!-- program -->` the line of which program it was, when, and how busy the machine was. With STEPs only their blocks are
-changed. Other documents name figures too: what they take is printed, to be put there by hand.
+In the pages, and in docs/DICTIONARIES.md, a line `<!-- STEP -->` begins a block, and `<!-- end -->` ends it: what stands between
+becomes what OUTDIR/STEP.md has; with STEPs only their blocks are changed. Where the figures in the pages were of another program,
+the blocks of all other steps become empty. Then, out of the pages, `<!-- summary -->` of bench/README.md becomes the table of what
+a reader wants to know, `<!-- program -->` the line of which program it was, when, and how busy the machine was, and
+`tools/figures --write` fills in what other documents name.
 """
 import pathlib
 import re
+import subprocess
 import sys
 
 HERE = pathlib.Path(__file__).resolve().parent
-PAGES = ["README.md", "serve/README.md", "store/README.md", "search/README.md"]
+PAGES = ["README.md", "serve/README.md", "store/README.md", "search/README.md", "../docs/DICTIONARIES.md"]
+BLOCK = r"(<!-- (\w+) -->)\n(.*?)(<!-- end -->)"
+MADE = ("summary", "program")   # blocks that are made of all others
+IN_FRAMES = ("search", "scale")   # what is printed by these is no table
 
 
 def tables(text):
@@ -36,7 +41,7 @@ class Figures:
 
     def text(self, step):
         path = self.folder / f"{step}.md"
-        return path.read_text() if path.exists() else ""
+        return path.read_text().strip() if path.exists() else ""
 
     def rows(self, step, sought):
         """The rows of the first table of which the line above or the head has the words."""
@@ -97,6 +102,9 @@ def waits(figures):
 def store(figures):
     """Rows of files: their memory, their sizes, installs and openings."""
     idle = re.findall(r"^- while nothing comes, 64 connections, (dictcat|dictd): .* s, (\d+) kB of memory", figures.text("lines"), re.M)
+    both = [figures.row("start", "A start over WordNet", who) for who in ("dictcat", "dictd")]
+    if all(both):
+        yield "a start with WordNet, until it greets, by the clock; memory then", *(f"{float(it[0]):.1f} s; {it[2]} MB" for it in both), "start"
     if len(idle) == 2:
         yield "64 connections over four lines: memory", *(f"{int(it) / 1000:.0f} MB" for _, it in idle), "lines"
     for step, sought, first, what in (
@@ -122,38 +130,70 @@ def summary(figures):
     return "\n".join(["|What|dictcat|dictd 1.13|Step|", "|---|---|---|---|", *lines])
 
 
-def program(figures):
-    lines = (figures.folder / "program").read_text().splitlines()
+PROGRAM = (r"All of one program, `(?P<version>.*)` with the sum `(?P<sum>\w+)`, clone (?P<commit>\w+), (?P<day>\d+ \w+ \d+), (?P<begin>\S+), to (?P<end>\S+), "
+           r"on (?P<machine>.*); load (?P<least>\S+) to (?P<most>\S+) by what was measured itself and what ran beside it\.")
+
+
+def program(figures, former):
+    """The line of the program; where the former line is of the same one, both runs together."""
+    total, version, begun, machine = (figures.folder / "program").read_text().splitlines()[:4]
     times = (figures.folder / "times").read_text().splitlines()
     loads = [float(it) for line in times for it in re.findall(r"load (\S+) before, (\S+) behind", line)[0]]
-    return (f"All of one program, `{lines[1]}` with the sum `{lines[0][:12]}`, {lines[2]}, to {times[-1].split()[0]}, on {lines[3]}; "
+    if former and former["sum"] == total[:12]:
+        begun = f"clone {former['commit']}, {former['day']}, {former['begin']}"
+        loads += [float(former["least"]), float(former["most"])]
+    return (f"All of one program, `{version}` with the sum `{total[:12]}`, {begun}, to {times[-1].split()[0]}, on {machine}; "
             f"load {min(loads):.1f} to {max(loads):.1f} by what was measured itself and what ran beside it.")
 
 
-def fenced(figures):
-    """What bench/search/run.sh prints, which is no table."""
-    text = figures.text("search").strip()
-    return f"```text\n{text}\n```" if text else ""
+class Pages(Figures):
+    """The figures that the pages have."""
+
+    def __init__(self):
+        self.pages = {name: (HERE / name).read_text() for name in PAGES}
+        self.blocks = {step: text.strip() for page in self.pages.values() for _, step, text, _ in re.findall(BLOCK, page, re.S)}
+
+    def text(self, step):
+        return self.blocks.get(step, "")
+
+    def program(self):
+        """Which program they are of, by the names of PROGRAM."""
+        return re.match(PROGRAM, self.text("program"))
+
+    def put(self, texts):
+        """Renews the blocks of these steps."""
+        self.blocks.update(texts)
+        for name, page in self.pages.items():
+            new = re.sub(BLOCK, lambda it: "\n".join(filter(None, [it[1], self.blocks[it[2]], it[4]])), page, flags=re.S)
+            (HERE / name).write_text(new)
 
 
-def pasted(page, figures, steps):
-    """The page with its blocks renewed."""
-    def block(found):
-        step = found[2]
-        made = {"summary": summary, "program": program, "search": fenced}.get(step, lambda it: it.text(step).strip())
-        text = made(figures) if not steps or step in steps else ""
-        return f"{found[1]}\n{text}\n{found[4]}" if text else found[0]
-    return re.sub(r"(<!-- (\w+) -->)\n(.*?)(<!-- end -->)", block, page, flags=re.S)
+def block(figures, step):
+    """What a step printed, as it stands in a page."""
+    text = figures.text(step)
+    if step == "table":
+        time = re.search(rf"^(\S+) table: .* load (\S+) before, (\S+) behind", (figures.folder / "times").read_text(), re.M)
+        day = (figures.folder / "program").read_text().splitlines()[2].split(", ")[1]
+        text = f"On {day}, to {time[1]}, at a load of {time[2]} to {time[3]}:\n\n{text}" if text else ""
+    if step == "search":
+        text = re.sub(r"^== .*/", "== ", text, flags=re.M)   # the folder of an index
+    return f"```text\n{text}\n```" if text and step in IN_FRAMES else text
 
 
 def main():
     if len(sys.argv) < 2 or sys.argv[1].startswith("-"):
         sys.exit(__doc__)
-    figures, steps = Figures(pathlib.Path(sys.argv[1])), sys.argv[2:]
-    for name in PAGES:
-        path = HERE / name
-        path.write_text(pasted(path.read_text(), figures, steps))
-    print(summary(figures))
+    figures, pages = Figures(pathlib.Path(sys.argv[1])), Pages()
+    former = pages.program()
+    steps = [step for step in pages.blocks if step not in MADE]
+    new = {step: block(figures, step) for step in steps if step in (sys.argv[2:] or steps) and figures.text(step)}
+    if former is None or former["sum"] != (figures.folder / "program").read_text()[:12]:
+        gone = [step for step in steps if pages.text(step) and step not in new]
+        print(f"of another program, and gone: {' '.join(gone) or 'nothing'}")
+        pages.put({step: "" for step in gone})
+    pages.put(new)
+    pages.put({"summary": summary(pages), "program": program(figures, former)})
+    sys.exit(subprocess.run([HERE.parent / "tools" / "figures", "--write"]).returncode)
 
 
 if __name__ == "__main__":

@@ -2,7 +2,7 @@
 # Measures the server, beside dictd where it is there: bench/serve.sh [--work FOLDER] [PROGRAM [PART..]]. PARTS: `lines` (four
 # lines, over 1, 8 and 64 connections, and what is taken while nothing comes), and those of bench/serve/dictionaries.py, over
 # dictionaries of Debian's: `kept`, `long`, `answers`, `requests`, `slowest`, `crowd`, `round`, `memory`, `idle`, `install`,
-# `growth`. Without one it is all.
+# `growth`, `start`. Without one it is all.
 # PROGRAM is dictcat; without it, the one that ./dictcat runs. Outside the gate: it needs python3, and for all but `lines` gcc,
 # dictd, dict-wn, dict-foldoc, dict-freedict-ara-eng and dict-gcide (apt-get install). FOLDER keeps what was made.
 set -euo pipefail

@@ -2,7 +2,8 @@
 # Asks an index in memory 2,000 queries over each of some dictionaries, by each strategy, and holds its four answers (entries,
 # headwords, and the counts of both) against the filter of the whole list: bench/search/compare.sh [INDEX..]
 # Without INDEX it takes every dictionary of Debian's that is installed (/usr/share/dictd), and 262,144 made lines. It says how
-# many agreed, and ends with 1 unless all did. Outside the gate: it needs python3, and some minutes for a large dictionary.
+# many agreed, and ends with 1 unless all did. COMPARE of the environment is the program, where it was built before. Outside the
+# gate: it needs python3, and some minutes for a large dictionary.
 set -e
 here=$(cd "$(dirname "$0")" && pwd)
 source "$here/build.sh"
@@ -14,7 +15,7 @@ if [[ $# -eq 0 ]]; then
     files=(/usr/share/dictd/*.index "$work/made.index")
 fi
 : > "$work/none"
-program=$(build "$work/here" compare "$work/none")
+program=${COMPARE:-$(build "$work/here" compare "$work/none")}
 echo "$(date '+%d %B %Y, %H:%M'), load $(cut -d ' ' -f 1 /proc/loadavg), commit $(git -C "$here" rev-parse --short=8 HEAD)"
 for file in "${files[@]}"; do
     if ! "$program" "$file" > "$work/told"; then

@@ -2,7 +2,7 @@
 
 PARTS: `kept` (DEFINE over 65,536 lines of 5 and of 13 MB, first and again), `long` (answers of some MB), `answers` (what both answer, compared), `requests` (the processor's time of a request), `slowest` (of 10,000 answers under 64
 connections), `crowd` (a newcomer beside readers that repeat a MATCH of 2 MB), `round` (one that asks DEFINE beside 63 that repeat the dearest MATCH of GCIDE), `memory`, `idle`, `install` (of editions by HTTP, while 32 readers ask), `growth` (the same finds over 65,536 and
-262,144 entries); without one it is all. The dictionaries are `wn`, `foldoc` and `freedict-ara-eng` of Debian's, mended for dictcat
+262,144 entries), `start` (over WordNet alone, until it greets); without one it is all. The dictionaries are `wn`, `foldoc` and `freedict-ara-eng` of Debian's, mended for dictcat
 by contrib/import-dictd and as they came, but uncompressed, for dictd 1.13; and `made`, of 262,144 lines (make_words.py), over
 which both have the same files. dictd's limits are off. CLIENT is client.c, built. WORK is a folder that stays: what is in it is not
 made again.
@@ -433,7 +433,25 @@ def long_answers(program, work):
         server.kill()
 
 
-PARTS = ("kept", "long", "answers", "requests", "slowest", "crowd", "round", "memory", "idle", "install", "growth")
+def starts(program, work):
+    """A start of each over WordNet alone, until it greets, the best of three: by the clock, of the processor, and what it holds then."""
+    chosen = {"wn": pair(program, work, "wn", NAMES["wn"])}
+    dictcat(program, work, chosen, "start.db").kill()
+    print("\n| A start over WordNet, until it greets | by the clock, s | of the processor, s | resident memory, MB |\n|---|---|---|---|")
+    for name, begin in (("dictcat", lambda: dictcat(program, work, chosen, "start.db")), ("dictd", lambda: dictd(work, chosen, PORT + 1))):
+        each = []
+        for _ in range(3):
+            begun = time.monotonic()
+            server = begin()
+            opened(server.dict_address).close()
+            took = time.monotonic() - begun
+            time.sleep(0.3)
+            each.append((took, sum(server.times().values()), server.memory()[0] / 1000))
+            server.kill()
+        print("| %s | %.2f | %.2f | %.0f |" % (name, *min(each)), flush=True)
+
+
+PARTS = ("kept", "long", "answers", "requests", "slowest", "crowd", "round", "memory", "idle", "install", "growth", "start")
 
 
 def main():
@@ -442,7 +460,7 @@ def main():
     assert all(it in PARTS for it in wanted), f"the parts are {' '.join(PARTS)}"
     work.mkdir(exist_ok=True)
     print(f"On {time.strftime('%d %B %Y, %H:%M')}, load {' '.join(f'{it:.1f}' for it in os.getloadavg())}")
-    chosen = pairs(program, work) if set(wanted) - {"kept", "long", "growth", "round"} else {}
+    chosen = pairs(program, work) if set(wanted) - {"kept", "long", "growth", "round", "start"} else {}
     (work / "in").mkdir(exist_ok=True)
     lists = {name: write(ours[0], name, work) for name, (ours, _) in chosen.items()}
     beside = [it for it in ("memory", "answers", "requests", "slowest", "crowd", "idle") if it in wanted]
@@ -466,6 +484,8 @@ def main():
         installs_while_asked(program, client, work, chosen, lists)
     if "growth" in wanted:
         growth(program, client, work)
+    if "start" in wanted:
+        starts(program, work)
     print(f"\nLoad at the end {' '.join(f'{it:.1f}' for it in os.getloadavg())}")
 
 

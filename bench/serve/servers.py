@@ -23,7 +23,7 @@ class Server:
         for pid in self.processes():
             try:
                 found[pid] = int(pathlib.Path(f"/proc/{pid}/schedstat").read_text().split()[0]) / 1e9
-            except FileNotFoundError:
+            except (FileNotFoundError, ProcessLookupError):
                 continue
         return found
 
@@ -35,7 +35,11 @@ class Server:
         """Resident memory in kilobytes, and how much of it no other process shares."""
         resident = own = 0
         for pid in self.processes():
-            for line in pathlib.Path(f"/proc/{pid}/smaps_rollup").read_text().splitlines():
+            try:
+                lines = pathlib.Path(f"/proc/{pid}/smaps_rollup").read_text().splitlines()
+            except (FileNotFoundError, ProcessLookupError):   # it has ended meanwhile
+                continue
+            for line in lines:
                 name, *rest = line.split()
                 resident += int(rest[0]) if name == "Rss:" else 0
                 own += int(rest[0]) if name.startswith("Private_") else 0
@@ -76,8 +80,8 @@ def opened(address):
 
 def started(process, address):
     """A server of another program's, once it greets."""
-    for _ in range(600):
-        time.sleep(0.1)
+    for _ in range(6000):
+        time.sleep(0.01)
         assert process.poll() is None, f"{process.args[0]} has ended"
         try:
             opened(address).close()
