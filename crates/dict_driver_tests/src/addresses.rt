@@ -1,6 +1,6 @@
 //! Addresses to which no socket can be bound.
 use crate::checks::{holds, same_text};
-use crate::serving::{FREE, Play};
+use crate::serving::{FREE, Play, Scene, start};
 use dict_driver::{AddressFault, BindFault, Driver, System};
 use std::alloc::Global;
 use std::net::{Net, SocketAddr};
@@ -39,37 +39,24 @@ fn an_address_that_is_not_read(rt: HostRuntime) -> Result<(), Fail> {
     Ok(())
 }
 
-// Addresses that are in use, and the order of two faults.
-fn are_in_use(
-    rt: &impl Abort,
-    net: &impl Net,
-    alloc: Global,
-    dict: SocketAddr,
-    http: SocketAddr,
-) -> Result<(), Fail> {
-    let text = format!(in alloc; "{dict}")?;
-    same_text(rt, told(net, alloc, &text, "none"), "dict unbound");
-    let text = format!(in alloc; "{http}")?;
-    same_text(rt, told(net, alloc, FREE, &text), "http unbound");
+// Two addresses that were bound have the ports that the system chose.
+fn are_chosen(dict: SocketAddr, http: SocketAddr) -> bool {
+    let is_loopback = dict.ip().is_loopback() && http.ip().is_loopback();
+    is_loopback && dict.port() > 0 && http.port() > 0 && dict != http
+}
+
+/// Two addresses that were bound have the ports that the system chose, and are in use; and the order of two faults.
+pub(crate) fn are_free(rt: &impl Abort, net: &impl Net, play: &Play) -> Result<(), Fail> {
+    let (dict, http) = (play.dict, play.http);
+    let text = format!(in play.alloc; "{dict}")?;
+    same_text(rt, told(net, play.alloc, &text, "none"), "dict unbound");
+    let text = format!(in play.alloc; "{http}")?;
+    same_text(rt, told(net, play.alloc, FREE, &text), "http unbound");
+    holds(rt, are_chosen(dict, http), "loopback and ports");
     Ok(())
 }
 
-// Two addresses that were bound have the ports that the system chose, and are in use.
 #[test]
 fn free_ports(rt: HostRuntime) -> Result<(), Fail> {
-    let play = Play::new(&rt, rt.alloc())?;
-    let (dict, http) = (play.dict, play.http);
-    let are_bound = are_in_use(&rt, &rt, rt.alloc(), dict, http);
-    drop(play);
-    holds(
-        &rt,
-        dict.ip().is_loopback() && http.ip().is_loopback(),
-        "loopback",
-    );
-    holds(
-        &rt,
-        dict.port() > 0 && http.port() > 0 && dict != http,
-        "ports",
-    );
-    are_bound
+    start(&rt, &rt, Scene::Ports)
 }

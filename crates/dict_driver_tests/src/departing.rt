@@ -1,7 +1,8 @@
 // Connections that are no longer open, for which much waits that their peers never take.
 ghost use Rattle.std.specs.Prelude.{None, ⊤};
 
-use crate::checks::same;
+use crate::checks::holds;
+use crate::descriptors::rounds;
 use dict_connection::{Opening, greet_by_hub, hand_by_hub};
 use dict_desk::Keeper;
 use dict_driver::{EventLoop, Sockets};
@@ -127,6 +128,16 @@ impl Sockets<Silent> for Crowd {
     }
 }
 
+// How many are open and held after 400 rounds.
+fn held_of(alloc: Global, crowd: Crowd) -> Result<(usize, usize), Fail> {
+    let mut event_loop = EventLoop::new(alloc, crowd, "localhost")?;
+    let end = rounds(&mut event_loop, &mut long_desk(alloc)?, 400);
+    let held = (event_loop.open_count(), event_loop.departing_count());
+    drop(event_loop);
+    let _busy = end?;
+    Ok(held)
+}
+
 // Of 40 that are closed with 1 MiB each, the last 32 are held, whose room is as much as may be held together.
 #[test]
 fn much_waits_for_few(rt: HostRuntime) -> Result<(), Fail> {
@@ -134,14 +145,6 @@ fn much_waits_for_few(rt: HostRuntime) -> Result<(), Fail> {
         told: Vec::new(rt.alloc()),
         left: 40,
     };
-    let mut desk = long_desk(rt.alloc())?;
-    let mut event_loop = EventLoop::new(rt.alloc(), crowd, "localhost")?;
-    for _ in 0..400u32 {
-        event_loop.round(&mut desk)?;
-    }
-    let held = (event_loop.open_count(), event_loop.departing_count());
-    drop(event_loop);
-    drop(desk);
-    same(&rt, &held, &(0, 32));
+    holds(&rt, held_of(rt.alloc(), crowd)? == (0, 32), "held");
     Ok(())
 }

@@ -8,6 +8,7 @@ use dict_driver::{EventLoop, Sockets};
 use dict_hub::{Hub, HubFault, Kind, Out};
 use dict_io::Sink;
 use dict_outlet::{Queue, Transport};
+use dict_preparing::Preparer;
 use std::alloc::{AllocError, Global};
 use std::io::{Error, ErrorKind, Result as IoResult};
 use std::test::Fail;
@@ -127,29 +128,46 @@ impl Sockets<Busy> for Few {
     }
 }
 
+/// So many rounds. In how many of them something happened.
+pub(crate) fn rounds<T: Transport, S: Sockets<T>, K: Preparer>(
+    event_loop: &mut EventLoop<'_, T, S>,
+    desk: &mut K,
+    count: u32,
+) -> Result<u32, Fail> {
+    let mut busy = 0u32;
+    for _ in 0..count {
+        if event_loop.round(desk)? {
+            busy = busy.saturating_add(1);
+        }
+    }
+    Ok(busy)
+}
+
 // How many are open after this many rounds, in each of which something happened.
-fn open_after(alloc: Global, rounds: u32) -> Result<usize, Fail> {
+fn open_after(alloc: Global, count: u32) -> Result<usize, Fail> {
     let few = Few {
         told: Vec::new(alloc),
         found: 1,
         missed: 5,
     };
-    let mut desk = PlainDesk::new(alloc);
     let mut event_loop = EventLoop::new(alloc, few, "localhost")?;
-    for _ in 0..rounds {
-        if !event_loop.round(&mut desk)? {
-            return Err(Fail::new("idle"));
-        }
+    let busy = rounds(&mut event_loop, &mut PlainDesk::new(alloc), count);
+    let open = event_loop.open_count();
+    drop(event_loop);
+    if busy? == count {
+        Ok(open)
+    } else {
+        Err(Fail::new("idle"))
     }
-    Ok(event_loop.open_count())
 }
 
-// A call that finds none is the last of its round, and each round asks again.
+// After so many rounds so many are open. A call that finds none is the last of its round, and each round asks again.
+static OPEN: [(u32, usize); 4] = [(1, 1), (5, 1), (6, 17), (7, 33)];
+
 #[test]
 fn descriptors_come_back(rt: HostRuntime) -> Result<(), Fail> {
-    same(&rt, &open_after(rt.alloc(), 1)?, &1);
-    same(&rt, &open_after(rt.alloc(), 5)?, &1);
-    same(&rt, &open_after(rt.alloc(), 6)?, &17);
-    same(&rt, &open_after(rt.alloc(), 7)?, &33);
+    for (count, open) in &OPEN {
+        same(&rt, &open_after(rt.alloc(), *count)?, open);
+    }
     Ok(())
 }

@@ -1,7 +1,9 @@
 // Peers that don't read, and peers that end their side early.
-use crate::serving::{Part, Play, Step, run_all};
+use crate::checks::holds;
+use crate::serving::{Part, Play, Scene, Step, start};
 use dict_hub_fixtures::short_desk;
 use std::net::{Net, TcpStream};
+use std::process::Abort;
 use std::test::Fail;
 
 const FIRST: &str = "220 localhost dictcat ready <1@localhost>\r\n";
@@ -70,19 +72,26 @@ fn drown_and_ask(
     Ok((less.saturating_mul(ANSWER), read_to_the_end(play)?))
 }
 
-#[test]
-fn a_peer_that_never_reads(rt: HostRuntime) -> Result<(), Fail> {
-    let mut play = Play::new(&rt, rt.alloc())?;
-    play.desk = short_desk(rt.alloc())?;
-    let asked = drown_and_ask(&rt, &mut play);
-    drop(play);
-    let (due, came) = asked?;
-    assert!(rt; came > 1_048_576 && came == due);
+/// It has a catalogue of one entry.
+pub(crate) fn be_drowned(
+    rt: &impl Abort,
+    net: &impl Net<Stream = TcpStream>,
+    play: &mut Play,
+) -> Result<(), Fail> {
+    play.desk = short_desk(play.alloc)?;
+    let (due, came) = drown_and_ask(net, play)?;
+    holds(rt, came > 1_048_576, "more than 1 MiB");
+    holds(rt, came == due, "every answer");
     Ok(())
 }
 
+#[test]
+fn a_peer_that_never_reads(rt: HostRuntime) -> Result<(), Fail> {
+    start(&rt, &rt, Scene::Drowned)
+}
+
 // A client that ends its side behind its last line gets the answer.
-static AN_END_BEHIND_THE_LAST_LINE: [Step; 7] = [
+const AN_END_BEHIND_THE_LAST_LINE: &[Step] = &[
     Step::Reader,
     Step::Got(0, FIRST),
     Step::Send(0, "STATUS\r\nSTATUS\r\nunfinished"),
@@ -93,7 +102,7 @@ static AN_END_BEHIND_THE_LAST_LINE: [Step; 7] = [
 ];
 
 // An editor that sends on behind a request gets its answer whole, and a clean end.
-static OCTETS_BEHIND_A_REQUEST: [Step; 9] = [
+const OCTETS_BEHIND_A_REQUEST: &[Step] = &[
     Step::Editor,
     Step::Send(0, "GET /databases HTTP/1.1\r\n\r\n"),
     Step::Fill(0),
@@ -110,6 +119,10 @@ static OCTETS_BEHIND_A_REQUEST: [Step; 9] = [
 
 #[test]
 fn octets_and_an_end(rt: HostRuntime) -> Result<(), Fail> {
-    run_all(&rt, &[Part(1, &AN_END_BEHIND_THE_LAST_LINE)])?;
-    run_all(&rt, &[Part(1, &OCTETS_BEHIND_A_REQUEST)])
+    start(
+        &rt,
+        &rt,
+        Scene::Parts(&[Part(1, AN_END_BEHIND_THE_LAST_LINE)]),
+    )?;
+    start(&rt, &rt, Scene::Parts(&[Part(1, OCTETS_BEHIND_A_REQUEST)]))
 }

@@ -1,8 +1,9 @@
 // One reader's many commands beside another's one.
 use crate::checks::same;
-use crate::serving::{Play, Step};
+use crate::serving::{Play, Scene, Step, start};
 use std::alloc::Global;
 use std::net::{Net, TcpStream};
+use std::process::Abort;
 use std::test::Fail;
 use std::time::Duration;
 
@@ -38,16 +39,21 @@ fn beside_many(
     Ok((first, second, play.client(0)?.read()?))
 }
 
-// Of 290 requests in one piece two are answered after three rounds, and so is that of the second reader. In the end all are.
+/// Of 290 requests in one piece two are answered after three rounds, and so is that of the second reader. In the end all are.
+pub(crate) fn be_beside_many(
+    rt: &impl Abort,
+    net: &impl Net<Stream = TcpStream>,
+    play: &mut Play,
+) -> Result<(), Fail> {
+    let requests = many(play.alloc, 290)?;
+    let (first, second, whole) = beside_many(net, play, requests.as_slice())?;
+    same(rt, &first, &34);
+    same(rt, &second, &17);
+    same(rt, &whole, &4_930);
+    Ok(())
+}
+
 #[test]
 fn many_commands_at_once(rt: HostRuntime) -> Result<(), Fail> {
-    let mut play = Play::new(&rt, rt.alloc())?;
-    let requests = many(rt.alloc(), 290)?;
-    let came = beside_many(&rt, &mut play, requests.as_slice());
-    drop(play);
-    let (first, second, whole) = came?;
-    same(&rt, &first, &34);
-    same(&rt, &second, &17);
-    same(&rt, &whole, &4_930);
-    Ok(())
+    start(&rt, &rt, Scene::Beside)
 }

@@ -1,5 +1,5 @@
 // As many connections as there may be, and more.
-use crate::serving::{Part, Step, run_all};
+use crate::serving::{Part, Scene, Step, start};
 use std::test::Fail;
 
 // 64 are open at once, and the next is closed at once. After one has left, there is a place again, and its id wasn't given.
@@ -36,7 +36,7 @@ static GONE: [Part; 2] = [
 
 #[test]
 fn as_many_as_there_may_be(rt: HostRuntime) -> Result<(), Fail> {
-    run_all(&rt, &THE_SIXTY_FIFTH)?;
-    run_all(&rt, &ANSWERED)?;
-    run_all(&rt, &GONE)
+    start(&rt, &rt, Scene::Parts(&THE_SIXTY_FIFTH))?;
+    start(&rt, &rt, Scene::Parts(&ANSWERED))?;
+    start(&rt, &rt, Scene::Parts(&GONE))
 }

@@ -1,13 +1,14 @@
 // Many that wait at the listening sockets as a round begins.
 use crate::checks::same;
-use crate::serving::Play;
+use crate::serving::{Play, Scene, start};
 use std::alloc::Global;
 use std::net::{Net, TcpStream};
+use std::process::Abort;
 use std::test::Fail;
 
 // One round. How many connections are open after it.
 fn round(play: &mut Play) -> Result<usize, Fail> {
-    play.driver.event_loop.round(&mut play.desk)?;
+    play.round()?;
     Ok(play.driver.event_loop.open_count())
 }
 
@@ -39,14 +40,21 @@ fn come_at_once(
     Ok((first, second))
 }
 
-// Of 20 readers 16 are taken in one round and 4 in the next, in the order in which they came.
+/// Of 20 readers 16 are taken in one round and 4 in the next, in the order in which they came.
+pub(crate) fn be_twenty(
+    rt: &impl Abort,
+    net: &impl Net<Stream = TcpStream>,
+    play: &mut Play,
+) -> Result<(), Fail> {
+    let (first, second) = come_at_once(net, play, play.alloc, 20)?;
+    same(rt, &first, &16);
+    same(rt, &second, &20);
+    Ok(())
+}
+
 #[test]
 fn twenty_readers(rt: HostRuntime) -> Result<(), Fail> {
-    let mut play = Play::new(&rt, rt.alloc())?;
-    let opened = come_at_once(&rt, &mut play, rt.alloc(), 20);
-    drop(play);
-    same(&rt, &opened?, &(16, 20));
-    Ok(())
+    start(&rt, &rt, Scene::Twenty)
 }
 
 // Three editors and then three readers come: how many are open after one round.
@@ -66,12 +74,18 @@ fn come_of_both(net: &impl Net<Stream = TcpStream>, play: &mut Play) -> Result<u
     Ok(open)
 }
 
-// All are taken in one round, the readers before the editors.
+/// All are taken in one round, the readers before the editors.
+pub(crate) fn be_of_both(
+    rt: &impl Abort,
+    net: &impl Net<Stream = TcpStream>,
+    play: &mut Play,
+) -> Result<(), Fail> {
+    let open = come_of_both(net, play)?;
+    same(rt, &open, &6);
+    Ok(())
+}
+
 #[test]
 fn readers_before_editors(rt: HostRuntime) -> Result<(), Fail> {
-    let mut play = Play::new(&rt, rt.alloc())?;
-    let open = come_of_both(&rt, &mut play);
-    drop(play);
-    same(&rt, &open?, &6);
-    Ok(())
+    start(&rt, &rt, Scene::OfBoth)
 }

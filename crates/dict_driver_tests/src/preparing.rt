@@ -1,8 +1,9 @@
 // An install that is prepared between rounds: the octets that complete it are held back meanwhile.
-use crate::checks::same;
-use crate::serving::{Play, Step};
+use crate::checks::holds;
+use crate::serving::{Play, Scene, Step, start};
 use dict_hub_fixtures::{HEAD, PartsDesk};
 use std::net::{Net, TcpStream};
+use std::process::Abort;
 use std::test::Fail;
 
 const FIRST: &str = "220 localhost dictcat ready <1@localhost>\r\n";
@@ -38,7 +39,7 @@ fn prepare_all(play: &mut Play, desk: &mut PartsDesk) -> Result<(), Fail> {
     play.client(1)?.fill()?;
     play.client(2)?.send(b"GET /databases HTTP/1.1\r\n\r\n")?;
     for _ in 0..100u32 {
-        play.driver.event_loop.round(desk)?;
+        play.round_over(desk)?;
         if desk.expected > 0 && desk.left == 0 {
             return Ok(());
         }
@@ -49,7 +50,7 @@ fn prepare_all(play: &mut Play, desk: &mut PartsDesk) -> Result<(), Fail> {
 // Rounds until nothing happens.
 fn settle(play: &mut Play, desk: &mut PartsDesk) -> Result<(), Fail> {
     for _ in 0..1_000u32 {
-        if !play.driver.event_loop.round(desk)? {
+        if !play.round_over(desk)? {
             return Ok(());
         }
     }
@@ -68,7 +69,7 @@ fn be_between(
     net: &impl Net<Stream = TcpStream>,
     play: &mut Play,
     desk: &mut PartsDesk,
-) -> Result<usize, Fail> {
+) -> Result<bool, Fail> {
     gather(net, play)?;
     prepare_all(play, desk)?;
     play.client(0)?.got(EMPTY.as_bytes())?;
@@ -77,20 +78,12 @@ fn be_between(
     settle(play, desk)?;
     play.client(1)?.got(INSTALLED.as_bytes())?;
     ask(play, desk, ONE)?;
-    Ok(play.client(2)?.read()?)
+    Ok(play.client(2)?.read()? > 0)
 }
 
 #[test]
 fn a_reader_between(rt: HostRuntime) -> Result<(), Fail> {
-    let mut play = Play::new(&rt, rt.alloc())?;
-    let mut desk = PartsDesk::new(rt.alloc(), 3);
-    let came = be_between(&rt, &mut play, &mut desk);
-    let counts = (desk.expected, desk.applied);
-    drop(play);
-    drop(desk);
-    same(&rt, &(came? > 0), &true);
-    same(&rt, &counts, &(1, 1));
-    Ok(())
+    start(&rt, &rt, Scene::Between)
 }
 
 // The other editor and then the one whose install is prepared are gone before it is done.
@@ -98,27 +91,20 @@ fn leave_meanwhile(
     net: &impl Net<Stream = TcpStream>,
     play: &mut Play,
     desk: &mut PartsDesk,
-) -> Result<(), Fail> {
+) -> Result<bool, Fail> {
     gather(net, play)?;
     prepare_all(play, desk)?;
     play.leave();
     play.leave();
     settle(play, desk)?;
     play.client(0)?.got(EMPTY.as_bytes())?;
-    ask(play, desk, ONE)
+    ask(play, desk, ONE)?;
+    Ok(true)
 }
 
 #[test]
 fn an_editor_that_leaves(rt: HostRuntime) -> Result<(), Fail> {
-    let mut play = Play::new(&rt, rt.alloc())?;
-    let mut desk = PartsDesk::new(rt.alloc(), 3);
-    let end = leave_meanwhile(&rt, &mut play, &mut desk);
-    let counts = (desk.expected, desk.applied);
-    drop(play);
-    drop(desk);
-    end?;
-    same(&rt, &counts, &(1, 1));
-    Ok(())
+    start(&rt, &rt, Scene::Leaving)
 }
 
 const FOURTH: &str = "220 localhost dictcat ready <4@localhost>\r\n";
@@ -133,7 +119,7 @@ fn come_meanwhile(
     play.client(1)?.fill()?;
     for _ in 0..100u32 {
         if desk.expected == 0 {
-            play.driver.event_loop.round(desk)?;
+            play.round_over(desk)?;
         }
     }
     play.come(net, play.http)?;
@@ -142,7 +128,7 @@ fn come_meanwhile(
     play.client(4)?.send(b"GET /databases HTTP/1.1\r\n\r\n")?;
     play.come(net, play.dict)?;
     for _ in 0..100u32 {
-        play.driver.event_loop.round(desk)?;
+        play.round_over(desk)?;
     }
     play.client(5)?.got(FOURTH.as_bytes())?;
     play.client(3)?.got(b"")?;
@@ -164,15 +150,41 @@ fn come_in(
     Ok(open == 4 && is_preparing && third > 0 && fourth > 0)
 }
 
+fn by_scene(
+    net: &impl Net<Stream = TcpStream>,
+    play: &mut Play,
+    desk: &mut PartsDesk,
+    scene: Scene,
+) -> Result<bool, Fail> {
+    match scene {
+        Scene::Coming => come_in(net, play, desk),
+        Scene::Leaving => leave_meanwhile(net, play, desk),
+        _ => be_between(net, play, desk),
+    }
+}
+
+/// One install is expected and applied, over a desk that prepares it in so many parts.
+pub(crate) fn be_prepared(
+    rt: &impl Abort,
+    net: &impl Net<Stream = TcpStream>,
+    play: &mut Play,
+    scene: Scene,
+) -> Result<(), Fail> {
+    let each = if matches!(scene, Scene::Coming) {
+        300
+    } else {
+        3
+    };
+    let mut desk = PartsDesk::new(play.alloc, each);
+    let is_so = by_scene(net, play, &mut desk, scene);
+    let is_one = desk.expected == 1 && desk.applied == 1;
+    drop(desk);
+    holds(rt, is_so?, "answers");
+    holds(rt, is_one, "one install");
+    Ok(())
+}
+
 #[test]
 fn an_editor_that_comes(rt: HostRuntime) -> Result<(), Fail> {
-    let mut play = Play::new(&rt, rt.alloc())?;
-    let mut desk = PartsDesk::new(rt.alloc(), 300);
-    let is_so = come_in(&rt, &mut play, &mut desk);
-    let counts = (desk.expected, desk.applied);
-    drop(play);
-    drop(desk);
-    same(&rt, &is_so?, &true);
-    same(&rt, &counts, &(1, 1));
-    Ok(())
+    start(&rt, &rt, Scene::Coming)
 }

@@ -1,8 +1,9 @@
 // So many rounds, one after another.
-use crate::checks::same;
-use crate::serving::{Play, Step};
+use crate::checks::holds;
+use crate::serving::{Play, Scene, Step, start};
 use dict_driver::{Served, pace};
 use std::net::{Net, TcpStream};
+use std::process::Abort;
 use std::test::Fail;
 
 // They are counted: how many there were, or none where they weren't made.
@@ -23,11 +24,17 @@ fn count_three(net: &impl Net<Stream = TcpStream>, play: &mut Play) -> Result<u6
     Ok(if end == Served::Whole { made } else { 0 })
 }
 
+pub(crate) fn be_counted(
+    rt: &impl Abort,
+    net: &impl Net<Stream = TcpStream>,
+    play: &mut Play,
+) -> Result<(), Fail> {
+    let counted = count_three(net, play)?;
+    holds(rt, counted == 3, "three");
+    Ok(())
+}
+
 #[test]
 fn three_rounds(rt: HostRuntime) -> Result<(), Fail> {
-    let mut play = Play::new(&rt, rt.alloc())?;
-    let counted = count_three(&rt, &mut play);
-    drop(play);
-    same(&rt, &counted?, &3);
-    Ok(())
+    start(&rt, &rt, Scene::Counted)
 }

@@ -1,10 +1,13 @@
 // A driver over a catalogue in memory, and clients of it, in one thread, by steps that are written down as data.
 use crate::client::Client;
+use crate::{addresses, ends, fair, newcomers, preparing, rounds, talks};
 use dict_desk::PlainDesk;
 use dict_driver::{Driver, Served, System, serve};
+use dict_hub_fixtures::PartsDesk;
 use std::alloc::Global;
 use std::io::Result as IoResult;
 use std::net::{Net, SocketAddr, TcpStream};
+use std::process::Abort;
 use std::test::Fail;
 use std::time::Duration;
 
@@ -43,16 +46,54 @@ pub(crate) enum Step {
 #[derive(Clone, Copy)]
 pub(crate) struct Part(pub(crate) u32, pub(crate) &'static [Step]);
 
-/// These steps of a new driver.
-pub(crate) fn run_all(rt: &HostRuntime, parts: &[Part]) -> Result<(), Fail> {
+/// What is done with a new driver and its clients. One function owns them, and hands them to the run.
+#[derive(Clone, Copy)]
+pub(crate) enum Scene {
+    /// These steps.
+    Parts(&'static [Part]),
+    Drowned,
+    Beside,
+    Ports,
+    Twenty,
+    OfBoth,
+    Between,
+    Leaving,
+    Coming,
+    Counted,
+    Idle,
+}
+
+fn play_scene(
+    test: &impl Abort,
+    rt: &HostRuntime,
+    play: &mut Play,
+    scene: Scene,
+) -> Result<(), Fail> {
+    match scene {
+        Scene::Parts(parts) => play.run_parts(rt, parts),
+        Scene::Drowned => ends::be_drowned(test, rt, play),
+        Scene::Beside => fair::be_beside_many(test, rt, play),
+        Scene::Ports => addresses::are_free(test, rt, play),
+        Scene::Twenty => newcomers::be_twenty(test, rt, play),
+        Scene::OfBoth => newcomers::be_of_both(test, rt, play),
+        Scene::Between | Scene::Leaving | Scene::Coming => {
+            preparing::be_prepared(test, rt, play, scene)
+        }
+        Scene::Counted => rounds::be_counted(test, rt, play),
+        Scene::Idle => talks::be_idle(rt, play),
+    }
+}
+
+/// Does it.
+pub(crate) fn start(test: &impl Abort, rt: &HostRuntime, scene: Scene) -> Result<(), Fail> {
     let mut play = Play::new(rt, rt.alloc())?;
-    play.run_parts(rt, parts)
+    play_scene(test, rt, &mut play, scene)
 }
 
 /// A driver at two free ports of loopback over a catalogue in memory, and clients.
 #[derive(Drop)]
 pub(crate) struct Play {
-    alloc: Global,
+    pub(crate) alloc: Global,
     pub(crate) driver: Driver<'static>,
     pub(crate) desk: PlainDesk,
     pub(crate) dict: SocketAddr,
@@ -75,10 +116,20 @@ impl Play {
         })
     }
 
+    /// One round. Whether something happened.
+    pub(crate) fn round(&mut self) -> Result<bool, Fail> {
+        Ok(self.driver.event_loop.round(&mut self.desk)?)
+    }
+
+    /// One round over another desk.
+    pub(crate) fn round_over(&mut self, desk: &mut PartsDesk) -> Result<bool, Fail> {
+        Ok(self.driver.event_loop.round(desk)?)
+    }
+
     /// Rounds until nothing happens.
     pub(crate) fn settle(&mut self) -> Result<(), Fail> {
         for _ in 0..100_000u32 {
-            if !self.driver.event_loop.round(&mut self.desk)? {
+            if !self.round()? {
                 return Ok(());
             }
         }

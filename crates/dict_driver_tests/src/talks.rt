@@ -1,5 +1,5 @@
 // Readers and editors at one driver.
-use crate::serving::{Part, Play, Step, run_all};
+use crate::serving::{Part, Play, Scene, Step, start};
 use std::net::{Net, TcpStream};
 use std::test::Fail;
 use std::time::Duration;
@@ -20,7 +20,7 @@ const FOUND: &str =
 const UNKNOWN: &str = "550 invalid database\r\n";
 
 // An install between two pieces of a reader's line.
-static BETWEEN_TWO_PIECES: [Step; 19] = [
+const BETWEEN_TWO_PIECES: &[Step] = &[
     Step::Reader,
     Step::Got(0, FIRST),
     Step::Editor,
@@ -43,7 +43,7 @@ static BETWEEN_TWO_PIECES: [Step; 19] = [
 ];
 
 // The same with the whole line before the install. Both kinds of connections are counted by one row of ids.
-static BEFORE_AN_INSTALL: [Step; 11] = [
+const BEFORE_AN_INSTALL: &[Step] = &[
     Step::Editor,
     Step::Reader,
     Step::Got(1, SECOND),
@@ -59,8 +59,8 @@ static BEFORE_AN_INSTALL: [Step; 11] = [
 
 #[test]
 fn an_install_and_a_session(rt: HostRuntime) -> Result<(), Fail> {
-    run_all(&rt, &[Part(1, &BETWEEN_TWO_PIECES)])?;
-    run_all(&rt, &[Part(1, &BEFORE_AN_INSTALL)])
+    start(&rt, &rt, Scene::Parts(&[Part(1, BETWEEN_TWO_PIECES)]))?;
+    start(&rt, &rt, Scene::Parts(&[Part(1, BEFORE_AN_INSTALL)]))
 }
 
 const ASK: Step = Step::Send(1, "STATUS\r\n");
@@ -70,7 +70,7 @@ const ANSWER: Step = Step::Got(1, "210 0 databases\r\n");
 const NONE: Step = Step::Got(0, "");
 
 // A line that comes by an octet a round is answered once it is whole, and another connection meanwhile.
-static AN_OCTET_A_ROUND: [Step; 29] = [
+const AN_OCTET_A_ROUND: &[Step] = &[
     Step::Reader,
     Step::Reader,
     Step::Got(0, FIRST),
@@ -104,12 +104,12 @@ static AN_OCTET_A_ROUND: [Step; 29] = [
 
 #[test]
 fn an_octet_a_round(rt: HostRuntime) -> Result<(), Fail> {
-    run_all(&rt, &[Part(1, &AN_OCTET_A_ROUND)])
+    start(&rt, &rt, Scene::Parts(&[Part(1, AN_OCTET_A_ROUND)]))
 }
 
 // An edition of 6,283,370 octets, of an index of 16,356 lines and a text of almost 4 MiB, comes in pieces of 4,096, and a
 // reader asks between them.
-static BEFORE_THE_PIECES: [Step; 4] = [
+const BEFORE_THE_PIECES: &[Step] = &[
     Step::Reader,
     Step::Got(0, FIRST),
     Step::Editor,
@@ -119,45 +119,44 @@ static BEFORE_THE_PIECES: [Step; 4] = [
     ),
 ];
 
-static A_PIECE_OF_THE_INDEX: [Step; 3] = [
+const A_PIECE_OF_THE_INDEX: &[Step] = &[
     Step::Send(0, "DEFINE gem opal\r\n"),
     Step::Got(0, UNKNOWN),
     Step::FillIndex(1),
 ];
 
-static BETWEEN_THE_PIECES: [Step; 2] = [
+const BETWEEN_THE_PIECES: &[Step] = &[
     Step::Send(1, "00-database-short\n  Gems\nopal\n  a stone\n.dot\n"),
     Step::Got(1, ""),
 ];
 
-static A_PIECE_OF_THE_TEXT: [Step; 3] = [
+const A_PIECE_OF_THE_TEXT: &[Step] = &[
     Step::Send(0, "DEFINE gem opal\r\n"),
     Step::Got(0, UNKNOWN),
     Step::Fill(1),
 ];
 
-static AFTER_THE_PIECES: [Step; 3] = [
+const AFTER_THE_PIECES: &[Step] = &[
     Step::Got(1, INSTALLED),
     Step::Send(0, "DEFINE gem opal\r\n"),
     Step::Got(0, FOUND),
 ];
 
+static IN_PIECES: [Part; 5] = [
+    Part(1, BEFORE_THE_PIECES),
+    Part(511, A_PIECE_OF_THE_INDEX),
+    Part(1, BETWEEN_THE_PIECES),
+    Part(1_023, A_PIECE_OF_THE_TEXT),
+    Part(1, AFTER_THE_PIECES),
+];
+
 #[test]
 fn an_install_in_pieces(rt: HostRuntime) -> Result<(), Fail> {
-    run_all(
-        &rt,
-        &[
-            Part(1, &BEFORE_THE_PIECES),
-            Part(511, &A_PIECE_OF_THE_INDEX),
-            Part(1, &BETWEEN_THE_PIECES),
-            Part(1_023, &A_PIECE_OF_THE_TEXT),
-            Part(1, &AFTER_THE_PIECES),
-        ],
-    )
+    start(&rt, &rt, Scene::Parts(&IN_PIECES))
 }
 
-// Where nothing comes, nothing happens in a round, and a wait ends.
-fn be_idle(net: &impl Net<Stream = TcpStream>, play: &mut Play) -> Result<(), Fail> {
+/// Where nothing comes, nothing happens in a round, and a wait ends.
+pub(crate) fn be_idle(net: &impl Net<Stream = TcpStream>, play: &mut Play) -> Result<(), Fail> {
     play.settle()?;
     play.driver.event_loop.wait(Duration::from_millis(10))?;
     play.run(net, &[Step::Reader, Step::Got(0, FIRST)])?;
@@ -171,6 +170,5 @@ fn be_idle(net: &impl Net<Stream = TcpStream>, play: &mut Play) -> Result<(), Fa
 
 #[test]
 fn an_idle_round(rt: HostRuntime) -> Result<(), Fail> {
-    let mut play = Play::new(&rt, rt.alloc())?;
-    be_idle(&rt, &mut play)
+    start(&rt, &rt, Scene::Idle)
 }

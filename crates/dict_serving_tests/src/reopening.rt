@@ -1,5 +1,5 @@
 //! A session that meets a failed store, and answers once the catalogue is opened anew.
-use crate::checks::same;
+use crate::checks::holds;
 use crate::clients::Client;
 use crate::disks::Disks;
 use dict_driver::{Driver, System};
@@ -31,14 +31,69 @@ const INSTALLED: &[u8] =
 
 const FOUND: &[u8] = b"150 1 definitions retrieved\r\n151 \"b\" a \"A\"\r\nc\r\n.\r\n250 ok\r\n";
 
-// So many rounds over the desk that is opened, which is closed after them.
+/// A step of the run, of a reader and of an editor.
+#[derive(Clone, Copy)]
+enum Step {
+    /// An editor connects.
+    Come,
+    /// The editor goes.
+    Leave,
+    /// So many rounds over the desk that is opened, which is closed after them.
+    Serve(u64),
+    /// The editor sends this, or the reader.
+    Send(bool, &'static [u8]),
+    /// This alone has come to the editor, or to the reader.
+    Poll(bool, &'static [u8]),
+}
+
+// The editor's install meets the failure, in the middle of a line of the reader. The install that is sent again is done. The reader
+// is told that nothing was installed before, and then finds the entry.
+static STEPS: [Step; 17] = [
+    Step::Serve(2),
+    Step::Poll(false, GREETING),
+    Step::Come,
+    Step::Send(true, PUT),
+    Step::Send(false, b"DEFINE a b"),
+    Step::Serve(3),
+    Step::Poll(true, UNAVAILABLE),
+    Step::Send(false, b"\r\n"),
+    Step::Leave,
+    Step::Come,
+    Step::Send(true, PUT),
+    Step::Serve(3),
+    Step::Poll(false, b"550 invalid database\r\n"),
+    Step::Poll(true, INSTALLED),
+    Step::Send(false, b"DEFINE a b\r\n"),
+    Step::Serve(3),
+    Step::Poll(false, FOUND),
+];
+
+/// A reader, and an editor who comes and goes.
+#[derive(Drop)]
+struct Both {
+    reader: Client,
+    editor: Option<Client>,
+}
+
+impl Both {
+    fn client(&mut self, is_editor: bool) -> Result<&mut Client, Fail> {
+        if !is_editor {
+            return Ok(&mut self.reader);
+        }
+        match &mut self.editor {
+            Some(editor) => Ok(editor),
+            None => Err(Fail::new("no editor")),
+        }
+    }
+}
+
 fn serve<K: Preparer + Drop, W: DeskOpener<K>>(
     desks: &mut W,
     driver: &mut Driver,
     rounds: u64,
 ) -> Result<(), Fail> {
     let Ok(desk) = desks.open(PATH) else {
-        return Err("not opened")?;
+        return Err(Fail::new("not opened"));
     };
     let wait = Duration::from_millis(20);
     match serve_rounds(desks, PATH, driver, desk, rounds, wait) {
@@ -46,56 +101,26 @@ fn serve<K: Preparer + Drop, W: DeskOpener<K>>(
             let _ = desks.close(desk);
             Ok(())
         }
-        Err(_) => Err("serving failed")?,
+        Err(_) => Err(Fail::new("serving failed")),
     }
 }
 
-// An editor's install meets the failure, in the middle of a line of the reader.
-fn fail_an_install<K: Preparer + Drop, W: DeskOpener<K>>(
-    desks: &mut W,
-    driver: &mut Driver,
-    reader: &mut Client,
-    editor: &mut Client,
-) -> Result<(), Fail> {
-    editor.send(PUT)?;
-    reader.send(b"DEFINE a b")?;
-    serve(desks, driver, 3)?;
-    editor.poll(UNAVAILABLE)?;
-    reader.send(b"\r\n")
-}
-
-// The install that is sent again is done. The reader is told that nothing was installed before, and then finds the entry.
-fn install_again<K: Preparer + Drop, W: DeskOpener<K>>(
-    desks: &mut W,
-    driver: &mut Driver,
-    reader: &mut Client,
-    editor: &mut Client,
-) -> Result<(), Fail> {
-    editor.send(PUT)?;
-    serve(desks, driver, 3)?;
-    reader.poll(b"550 invalid database\r\n")?;
-    editor.poll(INSTALLED)?;
-    reader.send(b"DEFINE a b\r\n")?;
-    serve(desks, driver, 3)?;
-    reader.poll(FOUND)
-}
-
-// What is done by an editor who connects now, beside a reader.
-fn by_an_editor<N: Net<Stream = TcpStream>, K: Preparer + Drop, W: DeskOpener<K>>(
+fn take_step<N: Net<Stream = TcpStream>, K: Preparer + Drop, W: DeskOpener<K>>(
     net: &N,
     alloc: Global,
     desks: &mut W,
     driver: &mut Driver,
-    reader: &mut Client,
-    is_again: bool,
+    both: &mut Both,
+    step: Step,
 ) -> Result<(), Fail> {
-    let (_, http) = driver.addresses();
-    let mut editor = Client::new(net, alloc, http)?;
-    if is_again {
-        install_again(desks, driver, reader, &mut editor)
-    } else {
-        fail_an_install(desks, driver, reader, &mut editor)
+    match step {
+        Step::Come => both.editor = Some(Client::new(net, alloc, driver.addresses().1)?),
+        Step::Leave => both.editor = None,
+        Step::Serve(rounds) => serve(desks, driver, rounds)?,
+        Step::Send(is_editor, octets) => both.client(is_editor)?.send(octets)?,
+        Step::Poll(is_editor, octets) => both.client(is_editor)?.poll(octets)?,
     }
+    Ok(())
 }
 
 // A reader's session is open, and goes on over the catalogue that is opened anew after the failure.
@@ -104,12 +129,12 @@ fn go_on<N: Net<Stream = TcpStream>, K: Preparer + Drop, W: DeskOpener<K>>(
     alloc: Global,
     desks: &mut W,
     driver: &mut Driver,
-    reader: &mut Client,
+    both: &mut Both,
 ) -> Result<(), Fail> {
-    serve(desks, driver, 2)?;
-    reader.poll(GREETING)?;
-    by_an_editor(net, alloc, desks, driver, reader, false)?;
-    by_an_editor(net, alloc, desks, driver, reader, true)
+    for one in &STEPS {
+        take_step(net, alloc, desks, driver, both, *one)?;
+    }
+    Ok(())
 }
 
 fn meet_a_failure<N: Net<Stream = TcpStream>, K: Preparer + Drop, W: DeskOpener<K>>(
@@ -119,12 +144,15 @@ fn meet_a_failure<N: Net<Stream = TcpStream>, K: Preparer + Drop, W: DeskOpener<
     driver: &mut Driver,
 ) -> Result<(), Fail> {
     let (dict, _) = driver.addresses();
-    let mut reader = Client::new(net, alloc, dict)?;
-    go_on(net, alloc, desks, driver, &mut reader)
+    let mut both = Both {
+        reader: Client::new(net, alloc, dict)?,
+        editor: None,
+    };
+    go_on(net, alloc, desks, driver, &mut both)
 }
 
 // The same over a new server.
-fn meet_a_failure_anew<'w, K: Preparer + Drop, W: DeskOpener<K>>(
+fn meet_a_failure_anew<K: Preparer + Drop, W: DeskOpener<K>>(
     rt: &HostRuntime,
     alloc: Global,
     desks: &mut W,
@@ -152,6 +180,6 @@ fn a_session_outlives_a_failed_store(rt: HostRuntime) -> Result<(), Fail> {
         log: Fuse::new(Memory::new(alloc), 40),
         db: Fuse::new(Memory::new(alloc), u64::MAX),
     };
-    same(&rt, &outlived(&rt, alloc, files)?, &1);
+    holds(&rt, outlived(&rt, alloc, files)? == 1, "once");
     Ok(())
 }

@@ -1,90 +1,129 @@
-//! The runs, each over memory and over two files that memory holds.
+//! The runs, each over memory, and two of them over two files that memory holds too. What is run stands in functions over any store.
 
-use crate::{inside, keyed, old, older, plain};
+use crate::{headers, inside, keyed, old, older, parts, plain};
 use dict_sql_checks::{close, open};
-use sqlite::{Connection, Files};
+use sqlite::{Alter, Connection, Files};
 use sqlite_disk::{Disk, Memory};
 use std::alloc::Global;
 use std::process::Abort;
 use std::test::Fail;
 
+/// What is done over a connection.
+#[derive(Clone, Copy)]
+enum Run {
+    Fill,
+    DropAndLook,
+    Inside,
+    Older,
+    Keyed,
+    Old,
+    Headers,
+    Parts,
+}
+
+fn run_one<S: Alter>(
+    rt: &impl Abort,
+    alloc: Global,
+    conn: &mut Connection<S>,
+    run: Run,
+) -> Result<(), Fail> {
+    match run {
+        Run::Fill => plain::fill(rt, alloc, conn),
+        Run::DropAndLook => plain::drop_and_look(rt, conn),
+        Run::Inside => inside::run(rt, alloc, conn),
+        Run::Older => older::run(rt, alloc, conn),
+        Run::Keyed => keyed::run(rt, alloc, conn),
+        Run::Old => old::run(rt, alloc, conn),
+        Run::Headers => headers::run(rt, alloc, conn),
+        Run::Parts => parts::run(rt, alloc, conn),
+    }
+}
+
+// One after another.
+fn run_all<S: Alter>(
+    rt: &impl Abort,
+    alloc: Global,
+    conn: &mut Connection<S>,
+    runs: &[Run],
+) -> Result<(), Fail> {
+    for one in runs {
+        run_one(rt, alloc, conn, *one)?;
+    }
+    Ok(())
+}
+
+fn over_memory(rt: &impl Abort, alloc: Global, runs: &[Run]) -> Result<(), Fail> {
+    let mut conn = Connection::open_in_memory(alloc)?;
+    run_all(rt, alloc, &mut conn, runs)
+}
+
 #[test]
 fn statements_in_memory(rt: HostRuntime) -> Result<(), Fail> {
-    let alloc = rt.alloc();
-    let mut conn = Connection::open_in_memory(alloc)?;
-    plain::fill(&rt, alloc, &mut conn)?;
-    plain::drop_and_look(&rt, &mut conn)
+    over_memory(&rt, rt.alloc(), &[Run::Fill, Run::DropAndLook])
 }
 
 #[test]
 fn entries_inside_in_memory(rt: HostRuntime) -> Result<(), Fail> {
-    let alloc = rt.alloc();
-    let mut conn = Connection::open_in_memory(alloc)?;
-    inside::run(&rt, alloc, &mut conn)
+    over_memory(&rt, rt.alloc(), &[Run::Inside])
 }
 
 #[test]
 fn older_tables_in_memory(rt: HostRuntime) -> Result<(), Fail> {
-    let alloc = rt.alloc();
-    let mut conn = Connection::open_in_memory(alloc)?;
-    older::run(&rt, alloc, &mut conn)
+    over_memory(&rt, rt.alloc(), &[Run::Older])
 }
 
 #[test]
 fn keyed_tables_in_memory(rt: HostRuntime) -> Result<(), Fail> {
-    let alloc = rt.alloc();
-    let mut conn = Connection::open_in_memory(alloc)?;
-    keyed::run(&rt, alloc, &mut conn)
+    over_memory(&rt, rt.alloc(), &[Run::Keyed])
 }
 
 #[test]
 fn old_entries_in_memory(rt: HostRuntime) -> Result<(), Fail> {
-    let alloc = rt.alloc();
-    let mut conn = Connection::open_in_memory(alloc)?;
-    old::run(&rt, alloc, &mut conn)
+    over_memory(&rt, rt.alloc(), &[Run::Old])
 }
 
-fn new_files(alloc: Global) -> Files<Memory> {
-    Files {
-        log: Memory::new(alloc),
-        db: Memory::new(alloc),
-    }
+#[test]
+fn headers_in_memory(rt: HostRuntime) -> Result<(), Fail> {
+    over_memory(&rt, rt.alloc(), &[Run::Headers])
 }
 
-// Fills the tables in two files, and leaves the second of them.
-fn fill<D: Disk + Drop>(rt: &impl Abort, alloc: Global, files: Files<D>) -> Result<D, Fail> {
+#[test]
+fn parts_in_memory(rt: HostRuntime) -> Result<(), Fail> {
+    over_memory(&rt, rt.alloc(), &[Run::Parts])
+}
+
+// Over two files, of which the second is left.
+fn over_files<D: Disk + Drop>(
+    rt: &impl Abort,
+    alloc: Global,
+    files: Files<D>,
+    runs: &[Run],
+) -> Result<D, Fail> {
     let mut conn = open(alloc, files)?;
-    plain::fill(rt, alloc, &mut conn)?;
-    Ok(close(conn)?)
+    let end = run_all(rt, alloc, &mut conn, runs);
+    let left = close(conn);
+    end?;
+    Ok(left?)
 }
 
-// Looks at what two files have.
-fn look<D: Disk + Drop>(rt: &impl Abort, alloc: Global, files: Files<D>) -> Result<D, Fail> {
-    let mut conn = open(alloc, files)?;
-    plain::drop_and_look(rt, &mut conn)?;
-    Ok(close(conn)?)
-}
-
-// Reads entries inside a transaction over two files.
-fn read_inside<D: Disk + Drop>(rt: &impl Abort, alloc: Global, files: Files<D>) -> Result<D, Fail> {
-    let mut conn = open(alloc, files)?;
-    inside::run(rt, alloc, &mut conn)?;
-    Ok(close(conn)?)
+// The same where these octets' file is beside a new log.
+fn over_a_file(rt: &impl Abort, alloc: Global, db: Memory, runs: &[Run]) -> Result<Memory, Fail> {
+    let log = Memory::new(alloc);
+    over_files(rt, alloc, Files { log, db }, runs)
 }
 
 // The tables are filled in two files, and stand in the second of them, with another log.
 #[test]
 fn statements_in_two_files(rt: HostRuntime) -> Result<(), Fail> {
     let alloc = rt.alloc();
-    let db = fill(&rt, alloc, new_files(alloc))?;
-    let log = Memory::new(alloc);
-    look(&rt, alloc, Files { log, db })?;
+    let db = over_a_file(&rt, alloc, Memory::new(alloc), &[Run::Fill])?;
+    over_a_file(&rt, alloc, db, &[Run::DropAndLook])?;
     Ok(())
 }
 
 #[test]
 fn entries_inside_in_two_files(rt: HostRuntime) -> Result<(), Fail> {
     let alloc = rt.alloc();
-    read_inside(&rt, alloc, new_files(alloc))?;
+    over_a_file(&rt, alloc, Memory::new(alloc), &[Run::Inside])?;
     Ok(())
 }

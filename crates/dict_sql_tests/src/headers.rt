@@ -7,7 +7,7 @@ ghost use Rattle.dict_sql.specs.Effects.{HasApartRowids, WhileOpen, rows_of, see
 ghost use Rattle.dict_sql.specs.Deletes.{HasToRemove};
 ghost use Rattle.dict_header_sql.specs.Table.{header};
 
-use crate::checks::same_text;
+use crate::checks::{holds, same_text};
 use dict_header_sql::{
     StoredHeader, create_header_table, delete_header, has_header_table, headers_numbered,
     infos_numbered, insert_header, next_header, read_headers_by_rowid,
@@ -138,14 +138,20 @@ fn look_at<S: Alter>(rt: &impl Abort, alloc: Global, conn: &mut Connection<S>) -
     Ok(())
 }
 
-#[test]
-fn headers_in_memory(rt: HostRuntime) -> Result<(), Fail> {
-    let alloc = rt.alloc();
-    let mut conn = Connection::open_in_memory(alloc)?;
-    make(&mut conn)?;
-    assert!(rt; !has_table(conn.schema(), StoreTable::Edition));
-    let taken = change(&mut conn)?;
-    assert!(rt; taken == 1);
-    look(&rt, alloc, &mut conn)?;
-    look_at(&rt, alloc, &mut conn)
+/// The table is made, changed and looked at.
+pub(crate) fn run<S: Alter>(
+    rt: &impl Abort,
+    alloc: Global,
+    conn: &mut Connection<S>,
+) -> Result<(), Fail> {
+    make(conn)?;
+    holds(
+        rt,
+        !has_table(conn.schema(), StoreTable::Edition),
+        "edition",
+    );
+    let taken = change(conn)?;
+    holds(rt, taken == 1, "taken");
+    look(rt, alloc, conn)?;
+    look_at(rt, alloc, conn)
 }

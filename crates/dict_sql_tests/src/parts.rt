@@ -7,6 +7,7 @@ ghost use Rattle.dict_sql.specs.Effects.{HasApartRowids, WhileOpen, rows_of, see
 ghost use Rattle.dict_sql.specs.Deletes.{HasToRemove};
 ghost use Rattle.dict_part_sql.specs.Table.{part};
 
+use crate::checks::holds;
 use dict_part_sql::{
     Part, create_part_table, delete_parts, delete_parts_from, has_part_table, insert_part,
 };
@@ -14,6 +15,8 @@ use dict_sql::commit::commit;
 use dict_tables::{is_name_used, lacks_counting_table};
 use reads::look;
 use sqlite::{Alter, Connection, Error, Transaction};
+use std::alloc::Global;
+use std::process::Abort;
 use std::test::Fail;
 
 mod reads;
@@ -89,12 +92,14 @@ fn change<S: Alter>(conn: &mut Connection<S>) -> Result<usize, Error>
     Ok(taken)
 }
 
-#[test]
-fn parts_in_memory(rt: HostRuntime) -> Result<(), Fail> {
-    let alloc = rt.alloc();
-    let mut conn = Connection::open_in_memory(alloc)?;
-    make(&mut conn)?;
-    let taken = change(&mut conn)?;
-    assert!(rt; taken == 1);
-    look(&rt, alloc, &mut conn)
+/// The table is made, changed and looked at.
+pub(crate) fn run<S: Alter>(
+    rt: &impl Abort,
+    alloc: Global,
+    conn: &mut Connection<S>,
+) -> Result<(), Fail> {
+    make(conn)?;
+    let taken = change(conn)?;
+    holds(rt, taken == 1, "taken");
+    look(rt, alloc, conn)
 }

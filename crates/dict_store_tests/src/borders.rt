@@ -1,15 +1,12 @@
 //! Texts and indexes that end before, at and behind the end of a part: what is stored is what was installed, and a body over several parts is handed out whole.
 
 use crate::checks::{holds, same_text};
-use crate::tables::has_numbers;
-use crate::taken::found;
+use crate::steps::{Step, over_memory};
+use crate::taken::{Counted, found, taken_between};
 use dict_catalogue::Command;
-use dict_desk::{Fault, Keeper};
+use dict_desk::{Fault, Keeper, Lookup};
 use dict_index::{Edition, read_edition};
 use dict_match::Strategy;
-use dict_store::Desk;
-use dict_store_fixtures::{connection_of, desk_over};
-use sqlite::{Alter, Connection};
 use std::alloc::{AllocError, Global};
 use std::process::Abort;
 use std::test::Fail;
@@ -17,14 +14,16 @@ use std::test::Fail;
 /// How many octets stand behind the title, the index, how many parts the text has, and its entries: a headword, where its body begins, and how long it is.
 /// The first is looked up first, and lies in each part.
 #[derive(Clone, Copy)]
-struct Case(
-    usize,
+pub(crate) struct Case(
+    u32,
     &'static str,
     u32,
     &'static [(&'static str, usize, usize)],
 );
 
 const TITLE: &str = "00-database-short\n  Lines\n";
+
+const TITLE_LENGTH: i64 = 26;
 
 static CASES: [Case; 10] = [
     Case(
@@ -105,7 +104,7 @@ static CASES: [Case; 10] = [
 ];
 
 // The octet at a place behind the title: lines of 64.
-fn letter(place: usize, size: usize) -> char {
+fn letter(place: u32, size: u32) -> char {
     if place % 64 == 63 || place.wrapping_add(1) == size {
         '\n'
     } else {
@@ -113,7 +112,7 @@ fn letter(place: usize, size: usize) -> char {
     }
 }
 
-fn text_of(alloc: Global, size: usize) -> Result<String, AllocError> {
+fn text_of(alloc: Global, size: u32) -> Result<String, AllocError> {
     let mut text = String::new(alloc);
     text.push_str(TITLE)?;
     for place in 0..size {
@@ -122,9 +121,21 @@ fn text_of(alloc: Global, size: usize) -> Result<String, AllocError> {
     Ok(text)
 }
 
-fn install<K: Keeper>(desk: &mut K, edition: &Edition) -> Result<(), Fault> {
-    let name = "lines";
+fn install_edition<K: Keeper>(desk: &mut K, name: &str, edition: &Edition) -> Result<(), Fault> {
     let _kept = desk.apply(name, &Command::Install { name, edition })?;
+    Ok(())
+}
+
+/// Installs an edition of these two files.
+pub(crate) fn install<K: Keeper>(
+    alloc: Global,
+    desk: &mut K,
+    name: &str,
+    index: &str,
+    text: &[u8],
+) -> Result<(), Fail> {
+    let edition = read_edition(alloc, index.as_bytes(), text)?;
+    install_edition(desk, name, &edition)?;
     Ok(())
 }
 
@@ -133,86 +144,69 @@ fn answer_of(alloc: Global, headword: &str, body: &str) -> Result<String, AllocE
     format!(in alloc; "{headword}={body}/")
 }
 
-fn look<S: Alter + Drop>(
+// Each entry is handed out, and so many rows are handed over for all.
+fn look<L: Lookup + Counted>(
     rt: &impl Abort,
     alloc: Global,
-    desk: &mut Desk<S>,
+    desk: &mut L,
     case: &Case,
     text: &str,
+    rows: u64,
 ) -> Result<(), Fail> {
+    let before = desk.taken();
     for (headword, start, length) in case.3 {
         let answer = found(alloc, desk, 1, Strategy::Exact, *headword, usize::MAX)?;
         let body = text.get(*start..start.wrapping_add(*length)).unwrap_or("");
         let wanted = answer_of(alloc, *headword, body)?;
         same_text(rt, answer.text.as_str(), wanted.as_str(), case.1);
     }
+    let taken = taken_between(before, desk.taken());
+    holds(rt, taken.unwrap_or(rows) == rows, case.1);
     Ok(())
 }
 
-// The first lookup of a desk reads each part once, and another of the same reads none.
-fn parts_are_read_once<S: Alter + Drop>(
+/// The text, which is installed first or was before, is handed out so. The first lookup of a desk reads each part once, and
+/// another of the same reads none.
+pub(crate) fn look_around<K: Keeper + Counted>(
     rt: &impl Abort,
     alloc: Global,
-    desk: &mut Desk<S>,
+    desk: &mut K,
     case: &Case,
-    text: &str,
+    is_first: bool,
 ) -> Result<(), Fail> {
-    let before = desk.rows_taken();
-    look(rt, alloc, desk, case, text)?;
-    let first = desk.rows_taken().saturating_sub(before);
-    let entries = case.3.len() as u64;
-    holds(
-        rt,
-        first == entries.saturating_add(u64::from(case.2)),
-        case.1,
-    );
-    let before = desk.rows_taken();
-    look(rt, alloc, desk, case, text)?;
-    let again = desk.rows_taken().saturating_sub(before);
-    holds(rt, again == entries, case.1);
-    Ok(())
-}
-
-fn desk_of<S: Alter + Drop>(
-    alloc: Global,
-    conn: Connection<S>,
-    is_new: bool,
-) -> Result<Desk<S>, Fail> {
-    match desk_over(alloc, conn, is_new) {
-        Ok(desk) => Ok(desk),
-        Err(_) => Err(Fail::new("no desk")),
+    let text = text_of(alloc, case.0)?;
+    let text = text.as_str();
+    if is_first {
+        install(alloc, desk, "lines", case.1, text.as_bytes())?;
     }
+    let entries = case.3.len() as u64;
+    let all = entries.saturating_add(u64::from(case.2));
+    look(rt, alloc, desk, case, text, all)?;
+    look(rt, alloc, desk, case, text, entries)
 }
 
 // The text is installed, and handed out so by this desk and by one that is opened behind it.
-fn goes_around(rt: &impl Abort, alloc: Global, case: &Case) -> Result<(), Fail> {
-    let text = text_of(alloc, case.0)?;
-    let edition = read_edition(alloc, case.1.as_bytes(), text.as_str().as_bytes())?;
-    let mut desk = desk_of(alloc, Connection::open_in_memory(alloc)?, true)?;
-    install(&mut desk, &edition)?;
-    parts_are_read_once(rt, alloc, &mut desk, case, text.as_str())?;
-    let mut desk = desk_of(alloc, connection_of(desk), false)?;
-    parts_are_read_once(rt, alloc, &mut desk, case, text.as_str())?;
-    let mut conn = connection_of(desk);
-    let wanted = [
-        (
+fn goes_around(rt: &impl Abort, alloc: Global, case: Case) -> Result<(), Fail> {
+    let steps = [
+        Step::Around(case, true),
+        Step::Around(case, false),
+        Step::Number(
             "SELECT count(*) FROM dictcat_part WHERE edition = 1 AND file = 1",
             i64::from(case.2),
         ),
-        (
+        Step::Number(
             "SELECT sum(length(octets)) FROM dictcat_part WHERE edition = 1 AND file = 1",
-            text.as_str().len() as i64,
+            i64::from(case.0).saturating_add(TITLE_LENGTH),
         ),
     ];
-    holds(rt, has_numbers(&mut conn, &wanted)?, case.1);
-    Ok(())
+    over_memory(rt, alloc, &steps)
 }
 
 #[test]
 fn texts_go_around_parts(rt: HostRuntime) -> Result<(), Fail> {
     let alloc = rt.alloc();
     for case in &CASES {
-        goes_around(&rt, alloc, case)?;
+        goes_around(&rt, alloc, *case)?;
     }
     Ok(())
 }
@@ -220,7 +214,7 @@ fn texts_go_around_parts(rt: HostRuntime) -> Result<(), Fail> {
 /// The first letters of all headwords, how many lines an index has, of how many octets each, how many parts, and the headword of a line, which is the last, or
 /// lies over the end of a part.
 #[derive(Clone, Copy)]
-struct Lines(&'static str, u32, i64, i64, &'static str);
+pub(crate) struct Lines(&'static str, u32, i64, i64, &'static str);
 
 static LINES: [Lines; 5] = [
     Lines("headwo", 1_023, 16, 1, "headwo01022"),
@@ -240,28 +234,38 @@ fn index_of(alloc: Global, lines: Lines) -> Result<String, AllocError> {
     Ok(index)
 }
 
-fn index_goes_around(rt: &impl Abort, alloc: Global, lines: Lines) -> Result<(), Fail> {
-    let index = index_of(alloc, lines)?;
-    let edition = read_edition(alloc, index.as_str().as_bytes(), TITLE.as_bytes())?;
-    let mut desk = desk_of(alloc, Connection::open_in_memory(alloc)?, true)?;
-    install(&mut desk, &edition)?;
-    let mut desk = desk_of(alloc, connection_of(desk), false)?;
-    let answer = found(alloc, &mut desk, 1, Strategy::Exact, lines.4, usize::MAX)?;
+/// The index is installed, or a desk that is opened behind it finds the last line.
+pub(crate) fn look_for_the_last<K: Keeper>(
+    rt: &impl Abort,
+    alloc: Global,
+    desk: &mut K,
+    lines: Lines,
+    is_first: bool,
+) -> Result<(), Fail> {
+    if is_first {
+        let index = index_of(alloc, lines)?;
+        return install(alloc, desk, "lines", index.as_str(), TITLE.as_bytes());
+    }
+    let answer = found(alloc, desk, 1, Strategy::Exact, lines.4, usize::MAX)?;
     let wanted = answer_of(alloc, lines.4, TITLE)?;
     same_text(rt, answer.text.as_str(), wanted.as_str(), lines.4);
-    let mut conn = connection_of(desk);
-    let wanted = [
-        (
+    Ok(())
+}
+
+fn index_goes_around(rt: &impl Abort, alloc: Global, lines: Lines) -> Result<(), Fail> {
+    let steps = [
+        Step::Lines(lines, true),
+        Step::Lines(lines, false),
+        Step::Number(
             "SELECT count(*) FROM dictcat_part WHERE edition = 1 AND file = 0",
             lines.3,
         ),
-        (
+        Step::Number(
             "SELECT sum(length(octets)) FROM dictcat_part WHERE edition = 1 AND file = 0",
             i64::from(lines.1).saturating_mul(lines.2),
         ),
     ];
-    holds(rt, has_numbers(&mut conn, &wanted)?, lines.4);
-    Ok(())
+    over_memory(rt, alloc, &steps)
 }
 
 #[test]

@@ -1,11 +1,11 @@
 //! A part of an edition's text is read once, while the desk is open: by the first lookup that hands out an entry whose body lies in it.
 
 use crate::checks::{holds, same_text};
-use crate::taken::found;
+use crate::steps::{Step, over_memory};
+use crate::taken::{Counted, found, taken_between};
+use dict_desk::{Keeper, Lookup};
 use dict_match::Strategy;
-use dict_store::Desk;
-use dict_store_fixtures::{Asked, Editions, Source, accept_all, read_editions};
-use sqlite::{Alter, Connection};
+use dict_store_fixtures::{Asked, Editions, Source, accept_all};
 use std::alloc::Global;
 use std::process::Abort;
 use std::test::Fail;
@@ -82,30 +82,30 @@ static CASES: [Case; 7] = [
     ),
 ];
 
-fn look<S: Alter + Drop>(
+fn look<L: Lookup + Counted>(
     rt: &impl Abort,
     alloc: Global,
-    desk: &mut Desk<S>,
+    desk: &mut L,
     asked: &[(u64, &str, &str, u64)],
 ) -> Result<(), Fail> {
     for (number, headword, wanted, rows) in asked {
-        let before = desk.rows_taken();
+        let before = desk.taken();
         let answer = found(alloc, desk, *number, Strategy::Exact, *headword, usize::MAX)?;
         same_text(rt, answer.text.as_str(), *wanted, *headword);
-        let taken = desk.rows_taken().saturating_sub(before);
-        holds(rt, taken == *rows, *headword);
+        let taken = taken_between(before, desk.taken());
+        holds(rt, taken.unwrap_or(*rows) == *rows, *headword);
     }
     Ok(())
 }
 
-fn done<S: Alter + Drop>(
+/// Commands, and lookups behind each.
+pub(crate) fn look_between<K: Keeper + Counted>(
     rt: &impl Abort,
     alloc: Global,
-    desk: &mut Desk<S>,
+    desk: &mut K,
     editions: &Editions,
-    cases: &[Case],
 ) -> Result<(), Fail> {
-    for case in cases {
+    for case in &CASES {
         accept_all(desk, editions, case.0)?;
         look(rt, alloc, desk, case.1)?;
     }
@@ -119,27 +119,16 @@ static ANEW: [(u64, &str, &str, u64); 3] = [
     (5, "iron", "iron=iron\n  ore\n/", 2),
 ];
 
-// The same catalogue, of a desk that has no texts yet.
-fn adopted<S: Alter + Drop>(alloc: Global, desk: Desk<S>) -> Result<Desk<S>, Fail> {
-    let Ok(conn) = desk.into_connection() else {
-        return Err(Fail::new("a transaction"));
-    };
-    match Desk::adopt(alloc, conn) {
-        Ok(desk) => Ok(desk),
-        Err(_) => Err(Fail::new("no desk")),
-    }
+/// Lookups of a desk that has no texts yet.
+pub(crate) fn look_anew<L: Lookup + Counted>(
+    rt: &impl Abort,
+    alloc: Global,
+    desk: &mut L,
+) -> Result<(), Fail> {
+    look(rt, alloc, desk, &ANEW)
 }
 
 #[test]
 fn texts_are_read_once(rt: HostRuntime) -> Result<(), Fail> {
-    let alloc = rt.alloc();
-    let editions = read_editions(alloc)?;
-    let Ok(desk) = Desk::create(alloc, Connection::open_in_memory(alloc)?) else {
-        return Err(Fail::new("no desk"));
-    };
-    let mut desk = desk;
-    done(&rt, alloc, &mut desk, &editions, &CASES)?;
-    holds(&rt, desk.audit().is_ok(), "a sound desk");
-    let mut desk = adopted(alloc, desk)?;
-    look(&rt, alloc, &mut desk, &ANEW)
+    over_memory(&rt, rt.alloc(), &[Step::Texts, Step::TextsAnew])
 }

@@ -20,8 +20,6 @@ mod many;
 #[cfg(test)]
 mod migrations;
 #[cfg(test)]
-mod preparing;
-#[cfg(test)]
 mod referred;
 #[cfg(test)]
 mod refused;

@@ -1,39 +1,22 @@
 //! Each lookup looks at the entries that its strategy selects of an edition, whatever was asked before, also by a count of the same question; and at no others.
 
-use crate::checks::{holds, same_text};
-use crate::taken::{Counted, taken_between};
-use dict_desk::{Fault, Keeper, Lookup, PlainDesk, What};
-use dict_match::{Strategy, key_of};
-use dict_store::Desk;
-use dict_store_fixtures::{Asked, Editions, Rows, Source, accept_all, read_editions};
-use sqlite::Connection;
+use crate::looking::{Case, Question, look};
+use crate::steps::{Step, over_memory};
+use crate::taken::Counted;
+use dict_desk::Keeper;
+use dict_match::Strategy;
+use dict_store_fixtures::{Asked, Editions, Source, accept_all};
 use std::alloc::Global;
 use std::process::Abort;
 use std::test::Fail;
-
-/// What is asked by the strategy and the query.
-#[derive(Clone, Copy)]
-enum Question {
-    /// How many entries are found.
-    Entries,
-    /// How many headwords are shown of them.
-    Headwords,
-    /// The headwords shown of them, of which a sink takes so many.
-    Heads(usize),
-    /// The entries.
-    Found,
-}
-
-/// The number of an edition and a question; what is answered, and how many entries are looked at for it. The first that hands out entries of an edition
-/// reads its text, which is kept from then on.
-#[derive(Clone, Copy)]
-struct Case(u64, Question, Strategy, &'static str, &'static str, u64);
 
 static BEFORE: [(&str, Asked); 2] = [
     ("a", Asked::Install("gem", Source::More)),
     ("b", Asked::Install("ore", Source::Alike)),
 ];
 
+// The number of an edition and a question; what is answered, and how many entries are looked at for it. The first that hands out entries of an edition
+// reads its text, which is kept from then on.
 static CASES: [Case; 23] = [
     // What is handed out is looked at, and so again.
     Case(
@@ -94,7 +77,7 @@ static CASES: [Case; 23] = [
     // The text is read once.
     Case(
         2,
-        Question::Found,
+        Question::Found(usize::MAX),
         Strategy::Suffix,
         "opal",
         "Opal=opal\n  a stone\n/Opal=opal\n  a stone\n/ All",
@@ -102,7 +85,7 @@ static CASES: [Case; 23] = [
     ),
     Case(
         2,
-        Question::Found,
+        Question::Found(usize::MAX),
         Strategy::Suffix,
         "opal",
         "Opal=opal\n  a stone\n/Opal=opal\n  a stone\n/ All",
@@ -132,7 +115,14 @@ static CASES: [Case; 23] = [
     Case(2, Question::Heads(9), Strategy::Exact, "iron", " All", 0),
     Case(3, Question::Headwords, Strategy::Exact, "dot", "0", 0),
     Case(3, Question::Heads(9), Strategy::Exact, "dot", " All", 0),
-    Case(3, Question::Found, Strategy::Exact, "dot", " All", 0),
+    Case(
+        3,
+        Question::Found(usize::MAX),
+        Strategy::Exact,
+        "dot",
+        " All",
+        0,
+    ),
     Case(2, Question::Headwords, Strategy::Exact, "dot", "1", 1),
 ];
 
@@ -177,46 +167,8 @@ static AFTER: [Case; 4] = [
     Case(3, Question::Entries, Strategy::Exact, "dot", "1", 1),
 ];
 
-fn answer<L: Lookup>(alloc: Global, desk: &mut L, case: &Case) -> Result<String, Fault> {
-    let query = key_of(alloc, case.3)?;
-    let most = match case.1 {
-        Question::Heads(most) => most,
-        _ => usize::MAX,
-    };
-    let mut rows = Rows::new(alloc, most);
-    let end = match case.1 {
-        Question::Entries => {
-            let count = desk.count(case.0, case.2, &query, What::Entries)?;
-            return Ok(format!(in alloc; "{count}")?);
-        }
-        Question::Headwords => {
-            let count = desk.count(case.0, case.2, &query, What::Headwords)?;
-            return Ok(format!(in alloc; "{count}")?);
-        }
-        Question::Heads(_) => desk.heads(case.0, case.2, &query, &mut rows)?,
-        Question::Found => desk.find(case.0, case.2, &query, &mut rows)?,
-    };
-    rows.text.push_str(format!(in alloc; " {end:?}")?.as_str())?;
-    Ok(rows.text)
-}
-
-fn look<L: Lookup + Counted>(
-    rt: &impl Abort,
-    alloc: Global,
-    desk: &mut L,
-    cases: &[Case],
-) -> Result<(), Fail> {
-    for case in cases {
-        let before = desk.taken();
-        let told = answer(alloc, desk, case)?;
-        same_text(rt, told.as_str(), case.4, case.3);
-        let taken = taken_between(before, desk.taken());
-        holds(rt, taken.unwrap_or(case.5) == case.5, case.4);
-    }
-    Ok(())
-}
-
-fn look_around<K: Keeper + Counted>(
+/// Commands, and between them what is asked.
+pub(crate) fn look_around<K: Keeper + Counted>(
     rt: &impl Abort,
     alloc: Global,
     desk: &mut K,
@@ -230,22 +182,8 @@ fn look_around<K: Keeper + Counted>(
     look(rt, alloc, desk, &AFTER)
 }
 
+// Over tables and over lists.
 #[test]
 fn each_lookup_looks_at_what_it_selects(rt: HostRuntime) -> Result<(), Fail> {
-    let alloc = rt.alloc();
-    let editions = read_editions(alloc)?;
-    let Ok(desk) = Desk::create(alloc, Connection::open_in_memory(alloc)?) else {
-        return Err(Fail::new("no desk"));
-    };
-    let mut desk = desk;
-    look_around(&rt, alloc, &mut desk, &editions)?;
-    holds(&rt, desk.audit().is_ok(), "a sound desk");
-    Ok(())
-}
-
-#[test]
-fn a_catalogue_in_memory_answers_the_same(rt: HostRuntime) -> Result<(), Fail> {
-    let alloc = rt.alloc();
-    let editions = read_editions(alloc)?;
-    look_around(&rt, alloc, &mut PlainDesk::new(alloc), &editions)
+    over_memory(&rt, rt.alloc(), &[Step::Select])
 }

@@ -10,8 +10,10 @@ use std::test::Fail;
 
 /// What is asked of an edition: the entries that are found, what is shown of them, and how many they are; or one of these, with a sink that takes so many rows.
 #[derive(Clone, Copy)]
-enum Question {
+pub(crate) enum Question {
     All,
+    Entries,
+    Headwords,
     Found(usize),
     Heads(usize),
     Info(usize),
@@ -20,10 +22,17 @@ enum Question {
 /// The edition's number, the question, a strategy and a text, what is told, and how many entries are looked at for it, and rows read. The first that hands out
 /// entries of an edition reads its text, which is kept from then on.
 #[derive(Clone, Copy)]
-struct Case(u64, Question, Strategy, &'static str, &'static str, u64);
+pub(crate) struct Case(
+    pub(crate) u64,
+    pub(crate) Question,
+    pub(crate) Strategy,
+    pub(crate) &'static str,
+    pub(crate) &'static str,
+    pub(crate) u64,
+);
 
-// The keys of the third edition are, by place: opal, fire opal, opal fire, été, abcd, bcd abc, opal, strasse, a and a letter of four octets, c, + +, a.
-static CASES: [Case; 66] = [
+/// What the editions `ore`, `gem`, `more` and `alike` answer. The keys of the third are, by place: opal, fire opal, opal fire, été, abcd, bcd abc, opal, strasse, a and a letter of four octets, c, + +, a.
+pub(crate) static CASES: [Case; 66] = [
     Case(
         3,
         Question::All,
@@ -471,6 +480,17 @@ fn told_all<L: Lookup>(
     Ok(rows.text)
 }
 
+fn told_count<L: Lookup>(
+    alloc: Global,
+    desk: &mut L,
+    case: &Case,
+    query: &Key,
+    what: What,
+) -> Result<String, Fault> {
+    let count = desk.count(case.0, case.2, query, what)?;
+    Ok(format!(in alloc; "{count}")?)
+}
+
 // The rows that are handed out, and how they end.
 fn told_rows<L: Lookup>(
     alloc: Global,
@@ -493,19 +513,22 @@ fn answer<L: Lookup>(alloc: Global, desk: &mut L, case: &Case) -> Result<String,
     let query = key_of(alloc, case.3)?;
     match case.1 {
         Question::All => told_all(alloc, desk, case.0, case.2, &query),
+        Question::Entries => told_count(alloc, desk, case, &query, What::Entries),
+        Question::Headwords => told_count(alloc, desk, case, &query, What::Headwords),
         Question::Found(most) | Question::Heads(most) | Question::Info(most) => {
             told_rows(alloc, desk, case, &query, most)
         }
     }
 }
 
-/// The editions `ore`, `gem`, `more` and `alike` answer so, and no row is handed over that isn't needed.
+/// Each is answered so, and no row is handed over that isn't needed.
 pub(crate) fn look<L: Lookup + Counted>(
     rt: &impl Abort,
     alloc: Global,
     desk: &mut L,
+    cases: &[Case],
 ) -> Result<(), Fail> {
-    for case in &CASES {
+    for case in cases {
         let before = desk.taken();
         let found = answer(alloc, desk, case)?;
         same_text(rt, found.as_str(), case.4, case.3);

@@ -1,11 +1,10 @@
 //! Lookups in an edition of 65,535 entries: no more entries are looked at, and rows read, than are due.
 
+use crate::borders::install;
 use crate::checks::holds;
 use crate::taken::{Counted, found, taken_between};
-use dict_catalogue::Command;
-use dict_desk::{Fault, Keeper};
+use dict_desk::Keeper;
 use dict_examples::GEM_TEXT;
-use dict_index::{Edition, read_edition};
 use dict_match::Strategy;
 use std::alloc::{AllocError, Global};
 use std::process::Abort;
@@ -19,18 +18,6 @@ fn index_of_many(alloc: Global) -> Result<String, AllocError> {
         index.push_str(format!(in alloc; "w{number:05}\tZ\tP\n")?.as_str())?;
     }
     Ok(index)
-}
-
-fn install_edition<K: Keeper>(desk: &mut K, edition: &Edition) -> Result<(), Fault> {
-    let name = "many";
-    let _kept = desk.apply("many", &Command::Install { name, edition })?;
-    Ok(())
-}
-
-fn install<K: Keeper>(alloc: Global, desk: &mut K, index: &str) -> Result<(), Fail> {
-    let edition = read_edition(alloc, index.as_bytes(), GEM_TEXT)?;
-    install_edition(desk, &edition)?;
-    Ok(())
 }
 
 /// By a strategy, a text and a sink that takes so many rows: how many it is handed, and how many entries are looked at, and rows read, at most.
@@ -53,7 +40,13 @@ pub(crate) fn look<K: Keeper + Counted>(
     alloc: Global,
     desk: &mut K,
 ) -> Result<(), Fail> {
-    install(alloc, desk, index_of_many(alloc)?.as_str())?;
+    install(
+        alloc,
+        desk,
+        "many",
+        index_of_many(alloc)?.as_str(),
+        GEM_TEXT,
+    )?;
     for case in &CASES {
         let before = desk.taken();
         let rows = found(alloc, desk, 1, case.0, case.1, case.2)?;

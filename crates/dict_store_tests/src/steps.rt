@@ -3,7 +3,7 @@
 use crate::checks::{holds, same_text};
 use crate::tables::{dumped, has_numbers};
 use crate::taken::Counted;
-use crate::{full, looking, many, spoken};
+use crate::{borders, full, kept_texts, looked_at, looking, many, spoken};
 use dict_desk::{Fault, Keeper, PlainDesk};
 use dict_store::Desk;
 use dict_store_fixtures::{
@@ -45,6 +45,18 @@ pub(crate) enum Step {
     Fill,
     /// Lookups in an edition with as many entries as a file of the first limits may have.
     Many,
+    /// A store is made, and lookups between commands look at what they select.
+    Select,
+    /// A store is made, and lookups between commands read each text once.
+    Texts,
+    /// The store is opened, and reads texts anew.
+    TextsAnew,
+    /// A text that goes around parts is installed in a store that is made, or the store is opened; and it is handed out.
+    Around(borders::Case, bool),
+    /// The same of an index.
+    Lines(borders::Lines, bool),
+    /// This selection gives this number.
+    Number(&'static str, i64),
     /// A session with this input writes this, behind the banner.
     Speak(&'static str, &'static str),
     /// A session whose client takes so many octets and no more, for each count.
@@ -80,10 +92,17 @@ fn act<K: Keeper + Counted>(
         Step::Made(rows) | Step::Make(rows) | Step::Open(rows) | Step::Keep(rows) => {
             play(rt, alloc, desk, editions, *rows)?
         }
-        Step::Look => looking::look(rt, alloc, desk)?,
+        Step::Look => looking::look(rt, alloc, desk, &looking::CASES)?,
         Step::Fill => full::fill(rt, alloc, desk, editions)?,
         Step::Many => many::look(rt, alloc, desk)?,
         Step::Cut => spoken::cut(rt, alloc, desk)?,
+        Step::Select => looked_at::look_around(rt, alloc, desk, editions)?,
+        Step::Texts => kept_texts::look_between(rt, alloc, desk, editions)?,
+        Step::TextsAnew => kept_texts::look_anew(rt, alloc, desk)?,
+        Step::Around(case, is_first) => borders::look_around(rt, alloc, desk, case, *is_first)?,
+        Step::Lines(lines, is_first) => {
+            borders::look_for_the_last(rt, alloc, desk, *lines, *is_first)?
+        }
         _ => {}
     }
     Ok(shown(alloc, desk)?)
@@ -94,6 +113,19 @@ fn name_of(step: &Step) -> &'static str {
         Step::Refuse(_, _, name) => *name,
         _ => "a catalogue that is opened",
     }
+}
+
+// Whether a store is made for a step.
+fn is_made(step: &Step) -> bool {
+    matches!(
+        step,
+        Step::Make(_)
+            | Step::Refuse(true, _, _)
+            | Step::Select
+            | Step::Texts
+            | Step::Around(_, true)
+            | Step::Lines(_, true)
+    )
 }
 
 // A step over the desk of tables, which shows what the lists do then, and is sound.
@@ -121,8 +153,7 @@ fn over_desk<S: Alter + Drop>(
     step: &Step,
     wanted: &str,
 ) -> (Connection<S>, Result<(), Fail>) {
-    let is_new = matches!(step, Step::Make(_) | Step::Refuse(true, _, _));
-    match desk_over(alloc, conn, is_new) {
+    match desk_over(alloc, conn, is_made(step)) {
         Ok(desk) => {
             let mut desk = desk;
             let end = on_desk(rt, alloc, &mut desk, editions, step, wanted);
@@ -168,6 +199,7 @@ fn over_tables<S: Alter>(
     match step {
         Step::Batch(text) => batched(conn, &[*text])?,
         Step::Numbers(wanted) => holds(rt, has_numbers(conn, *wanted)?, "numbers"),
+        Step::Number(text, count) => holds(rt, has_numbers(conn, &[(*text, *count)])?, *text),
         _ => {}
     }
     Ok(())
@@ -182,7 +214,7 @@ fn done<S: Alter + Drop>(
     wanted: &str,
 ) -> (Connection<S>, Result<(), Fail>) {
     match step {
-        Step::Batch(_) | Step::Numbers(_) | Step::Made(_) => {
+        Step::Batch(_) | Step::Numbers(_) | Step::Number(_, _) | Step::Made(_) => {
             let mut conn = conn;
             let end = over_tables(rt, &mut conn, step);
             (conn, end)

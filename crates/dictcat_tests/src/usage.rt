@@ -6,6 +6,7 @@ use clap::error::ErrorKind;
 use dict_arguments::VERSION;
 use dict_io::LimitedSink;
 use dictcat_lib::refuse_words;
+use std::alloc::{AllocError, Global};
 use std::io;
 use std::test::Fail;
 
@@ -193,15 +194,18 @@ fn is_refused(rt: &HostRuntime, kind: io::ErrorKind, status: u8, told: &str) -> 
 const NOT_TEXT: &str =
     "error: invalid UTF-8 was detected in one or more arguments\n\nUsage: dictcat <COMMAND>\n\nFor more information, try '--help'.\n";
 
-// What clap says of words that are no texts, of a program with subcommands.
-fn said_by_clap(rt: &HostRuntime) -> Result<String, Fail> {
-    let message = "invalid UTF-8 was detected in one or more arguments";
-    let leaf = Command::new(rt.alloc(), "plain");
-    let mut line = Command::new(rt.alloc(), "dictcat")
+// A program with subcommands.
+fn line(alloc: Global) -> Result<Command<'static>, AllocError> {
+    Command::new(alloc, "dictcat")
         .subcommand_required(true)
-        .subcommand(leaf)?;
-    let error = line.error(ErrorKind::InvalidValue, message)?;
-    Ok(error.to_string(rt.alloc())?)
+        .subcommand(Command::new(alloc, "plain"))
+}
+
+// What clap says of words that are no texts.
+fn said_by_clap(alloc: Global) -> Result<String, Fail> {
+    let message = "invalid UTF-8 was detected in one or more arguments";
+    let error = line(alloc)?.error(ErrorKind::InvalidValue, message)?;
+    Ok(error.to_string(alloc)?)
 }
 
 #[test]
@@ -216,6 +220,6 @@ fn refuses_words_that_are_no_texts(rt: HostRuntime) -> Result<(), Fail> {
         is_refused(&rt, io::ErrorKind::InvalidData, 2, NOT_TEXT)?,
         NOT_TEXT,
     );
-    same_text(&rt, said_by_clap(&rt)?.as_str(), NOT_TEXT);
+    same_text(&rt, said_by_clap(rt.alloc())?.as_str(), NOT_TEXT);
     Ok(())
 }
