@@ -8,8 +8,6 @@
 mod columns;
 mod laws;
 mod reading;
-#[cfg(test)]
-mod tests;
 mod writing;
 
 pub use laws::{stored_indexes, stored_lines};

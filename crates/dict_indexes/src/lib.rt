@@ -2,7 +2,5 @@
 #![tactic(auto)]
 
 mod indexes;
-#[cfg(test)]
-mod tests;
 
 pub use indexes::Indexes;

@@ -6,8 +6,6 @@ mod file;
 mod joiner;
 mod laws;
 mod memory;
-#[cfg(test)]
-mod tests;
 
 pub use cutting::{CutFault, Parts, cut};
 pub use file::{PART_SIZE, part};

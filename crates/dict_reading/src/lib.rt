@@ -10,8 +10,6 @@ mod line;
 mod places;
 mod reader;
 mod reading;
-#[cfg(test)]
-mod tests;
 mod title;
 mod whole;
 

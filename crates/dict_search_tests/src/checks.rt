@@ -5,3 +5,8 @@ use std::process::Abort;
 pub(crate) fn holds(test: &impl Abort, is_so: bool, of: &str) {
     assert!(test; is_so, "of {of:?}");
 }
+
+/// The text is the one that is wanted.
+pub(crate) fn same_text(test: &impl Abort, found: &str, wanted: &str) {
+    assert_eq!(test; found, wanted);
+}

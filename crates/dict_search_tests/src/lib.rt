@@ -1,9 +1,11 @@
-//! Runs of an index in memory, beside the filter of the whole list. A library with tests alone.
+//! Runs of an index in memory, beside the filter of the whole list, and of indexes under numbers. A library with tests alone.
 #![tactic(auto)]
 
 #[cfg(test)]
 mod checks;
 #[cfg(test)]
 mod filter;
+#[cfg(test)]
+mod indexes;
 #[cfg(test)]
 mod made;

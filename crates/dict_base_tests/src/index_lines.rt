@@ -1,6 +1,8 @@
-// What no clause says: that the calls succeed, on lines worked by hand.
-use crate::{Columns, read_line, write_line};
-use std::process::Abort;
+//! Lines of an index as they are stored, worked by hand.
+
+use crate::checks::holds;
+use dict_index_lines::{Columns, read_line, write_line};
+use std::test::Fail;
 
 struct Row {
     headword: &'static str,
@@ -55,31 +57,28 @@ fn is_of(columns: &Columns<'_>, row: &Row) -> bool {
         && columns.shown == row.shown
 }
 
-fn reads(rt: &impl Abort, octets: &[u8], row: &Row) {
-    let Some((columns, rest)) = read_line(octets) else {
-        panic!(rt; "no line");
-    };
-    assert!(rt; is_of(&columns, row));
-    assert!(rt; rest.is_empty());
+// Whether octets begin with a row's line, behind which these follow.
+fn reads(octets: &[u8], row: &Row, behind: &[u8]) -> bool {
+    match read_line(octets) {
+        Some((columns, rest)) => is_of(&columns, row) && rest == behind,
+        None => false,
+    }
 }
 
 #[test]
-fn reads_what_was_written(rt: HostRuntime) {
+fn reads_what_was_written(rt: HostRuntime) -> Result<(), Fail> {
     let mut lines = Vec::new(rt.alloc());
-    write_line("gem", 0, 64, "gem", &mut lines).expect(&rt, "memory");
-    assert!(rt; lines.as_slice() == ROWS[0].line);
-    write_line("gem", 25, 4_096, "Gem", &mut lines).expect(&rt, "memory");
-    let Some((columns, rest)) = read_line(&lines) else {
-        panic!(rt; "no line");
-    };
-    assert!(rt; is_of(&columns, &ROWS[0]));
-    assert!(rt; rest == ROWS[1].line);
+    write_line("gem", 0, 64, "gem", &mut lines)?;
+    holds(&rt, lines.as_slice() == ROWS[0].line, "a line");
+    write_line("gem", 25, 4_096, "Gem", &mut lines)?;
+    holds(&rt, reads(&lines, &ROWS[0], ROWS[1].line), "two lines");
+    Ok(())
 }
 
 #[test]
 fn reads_lines(rt: HostRuntime) {
     for row in &ROWS {
-        reads(&rt, row.line, row);
+        holds(&rt, reads(row.line, row, b""), row.shown);
     }
 }
 
@@ -102,6 +101,6 @@ static NO_LINES: [&[u8]; 13] = [
 #[test]
 fn reads_nothing_else(rt: HostRuntime) {
     for octets in &NO_LINES {
-        assert!(rt; read_line(octets).is_none());
+        holds(&rt, read_line(octets).is_none(), "no line");
     }
 }

@@ -1,6 +1,10 @@
-use crate::indexes::Indexes;
+//! Indexes under numbers.
+
+use crate::checks::same_text;
+use dict_indexes::Indexes;
 use dict_search::{Index, IndexBuilder};
 use std::alloc::Global;
+use std::process::Abort;
 use std::test::Fail;
 
 fn index_of(alloc: Global, shown: &str) -> Result<Index, Fail> {
@@ -21,20 +25,23 @@ fn shown_under(indexes: &Indexes, number: u64) -> &str {
     }
 }
 
-#[test]
-fn indexes_stand_under_numbers(rt: HostRuntime) -> Result<(), Fail> {
-    let alloc = rt.alloc();
-    let mut indexes = Indexes::new(alloc);
-    assert_eq!(rt; shown_under(&indexes, 1), "none");
+// Indexes are put under numbers, in place of those that were there, and let go of.
+fn stand_under_numbers(rt: &impl Abort, alloc: Global, indexes: &mut Indexes) -> Result<(), Fail> {
+    same_text(rt, shown_under(indexes, 1), "none");
     indexes.put(1, index_of(alloc, "iron")?)?;
     indexes.put(2, index_of(alloc, "opal")?)?;
     indexes.put(3, index_of(alloc, "ruby")?)?;
     indexes.put(2, index_of(alloc, "fire opal")?)?;
-    assert_eq!(rt; shown_under(&indexes, 2), "fire opal");
+    same_text(rt, shown_under(indexes, 2), "fire opal");
     indexes.let_go(1);
-    assert_eq!(rt; shown_under(&indexes, 1), "none");
+    same_text(rt, shown_under(indexes, 1), "none");
     indexes.keep_only(&[3, 4]);
-    assert_eq!(rt; shown_under(&indexes, 2), "none");
-    assert_eq!(rt; shown_under(&indexes, 3), "ruby");
+    same_text(rt, shown_under(indexes, 2), "none");
+    same_text(rt, shown_under(indexes, 3), "ruby");
     Ok(())
+}
+
+#[test]
+fn indexes_stand_under_numbers(rt: HostRuntime) -> Result<(), Fail> {
+    stand_under_numbers(&rt, rt.alloc(), &mut Indexes::new(rt.alloc()))
 }
