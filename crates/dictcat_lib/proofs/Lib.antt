@@ -1,5 +1,2 @@
-pub mod EndLemmas
 pub mod FileLemmas
-pub mod PlainLemmas
-pub mod ServingLemmas
-pub mod WritingLemmas
+pub mod UnopenedLemmas

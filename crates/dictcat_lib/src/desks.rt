@@ -6,7 +6,7 @@ ghost use Rattle.dict_catalogue.specs.Steps.{Catalogue};
 ghost use Rattle.dict_store.specs.Desk.{Shows, LeavesOneOf, is_closed};
 ghost use Rattle.dict_store.specs.Reopened.{IsReopened};
 ghost use Rattle.dict_serving.specs.Serving.{Follows, IsNew, IsNone};
-ghost use Rattle.dictcat_lib.specs.Catalogues.{IsMade};
+ghost use Rattle.dict_program.specs.Catalogues.{IsMade};
 ghost use Rattle.dictcat_lib.specs.DeskOpener.{IsDesk, IsMadeDesk, IsNoDesk, IsNoDeskAgain, IsTrusted, IsUnmade};
 ghost use Rattle.dictcat_lib.specs.Files.{StillLeaves};
 

@@ -4,7 +4,7 @@ use crate::checks::{holds, same_text};
 use dict_desk::PlainDesk;
 use dict_examples::{GEM_INDEX, GEM_TEXT};
 use dict_io::{LimitedSink, OverRead};
-use dictcat_lib::run_plain;
+use dict_program::run_plain;
 use std::alloc::Global;
 use std::io::{Error, ErrorKind, Read, Result as IoResult};
 use std::test::Fail;

@@ -5,7 +5,7 @@ use clap::Command;
 use clap::error::ErrorKind;
 use dict_arguments::VERSION;
 use dict_io::LimitedSink;
-use dictcat_lib::refuse_words;
+use dict_program::refuse_words;
 use std::alloc::{AllocError, Global};
 use std::io;
 use std::test::Fail;

@@ -8,7 +8,7 @@ use Rattle.dict_serving.specs.Serving.{IsOfFile}
 use Rattle.dict_store.specs.Adopted.{IsNotAdopted}
 use Rattle.dict_store.specs.Desk.{is_closed}
 use Rattle.dictcat_lib.proofs.FileLemmas.{rejected_from}
-use Rattle.dictcat_lib.proofs.ServingLemmas.{not_opened_of_file, opening_of_file}
+use Rattle.dictcat_lib.proofs.UnopenedLemmas.{not_opened_of_file, opening_of_file}
 use Rattle.dictcat_lib.proofs.desks.open_desk.Goals as goal
 
 pub returns-in_err-conn-clause-opened : goal.returns-in_err-conn-clause-opened

@@ -1,7 +1,7 @@
 use Rattle.std.proofs.Common.{inl, inr, refl}
 use Rattle.sqlite.specs.Files.{file_state}
 use Rattle.dict_store.proofs.DeskLemmas.{clean_behind}
-use Rattle.dictcat_lib.proofs.ServingLemmas.{told_of_file}
+use Rattle.dictcat_lib.proofs.UnopenedLemmas.{told_of_file}
 use Rattle.dictcat_lib.proofs.desks.reopen_desk.Goals as goal
 
 pub returns-in_default-clause-leaves : goal.returns-in_default-clause-leaves

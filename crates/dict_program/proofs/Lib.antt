@@ -1,0 +1,4 @@
+pub mod EndLemmas
+pub mod PlainLemmas
+pub mod ServingLemmas
+pub mod WritingLemmas
