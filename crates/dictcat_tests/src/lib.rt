@@ -1,5 +1,4 @@
-//! The program's commands: over files, over databases that were read, with words that aren't well, and of its servers. A
-//! library with tests alone.
+//! The program's commands over files, and its servers. A library with tests alone.
 #![tactic(auto)]
 
 #[cfg(test)]
@@ -14,7 +13,3 @@ mod paths;
 mod rows;
 #[cfg(test)]
 mod serving;
-#[cfg(test)]
-mod sessions;
-#[cfg(test)]
-mod usage;
