@@ -1,5 +1,6 @@
 // The catalogue changes between two lines of a session.
-use super::files::{DELETE, DELETED_TOLD, Row, gem_desk, play_anew};
+use super::files::{DELETE, DELETED_TOLD, Row};
+use super::runs::{Run, over_memory};
 use dict_hub::{Event, Kind};
 use std::test::Fail;
 
@@ -22,6 +23,5 @@ static ROWS: [Row; 5] = [
 
 #[test]
 fn an_edition_goes_between_two_lines(rt: HostRuntime) -> Result<(), Fail> {
-    let mut desk = gem_desk(rt.alloc())?;
-    play_anew(&rt, rt.alloc(), &mut desk, &ROWS)
+    over_memory(&rt, rt.alloc(), true, Run::Rows(&ROWS))
 }

@@ -1,9 +1,9 @@
 // Desks that fail at one of their calls, and sinks that fail at one of their octets.
 
-use super::files::{DELETE, DELETED_TOLD, HOST, Row, gem_desk, play, told};
+use super::files::{DELETE, DELETED_TOLD, Row, play, send, told};
+use super::runs::{Run, over_failing, over_memory};
 use crate::checks::same;
-use dict_desk::{Keeper, PlainDesk};
-use dict_failing_desk::FailingDesk;
+use dict_desk::Keeper;
 use dict_hub::{Event, Hub, Kind};
 use dict_io::LimitedSink;
 use std::alloc::Global;
@@ -46,8 +46,8 @@ static A_READER_AND_TWO_EDITORS: [Row; 3] = [
     (Event::Opened(3, Kind::Http), "Ok(More) "),
 ];
 
-// A reader's line and an editor's request, which comes twice, are answered as a row has it.
-fn meet_no_memory<K: Keeper>(
+/// A reader's line and an editor's request, which comes twice, are answered as a row has it.
+pub(crate) fn meet_no_memory<K: Keeper>(
     rt: &impl Abort,
     alloc: Global,
     hub: &mut Hub,
@@ -63,22 +63,12 @@ fn meet_no_memory<K: Keeper>(
     play(rt, alloc, hub, desk, &rows)
 }
 
-fn meet_anew<K: Keeper>(
-    rt: &impl Abort,
-    alloc: Global,
-    desk: &mut K,
-    wanted: (&'static str, &'static str, &'static str),
-) -> Result<(), Fail> {
-    let mut hub = Hub::new(alloc, HOST)?;
-    meet_no_memory(rt, alloc, &mut hub, desk, wanted)
-}
-
 // For memory: one answer is lost, and what comes after it is answered as ever.
 #[test]
 fn a_call_finds_no_memory(rt: HostRuntime) -> Result<(), Fail> {
     for (calls, reader, editor, other) in &ROWS {
-        let mut desk = FailingDesk::new(gem_desk(rt.alloc())?, *calls, false);
-        meet_anew(&rt, rt.alloc(), &mut desk, (*reader, *editor, *other))?;
+        let run = Run::NoMemory(*reader, *editor, *other);
+        over_failing(&rt, rt.alloc(), *calls, false, run)?;
     }
     Ok(())
 }
@@ -104,7 +94,8 @@ static TWO_READERS_AND_AN_EDITOR: [Row; 3] = [
     (Event::Opened(3, Kind::Http), "Ok(More) "),
 ];
 
-fn meet_no_store<K: Keeper>(
+/// All is unavailable after a reader's line.
+pub(crate) fn meet_no_store<K: Keeper>(
     rt: &impl Abort,
     alloc: Global,
     hub: &mut Hub,
@@ -115,17 +106,11 @@ fn meet_no_store<K: Keeper>(
     play(rt, alloc, hub, desk, &UNAVAILABLE_AFTER)
 }
 
-fn meet_no_store_anew<K: Keeper>(rt: &impl Abort, alloc: Global, desk: &mut K) -> Result<(), Fail> {
-    let mut hub = Hub::new(alloc, HOST)?;
-    meet_no_store(rt, alloc, &mut hub, desk)
-}
-
 // As a store fails.
 #[test]
 fn a_call_finds_no_store(rt: HostRuntime) -> Result<(), Fail> {
     for calls in 0..4u64 {
-        let mut desk = FailingDesk::new(gem_desk(rt.alloc())?, calls, true);
-        meet_no_store_anew(&rt, rt.alloc(), &mut desk)?;
+        over_failing(&rt, rt.alloc(), calls, true, Run::NoStore)?;
     }
     Ok(())
 }
@@ -139,8 +124,13 @@ fn told_within<K: Keeper>(
     room: usize,
 ) -> Result<String, Fail> {
     let mut sink = LimitedSink::new(alloc, room)?;
-    let out = hub.event(desk, Event::Bytes(id, b"DEFINE gem opal\r\n"), &mut sink);
-    let next = hub.event(desk, Event::Bytes(id, b"STATUS\r\n"), &mut sink);
+    let out = send(
+        hub,
+        desk,
+        Event::Bytes(id, b"DEFINE gem opal\r\n"),
+        &mut sink,
+    );
+    let next = send(hub, desk, Event::Bytes(id, b"STATUS\r\n"), &mut sink);
     let text = str::from_utf8(sink.taken()).unwrap_or("not UTF-8");
     Ok(format!(in alloc; "{out:?} {next:?} {text}")?)
 }
@@ -152,11 +142,11 @@ static ONE_OPENED: [Row; 1] = [(
 
 static ONE_ANSWERED: [Row; 1] = [(Event::Bytes(0, b"DEFINE gem opal\r\n"), FOUND_TOLD)];
 
-fn check_room(
+fn check_room<K: Keeper>(
     rt: &impl Abort,
     alloc: Global,
     hub: &mut Hub,
-    desk: &mut PlainDesk,
+    desk: &mut K,
     room: usize,
 ) -> Result<(), Fail> {
     let id = (room as u64).saturating_add(1);
@@ -167,12 +157,12 @@ fn check_room(
     Ok(())
 }
 
-// A sink that fails within an answer closes its connection alone.
-fn meet_no_room(
+/// A sink that fails within an answer closes its connection alone.
+pub(crate) fn meet_no_room<K: Keeper>(
     rt: &impl Abort,
     alloc: Global,
     hub: &mut Hub,
-    desk: &mut PlainDesk,
+    desk: &mut K,
 ) -> Result<(), Fail> {
     play(rt, alloc, hub, desk, &ONE_OPENED)?;
     for room in 0..FOUND.len() {
@@ -183,7 +173,5 @@ fn meet_no_room(
 
 #[test]
 fn a_sink_fails_at_each_octet(rt: HostRuntime) -> Result<(), Fail> {
-    let mut hub = Hub::new(rt.alloc(), HOST)?;
-    let mut desk = gem_desk(rt.alloc())?;
-    meet_no_room(&rt, rt.alloc(), &mut hub, &mut desk)
+    over_memory(&rt, rt.alloc(), true, Run::NoRoom)
 }

@@ -1,7 +1,7 @@
 // A catalogue in memory, and what a hub puts over it.
-use crate::checks::same_text;
+use crate::checks::{same, same_text};
 use dict_desk::{Keeper, PlainDesk};
-use dict_hub::{Event, Hub, Kind};
+use dict_hub::{Event, Hub, HubFault, Kind, Out};
 use dict_io::LimitedSink;
 use std::alloc::Global;
 use std::process::Abort;
@@ -18,19 +18,42 @@ pub(crate) const DELETE: &[u8] = b"DELETE /databases/gem HTTP/1.1\r\nRequest-Id:
 pub(crate) const DELETED_TOLD: &str =
     "Ok(Close) HTTP/1.1 200 OK\r\nContent-Type: application/json\r\nContent-Length: 56\r\nConnection: close\r\n\r\n{\"edition\":null,\"name\":\"gem\",\"number\":2,\"verb\":\"retire\"}";
 
-// Does what a request asks.
-fn install(alloc: Global, desk: &mut PlainDesk, request: &[u8]) -> Result<(), Fail> {
-    let mut hub = Hub::new(alloc, HOST)?;
-    let mut sink = LimitedSink::new(alloc, 1000)?;
-    hub.event(desk, Event::Opened(1, Kind::Http), &mut sink)?;
-    hub.event(desk, Event::Bytes(1, request), &mut sink)?;
+/// What becomes of a connection after an event.
+pub(crate) fn send<K: Keeper>(
+    hub: &mut Hub,
+    desk: &mut K,
+    event: Event,
+    sink: &mut LimitedSink,
+) -> Result<Out, HubFault> {
+    hub.event(desk, event, sink)
+}
+
+/// It is what is wanted.
+pub(crate) fn same_out(
+    rt: &impl Abort,
+    found: &Result<Out, HubFault>,
+    wanted: &Result<Out, HubFault>,
+) {
+    same(rt, found, wanted);
+}
+
+fn put<K: Keeper>(hub: &mut Hub, desk: &mut K, sink: &mut LimitedSink) -> Result<(), Fail> {
+    send(hub, desk, Event::Opened(1, Kind::Http), sink)?;
+    send(hub, desk, Event::Bytes(1, PUT), sink)?;
     Ok(())
+}
+
+/// Installs `gem`.
+pub(crate) fn install<K: Keeper>(alloc: Global, desk: &mut K) -> Result<(), Fail> {
+    let mut sink = LimitedSink::new(alloc, 1000)?;
+    let mut hub = Hub::new(alloc, HOST)?;
+    put(&mut hub, desk, &mut sink)
 }
 
 /// A desk over which `gem` was installed.
 pub(crate) fn gem_desk(alloc: Global) -> Result<PlainDesk, Fail> {
     let mut desk = PlainDesk::new(alloc);
-    install(alloc, &mut desk, PUT)?;
+    install(alloc, &mut desk)?;
     Ok(desk)
 }
 
@@ -42,7 +65,7 @@ pub(crate) fn told<K: Keeper>(
     event: Event,
 ) -> Result<String, Fail> {
     let mut sink = LimitedSink::new(alloc, 10_000)?;
-    let out = hub.event(desk, event, &mut sink);
+    let out = send(hub, desk, event, &mut sink);
     let text = str::from_utf8(sink.taken()).unwrap_or("not UTF-8");
     Ok(format!(in alloc; "{out:?} {text}")?)
 }
@@ -62,15 +85,4 @@ pub(crate) fn play<K: Keeper>(
         same_text(rt, told(alloc, hub, desk, *event)?.as_str(), *wanted);
     }
     Ok(())
-}
-
-/// The same in a new hub.
-pub(crate) fn play_anew<K: Keeper>(
-    rt: &impl Abort,
-    alloc: Global,
-    desk: &mut K,
-    rows: &[Row],
-) -> Result<(), Fail> {
-    let mut hub = Hub::new(alloc, HOST)?;
-    play(rt, alloc, &mut hub, desk, rows)
 }

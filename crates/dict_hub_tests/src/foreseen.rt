@@ -95,8 +95,8 @@ impl Run {
         })
     }
 
-    fn open(&mut self, alloc: Global, id: u64, kind: Kind) -> Result<(), Fail> {
-        let event = Event::Opened(id, kind);
+    // Notes what an event is answered.
+    fn take(&mut self, alloc: Global, event: Event) -> Result<(), Fail> {
         let answer = told(alloc, &mut self.hub, &mut self.desk, event)?;
         self.answers.push_str(answer.as_str())?;
         Ok(())
@@ -116,41 +116,91 @@ impl Run {
         Ok(())
     }
 
-    fn take(&mut self, alloc: Global, id: u64, piece: &[u8]) -> Result<(), Fail> {
-        let event = Event::Bytes(id, piece);
-        let answer = told(alloc, &mut self.hub, &mut self.desk, event)?;
-        self.answers.push_str(answer.as_str())?;
+    // A request in two pieces, each of which is foreseen first where that is asked for.
+    fn send(&mut self, alloc: Global, octets: &[u8], is_foreseen: bool) -> Result<(), Fail> {
+        self.take(alloc, Event::Opened(1, Kind::Http))?;
+        for piece in octets.chunks(66_000) {
+            if is_foreseen {
+                self.note(1, piece)?;
+            }
+            self.take(alloc, Event::Bytes(1, piece))?;
+        }
         Ok(())
     }
-}
 
-// The run of a request in two pieces, each of which is foreseen first where that is asked for.
-fn run_of(alloc: Global, octets: &[u8], is_foreseen: bool) -> Result<Run, Fail> {
-    let mut run = Run::new(alloc)?;
-    run.open(alloc, 1, Kind::Http)?;
-    for piece in octets.chunks(66_000) {
-        if is_foreseen {
-            run.note(1, piece)?;
-        }
-        run.take(alloc, 1, piece)?;
+    // A kept id, a reader's octets, those of no connection, and a small request.
+    fn foresee_others(
+        &mut self,
+        rt: &impl Abort,
+        alloc: Global,
+        octets: &[u8],
+    ) -> Result<(), Fail> {
+        self.take(alloc, Event::Opened(2, Kind::Http))?;
+        self.take(alloc, Event::Opened(3, Kind::Dict))?;
+        same(rt, &self.foresee(2, octets), &false);
+        same(rt, &self.foresee(2, PUT), &false);
+        same(rt, &self.foresee(3, octets), &false);
+        same(rt, &self.foresee(4, octets), &false);
+        Ok(())
     }
-    Ok(run)
+
+    // What is answered, where all else is what is wanted.
+    fn look(
+        &mut self,
+        rt: &impl Abort,
+        alloc: Global,
+        octets: &[u8],
+        wanted: Wanted<'_>,
+    ) -> Result<String, Fail> {
+        self.send(alloc, octets, wanted.is_foreseen)?;
+        if wanted.has_others {
+            self.foresee_others(rt, alloc, octets)?;
+        }
+        same_text(rt, self.foreseen.as_str(), wanted.foreseen);
+        same_text(rt, self.desk.noted(), wanted.noted);
+        Ok(self.answers.clone()?)
+    }
 }
 
-// What is foreseen is what is wanted, and the answers are those of the same request where nothing was foreseen.
-fn check(
+// Whether a request is foreseen, whether other octets are behind it, and what is foreseen then, and noted.
+#[derive(Clone, Copy)]
+struct Wanted<'a> {
+    is_foreseen: bool,
+    has_others: bool,
+    foreseen: &'a str,
+    noted: &'a str,
+}
+
+// The answers to a request in a run of its own.
+fn answers_to(
     rt: &impl Abort,
     alloc: Global,
     octets: &[u8],
-    foreseen: &str,
-    noted: &str,
-) -> Result<(), Fail> {
-    let run = run_of(alloc, octets, true)?;
-    let alone = run_of(alloc, octets, false)?;
-    same_text(rt, run.foreseen.as_str(), foreseen);
-    same_text(rt, run.desk.noted(), noted);
-    same_text(rt, run.answers.as_str(), alone.answers.as_str());
-    same_text(rt, alone.desk.noted(), "");
+    wanted: Wanted<'_>,
+) -> Result<String, Fail> {
+    let mut run = Run::new(alloc)?;
+    run.look(rt, alloc, octets, wanted)
+}
+
+const NOTHING: Wanted<'static> = Wanted {
+    is_foreseen: false,
+    has_others: false,
+    foreseen: "",
+    noted: "",
+};
+
+const OTHERS: Wanted<'static> = Wanted {
+    is_foreseen: false,
+    has_others: true,
+    foreseen: "",
+    noted: "",
+};
+
+// What is foreseen is what is wanted, and the answers are those of the same request where nothing was foreseen.
+fn check(rt: &impl Abort, alloc: Global, octets: &[u8], wanted: Wanted<'_>) -> Result<(), Fail> {
+    let answers = answers_to(rt, alloc, octets, wanted)?;
+    let alone = answers_to(rt, alloc, octets, NOTHING)?;
+    same_text(rt, answers.as_str(), alone.as_str());
     Ok(())
 }
 
@@ -158,26 +208,20 @@ fn check(
 fn installs_are_foreseen(rt: HostRuntime) -> Result<(), Fail> {
     for (head, foreseen, noted) in &CASES {
         let octets = request(rt.alloc(), *head)?;
-        check(&rt, rt.alloc(), &octets, *foreseen, *noted)?;
+        let wanted = Wanted {
+            is_foreseen: true,
+            has_others: false,
+            foreseen: *foreseen,
+            noted: *noted,
+        };
+        check(&rt, rt.alloc(), &octets, wanted)?;
     }
-    Ok(())
-}
-
-// A kept id, a reader's octets, those of no connection, and a small request.
-fn check_others(rt: &impl Abort, alloc: Global, octets: &[u8]) -> Result<(), Fail> {
-    let mut run = run_of(alloc, octets, false)?;
-    run.open(alloc, 2, Kind::Http)?;
-    run.open(alloc, 3, Kind::Dict)?;
-    same(rt, &run.foresee(2, octets), &false);
-    same(rt, &run.foresee(2, PUT), &false);
-    same(rt, &run.foresee(3, octets), &false);
-    same(rt, &run.foresee(4, octets), &false);
-    same_text(rt, run.desk.noted(), "");
     Ok(())
 }
 
 #[test]
 fn other_octets_are_not_foreseen(rt: HostRuntime) -> Result<(), Fail> {
     let octets = request(rt.alloc(), INSTALL)?;
-    check_others(&rt, rt.alloc(), &octets)
+    answers_to(&rt, rt.alloc(), &octets, OTHERS)?;
+    Ok(())
 }

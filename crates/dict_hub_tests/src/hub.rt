@@ -1,70 +1,102 @@
 //! Which connections are open, and what an editor's octets are answered piece by piece.
-use super::files::{HOST, PUT, Row, play, play_anew};
+use super::files::{PUT, Row, play, same_out, send};
+use super::runs::{Run, over_memory};
 use crate::checks::{same, same_text};
-use dict_desk::PlainDesk;
+use dict_desk::Keeper;
 use dict_hub::{Event, Hub, HubFault, Kind, Out};
 use dict_io::LimitedSink;
 use std::alloc::Global;
 use std::process::Abort;
 use std::test::Fail;
 
-// A hub over a catalogue in memory, and where all that it puts goes.
-#[derive(Drop)]
-struct Run {
-    hub: Hub<'static>,
-    desk: PlainDesk,
-    sink: LimitedSink,
+// Opens an editor's connection.
+fn open<K: Keeper>(
+    hub: &mut Hub,
+    desk: &mut K,
+    sink: &mut LimitedSink,
+    id: u64,
+) -> Result<Out, HubFault> {
+    send(hub, desk, Event::Opened(id, Kind::Http), sink)
 }
 
-impl Run {
-    fn new(alloc: Global) -> Result<Run, Fail> {
-        Ok(Run {
-            hub: Hub::new(alloc, HOST)?,
-            desk: PlainDesk::new(alloc),
-            sink: LimitedSink::new(alloc, 1000)?,
-        })
-    }
+fn end<K: Keeper>(
+    hub: &mut Hub,
+    desk: &mut K,
+    sink: &mut LimitedSink,
+    id: u64,
+) -> Result<Out, HubFault> {
+    send(hub, desk, Event::Ended(id), sink)
+}
 
-    // Opens an editor's connection.
-    fn open(&mut self, id: u64) -> Result<Out, HubFault> {
-        let event = Event::Opened(id, Kind::Http);
-        self.hub.event(&mut self.desk, event, &mut self.sink)
-    }
+// Opens a connection twice and ends it.
+fn open_twice<K: Keeper>(
+    rt: &impl Abort,
+    hub: &mut Hub,
+    desk: &mut K,
+    sink: &mut LimitedSink,
+    id: u64,
+) {
+    same_out(rt, &open(hub, desk, sink, id), &Ok(Out::More));
+    same_out(
+        rt,
+        &open(hub, desk, sink, id),
+        &Err(HubFault::UnknownConnection),
+    );
+    same_out(rt, &end(hub, desk, sink, id), &Ok(Out::More));
+}
 
-    fn end(&mut self, id: u64) -> Result<Out, HubFault> {
-        let event = Event::Ended(id);
-        self.hub.event(&mut self.desk, event, &mut self.sink)
+// What becomes of connections that are opened, or ended, in this order: the last of those that were opened before, 64 at
+// once, one more, and another once one of them ended.
+static AT_ONCE: [(bool, u64, u64, Result<Out, HubFault>); 7] = [
+    (true, 4_095, 4_096, Err(HubFault::UnknownConnection)),
+    (true, 4_096, 4_160, Ok(Out::More)),
+    (true, 4_160, 4_161, Err(HubFault::TooMany)),
+    (true, 4_159, 4_160, Err(HubFault::UnknownConnection)),
+    (false, 4_100, 4_101, Ok(Out::More)),
+    (false, 4_100, 4_101, Err(HubFault::UnknownConnection)),
+    (true, 4_160, 4_161, Ok(Out::More)),
+];
+
+fn open_or_end<K: Keeper>(
+    hub: &mut Hub,
+    desk: &mut K,
+    sink: &mut LimitedSink,
+    is_opened: bool,
+    id: u64,
+) -> Result<Out, HubFault> {
+    if is_opened {
+        open(hub, desk, sink, id)
+    } else {
+        end(hub, desk, sink, id)
     }
 }
 
-// Opens each of 4,096 connections twice and ends it.
-fn one_by_one(rt: &impl Abort, run: &mut Run) {
+fn at_once<K: Keeper>(rt: &impl Abort, hub: &mut Hub, desk: &mut K, sink: &mut LimitedSink) {
+    for (is_opened, first, behind, wanted) in &AT_ONCE {
+        for id in *first..*behind {
+            same_out(rt, &open_or_end(hub, desk, sink, *is_opened, id), wanted);
+        }
+    }
+}
+
+/// Each of 4,096 connections is opened and ended, then 64 are open at once.
+pub(crate) fn open_and_close<K: Keeper>(
+    rt: &impl Abort,
+    alloc: Global,
+    hub: &mut Hub,
+    desk: &mut K,
+) -> Result<(), Fail> {
+    let mut sink = LimitedSink::new(alloc, 1000)?;
     for id in 0..4_096u64 {
-        same(rt, &run.open(id), &Ok(Out::More));
-        same(rt, &run.open(id), &Err(HubFault::UnknownConnection));
-        same(rt, &run.end(id), &Ok(Out::More));
+        open_twice(rt, hub, desk, &mut sink, id);
     }
-}
-
-// Opens 64 at once, ends one of them, and may open another.
-fn at_once(rt: &impl Abort, run: &mut Run) {
-    for id in 4_096..4_160u64 {
-        same(rt, &run.open(id), &Ok(Out::More));
-    }
-    same(rt, &run.open(4_160), &Err(HubFault::TooMany));
-    same(rt, &run.open(4_159), &Err(HubFault::UnknownConnection));
-    same(rt, &run.end(4_100), &Ok(Out::More));
-    same(rt, &run.end(4_100), &Err(HubFault::UnknownConnection));
-    same(rt, &run.open(4_160), &Ok(Out::More));
+    at_once(rt, hub, desk, &mut sink);
+    Ok(())
 }
 
 #[test]
 fn connections_open_and_close(rt: HostRuntime) -> Result<(), Fail> {
-    let mut run = Run::new(rt.alloc())?;
-    one_by_one(&rt, &mut run);
-    same(&rt, &run.open(4_095), &Err(HubFault::UnknownConnection));
-    at_once(&rt, &mut run);
-    Ok(())
+    over_memory(&rt, rt.alloc(), false, Run::OpenAndClose)
 }
 
 #[test]
@@ -77,25 +109,16 @@ fn fault_numbers(rt: HostRuntime) {
 const INSTALLED: &str =
     "HTTP/1.1 200 OK\r\nContent-Type: application/json\r\nContent-Length: 54\r\nConnection: close\r\n\r\n{\"edition\":1,\"name\":\"gem\",\"number\":1,\"verb\":\"install\"}";
 
-// The pieces, until one is answered: how many there were, and what was put into a sink with this room.
-fn told_pieces(alloc: Global, pieces: &[&[u8]], room: usize) -> Result<String, Fail> {
-    let mut desk = PlainDesk::new(alloc);
-    let mut sink = LimitedSink::new(alloc, room)?;
-    let count = take_pieces(alloc, &mut desk, &mut sink, pieces)?;
-    let text = str::from_utf8(sink.taken()).unwrap_or("not UTF-8");
-    Ok(format!(in alloc; "{count} {text}")?)
-}
-
-fn take_pieces(
-    alloc: Global,
-    desk: &mut PlainDesk,
+// The pieces, until one is answered: how many there were.
+fn take_pieces<K: Keeper>(
+    hub: &mut Hub,
+    desk: &mut K,
     sink: &mut LimitedSink,
     pieces: &[&[u8]],
 ) -> Result<usize, Fail> {
-    let mut hub = Hub::new(alloc, HOST)?;
-    hub.event(desk, Event::Opened(1, Kind::Http), sink)?;
+    send(hub, desk, Event::Opened(1, Kind::Http), sink)?;
     for (count, piece) in pieces.iter().enumerate() {
-        match hub.event(desk, Event::Bytes(1, piece), sink)? {
+        match send(hub, desk, Event::Bytes(1, piece), sink)? {
             Out::More => {}
             Out::Close => return Ok(count.saturating_add(1)),
         }
@@ -103,31 +126,65 @@ fn take_pieces(
     Ok(0)
 }
 
+// Their count, and what was put into a sink with this room.
+fn told_pieces<K: Keeper>(
+    alloc: Global,
+    hub: &mut Hub,
+    desk: &mut K,
+    pieces: &[&[u8]],
+    room: usize,
+) -> Result<String, Fail> {
+    let mut sink = LimitedSink::new(alloc, room)?;
+    let count = take_pieces(hub, desk, &mut sink, pieces)?;
+    let text = str::from_utf8(sink.taken()).unwrap_or("not UTF-8");
+    Ok(format!(in alloc; "{count} {text}")?)
+}
+
 // What is told of an install whose octets come one by one.
-fn told_octets(alloc: Global) -> Result<String, Fail> {
+fn told_octets<K: Keeper>(alloc: Global, hub: &mut Hub, desk: &mut K) -> Result<String, Fail> {
     let mut pieces = Vec::new(alloc);
     for octet in PUT.chunks(1) {
         pieces.push(octet)?;
     }
-    told_pieces(alloc, &pieces, 1000)
+    told_pieces(alloc, hub, desk, &pieces, 1000)
+}
+
+/// It is installed once the last of them came.
+pub(crate) fn single_octets<K: Keeper>(
+    rt: &impl Abort,
+    alloc: Global,
+    hub: &mut Hub,
+    desk: &mut K,
+) -> Result<(), Fail> {
+    let told = told_octets(alloc, hub, desk)?;
+    let count = PUT.len();
+    let wanted = format!(in alloc; "{count} {INSTALLED}")?;
+    same_text(rt, told.as_str(), wanted.as_str());
+    Ok(())
 }
 
 #[test]
 fn a_request_octet_by_octet(rt: HostRuntime) -> Result<(), Fail> {
-    let told = told_octets(rt.alloc())?;
-    let count = PUT.len();
-    let wanted = format!(in rt.alloc(); "{count} {INSTALLED}")?;
-    same_text(&rt, told.as_str(), wanted.as_str());
+    over_memory(&rt, rt.alloc(), false, Run::SingleOctets)
+}
+
+/// What stands behind a request is no second one, and an answer that isn't taken closes too.
+pub(crate) fn one_piece<K: Keeper>(
+    rt: &impl Abort,
+    alloc: Global,
+    hub: &mut Hub,
+    desk: &mut K,
+) -> Result<(), Fail> {
+    let piece =
+        b"DELETE /databases/gem HTTP/1.1\r\n\r\nDELETE /databases/gem HTTP/1.1\r\n\r\n".as_slice();
+    let told = told_pieces(alloc, hub, desk, &[piece], 3)?;
+    same_text(rt, told.as_str(), "1 HTT");
     Ok(())
 }
 
-// What stands behind a request is no second one, and an answer that isn't taken closes too.
 #[test]
 fn one_request_a_connection(rt: HostRuntime) -> Result<(), Fail> {
-    let piece =
-        b"DELETE /databases/gem HTTP/1.1\r\n\r\nDELETE /databases/gem HTTP/1.1\r\n\r\n".as_slice();
-    same_text(&rt, told_pieces(rt.alloc(), &[piece], 3)?.as_str(), "1 HTT");
-    Ok(())
+    over_memory(&rt, rt.alloc(), false, Run::OnePiece)
 }
 
 const INSTALLED_TOLD: &str =
@@ -167,30 +224,26 @@ static BEFORE_AN_INSTALL: [Row; 5] = [
 
 #[test]
 fn installs_beside_a_line(rt: HostRuntime) -> Result<(), Fail> {
-    let mut desk = PlainDesk::new(rt.alloc());
-    play_anew(&rt, rt.alloc(), &mut desk, &BETWEEN_TWO_PIECES)?;
-    Ok(())
+    over_memory(&rt, rt.alloc(), false, Run::Rows(&BETWEEN_TWO_PIECES))
 }
 
 #[test]
 fn a_line_before_an_install(rt: HostRuntime) -> Result<(), Fail> {
-    let mut desk = PlainDesk::new(rt.alloc());
-    play_anew(&rt, rt.alloc(), &mut desk, &BEFORE_AN_INSTALL)?;
-    Ok(())
+    over_memory(&rt, rt.alloc(), false, Run::Rows(&BEFORE_AN_INSTALL))
 }
 
 // Opens connections of both kinds in turn, with the ids from 1.
-fn open_many(
+fn open_many<K: Keeper>(
     rt: &impl Abort,
     alloc: Global,
     hub: &mut Hub,
-    desk: &mut PlainDesk,
+    desk: &mut K,
 ) -> Result<(), Fail> {
     let mut sink = LimitedSink::new(alloc, 10_000)?;
     for id in 1..65u64 {
         let kind = if id % 2 == 0 { Kind::Http } else { Kind::Dict };
-        let out = hub.event(desk, Event::Opened(id, kind), &mut sink);
-        same(rt, &out, &Ok(Out::More));
+        let out = send(hub, desk, Event::Opened(id, kind), &mut sink);
+        same_out(rt, &out, &Ok(Out::More));
     }
     Ok(())
 }
@@ -218,11 +271,12 @@ static WITH_MANY: [Row; 7] = [
     ),
 ];
 
-fn come_and_go(
+/// They come, one ends and another comes.
+pub(crate) fn come_and_go<K: Keeper>(
     rt: &impl Abort,
     alloc: Global,
     hub: &mut Hub,
-    desk: &mut PlainDesk,
+    desk: &mut K,
 ) -> Result<(), Fail> {
     open_many(rt, alloc, hub, desk)?;
     play(rt, alloc, hub, desk, &WITH_MANY)
@@ -230,7 +284,5 @@ fn come_and_go(
 
 #[test]
 fn connections_come_and_go(rt: HostRuntime) -> Result<(), Fail> {
-    let mut hub = Hub::new(rt.alloc(), HOST)?;
-    let mut desk = PlainDesk::new(rt.alloc());
-    come_and_go(&rt, rt.alloc(), &mut hub, &mut desk)
+    over_memory(&rt, rt.alloc(), false, Run::ComeAndGo)
 }

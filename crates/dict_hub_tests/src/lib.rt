@@ -15,4 +15,6 @@ mod foreseen;
 #[cfg(test)]
 mod hub;
 #[cfg(test)]
+mod runs;
+#[cfg(test)]
 mod together;

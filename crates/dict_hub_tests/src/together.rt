@@ -1,7 +1,8 @@
 // Many connections at once, octet by octet, each beside the same session or request alone.
-use super::files::{HOST, PUT, gem_desk};
+use super::files::{HOST, PUT, gem_desk, same_out, send};
+use super::runs::{Run, over_memory};
 use crate::checks::same;
-use dict_desk::PlainDesk;
+use dict_desk::{Keeper, PlainDesk};
 use dict_http::{Need, Service, need};
 use dict_hub::{Event, Hub, HubFault, Kind};
 use dict_io::LimitedSink;
@@ -75,71 +76,85 @@ fn alone(alloc: Global, desk: &mut PlainDesk, id: u64, sink: &mut LimitedSink) -
 }
 
 // Whether that is what came to a sink.
-fn is_as_alone(alloc: Global, id: u64, taken: &[u8]) -> Result<bool, Fail> {
-    let mut desk = gem_desk(alloc)?;
+fn comes_alone(alloc: Global, desk: &mut PlainDesk, id: u64, taken: &[u8]) -> Result<bool, Fail> {
     let mut sink = LimitedSink::new(alloc, 10_000)?;
-    alone(alloc, &mut desk, id, &mut sink)?;
+    alone(alloc, desk, id, &mut sink)?;
     Ok(sink.taken() == taken)
 }
 
+// The same over a desk of its own.
+fn is_as_alone(alloc: Global, id: u64, taken: &[u8]) -> Result<bool, Fail> {
+    let mut desk = gem_desk(alloc)?;
+    comes_alone(alloc, &mut desk, id, taken)
+}
+
 // Opens 64 connections, each with a sink of its own.
-fn open_all(
+fn open_all<K: Keeper>(
     alloc: Global,
     hub: &mut Hub,
-    desk: &mut PlainDesk,
+    desk: &mut K,
     sinks: &mut Vec<LimitedSink>,
 ) -> Result<(), Fail> {
     for id in 1..65u64 {
         let mut sink = LimitedSink::new(alloc, 10_000)?;
-        hub.event(desk, Event::Opened(id, kind_of(id)), &mut sink)?;
+        send(hub, desk, Event::Opened(id, kind_of(id)), &mut sink)?;
         sinks.push(sink)?;
     }
     Ok(())
 }
 
 // Sends each connection its octet of this place. What comes on one that is closed is refused.
-fn send_each(hub: &mut Hub, desk: &mut PlainDesk, sinks: &mut [LimitedSink], place: usize) {
+fn send_each<K: Keeper>(hub: &mut Hub, desk: &mut K, sinks: &mut [LimitedSink], place: usize) {
     for (id, sink) in (1..65u64).zip(sinks.iter_mut()) {
         if let Some(octet) = sent(id).get(place) {
             let piece = [*octet];
-            let _ = hub.event(desk, Event::Bytes(id, &piece), sink);
+            let _ = send(hub, desk, Event::Bytes(id, &piece), sink);
         }
     }
 }
 
 // Each is answered as it would be alone, and is closed.
-fn end_each(
+fn end_each<K: Keeper>(
     rt: &impl Abort,
     alloc: Global,
     hub: &mut Hub,
-    desk: &mut PlainDesk,
+    desk: &mut K,
     sinks: &mut [LimitedSink],
 ) -> Result<(), Fail> {
     for (id, sink) in (1..65u64).zip(sinks.iter_mut()) {
         same(rt, &is_as_alone(alloc, id, sink.taken())?, &true);
-        let end = hub.event(desk, Event::Ended(id), sink);
-        same(rt, &end, &Err(HubFault::UnknownConnection));
+        let end = send(hub, desk, Event::Ended(id), sink);
+        same_out(rt, &end, &Err(HubFault::UnknownConnection));
     }
     Ok(())
 }
 
-fn serve_all(
+fn send_and_end<K: Keeper>(
     rt: &impl Abort,
     alloc: Global,
     hub: &mut Hub,
-    desk: &mut PlainDesk,
+    desk: &mut K,
+    sinks: &mut [LimitedSink],
+) -> Result<(), Fail> {
+    for place in 0..300 {
+        send_each(hub, desk, sinks, place);
+    }
+    end_each(rt, alloc, hub, desk, sinks)
+}
+
+/// All are opened, sent their octets in turn, and ended.
+pub(crate) fn serve_all<K: Keeper>(
+    rt: &impl Abort,
+    alloc: Global,
+    hub: &mut Hub,
+    desk: &mut K,
 ) -> Result<(), Fail> {
     let mut sinks = Vec::new(alloc);
     open_all(alloc, hub, desk, &mut sinks)?;
-    for place in 0..300 {
-        send_each(hub, desk, &mut sinks, place);
-    }
-    end_each(rt, alloc, hub, desk, &mut sinks)
+    send_and_end(rt, alloc, hub, desk, &mut sinks)
 }
 
 #[test]
 fn many_connections_octet_by_octet(rt: HostRuntime) -> Result<(), Fail> {
-    let mut hub = Hub::new(rt.alloc(), HOST)?;
-    let mut desk = gem_desk(rt.alloc())?;
-    serve_all(&rt, rt.alloc(), &mut hub, &mut desk)
+    over_memory(&rt, rt.alloc(), true, Run::Together)
 }
