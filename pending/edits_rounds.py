@@ -100,9 +100,10 @@ NAMES = re.compile(r"has no field|is not in scope|has no `|is no name|was not ad
 
 
 def edited(path, folder):
-    loader = importlib.machinery.SourceFileLoader("rtmod", "/opt/rattle/bin/rt")
+    kit = os.path.dirname(subprocess.run(["rt", "doc"], capture_output=True, text=True, check=True).stdout.strip())
+    loader = importlib.machinery.SourceFileLoader("rtmod", f"{kit}/bin/rt")
     rt = importlib.util.module_from_spec(importlib.util.spec_from_loader("rtmod", loader))
-    sys.path.insert(0, "/opt/rattle/bin")
+    sys.path.insert(0, f"{kit}/bin")
     loader.exec_module(rt)
     texts, why = rt.read_edit(path, folder)
     if why:
