@@ -6,7 +6,7 @@ PAGE = 4096
 
 
 def read(path):
-    """What one run told: the fewest microseconds of each kind, what was found of it, the pages, the entries and their octets."""
+    """What one run told: the fewest microseconds of each kind, what was found of it, the pages, and the counts of entries, octets and steps."""
     times, found, pages, sizes = {}, {}, {}, {}
     for line in open(path):
         words = line.split()
@@ -15,7 +15,9 @@ def read(path):
         elif words[1] == "pages":
             pages[words[0]] = int(words[2])
         elif words[0] == "entries":
-            sizes = {"entries": int(words[1]), "octets": int(words[3])}
+            sizes.update(entries=int(words[1]), octets=int(words[3]))
+        elif words[0] == "steps":
+            sizes["steps"] = int(words[2])
         elif words[1] == "found":
             found[words[0]] = {name: int(words[at + 1]) for at, name in enumerate(words) if name in ("found", "looked", "rarer", "asked")}
     return times, found, pages, sizes
@@ -39,6 +41,7 @@ pages = min(run[2]["after"] - run[2]["before"] for run in runs)
 entries = sizes["entries"]
 print(f"{entries} entries; keys and shown headwords {sizes['octets']} octets")
 print(f"made in {best['made'] / 1000:.0f} ms ({best['pushed'] / 1000:.0f} of them to push): {best['made'] / entries:.2f} ms a thousand, at most 2.5")
+print(f"by {sizes['steps']} steps, the longest of {best['step'] / 1000:.1f} ms")
 print(f"memory besides keys and shown headwords: {(pages * PAGE - sizes['octets']) / entries:.0f} octets an entry, at most 100")
 for name, sums in found.items():
     if name not in best or "asked" not in sums:

@@ -4,9 +4,9 @@ use Rattle.std.specs.List.{range_with_len}
 use Rattle.std.specs.Result.{IfOk}
 use Rattle.std.specs.Str.{bytes_eq}
 use Rattle.std.proofs.lemmas.List.Elements.{filter_agree}
-use Rattle.dict_search.specs.Places.{key_at, places_where}
-use Rattle.dict_search.specs.Selected.{is_between}
-use Rattle.dict_search.proofs.PlaceLemmas.{exact_between}
+use Rattle.dict_places.specs.Places.{key_at, places_where}
+use Rattle.dict_places.specs.Selected.{is_between}
+use Rattle.dict_places.proofs.PlaceLemmas.{exact_between}
 
 pub then_too : {A E : Type 0} (P Q : A → Type 0) (r : Result A E) → ((x : A) → P x → Q x) → IfOk r P → IfOk r Q
 then_too P Q (Ok x) f h = f x h

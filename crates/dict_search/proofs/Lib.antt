@@ -1,12 +1,4 @@
-pub mod CommonLemmas
 pub mod EditionLemmas
 pub mod IndexLemmas
-pub mod ListLemmas
-pub mod KeptLemmas
-pub mod PieceLemmas
-pub mod PlaceLemmas
-pub mod PlacedLemmas
-pub mod RankLemmas
-pub mod RarestLemmas
 pub mod ShownLemmas
 pub mod StoredLemmas

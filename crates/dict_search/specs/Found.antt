@@ -5,8 +5,8 @@ use Rattle.dict_match.specs.declared.strategy.Strategy.{Strategy}
 use Rattle.dict_derived.specs.Search.{rows_for}
 use Rattle.dict_desk.specs.Found.{distinct}
 use Rattle.dict_search.specs.Entries.{Indexed, keys_of, shown_of}
-use Rattle.dict_search.specs.Places.{places_where}
-use Rattle.dict_search.specs.Selected.{is_selected}
+use Rattle.dict_places.specs.Places.{places_where}
+use Rattle.dict_places.specs.Selected.{is_selected}
 
 -- the entries found, in their order, and their places
 abbrev pub found_entries : Strategy → List ℕ → List Indexed → List Indexed

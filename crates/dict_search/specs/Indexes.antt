@@ -2,12 +2,12 @@
 use Rattle.std.specs.Prelude.{List, ℕ, ◌<◌, length, map, reverse}
 use Rattle.dict_match.specs.Words.{words_between_blanks}
 use Rattle.dict_search.specs.Entries.{Indexed, keys_of}
-use Rattle.dict_search.specs.Orders.{IsOrderOf}
+use Rattle.dict_places.specs.Orders.{IsOrderOf}
 use Rattle.dict_derived.specs.Kept.{kept_grams}
-use Rattle.dict_search.specs.Pieces.{ArePlaced}
+use Rattle.dict_places.specs.Pieces.{ArePlaced}
 use Rattle.std.specs.List.{All}
 use Rattle.std.specs.Str.{IsUtf8}
-use Rattle.dict_search.specs.declared.pieces.Pieces.{Pieces}
+use Rattle.dict_places.specs.declared.pieces.Pieces.{Pieces}
 
 pub record IsIndexed (entries : List Indexed) (by_key by_reversed : List ℕ) (words trigrams : Pieces) : Type 0 where
   pub few : length entries < 4294967296

@@ -1,11 +1,6 @@
-pub mod Places
-pub mod Common
 pub mod Entries
 pub mod Selected
 pub mod Found
-pub mod Orders
-pub mod Pieces
-pub mod PlacedPieces
 pub mod Stored
 pub mod Indexes
 pub mod Making

@@ -3,7 +3,7 @@ ghost use Rattle.std.specs.Prelude.{◌≡◌, ◌≤◌, ◌<◌, ◌^◌, [], 
 ghost use Rattle.dict_match.specs.Key.{key_of};
 
 use crate::entries::Entries;
-use crate::index::{Index, index_of};
+use crate::index::Index;
 use crate::making::IndexMaking;
 use dict_match::{key_laws, key_of};
 use dict_runs::Span;
@@ -67,16 +67,14 @@ impl IndexBuilder {
         requires { length self < 2 ^ 32 }
         ensures { IfOk result (λ index. index ≡ self) }
     {
-        let count = self.entries.len() as u32;
-        let mut entries = self.entries;
-        entries.shrink();
-        index_of(self.alloc, entries, count)
+        self.making().end()
     }
 
-    /// The same, of which nothing is made yet: it is made by steps.
+    /// The same, of which nothing is made yet: it is made by steps, 65,536 at most.
     pub fn making(self) -> IndexMaking
         requires { length self < 2 ^ 32 }
-        ensures { result ≡ self }
+        ensures same { result.entries ≡ self }
+        ensures few { result.left ≤ 2 ^ 16 }
     {
         let mut entries = self.entries;
         entries.shrink();

@@ -5,23 +5,22 @@ ghost use Rattle.dict_match.specs.Matching.{is_hit};
 ghost use Rattle.dict_match.specs.declared.strategy.Strategy.TheVariants.{Substring};
 ghost use Rattle.dict_derived.specs.Search.{rows_of, rows_for};
 ghost use Rattle.dict_search.specs.Entries.{entry_at, entries_at, keys_of, shown_of};
-ghost use Rattle.dict_search.specs.Places.{key_at, places_where};
+ghost use Rattle.dict_places.specs.Places.{key_at, places_where};
 ghost use Rattle.dict_search.specs.Indexes.{IsIndexed};
-ghost use Rattle.dict_search.specs.Orders.{IsOrderOf};
-ghost use Rattle.dict_search.specs.Selected.{is_selected, has_gram, has_word, finds_all, AreSelected};
+ghost use Rattle.dict_places.specs.Orders.{IsOrderOf};
+ghost use Rattle.dict_search.specs.Selected.{AreSelected};
+ghost use Rattle.dict_places.specs.Selected.{is_selected, has_gram, has_word, finds_all};
 ghost use Rattle.dict_search.specs.Found.{found_places, found_entries, found_headwords, count_selected};
 
-use crate::common::common_places;
 use crate::entries::Entries;
 use crate::found::{Counted, Found};
-use crate::heads::heads_of;
-use crate::keeping::{keep_hits, keep_with_gram};
-use crate::order::{first_places, places_between, reversed_texts, sorted_places};
-use crate::pieces::{Pieces, grams_of, words_of};
-use crate::reversed::places_between_reversed;
 use crate::shown::first_shown;
 use dict_derived::{Selection, is_kept, select};
 use dict_match::Strategy;
+use dict_places::{
+    Pieces, common_places, first_places, keep_hits, keep_with_gram, places_between,
+    places_between_reversed, reversed_texts, sorted_places,
+};
 use std::alloc::{AllocError, Global};
 use std::marker::Model;
 
@@ -64,45 +63,33 @@ pub struct IndexedEntry<'a> {
     pub size: usize,
 }
 
-/// The index of these entries. The only error is refused memory.
-pub(crate) fn index_of(alloc: Global, entries: Entries, count: u32) -> Result<Index, AllocError>
-    requires { count ≡ length entries }
-    ensures { IfOk result (λ index. index ≡ entries) }
-{
-    let by_key = sorted_places(alloc, entries.keys(), count)?;
-    let key_heads = heads_of(alloc, entries.keys(), by_key.as_slice())?;
-    let by_reversed_key = reversed_places(alloc, &entries, count)?;
-    let words = words_of(alloc, entries.keys(), count)?;
-    let grams = grams_of(alloc, entries.keys(), count)?;
-    Ok(Index {
-        entries,
-        by_key,
-        key_heads,
-        by_reversed_key,
-        words,
-        grams,
-    })
+/// The places of entries in the orders of their keys, and the first octets of some keys.
+#[derive(Drop)]
+pub(crate) struct Orders {
+    pub(crate) by_key: Vec<u32>,
+    pub(crate) key_heads: Vec<u64>,
+    pub(crate) by_reversed_key: Vec<u32>,
+}
+
+/// The words of keys, and their runs of three octets, with their places.
+#[derive(Drop)]
+pub(crate) struct Lists {
+    pub(crate) words: Pieces,
+    pub(crate) grams: Pieces,
 }
 
 /// The index that holds this beside its entries.
-pub(crate) fn index_with(
-    entries: Entries,
-    by_key: Vec<u32>,
-    key_heads: Vec<u64>,
-    by_reversed_key: Vec<u32>,
-    words: Pieces,
-    grams: Pieces,
-) -> Index
-    requires { IsIndexed entries by_key.items by_reversed_key.items words grams }
+pub(crate) fn index_with(entries: Entries, orders: Orders, lists: Lists) -> Index
+    requires { IsIndexed entries orders.by_key.items orders.by_reversed_key.items lists.words lists.grams }
     ensures { result ≡ entries }
 {
     Index {
         entries,
-        by_key,
-        key_heads,
-        by_reversed_key,
-        words,
-        grams,
+        by_key: orders.by_key,
+        key_heads: orders.key_heads,
+        by_reversed_key: orders.by_reversed_key,
+        words: lists.words,
+        grams: lists.grams,
     }
 }
 

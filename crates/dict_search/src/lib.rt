@@ -2,19 +2,11 @@
 #![tactic(auto)]
 
 mod builder;
-mod common;
 mod entries;
 mod found;
-mod grams;
-mod heads;
 mod index;
-mod keeping;
 mod laws;
 mod making;
-mod order;
-mod pieces;
-mod placed;
-mod reversed;
 mod same;
 mod shown;
 

@@ -1,100 +1,111 @@
 //! The making of an index by steps.
-ghost use Rattle.std.specs.Prelude.{◌≡◌, ◌≢◌, ◌<◌, ◌^◌, false, IfOk, IfSome, IsTrue, length, map, reverse};
-ghost use Rattle.std.specs.List.{AllByRecursion};
+ghost use Rattle.std.specs.Prelude.{◌≡◌, ◌≢◌, ◌<◌, ◌≤◌, ◌^◌, false, IfOk, IfSome, IsTrue, length, map, reverse};
+ghost use Rattle.std.specs.List.{All, AllByRecursion};
+ghost use Rattle.std.specs.Str.{IsUtf8};
 ghost use Rattle.dict_index.specs.Views.{line_of, HasItsKey};
 ghost use Rattle.dict_derived.specs.Kept.{kept_grams};
 ghost use Rattle.dict_match.specs.Words.{words_between_blanks};
 ghost use Rattle.dict_search.specs.Entries.{entry_of, keys_of};
-ghost use Rattle.dict_search.specs.Orders.{IsOrderOf};
-ghost use Rattle.dict_search.specs.Pieces.{ArePlaced};
+ghost use Rattle.dict_places.specs.Orders.{IsOrderOf};
+ghost use Rattle.dict_places.specs.Listing.{AreListed};
+ghost use Rattle.dict_places.specs.Pieces.{ArePlaced};
+ghost use Rattle.dict_places.specs.Sorting.{AreOrdered};
+ghost use Rattle.dict_places.specs.Wording.{AreWorded};
 
 use crate::entries::Entries;
-use crate::heads::heads_of;
-use crate::index::{Index, index_with, reversed_places};
-use crate::order::sorted_places;
-use crate::pieces::{Pieces, grams_of, words_of};
+use crate::index::{Index, Lists, Orders, index_with, reversed_places};
 use crate::same::are_entries;
 use dict_index::Entry;
+use dict_places::{
+    Listing, Pieces, Places, Wording, are_made, grams_of, heads_of, is_listed, is_worded,
+    list_more, place_more, sorted_places, turn_more, word_more, words_of,
+};
+use dict_runs::Texts;
 use std::alloc::{AllocError, Global};
 use std::marker::Model;
+use std::mem::{self, drop};
 
-/// An index that is made part by part, so that what else waits has its turn between two of them. Contracts see it as the
-/// list of its entries, whatever is made of it.
+/// So many steps are made at most: far more than the largest edition takes.
+const STEPS: u32 = 65_536;
+
+/// An index that is made part by part, so that what else waits has its turn between two of them. Contracts see the list of its
+/// entries, whatever is made of it, and how many steps are left at most.
 #[derive(Drop)]
 pub struct IndexMaking {
     alloc: Global,
     entries: Entries,
-    by_key: Option<Vec<u32>>,
-    by_reversed_key: Option<Vec<u32>>,
-    words: Option<Pieces>,
-    grams: Option<Pieces>,
+    left: u32,
+    by_key: Option<Places>,
+    /// The first keys, each with its octets in reverse order.
+    turned: Texts,
+    by_reversed_key: Option<Places>,
+    words: Option<Wording>,
+    grams: Option<Listing>,
 }
 
 impl Model for IndexMaking {
-    ghost use Rattle.std.specs.Prelude.{List};
-    ghost use Rattle.dict_search.specs.Entries.{Indexed};
-    ghost use Rattle.dict_search.specs.Making.{ArePartsOf};
+    ghost use Rattle.dict_search.specs.Making.{Begun, ArePartsOf};
 
-    ghost Value = { List Indexed };
+    ghost Value = { Begun };
 
-    ghost view = { λ making. making.entries };
+    ghost view = { λ making. record { entries = making.entries; left = making.left } };
 
-    ghost invariant = { λ making. ArePartsOf making.entries making.by_key making.by_reversed_key making.words making.grams };
+    ghost invariant = { λ making. ArePartsOf making.entries making.by_key making.turned making.by_reversed_key making.words making.grams };
 }
 
-/// The places by key: those that were made, or made now.
+/// The places in the order of the keys: those that were made, or made now.
 fn key_places(
     alloc: Global,
     entries: &Entries,
-    made: Option<Vec<u32>>,
+    made: Option<Places>,
 ) -> Result<Vec<u32>, AllocError>
     requires few { length entries.now < 2 ^ 32 }
-    requires made { IfSome made (λ places. IsOrderOf (keys_of entries.now) places.items) }
+    requires made { IfSome made (AreOrdered (keys_of entries.now)) }
     ensures { IfOk result (λ places. IsOrderOf (keys_of entries.now) places.items) }
 {
     match made {
-        Some(places) => Ok(places),
-        None => sorted_places(alloc, entries.keys(), entries.len() as u32),
+        Some(Places::Made(places)) => Ok(places),
+        _ => sorted_places(alloc, entries.keys(), entries.len() as u32),
     }
 }
 
-/// The places by reversed key: those that were made, or made now.
+/// The same in the order of the keys as these are read from behind.
 fn reversed_key_places(
     alloc: Global,
     entries: &Entries,
-    made: Option<Vec<u32>>,
+    made: Option<Places>,
 ) -> Result<Vec<u32>, AllocError>
     requires few { length entries.now < 2 ^ 32 }
-    requires made { IfSome made (λ places. IsOrderOf (map reverse (keys_of entries.now)) places.items) }
+    requires made { IfSome made (AreOrdered (map reverse (keys_of entries.now))) }
     ensures { IfOk result (λ places. IsOrderOf (map reverse (keys_of entries.now)) places.items) }
 {
     match made {
-        Some(places) => Ok(places),
-        None => reversed_places(alloc, entries, entries.len() as u32),
+        Some(Places::Made(places)) => Ok(places),
+        _ => reversed_places(alloc, entries, entries.len() as u32),
     }
 }
 
 /// The words: those that were made, or made now.
-fn key_words(alloc: Global, entries: &Entries, made: Option<Pieces>) -> Result<Pieces, AllocError>
+fn key_words(alloc: Global, entries: &Entries, made: Option<Wording>) -> Result<Pieces, AllocError>
     requires few { length entries.now < 2 ^ 32 }
-    requires made { IfSome made (λ pieces. ArePlaced words_between_blanks (keys_of entries.now) pieces.texts pieces.lists) }
+    requires made { IfSome made (AreWorded (keys_of entries.now)) }
     ensures { IfOk result (λ pieces. ArePlaced words_between_blanks (keys_of entries.now) pieces.texts pieces.lists) }
 {
     match made {
-        Some(words) => Ok(words),
-        None => words_of(alloc, entries.keys(), entries.len() as u32),
+        Some(Wording::Made(words)) => Ok(words),
+        _ => words_of(alloc, entries.keys(), entries.len() as u32),
     }
 }
 
 /// The runs of three octets: those that were made, or made now.
-fn key_grams(alloc: Global, entries: &Entries, made: Option<Pieces>) -> Result<Pieces, AllocError>
+fn key_grams(alloc: Global, entries: &Entries, made: Option<Listing>) -> Result<Pieces, AllocError>
     requires few { length entries.now < 2 ^ 32 }
-    requires made { IfSome made (λ pieces. ArePlaced kept_grams (keys_of entries.now) pieces.texts pieces.lists) }
+    requires made { IfSome made (AreListed (keys_of entries.now)) }
     ensures { IfOk result (λ pieces. ArePlaced kept_grams (keys_of entries.now) pieces.texts pieces.lists) }
 {
     match made {
-        Some(grams) => Ok(grams),
-        None => grams_of(alloc, entries.keys(), entries.len() as u32),
+        Some(Listing::Made(grams)) => Ok(grams),
+        _ => grams_of(alloc, entries.keys(), entries.len() as u32),
     }
 }
 
@@ -102,12 +113,15 @@ impl IndexMaking {
     /// Nothing is made but the list of these entries.
     pub(crate) fn of(alloc: Global, entries: Entries) -> IndexMaking
         requires { length entries < 2 ^ 32 }
-        ensures { result ≡ entries }
+        ensures same { result.entries ≡ entries }
+        ensures few { result.left ≤ 2 ^ 16 }
     {
         IndexMaking {
             alloc,
             entries,
+            left: STEPS,
             by_key: None,
+            turned: Texts::new(alloc),
             by_reversed_key: None,
             words: None,
             grams: None,
@@ -117,53 +131,159 @@ impl IndexMaking {
     /// Whether its entries are those of an edition: the keys, what is shown, and the intervals, one by one. Nothing is made.
     pub fn is_of(&self, entries: &[Entry]) -> bool
         requires { AllByRecursion HasItsKey entries.now }
-        ensures same { IsTrue result → self.now ≡ map entry_of (map line_of entries.now) }
-        ensures other { result ≡ false → self.now ≢ map entry_of (map line_of entries.now) }
+        ensures same { IsTrue result → self.now.entries ≡ map entry_of (map line_of entries.now) }
+        ensures other { result ≡ false → self.now.entries ≢ map entry_of (map line_of entries.now) }
     {
         are_entries(&self.entries, entries)
     }
 
-    /// Makes the next part that is missing: the order of the keys, that of the keys from behind, the words, the runs of three
-    /// octets. Whether there was one to make. The only error is refused memory; then what was made is as it was.
+    /// Makes the next slice of what is missing: of the order of the keys, of that of the keys from behind, of the words, of the
+    /// runs of three octets. Whether one was made; so it isn't for ever. The only error is refused memory; then what was made is
+    /// as it was, but for the part in hand, which begins anew.
     pub fn step(&mut self) -> Result<bool, AllocError>
+        ensures same { self.new.entries ≡ self.old.entries }
+        ensures fewer { IfOk result (λ more. IsTrue more → self.new.left < self.old.left) }
+    {
+        if self.left == 0 {
+            return Ok(false);
+        }
+        self.left -= 1;
+        self.make_next()
+    }
+
+    fn make_next(&mut self) -> Result<bool, AllocError>
         ensures { self.new ≡ self.old }
     {
-        if self.by_key.is_none() {
-            self.by_key = Some(key_places(self.alloc, &self.entries, None)?);
+        if !are_made(&self.by_key) {
+            self.order_keys()
+        } else if !are_made(&self.by_reversed_key) {
+            self.order_reversed_keys()
+        } else if !is_worded(&self.words) {
+            self.list_words()
+        } else if !is_listed(&self.grams) {
+            self.list_grams()
+        } else {
+            Ok(false)
+        }
+    }
+
+    fn order_keys(&mut self) -> Result<bool, AllocError>
+        ensures { self.new ≡ self.old }
+    {
+        let count = self.entries.len() as u32;
+        let begun = self.by_key.take();
+        self.by_key = Some(place_more(self.alloc, self.entries.keys(), count, begun)?);
+        Ok(true)
+    }
+
+    /// All keys are turned first.
+    fn order_reversed_keys(&mut self) -> Result<bool, AllocError>
+        ensures { self.new ≡ self.old }
+    {
+        if self.turned.len() < self.entries.len() {
+            turn_more(self.alloc, self.entries.keys(), &mut self.turned)?;
             return Ok(true);
         }
-        if self.by_reversed_key.is_none() {
-            self.by_reversed_key = Some(reversed_key_places(self.alloc, &self.entries, None)?);
-            return Ok(true);
+        let count = self.entries.len() as u32;
+        let begun = self.by_reversed_key.take();
+        self.by_reversed_key = Some(place_more(self.alloc, &self.turned, count, begun)?);
+        Ok(true)
+    }
+
+    fn list_words(&mut self) -> Result<bool, AllocError>
+        ensures { self.new ≡ self.old }
+    {
+        let count = self.entries.len() as u32;
+        let begun = self.words.take();
+        self.words = Some(word_more(self.alloc, self.entries.keys(), count, begun)?);
+        Ok(true)
+    }
+
+    fn list_grams(&mut self) -> Result<bool, AllocError>
+        ensures { self.new ≡ self.old }
+    {
+        let count = self.entries.len() as u32;
+        let begun = self.grams.take();
+        self.grams = Some(list_more(self.alloc, self.entries.keys(), count, begun)?);
+        Ok(true)
+    }
+
+    /// The places in both orders: those that were made, or made now. Of what was made none is left.
+    fn take_orders(&mut self) -> Result<Orders, AllocError>
+        ensures same { self.new ≡ self.old }
+        ensures keys { IfOk result (λ orders. IsOrderOf (keys_of self.old.entries) orders.by_key.items) }
+        ensures reversed { IfOk result (λ orders. IsOrderOf (map reverse (keys_of self.old.entries)) orders.by_reversed_key.items) }
+    {
+        let by_key = key_places(self.alloc, &self.entries, self.by_key.take())?;
+        let key_heads = heads_of(self.alloc, self.entries.keys(), by_key.as_slice())?;
+        let made = self.by_reversed_key.take();
+        let by_reversed_key = reversed_key_places(self.alloc, &self.entries, made)?;
+        Ok(Orders {
+            by_key,
+            key_heads,
+            by_reversed_key,
+        })
+    }
+
+    /// The words and the runs of three octets: those that were made, or made now. Of what was made none is left.
+    fn take_lists(&mut self) -> Result<Lists, AllocError>
+        ensures same { self.new ≡ self.old }
+        ensures words { IfOk result (λ lists. ArePlaced words_between_blanks (keys_of self.old.entries) lists.words.texts lists.words.lists) }
+        ensures trigrams { IfOk result (λ lists. ArePlaced kept_grams (keys_of self.old.entries) lists.grams.texts lists.grams.lists) }
+    {
+        let words = key_words(self.alloc, &self.entries, self.words.take())?;
+        let grams = key_grams(self.alloc, &self.entries, self.grams.take())?;
+        Ok(Lists { words, grams })
+    }
+
+    /// Both, of which the lists are made once the orders are.
+    fn take_parts(&mut self) -> Result<(Orders, Lists), AllocError>
+        ensures same { self.new ≡ self.old }
+        ensures keys { IfOk result (λ parts. IsOrderOf (keys_of self.old.entries) parts.0.by_key.items) }
+        ensures reversed { IfOk result (λ parts. IsOrderOf (map reverse (keys_of self.old.entries)) parts.0.by_reversed_key.items) }
+        ensures words { IfOk result (λ parts. ArePlaced words_between_blanks (keys_of self.old.entries) parts.1.words.texts parts.1.words.lists) }
+        ensures trigrams { IfOk result (λ parts. ArePlaced kept_grams (keys_of self.old.entries) parts.1.grams.texts parts.1.grams.lists) }
+    {
+        let orders = self.take_orders()?;
+        match self.take_lists() {
+            Ok(lists) => Ok((orders, lists)),
+            Err(fault) => {
+                drop(orders);
+                Err(fault)
+            }
         }
-        if self.words.is_none() {
-            self.words = Some(key_words(self.alloc, &self.entries, None)?);
-            return Ok(true);
-        }
-        if self.grams.is_none() {
-            self.grams = Some(key_grams(self.alloc, &self.entries, None)?);
-            return Ok(true);
-        }
-        Ok(false)
+    }
+
+    /// The entries; none is left.
+    fn take_entries(&mut self) -> Entries
+        ensures same { result ≡ self.old.entries }
+        ensures few { length result < 2 ^ 32 }
+        ensures text { All IsUtf8 (keys_of result) }
+    {
+        // That the keys are UTF-8 is known of them alone.
+        let _known = self.entries.keys();
+        drop(self.by_key.take());
+        drop(self.by_reversed_key.take());
+        drop(self.words.take());
+        drop(self.grams.take());
+        self.turned = Texts::new(self.alloc);
+        mem::replace(&mut self.entries, Entries::new(self.alloc))
     }
 
     /// The index of the entries; what is missing of it is made. The only error is refused memory; then nothing of it is left.
     pub fn end(self) -> Result<Index, AllocError>
-        ensures { IfOk result (λ index. index ≡ self) }
+        ensures { IfOk result (λ index. index ≡ self.entries) }
     {
-        let IndexMaking {
-            alloc,
-            entries,
-            by_key,
-            by_reversed_key,
-            words,
-            grams,
-        } = self;
-        let by_key = key_places(alloc, &entries, by_key)?;
-        let key_heads = heads_of(alloc, entries.keys(), by_key.as_slice())?;
-        let by_reversed_key = reversed_key_places(alloc, &entries, by_reversed_key)?;
-        let words = key_words(alloc, &entries, words)?;
-        let grams = key_grams(alloc, &entries, grams)?;
-        Ok(index_with(entries, by_key, key_heads, by_reversed_key, words, grams))
+        let mut making = self;
+        let parts = making.take_parts();
+        let entries = making.take_entries();
+        drop(making);
+        match parts {
+            Ok((orders, lists)) => Ok(index_with(entries, orders, lists)),
+            Err(fault) => {
+                drop(entries);
+                Err(fault)
+            }
+        }
     }
 }

@@ -1,4 +1,4 @@
-use Rattle.dict_search.proofs.EditionLemmas.{selects}
+use Rattle.dict_places.proofs.SelectionLemmas.{selects}
 use Rattle.dict_search.proofs.laws.selection_law.Goals as goal
 
 pub returns : goal.returns

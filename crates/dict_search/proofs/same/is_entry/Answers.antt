@@ -3,7 +3,7 @@ use Rattle.std.proofs.lemmas.Bool.{false≢true}
 use Rattle.std.proofs.lemmas.Slice.Eq.{bytes_eq-Decides}
 use Rattle.dict_match.specs.Key.{key_of}
 use Rattle.dict_search.specs.Entries.{Indexed, entry_at}
-use Rattle.dict_search.specs.Places.{key_at}
+use Rattle.dict_places.specs.Places.{key_at}
 use Rattle.dict_search.proofs.EditionLemmas.{key_there}
 use Rattle.dict_search.proofs.same.is_entry.Goals as goal
 

@@ -4,8 +4,8 @@ use Rattle.std.specs.Str.{IsUtf8}
 use Rattle.dict_match.specs.Matching.{is_hit}
 use Rattle.dict_derived.specs.Search.{rows_for}
 use Rattle.dict_search.specs.Entries.{entries_at, keys_of}
-use Rattle.dict_search.specs.Places.{places_where}
-use Rattle.dict_search.specs.Selected.{is_selected}
+use Rattle.dict_places.specs.Places.{places_where}
+use Rattle.dict_places.specs.Selected.{is_selected}
 use Rattle.dict_search.proofs.EditionLemmas.{entries_there, count_there}
 use Rattle.dict_search.proofs.index.Index.find.Goals as goal
 

@@ -2,9 +2,9 @@ use Rattle.std.proofs.Common.{filter, ap, ◌∙◌}
 use Rattle.dict_match.specs.Matching.{is_hit}
 use Rattle.dict_derived.specs.Search.{rows_for}
 use Rattle.dict_search.specs.Entries.{keys_of}
-use Rattle.dict_search.specs.Places.{key_at, places_where}
-use Rattle.dict_search.specs.Selected.{is_selected}
-use Rattle.dict_search.proofs.EditionLemmas.{untested, tested}
+use Rattle.dict_places.specs.Places.{key_at, places_where}
+use Rattle.dict_places.specs.Selected.{is_selected}
+use Rattle.dict_places.proofs.SelectionLemmas.{untested, tested}
 use Rattle.dict_search.proofs.index.Index.places_to_test.Goals as goal
 
 pub with_rarest-requires-clause-selected : goal.with_rarest-requires-clause-selected

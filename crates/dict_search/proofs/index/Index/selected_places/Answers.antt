@@ -1,8 +1,8 @@
 use Rattle.std.proofs.Common.{ap, sym, ◌∙◌}
 use Rattle.dict_derived.specs.Search.{rows_of}
 use Rattle.dict_search.specs.Entries.{keys_of}
-use Rattle.dict_search.specs.Places.{places_where}
-use Rattle.dict_search.specs.Selected.{is_selected}
+use Rattle.dict_places.specs.Places.{places_where}
+use Rattle.dict_places.specs.Selected.{is_selected}
 use Rattle.dict_search.proofs.IndexLemmas.{none_where}
 use Rattle.dict_search.proofs.index.Index.selected_places.Goals as goal
 

@@ -1,10 +1,10 @@
 use Rattle.std.proofs.Common.{◌≡◌, true, filter, ap, sym, ◌∙◌}
 use Rattle.dict_search.specs.Entries.{keys_of}
-use Rattle.dict_search.specs.Places.{key_at, places_where}
-use Rattle.dict_search.specs.Selected.{has_piece, has_gram}
+use Rattle.dict_places.specs.Places.{key_at, places_where}
+use Rattle.dict_places.specs.Selected.{has_piece, has_gram}
 use Rattle.dict_derived.specs.Kept.{is_kept, kept_grams}
 use Rattle.dict_search.proofs.IndexLemmas.{then_too}
-use Rattle.dict_search.proofs.KeptLemmas.{kept_where, where_both}
+use Rattle.dict_places.proofs.KeptLemmas.{kept_where, where_both}
 use Rattle.dict_search.proofs.index.Index.with_gram.Goals as goal
 
 pub returns-then-is_kept : goal.returns-then-is_kept

@@ -1,10 +1,10 @@
 use Rattle.std.proofs.Common.{◌≡◌, ◌&&◌, true, ap, ◌∙◌, rules}
 use Rattle.dict_search.specs.Entries.{keys_of}
-use Rattle.dict_search.specs.Places.{places_where}
-use Rattle.dict_search.specs.Selected.{has_piece, has_gram}
+use Rattle.dict_places.specs.Places.{places_where}
+use Rattle.dict_places.specs.Selected.{has_piece, has_gram}
 use Rattle.dict_derived.specs.Kept.{is_kept, kept_grams}
 use Rattle.dict_search.proofs.IndexLemmas.{then_too, both_where}
-use Rattle.dict_search.proofs.KeptLemmas.{kept_where}
+use Rattle.dict_places.proofs.KeptLemmas.{kept_where}
 use Rattle.dict_search.proofs.index.Index.with_grams.Goals as goal
 
 pub returns-then-not-is_kept : goal.returns-then-not-is_kept

@@ -2,7 +2,7 @@ use Rattle.std.proofs.Common.{◌≡◌, ap, ◌∙◌, subst}
 use Rattle.std.specs.Result.{IfOk}
 use Rattle.std.specs.Str.{bytes_eq}
 use Rattle.dict_search.specs.Entries.{keys_of}
-use Rattle.dict_search.specs.Places.{places_where}
+use Rattle.dict_places.specs.Places.{places_where}
 use Rattle.dict_search.proofs.IndexLemmas.{exact_where}
 use Rattle.dict_search.proofs.index.Index.with_key.Goals as goal
 

@@ -3,13 +3,13 @@ use Rattle.dict_match.specs.Matching.{is_hit}
 use Rattle.dict_match.specs.declared.strategy.Strategy.TheVariants.{Substring}
 use Rattle.dict_derived.specs.Search.{rows_for}
 use Rattle.dict_search.specs.Entries.{keys_of}
-use Rattle.dict_search.specs.Places.{key_at, places_where}
+use Rattle.dict_places.specs.Places.{key_at, places_where}
 use Rattle.dict_derived.specs.Kept.{kept_grams}
-use Rattle.dict_search.specs.Pieces.{ArePlaced}
-use Rattle.dict_search.specs.Selected.{is_selected}
-use Rattle.dict_search.proofs.EditionLemmas.{tested}
+use Rattle.dict_places.specs.Pieces.{ArePlaced}
+use Rattle.dict_places.specs.Selected.{is_selected}
+use Rattle.dict_places.proofs.SelectionLemmas.{tested}
 use Rattle.dict_search.proofs.IndexLemmas.{then_too}
-use Rattle.dict_search.proofs.RarestLemmas.{tested_both}
+use Rattle.dict_places.proofs.RarestLemmas.{tested_both}
 use Rattle.dict_search.proofs.index.Index.with_rarest.Goals as goal
 
 pub returns-then-len-le-FEW : goal.returns-then-len-le-FEW

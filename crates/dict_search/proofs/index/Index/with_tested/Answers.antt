@@ -1,8 +1,8 @@
 use Rattle.std.proofs.Common.{filter, ap, ◌∙◌}
 use Rattle.dict_search.specs.Entries.{keys_of}
-use Rattle.dict_search.specs.Places.{key_at}
-use Rattle.dict_search.specs.Selected.{has_gram}
-use Rattle.dict_search.proofs.KeptLemmas.{where_both}
+use Rattle.dict_places.specs.Places.{key_at}
+use Rattle.dict_places.specs.Selected.{has_gram}
+use Rattle.dict_places.proofs.KeptLemmas.{where_both}
 use Rattle.dict_search.proofs.index.Index.with_tested.Goals as goal
 
 pub returns : goal.returns

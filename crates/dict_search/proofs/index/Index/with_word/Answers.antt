@@ -1,8 +1,8 @@
 use Rattle.std.proofs.Common.{◌≡◌, ap, ◌∙◌}
 use Rattle.dict_match.specs.Words.{words_between_blanks}
 use Rattle.dict_search.specs.Entries.{keys_of}
-use Rattle.dict_search.specs.Places.{places_where}
-use Rattle.dict_search.specs.Selected.{has_word}
+use Rattle.dict_places.specs.Places.{places_where}
+use Rattle.dict_places.specs.Selected.{has_word}
 use Rattle.dict_search.proofs.IndexLemmas.{then_too}
 use Rattle.dict_search.proofs.index.Index.with_word.Goals as goal
 

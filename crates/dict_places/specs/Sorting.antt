@@ -1,0 +1,19 @@
+-- Places that are brought into the order of their texts.
+use Rattle.std.specs.Prelude.{ℕ, List, length}
+use Rattle.std.specs.List.{range_with_len}
+use Rattle.std.specs.List.Sorted.{IsPermutation}
+use Rattle.dict_places.specs.Merging.{elements, AreWithin}
+use Rattle.dict_places.specs.Orders.{IsOrderOf}
+use Rattle.dict_places.specs.declared.sorting.Places.{Places}
+use Rattle.dict_places.specs.declared.sorting.Places.TheVariants.{Sorted, Made}
+use Rattle.dict_places.specs.declared.merging.Merging.{Merging}
+
+-- all places of these texts, in some order
+pub record ArePlacesOf (texts : List (List ℕ)) (m : Merging ℕ) : Type 0 where
+  pub each : IsPermutation (range_with_len 0 (length texts)) (elements m)
+  pub within : AreWithin m
+
+-- what is made is the order of these texts
+abbrev pub AreOrdered : List (List ℕ) → Places → Type 0
+AreOrdered texts (Sorted sorting) = ArePlacesOf texts sorting.places
+AreOrdered texts (Made places) = IsOrderOf texts places.items
