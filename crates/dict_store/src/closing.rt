@@ -29,6 +29,27 @@ fn fault_of_copy(error: &Error) -> Fault
     }
 }
 
+// The connection of a desk, of which nothing else is left.
+pub(crate) fn connection_of<S: Alter + Drop>(desk: Desk<S>) -> Connection<S>
+    ensures { result ≡ desk.conn }
+{
+    let Desk {
+        conn,
+        summary,
+        indexes,
+        texts,
+        filing,
+        coming,
+        ..
+    } = desk;
+    drop(summary);
+    drop(indexes);
+    drop(texts);
+    drop(filing);
+    drop(coming);
+    conn
+}
+
 // The connection of a desk, and whether the desk is closed. Of one that isn't, what is committed holds what was shown.
 pub(crate) fn let_go<S: Alter + Drop>(desk: Desk<S>) -> (Connection<S>, bool)
     ensures same { result.0 ≡ desk.conn }
@@ -37,9 +58,8 @@ pub(crate) fn let_go<S: Alter + Drop>(desk: Desk<S>) -> (Connection<S>, bool)
         → IsLeft M (state S.Store desk.conn).committed.trees }
 {
     let is_closed = desk.last == LastCall::Closed;
-    let Desk { conn, .. } = desk;
-    is_whole(&conn);
-    (conn, is_closed)
+    is_whole(&desk.conn);
+    (connection_of(desk), is_closed)
 }
 
 impl<D: Disk + Drop> Desk<FileStore<D>> {

@@ -18,6 +18,7 @@ ghost use Rattle.dict_store.specs.Indexed.{AreHeldCut};
 ghost use Rattle.dict_store.specs.Prepared.{Undoes};
 ghost use Rattle.dict_rows.specs.Versions.{known};
 
+use crate::closing::connection_of;
 use crate::last::LastCall;
 use crate::withdrawing::undo;
 use dict_catalogue::Summary;
@@ -52,7 +53,7 @@ pub struct Desk<S: Alter + Drop> {
     // How many times it may begin yet. Nothing rests on it.
     pub(crate) begins: u8,
     // The index of the edition that may come, as far as it is made. Nothing rests on it.
-    pub(crate) coming: Option<IndexMaking>,
+    pub(crate) coming: Option<Box<IndexMaking>>,
 }
 
 impl<S: Alter + Drop> Model for Desk<S> {
@@ -156,7 +157,7 @@ impl<S: Alter + Drop> Desk<S> {
             (λ conn. Survives (state S.Store self.conn) (state S.Store conn) (λ _. ⊥))
             (λ conn. Survives (state S.Store self.conn) (state S.Store conn) (λ _. ⊥)) }
     {
-        let Desk { mut conn, .. } = self;
+        let mut conn = connection_of(self);
         if undo(&mut conn) { Ok(conn) } else { Err(conn) }
     }
 }

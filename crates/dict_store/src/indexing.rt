@@ -49,26 +49,37 @@ fn making_of(alloc: Global, entries: &[Entry]) -> Result<IndexMaking, AllocError
 
 // The index of the edition that a command would install, of which nothing is made but the list of its entries. None where it
 // installs none, or memory was refused. Nothing rests on what it is: it is compared before it is used.
-pub(crate) fn begin_coming(alloc: Global, command: &Command) -> Option<IndexMaking> {
+pub(crate) fn begin_coming(alloc: Global, command: &Command) -> Option<Box<IndexMaking>> {
     let Command::Install { edition, .. } = command else {
         return None;
     };
     edition.is_well_formed();
     match making_of(alloc, edition.entries()) {
-        Ok(making) => Some(making),
+        Ok(making) => boxed(alloc, making),
         Err(_) => None,
     }
 }
 
+// An index that is made, in a place of its own: what holds it is let go of by one call. None where memory was refused.
+fn boxed(alloc: Global, making: IndexMaking) -> Option<Box<IndexMaking>> {
+    match Box::new(alloc, making) {
+        Ok(making) => Some(making),
+        Err(failed) => {
+            drop(failed);
+            None
+        }
+    }
+}
+
 // Makes the next part of the index that comes, if one is begun. Whether one was made; where memory was refused it is let go of.
-pub(crate) fn step_coming(coming: &mut Option<IndexMaking>) -> bool {
+pub(crate) fn step_coming(coming: &mut Option<Box<IndexMaking>>) -> bool {
     let Some(making) = coming else {
         return false;
     };
     match making.step() {
         Ok(more) => more,
         Err(_) => {
-            *coming = None;
+            drop(coming.take());
             false
         }
     }
@@ -78,18 +89,20 @@ pub(crate) fn step_coming(coming: &mut Option<IndexMaking>) -> bool {
 fn index_made(
     alloc: Global,
     entries: &[Entry],
-    made: Option<IndexMaking>,
+    made: Option<Box<IndexMaking>>,
 ) -> Result<Index, AllocError>
     requires few { length entries.now ≤ most_entries }
     requires keys { AllByRecursion HasItsKey entries.now }
     ensures { IfOk result (λ index. index ≡ map entry_of (map line_of entries.now)) }
 {
-    let Some(making) = made else {
+    let Some(boxed) = made else {
         return index_entries(alloc, entries);
     };
+    let making = Box::into_inner(boxed);
     if making.is_of(entries) {
         return making.end();
     }
+    drop(making);
     index_entries(alloc, entries)
 }
 
@@ -97,7 +110,7 @@ fn index_made(
 fn index_edition(
     alloc: Global,
     edition: &Edition,
-    made: Option<IndexMaking>,
+    made: Option<Box<IndexMaking>>,
 ) -> Result<Index, AllocError>
     ensures { IfOk result (λ index. index ≡ map entry_of edition.now.lines) }
 {
@@ -109,7 +122,7 @@ fn index_edition(
 fn index_coming(
     alloc: Global,
     command: &Command,
-    made: Option<IndexMaking>,
+    made: Option<Box<IndexMaking>>,
 ) -> Result<Option<Index>, AllocError>
     ensures coming { IfOk result (λ coming. coming ≡ index_coming command.now) }
     ensures asked { OnErr result (is_install (verb_of (command_meant command.now)) ≡ true) }
@@ -119,7 +132,10 @@ fn index_coming(
         Command::Rollback { .. }
         | Command::Retire { .. }
         | Command::PutVirtual { .. }
-        | Command::Place { .. } => Ok(None),
+        | Command::Place { .. } => {
+            drop(made);
+            Ok(None)
+        }
     }
 }
 
@@ -129,7 +145,7 @@ pub(crate) fn put_coming(
     indexes: &mut Indexes,
     number: u64,
     command: &Command,
-    made: Option<IndexMaking>,
+    made: Option<Box<IndexMaking>>,
 ) -> Result<(), AllocError>
     ensures put { OnOk result (HasPut number (index_coming command.now) indexes.old indexes.new) }
     ensures refused { OnErr result ((q : ℕ) → entries_under q indexes.new ≡ entries_under q indexes.old) }

@@ -22,6 +22,7 @@ use dict_desk::Fault;
 use dict_preparing::Preparer;
 use dict_search::IndexMaking;
 use sqlite::{Alter, Connection};
+use std::mem;
 
 // A filing may begin so many times. A lookup that fails for want of memory undoes what was filed; after the last time nothing is
 // prepared any more, and the change is made when it comes.
@@ -42,7 +43,7 @@ fn count_begin<S: Alter>(conn: &Connection<S>, filing: &mut Option<Filing>, begi
 }
 
 // Whether there is more to prepare: more rows to file or, once all are filed, a part of the index that comes, which is made here.
-fn goes_on(more: bool, coming: &mut Option<IndexMaking>) -> bool {
+fn goes_on(more: bool, coming: &mut Option<Box<IndexMaking>>) -> bool {
     if more { true } else { step_coming(coming) }
 }
 
@@ -52,7 +53,7 @@ fn file_next<S: Alter>(
     conn: &mut Connection<S>,
     summary: &Summary,
     filing: &mut Option<Filing>,
-    coming: &mut Option<IndexMaking>,
+    coming: &mut Option<Box<IndexMaking>>,
 ) -> Result<bool, Fault>
     requires filed { HasFiled S.Store filing.old conn.old }
     requires usable { WhileOpen (rested (state S.Store conn.old)) IsUsable }
@@ -107,7 +108,7 @@ impl<S: Alter + Drop> Preparer for Desk<S> {
             Ok(filing) => {
                 self.filing = filing;
                 self.begins = MAX_BEGINS;
-                self.coming = begin_coming(self.alloc, command);
+                drop(mem::replace(&mut self.coming, begin_coming(self.alloc, command)));
                 Ok(())
             }
             Err(_) => {

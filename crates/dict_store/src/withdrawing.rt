@@ -96,7 +96,7 @@ impl<S: Alter + Drop> Desk<S> {
             return Err(Fault::Closed);
         }
         self.filing = None;
-        self.coming = None;
+        drop(self.coming.take());
         if undo(&mut self.conn) {
             return Ok(());
         }
