@@ -31,6 +31,18 @@ fn status_of(
     )
 }
 
+// What comes of these words, the first of which is the program's name.
+fn outcome(rt: &HostRuntime, words: &[&str]) -> Result<Outcome, Fail> {
+    let mut writer = LimitedSink::new(rt.alloc(), 4000)?;
+    let mut faults = LimitedSink::new(rt.alloc(), 1000)?;
+    let status = status_of(rt, words, &mut writer, &mut faults);
+    Ok((
+        status,
+        taken(rt.alloc(), &writer)?,
+        taken(rt.alloc(), &faults)?,
+    ))
+}
+
 /// What comes of these words behind the program's name.
 pub(crate) fn run(rt: &HostRuntime, words: &[&str]) -> Result<Outcome, Fail> {
     let mut all = Vec::new(rt.alloc());
@@ -38,14 +50,7 @@ pub(crate) fn run(rt: &HostRuntime, words: &[&str]) -> Result<Outcome, Fail> {
     for word in words {
         all.push(*word)?;
     }
-    let mut writer = LimitedSink::new(rt.alloc(), 4000)?;
-    let mut faults = LimitedSink::new(rt.alloc(), 1000)?;
-    let status = status_of(rt, all.as_slice(), &mut writer, &mut faults);
-    Ok((
-        status,
-        taken(rt.alloc(), &writer)?,
-        taken(rt.alloc(), &faults)?,
-    ))
+    outcome(rt, all.as_slice())
 }
 
 /// What a sink took, as text.

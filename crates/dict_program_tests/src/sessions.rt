@@ -4,6 +4,7 @@ use crate::checks::{holds, same_text};
 use dict_desk::PlainDesk;
 use dict_examples::{GEM_INDEX, GEM_TEXT};
 use dict_io::{LimitedSink, OverRead};
+use dict_messages::ProgramFault;
 use dict_program::run_plain;
 use std::alloc::Global;
 use std::io::{Error, ErrorKind, Read, Result as IoResult};
@@ -76,8 +77,28 @@ impl Read for Pieces<'_> {
     }
 }
 
-// Runs a session over a database. The fault that it ends by, if it does.
+// Runs a session over the database that an index and a text make.
 fn run_over(
+    alloc: Global,
+    name: &str,
+    index: Vec<u8>,
+    text: Vec<u8>,
+    pieces: Pieces<'_>,
+    writer: &mut LimitedSink,
+) -> Result<(), ProgramFault<'static>> {
+    run_plain(
+        alloc,
+        &mut PlainDesk::new(alloc),
+        name,
+        index,
+        text,
+        &mut OverRead::new(pieces),
+        writer,
+    )
+}
+
+// The same over a database. The fault that it ends by, if it does.
+fn end_over(
     alloc: Global,
     database: Database,
     pieces: Pieces<'_>,
@@ -86,10 +107,7 @@ fn run_over(
     let (name, index, text) = database;
     let index = Vec::from_slice(alloc, index)?;
     let text = Vec::from_slice(alloc, text)?;
-    let mut desk = PlainDesk::new(alloc);
-    let mut reader = OverRead::new(pieces);
-    let end = run_plain(alloc, &mut desk, name, index, text, &mut reader, writer);
-    match end {
+    match run_over(alloc, name, index, text, pieces, writer) {
         Ok(()) => Ok(String::new(alloc)),
         Err(fault) => Ok(format!(in alloc; "!{fault}")?),
     }
@@ -103,7 +121,7 @@ fn session(
     room: usize,
 ) -> Result<String, Fail> {
     let mut writer = LimitedSink::new(alloc, room)?;
-    let end = run_over(alloc, database, pieces, &mut writer)?;
+    let end = end_over(alloc, database, pieces, &mut writer)?;
     let mut written = taken(alloc, &writer)?;
     written.push_str(end.as_str())?;
     Ok(written)
