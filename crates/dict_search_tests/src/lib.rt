@@ -1,5 +1,4 @@
-//! Runs of an index in memory, beside the filter of the whole list, made at once and by steps, and of indexes under numbers. A
-//! library with tests alone.
+//! Runs of an index in memory, beside the filter of the whole list, and of indexes under numbers. A library with tests alone.
 #![tactic(auto)]
 
 #[cfg(test)]
@@ -10,5 +9,3 @@ mod filter;
 mod indexes;
 #[cfg(test)]
 mod made;
-#[cfg(test)]
-mod steps;
