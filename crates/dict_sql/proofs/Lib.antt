@@ -16,6 +16,7 @@ pub mod NumberTexts
 pub mod StreamLemmas
 pub mod DeleteLemmas
 pub mod RowLemmas
+pub mod CellLemmas
 pub mod RemoveLemmas
 pub mod DeleteEffects
 pub mod DeleteTexts
