@@ -40,7 +40,7 @@ EDITS = {
         "unlawful_id_is_kept": ("applying::apply", "value; apply_new's requires id"),
     },
     "dict_migration": {
-        "a_failed_creation_empties_tables_of_others": ("making::create", "beside, stays, failed"),
+        "a_failed_creation_empties_tables_of_others": ("making::commit_tables", "beside, stays, failed"),
         "error_is_made_up_after_the_tables": ("making::make_all", "failed"),
         "every_database_is_refused": ("making::create", "no_place"),
         "failed_commit_is_memory": ("migrating::migrate_from", "failed, adds_none"),

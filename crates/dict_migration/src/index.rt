@@ -8,7 +8,7 @@ ghost use Rattle.dict_migration.specs.Older.{form_of};
 ghost use Rattle.dict_migration.specs.Places.{InIndex};
 ghost use Rattle.dict_migration.specs.Steps.{IsIndexOf};
 
-use crate::lines::lines_of;
+use crate::lines::lines_of_all;
 use crate::older::Older;
 use dict_migration_sql::{entries_inside, old_entries_inside, shown_entries_inside};
 use dict_sql::records::ReadError;
@@ -29,7 +29,7 @@ fn plain_index<S: Alter>(
     ensures survives { Survives (seen S.Store tx.old) (seen S.Store tx.new) (λ _. ⊥) }
 {
     let entries = entries_inside(alloc, tx, number)?;
-    let octets = lines_of(alloc, &entries)?;
+    let octets = lines_of_all(alloc, entries)?;
     Ok(octets)
 }
 
@@ -47,7 +47,7 @@ fn keyed_index<S: Alter>(
     ensures survives { Survives (seen S.Store tx.old) (seen S.Store tx.new) (λ _. ⊥) }
 {
     let entries = old_entries_inside(alloc, tx, number)?;
-    let octets = lines_of(alloc, &entries)?;
+    let octets = lines_of_all(alloc, entries)?;
     Ok(octets)
 }
 
@@ -65,7 +65,7 @@ fn shown_index<S: Alter>(
     ensures survives { Survives (seen S.Store tx.old) (seen S.Store tx.new) (λ _. ⊥) }
 {
     let entries = shown_entries_inside(alloc, tx, number)?;
-    let octets = lines_of(alloc, &entries)?;
+    let octets = lines_of_all(alloc, entries)?;
     Ok(octets)
 }
 

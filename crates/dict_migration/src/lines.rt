@@ -127,8 +127,8 @@ fn put_line(said: &Said<'_>, to: &mut Vec<u8>) -> Result<(), ReadError>
     Ok(())
 }
 
-/// The octets of the index of these entries. `NoRecord` tells that one of them has no line.
-pub(crate) fn lines_of<E: Indexed>(alloc: Global, entries: &[E]) -> Result<Vec<u8>, ReadError>
+// The octets of the index of these entries. `NoRecord` tells that one of them has no line.
+fn lines_of<E: Indexed>(alloc: Global, entries: &[E]) -> Result<Vec<u8>, ReadError>
     ensures written { IfOk result (λ octets. octets.items ≡ index_octets (map E.entry entries.now)) }
     ensures failed { IfErr result (FailsToWrite (map E.entry entries.now)) }
 {
@@ -138,4 +138,17 @@ pub(crate) fn lines_of<E: Indexed>(alloc: Global, entries: &[E]) -> Result<Vec<u
         put_line(&said, &mut octets)?;
     }
     Ok(octets)
+}
+
+/// The octets of the index of these entries, which are let go of then. `NoRecord` tells that one of them has no line.
+pub(crate) fn lines_of_all<E: Indexed + Drop>(
+    alloc: Global,
+    entries: Vec<E>,
+) -> Result<Vec<u8>, ReadError>
+    ensures written { IfOk result (λ octets. octets.items ≡ index_octets (map E.entry entries.items)) }
+    ensures failed { IfErr result (FailsToWrite (map E.entry entries.items)) }
+{
+    let octets = lines_of(alloc, &entries);
+    drop(entries);
+    octets
 }

@@ -1,7 +1,7 @@
 // The empty catalogue is made in a database.
 ghost use Rattle.std.specs.Prelude.{◌≡◌, ◌≢◌, ◌↔◌, map, true, false, IsTrue, IfErr, OnOk, OnErr, Err};
 ghost use Rattle.sqlite.specs.Effect.{IsDatabase};
-ghost use Rattle.sqlite.specs.State.{HasCleanDisk, KeepsCommit, Survives};
+ghost use Rattle.sqlite.specs.State.{HasCleanDisk, IsLive, KeepsCommit, Survives};
 ghost use Rattle.sqlite.specs.Held.{state};
 ghost use Rattle.dict_sql.specs.Creates.{AreApart, IsReady, MadeInTurn};
 ghost use Rattle.dict_sql.specs.Effects.{WhileOpen, seen};
@@ -73,6 +73,34 @@ fn make_all<S: Alter>(tx: &mut Transaction<'_, S>) -> Result<(), Error>
     Ok(())
 }
 
+// Makes the tables, with the mark of the empty catalogue, by one commit, in a database that has a place for them.
+fn commit_tables<S: Alter>(conn: &mut Connection<S>) -> Result<(), Fault>
+    requires autocommit { conn.old.in_transaction ≡ false }
+    requires place { HasPlace (state S.Store conn.old).now.schema }
+    requires live { IsLive (state S.Store conn.old) }
+    ensures rests { HasCleanDisk (state S.Store conn.new) → OnOk result (Rests known (state S.Store conn.new) empty_catalogue) }
+    ensures only { HasCleanDisk (state S.Store conn.new) → OnOk result ((trees : _) → (state S.Store conn.new).may_leave trees → IsLeftAs known empty_catalogue trees) }
+    ensures spares { HasCleanDisk (state S.Store conn.new) → OnOk result (SparesOthers (state S.Store conn.old).now (state S.Store conn.new).now) }
+    ensures beside { Survives (state S.Store conn.old) (state S.Store conn.new) (AreTreesOf (SparesOthers (state S.Store conn.old).now)) }
+    ensures adds_none { IfErr result (λ fault. is_disk fault ≡ false → Survives (state S.Store conn.old) (state S.Store conn.new) (λ _. ⊥)) }
+    ensures undone { HasCleanDisk (state S.Store conn.new) → IfErr result (λ fault. is_disk fault ≡ false → IsTrue (state S.Store conn.new).is_open → (state S.Store conn.new).committed ≡ (state S.Store conn.old).committed) }
+    ensures stays { HasCleanDisk (state S.Store conn.new) → OnErr result (Stays (state S.Store conn.old) (state S.Store conn.new)) }
+    ensures failed { HasCleanDisk (state S.Store conn.new) → IfErr result (FailsToEnd S.Store (creation known) (λ db. Holds known db empty_catalogue) conn.old conn.new) }
+    ensures kinds { IfErr result IsOfCreation }
+    ensures placed { IfErr result (λ fault. fault ≢ Fault.NotACatalogue) }
+    ensures autocommit { (state S.Store conn.new).in_transaction ≡ false }
+    ensures crash { Survives (state S.Store conn.old) (state S.Store conn.new) (IsLeftAs known empty_catalogue) }
+{
+    let mut tx = conn.transaction();
+    if let Err(error) = make_all(&mut tx) {
+        return Err(fault_of(error));
+    }
+    match commit(tx) {
+        Ok(()) => Ok(()),
+        Err(_) => Err(Fault::Disk),
+    }
+}
+
 /// Makes the tables of the known version, of the empty catalogue, in a database that has none of them, by one
 /// commit.
 ///
@@ -100,12 +128,5 @@ pub fn create<S: Alter>(conn: &mut Connection<S>) -> Result<(), Fault>
     if !has_place(conn.schema()) {
         return Err(Fault::NotACatalogue);
     }
-    let mut tx = conn.transaction();
-    if let Err(error) = make_all(&mut tx) {
-        return Err(fault_of(error));
-    }
-    match commit(tx) {
-        Ok(()) => Ok(()),
-        Err(_) => Err(Fault::Disk),
-    }
+    commit_tables(conn)
 }

@@ -1,4 +1,4 @@
-use Rattle.std.proofs.Common.{◌∙◌, [], ◌∷◌, map, codes, ap, sym, subst, inl, inr, refl}
+use Rattle.std.proofs.Common.{◌∙◌, [], ◌∷◌, map, codes, sym, subst, inl, inr, refl}
 use Rattle.std.proofs.lemmas.Int.{to_z-of_z}
 use mir.Syntax.{w64}
 use Rattle.sqlite.specs.Effect.{Database}
@@ -9,9 +9,8 @@ use Rattle.dict_sql.specs.Reads.{IsSelection}
 use Rattle.dict_sql.specs.Columns.{entry_columns}
 use Rattle.dict_sql.proofs.StreamLemmas.{passed_on}
 use Rattle.dict_migration_sql.proofs.CopyLemmas.{list_keeps, unchanged_keeps}
-use Rattle.dict_files.specs.Files.{index_octets}
 use Rattle.dict_migration.specs.Failing.{FailsInside}
-use Rattle.dict_migration.specs.Parts.{FailsToWrite, reading, writing}
+use Rattle.dict_migration.specs.Parts.{reading, writing}
 use Rattle.dict_migration.specs.Places.{InIndex}
 use Rattle.dict_migration.specs.Steps.{AreEntriesOf}
 use Rattle.dict_migration.specs.declared.older.Older.TheVariants.{Plain}
@@ -28,7 +27,7 @@ returns-clause-index g c clean =
       record {
         entries = map plain_of items;
         lines = plain_selected c.args.number s0.now items read;
-        written = c.in_ok-octets.ensures.written ∙ ap (λ l. index_octets (map plain_of l)) c.deref.ensures.value;
+        written = c.in_ok-octets.ensures.written;
       },
       it.1,
     )
@@ -61,7 +60,7 @@ returns-in_err-octets-clause-failed g c clean =
     let it = c.in_ok-entries.ensures.selected clean in
     let read = subst (λ m. IsSelection (codes "entry") (equals_number 1 m) (2 ∷ []) (state g.S.Store old).now (map stored_entry items)) (to_z-of_z w64 n c.ranges.number) it.0 in
     let lines = plain_selected n (state g.S.Store old).now items read in
-    let fails = subst (λ l. FailsToWrite (map plain_of l) e) c.deref.ensures.value c.in_err-octets.ensures.failed in
+    let fails = c.in_err-octets.ensures.failed in
     passed_on (FailsInside g.S.Store (InIndex Plain n) old new) e c.from_residual-in_err-octets.result c.from_residual-in_err-octets.ensures.1
     (record {
       at = new;

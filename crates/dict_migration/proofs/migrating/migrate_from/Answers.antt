@@ -21,7 +21,7 @@ returns-in-Ok-clause-made g c clean =
     let P = λ (db : Database). IsOutcome c.args.layout c.args.numbers.now c.args.installs (state g.S.Store old) db in
     let made : HasCleanDisk (state g.S.Store mid) → P (state g.S.Store mid).now × IsDatabase (state g.S.Store mid).now =
     λ clean. (let it = c.in_default.ensures.moved clean in (outcome_of g.S.Store c.args.layout c.args.numbers.now c.args.installs old begun (state g.S.Store mid).now c.transaction-tx.ensures.begun it.0, it.1)) in
-    let late : HasCleanDisk (state g.S.Store end) = search rules in
+    let late : HasCleanDisk (state g.S.Store end) = subst (λ h. HasCleanDisk (state g.S.Store h)) (sym same) clean in
     let shown = (c.in-Ok.ensures.committed late).1 in
     let settled : IsCommitted P (state g.S.Store end) = record {
       is_open = shown.is_open;
@@ -64,7 +64,7 @@ returns-in-Err-commit-clause-stays g c clean =
     let mid = c.migrate_inside.new.tx.conn.now in
     let end = c.commit.new.tx.0 in
     let same : end ≡ c.conn-2-1.given.0 = search rules in
-    let late : HasCleanDisk (state g.S.Store end) = search rules in
+    let late : HasCleanDisk (state g.S.Store end) = subst (λ h. HasCleanDisk (state g.S.Store h)) (sym same) clean in
     let early : HasCleanDisk (state g.S.Store mid) = omega (arith, c.commit.ensures.survives.clean, late) in
     subst (λ h. Stays (state g.S.Store old) (state g.S.Store h)) same (stays_undone (state g.S.Store old) (state g.S.Store mid) (state g.S.Store end)
     (keeps_begun g.S.Store old begun (state g.S.Store mid) c.transaction-tx.ensures.begun (c.migrate_inside.ensures.keeps early))
@@ -93,7 +93,7 @@ returns-in-Err-commit-clause-failed g c clean =
     let mid = c.migrate_inside.new.tx.conn.now in
     let end = c.commit.new.tx.0 in
     let same : end ≡ c.conn-2-1.given.0 = search rules in
-    let late : HasCleanDisk (state g.S.Store end) = search rules in
+    let late : HasCleanDisk (state g.S.Store end) = subst (λ h. HasCleanDisk (state g.S.Store h)) (sym same) clean in
     let early : HasCleanDisk (state g.S.Store mid) = omega (arith, c.commit.ensures.survives.clean, late) in
     inr (record {
       told = refl;

@@ -8,7 +8,7 @@ use Rattle.dict_holdings.specs.Holds.{Holds, Rests, IsLeftAs}
 use Rattle.dict_holdings.specs.Writing.{Stays}
 use Rattle.dict_migration.specs.Making.{creation, RunInTurn, FailsInTurn}
 use Rattle.dict_holdings.proofs.CommitLemmas.{leaves, only_left, done, before_commit, commit_fails, keeps_begun, stays_undone}
-use Rattle.dict_migration.proofs.making.create.Goals as goal
+use Rattle.dict_migration.proofs.making.commit_tables.Goals as goal
 use Rattle.dict_rows.specs.Versions.{known}
 use Rattle.dict_migration.specs.Spared.{SparesOthers}
 use Rattle.sqlite.specs.Effect.{Database, IsDatabase}
@@ -20,7 +20,7 @@ returns-in-Ok-clause-rests g c clean =
     let mid = c.make_all.new.tx.conn.now in
     let end = c.commit.new.tx.0 in
     let same : end ≡ c.conn-2-1.given.0 = search rules in
-    let late : HasCleanDisk (state g.S.Store end) = search rules in
+    let late : HasCleanDisk (state g.S.Store end) = subst (λ h. HasCleanDisk (state g.S.Store h)) (sym same) clean in
     let shown = (c.in-Ok.ensures.committed late).1 in
     let there = done g.S.Store old c.transaction-tx.result.conn.now mid end (λ db. Holds known db empty_catalogue) c.transaction-tx.ensures.begun c.make_all.ensures.survives c.commit.ensures.survives c.in_default.ensures.made late shown in
     let rests : Rests known (state g.S.Store end) empty_catalogue = record { is_open = shown.is_open; settled = shown.now_is ∙ sym shown.committed_is; holds = there } in
@@ -33,7 +33,7 @@ returns-in-Ok-clause-spares g c clean =
     let mid = c.make_all.new.tx.conn.now in
     let end = c.commit.new.tx.0 in
     let same : end ≡ c.conn-2-1.given.0 = search rules in
-    let late : HasCleanDisk (state g.S.Store end) = search rules in
+    let late : HasCleanDisk (state g.S.Store end) = subst (λ h. HasCleanDisk (state g.S.Store h)) (sym same) clean in
     let early : HasCleanDisk (state g.S.Store mid) = before_commit g.S.Store old begun mid end (λ db. Holds known db empty_catalogue) c.transaction-tx.ensures.begun
     c.make_all.ensures.survives c.commit.ensures.survives c.in_default.ensures.made late in
     let shown = (c.in-Ok.ensures.committed late).1 in
@@ -48,7 +48,7 @@ returns-in-Ok-clause-only g c clean =
     let mid = c.make_all.new.tx.conn.now in
     let end = c.commit.new.tx.0 in
     let same : end ≡ c.conn-2-1.given.0 = search rules in
-    let late : HasCleanDisk (state g.S.Store end) = search rules in
+    let late : HasCleanDisk (state g.S.Store end) = subst (λ h. HasCleanDisk (state g.S.Store h)) (sym same) clean in
     let shown = (c.in-Ok.ensures.committed late).1 in
     let there = only_left g.S.Store old begun mid end (λ db. Holds known db empty_catalogue) c.transaction-tx.ensures.begun
     c.make_all.ensures.survives c.commit.ensures.survives c.in_default.ensures.made late shown (c.in-Ok.ensures.only late) in
@@ -99,7 +99,7 @@ returns-in-Err-commit-clause-beside g c =
     subst (λ h. Survives (state g.S.Store old) (state g.S.Store h) (AreTreesOf P)) same there
 
 pub returns-in-Err-clause-failed : goal.returns-in-Err-clause-failed
-returns-in-Err-clause-failed g c clean other =
+returns-in-Err-clause-failed g c clean =
     let mid = c.make_all.new.tx.conn.now in
     let end = c.drop-tx.new.self.0 in
     let same : end ≡ c.conn-1.given.0 = search rules in
@@ -115,13 +115,13 @@ returns-in-Err-clause-failed g c clean other =
     })
 
 pub returns-in-Err-commit-clause-failed : goal.returns-in-Err-commit-clause-failed
-returns-in-Err-commit-clause-failed g c clean other =
+returns-in-Err-commit-clause-failed g c clean =
     let old = c.args.conn.now in
     let begun = c.transaction-tx.result.conn.now in
     let mid = c.make_all.new.tx.conn.now in
     let end = c.commit.new.tx.0 in
     let same : end ≡ c.conn-2-1.given.0 = search rules in
-    let late : HasCleanDisk (state g.S.Store end) = search rules in
+    let late : HasCleanDisk (state g.S.Store end) = subst (λ h. HasCleanDisk (state g.S.Store h)) (sym same) clean in
     let early : HasCleanDisk (state g.S.Store mid) = before_commit g.S.Store old begun mid end (λ db. Holds known db empty_catalogue) c.transaction-tx.ensures.begun
     c.make_all.ensures.survives c.commit.ensures.survives c.in_default.ensures.made late in
     inr (record {
@@ -142,7 +142,7 @@ returns-in-Err-commit-clause-stays g c clean =
     let mid = c.make_all.new.tx.conn.now in
     let end = c.commit.new.tx.0 in
     let same : end ≡ c.conn-2-1.given.0 = search rules in
-    let late : HasCleanDisk (state g.S.Store end) = search rules in
+    let late : HasCleanDisk (state g.S.Store end) = subst (λ h. HasCleanDisk (state g.S.Store h)) (sym same) clean in
     let early : HasCleanDisk (state g.S.Store mid) = before_commit g.S.Store old begun mid end (λ db. Holds known db empty_catalogue) c.transaction-tx.ensures.begun
     c.make_all.ensures.survives c.commit.ensures.survives c.in_default.ensures.made late in
     subst (λ h. Stays (state g.S.Store old) (state g.S.Store h)) same (stays_undone (state g.S.Store old) (state g.S.Store mid) (state g.S.Store end)
