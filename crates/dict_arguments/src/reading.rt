@@ -4,12 +4,13 @@ ghost use Rattle.clap.specs.Values.{kind_of};
 ghost use Rattle.clap.specs.Walk.{rows_of, all_of, first_of, one_of};
 ghost use Rattle.clap.specs.Simple.{subcommand_rows_of};
 ghost use Rattle.clap.specs.Matches.{found_of};
+ghost use Rattle.dict_arguments.specs.Line.{command_line, Reads};
 ghost use Rattle.dict_arguments.specs.Asked.{Asks, Fails, task_shown, change_shown, found_asked, asked_by, plain_asked, on_file, change_asked, install_asked, virtual_asked, place_asked, serve_asked, number_in, words_shown};
 
 use crate::line::command_line;
 use crate::task::{ItemChange, Task};
 use clap::error::ErrorKind;
-use clap::{ArgMatches, Error};
+use clap::{ArgMatches, Command, Error};
 use std::alloc::{AllocError, Global};
 use std::convert::AsStr;
 
@@ -19,8 +20,25 @@ pub fn read_words<'w, W: AsStr>(alloc: Global, words: &'w [W]) -> Result<Task<'w
     ensures err { IfErr result (λ error. Fails (map W.text words.entry.now) (kind_of error)) }
 {
     let mut line = command_line(alloc)?;
+    let asked = read_by(alloc, &mut line, words);
+    drop(line);
+    asked
+}
+
+// The same, by the command line that the program reads.
+fn read_by<'w, W: AsStr>(
+    alloc: Global,
+    line: &mut Command<'w>,
+    words: &'w [W],
+) -> Result<Task<'w>, Error>
+    requires { Reads command_line line.old }
+    ensures ok { IfOk result (Asks (map W.text words.entry.now)) }
+    ensures err { IfErr result (λ error. Fails (map W.text words.entry.now) (kind_of error)) }
+{
     let matches = line.try_get_matches_from_mut(words)?;
-    let asked = task_of(alloc, &matches)?;
+    let asked = task_of(alloc, &matches);
+    drop(matches);
+    let asked = asked?;
     match asked {
         Some(task) => Ok(task),
         None => Err(line.error(ErrorKind::MissingSubcommand, "a subcommand is required")?),
@@ -34,8 +52,10 @@ fn task_of<'w>(alloc: Global, matches: &ArgMatches<'w>) -> Result<Option<Task<'w
     let Some((name, found)) = matches.subcommand() else {
         return Ok(None);
     };
-    let members = members_of(alloc, found)?;
-    Ok(task_by(name, found, members))
+    let mut members = members_of(alloc, found)?;
+    let task = task_by(name, found, &mut members);
+    drop(members);
+    Ok(task)
 }
 
 // The values of the argument MEMBER, where it is there.
@@ -52,9 +72,9 @@ fn members_of<'w>(alloc: Global, found: &ArgMatches<'w>) -> Result<Option<Vec<&'
 fn task_by<'w>(
     name: &str,
     found: &ArgMatches<'w>,
-    members: Option<Vec<&'w str>>,
+    members: &mut Option<Vec<&'w str>>,
 ) -> Option<Task<'w>>
-    requires { option_map (λ each. words_shown each.items) members ≡ all_of (codes "MEMBER") (rows_of (found_of found.now)) }
+    requires { option_map (λ each. words_shown each.items) members.old ≡ all_of (codes "MEMBER") (rows_of (found_of found.now)) }
     ensures { option_map task_shown result ≡ asked_by name.now (rows_of (found_of found.now)) }
 {
     match name {
@@ -74,7 +94,7 @@ fn task_by<'w>(
         "install" => change_task(found, install_of(found)),
         "rollback" => change_task(found, Some(ItemChange::Rollback)),
         "retire" => change_task(found, Some(ItemChange::Retire)),
-        "virtual" => change_task(found, virtual_of(found, members)),
+        "virtual" => change_task(found, virtual_of(found, members.take())),
         "place" => change_task(found, place_of(found)),
         "serve" => serve_task(found),
         _ => None,

@@ -1,8 +1,5 @@
-use Rattle.std.proofs.lemmas.Result.{IfOk-weaker}
-use Rattle.dict_arguments.proofs.LineLemmas.{adds_arg, adds_subcommand}
 use Rattle.dict_arguments.proofs.line.with_group.Goals as goal
 
 pub returns : goal.returns
 returns c = λ app start.
-    let group = adds_arg _ _ _ _ _ c.in_ok-group.ensures c.several.ensures.rule c.several.ensures.local c.in_ok-arg.ensures in
-    IfOk-weaker c.subcommand.result _ _ (λ new adds. adds_subcommand _ _ _ _ _ start group adds) c.subcommand.ensures
+    c.with_command.ensures _ _ start (c.with_arg.ensures _ _ c.leaf-group.ensures c.several-member.ensures.rule c.several-member.ensures.local)

@@ -8,4 +8,4 @@ use Rattle.dict_arguments.proofs.reading.task_of.Goals as goal
 pub returns : goal.returns
 returns c =
     asked_of_found (out-ArgMatches c.args.matches.now).subcommand (λ used. (out-SubCommand (box_value used)).name.now)
-    (λ used. rows_of (found_of (out-SubCommand (box_value used)).matches)) _ _ _ c.in-Some.ensures.name c.in-Some.ensures.rows c.task_by.ensures
+    (λ used. rows_of (found_of (out-SubCommand (box_value used)).matches)) _ _ _ c.in-Some.ensures.name c.in-Some.ensures.rows c.task_by-task.ensures
