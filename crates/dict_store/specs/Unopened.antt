@@ -101,6 +101,18 @@ module _ {D : Type 0} {d : disk.Ghosts D} where
     pub autocommit : now.in_transaction ≡ false
     pub not_left : HasCleanDisk (file_state now) → IsTrue (file_state conn).is_open → IsNotLeft (file_state conn).now.trees fault
 
+  -- No desk adopted this database, for this fault; and it is handed back so.
+  pub record IsNoDesk (conn now : Held (FileStore D d)) (fault : Fault) : Type 0 where
+    pub adopted : IsNotAdopted over_files conn now fault
+    pub failed : HasCleanDisk (file_state now) → fault ≡ Disk → FailsToOpen over_files (record conn { step_limit = None }) now
+    pub autocommit : now.in_transaction ≡ false
+    pub not_left : HasCleanDisk (file_state now) → IsTrue (file_state conn).is_open → IsNotLeft (file_state conn).now.trees fault
+
+  abbrev pub IsHandedBack : Held (FileStore D d) → Unopened D d → Fault → Type 0
+  IsHandedBack conn (Files now) fault = ⊥
+  IsHandedBack conn (Spent spent) fault = ⊥
+  IsHandedBack conn (Database now) fault = IsNoDesk conn now fault
+
   -- Over two files there is no desk, for this fault.
   abbrev pub IsUnopenedOver : Pair D → Unopened D d → Fault → Type 0
   IsUnopenedOver files (Files None) fault = ⊥

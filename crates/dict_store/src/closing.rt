@@ -62,6 +62,18 @@ pub(crate) fn let_go<S: Alter + Drop>(desk: Desk<S>) -> (Connection<S>, bool)
     (connection_of(desk), is_closed)
 }
 
+// The same of a desk over two files.
+pub(crate) fn let_go_of_files<D: Disk + Drop>(
+    desk: Desk<FileStore<D>>,
+) -> (Connection<FileStore<D>>, bool)
+    ensures same { result.0 ≡ desk.conn }
+    ensures closed { result.1 ≡ is_closed desk.last }
+    ensures holds { is_closed desk.last ≡ false → HasCleanDisk (file_state desk.conn) → IsTrue (file_state desk.conn).is_open → (M : Catalogue) → Shows over_files desk M
+        → IsLeft M (file_state desk.conn).committed.trees }
+{
+    let_go(desk)
+}
+
 impl<D: Disk + Drop> Desk<FileStore<D>> {
     /// Closes a desk over two files: what was committed is copied from the log into the database file, which then holds the
     /// catalogue alone, without its log.
@@ -77,7 +89,7 @@ impl<D: Disk + Drop> Desk<FileStore<D>> {
         ensures failed { IfErr result (λ left. IsClean (view left.0) → IsUncopied self left.0 left.1) }
         ensures kinds { IfErr result (λ left. (left.1 ≡ Fault.Memory) ⊎ (left.1 ≡ Fault.Disk)) }
     {
-        let (conn, is_closed) = let_go(self);
+        let (conn, is_closed) = let_go_of_files(self);
         if is_closed {
             return Err((conn.into_store(), Fault::Disk));
         }

@@ -19,6 +19,7 @@ use dict_commands::{Applied, Filing, apply, apply_filed, kept_reply};
 use dict_desk::{Fault, Keeper};
 use sqlite::{Alter, Connection};
 use std::alloc::Global;
+use std::mem;
 
 // Applies a command over a connection on which a change may be prepared.
 fn apply_over<S: Alter>(
@@ -54,7 +55,7 @@ fn take_over(summary: &mut Summary, outcome: Result<Applied, Fault>) -> Result<K
     match outcome {
         Ok(Applied::Repeated(kept)) => Ok(kept),
         Ok(Applied::Done(kept, after)) => {
-            *summary = after;
+            drop(mem::replace(summary, after));
             Ok(kept)
         }
         Err(fault) => Err(fault),

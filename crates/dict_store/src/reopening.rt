@@ -10,15 +10,16 @@ ghost use Rattle.sqlite_pool.specs.Stored.{is_summed};
 ghost use Rattle.sqlite_store.specs.declared.store.FileStore.{FileStore};
 ghost use Rattle.sqlite.specs.WalFiles.{image_at};
 ghost use Rattle.dict_catalogue.specs.Steps.{Catalogue, Request};
-ghost use Rattle.dict_holdings.specs.Holds.{Rests};
+ghost use Rattle.dict_holdings.specs.Holds.{IsLeft, Rests};
+ghost use Rattle.dict_store.specs.Adopted.{IsAdopted};
 ghost use Rattle.dict_store.specs.Desk.{Shows, LeavesOneOf};
 ghost use Rattle.dict_store.specs.Promise.{HoldsFront};
 ghost use Rattle.dict_opening.specs.Reading.{IsOfOpening};
 ghost use Rattle.dict_store.specs.Reopened.{IsAdoptedFrom, IsIn, HoldsFrontIn, IsLetGo, IsOpenedOver, IsReopened, IsRestarted, LeavesFront, ShowsFront, ShowsOneOf};
-ghost use Rattle.dict_store.specs.Unopened.{fault_of_files, IsSealed, IsUnopened, IsUnopenedOver, IsUnreopened, IsUnrestarted};
+ghost use Rattle.dict_store.specs.Unopened.{fault_of_files, IsHandedBack, IsSealed, IsUnopened, IsUnopenedOver, IsUnreopened, IsUnrestarted};
 ghost use Rattle.dict_rows.specs.Versions.{known};
 
-use crate::closing::let_go;
+use crate::closing::let_go_of_files;
 use crate::desk::Desk;
 use dict_desk::Fault;
 use sqlite::{Connection, Error, ErrorCode, FileFrom, FileStore, Files, Leftover, Options, Start};
@@ -48,6 +49,21 @@ pub fn fault_of_files(error: &Error) -> Fault
     }
 }
 
+// A desk over the database that two files were opened as. Where it is none of a catalogue, or can't be read, it is handed back.
+fn adopt_files<D: Disk + Drop>(
+    alloc: Global,
+    conn: Connection<FileStore<D>>,
+) -> Result<Desk<FileStore<D>>, (Unopened<D>, Fault)>
+    requires { conn.in_transaction ≡ false }
+    ensures adopted { IfOk result (λ desk. IsAdopted over_files conn desk × (HasCleanDisk (file_state desk.conn) → (M : Catalogue) → IsLeft M (file_state conn).committed.trees → Shows over_files desk M)) }
+    ensures rejected { IfErr result (λ left. IsHandedBack conn left.0 left.1) }
+{
+    match Desk::adopt(alloc, conn) {
+        Ok(desk) => Ok(desk),
+        Err((conn, fault)) => Err((Unopened::Database(conn), fault)),
+    }
+}
+
 // A desk over two files, of which the last commit is recovered.
 fn open_over<D: Disk + Drop>(
     alloc: Global,
@@ -65,10 +81,7 @@ fn open_over<D: Disk + Drop>(
             return Err((Unopened::Files(Some(left)), fault_of_files(&error)));
         }
     };
-    match Desk::adopt(alloc, conn) {
-        Ok(desk) => Ok(desk),
-        Err((conn, fault)) => Err((Unopened::Database(conn), fault)),
-    }
+    adopt_files(alloc, conn)
 }
 
 impl<S: Start> Desk<FileStore<FileFrom<S>>> {
@@ -94,10 +107,7 @@ impl<S: Start> Desk<FileStore<FileFrom<S>>> {
             Ok(conn) => conn,
             Err((error, left)) => return Err((Unopened::Files(left), fault_of_files(&error))),
         };
-        match Desk::adopt(rt.alloc(), conn) {
-            Ok(desk) => Ok(desk),
-            Err((conn, fault)) => Err((Unopened::Database(conn), fault)),
-        }
+        adopt_files(rt.alloc(), conn)
     }
 }
 
@@ -105,7 +115,7 @@ impl<S: Start> Desk<FileStore<FileFrom<S>>> {
 fn files_of<D: Disk + Drop>(desk: Desk<FileStore<D>>) -> Files<D>
     ensures { IsLetGo desk.conn result }
 {
-    let (conn, _) = let_go(desk);
+    let (conn, _) = let_go_of_files(desk);
     conn.into_store().close()
 }
 

@@ -10,6 +10,6 @@ returns g c = record {
   store = c.into_store.result;
   numbered = c.into_store.ensures.numbered;
   sound = c.into_store.ensures.sound;
-  quiet = subst (λ (conn : Held (FileStore _ _)). IsQuiet view faults recovers is_shielded conn.store c.into_store.result) c.let_go-conn.ensures.same c.into_store.ensures.quiet;
+  quiet = subst (λ (conn : Held (FileStore _ _)). IsQuiet view faults recovers is_shielded conn.store c.into_store.result) c.let_go_of_files-conn.ensures.same c.into_store.ensures.quiet;
   closed = c.close.ensures;
 }

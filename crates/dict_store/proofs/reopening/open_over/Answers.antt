@@ -1,12 +1,18 @@
+use Rattle.std.proofs.lemmas.Result.{IfOk-weaker, IfErr-weaker}
+use Rattle.dict_store.proofs.HandedLemmas.{handed_over}
 use Rattle.dict_store.proofs.reopening.open_over.Goals as goal
 
-pub returns-in-Ok-adopt-clause-opened : goal.returns-in-Ok-adopt-clause-opened
-returns-in-Ok-adopt-clause-opened g c = record {
+pub returns-clause-opened : goal.returns-clause-opened
+returns-clause-opened g c = IfOk-weaker c.adopt_files.result _ _ (λ desk it. record {
   conn = c.in-Ok.conn;
   opened = λ clean. (c.in-Ok.ensures.opened clean, c.in-Ok.ensures.found clean);
-  adopted = record { fine = c.in-Ok-adopt.ensures.open.0; shows = c.in-Ok-adopt.ensures.rests; only = c.in-Ok-adopt.ensures.only; same = c.in-Ok-adopt.ensures.same; unwritten = c.in-Ok-adopt.ensures.unwritten; migrated = c.in-Ok-adopt.ensures.migrated; others = c.in-Ok-adopt.ensures.others; beside = c.in-Ok-adopt.ensures.beside };
-  left = c.in-Ok-adopt.ensures.left;
-}
+  adopted = it.0;
+  left = it.1;
+}) c.adopt_files.ensures.adopted
+
+pub returns-clause-unopened : goal.returns-clause-unopened
+returns-clause-unopened g c = IfErr-weaker c.adopt_files.result _ _ (λ left it.
+    handed_over c.in-Ok.conn c.args.files (λ clean. (c.in-Ok.ensures.opened clean, c.in-Ok.ensures.found clean)) left.0 left.1 it) c.adopt_files.ensures.rejected
 
 pub returns-in-Err-clause-unopened : goal.returns-in-Err-clause-unopened
 returns-in-Err-clause-unopened g c = record {
@@ -16,14 +22,4 @@ returns-in-Err-clause-unopened g c = record {
   kind = c.fault_of_files.ensures.kind;
   cause = c.in-Err.ensures.cause;
   unharmed = c.in-Err.ensures.unharmed;
-}
-
-pub returns-in-Err-adopt-clause-unopened : goal.returns-in-Err-adopt-clause-unopened
-returns-in-Err-adopt-clause-unopened g c = record {
-  conn = c.in-Ok.conn;
-  opened = λ clean. (c.in-Ok.ensures.opened clean, c.in-Ok.ensures.found clean);
-  adopted = record { kind = c.in-Err-adopt.ensures.kinds; told = c.in-Err-adopt.ensures.told; not_held = c.in-Err-adopt.ensures.not_held; same = c.in-Err-adopt.ensures.stays; adds_none = c.in-Err-adopt.ensures.adds_none; crash = c.in-Err-adopt.ensures.crash; beside = c.in-Err-adopt.ensures.beside_left };
-  failed = c.in-Err-adopt.ensures.failed;
-  autocommit = c.in-Err-adopt.ensures.handed;
-  not_left = c.in-Err-adopt.ensures.not_left;
 }

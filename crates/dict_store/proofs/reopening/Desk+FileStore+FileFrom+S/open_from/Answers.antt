@@ -1,46 +1,38 @@
 use Rattle.std.proofs.Common.{◌∙◌, ap, inl, subst, sym, refl, arith}
 use Rattle.std.proofs.lemmas.Option.{IfSome_then}
+use Rattle.std.proofs.lemmas.Result.{IfOk-weaker, IfErr-weaker}
 use Rattle.sqlite.specs.State.{HasCleanDisk}
 use Rattle.sqlite.specs.Files.{file_state}
 use Rattle.sqlite.specs.WalFiles.{image_at}
 use Rattle.dict_holdings.specs.Holds.{IsLeft}
 use Rattle.dict_store.specs.Unopened.{fault_of_files}
-use Rattle.dict_store.specs.Desk.{StandsFor}
-use Rattle.dict_store.proofs.ReopenLemmas.{stands_after}
+use Rattle.dict_store.proofs.HandedLemmas.{handed_from}
 use Rattle.dict_store.proofs.FreshLemmas.{seen_is, left_is, honest_is, octets_by, unopened_from}
 use Rattle.dict_store.proofs.reopening.Desk+FileStore+FileFrom+S.open_from.Goals as goal
 
-pub returns-in-Ok-adopt-clause-adopted : goal.returns-in-Ok-adopt-clause-adopted
-returns-in-Ok-adopt-clause-adopted g c = record {
+pub returns-clause-adopted : goal.returns-clause-adopted
+returns-clause-adopted g c = IfOk-weaker c.adopt_files.result _ _ (λ desk it. record {
   conn = c.in-Ok.conn;
   opened = λ clean. (c.in-Ok.ensures.opened clean, c.in-Ok.ensures.found clean);
   new = c.in-Ok.ensures.fresh;
-  adopted = record { fine = c.in-Ok-adopt.ensures.open.0; shows = c.in-Ok-adopt.ensures.rests; only = c.in-Ok-adopt.ensures.only; same = c.in-Ok-adopt.ensures.same; unwritten = c.in-Ok-adopt.ensures.unwritten; migrated = c.in-Ok-adopt.ensures.migrated; others = c.in-Ok-adopt.ensures.others; beside = c.in-Ok-adopt.ensures.beside };
-}
+  adopted = it.0;
+}) c.adopt_files.ensures.adopted
 
-pub returns-in-Ok-adopt-clause-shows : goal.returns-in-Ok-adopt-clause-shows
-returns-in-Ok-adopt-clause-shows g c = λ clean M held.
-    let early : HasCleanDisk (file_state c.in-Ok.conn) = omega (arith, c.in-Ok-adopt.ensures.migrated.clean, clean) in
+pub returns-clause-rests : goal.returns-clause-rests
+returns-clause-rests g c = IfOk-weaker c.adopt_files.result _ _ (λ desk it. it.0.shows) c.adopt_files.ensures.adopted
+
+pub returns-clause-only : goal.returns-clause-only
+returns-clause-only g c = IfOk-weaker c.adopt_files.result _ _ (λ desk it. it.0.only) c.adopt_files.ensures.adopted
+
+pub returns-clause-shows : goal.returns-clause-shows
+returns-clause-shows g c = IfOk-weaker c.adopt_files.result _ _ (λ desk it clean M held.
+    let early : HasCleanDisk (file_state c.in-Ok.conn) = omega (arith, it.0.migrated.clean, clean) in
     let found = c.in-Ok.ensures.found early in
-    c.in-Ok-adopt.ensures.left clean M (subst (IsLeft M) (sym (found.holds held.0 held.1)) held.2)
+    it.1 clean M (subst (IsLeft M) (sym (found.holds held.0 held.1)) held.2)) c.adopt_files.ensures.adopted
 
-pub returns-in-Err-adopt-clause-unopened : goal.returns-in-Err-adopt-clause-unopened
-returns-in-Err-adopt-clause-unopened g c = record {
-  conn = c.in-Ok.conn;
-  opened = λ clean. (c.in-Ok.ensures.opened clean, c.in-Ok.ensures.found clean);
-  adopted = record { kind = c.in-Err-adopt.ensures.kinds; told = c.in-Err-adopt.ensures.told; not_held = c.in-Err-adopt.ensures.not_held; same = c.in-Err-adopt.ensures.stays; adds_none = c.in-Err-adopt.ensures.adds_none; crash = c.in-Err-adopt.ensures.crash; beside = c.in-Err-adopt.ensures.beside_left };
-  failed = c.in-Err-adopt.ensures.failed;
-  autocommit = c.in-Err-adopt.ensures.handed;
-  of_store = λ M held clean.
-      let early : HasCleanDisk (file_state c.in-Ok.conn) = omega (arith, c.in-Err-adopt.ensures.crash.clean, clean) in
-      let opened = (c.in-Ok.ensures.opened early).0 in
-      let found = c.in-Ok.ensures.found early in
-      c.in-Err-adopt.ensures.not_left clean opened.is_open M (subst (λ db. IsLeft M db.trees) (sym opened.clean) (subst (IsLeft M) (sym (found.holds held.0 held.1)) held.2));
-  leaves = λ m stands clean trees stop.
-      let early : HasCleanDisk (file_state c.in-Ok.conn) = omega (arith, c.in-Err-adopt.ensures.crash.clean, clean) in
-      let found = c.in-Ok.ensures.found early in
-      stands_after (λ _. inl refl) c.in-Ok.conn c.in-Err-adopt.conn (c.in-Ok.ensures.opened early) c.in-Err-adopt.ensures.crash clean m (subst (StandsFor m) (sym (found.holds stands.0 stands.1)) stands.2) trees stop;
-}
+pub returns-clause-unopened : goal.returns-clause-unopened
+returns-clause-unopened g c = IfErr-weaker c.adopt_files.result _ _ (λ left it.
+    handed_from c.in-Ok.conn (λ _. inl refl) (image_at g.S.Start) (λ clean. (c.in-Ok.ensures.opened clean, c.in-Ok.ensures.found clean)) left.0 left.1 it) c.adopt_files.ensures.rejected
 
 pub returns-in-Err-clause-unopened : goal.returns-in-Err-clause-unopened
 returns-in-Err-clause-unopened g c =
