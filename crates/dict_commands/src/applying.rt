@@ -58,8 +58,16 @@ fn apply_new<S: Alter>(
     let change = decide(alloc, summary, command)?;
     command.is_lawful();
     lies_within(command);
-    commit_change(alloc, conn, id, command, &change)?;
-    let PlannedChange { summary, kept, .. } = change;
+    if let Err(fault) = commit_change(alloc, conn, id, command, &change) {
+        drop(change);
+        return Err(fault);
+    }
+    let PlannedChange {
+        summary,
+        gone,
+        kept,
+    } = change;
+    drop(gone);
     Ok(Applied::Done(kept, summary))
 }
 

@@ -97,9 +97,11 @@ fn filed_change<S: Alter>(
         return None;
     };
     if !is_of_change(alloc, filing, command, &change) {
+        drop(change);
         return None;
     }
     let Ok(None) = kept_reply(alloc, conn, id) else {
+        drop(change);
         return None;
     };
     Some(change)
@@ -227,9 +229,15 @@ fn apply_rest<S: Alter>(
     command.is_lawful();
     lies_within(command);
     if let Err(fault) = commit_rest(conn, id, command, &change) {
+        drop(change);
         return Err(fault);
     }
-    let PlannedChange { summary, kept, .. } = change;
+    let PlannedChange {
+        summary,
+        gone,
+        kept,
+    } = change;
+    drop(gone);
     Ok(Applied::Done(kept, summary))
 }
 

@@ -36,10 +36,13 @@ pub(crate) fn write_summary<S: Alter, T: OpenTransaction<S>>(
     ensures failed { IfErr result (FailsToWrite S.Store (summary_anew known summary.now.installs (map item_shown summary.now.items.items)) (T.held tx.old) (T.held tx.new)) }
     ensures spares { Spares S.Store (T.held tx.old) (T.held tx.new) }
 {
-    write_mark(tx, summary.installs)?;
-    write_items(tx, &summary.items)?;
-    write_members(tx, &summary.items)?;
-    Ok(())
+    if let Err(error) = write_mark(tx, summary.installs) {
+        return Err(error);
+    }
+    if let Err(error) = write_items(tx, &summary.items) {
+        return Err(error);
+    }
+    write_members(tx, &summary.items)
 }
 
 // Takes out the editions that go, and adds the one that the command installs, where its index is these octets.
@@ -60,9 +63,10 @@ fn write_editions<S: Alter, T: OpenTransaction<S>>(
     ensures failed { IfErr result (FailsToWrite S.Store (exchanging gone.now (installed_by installs command.now)) (T.held tx.old) (T.held tx.new)) }
     ensures spares { Spares S.Store (T.held tx.old) (T.held tx.new) }
 {
-    take_editions(tx, gone)?;
-    add_installed(tx, installs, command, index)?;
-    Ok(())
+    if let Err(error) = take_editions(tx, gone) {
+        return Err(error);
+    }
+    add_installed(tx, installs, command, index)
 }
 
 /// Adds the reply that is kept for an id. It comes last, so it tells that the database is sound.
@@ -105,8 +109,11 @@ pub(crate) fn write_all<S: Alter, T: OpenTransaction<S>>(
     ensures failed { IfErr result (FailsToWrite S.Store (statements_of known (change_by id.now command.now change.now)) (T.held tx.old) (T.held tx.new)) }
     ensures spares { Spares S.Store (T.held tx.old) (T.held tx.new) }
 {
-    write_summary(tx, &change.summary)?;
-    write_editions(tx, &change.gone, change.summary.installs, command, index)?;
-    add_reply(tx, id, &change.kept)?;
-    Ok(())
+    if let Err(error) = write_summary(tx, &change.summary) {
+        return Err(error);
+    }
+    if let Err(error) = write_editions(tx, &change.gone, change.summary.installs, command, index) {
+        return Err(error);
+    }
+    add_reply(tx, id, &change.kept)
 }

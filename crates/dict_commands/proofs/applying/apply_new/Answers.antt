@@ -25,16 +25,15 @@ returns-in_err-change-clause-value g c = λ clean M rests is new.
     let p = err_from_is_err_and c.from_residual.result c.from_residual.ensures.1 in
     rw (p.1, p.2) (declined_answers (state g.S.Store c.args.conn.now) M c.args.id.now c.args.command.now (summary_shown c.args.summary.now) c.in_err-change.field-0.0 c.requires.id new is c.in_err-change.ensures.declined rests)
 
-pub returns-in_err-commit_change-clause-value : goal.returns-in_err-commit_change-clause-value
-returns-in_err-commit_change-clause-value g c = λ clean M rests is new.
-    let p = err_from_is_err_and c.from_residual-in_err-commit_change.result c.from_residual-in_err-commit_change.ensures.1 in
-    rw (p.1, p.2) (failed_answers (state g.S.Store c.args.conn.now) (state g.S.Store c.commit_change.new.conn) M c.args.id.now _ c.in_err-commit_change.field-0.0 c.in_err-commit_change.ensures.kinds
-    (c.in_err-commit_change.ensures.stays clean) rests)
+pub returns-in-Err-clause-value : goal.returns-in-Err-clause-value
+returns-in-Err-clause-value g c = λ clean M rests is new.
+    (failed_answers (state g.S.Store c.args.conn.now) (state g.S.Store c.commit_change.new.conn) M c.args.id.now _ c.in-Err.fault c.in-Err.ensures.kinds
+    (c.in-Err.ensures.stays clean) rests)
 
 pub returns-clause-value : goal.returns-clause-value
 returns-clause-value g c = λ clean M rests is new.
     acted_answers M c.args.id.now c.args.command.now c.in_ok-change.change (summary_shown c.args.summary.now) c.requires.id new is c.in_ok-change.ensures.planned c.is_lawful.ensures c.lies_within.ensures
-    (state g.S.Store c.args.conn.now) (state g.S.Store c.commit_change.new.conn) rests (c.in_ok-commit_change.ensures.made clean)
+    (state g.S.Store c.args.conn.now) (state g.S.Store c.commit_change.new.conn) rests (c.in_default.ensures.made clean)
 
 pub returns-clause-crash : goal.returns-clause-crash
 returns-clause-crash g c =
@@ -42,8 +41,8 @@ returns-clause-crash g c =
     (λ clean trees it M rests is new. left_after M c.args.id.now c.args.command.now c.in_ok-change.change (summary_shown c.args.summary.now) c.requires.id new is c.in_ok-change.ensures.planned c.is_lawful.ensures c.lies_within.ensures
     (state g.S.Store c.args.conn.now) trees rests it) c.commit_change.ensures.crash
 
-pub returns-in_err-commit_change-clause-crash : goal.returns-in_err-commit_change-clause-crash
-returns-in_err-commit_change-clause-crash g c =
+pub returns-in-Err-clause-crash : goal.returns-in-Err-clause-crash
+returns-in-Err-clause-crash g c =
     survives_weaker (state g.S.Store c.args.conn.now) (state g.S.Store c.commit_change.new.conn) _ _
     (λ clean trees it M rests is new. left_after M c.args.id.now c.args.command.now c.in_ok-change.change (summary_shown c.args.summary.now) c.requires.id new is c.in_ok-change.ensures.planned c.is_lawful.ensures c.lies_within.ensures
     (state g.S.Store c.args.conn.now) trees rests it) c.commit_change.ensures.crash
@@ -55,22 +54,20 @@ returns-in_err-change-clause-failed g c clean =
     passed_on (λ fault. is_failure fault ≡ true → ((fault ≡ Memory) × (c.args.conn.now ≡ c.args.conn.now) × none) ⊎ _) fault c.from_residual.result c.from_residual.ensures.1
     (λ real. let it = declined_fails (summary_shown c.args.summary.now) (command_shown c.args.command.now) fault c.in_err-change.ensures.declined real in inl (it.0, refl, it.1))
 
-pub returns-in_err-commit_change-clause-failed : goal.returns-in_err-commit_change-clause-failed
-returns-in_err-commit_change-clause-failed g c clean =
+pub returns-in-Err-clause-failed : goal.returns-in-Err-clause-failed
+returns-in-Err-clause-failed g c clean =
     let old = c.args.conn.now in
     let new = c.commit_change.new.conn in
-    let fault = c.in_err-commit_change.field-0.0 in
+    let fault = c.in-Err.fault in
     let summary = summary_shown c.args.summary.now in
     let P = λ (db : Database). (M : Catalogue) → Rests known (state g.S.Store old) M → summary_of M ≡ summary → kept_under M.kept c.args.id.now ≡ None → Holds known db (step M c.args.id.now (command_meant c.args.command.now)).catalogue in
     let change = change_by c.args.id.now c.args.command.now c.in_ok-change.change in
     let planned = is_planned c.args.id.now c.args.command.now c.in_ok-change.change summary c.in_ok-change.ensures.planned c.lies_within.ensures (state g.S.Store old) in
     let none = refusal_of summary (command_shown c.args.command.now) ≡ None in
-    passed_on (λ fault. is_failure fault ≡ true → ((fault ≡ Memory) × (new ≡ old) × none) ⊎ FailsToAct g.S.Store summary c.args.id.now (command_meant c.args.command.now) P old new fault) fault
-    c.from_residual-in_err-commit_change.result c.from_residual-in_err-commit_change.ensures.1
     (λ real. commit_fails g.S.Store none c.in_ok-change.ensures.planned.0 summary c.args.id.now (command_meant c.args.command.now) change old planned (Turns (all_after known change) (state g.S.Store old).now) P new fault
     (λ db turns M rests is new. holds_after M c.args.id.now c.args.command.now c.in_ok-change.change summary c.requires.id new is c.in_ok-change.ensures.planned c.is_lawful.ensures c.lies_within.ensures
     (state g.S.Store old).now db (holds_now (state g.S.Store old) M rests) turns)
-    (c.in_err-commit_change.ensures.failed clean))
+    (c.in-Err.ensures.failed clean))
 
 pub commit_change-requires-clause-usable : goal.commit_change-requires-clause-usable
 commit_change-requires-clause-usable g c = λ clean live.
@@ -83,7 +80,7 @@ pub returns-clause-others : goal.returns-clause-others
 returns-clause-others g c clean =
     let old = state g.S.Store c.args.conn.now in
     let new = state g.S.Store c.commit_change.new.conn in
-    let done = c.in_ok-commit_change.ensures.made clean in
+    let done = c.in_default.ensures.made clean in
     others_committed (summary_shown c.args.summary.now) old new (all_after known (change_by c.args.id.now c.args.command.now c.in_ok-change.change)) c.requires.holds
     (clean_before old new c.commit_change.ensures.crash clean) (c.commit_change.ensures.lives clean done.is_open) done
 
@@ -101,8 +98,8 @@ returns-clause-beside g c =
     ))
     c.commit_change.ensures.crash
 
-pub returns-in_err-commit_change-clause-beside : goal.returns-in_err-commit_change-clause-beside
-returns-in_err-commit_change-clause-beside g c =
+pub returns-in-Err-clause-beside : goal.returns-in-Err-clause-beside
+returns-in-Err-clause-beside g c =
     let old = state g.S.Store c.args.conn.now in
     let new = state g.S.Store c.commit_change.new.conn in
     survives_weaker old new _ _
@@ -119,7 +116,7 @@ pub returns-clause-above : goal.returns-clause-above
 returns-clause-above g c clean =
     let old = state g.S.Store c.args.conn.now in
     let new = state g.S.Store c.commit_change.new.conn in
-    let done = c.in_ok-commit_change.ensures.made clean in
+    let done = c.in_default.ensures.made clean in
     above_committed (summary_shown c.args.summary.now) c.args.id.now c.args.command.now c.in_ok-change.change c.in_ok-change.ensures.planned old new c.requires.holds
     (clean_before old new c.commit_change.ensures.crash clean) (c.commit_change.ensures.lives clean done.is_open) done
 
@@ -127,22 +124,20 @@ pub returns-clause-installed : goal.returns-clause-installed
 returns-clause-installed g c clean =
     let old = state g.S.Store c.args.conn.now in
     let new = state g.S.Store c.commit_change.new.conn in
-    let done = c.in_ok-commit_change.ensures.made clean in
+    let done = c.in_default.ensures.made clean in
     installed_there (summary_shown c.args.summary.now) c.args.id.now c.args.command.now c.in_ok-change.change c.in_ok-change.ensures.planned c.in_ok-change.ensures.writable.0 c.lies_within.ensures old new
     c.requires.holds (clean_before old new c.commit_change.ensures.crash clean) (c.commit_change.ensures.lives clean done.is_open) done
 
 pub returns-clause-grows : goal.returns-clause-grows
 returns-clause-grows g c = grows_by (summary_shown c.args.summary.now) c.args.command.now c.in_ok-change.change c.in_ok-change.ensures.planned
 
-pub returns-in_err-commit_change-clause-refused : goal.returns-in_err-commit_change-clause-refused
-returns-in_err-commit_change-clause-refused g c =
+pub returns-in-Err-clause-refused : goal.returns-in-Err-clause-refused
+returns-in-Err-clause-refused g c =
     let old = state g.S.Store c.args.conn.now in
     let new = state g.S.Store c.commit_change.new.conn in
-    let fault = c.in_err-commit_change.field-0.0 in
-    passed_on (λ fault. is_failure fault ≡ false → new.now ≡ old.now) fault c.from_residual-in_err-commit_change.result c.from_residual-in_err-commit_change.ensures.1
-    (λ no. absurd (none_refused fault c.in_err-commit_change.ensures.kinds no))
+    let fault = c.in-Err.fault in
+    (λ no. absurd (none_refused fault c.in-Err.ensures.kinds no))
 
-pub returns-in_err-commit_change-clause-stays : goal.returns-in_err-commit_change-clause-stays
-returns-in_err-commit_change-clause-stays g c = λ clean live.
-    let p = err_from_is_err_and c.from_residual-in_err-commit_change.result c.from_residual-in_err-commit_change.ensures.1 in
-    rw p.1 ((c.in_err-commit_change.ensures.stays clean).committed live)
+pub returns-in-Err-clause-stays : goal.returns-in-Err-clause-stays
+returns-in-Err-clause-stays g c = λ clean live.
+    ((c.in-Err.ensures.stays clean).committed live)

@@ -23,7 +23,7 @@ returns-in-Ok-clause-made g c clean =
     let f = all_after known (change_by c.args.id.now c.args.command.now c.args.change.now) in
     let made : HasCleanDisk (state g.S.Store mid) → Turns f (state g.S.Store old).now (state g.S.Store mid).now × IsDatabase (state g.S.Store mid).now =
     λ clean. (subst (λ d. Turns f d (state g.S.Store mid).now) (ap (λ h. (state g.S.Store h).now) c.transaction-tx.ensures.begun) (c.in_default.ensures.wrote.turns clean), c.in_default.ensures.sound clean) in
-    let late : HasCleanDisk (state g.S.Store end) = search rules in
+    let late : HasCleanDisk (state g.S.Store end) = subst (λ h. HasCleanDisk (state g.S.Store h)) (sym same) clean in
     let shown = (c.in-Ok.ensures.committed late).1 in
     let P = λ (db : Database). Turns f (state g.S.Store old).now db in
     let settled : IsCommitted P (state g.S.Store end) = record {
@@ -85,7 +85,7 @@ returns-in-Err-commit-clause-failed g c clean =
     let mid = c.write_all.new.tx.conn.now in
     let end = c.commit.new.tx.0 in
     let same : end ≡ c.conn-2-1.given.0 = search rules in
-    let late : HasCleanDisk (state g.S.Store end) = search rules in
+    let late : HasCleanDisk (state g.S.Store end) = subst (λ h. HasCleanDisk (state g.S.Store h)) (sym same) clean in
     let early : HasCleanDisk (state g.S.Store mid) = omega (arith, c.commit.ensures.survives.clean, late) in
     let f = all_after known (change_by c.args.id.now c.args.command.now c.args.change.now) in
     inr (record {
@@ -106,7 +106,7 @@ returns-in-Err-commit-clause-stays g c clean =
     let mid = c.write_all.new.tx.conn.now in
     let end = c.commit.new.tx.0 in
     let same : end ≡ c.conn-2-1.given.0 = search rules in
-    let late : HasCleanDisk (state g.S.Store end) = search rules in
+    let late : HasCleanDisk (state g.S.Store end) = subst (λ h. HasCleanDisk (state g.S.Store h)) (sym same) clean in
     let early : HasCleanDisk (state g.S.Store mid) = omega (arith, c.commit.ensures.survives.clean, late) in
     subst (λ h. Stays (state g.S.Store old) (state g.S.Store h)) same (stays_undone (state g.S.Store old) (state g.S.Store mid) (state g.S.Store end)
     (keeps_begun g.S.Store old begun (state g.S.Store mid) c.transaction-tx.ensures.begun (c.write_all.ensures.spares.keeps early))

@@ -1,5 +1,5 @@
 use Rattle.std.proofs.Common.{map, ◌++◌}
-use Rattle.dict_sql.proofs.StreamLemmas.{passed_on}
+use Rattle.std.proofs.lemmas.Result.{on_ok_weaker, IfErr-weaker}
 use Rattle.dict_files.specs.AllTables.{AllTables}
 use Rattle.dict_commands.specs.Writes.{Wrote, FailsToWrite}
 use Rattle.dict_commands.proofs.WriteLemmas.{wrote_then, failed_before, failed_after, spares_then}
@@ -17,16 +17,17 @@ returns-clause-wrote g c =
     let spares0 = c.write_summary.ensures.spares in
     let wrote0 : Wrote g.S.Store (summary_anew known c.args.change.now.summary.installs (map item_shown c.args.change.now.summary.items.items))
     ((λ (all : AllTables). with_members (map item_shown c.args.change.now.summary.items.items) (with_items (map item_shown c.args.change.now.summary.items.items) (with_mark c.args.change.now.summary.installs all))))
-    first s0 = c.in_ok-write_summary.ensures.wrote in
+    first s0 = c.in_default.ensures.wrote in
     let s1 = (g.T.OpenTransaction.held c.write_editions.new.tx) in
     let spares1 = c.write_editions.ensures.spares in
     let wrote1 : Wrote g.S.Store (exchanging c.args.change.now.gone.items (installed_by c.args.change.now.summary.installs c.args.command.now))
     ((λ (all : AllTables). with_installed (installed_by c.args.change.now.summary.installs c.args.command.now) (without_editions c.args.change.now.gone.items all))) s0 s1 = rw c.deref.ensures.value
-    at c.in_ok-write_editions.ensures.wrote in
+    at c.in_default-write_editions.ensures.wrote in
     let s2 = (g.T.OpenTransaction.held c.add_reply.new.tx) in
     let spares2 = c.add_reply.ensures.spares in
+    on_ok_weaker c.add_reply.result (λ done.
     let wrote2 : Wrote g.S.Store (replying (record { id = c.args.id.now; reply = kept_shown c.args.change.now.kept })) (with_reply (record { id = c.args.id.now; reply = kept_shown c.args.change.now.kept })) s1 s2 =
-    c.in_ok-add_reply.ensures.wrote in
+    done in
     (wrote_then g.S.Store (summary_anew known c.args.change.now.summary.installs (map item_shown c.args.change.now.summary.items.items))
     ((exchanging c.args.change.now.gone.items (installed_by c.args.change.now.summary.installs c.args.command.now)) ++ ((replying (record { id = c.args.id.now; reply = kept_shown c.args.change.now.kept }))))
     ((λ (all : AllTables). with_members (map item_shown c.args.change.now.summary.items.items) (with_items (map item_shown c.args.change.now.summary.items.items) (with_mark c.args.change.now.summary.installs all))))
@@ -35,7 +36,7 @@ returns-clause-wrote g c =
     (wrote_then g.S.Store (exchanging c.args.change.now.gone.items (installed_by c.args.change.now.summary.installs c.args.command.now))
     ((replying (record { id = c.args.id.now; reply = kept_shown c.args.change.now.kept })))
     ((λ (all : AllTables). with_installed (installed_by c.args.change.now.summary.installs c.args.command.now) (without_editions c.args.change.now.gone.items all)))
-    (λ (all : AllTables). (with_reply (record { id = c.args.id.now; reply = kept_shown c.args.change.now.kept }) all)) s0 s1 s2 wrote1 wrote2 spares2) (spares_then g.S.Store s0 s1 s2 spares1 spares2))
+    (λ (all : AllTables). (with_reply (record { id = c.args.id.now; reply = kept_shown c.args.change.now.kept }) all)) s0 s1 s2 wrote1 wrote2 spares2) (spares_then g.S.Store s0 s1 s2 spares1 spares2))) c.add_reply.ensures.wrote
 
 pub returns-clause-spares : goal.returns-clause-spares
 returns-clause-spares g c =
@@ -48,8 +49,8 @@ returns-clause-spares g c =
     let spares2 = c.add_reply.ensures.spares in
     (spares_then g.S.Store first s0 s2 spares0 (spares_then g.S.Store s0 s1 s2 spares1 spares2))
 
-pub returns-in_err-write_editions-clause-spares : goal.returns-in_err-write_editions-clause-spares
-returns-in_err-write_editions-clause-spares g c =
+pub returns-in-Err-write_editions-clause-spares : goal.returns-in-Err-write_editions-clause-spares
+returns-in-Err-write_editions-clause-spares g c =
     let first = (g.T.OpenTransaction.held c.args.tx.now) in
     let s0 = (g.T.OpenTransaction.held c.write_summary.new.tx) in
     let spares0 = c.write_summary.ensures.spares in
@@ -57,63 +58,49 @@ returns-in_err-write_editions-clause-spares g c =
     let spares1 = c.write_editions.ensures.spares in
     (spares_then g.S.Store first s0 s1 spares0 spares1)
 
-pub returns-in_err-add_reply-clause-spares : goal.returns-in_err-add_reply-clause-spares
-returns-in_err-add_reply-clause-spares g c =
+pub returns-in-Err-clause-failed : goal.returns-in-Err-clause-failed
+returns-in-Err-clause-failed g c =
     let first = (g.T.OpenTransaction.held c.args.tx.now) in
     let s0 = (g.T.OpenTransaction.held c.write_summary.new.tx) in
     let spares0 = c.write_summary.ensures.spares in
-    let s1 = (g.T.OpenTransaction.held c.write_editions.new.tx) in
-    let spares1 = c.write_editions.ensures.spares in
-    let s2 = (g.T.OpenTransaction.held c.add_reply.new.tx) in
-    let spares2 = c.add_reply.ensures.spares in
-    (spares_then g.S.Store first s0 s2 spares0 (spares_then g.S.Store s0 s1 s2 spares1 spares2))
-
-pub returns-in_err-write_summary-clause-failed : goal.returns-in_err-write_summary-clause-failed
-returns-in_err-write_summary-clause-failed g c =
-    let first = (g.T.OpenTransaction.held c.args.tx.now) in
-    let s0 = (g.T.OpenTransaction.held c.write_summary.new.tx) in
-    let spares0 = c.write_summary.ensures.spares in
-    let e = c.in_err-write_summary.field-0.0 in
-    passed_on (FailsToWrite g.S.Store (statements_of known (change_by c.args.id.now c.args.command.now c.args.change.now)) first s0) e c.from_residual.result c.from_residual.ensures.1
+    let e = c.in-Err.error in
     ((failed_before g.S.Store (summary_anew known c.args.change.now.summary.installs (map item_shown c.args.change.now.summary.items.items))
     ((exchanging c.args.change.now.gone.items (installed_by c.args.change.now.summary.installs c.args.command.now)) ++ ((replying (record { id = c.args.id.now; reply = kept_shown c.args.change.now.kept })))) first s0 e
-    (c.in_err-write_summary.ensures.failed)))
+    (c.in-Err.ensures.failed)))
 
-pub returns-in_err-write_editions-clause-failed : goal.returns-in_err-write_editions-clause-failed
-returns-in_err-write_editions-clause-failed g c =
+pub returns-in-Err-write_editions-clause-failed : goal.returns-in-Err-write_editions-clause-failed
+returns-in-Err-write_editions-clause-failed g c =
     let first = (g.T.OpenTransaction.held c.args.tx.now) in
     let s0 = (g.T.OpenTransaction.held c.write_summary.new.tx) in
     let spares0 = c.write_summary.ensures.spares in
     let wrote0 : Wrote g.S.Store (summary_anew known c.args.change.now.summary.installs (map item_shown c.args.change.now.summary.items.items))
     ((λ (all : AllTables). with_members (map item_shown c.args.change.now.summary.items.items) (with_items (map item_shown c.args.change.now.summary.items.items) (with_mark c.args.change.now.summary.installs all))))
-    first s0 = c.in_ok-write_summary.ensures.wrote in
+    first s0 = c.in_default.ensures.wrote in
     let s1 = (g.T.OpenTransaction.held c.write_editions.new.tx) in
     let spares1 = c.write_editions.ensures.spares in
-    let e = c.in_err-write_editions.field-0.0 in
-    passed_on (FailsToWrite g.S.Store (statements_of known (change_by c.args.id.now c.args.command.now c.args.change.now)) first s1) e c.from_residual-in_err-write_editions.result
-    c.from_residual-in_err-write_editions.ensures.1 ((failed_after g.S.Store (summary_anew known c.args.change.now.summary.installs (map item_shown c.args.change.now.summary.items.items))
+    let e = c.in-Err-write_editions.error in
+    ((failed_after g.S.Store (summary_anew known c.args.change.now.summary.installs (map item_shown c.args.change.now.summary.items.items))
     ((exchanging c.args.change.now.gone.items (installed_by c.args.change.now.summary.installs c.args.command.now)) ++ ((replying (record { id = c.args.id.now; reply = kept_shown c.args.change.now.kept }))))
     ((λ (all : AllTables). with_members (map item_shown c.args.change.now.summary.items.items) (with_items (map item_shown c.args.change.now.summary.items.items) (with_mark c.args.change.now.summary.installs all))))
     first s0 s1 e wrote0 spares1 (failed_before g.S.Store (exchanging c.args.change.now.gone.items (installed_by c.args.change.now.summary.installs c.args.command.now))
-    ((replying (record { id = c.args.id.now; reply = kept_shown c.args.change.now.kept }))) s0 s1 e (rw c.deref.ensures.value at c.in_err-write_editions.ensures.failed))))
+    ((replying (record { id = c.args.id.now; reply = kept_shown c.args.change.now.kept }))) s0 s1 e (rw c.deref.ensures.value at c.in-Err-write_editions.ensures.failed))))
 
-pub returns-in_err-add_reply-clause-failed : goal.returns-in_err-add_reply-clause-failed
-returns-in_err-add_reply-clause-failed g c =
+pub returns-clause-failed : goal.returns-clause-failed
+returns-clause-failed g c =
     let first = (g.T.OpenTransaction.held c.args.tx.now) in
     let s0 = (g.T.OpenTransaction.held c.write_summary.new.tx) in
     let spares0 = c.write_summary.ensures.spares in
     let wrote0 : Wrote g.S.Store (summary_anew known c.args.change.now.summary.installs (map item_shown c.args.change.now.summary.items.items))
     ((λ (all : AllTables). with_members (map item_shown c.args.change.now.summary.items.items) (with_items (map item_shown c.args.change.now.summary.items.items) (with_mark c.args.change.now.summary.installs all))))
-    first s0 = c.in_ok-write_summary.ensures.wrote in
+    first s0 = c.in_default.ensures.wrote in
     let s1 = (g.T.OpenTransaction.held c.write_editions.new.tx) in
     let spares1 = c.write_editions.ensures.spares in
     let wrote1 : Wrote g.S.Store (exchanging c.args.change.now.gone.items (installed_by c.args.change.now.summary.installs c.args.command.now))
     ((λ (all : AllTables). with_installed (installed_by c.args.change.now.summary.installs c.args.command.now) (without_editions c.args.change.now.gone.items all))) s0 s1 = rw c.deref.ensures.value
-    at c.in_ok-write_editions.ensures.wrote in
+    at c.in_default-write_editions.ensures.wrote in
     let s2 = (g.T.OpenTransaction.held c.add_reply.new.tx) in
     let spares2 = c.add_reply.ensures.spares in
-    let e = c.in_err-add_reply.field-0.0 in
-    passed_on (FailsToWrite g.S.Store (statements_of known (change_by c.args.id.now c.args.command.now c.args.change.now)) first s2) e c.from_residual-in_err-add_reply.result c.from_residual-in_err-add_reply.ensures.1
+    IfErr-weaker c.add_reply.result _ (FailsToWrite g.S.Store (statements_of known (change_by c.args.id.now c.args.command.now c.args.change.now)) first s2) (λ e failed.
     ((failed_after g.S.Store (summary_anew known c.args.change.now.summary.installs (map item_shown c.args.change.now.summary.items.items))
     ((exchanging c.args.change.now.gone.items (installed_by c.args.change.now.summary.installs c.args.command.now)) ++ ((replying (record { id = c.args.id.now; reply = kept_shown c.args.change.now.kept }))))
     ((λ (all : AllTables). with_members (map item_shown c.args.change.now.summary.items.items) (with_items (map item_shown c.args.change.now.summary.items.items) (with_mark c.args.change.now.summary.installs all))))
@@ -121,4 +108,4 @@ returns-in_err-add_reply-clause-failed g c =
     (failed_after g.S.Store (exchanging c.args.change.now.gone.items (installed_by c.args.change.now.summary.installs c.args.command.now))
     ((replying (record { id = c.args.id.now; reply = kept_shown c.args.change.now.kept })))
     ((λ (all : AllTables). with_installed (installed_by c.args.change.now.summary.installs c.args.command.now) (without_editions c.args.change.now.gone.items all))) s0 s1 s2 e wrote1 spares2
-    c.in_err-add_reply.ensures.failed)))
+    failed)))) c.add_reply.ensures.failed

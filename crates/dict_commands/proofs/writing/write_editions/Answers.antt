@@ -1,4 +1,4 @@
-use Rattle.dict_sql.proofs.StreamLemmas.{passed_on}
+use Rattle.std.proofs.lemmas.Result.{on_ok_weaker, IfErr-weaker}
 use Rattle.dict_files.specs.AllTables.{AllTables}
 use Rattle.dict_commands.specs.Writes.{Wrote, FailsToWrite}
 use Rattle.dict_commands.proofs.WriteLemmas.{wrote_then, failed_before, failed_after, spares_then}
@@ -13,12 +13,13 @@ returns-clause-wrote g c =
     let first = (g.T.OpenTransaction.held c.args.tx.now) in
     let s0 = (g.T.OpenTransaction.held c.take_editions.new.tx) in
     let spares0 = c.take_editions.ensures.spares in
-    let wrote0 : Wrote g.S.Store (flat_map taking c.args.gone.now) (without_editions c.args.gone.now) first s0 = c.in_ok-take_editions.ensures.wrote in
+    let wrote0 : Wrote g.S.Store (flat_map taking c.args.gone.now) (without_editions c.args.gone.now) first s0 = c.in_default.ensures.wrote in
     let s1 = (g.T.OpenTransaction.held c.add_installed.new.tx) in
     let spares1 = c.add_installed.ensures.spares in
-    let wrote1 : Wrote g.S.Store (installing (installed_by c.args.installs c.args.command.now)) (with_installed (installed_by c.args.installs c.args.command.now)) s0 s1 = c.in_ok-add_installed.ensures.wrote in
+    on_ok_weaker c.add_installed.result (λ done.
+    let wrote1 : Wrote g.S.Store (installing (installed_by c.args.installs c.args.command.now)) (with_installed (installed_by c.args.installs c.args.command.now)) s0 s1 = done in
     (wrote_then g.S.Store (flat_map taking c.args.gone.now) ((installing (installed_by c.args.installs c.args.command.now))) (without_editions c.args.gone.now)
-    (λ (all : AllTables). (with_installed (installed_by c.args.installs c.args.command.now) all)) first s0 s1 wrote0 wrote1 spares1)
+    (λ (all : AllTables). (with_installed (installed_by c.args.installs c.args.command.now) all)) first s0 s1 wrote0 wrote1 spares1)) c.add_installed.ensures.wrote
 
 pub returns-clause-spares : goal.returns-clause-spares
 returns-clause-spares g c =
@@ -29,33 +30,22 @@ returns-clause-spares g c =
     let spares1 = c.add_installed.ensures.spares in
     (spares_then g.S.Store first s0 s1 spares0 spares1)
 
-pub returns-in_err-add_installed-clause-spares : goal.returns-in_err-add_installed-clause-spares
-returns-in_err-add_installed-clause-spares g c =
+pub returns-in-Err-clause-failed : goal.returns-in-Err-clause-failed
+returns-in-Err-clause-failed g c =
     let first = (g.T.OpenTransaction.held c.args.tx.now) in
     let s0 = (g.T.OpenTransaction.held c.take_editions.new.tx) in
     let spares0 = c.take_editions.ensures.spares in
+    let e = c.in-Err.error in
+    ((failed_before g.S.Store (flat_map taking c.args.gone.now) ((installing (installed_by c.args.installs c.args.command.now))) first s0 e (c.in-Err.ensures.failed)))
+
+pub returns-clause-failed : goal.returns-clause-failed
+returns-clause-failed g c =
+    let first = (g.T.OpenTransaction.held c.args.tx.now) in
+    let s0 = (g.T.OpenTransaction.held c.take_editions.new.tx) in
+    let spares0 = c.take_editions.ensures.spares in
+    let wrote0 : Wrote g.S.Store (flat_map taking c.args.gone.now) (without_editions c.args.gone.now) first s0 = c.in_default.ensures.wrote in
     let s1 = (g.T.OpenTransaction.held c.add_installed.new.tx) in
     let spares1 = c.add_installed.ensures.spares in
-    (spares_then g.S.Store first s0 s1 spares0 spares1)
-
-pub returns-in_err-take_editions-clause-failed : goal.returns-in_err-take_editions-clause-failed
-returns-in_err-take_editions-clause-failed g c =
-    let first = (g.T.OpenTransaction.held c.args.tx.now) in
-    let s0 = (g.T.OpenTransaction.held c.take_editions.new.tx) in
-    let spares0 = c.take_editions.ensures.spares in
-    let e = c.in_err-take_editions.field-0.0 in
-    passed_on (FailsToWrite g.S.Store (exchanging c.args.gone.now (installed_by c.args.installs c.args.command.now)) first s0) e c.from_residual.result c.from_residual.ensures.1
-    ((failed_before g.S.Store (flat_map taking c.args.gone.now) ((installing (installed_by c.args.installs c.args.command.now))) first s0 e (c.in_err-take_editions.ensures.failed)))
-
-pub returns-in_err-add_installed-clause-failed : goal.returns-in_err-add_installed-clause-failed
-returns-in_err-add_installed-clause-failed g c =
-    let first = (g.T.OpenTransaction.held c.args.tx.now) in
-    let s0 = (g.T.OpenTransaction.held c.take_editions.new.tx) in
-    let spares0 = c.take_editions.ensures.spares in
-    let wrote0 : Wrote g.S.Store (flat_map taking c.args.gone.now) (without_editions c.args.gone.now) first s0 = c.in_ok-take_editions.ensures.wrote in
-    let s1 = (g.T.OpenTransaction.held c.add_installed.new.tx) in
-    let spares1 = c.add_installed.ensures.spares in
-    let e = c.in_err-add_installed.field-0.0 in
-    passed_on (FailsToWrite g.S.Store (exchanging c.args.gone.now (installed_by c.args.installs c.args.command.now)) first s1) e c.from_residual-in_err-add_installed.result c.from_residual-in_err-add_installed.ensures.1
+    IfErr-weaker c.add_installed.result _ (FailsToWrite g.S.Store (exchanging c.args.gone.now (installed_by c.args.installs c.args.command.now)) first s1) (λ e failed.
     ((failed_after g.S.Store (flat_map taking c.args.gone.now) ((installing (installed_by c.args.installs c.args.command.now))) (without_editions c.args.gone.now) first s0 s1 e wrote0 spares1
-    c.in_err-add_installed.ensures.failed))
+    failed))) c.add_installed.ensures.failed
