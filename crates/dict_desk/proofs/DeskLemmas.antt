@@ -1,6 +1,6 @@
 -- Which edition a number finds.
 use Rattle.std.proofs.Common.{◌≡◌, ℕ, zero, suc, ◌==◌, Bool, true, false, List, [], ◌∷◌, cond, get_or, length, ◌<◌, refl, sym, ap, subst, ◌∙◌, arith, Bor}
-use Rattle.std.specs.Prelude.{Option, Some, None, Result, Ok, Err, OnErr, Contains, IfSome}
+use Rattle.std.specs.Prelude.{Option, Some, None, Contains, IfSome}
 use Rattle.std.specs.List.{AllByRecursion}
 use Rattle.std.proofs.lemmas.Bool.{eqb-true}
 use Rattle.std.specs.Option.{option_copied}
@@ -26,10 +26,6 @@ none_some b P e = cc
 -- the edition stands in the catalogue that a desk shows, and in the one that it is seen as
 pub has_here : (M : Catalogue) (seen now : PlainState) (number : ℕ) (edition : Edition) → seen ≡ now → M ≡ now.catalogue → HasEdition M number edition → HasEdition seen.catalogue number edition
 has_here M seen now number edition view shown has = subst (λ (N : Catalogue). HasEdition N number edition) (shown ∙ sym (ap (λ (state : PlainState). state.catalogue) view)) has
-
-pub on_err : {T E : Type 0} (r : Result T E) (P : Type 0) → P → OnErr r P
-on_err (Ok value) P p = tt
-on_err (Err e) P p = p
 
 -- the edition that a catalogue has under a number is found by it
 pub held_here : (summary : Holdings (List ℕ)) (editions : List (Stored Edition)) (replies : List Filed) (places : List ℕ → Option ℕ) → AreInStep summary editions replies places → (number : ℕ) (edition : Edition)

@@ -1,13 +1,15 @@
 // A catalogue in memory.
-ghost use Rattle.std.specs.Prelude.{◌≡◌, ◌<◌, ◌++◌, [], true, false, None, Some, IfSome, IfOk, IfErr, OnOk, OnErr, option_map, vec_len, vec_capacity};
+ghost use Rattle.std.specs.Prelude.{◌≡◌, ◌<◌, ◌++◌, ℕ, List, [], true, false, None, Some, IfSome, IfOk, IfErr, OnOk, OnErr, if◌then◌else◌, length, option_map, vec_len, vec_capacity};
+ghost use Rattle.std.specs.BTreeMap.{get_by_text};
 ghost use Rattle.std.specs.List.{cons_option};
+ghost use Rattle.std.specs.Str.{bytes_eq};
 ghost use Rattle.dict_name.specs.Names.{is_request_id};
 ghost use Rattle.dict_index.specs.Edition.{Edition};
 ghost use Rattle.dict_catalogue.specs.Steps.{empty_catalogue, kept_under, step};
 ghost use Rattle.dict_catalogue.specs.Views.{command_meant, kept_shown, IsChangeOf};
 ghost use Rattle.dict_desk.specs.Shown.{HasEdition};
 ghost use Rattle.dict_desk.specs.Applying.{Applies};
-ghost use Rattle.dict_desk.specs.Plain.{newly_installed};
+ghost use Rattle.dict_desk.specs.Plain.{filed_shown, newly_installed};
 ghost use Rattle.dict_desk.specs.PlainEntries.{LieWithin};
 ghost use Rattle.dict_desk.specs.Found.{is_found};
 
@@ -117,6 +119,47 @@ fn installed(
     }
 }
 
+// What a command adds: the edition that it installs, if it installs one, and its reply under the id.
+fn coming(
+    alloc: Global,
+    id: &str,
+    command: &Command,
+    change: &PlannedChange,
+) -> Result<(Option<PlainEdition>, Filed), AllocError>
+    ensures edition { IfOk result (λ made. cons_option made.0 [] ≡ newly_installed change.now.summary.installs (command_meant command.now)) }
+    ensures filed { IfOk result (λ made. filed_shown made.1 ≡ record { id = id.now; reply = kept_shown change.now.kept }) }
+{
+    let edition = installed(alloc, command, change.summary.installs)?;
+    match file_under(alloc, id, &change.kept) {
+        Ok(filed) => Ok((edition, filed)),
+        Err(fault) => {
+            drop(edition);
+            Err(fault)
+        }
+    }
+}
+
+// Makes room for one more edition and one more reply, whose place is noted under the id.
+fn make_room(
+    alloc: Global,
+    editions: &mut Vec<PlainEdition>,
+    replies: &mut Vec<Filed>,
+    places: &mut BTreeMap<String, usize>,
+    id: &str,
+) -> Result<(), AllocError>
+    ensures editions { editions.new.items ≡ editions.old.items }
+    ensures replies { replies.new.items ≡ replies.old.items }
+    ensures edition_room { OnOk result (vec_len editions.new < vec_capacity editions.new) }
+    ensures reply_room { OnOk result (vec_len replies.new < vec_capacity replies.new) }
+    ensures noted { OnOk result ((text : List ℕ) → get_by_text places.new text ≡ (if bytes_eq id.now text then Some (length replies.old.items) else get_by_text places.old text)) }
+    ensures same { OnErr result ((text : List ℕ) → get_by_text places.new text ≡ get_by_text places.old text) }
+{
+    editions.reserve(1)?;
+    replies.reserve(1)?;
+    let place = replies.len();
+    note_place(alloc, places, id, place)
+}
+
 // Adds the edition, for which there is room, if there is one.
 fn put(editions: &mut Vec<PlainEdition>, edition: Option<PlainEdition>)
     requires { vec_len editions.old < vec_capacity editions.old }
@@ -146,20 +189,34 @@ impl PlainDesk {
     {
         command.is_lawful();
         self.counted = None;
-        let edition = installed(self.alloc, command, change.summary.installs)?;
-        let filed = file_under(self.alloc, id, &change.kept)?;
-        self.editions.reserve(1)?;
-        self.replies.reserve(1)?;
-        let place = self.replies.len();
-        note_place(self.alloc, &mut self.places, id, place)?;
+        let (edition, filed) = match coming(self.alloc, id, command, &change) {
+            Ok(coming) => coming,
+            Err(fault) => {
+                drop(change);
+                return Err(fault);
+            }
+        };
+        if let Err(fault) = make_room(
+            self.alloc,
+            &mut self.editions,
+            &mut self.replies,
+            &mut self.places,
+            id,
+        ) {
+            drop(edition);
+            drop(filed);
+            drop(change);
+            return Err(fault);
+        }
         self.replies.push_reserved(filed);
         take_out(&mut self.editions, change.gone.as_slice());
         put(&mut self.editions, edition);
         let PlannedChange {
             summary,
-            gone: _,
+            gone,
             kept,
         } = change;
+        drop(gone);
         self.summary = summary;
         Ok(kept)
     }
