@@ -65,7 +65,10 @@ fn key_places(
 {
     match made {
         Some(Places::Made(places)) => Ok(places),
-        _ => sorted_places(alloc, entries.keys(), entries.len() as u32),
+        other => {
+            drop(other);
+            sorted_places(alloc, entries.keys(), entries.len() as u32)
+        }
     }
 }
 
@@ -81,7 +84,10 @@ fn reversed_key_places(
 {
     match made {
         Some(Places::Made(places)) => Ok(places),
-        _ => reversed_places(alloc, entries, entries.len() as u32),
+        other => {
+            drop(other);
+            reversed_places(alloc, entries, entries.len() as u32)
+        }
     }
 }
 
@@ -93,7 +99,10 @@ fn key_words(alloc: Global, entries: &Entries, made: Option<Wording>) -> Result<
 {
     match made {
         Some(Wording::Made(words)) => Ok(words),
-        _ => words_of(alloc, entries.keys(), entries.len() as u32),
+        other => {
+            drop(other);
+            words_of(alloc, entries.keys(), entries.len() as u32)
+        }
     }
 }
 
@@ -105,7 +114,10 @@ fn key_grams(alloc: Global, entries: &Entries, made: Option<Listing>) -> Result<
 {
     match made {
         Some(Listing::Made(grams)) => Ok(grams),
-        _ => grams_of(alloc, entries.keys(), entries.len() as u32),
+        other => {
+            drop(other);
+            grams_of(alloc, entries.keys(), entries.len() as u32)
+        }
     }
 }
 
@@ -172,7 +184,8 @@ impl IndexMaking {
     {
         let count = self.entries.len() as u32;
         let begun = self.by_key.take();
-        self.by_key = Some(place_more(self.alloc, self.entries.keys(), count, begun)?);
+        let placed = place_more(self.alloc, self.entries.keys(), count, begun)?;
+        drop(mem::replace(&mut self.by_key, Some(placed)));
         Ok(true)
     }
 
@@ -186,7 +199,8 @@ impl IndexMaking {
         }
         let count = self.entries.len() as u32;
         let begun = self.by_reversed_key.take();
-        self.by_reversed_key = Some(place_more(self.alloc, &self.turned, count, begun)?);
+        let placed = place_more(self.alloc, &self.turned, count, begun)?;
+        drop(mem::replace(&mut self.by_reversed_key, Some(placed)));
         Ok(true)
     }
 
@@ -195,7 +209,8 @@ impl IndexMaking {
     {
         let count = self.entries.len() as u32;
         let begun = self.words.take();
-        self.words = Some(word_more(self.alloc, self.entries.keys(), count, begun)?);
+        let listed = word_more(self.alloc, self.entries.keys(), count, begun)?;
+        drop(mem::replace(&mut self.words, Some(listed)));
         Ok(true)
     }
 
@@ -204,7 +219,8 @@ impl IndexMaking {
     {
         let count = self.entries.len() as u32;
         let begun = self.grams.take();
-        self.grams = Some(list_more(self.alloc, self.entries.keys(), count, begun)?);
+        let listed = list_more(self.alloc, self.entries.keys(), count, begun)?;
+        drop(mem::replace(&mut self.grams, Some(listed)));
         Ok(true)
     }
 
@@ -232,8 +248,13 @@ impl IndexMaking {
         ensures trigrams { IfOk result (λ lists. ArePlaced kept_grams (keys_of self.old.entries) lists.grams.texts lists.grams.lists) }
     {
         let words = key_words(self.alloc, &self.entries, self.words.take())?;
-        let grams = key_grams(self.alloc, &self.entries, self.grams.take())?;
-        Ok(Lists { words, grams })
+        match key_grams(self.alloc, &self.entries, self.grams.take()) {
+            Ok(grams) => Ok(Lists { words, grams }),
+            Err(fault) => {
+                drop(words);
+                Err(fault)
+            }
+        }
     }
 
     /// Both, of which the lists are made once the orders are.
