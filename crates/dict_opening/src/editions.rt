@@ -66,7 +66,7 @@ fn read_number<S: Alter>(
     ensures damaged { HasCleanDisk (state S.Store conn.new) → IfErr result (λ fault. fault ≡ ReadingFault.Damaged → (taken : Tables) → HasTaken version reader.old.reader taken → CanReadOne version (state S.Store conn.old).now taken number → KeepsNone version (state S.Store conn.old).now taken.members) }
 {
     reader.reader.let_go();
-    reader.index = EditionIndex::new(alloc);
+    drop(replace(&mut reader.index, EditionIndex::new(alloc)));
     let edition = read_edition(alloc, conn, layout_of(version), number)?;
     if let Err(fault) = reader.reader.edition(edition) {
         return Err(fault_of_rows(fault));
@@ -86,6 +86,7 @@ fn put_index(
 {
     let taken = replace(index, EditionIndex::new(alloc));
     let Some(number) = number_in(&number) else {
+        drop(taken);
         return Ok(());
     };
     let Ok(made) = taken.finish() else {

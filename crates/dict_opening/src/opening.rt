@@ -47,7 +47,10 @@ fn read_tables<S: Alter>(
         return Err(ReadingFault::Damaged);
     }
     let read = read_records(alloc, conn, version, marks)?;
-    test_other_rowids(alloc, conn, version)?;
+    if let Err(fault) = test_other_rowids(alloc, conn, version) {
+        drop(read);
+        return Err(fault);
+    }
     Ok(read)
 }
 
@@ -108,9 +111,13 @@ fn read_mark<S: Alter>(
     };
     let version = match version_of(&marks) {
         Some(version) => version,
-        None => return Err(Fault::NotACatalogue),
+        None => {
+            drop(marks);
+            return Err(Fault::NotACatalogue);
+        }
     };
     if version > KNOWN_VERSION {
+        drop(marks);
         return Err(Fault::NewerSchema);
     }
     Ok((version, marks))
@@ -158,7 +165,9 @@ pub fn read_catalogue<S: Alter>(
         return Err(Fault::Disk);
     }
     let (version, marks) = read_mark(alloc, conn)?;
-    match read_tables(alloc, conn, version, &marks) {
+    let read = read_tables(alloc, conn, version, &marks);
+    drop(marks);
+    match read {
         Ok((summary, indexes)) => Ok((version, summary, indexes)),
         Err(fault) => Err(told(fault)),
     }

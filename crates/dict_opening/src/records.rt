@@ -47,9 +47,15 @@ fn begin<S: Alter>(
     };
     let members = match members(alloc, conn) {
         Ok(members) => members,
-        Err(error) => return Err(fault_of_read(error)),
+        Err(error) => {
+            drop(items);
+            return Err(fault_of_read(error));
+        }
     };
-    match Reader::begin(alloc, version, marks, &items, &members) {
+    let begun = Reader::begin(alloc, version, marks, &items, &members);
+    drop(items);
+    drop(members);
+    match begun {
         Ok(reader) => Ok(reader),
         Err(fault) => Err(fault_of_rows(fault)),
     }
@@ -139,9 +145,18 @@ pub(crate) fn read_records<S: Alter>(
         index: EditionIndex::new(alloc),
     };
     let mut indexes = Indexes::new(alloc);
-    read_all(alloc, conn, version, &mut reader, &mut indexes)?;
-    match reader.reader.finish() {
+    if let Err(fault) = read_all(alloc, conn, version, &mut reader, &mut indexes) {
+        drop(reader);
+        drop(indexes);
+        return Err(fault);
+    }
+    let EditionReader { reader, index } = reader;
+    drop(index);
+    match reader.finish() {
         Ok(summary) => Ok((summary, indexes)),
-        Err(fault) => Err(fault_of_rows(fault)),
+        Err(fault) => {
+            drop(indexes);
+            Err(fault_of_rows(fault))
+        }
     }
 }

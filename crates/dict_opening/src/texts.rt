@@ -43,9 +43,12 @@ fn edition_numbered<S: Alter>(
         Err(error) => return Err(fault_of_read(error)),
     };
     if all.len() != 1 {
+        drop(all);
         return Err(ReadingFault::Damaged);
     }
-    Ok(all.remove(0))
+    let one = all.remove(0);
+    drop(all);
+    Ok(one)
 }
 
 /// The one header of this number.
@@ -66,9 +69,12 @@ fn header_numbered<S: Alter>(
         Err(error) => return Err(fault_of_read(error)),
     };
     if headers.len() != 1 {
+        drop(headers);
         return Err(ReadingFault::Damaged);
     }
-    Ok(headers.remove(0))
+    let one = headers.remove(0);
+    drop(headers);
+    Ok(one)
 }
 
 // The edition of this header with this text.
@@ -123,7 +129,13 @@ fn parted_edition<S: Alter>(
     ensures damaged { HasCleanDisk (state S.Store conn.new) → IfErr result (λ fault. fault ≡ ReadingFault.Damaged → HasNoEdition Parted (state S.Store conn.old).now number) }
 {
     let row = header_numbered(alloc, conn, number)?;
-    let body = read_file(alloc, conn, number, TEXT_FILE)?;
+    let body = match read_file(alloc, conn, number, TEXT_FILE) {
+        Ok(body) => body,
+        Err(fault) => {
+            drop(row);
+            return Err(fault);
+        }
+    };
     Ok(with_text(row.value, body))
 }
 

@@ -89,7 +89,7 @@ returns-clause-indexed g c clean =
     (λ all. (
       all.0,
       subst (λ (d : Database). HasEntries layout d n all.0) same (subst (λ m. HasEntries layout mid.now m all.0) (to_z-of_z w64 n c.ranges.number) (subst (λ l. HasEntries l mid.now (to_z w64 (of_z w64 n)) all.0) c.layout_of-2.ensures all.1.has)),
-      all.2 ∙ ap (λ l. l ++ map indexed_of all.0) c.new.ensures,
+      all.2 ∙ ap (λ l. l ++ map indexed_of all.0) (c.replace.ensures.after ∙ c.new.ensures),
     ))
     (c.read_entries.ensures.whole clean)
 

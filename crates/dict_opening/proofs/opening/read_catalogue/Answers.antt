@@ -23,14 +23,14 @@ returns-in_err-version-clause-none g c clean is =
 
 pub returns-in-Ok-clause-survives : goal.returns-in-Ok-clause-survives
 returns-in-Ok-clause-survives g c =
-    (reads_then (state g.S.Store c.args.conn.now) (state g.S.Store c.read_mark.new.conn) (state g.S.Store c.read_tables.new.conn) c.read_mark.ensures.reads c.read_tables.ensures.reads).survives
+    (reads_then (state g.S.Store c.args.conn.now) (state g.S.Store c.read_mark.new.conn) (state g.S.Store c.read_tables-read.new.conn) c.read_mark.ensures.reads c.read_tables-read.ensures.reads).survives
 
 pub returns-in-Ok-clause-rests : goal.returns-in-Ok-clause-rests
 returns-in-Ok-clause-rests g c clean =
     let old = state g.S.Store c.args.conn.now in
     let mid = state g.S.Store c.read_mark.new.conn in
-    let new = state g.S.Store c.read_tables.new.conn in
-    let early : HasCleanDisk mid = clean_before old mid new c.read_tables.ensures.reads.survives clean in
+    let new = state g.S.Store c.read_tables-read.new.conn in
+    let early : HasCleanDisk mid = clean_before old mid new c.read_tables-read.ensures.reads.survives clean in
     let first = c.in_ok-version.ensures.same early in
     let then = c.in-Ok.ensures.same clean in
     let marked = c.in_ok-version.ensures.marked early in
@@ -43,12 +43,12 @@ returns-in-Ok-clause-rests g c clean =
     let two = then.committed ∙ first.0.committed in
     (found.0, record { is_open = then.is_open ∙ first.1; settled = one ∙ settled ∙ sym two; holds = subst (λ (d : Database). Holds c.in_ok-version.version d found.0) (first.0.now ∙ settled ∙ sym two) found.1 }, found.2, subst (λ (d : Database). IsIndexed c.in_ok-version.version d found.0 c.in-Ok.indexes) (first.0.now ∙ settled ∙ sym two) found.3)
 
-pub returns-clause-damaged : goal.returns-clause-damaged
-returns-clause-damaged g c clean is =
+pub returns-in-Err-clause-damaged : goal.returns-in-Err-clause-damaged
+returns-in-Err-clause-damaged g c clean is =
     let old = state g.S.Store c.args.conn.now in
     let mid = state g.S.Store c.read_mark.new.conn in
-    let new = state g.S.Store c.read_tables.new.conn in
-    let early : HasCleanDisk mid = clean_before old mid new c.read_tables.ensures.reads.survives clean in
+    let new = state g.S.Store c.read_tables-read.new.conn in
+    let early : HasCleanDisk mid = clean_before old mid new c.read_tables-read.ensures.reads.survives clean in
     let first = c.in_ok-version.ensures.same early in
     let marked = c.in_ok-version.ensures.marked early in
     let here = subst (λ (l : List MarkRow). IsListing (codes "mark") (1 ∷ []) mid.now (map stored_mark l)) (sym c.deref.ensures.value) (subst (λ (d : Database). IsListing (codes "mark") (1 ∷ []) d (map stored_mark c.in_ok-version.marks.items)) (sym first.0.now) marked.0) in
@@ -61,12 +61,12 @@ pub returns-in_err-version-clause-failed : goal.returns-in_err-version-clause-fa
 returns-in_err-version-clause-failed g c clean is =
     c.read_mark.ensures.failed clean (c.in_err-version.was ∙ ap Err (err_is c.from_residual.result c.in_err-version.field-0.0 _ c.from_residual.ensures.1 is))
 
-pub returns-clause-failed : goal.returns-clause-failed
-returns-clause-failed g c clean is =
+pub returns-in-Err-clause-failed : goal.returns-in-Err-clause-failed
+returns-in-Err-clause-failed g c clean is =
     let old = state g.S.Store c.args.conn.now in
     let mid = state g.S.Store c.read_mark.new.conn in
-    let new = state g.S.Store c.read_tables.new.conn in
-    let early : HasCleanDisk mid = clean_before old mid new c.read_tables.ensures.reads.survives clean in
+    let new = state g.S.Store c.read_tables-read.new.conn in
+    let early : HasCleanDisk mid = clean_before old mid new c.read_tables-read.ensures.reads.survives clean in
     let same : c.told.result ≡ desk.Disk = cc in
     let fault = told_disk c.in-Err.fault (sym c.told.ensures.is ∙ same) in
     cause_then old mid new c.read_mark.ensures.reads.survives (c.in_ok-version.ensures.same early).0 Disk (subst (IsExcused mid new) fault (c.in-Err.ensures.failed clean))

@@ -12,7 +12,7 @@ use Rattle.dict_holdings.specs.Holds.{Holds, HasLayout}
 use Rattle.dict_holdings.proofs.ReadableLemmas.{held_readable}
 use Rattle.dict_scans.specs.declared.fault.ReadingFault.{ReadingFault}
 use Rattle.dict_scans.specs.declared.fault.ReadingFault.TheVariants.{Damaged}
-use Rattle.dict_scans.proofs.CauseLemmas.{cause_passed, cause_later}
+use Rattle.dict_scans.proofs.CauseLemmas.{cause_passed, cause_then}
 use Rattle.dict_scans.proofs.StateLemmas.{clean_before, reads_then, while_same}
 use Rattle.dict_opening.specs.Opens.{HasVersionTables, HasOthersApart, HoldsNoneAs}
 use Rattle.dict_catalogue.specs.Views.{summary_shown}
@@ -45,33 +45,33 @@ test_other_rowids-requires g c =
     while_same (HasVersionTables c.args.version) (state g.S.Store c.args.conn.now) (state g.S.Store c.read_records.new.conn) c.read_records.ensures.reads.survives c.in_ok-read.ensures.same
     (λ clean o. (subst (HasLayout (layout_of c.args.version)) c.schema.ensures.value (c.has_layout.ensures.0 yes)).tables)
 
-pub returns-in_err-test_other_rowids-clause-reads : goal.returns-in_err-test_other_rowids-clause-reads
-returns-in_err-test_other_rowids-clause-reads g c = reads_then (state g.S.Store c.args.conn.now) (state g.S.Store c.read_records.new.conn) (state g.S.Store c.test_other_rowids.new.conn) c.read_records.ensures.reads c.test_other_rowids.ensures.reads
+pub returns-in-Err-clause-reads : goal.returns-in-Err-clause-reads
+returns-in-Err-clause-reads g c = reads_then (state g.S.Store c.args.conn.now) (state g.S.Store c.read_records.new.conn) (state g.S.Store c.test_other_rowids.new.conn) c.read_records.ensures.reads c.test_other_rowids.ensures.reads
 
 pub returns-clause-reads : goal.returns-clause-reads
 returns-clause-reads g c = reads_then (state g.S.Store c.args.conn.now) (state g.S.Store c.read_records.new.conn) (state g.S.Store c.test_other_rowids.new.conn) c.read_records.ensures.reads c.test_other_rowids.ensures.reads
 
-pub returns-in_err-test_other_rowids-clause-damaged : goal.returns-in_err-test_other_rowids-clause-damaged
-returns-in_err-test_other_rowids-clause-damaged g c clean =
+pub returns-in-Err-clause-damaged : goal.returns-in-Err-clause-damaged
+returns-in-Err-clause-damaged g c clean =
     let old = state g.S.Store c.args.conn.now in
     let mid = state g.S.Store c.read_records.new.conn in
     let new = state g.S.Store c.test_other_rowids.new.conn in
     let early : HasCleanDisk mid = clean_before old mid new c.test_other_rowids.ensures.reads.survives clean in
     let same = (c.in_ok-read.ensures.same early).now in
-    let wrong : (fault : ReadingFault) → Type 0 = λ fault. fault ≡ Damaged → IsListing (codes "mark") (1 ∷ []) old.now (map stored_mark c.args.marks.now) → HoldsNoneAs c.args.version old.now in
-    passed_on wrong c.in_err-test_other_rowids.field-0.0 c.from_residual-in_err-test_other_rowids.result c.from_residual-in_err-test_other_rowids.ensures.1
     (λ is lm M h.
-    c.in_err-test_other_rowids.ensures.damaged clean is (held_readable c.args.version mid.now M (subst (λ (d : Database). Holds c.args.version d M) (sym same) h))
+    c.in-Err.ensures.damaged clean is (held_readable c.args.version mid.now M (subst (λ (d : Database). Holds c.args.version d M) (sym same) h))
     (subst HasOthersApart (sym same) (others_apart c.args.version old.now M h)))
 
 pub returns-in_err-read-clause-failed : goal.returns-in_err-read-clause-failed
 returns-in_err-read-clause-failed g c clean =
     cause_passed (state g.S.Store c.args.conn.now) (state g.S.Store c.read_records.new.conn) c.in_err-read.field-0.0 c.from_residual.result c.from_residual.ensures.1 (c.in_err-read.ensures.failed clean)
 
-pub returns-in_err-test_other_rowids-clause-failed : goal.returns-in_err-test_other_rowids-clause-failed
-returns-in_err-test_other_rowids-clause-failed g c clean =
-    cause_later (state g.S.Store c.args.conn.now) (state g.S.Store c.read_records.new.conn) (state g.S.Store c.test_other_rowids.new.conn) c.in_err-test_other_rowids.field-0.0 c.from_residual-in_err-test_other_rowids.result c.from_residual-in_err-test_other_rowids.ensures.1 c.read_records.ensures.reads.survives c.test_other_rowids.ensures.reads.survives
-    c.in_ok-read.ensures.same clean (c.in_err-test_other_rowids.ensures.failed clean)
+pub returns-in-Err-clause-failed : goal.returns-in-Err-clause-failed
+returns-in-Err-clause-failed g c clean =
+    let old = state g.S.Store c.args.conn.now in
+    let mid = state g.S.Store c.read_records.new.conn in
+    let new = state g.S.Store c.test_other_rowids.new.conn in
+    cause_then old mid new c.read_records.ensures.reads.survives (c.in_ok-read.ensures.same (clean_before old mid new c.test_other_rowids.ensures.reads.survives clean)) c.in-Err.fault (c.in-Err.ensures.failed clean)
 
 pub returns-clause-holds : goal.returns-clause-holds
 returns-clause-holds g c clean listed =
@@ -82,6 +82,6 @@ returns-clause-holds g c clean listed =
     let same = (c.in_ok-read.ensures.same early).now in
     let yes : IsTrue c.has_layout.result = search rules in
     let there = subst (HasLayout (layout_of c.args.version)) c.schema.ensures.value (c.has_layout.ensures.0 yes) in
-    let held = holds_of c.args.version old.now _ there (subst HasOthersApart same (c.in_ok-test_other_rowids.ensures.apart clean)) (c.in_ok-read.ensures.stands early listed) in
+    let held = holds_of c.args.version old.now _ there (subst HasOthersApart same (c.in_default.ensures.apart clean)) (c.in_ok-read.ensures.stands early listed) in
     let rows = subst (λ ns. HaveRowsIndexed (layout_of c.args.version) old.now ns c.in_ok-read.read.1) (sym (numbers_summed held.0 (summary_shown c.in_ok-read.read.0) held.2)) (c.in_ok-read.ensures.indexed early listed) in
     (held.0, held.1, held.2, is_indexed c.args.version old.now held.0 held.1 c.in_ok-read.read.1 rows)

@@ -24,16 +24,16 @@ use Rattle.dict_scans.specs.Reading.{IsExcused}
 use Rattle.dict_scans.proofs.CauseLemmas.{list_cause, cause_then, rows_cause}
 use Rattle.dict_opening.proofs.records.begin.Goals as goal
 
-pub returns-in-Ok-begin-clause-begun : goal.returns-in-Ok-begin-clause-begun
-returns-in-Ok-begin-clause-begun g c clean lm =
+pub returns-in-Ok-begun-clause-begun : goal.returns-in-Ok-begun-clause-begun
+returns-in-Ok-begun-clause-begun g c clean lm =
     let old = state g.S.Store c.args.conn.now in
     let mid = state g.S.Store c.items.new.conn in
     let new = state g.S.Store c.members.new.conn in
     let early : HasCleanDisk mid = clean_before old mid new c.members.ensures.survives clean in
     let li = c.in-Ok.ensures.listed early in
     let lo = subst (λ (d : Database). IsListing (codes "member") (1 ∷ 2 ∷ []) d (map stored_member c.in-Ok-members.members.items)) li.1.0.now_is (c.in-Ok-members.ensures.listed clean).0 in
-    let taken = subst (λ (l : List (Stored (typed.Member.Member (String Global)))). HasTaken c.args.version c.in-Ok-begin.reader (begun (marks_given c.args.marks.now) (items_given c.in-Ok.items.items) (members_given l))) c.deref-2.ensures.value
-    (subst (λ (l : List (Stored (typed.Item.Item (String Global)))). HasTaken c.args.version c.in-Ok-begin.reader (begun (marks_given c.args.marks.now) (items_given l) (members_given c.deref-2.result.now))) c.deref.ensures.value c.in-Ok-begin.ensures.taken) in
+    let taken = subst (λ (l : List (Stored (typed.Member.Member (String Global)))). HasTaken c.args.version c.in-Ok-begun.reader (begun (marks_given c.args.marks.now) (items_given c.in-Ok.items.items) (members_given l))) c.deref-2.ensures.value
+    (subst (λ (l : List (Stored (typed.Item.Item (String Global)))). HasTaken c.args.version c.in-Ok-begun.reader (begun (marks_given c.args.marks.now) (items_given l) (members_given c.deref-2.result.now))) c.deref.ensures.value c.in-Ok-begun.ensures.taken) in
     (begun (marks_given c.args.marks.now) (items_given c.in-Ok.items.items) (members_given c.in-Ok-members.members.items), taken, has_begun c.args.version old.now c.args.marks.now c.in-Ok.items.items c.in-Ok-members.members.items lm li.0 lo)
 
 pub returns-in-Err-clause-damaged : goal.returns-in-Err-clause-damaged
@@ -51,15 +51,15 @@ returns-in-Err-members-clause-damaged g c clean is lm M h =
     none_listed member_columns (rows_of (codes "member") mid.now) mid new c.in-Err-members.error (c.in-Err-members.ensures.failed clean) (sym c.fault_of_read-in-Err-members.ensures ∙ is)
     (held_readable c.args.version mid.now M (subst (λ (d : Database). Holds c.args.version d M) (sym same) h)).1.1.0
 
-pub returns-clause-damaged : goal.returns-clause-damaged
-returns-clause-damaged g c clean is lm =
+pub returns-in-Err-begun-clause-damaged : goal.returns-in-Err-begun-clause-damaged
+returns-in-Err-begun-clause-damaged g c clean is lm =
     let old = state g.S.Store c.args.conn.now in
     let mid = state g.S.Store c.items.new.conn in
     let new = state g.S.Store c.members.new.conn in
     let early : HasCleanDisk mid = clean_before old mid new c.members.ensures.survives clean in
     let li = c.in-Ok.ensures.listed early in
     let lo = subst (λ (d : Database). IsListing (codes "member") (1 ∷ 2 ∷ []) d (map stored_member c.in-Ok-members.members.items)) li.1.0.now_is (c.in-Ok-members.ensures.listed clean).0 in
-    let none = on_damage c.in-Err-begin.fault _ c.in-Err-begin.ensures.damaged (rows_damaged c.in-Err-begin.fault (sym c.fault_of_rows.ensures ∙ is)) in
+    let none = on_damage c.in-Err-begun.fault _ c.in-Err-begun.ensures.damaged (rows_damaged c.in-Err-begun.fault (sym c.fault_of_rows.ensures ∙ is)) in
     begin_wrong c.args.version old.now c.args.marks.now c.in-Ok.items.items c.in-Ok-members.members.items lm li.0 lo
     (subst (λ (l : List (Stored (typed.Member.Member (String Global)))). StandsForNone c.args.version (begun (marks_given c.args.marks.now) (items_given c.in-Ok.items.items) (members_given l))) c.deref-2.ensures.value
     (subst (λ (l : List (Stored (typed.Item.Item (String Global)))). StandsForNone c.args.version (begun (marks_given c.args.marks.now) (items_given l) (members_given c.deref-2.result.now))) c.deref.ensures.value none))
@@ -76,8 +76,8 @@ returns-in-Err-members-clause-failed g c clean =
     subst (IsExcused old new) (sym c.fault_of_read-in-Err-members.ensures)
     (cause_then old mid new c.items.ensures.survives (same_as old mid (c.in-Ok.ensures.listed (clean_before old mid new c.members.ensures.survives clean)).1) _ (list_cause member_columns _ mid new c.in-Err-members.error (c.in-Err-members.ensures.failed clean)))
 
-pub returns-clause-failed : goal.returns-clause-failed
-returns-clause-failed g c clean =
+pub returns-in-Err-begun-clause-failed : goal.returns-in-Err-begun-clause-failed
+returns-in-Err-begun-clause-failed g c clean =
     let old = state g.S.Store c.args.conn.now in
     let new = state g.S.Store c.members.new.conn in
-    subst (IsExcused old new) (sym c.fault_of_rows.ensures) (rows_cause old new c.in-Err-begin.fault)
+    subst (IsExcused old new) (sym c.fault_of_rows.ensures) (rows_cause old new c.in-Err-begun.fault)

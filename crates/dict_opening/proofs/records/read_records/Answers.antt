@@ -19,7 +19,7 @@ use Rattle.dict_rows.proofs.StrayLemmas.{numbers_taken}
 use Rattle.dict_opening.specs.Indexed.{HaveRowsIndexed}
 use Rattle.dict_opening.proofs.HoldLemmas.{has_summary}
 use Rattle.dict_opening.proofs.IndexLemmas.{numbers_summed}
-use Rattle.dict_scans.proofs.CauseLemmas.{cause_passed, cause_later, rows_cause}
+use Rattle.dict_scans.proofs.CauseLemmas.{cause_passed, cause_then, rows_cause}
 use Rattle.dict_scans.specs.Reading.{IsExcused}
 use Rattle.dict_opening.proofs.records.read_records.Goals as goal
 
@@ -33,16 +33,14 @@ pub read_all-requires : goal.read_all-requires
 read_all-requires g c =
     while_same (HasVersionTables c.args.version) (state g.S.Store c.args.conn.now) (state g.S.Store c.begin.new.conn) c.begin.ensures.reads.survives c.in_ok-reader.ensures.same c.requires
 
-pub returns-in_err-read_all-clause-damaged : goal.returns-in_err-read_all-clause-damaged
-returns-in_err-read_all-clause-damaged g c clean =
+pub returns-in-Err-clause-damaged : goal.returns-in-Err-clause-damaged
+returns-in-Err-clause-damaged g c clean =
     let old = state g.S.Store c.args.conn.now in
     let mid = state g.S.Store c.begin.new.conn in
     let new = state g.S.Store c.read_all.new.conn in
     let early : HasCleanDisk mid = clean_before old mid new c.read_all.ensures.reads.survives clean in
     let same = (c.in_ok-reader.ensures.same early).now in
-    let wrong : (fault : ReadingFault) → Type 0 = λ fault. fault ≡ Damaged → IsListing (codes "mark") (1 ∷ []) old.now (map stored_mark c.args.marks.now) → HoldsNoneAs c.args.version old.now in
-    passed_on wrong c.in_err-read_all.field-0.0 c.from_residual-in_err-read_all.result c.from_residual-in_err-read_all.ensures.1
-    (λ is lm. let begun = c.in_ok-reader.ensures.begun early lm in subst (HoldsNoneAs c.args.version) same (c.in_err-read_all.ensures.damaged clean is begun.0 begun.1 (subst (λ (d : Database). HasBegun c.args.version d begun.0) (sym same) begun.2)))
+    (λ is lm. let begun = c.in_ok-reader.ensures.begun early lm in subst (HoldsNoneAs c.args.version) same (c.in-Err.ensures.damaged clean is begun.0 begun.1 (subst (λ (d : Database). HasBegun c.args.version d begun.0) (sym same) begun.2)))
 
 pub returns-in-Ok-clause-stands : goal.returns-in-Ok-clause-stands
 returns-in-Ok-clause-stands g c clean lm =
@@ -52,7 +50,7 @@ returns-in-Ok-clause-stands g c clean lm =
     let early : HasCleanDisk mid = clean_before old mid new c.read_all.ensures.reads.survives clean in
     let same = (c.in_ok-reader.ensures.same early).now in
     let begun = c.in_ok-reader.ensures.begun early lm in
-    let all = c.in_ok-read_all.ensures.all clean begun.0 begun.1 (subst (λ (d : Database). HasBegun c.args.version d begun.0) (sym same) begun.2) in
+    let all = c.in_default.ensures.all clean begun.0 begun.1 (subst (λ (d : Database). HasBegun c.args.version d begun.0) (sym same) begun.2) in
     let has = subst (λ (d : Database). HasAll c.args.version d c.in_ok-reader.reader begun.0 all.0) same all.2 in
     let found = c.in-Ok.ensures.stands c.args.version all.0 all.1 has.ids in
     has_summary c.args.version old.now c.in_ok-reader.reader begun.0 all.0 has found.0 found.1 _ found.2
@@ -66,45 +64,47 @@ returns-in-Ok-clause-indexed g c clean lm =
     let early : HasCleanDisk mid = clean_before old mid new c.read_all.ensures.reads.survives clean in
     let same = (c.in_ok-reader.ensures.same early).now in
     let begun = c.in_ok-reader.ensures.begun early lm in
-    let all = c.in_ok-read_all.ensures.all clean begun.0 begun.1 (subst (λ (d : Database). HasBegun version d begun.0) (sym same) begun.2) in
+    let all = c.in_default.ensures.all clean begun.0 begun.1 (subst (λ (d : Database). HasBegun version d begun.0) (sym same) begun.2) in
     let has = subst (λ (d : Database). HasAll version d c.in_ok-reader.reader begun.0 all.0) same all.2 in
     let found = c.in-Ok.ensures.stands version all.0 all.1 has.ids in
     let numbers = sym (numbers_taken version c.in_ok-reader.reader begun.0 all.0 found.0 begun.1 has.goes found.1) ∙ numbers_summed found.0 (summary_shown c.in-Ok.summary) found.2 in
-    subst (λ ns. HaveRowsIndexed (layout_of version) old.now ns c.read_all.new.indexes) numbers (subst (λ (d : Database). HaveRowsIndexed (layout_of version) d (edition_numbers (items_in c.in_ok-reader.reader)) c.read_all.new.indexes) same (c.in_ok-read_all.ensures.indexed clean))
+    subst (λ ns. HaveRowsIndexed (layout_of version) old.now ns c.read_all.new.indexes) numbers (subst (λ (d : Database). HaveRowsIndexed (layout_of version) d (edition_numbers (items_in c.in_ok-reader.reader)) c.read_all.new.indexes) same (c.in_default.ensures.indexed clean))
 
-pub returns-clause-damaged : goal.returns-clause-damaged
-returns-clause-damaged g c clean is lm =
+pub returns-in-Err-finish-clause-damaged : goal.returns-in-Err-finish-clause-damaged
+returns-in-Err-finish-clause-damaged g c clean is lm =
     let old = state g.S.Store c.args.conn.now in
     let mid = state g.S.Store c.begin.new.conn in
     let new = state g.S.Store c.read_all.new.conn in
     let early : HasCleanDisk mid = clean_before old mid new c.read_all.ensures.reads.survives clean in
     let same = (c.in_ok-reader.ensures.same early).now in
     let begun = c.in_ok-reader.ensures.begun early lm in
-    let all = c.in_ok-read_all.ensures.all clean begun.0 begun.1 (subst (λ (d : Database). HasBegun c.args.version d begun.0) (sym same) begun.2) in
+    let all = c.in_default.ensures.all clean begun.0 begun.1 (subst (λ (d : Database). HasBegun c.args.version d begun.0) (sym same) begun.2) in
     let has = subst (λ (d : Database). HasAll c.args.version d c.in_ok-reader.reader begun.0 all.0) same all.2 in
-    begun.2.none (subst (KeepsNone c.args.version old.now) has.goes.members (finish_wrong c.args.version old.now all.0 has.keeps has.shown has.fits (c.in-Err.ensures.damaged c.args.version all.0 all.1)))
+    begun.2.none (subst (KeepsNone c.args.version old.now) has.goes.members (finish_wrong c.args.version old.now all.0 has.keeps has.shown has.fits (c.in-Err-finish.ensures.damaged c.args.version all.0 all.1)))
 
 pub returns-in_err-reader-clause-failed : goal.returns-in_err-reader-clause-failed
 returns-in_err-reader-clause-failed g c clean =
     cause_passed (state g.S.Store c.args.conn.now) (state g.S.Store c.begin.new.conn) c.in_err-reader.field-0.0 c.from_residual.result c.from_residual.ensures.1 (c.in_err-reader.ensures.failed clean)
 
-pub returns-in_err-read_all-clause-failed : goal.returns-in_err-read_all-clause-failed
-returns-in_err-read_all-clause-failed g c clean =
-    cause_later (state g.S.Store c.args.conn.now) (state g.S.Store c.begin.new.conn) (state g.S.Store c.read_all.new.conn) c.in_err-read_all.field-0.0 c.from_residual-in_err-read_all.result c.from_residual-in_err-read_all.ensures.1 c.begin.ensures.reads.survives c.read_all.ensures.reads.survives
-    c.in_ok-reader.ensures.same clean (c.in_err-read_all.ensures.failed clean)
+pub returns-in-Err-clause-failed : goal.returns-in-Err-clause-failed
+returns-in-Err-clause-failed g c clean =
+    let old = state g.S.Store c.args.conn.now in
+    let mid = state g.S.Store c.begin.new.conn in
+    let new = state g.S.Store c.read_all.new.conn in
+    cause_then old mid new c.begin.ensures.reads.survives (c.in_ok-reader.ensures.same (clean_before old mid new c.read_all.ensures.reads.survives clean)) c.in-Err.fault (c.in-Err.ensures.failed clean)
 
-pub returns-clause-failed : goal.returns-clause-failed
-returns-clause-failed g c clean =
-    subst (IsExcused (state g.S.Store c.args.conn.now) (state g.S.Store c.read_all.new.conn)) (sym c.fault_of_rows.ensures) (rows_cause (state g.S.Store c.args.conn.now) (state g.S.Store c.read_all.new.conn) c.in-Err.fault)
+pub returns-in-Err-finish-clause-failed : goal.returns-in-Err-finish-clause-failed
+returns-in-Err-finish-clause-failed g c clean =
+    subst (IsExcused (state g.S.Store c.args.conn.now) (state g.S.Store c.read_all.new.conn)) (sym c.fault_of_rows.ensures) (rows_cause (state g.S.Store c.args.conn.now) (state g.S.Store c.read_all.new.conn) c.in-Err-finish.fault)
 
-pub returns-in_err-read_all-clause-reads : goal.returns-in_err-read_all-clause-reads
-returns-in_err-read_all-clause-reads g c =
+pub returns-in-Err-clause-reads : goal.returns-in-Err-clause-reads
+returns-in-Err-clause-reads g c =
     reads_then (state g.S.Store c.args.conn.now) (state g.S.Store c.begin.new.conn) (state g.S.Store c.read_all.new.conn) c.begin.ensures.reads c.read_all.ensures.reads
 
 pub returns-in-Ok-clause-reads : goal.returns-in-Ok-clause-reads
 returns-in-Ok-clause-reads g c =
     reads_then (state g.S.Store c.args.conn.now) (state g.S.Store c.begin.new.conn) (state g.S.Store c.read_all.new.conn) c.begin.ensures.reads c.read_all.ensures.reads
 
-pub returns-clause-reads : goal.returns-clause-reads
-returns-clause-reads g c =
+pub returns-in-Err-finish-clause-reads : goal.returns-in-Err-finish-clause-reads
+returns-in-Err-finish-clause-reads g c =
     reads_then (state g.S.Store c.args.conn.now) (state g.S.Store c.begin.new.conn) (state g.S.Store c.read_all.new.conn) c.begin.ensures.reads c.read_all.ensures.reads

@@ -14,7 +14,7 @@ pub returns-clause-one : goal.returns-clause-one
 returns-clause-one g c clean =
     let old = state g.S.Store c.args.conn.now in
     let one : length c.in-Ok.headers.items ≡ 1 = omega (arith, c.in-Ok.headers.ok.0) in
-    let items = one_item c.in-Ok.headers.items c.remove.result one c.remove.ensures.value in
+    let items = one_item c.in-Ok.headers.items c.remove-one.result one c.remove-one.ensures.value in
     let got = (c.in-Ok.ensures.selected clean).0 in
     subst (λ rows. IsSelection (codes "edition") (equals_number 1 c.args.number) (1 ∷ []) old.now (map stored_header rows)) items
     (subst (λ n. IsSelection (codes "edition") (equals_number 1 n) (1 ∷ []) old.now (map stored_header c.in-Ok.headers.items)) (to_z-of_z w64 c.args.number c.ranges.number) got)
