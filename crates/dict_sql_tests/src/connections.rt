@@ -54,7 +54,9 @@ fn run_all<S: Alter>(
 
 fn over_memory(rt: &impl Abort, alloc: Global, runs: &[Run]) -> Result<(), Fail> {
     let mut conn = Connection::open_in_memory(alloc)?;
-    run_all(rt, alloc, &mut conn, runs)
+    let end = run_all(rt, alloc, &mut conn, runs);
+    drop(conn);
+    end
 }
 
 #[test]
@@ -117,13 +119,13 @@ fn over_a_file(rt: &impl Abort, alloc: Global, db: Memory, runs: &[Run]) -> Resu
 fn statements_in_two_files(rt: HostRuntime) -> Result<(), Fail> {
     let alloc = rt.alloc();
     let db = over_a_file(&rt, alloc, Memory::new(alloc), &[Run::Fill])?;
-    over_a_file(&rt, alloc, db, &[Run::DropAndLook])?;
+    drop(over_a_file(&rt, alloc, db, &[Run::DropAndLook])?);
     Ok(())
 }
 
 #[test]
 fn entries_inside_in_two_files(rt: HostRuntime) -> Result<(), Fail> {
     let alloc = rt.alloc();
-    over_a_file(&rt, alloc, Memory::new(alloc), &[Run::Inside])?;
+    drop(over_a_file(&rt, alloc, Memory::new(alloc), &[Run::Inside])?);
     Ok(())
 }

@@ -66,11 +66,21 @@ fn execute<S: Alter>(conn: &mut Connection<S>, statements: &[&str]) -> Result<()
     Ok(())
 }
 
+fn schema_after<S: Alter>(
+    alloc: Global,
+    conn: &mut Connection<S>,
+    statements: &[&str],
+) -> Result<Schema, Error> {
+    execute(conn, statements)?;
+    Ok(conn.schema().copy(alloc)?)
+}
+
 // The schema after these statements.
 fn schema_of(alloc: Global, statements: &[&str]) -> Result<Schema, Error> {
     let mut conn = Connection::open_in_memory(alloc)?;
-    execute(&mut conn, statements)?;
-    Ok(conn.schema().copy(alloc)?)
+    let schema = schema_after(alloc, &mut conn, statements);
+    drop(conn);
+    schema
 }
 
 // Which tables it has, in this order.
@@ -106,7 +116,9 @@ fn names(alloc: Global, had: &[(bool, &'static str)]) -> Result<String, AllocErr
 // The names of what is had after these statements.
 fn told(alloc: Global, statements: &[&str]) -> Result<String, Fail> {
     let schema = schema_of(alloc, statements)?;
-    Ok(names(alloc, had(&schema).as_slice())?)
+    let told = names(alloc, had(&schema).as_slice());
+    drop(schema);
+    Ok(told?)
 }
 
 // Statements, and what is had then.
@@ -393,7 +405,9 @@ fn answer(schema: &mut Schema, asked: Asked) -> Result<bool, Error> {
 // What is answered after these statements.
 fn ask(alloc: Global, statements: &[&str], asked: Asked) -> Result<bool, Error> {
     let mut schema = schema_of(alloc, statements)?;
-    answer(&mut schema, asked)
+    let answer = answer(&mut schema, asked);
+    drop(schema);
+    answer
 }
 
 // What is asked, the statements that come first, and those after which the answer is yes, and no.

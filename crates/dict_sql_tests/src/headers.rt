@@ -3,21 +3,22 @@
 ghost use Rattle.std.specs.Prelude.{OnOk};
 ghost use Rattle.sqlite.specs.State.{HasCleanDisk};
 ghost use Rattle.sqlite.specs.Held.{state};
-ghost use Rattle.dict_sql.specs.Effects.{HasApartRowids, WhileOpen, rows_of, seen};
+ghost use Rattle.dict_sql.specs.Effects.{HasApartRowids, WhileOpen, rows_of};
 ghost use Rattle.dict_sql.specs.Deletes.{HasToRemove};
 ghost use Rattle.dict_header_sql.specs.Table.{header};
 
 use crate::checks::{holds, same_text};
+use crate::opened::open;
 use dict_header_sql::{
     StoredHeader, create_header_table, delete_header, has_header_table, headers_numbered,
     infos_numbered, insert_header, next_header, read_headers_by_rowid,
 };
 use dict_records::Header;
-use dict_sql::commit::commit;
 use dict_sql::records::ReadError;
+use dict_sql::transaction::{OpenTransaction, begin, commit_open};
 use dict_sql_checks::told;
 use dict_tables::{StoreTable, has_table, is_name_used, lacks_counting_table};
-use sqlite::{Alter, Connection, Error, Rows, Transaction};
+use sqlite::{Alter, Connection, Error, Rows};
 use std::alloc::Global;
 use std::process::Abort;
 use std::test::Fail;
@@ -29,27 +30,27 @@ const SECOND: &str =
     "StoredHeader { rowid: 4, value: Header { number: 4, owner: \"ore\", title: \"\", info: \"of\\nores\" } }";
 
 // Makes the table where its name is free.
-fn make<S: Alter>(conn: &mut Connection<S>) -> Result<(), Error>
+fn make<S: Alter>(conn: &mut Connection<S>) -> Result<usize, Error>
     ensures { HasCleanDisk (state S.Store conn.new) → OnOk result (HasApartRowids (rows_of (header 0).name (state S.Store conn.new).now)) }
 {
+    open(conn)?;
     let schema = conn.schema();
-    if is_name_used(schema, b"edition") || lacks_counting_table(schema) || !conn.is_autocommit() {
+    if is_name_used(schema, b"edition") || lacks_counting_table(schema) {
         return Err(Error::InvalidQuery);
     }
-    let mut tx = conn.transaction();
-    create_header_table(&mut tx)?;
-    commit(tx)
+    create_header_table(conn)?;
+    commit_open(conn)
 }
 
-fn put<S: Alter>(
-    tx: &mut Transaction<'_, S>,
+fn put<S: Alter, T: OpenTransaction<S>>(
+    tx: &mut T,
     number: i64,
     owner: &str,
     title: &str,
     info: &str,
 ) -> Result<(), Error>
-    requires { WhileOpen (seen S.Store tx.old) (HasToRemove header) }
-    ensures { OnOk result (WhileOpen (seen S.Store tx.new) (HasToRemove header)) }
+    requires { WhileOpen (state S.Store (T.held tx.old)) (HasToRemove header) }
+    ensures { OnOk result (WhileOpen (state S.Store (T.held tx.new)) (HasToRemove header)) }
 {
     let row = Header {
         number,
@@ -61,18 +62,25 @@ fn put<S: Alter>(
     Ok(())
 }
 
+// Puts three headers in, and takes one out.
+fn put_and_take<S: Alter, T: OpenTransaction<S>>(tx: &mut T) -> Result<usize, Error>
+    requires { WhileOpen (state S.Store (T.held tx.old)) (HasToRemove header) }
+{
+    put(tx, 4, "ore", "", "of\nores")?;
+    put(tx, 2, "gem", "Gems", "gone")?;
+    put(tx, 1, "gem", "Gems", "")?;
+    delete_header(tx, 2)
+}
+
 fn change<S: Alter>(conn: &mut Connection<S>) -> Result<usize, Error>
     requires { HasCleanDisk (state S.Store conn.old) → HasApartRowids (rows_of (header 0).name (state S.Store conn.old).now) }
 {
     if !has_header_table(conn.schema()) || !conn.is_autocommit() {
         return Err(Error::InvalidQuery);
     }
-    let mut tx = conn.transaction();
-    put(&mut tx, 4, "ore", "", "of\nores")?;
-    put(&mut tx, 2, "gem", "Gems", "gone")?;
-    put(&mut tx, 1, "gem", "Gems", "")?;
-    let taken = delete_header(&mut tx, 2)?;
-    commit(tx)?;
+    begin(conn);
+    let taken = put_and_take(conn)?;
+    commit_open(conn)?;
     Ok(taken)
 }
 
@@ -93,7 +101,9 @@ fn all<S: Alter>(alloc: Global, conn: &mut Connection<S>) -> Result<Vec<StoredHe
         return Err(ReadError::Store(Error::InvalidQuery));
     }
     let mut rows = read_headers_by_rowid(conn)?;
-    rest(alloc, &mut rows)
+    let all = rest(alloc, &mut rows);
+    drop(rows);
+    all
 }
 
 fn one<S: Alter>(

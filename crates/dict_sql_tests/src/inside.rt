@@ -27,7 +27,9 @@ fn told_of<S: Alter>(
         return Err(ReadError::Store(Error::InvalidQuery));
     }
     let mut tx = conn.transaction();
-    told(alloc, entries_inside(alloc, &mut tx, edition))
+    let found = told(alloc, entries_inside(alloc, &mut tx, edition));
+    drop(tx);
+    found
 }
 
 /// The entries of an edition come in the order of their places.

@@ -1,11 +1,12 @@
 //! The tables of schema 4 that have what is derived of headwords: recognised, read row by row, and dropped.
 
 use crate::checks::{holds, same_text};
+use crate::opened::open;
 use crate::rest::told_rest;
 use dict_keyed_sql::{drop_keyed_table, has_keyed_table, read_by_rowid, read_rows_of};
 use dict_records::{Gram, KeyedEntry, Stored, Word};
-use dict_sql::commit::commit;
 use dict_sql::records::ReadError;
+use dict_sql::transaction::commit_open;
 use dict_sql_checks::{compare_numbers, raw};
 use dict_tables::{KeyedTable, is_name_used};
 use sqlite::{Alter, Connection, Error, Rows};
@@ -70,6 +71,18 @@ fn begin<'a, S: Alter>(
     }
 }
 
+fn told_of<S: Alter>(
+    alloc: Global,
+    rows: &mut Rows<'_, S>,
+    table: KeyedTable,
+) -> Result<String, ReadError> {
+    match table {
+        KeyedTable::Entry => told_rest::<S, Stored<KeyedEntry<String, Vec<u8>>>>(alloc, rows),
+        KeyedTable::Word => told_rest::<S, Stored<Word<Vec<u8>>>>(alloc, rows),
+        KeyedTable::Gram => told_rest::<S, Stored<Gram<Vec<u8>>>>(alloc, rows),
+    }
+}
+
 fn read<S: Alter>(
     alloc: Global,
     conn: &mut Connection<S>,
@@ -77,28 +90,24 @@ fn read<S: Alter>(
     edition: Option<i64>,
 ) -> Result<String, ReadError> {
     let mut rows = begin(conn, table, edition)?;
-    match table {
-        KeyedTable::Entry => {
-            told_rest::<S, Stored<KeyedEntry<String, Vec<u8>>>>(alloc, &mut rows)
-        }
-        KeyedTable::Word => told_rest::<S, Stored<Word<Vec<u8>>>>(alloc, &mut rows),
-        KeyedTable::Gram => told_rest::<S, Stored<Gram<Vec<u8>>>>(alloc, &mut rows),
-    }
+    let told = told_of(alloc, &mut rows, table);
+    drop(rows);
+    told
 }
 
-fn drop<S: Alter>(conn: &mut Connection<S>, table: KeyedTable) -> Result<(), Error> {
-    if !has_keyed_table(conn.schema(), table) || !conn.is_autocommit() {
+fn drop_table<S: Alter>(conn: &mut Connection<S>, table: KeyedTable) -> Result<usize, Error> {
+    open(conn)?;
+    if !has_keyed_table(conn.schema(), table) {
         return Err(Error::InvalidQuery);
     }
-    let mut tx = conn.transaction();
-    drop_keyed_table(&mut tx, table)?;
-    commit(tx)
+    drop_keyed_table(conn, table)?;
+    commit_open(conn)
 }
 
 // Drops each table, whose name is free then.
 fn drop_all<S: Alter>(rt: &impl Abort, conn: &mut Connection<S>) -> Result<(), Fail> {
     for table in &[KeyedTable::Gram, KeyedTable::Entry, KeyedTable::Word] {
-        drop(conn, *table)?;
+        drop_table(conn, *table)?;
         holds(
             rt,
             !is_name_used(conn.schema(), table.name().as_bytes()),

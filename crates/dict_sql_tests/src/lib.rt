@@ -18,6 +18,8 @@ mod old;
 #[cfg(test)]
 mod older;
 #[cfg(test)]
+mod opened;
+#[cfg(test)]
 mod parts;
 #[cfg(test)]
 mod plain;

@@ -49,7 +49,9 @@ fn read<S: Alter>(
     edition: Option<i64>,
 ) -> Result<String, ReadError> {
     let mut rows = begin(conn, edition)?;
-    told_rest::<S, Stored<OldEntry<String, Vec<u8>>>>(alloc, &mut rows)
+    let told = told_rest::<S, Stored<OldEntry<String, Vec<u8>>>>(alloc, &mut rows);
+    drop(rows);
+    told
 }
 
 /// What is read of the table, which is made first.

@@ -1,10 +1,11 @@
 //! The tables `edition` and `entry` of schema 4, read inside a transaction, and the first of them dropped.
 
 use crate::checks::{holds, same_text};
+use crate::opened::open;
 use dict_keyed_sql::has_keyed_table;
 use dict_migration_sql::{drop_old_edition, editions_inside, shown_entries_inside};
-use dict_sql::commit::commit;
 use dict_sql::records::ReadError;
+use dict_sql::transaction::{commit_open, roll_back};
 use dict_sql_checks::{raw, told};
 use dict_tables::{KeyedTable, StoreTable, has_table, is_name_used};
 use sqlite::{Alter, Connection, Error};
@@ -24,11 +25,13 @@ fn editions_of<S: Alter>(
     conn: &mut Connection<S>,
     number: i64,
 ) -> Result<String, ReadError> {
-    if !has_table(conn.schema(), StoreTable::Edition) || !conn.is_autocommit() {
+    open(conn)?;
+    if !has_table(conn.schema(), StoreTable::Edition) {
         return Err(ReadError::Store(Error::InvalidQuery));
     }
-    let mut tx = conn.transaction();
-    told(alloc, editions_inside(alloc, &mut tx, number))
+    let found = told(alloc, editions_inside(alloc, conn, number));
+    roll_back(conn);
+    found
 }
 
 fn entries_of<S: Alter>(
@@ -36,20 +39,22 @@ fn entries_of<S: Alter>(
     conn: &mut Connection<S>,
     edition: i64,
 ) -> Result<String, ReadError> {
-    if !has_keyed_table(conn.schema(), KeyedTable::Entry) || !conn.is_autocommit() {
+    open(conn)?;
+    if !has_keyed_table(conn.schema(), KeyedTable::Entry) {
         return Err(ReadError::Store(Error::InvalidQuery));
     }
-    let mut tx = conn.transaction();
-    told(alloc, shown_entries_inside(alloc, &mut tx, edition))
+    let found = told(alloc, shown_entries_inside(alloc, conn, edition));
+    roll_back(conn);
+    found
 }
 
-fn drop_editions<S: Alter>(conn: &mut Connection<S>) -> Result<(), Error> {
-    if !has_table(conn.schema(), StoreTable::Edition) || !conn.is_autocommit() {
+fn drop_editions<S: Alter>(conn: &mut Connection<S>) -> Result<usize, Error> {
+    open(conn)?;
+    if !has_table(conn.schema(), StoreTable::Edition) {
         return Err(Error::InvalidQuery);
     }
-    let mut tx = conn.transaction();
-    drop_old_edition(&mut tx)?;
-    commit(tx)
+    drop_old_edition(conn)?;
+    commit_open(conn)
 }
 
 /// An edition comes with its text, and its entries in the order of their places, whatever their keys are. Where the table of editions went its name is free.

@@ -3,18 +3,19 @@
 ghost use Rattle.std.specs.Prelude.{OnOk};
 ghost use Rattle.sqlite.specs.State.{HasCleanDisk};
 ghost use Rattle.sqlite.specs.Held.{state};
-ghost use Rattle.dict_sql.specs.Effects.{HasApartRowids, WhileOpen, rows_of, seen};
+ghost use Rattle.dict_sql.specs.Effects.{HasApartRowids, WhileOpen, rows_of};
 ghost use Rattle.dict_sql.specs.Deletes.{HasToRemove};
 ghost use Rattle.dict_part_sql.specs.Table.{part};
 
 use crate::checks::holds;
+use crate::opened::open;
 use dict_part_sql::{
     Part, create_part_table, delete_parts, delete_parts_from, has_part_table, insert_part,
 };
-use dict_sql::commit::commit;
+use dict_sql::transaction::{OpenTransaction, begin, commit_open};
 use dict_tables::{is_name_used, lacks_counting_table};
 use reads::look;
-use sqlite::{Alter, Connection, Error, Transaction};
+use sqlite::{Alter, Connection, Error};
 use std::alloc::Global;
 use std::process::Abort;
 use std::test::Fail;
@@ -22,30 +23,27 @@ use std::test::Fail;
 mod reads;
 
 // Makes the table where its name is free.
-fn make<S: Alter>(conn: &mut Connection<S>) -> Result<(), Error>
+fn make<S: Alter>(conn: &mut Connection<S>) -> Result<usize, Error>
     ensures { HasCleanDisk (state S.Store conn.new) → OnOk result (HasApartRowids (rows_of (part 0).name (state S.Store conn.new).now)) }
 {
+    open(conn)?;
     let schema = conn.schema();
-    if is_name_used(schema, b"dictcat_part")
-        || lacks_counting_table(schema)
-        || !conn.is_autocommit()
-    {
+    if is_name_used(schema, b"dictcat_part") || lacks_counting_table(schema) {
         return Err(Error::InvalidQuery);
     }
-    let mut tx = conn.transaction();
-    create_part_table(&mut tx)?;
-    commit(tx)
+    create_part_table(conn)?;
+    commit_open(conn)
 }
 
-fn put<S: Alter>(
-    tx: &mut Transaction<'_, S>,
+fn put<S: Alter, T: OpenTransaction<S>>(
+    tx: &mut T,
     edition: i64,
     file: i64,
     number: i64,
     octets: &[u8],
 ) -> Result<(), Error>
-    requires { WhileOpen (seen S.Store tx.old) (HasToRemove part) }
-    ensures { OnOk result (WhileOpen (seen S.Store tx.new) (HasToRemove part)) }
+    requires { WhileOpen (state S.Store (T.held tx.old)) (HasToRemove part) }
+    ensures { OnOk result (WhileOpen (state S.Store (T.held tx.new)) (HasToRemove part)) }
 {
     let row = Part {
         edition,
@@ -57,9 +55,9 @@ fn put<S: Alter>(
     Ok(())
 }
 
-fn put_all<S: Alter>(tx: &mut Transaction<'_, S>) -> Result<(), Error>
-    requires { WhileOpen (seen S.Store tx.old) (HasToRemove part) }
-    ensures { OnOk result (WhileOpen (seen S.Store tx.new) (HasToRemove part)) }
+fn put_all<S: Alter, T: OpenTransaction<S>>(tx: &mut T) -> Result<(), Error>
+    requires { WhileOpen (state S.Store (T.held tx.old)) (HasToRemove part) }
+    ensures { OnOk result (WhileOpen (state S.Store (T.held tx.new)) (HasToRemove part)) }
 {
     put(tx, 2, 1, 0, b"t")?;
     put(tx, 1, 1, 1, b"b")?;
@@ -70,12 +68,21 @@ fn put_all<S: Alter>(tx: &mut Transaction<'_, S>) -> Result<(), Error>
 }
 
 // Takes out the text of the first edition from its second part on.
-fn cut_off<S: Alter>(tx: &mut Transaction<'_, S>) -> Result<(), Error>
-    requires { WhileOpen (seen S.Store tx.old) (HasToRemove part) }
-    ensures { OnOk result (WhileOpen (seen S.Store tx.new) (HasToRemove part)) }
+fn cut_off<S: Alter, T: OpenTransaction<S>>(tx: &mut T) -> Result<(), Error>
+    requires { WhileOpen (state S.Store (T.held tx.old)) (HasToRemove part) }
+    ensures { OnOk result (WhileOpen (state S.Store (T.held tx.new)) (HasToRemove part)) }
 {
     delete_parts_from(tx, 1, 1, 1)?;
     Ok(())
+}
+
+// Puts all in, and takes some out.
+fn put_and_take<S: Alter, T: OpenTransaction<S>>(tx: &mut T) -> Result<usize, Error>
+    requires { WhileOpen (state S.Store (T.held tx.old)) (HasToRemove part) }
+{
+    put_all(tx)?;
+    cut_off(tx)?;
+    delete_parts(tx, 3)
 }
 
 fn change<S: Alter>(conn: &mut Connection<S>) -> Result<usize, Error>
@@ -84,11 +91,9 @@ fn change<S: Alter>(conn: &mut Connection<S>) -> Result<usize, Error>
     if !has_part_table(conn.schema()) || !conn.is_autocommit() {
         return Err(Error::InvalidQuery);
     }
-    let mut tx = conn.transaction();
-    put_all(&mut tx)?;
-    cut_off(&mut tx)?;
-    let taken = delete_parts(&mut tx, 3)?;
-    commit(tx)?;
+    begin(conn);
+    let taken = put_and_take(conn)?;
+    commit_open(conn)?;
     Ok(taken)
 }
 

@@ -81,7 +81,9 @@ fn some<S: Alter>(
     by_rowid: bool,
 ) -> Result<Vec<StoredPart>, ReadError> {
     let mut rows = begin(conn, file, by_rowid)?;
-    rest(alloc, &mut rows)
+    let all = rest(alloc, &mut rows);
+    drop(rows);
+    all
 }
 
 fn one<S: Alter>(

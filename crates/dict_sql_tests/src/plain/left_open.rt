@@ -1,22 +1,15 @@
 //! A transaction that stays open between calls: what is written in it stays by its commit alone.
 
 use crate::checks::holds;
+use crate::opened::open;
 use dict_records::Mark;
 use dict_sql::insert::insert_mark;
-use dict_sql::transaction::{begin, commit_open, roll_back};
+use dict_sql::transaction::{commit_open, roll_back};
 use dict_sql_checks::{compare_numbers, raw};
 use dict_tables::{StoreTable, has_table};
 use sqlite::{Alter, Connection, Error};
 use std::process::Abort;
 use std::test::Fail;
-
-fn open<S: Alter>(conn: &mut Connection<S>) -> Result<(), Error> {
-    if !conn.is_autocommit() {
-        return Err(Error::InvalidQuery);
-    }
-    begin(conn);
-    Ok(())
-}
 
 fn put<S: Alter>(conn: &mut Connection<S>, id: i64) -> Result<usize, Error> {
     if !has_table(conn.schema(), StoreTable::Mark) {

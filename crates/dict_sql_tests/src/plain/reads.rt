@@ -89,7 +89,9 @@ static READS: [(Wanted, &str); 11] = [
 // The text of the kept replies behind the first, which is refused where a mark is asked for.
 fn told_past_a_fault<S: Alter>(alloc: Global, rows: &mut Rows<'_, S>) -> Result<String, ReadError> {
     let next: Result<Option<Stored<Mark<String>>>, ReadError> = next_record(rows);
-    if matches!(&next, Err(ReadError::NoRecord)) {
+    let is_refused = matches!(&next, Err(ReadError::NoRecord));
+    drop(next);
+    if is_refused {
         told_rest::<S, Stored<Kept<String>>>(alloc, rows)
     } else {
         Err(ReadError::Store(Error::InvalidQuery))
@@ -113,19 +115,29 @@ fn begin<S: Alter>(conn: &mut Connection<S>, stream: Stream) -> Result<Rows<'_, 
     }
 }
 
+fn told_of<S: Alter>(
+    alloc: Global,
+    rows: &mut Rows<'_, S>,
+    stream: Stream,
+) -> Result<String, ReadError> {
+    match stream {
+        Stream::Marks => told_rest::<S, Stored<Mark<String>>>(alloc, rows),
+        Stream::EditionNumbers => told_rest::<S, Stored<EditionNumber>>(alloc, rows),
+        Stream::EntriesOf(_) => told_rest::<S, Stored<Entry<String>>>(alloc, rows),
+        Stream::KeptReplies => told_rest::<S, Stored<Kept<String>>>(alloc, rows),
+        Stream::KeptPastAFault => told_past_a_fault(alloc, rows),
+    }
+}
+
 fn read_stream<S: Alter>(
     alloc: Global,
     conn: &mut Connection<S>,
     stream: Stream,
 ) -> Result<String, ReadError> {
     let mut rows = begin(conn, stream)?;
-    match stream {
-        Stream::Marks => told_rest::<S, Stored<Mark<String>>>(alloc, &mut rows),
-        Stream::EditionNumbers => told_rest::<S, Stored<EditionNumber>>(alloc, &mut rows),
-        Stream::EntriesOf(_) => told_rest::<S, Stored<Entry<String>>>(alloc, &mut rows),
-        Stream::KeptReplies => told_rest::<S, Stored<Kept<String>>>(alloc, &mut rows),
-        Stream::KeptPastAFault => told_past_a_fault(alloc, &mut rows),
-    }
+    let told = told_of(alloc, &mut rows, stream);
+    drop(rows);
+    told
 }
 
 // What is wanted, as text.

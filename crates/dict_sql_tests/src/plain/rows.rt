@@ -1,15 +1,17 @@
 //! The tables are made, rows are put in, and a table is dropped, each time in a transaction of its own.
 
 ghost use Rattle.dict_tables.specs.Tables.{table_of};
-ghost use Rattle.dict_sql.specs.Effects.{Has, WhileOpen, seen};
+ghost use Rattle.sqlite.specs.Held.{state};
+ghost use Rattle.dict_sql.specs.Effects.{Has, WhileOpen};
 
 use dict_records::{Item, Kept, Mark, Member};
 use dict_sql::commit::commit;
 use dict_sql::create::create_table;
 use dict_sql::drop::drop_table;
 use dict_sql::insert::{insert_item, insert_kept, insert_mark, insert_member};
+use dict_sql::transaction::OpenTransaction;
 use dict_tables::{StoreTable, has_table, is_name_used, lacks_counting_table};
-use sqlite::{Alter, Connection, Error, Transaction};
+use sqlite::{Alter, Connection, Error};
 
 static TABLES: [StoreTable; 6] = [
     StoreTable::Mark,
@@ -58,8 +60,13 @@ fn make<S: Alter>(conn: &mut Connection<S>, table: StoreTable) -> Result<(), Err
         return Err(Error::InvalidQuery);
     }
     let mut tx = conn.transaction();
-    create_table(&mut tx, table)?;
-    commit(tx)
+    match create_table(&mut tx, table) {
+        Ok(_) => commit(tx),
+        Err(error) => {
+            drop(tx);
+            Err(error)
+        }
+    }
 }
 
 /// Makes all tables, where their names are free.
@@ -71,8 +78,12 @@ pub(crate) fn make_all<S: Alter>(conn: &mut Connection<S>) -> Result<(), Error> 
 }
 
 // Inserts a row into its table, if it is one of those that have a statement for it.
-fn add<S: Alter>(tx: &mut Transaction<'_, S>, table: StoreTable, row: &Row) -> Result<usize, Error>
-    requires { WhileOpen (seen S.Store tx.old) (Has (table_of table)) }
+fn add<S: Alter, T: OpenTransaction<S>>(
+    tx: &mut T,
+    table: StoreTable,
+    row: &Row,
+) -> Result<usize, Error>
+    requires { WhileOpen (state S.Store (T.held tx.old)) (Has (table_of table)) }
 {
     let [first, second, third] = row.1;
     let [number, other] = row.2;
@@ -120,12 +131,12 @@ fn add<S: Alter>(tx: &mut Transaction<'_, S>, table: StoreTable, row: &Row) -> R
 }
 
 // Inserts a row, or drops the table where there is none.
-fn act<S: Alter>(
-    tx: &mut Transaction<'_, S>,
+fn act<S: Alter, T: OpenTransaction<S>>(
+    tx: &mut T,
     table: StoreTable,
     row: Option<&Row>,
 ) -> Result<usize, Error>
-    requires { WhileOpen (seen S.Store tx.old) (Has (table_of table)) }
+    requires { WhileOpen (state S.Store (T.held tx.old)) (Has (table_of table)) }
 {
     match row {
         Some(row) => add(tx, table, row),
@@ -142,8 +153,13 @@ fn change<S: Alter>(
         return Err(Error::InvalidQuery);
     }
     let mut tx = conn.transaction();
-    act(&mut tx, table, row)?;
-    commit(tx)
+    match act(&mut tx, table, row) {
+        Ok(_) => commit(tx),
+        Err(error) => {
+            drop(tx);
+            Err(error)
+        }
+    }
 }
 
 /// Puts all rows in.

@@ -1,14 +1,14 @@
 use Rattle.std.proofs.Common.{arith, codes}
 use Rattle.sqlite.specs.State.{HasCleanDisk}
-use Rattle.dict_sql.specs.Effects.{seen}
+use Rattle.sqlite.specs.Held.{state}
 use Rattle.dict_sql.proofs.Callers.{still_has, apart_added}
 use Rattle.dict_header_sql.specs.Table.{header}
 use Rattle.dict_sql_tests.proofs.headers.put.Goals as goal
 
 pub returns : goal.returns
 returns g c clean open' =
-    let old = seen g.S.Store c.args.tx.now in
-    let new = seen g.S.Store c.insert_header.new.tx in
+    let old = state g.S.Store (g.T.OpenTransaction.held c.args.tx.now) in
+    let new = state g.S.Store (g.T.OpenTransaction.held c.insert_header.new.tx) in
     let start : HasCleanDisk old = omega (arith, c.insert_header.ensures.survives.clean, clean) in
     let added = c.in_ok-insert_header.ensures.added clean in
     let had = c.requires start added.1.was_open in

@@ -1,14 +1,14 @@
 use Rattle.std.proofs.Common.{arith, codes}
 use Rattle.sqlite.specs.State.{HasCleanDisk}
-use Rattle.dict_sql.specs.Effects.{seen}
+use Rattle.sqlite.specs.Held.{state}
 use Rattle.dict_sql.proofs.Callers.{still_has, apart_removed}
 use Rattle.dict_part_sql.specs.Table.{part}
 use Rattle.dict_sql_tests.proofs.parts.cut_off.Goals as goal
 
 pub returns : goal.returns
 returns g c clean open' =
-    let old = seen g.S.Store c.args.tx.now in
-    let new = seen g.S.Store c.delete_parts_from.new.tx in
+    let old = state g.S.Store (g.T.OpenTransaction.held c.args.tx.now) in
+    let new = state g.S.Store (g.T.OpenTransaction.held c.delete_parts_from.new.tx) in
     let start : HasCleanDisk old = omega (arith, c.delete_parts_from.ensures.survives.clean, clean) in
     let removed = c.in_ok-delete_parts_from.ensures.removed clean in
     let had = c.requires start removed.1.was_open in
