@@ -1,8 +1,0 @@
-//! Assertions, each a function of its own, so that the proof of a test has one step for it.
-use std::fmt::Debug;
-use std::process::Abort;
-
-/// The value is the one that is wanted.
-pub(crate) fn same<T: PartialEq + Debug>(test: &impl Abort, found: &T, wanted: &T) {
-    assert_eq!(test; *found, *wanted);
-}
