@@ -1,15 +1,14 @@
 //! Addresses to which no socket can be bound.
-use crate::checks::{holds, same_text};
-use crate::serving::{FREE, Play, Scene, start};
-use dict_driver::{AddressFault, BindFault, Driver, System};
+use crate::checks::holds;
+use crate::serving::{FREE, Part, Step, bind, start};
+use dict_driver::{AddressFault, BindFault};
 use std::alloc::Global;
-use std::net::{Net, SocketAddr};
-use std::process::Abort;
+use std::net::SocketAddr;
 use std::test::Fail;
 
 // Why no driver is bound to two addresses.
-fn told(net: &impl Net, alloc: Global, dict: &str, http: &str) -> &'static str {
-    match Driver::bind(&System, net, alloc, dict, http, "localhost") {
+fn told(net: &HostRuntime, alloc: Global, dict: &str, http: &str) -> &'static str {
+    match bind(net, alloc, dict, http) {
         Ok(_) => "bound",
         Err(BindFault::Dict(AddressFault::Unread)) => "dict unread",
         Err(BindFault::Dict(AddressFault::Unbound(_))) => "dict unbound",
@@ -29,12 +28,17 @@ static UNREAD: [&str; 7] = [
     " 127.0.0.1:0",
 ];
 
+// Whether it is none, in either place.
+fn is_unread(net: &HostRuntime, alloc: Global, text: &str) -> bool {
+    told(net, alloc, text, "also none") == "dict unread"
+        && told(net, alloc, FREE, text) == "http unread"
+}
+
 // Texts that are no address.
 #[test]
 fn an_address_that_is_not_read(rt: HostRuntime) -> Result<(), Fail> {
     for text in &UNREAD {
-        same_text(&rt, told(&rt, rt.alloc(), text, "also none"), "dict unread");
-        same_text(&rt, told(&rt, rt.alloc(), FREE, text), "http unread");
+        holds(is_unread(&rt, rt.alloc(), text), "another fault")?;
     }
     Ok(())
 }
@@ -46,17 +50,24 @@ fn are_chosen(dict: SocketAddr, http: SocketAddr) -> bool {
 }
 
 /// Two addresses that were bound have the ports that the system chose, and are in use; and the order of two faults.
-pub(crate) fn are_free(rt: &impl Abort, net: &impl Net, play: &Play) -> Result<(), Fail> {
-    let (dict, http) = (play.dict, play.http);
-    let text = format!(in play.alloc; "{dict}")?;
-    same_text(rt, told(net, play.alloc, &text, "none"), "dict unbound");
-    let text = format!(in play.alloc; "{http}")?;
-    same_text(rt, told(net, play.alloc, FREE, &text), "http unbound");
-    holds(rt, are_chosen(dict, http), "loopback and ports");
-    Ok(())
+pub(crate) fn are_in_use(
+    net: &HostRuntime,
+    alloc: Global,
+    addresses: (SocketAddr, SocketAddr),
+) -> Result<(), Fail> {
+    let (dict, http) = addresses;
+    let text = format!(in alloc; "{dict}")?;
+    let first = told(net, alloc, &text, "none");
+    let text = format!(in alloc; "{http}")?;
+    let second = told(net, alloc, FREE, &text);
+    holds(first == "dict unbound", "another fault of the first")?;
+    holds(second == "http unbound", "another fault of the second")?;
+    holds(are_chosen(dict, http), "other addresses")
 }
+
+static PORTS: [(u32, &[Part]); 1] = [(0, &[Part::Bare(1, &[Step::InUse])])];
 
 #[test]
 fn free_ports(rt: HostRuntime) -> Result<(), Fail> {
-    start(&rt, &rt, Scene::Ports)
+    start(&rt, &PORTS)
 }

@@ -1,18 +1,11 @@
-//! Assertions, each a function of its own, so that the proof of a test has one step for it.
-use std::fmt::Debug;
-use std::process::Abort;
+//! An assertion, as a function of its own, so that the proof of what asserts has one step for it.
+use std::test::Fail;
 
-/// The text is the one that is wanted.
-pub(crate) fn same_text(test: &impl Abort, found: &str, wanted: &str) {
-    assert_eq!(test; found, wanted);
-}
-
-/// The value is the one that is wanted.
-pub(crate) fn same<T: PartialEq + Debug>(test: &impl Abort, found: &T, wanted: &T) {
-    assert_eq!(test; *found, *wanted);
-}
-
-/// It is so, of what is named.
-pub(crate) fn holds(test: &impl Abort, is_so: bool, of: &str) {
-    assert!(test; is_so, "of {of:?}");
+/// It is so. Else this is said.
+pub(crate) fn holds(is_so: bool, else_says: &'static str) -> Result<(), Fail> {
+    if is_so {
+        Ok(())
+    } else {
+        Err(Fail::new(else_says))
+    }
 }

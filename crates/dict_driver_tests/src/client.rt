@@ -1,11 +1,9 @@
 // One end of a connection.
+use crate::checks::holds;
 use std::alloc::Global;
 use std::io::{ErrorKind, Read, Result as IoResult, Write};
-use std::net::{Net, Shutdown, SocketAddr, TcpStream};
+use std::net::{Shutdown, SocketAddr, TcpStream};
 use std::test::Fail;
-
-// What fills a text.
-static FILLER: [u8; 4_096] = [b'x'; 4_096];
 
 // A line of an index, of 128 octets: a headword of 123 octets, and the interval of the text of `opal` in `gem`.
 static LINE: &[u8] =
@@ -15,6 +13,7 @@ static LINE: &[u8] =
 #[derive(Drop)]
 pub(crate) struct Client {
     stream: TcpStream,
+    alloc: Global,
     got: Vec<u8>,
     /// Whether the end of what is sent to it was read.
     pub(crate) has_ended: bool,
@@ -22,7 +21,7 @@ pub(crate) struct Client {
 
 impl Client {
     pub(crate) fn new(
-        net: &impl Net<Stream = TcpStream>,
+        net: &HostRuntime,
         alloc: Global,
         address: SocketAddr,
     ) -> Result<Client, Fail> {
@@ -31,6 +30,7 @@ impl Client {
         stream.set_nodelay(true)?;
         Ok(Client {
             stream,
+            alloc,
             got: Vec::new(alloc),
             has_ended: false,
         })
@@ -45,11 +45,6 @@ impl Client {
         }
     }
 
-    /// Sends 4,096 octets.
-    pub(crate) fn fill(&mut self) -> Result<(), Fail> {
-        self.send(&FILLER)
-    }
-
     /// Sends 32 lines of an index, 4,096 octets.
     pub(crate) fn fill_index(&mut self) -> Result<(), Fail> {
         for _ in 0..32u32 {
@@ -58,43 +53,54 @@ impl Client {
         Ok(())
     }
 
+    /// Asks for the status so often, by octets that are sent at once.
+    pub(crate) fn ask_often(&mut self, count: u32) -> Result<(), Fail> {
+        let mut octets = Vec::new(self.alloc);
+        for _ in 0..count {
+            octets.extend_from_slice(b"STATUS\r\n")?;
+        }
+        self.send(octets.as_slice())
+    }
+
     /// Sends nothing more.
     pub(crate) fn end(&mut self) -> Result<(), Fail> {
         self.stream.shutdown(Shutdown::Write)?;
         Ok(())
     }
 
-    /// Reads what has come, and tells how many octets came in all. A reset counts as an end.
-    pub(crate) fn read(&mut self) -> IoResult<usize> {
+    // Reads what has come, at most so often. A reset counts as an end.
+    fn read_on(&mut self) -> IoResult<()> {
         let mut room = [0u8; 4_096];
         for _ in 0..10_000u32 {
             match self.stream.read(&mut room) {
                 Ok(0) => {
                     self.has_ended = true;
-                    return Ok(self.got.len());
+                    return Ok(());
                 }
                 Ok(count) => self.got.extend_from_slice(&room[..count])?,
-                Err(error) if error.kind() == ErrorKind::WouldBlock => return Ok(self.got.len()),
+                Err(error) if error.kind() == ErrorKind::WouldBlock => return Ok(()),
                 Err(error) if is_lost(error.kind()) => {
                     self.has_ended = true;
-                    return Ok(self.got.len());
+                    return Ok(());
                 }
                 Err(error) => return Err(error),
             }
         }
+        Ok(())
+    }
+
+    /// Reads what has come, and tells how many octets came in all.
+    pub(crate) fn read(&mut self) -> Result<usize, Fail> {
+        self.read_on()?;
         Ok(self.got.len())
     }
 
     /// These octets alone have come since the last such call.
     pub(crate) fn got(&mut self, want: &[u8]) -> Result<(), Fail> {
-        self.read()?;
+        self.read_on()?;
         let is_so = self.got.as_slice() == want;
         self.got.clear();
-        if is_so {
-            Ok(())
-        } else {
-            Err(Fail::new("other octets came"))
-        }
+        holds(is_so, "other octets came")
     }
 }
 

@@ -1,39 +1,36 @@
 // Peers that don't read, and peers that end their side early.
 use crate::checks::holds;
-use crate::serving::{Part, Play, Scene, Step, start};
-use dict_hub_fixtures::short_desk;
-use std::net::{Net, TcpStream};
-use std::process::Abort;
+use crate::serving::{FILLER, Part, Play, Step, start};
 use std::test::Fail;
 
-const FIRST: &str = "220 localhost dictcat ready <1@localhost>\r\n";
+const FIRST: &[u8] = b"220 localhost dictcat ready <1@localhost>\r\n";
 
 // A line whose answer has 33,855 octets.
-const ASK: &str = "DEFINE gem opal\r\n";
+const ASK: &[u8] = b"DEFINE gem opal\r\n";
 
 const ANSWER: usize = 33_855;
 
-// Client 1 asks and reads nothing until its connection is lost. How often it asked.
-fn drown(net: &impl Net<Stream = TcpStream>, play: &mut Play) -> Result<usize, Fail> {
-    for asked in 0..10_000usize {
-        if play.driver.event_loop.open_count() < 2 {
-            return Ok(asked);
-        }
-        play.run(net, &[Step::Send(1, ASK)])?;
-    }
-    Err(Fail::new("it isn't lost"))
+/// What is done by a client that asks and doesn't read.
+#[derive(Clone, Copy)]
+pub(crate) enum Drowning {
+    /// Client 1 asks and reads nothing until its connection is lost.
+    Unread,
+    /// Client 2 asks a little less often.
+    Less,
+    /// Client 2 reads to the end, and got each answer, more than 1 MiB.
+    Whole,
 }
 
-// Client 2 asks so often, and ends its side.
-fn ask_to_the_end(
-    net: &impl Net<Stream = TcpStream>,
-    play: &mut Play,
-    asked: usize,
-) -> Result<(), Fail> {
-    for _ in 0..asked {
-        play.run(net, &[Step::Send(2, ASK)])?;
+// A client asks so often, or until fewer than so many connections are open. How often it asked.
+fn ask(play: &mut Play, who: usize, most: usize, open: usize) -> Result<usize, Fail> {
+    for asked in 0..most {
+        if play.driver.event_loop.open_count() < open {
+            return Ok(asked);
+        }
+        play.client(who)?.send(ASK)?;
+        play.settle()?;
     }
-    play.run(net, &[Step::End(2), Step::Held(1, 2)])
+    Ok(most)
 }
 
 // Client 2 reads to the end. How many octets came.
@@ -48,55 +45,65 @@ fn read_to_the_end(play: &mut Play) -> Result<usize, Fail> {
     Err(Fail::new("no end came"))
 }
 
-static TWO_READERS: [Step; 3] = [Step::Reader, Step::Got(0, FIRST), Step::Reader];
+fn is_lost(play: &mut Play) -> Result<(), Fail> {
+    play.asked = ask(play, 1, 10_000, 2)?;
+    holds(play.asked < 10_000, "it isn't lost")
+}
 
-static ONE_IS_ANSWERED: [Step; 5] = [
-    Step::Held(1, 1),
-    Step::Send(0, "STATUS\r\n"),
-    Step::Got(0, "210 1 databases\r\n"),
+fn is_whole(play: &mut Play) -> Result<(), Fail> {
+    let came = read_to_the_end(play)?;
+    holds(came > 1_048_576, "no more than 1 MiB")?;
+    holds(
+        came == play.asked.saturating_mul(ANSWER),
+        "not every answer",
+    )
+}
+
+/// It is done.
+pub(crate) fn drown(play: &mut Play, drowning: Drowning) -> Result<(), Fail> {
+    match drowning {
+        Drowning::Unread => is_lost(play),
+        Drowning::Less => {
+            play.asked = ask(play, 2, play.asked.saturating_sub(16), 0)?;
+            Ok(())
+        }
+        Drowning::Whole => is_whole(play),
+    }
+}
+
+// A peer that never reads is asked nothing more, and what waits for it is held; the others are answered meanwhile. One that
+// asks a little less, for more than 1 MiB, and then ends its side gets every answer.
+const NEVER_READS: &[Step] = &[
+    Step::ShortText,
     Step::Reader,
-    Step::Got(2, "220 localhost dictcat ready <3@localhost>\r\n"),
+    Step::Got(0, FIRST),
+    Step::Reader,
+    Step::Drown(Drowning::Unread),
+    Step::Held(1, 1),
+    Step::Send(0, b"STATUS\r\n"),
+    Step::Got(0, b"210 1 databases\r\n"),
+    Step::Reader,
+    Step::Got(2, b"220 localhost dictcat ready <3@localhost>\r\n"),
+    Step::Drown(Drowning::Less),
+    Step::End(2),
+    Step::Held(1, 2),
+    Step::Drown(Drowning::Whole),
 ];
 
-// A peer that never reads is asked nothing more, and what waits for it is held; the others are answered meanwhile. One that asks a little less, for
-// more than 1 MiB, and then ends its side gets every answer. How many octets are due to it, and how many came.
-fn drown_and_ask(
-    net: &impl Net<Stream = TcpStream>,
-    play: &mut Play,
-) -> Result<(usize, usize), Fail> {
-    play.run(net, &TWO_READERS)?;
-    let asked = drown(net, play)?;
-    play.run(net, &ONE_IS_ANSWERED)?;
-    let less = asked.saturating_sub(16);
-    ask_to_the_end(net, play, less)?;
-    Ok((less.saturating_mul(ANSWER), read_to_the_end(play)?))
-}
-
-/// It has a catalogue of one entry.
-pub(crate) fn be_drowned(
-    rt: &impl Abort,
-    net: &impl Net<Stream = TcpStream>,
-    play: &mut Play,
-) -> Result<(), Fail> {
-    play.desk = short_desk(play.alloc)?;
-    let (due, came) = drown_and_ask(net, play)?;
-    holds(rt, came > 1_048_576, "more than 1 MiB");
-    holds(rt, came == due, "every answer");
-    Ok(())
-}
+static NEVER: [(u32, &[Part]); 1] = [(0, &[Part::Settled(1, NEVER_READS)])];
 
 #[test]
 fn a_peer_that_never_reads(rt: HostRuntime) -> Result<(), Fail> {
-    start(&rt, &rt, Scene::Drowned)
+    start(&rt, &NEVER)
 }
 
 // A client that ends its side behind its last line gets the answer.
 const AN_END_BEHIND_THE_LAST_LINE: &[Step] = &[
     Step::Reader,
     Step::Got(0, FIRST),
-    Step::Send(0, "STATUS\r\nSTATUS\r\nunfinished"),
+    Step::Send(0, b"STATUS\r\nSTATUS\r\nunfinished"),
     Step::End(0),
-    Step::Got(0, "210 0 databases\r\n210 0 databases\r\n"),
+    Step::Got(0, b"210 0 databases\r\n210 0 databases\r\n"),
     Step::HasEnded(0),
     Step::Held(0, 0),
 ];
@@ -104,12 +111,12 @@ const AN_END_BEHIND_THE_LAST_LINE: &[Step] = &[
 // An editor that sends on behind a request gets its answer whole, and a clean end.
 const OCTETS_BEHIND_A_REQUEST: &[Step] = &[
     Step::Editor,
-    Step::Send(0, "GET /databases HTTP/1.1\r\n\r\n"),
-    Step::Fill(0),
-    Step::Fill(0),
+    Step::Send(0, b"GET /databases HTTP/1.1\r\n\r\n"),
+    Step::Send(0, FILLER),
+    Step::Send(0, FILLER),
     Step::Got(
         0,
-        "HTTP/1.1 200 OK\r\nContent-Type: application/json\r\nContent-Length: 2\r\nConnection: close\r\n\r\n[]",
+        b"HTTP/1.1 200 OK\r\nContent-Type: application/json\r\nContent-Length: 2\r\nConnection: close\r\n\r\n[]",
     ),
     Step::HasEnded(0),
     Step::Held(0, 1),
@@ -117,12 +124,12 @@ const OCTETS_BEHIND_A_REQUEST: &[Step] = &[
     Step::Held(0, 0),
 ];
 
+static ENDS: [(u32, &[Part]); 2] = [
+    (0, &[Part::Settled(1, AN_END_BEHIND_THE_LAST_LINE)]),
+    (0, &[Part::Settled(1, OCTETS_BEHIND_A_REQUEST)]),
+];
+
 #[test]
 fn octets_and_an_end(rt: HostRuntime) -> Result<(), Fail> {
-    start(
-        &rt,
-        &rt,
-        Scene::Parts(&[Part(1, AN_END_BEHIND_THE_LAST_LINE)]),
-    )?;
-    start(&rt, &rt, Scene::Parts(&[Part(1, OCTETS_BEHIND_A_REQUEST)]))
+    start(&rt, &ENDS)
 }

@@ -1,91 +1,86 @@
-// Many that wait at the listening sockets as a round begins.
-use crate::checks::same;
-use crate::serving::{Play, Scene, start};
-use std::alloc::Global;
-use std::net::{Net, TcpStream};
-use std::process::Abort;
+// Many that wait at the listening sockets as a round begins, and one reader's many commands beside another's one.
+use crate::serving::{Part, Play, Step, start};
 use std::test::Fail;
 
-// One round. How many connections are open after it.
-fn round(play: &mut Play) -> Result<usize, Fail> {
-    play.round()?;
-    Ok(play.driver.event_loop.open_count())
+// A reader is greeted by the id of its place.
+fn is_greeted(play: &mut Play, place: usize) -> Result<(), Fail> {
+    let id = place.saturating_add(1);
+    let greeting = format!(in play.alloc; "220 localhost dictcat ready <{id}@localhost>\r\n")?;
+    play.client(place)?.got(greeting.as_bytes())
 }
 
-// Each reader from this place up to that one is greeted by the id of its place.
-fn are_greeted(play: &mut Play, alloc: Global, from: usize, to: usize) -> Result<(), Fail> {
+/// Each reader from this place up to that one is greeted by the id of its place.
+pub(crate) fn are_greeted(play: &mut Play, from: usize, to: usize) -> Result<(), Fail> {
     for place in from..to {
-        let id = place.saturating_add(1);
-        let greeting = format!(in alloc; "220 localhost dictcat ready <{id}@localhost>\r\n")?;
-        play.client(place)?.got(greeting.as_bytes())?;
+        is_greeted(play, place)?;
     }
     Ok(())
 }
 
-// So many readers come. How many are open after one round, and after two.
-fn come_at_once(
-    net: &impl Net<Stream = TcpStream>,
-    play: &mut Play,
-    alloc: Global,
-    count: usize,
-) -> Result<(usize, usize), Fail> {
-    play.settle()?;
-    for _ in 0..count {
-        play.come(net, play.dict)?;
-    }
-    let first = round(play)?;
-    are_greeted(play, alloc, 0, first)?;
-    let second = round(play)?;
-    are_greeted(play, alloc, first, count)?;
-    Ok((first, second))
-}
+// Of 20 readers 16 are taken in one round and 4 in the next, in the order in which they came.
+const TWENTY: &[Part] = &[
+    Part::Bare(1, &[Step::Settle]),
+    Part::Bare(20, &[Step::Reader]),
+    Part::Bare(
+        1,
+        &[
+            Step::Round,
+            Step::Held(16, 0),
+            Step::Greeted(0, 16),
+            Step::Round,
+            Step::Held(20, 0),
+            Step::Greeted(16, 20),
+        ],
+    ),
+];
 
-/// Of 20 readers 16 are taken in one round and 4 in the next, in the order in which they came.
-pub(crate) fn be_twenty(
-    rt: &impl Abort,
-    net: &impl Net<Stream = TcpStream>,
-    play: &mut Play,
-) -> Result<(), Fail> {
-    let (first, second) = come_at_once(net, play, play.alloc, 20)?;
-    same(rt, &first, &16);
-    same(rt, &second, &20);
-    Ok(())
-}
+// Three editors and then three readers come: all are taken in one round, the readers before the editors.
+const OF_BOTH: &[Part] = &[
+    Part::Bare(1, &[Step::Settle]),
+    Part::Bare(3, &[Step::Editor]),
+    Part::Bare(3, &[Step::Reader]),
+    Part::Bare(
+        1,
+        &[
+            Step::Round,
+            Step::Got(3, b"220 localhost dictcat ready <1@localhost>\r\n"),
+            Step::Got(5, b"220 localhost dictcat ready <3@localhost>\r\n"),
+            Step::Held(6, 0),
+        ],
+    ),
+];
+
+static NEWCOMERS: [(u32, &[Part]); 2] = [(0, TWENTY), (0, OF_BOTH)];
 
 #[test]
-fn twenty_readers(rt: HostRuntime) -> Result<(), Fail> {
-    start(&rt, &rt, Scene::Twenty)
+fn newcomers_in_order(rt: HostRuntime) -> Result<(), Fail> {
+    start(&rt, &NEWCOMERS)
 }
 
-// Three editors and then three readers come: how many are open after one round.
-fn come_of_both(net: &impl Net<Stream = TcpStream>, play: &mut Play) -> Result<usize, Fail> {
-    play.settle()?;
-    for _ in 0..3u32 {
-        play.come(net, play.http)?;
-    }
-    for _ in 0..3u32 {
-        play.come(net, play.dict)?;
-    }
-    let open = round(play)?;
-    play.client(3)?
-        .got(b"220 localhost dictcat ready <1@localhost>\r\n")?;
-    play.client(5)?
-        .got(b"220 localhost dictcat ready <3@localhost>\r\n")?;
-    Ok(open)
-}
+const TWO_READERS: &[Step] = &[
+    Step::Reader,
+    Step::Got(0, b"220 localhost dictcat ready <1@localhost>\r\n"),
+    Step::Reader,
+    Step::Got(1, b"220 localhost dictcat ready <2@localhost>\r\n"),
+];
 
-/// All are taken in one round, the readers before the editors.
-pub(crate) fn be_of_both(
-    rt: &impl Abort,
-    net: &impl Net<Stream = TcpStream>,
-    play: &mut Play,
-) -> Result<(), Fail> {
-    let open = come_of_both(net, play)?;
-    same(rt, &open, &6);
-    Ok(())
-}
+// Of 290 requests in one piece two are answered after three rounds, and so is that of the second reader. In the end all are.
+const BESIDE_MANY: &[Step] = &[
+    Step::AskOften(0, 290),
+    Step::Send(1, b"STATUS\r\n"),
+    Step::Serve(3),
+    Step::GotCount(0, 34),
+    Step::GotCount(1, 17),
+    Step::Settle,
+    Step::GotCount(0, 4_930),
+];
+
+static FAIR: [(u32, &[Part]); 1] = [(
+    0,
+    &[Part::Settled(1, TWO_READERS), Part::Bare(1, BESIDE_MANY)],
+)];
 
 #[test]
-fn readers_before_editors(rt: HostRuntime) -> Result<(), Fail> {
-    start(&rt, &rt, Scene::OfBoth)
+fn many_commands_at_once(rt: HostRuntime) -> Result<(), Fail> {
+    start(&rt, &FAIR)
 }

@@ -1,21 +1,24 @@
 // A driver over a catalogue in memory, and clients of it, in one thread, by steps that are written down as data.
+use crate::addresses::are_in_use;
+use crate::checks::holds;
 use crate::client::Client;
-use crate::{addresses, ends, fair, newcomers, preparing, rounds, talks};
-use dict_desk::PlainDesk;
-use dict_driver::{Driver, Served, System, serve};
-use dict_hub_fixtures::PartsDesk;
+use crate::ends::{Drowning, drown};
+use crate::newcomers::are_greeted;
+use crate::preparing::{Progress, is_at, round_until};
+use dict_driver::{BindFault, Driver, Served, System, pace, serve};
+use dict_hub_fixtures::{PartsDesk, install_short};
 use std::alloc::Global;
-use std::io::Result as IoResult;
-use std::net::{Net, SocketAddr, TcpStream};
-use std::process::Abort;
+use std::net::SocketAddr;
 use std::test::Fail;
 use std::time::Duration;
 
 /// A free port of loopback.
 pub(crate) const FREE: &str = "127.0.0.1:0";
 
-/// One step of a run. Clients are counted from 0, in the order in which they came. After a step rounds are made until
-/// nothing happens.
+/// 4,096 octets.
+pub(crate) const FILLER: &[u8] = &[b'x'; 4_096];
+
+/// One step of a run, or what is so then. Clients are counted from 0, in the order in which they came.
 #[derive(Clone, Copy)]
 pub(crate) enum Step {
     /// A client comes to the socket for readers.
@@ -25,69 +28,77 @@ pub(crate) enum Step {
     /// The last client goes.
     Leave,
     /// A client sends this.
-    Send(usize, &'static str),
+    Send(usize, &'static [u8]),
     /// The last client sends this.
-    LastSends(&'static str),
-    /// A client sends 4,096 octets.
-    Fill(usize),
+    LastSends(&'static [u8]),
     /// A client sends 32 lines of an index, 4,096 octets.
     FillIndex(usize),
+    /// A client asks for the status so often at once.
+    AskOften(usize, u32),
     /// A client sends nothing more.
     End(usize),
     /// This alone has come to a client since the last such step.
-    Got(usize, &'static str),
+    Got(usize, &'static [u8]),
+    /// So many octets have come to a client since then.
+    GotCount(usize, usize),
+    /// Octets have come to a client since then.
+    GotSome(usize),
     /// The end of what is sent to a client has come.
     HasEnded(usize),
+    /// To the clients from this one up to that one each its greeting has come, by the id of its place.
+    Greeted(usize, usize),
     /// So many connections are open, and so many are held that are no longer open.
     Held(usize, usize),
+    /// One round, in which something happens.
+    Round,
+    /// Rounds until nothing happens.
+    Settle,
+    /// A wait for the sockets, so many milliseconds at most.
+    Wait(u64),
+    /// So many rounds. They are counted.
+    Serve(u64),
+    /// The same, and its waits, as for a number that was asked for.
+    Paced(u32),
+    /// The desk gets a catalogue of one entry.
+    ShortText,
+    /// A client asks and doesn't read, or reads in the end.
+    Drown(Drowning),
+    /// Rounds until the desk has come so far.
+    Until(Progress),
+    /// So far it has come.
+    IsAt(Progress),
+    /// The addresses of the driver are in use.
+    InUse,
 }
 
-/// Steps, so many times.
+/// Steps, so many times: behind each of them rounds until nothing happens, or none.
 #[derive(Clone, Copy)]
-pub(crate) struct Part(pub(crate) u32, pub(crate) &'static [Step]);
-
-/// What is done with a new driver and its clients. One function owns them, and hands them to the run.
-#[derive(Clone, Copy)]
-pub(crate) enum Scene {
-    /// These steps.
-    Parts(&'static [Part]),
-    Drowned,
-    Beside,
-    Ports,
-    Twenty,
-    OfBoth,
-    Between,
-    Leaving,
-    Coming,
-    Counted,
-    Idle,
+pub(crate) enum Part {
+    Settled(u32, &'static [Step]),
+    Bare(u32, &'static [Step]),
 }
 
-fn play_scene(
-    test: &impl Abort,
-    rt: &HostRuntime,
-    play: &mut Play,
-    scene: Scene,
-) -> Result<(), Fail> {
-    match scene {
-        Scene::Parts(parts) => play.run_parts(rt, parts),
-        Scene::Drowned => ends::be_drowned(test, rt, play),
-        Scene::Beside => fair::be_beside_many(test, rt, play),
-        Scene::Ports => addresses::are_free(test, rt, play),
-        Scene::Twenty => newcomers::be_twenty(test, rt, play),
-        Scene::OfBoth => newcomers::be_of_both(test, rt, play),
-        Scene::Between | Scene::Leaving | Scene::Coming => {
-            preparing::be_prepared(test, rt, play, scene)
-        }
-        Scene::Counted => rounds::be_counted(test, rt, play),
-        Scene::Idle => talks::be_idle(rt, play),
+/// These parts, of each row with a new driver over a desk that prepares a command by so many parts, and new clients.
+pub(crate) fn start(rt: &HostRuntime, rows: &[(u32, &'static [Part])]) -> Result<(), Fail> {
+    for (each, parts) in rows {
+        start_one(rt, *each, *parts)?;
     }
+    Ok(())
 }
 
-/// Does it.
-pub(crate) fn start(test: &impl Abort, rt: &HostRuntime, scene: Scene) -> Result<(), Fail> {
-    let mut play = Play::new(rt, rt.alloc())?;
-    play_scene(test, rt, &mut play, scene)
+fn start_one(rt: &HostRuntime, each: u32, parts: &[Part]) -> Result<(), Fail> {
+    let mut play = Play::new(rt, rt.alloc(), each)?;
+    play.run_parts(rt, parts)
+}
+
+/// A driver that is bound to these addresses.
+pub(crate) fn bind(
+    net: &HostRuntime,
+    alloc: Global,
+    dict: &str,
+    http: &str,
+) -> Result<Driver<'static>, BindFault> {
+    Driver::bind(&System, net, alloc, dict, http, "localhost")
 }
 
 /// A driver at two free ports of loopback over a catalogue in memory, and clients.
@@ -95,35 +106,27 @@ pub(crate) fn start(test: &impl Abort, rt: &HostRuntime, scene: Scene) -> Result
 pub(crate) struct Play {
     pub(crate) alloc: Global,
     pub(crate) driver: Driver<'static>,
-    pub(crate) desk: PlainDesk,
-    pub(crate) dict: SocketAddr,
-    pub(crate) http: SocketAddr,
+    pub(crate) desk: PartsDesk,
     clients: Vec<Client>,
+    /// How often client 1 asked.
+    pub(crate) asked: usize,
 }
 
 impl Play {
-    /// Over an empty catalogue.
-    pub(crate) fn new(net: &impl Net, alloc: Global) -> Result<Play, Fail> {
-        let driver = Driver::bind(&System, net, alloc, FREE, FREE, "localhost")?;
-        let (dict, http) = driver.addresses();
+    // Over an empty catalogue.
+    fn new(net: &HostRuntime, alloc: Global, each: u32) -> Result<Play, Fail> {
         Ok(Play {
             alloc,
-            driver,
-            desk: PlainDesk::new(alloc),
-            dict,
-            http,
+            driver: bind(net, alloc, FREE, FREE)?,
+            desk: PartsDesk::new(alloc, each),
             clients: Vec::new(alloc),
+            asked: 0,
         })
     }
 
     /// One round. Whether something happened.
     pub(crate) fn round(&mut self) -> Result<bool, Fail> {
         Ok(self.driver.event_loop.round(&mut self.desk)?)
-    }
-
-    /// One round over another desk.
-    pub(crate) fn round_over(&mut self, desk: &mut PartsDesk) -> Result<bool, Fail> {
-        Ok(self.driver.event_loop.round(desk)?)
     }
 
     /// Rounds until nothing happens.
@@ -136,69 +139,103 @@ impl Play {
         Err(Fail::new("no end of rounds"))
     }
 
-    /// So many rounds.
-    pub(crate) fn serve(&mut self, rounds: u64, wait: Duration) -> IoResult<Served> {
-        serve(&mut self.driver.event_loop, &mut self.desk, rounds, wait)
+    // So many rounds, which are counted.
+    fn serve(&mut self, rounds: u64, wait: Duration) -> Result<(), Fail> {
+        let event_loop = &mut self.driver.event_loop;
+        let before = event_loop.rounds();
+        let end = serve(event_loop, &mut self.desk, rounds, wait)?;
+        let made = event_loop.rounds().saturating_sub(before);
+        holds(end == Served::Whole && made == rounds, "other rounds")
     }
 
-    /// These steps, one after the other.
-    pub(crate) fn run(
+    // As many as are asked for.
+    fn serve_paced(&mut self, count: u32) -> Result<(), Fail> {
+        let (rounds, wait) = pace(Some(count));
+        self.serve(rounds, wait)
+    }
+
+    fn wait(&mut self, most: u64) -> Result<(), Fail> {
+        self.driver.event_loop.wait(Duration::from_millis(most))?;
+        Ok(())
+    }
+
+    fn run_parts(&mut self, net: &HostRuntime, parts: &[Part]) -> Result<(), Fail> {
+        for part in parts {
+            match part {
+                Part::Settled(times, steps) => self.run_often(net, *times, true, *steps)?,
+                Part::Bare(times, steps) => self.run_often(net, *times, false, *steps)?,
+            }
+        }
+        Ok(())
+    }
+
+    fn run_often(
         &mut self,
-        net: &impl Net<Stream = TcpStream>,
+        net: &HostRuntime,
+        times: u32,
+        is_settled: bool,
         steps: &[Step],
     ) -> Result<(), Fail> {
+        for _ in 0..times {
+            self.run(net, is_settled, steps)?;
+        }
+        Ok(())
+    }
+
+    // These steps, one after the other.
+    fn run(&mut self, net: &HostRuntime, is_settled: bool, steps: &[Step]) -> Result<(), Fail> {
         for step in steps {
             self.step(net, *step)?;
-            self.settle()?;
-        }
-        Ok(())
-    }
-
-    // These parts, one after the other.
-    fn run_parts(
-        &mut self,
-        net: &impl Net<Stream = TcpStream>,
-        parts: &[Part],
-    ) -> Result<(), Fail> {
-        for Part(times, steps) in parts {
-            for _ in 0..*times {
-                self.run(net, *steps)?;
+            if is_settled {
+                self.settle()?;
             }
         }
         Ok(())
     }
 
-    // One step, without the rounds after it.
-    fn step(&mut self, net: &impl Net<Stream = TcpStream>, step: Step) -> Result<(), Fail> {
+    // One step of the network's or of the driver's.
+    fn step(&mut self, net: &HostRuntime, step: Step) -> Result<(), Fail> {
         match step {
-            Step::Reader => self.come(net, self.dict),
-            Step::Editor => self.come(net, self.http),
+            Step::Reader => self.come(net, self.driver.addresses().0),
+            Step::Editor => self.come(net, self.driver.addresses().1),
+            Step::InUse => are_in_use(net, self.alloc, self.driver.addresses()),
+            Step::Round => holds(self.round()?, "nothing happened"),
+            Step::Settle => self.settle(),
+            Step::Wait(most) => self.wait(most),
+            Step::Serve(count) => self.serve(count, Duration::ZERO),
+            Step::Paced(count) => self.serve_paced(count),
+            Step::Until(progress) => round_until(self, progress),
+            Step::IsAt(progress) => holds(is_at(&self.desk, progress), "the desk is elsewhere"),
+            Step::Drown(drowning) => drown(self, drowning),
+            Step::Greeted(from, to) => are_greeted(self, from, to),
+            Step::Held(open, departing) => self.held(open, departing),
+            _ => self.act(step),
+        }
+    }
+
+    // One step of a client's, or of the desk's.
+    fn act(&mut self, step: Step) -> Result<(), Fail> {
+        match step {
+            Step::Send(who, octets) => self.client(who)?.send(octets),
+            Step::LastSends(octets) => self.last()?.send(octets),
+            Step::FillIndex(who) => self.client(who)?.fill_index(),
+            Step::AskOften(who, count) => self.client(who)?.ask_often(count),
+            Step::End(who) => self.client(who)?.end(),
+            Step::Got(who, octets) => self.client(who)?.got(octets),
+            Step::GotCount(who, count) => holds(self.client(who)?.read()? == count, "others came"),
+            Step::GotSome(who) => holds(self.client(who)?.read()? > 0, "no octet came"),
+            Step::HasEnded(who) => holds(self.client(who)?.has_ended, "no end came"),
             Step::Leave => {
-                self.leave();
+                drop(self.clients.pop());
                 Ok(())
             }
-            Step::Send(who, text) => self.client(who)?.send(text.as_bytes()),
-            Step::LastSends(text) => self.last()?.send(text.as_bytes()),
-            Step::Fill(who) => self.client(who)?.fill(),
-            Step::FillIndex(who) => self.client(who)?.fill_index(),
-            Step::End(who) => self.client(who)?.end(),
-            Step::Got(who, text) => self.client(who)?.got(text.as_bytes()),
-            Step::HasEnded(who) => ended(self.client(who)?.has_ended),
-            Step::Held(open, departing) => self.held(open, departing),
+            Step::ShortText => Ok(install_short(self.alloc, &mut self.desk)?),
+            _ => Err(Fail::new("no such step")),
         }
     }
 
-    /// The last client goes.
-    pub(crate) fn leave(&mut self) {
-        drop(self.clients.pop());
-    }
-
-    /// A client comes to this address.
-    pub(crate) fn come(
-        &mut self,
-        net: &impl Net<Stream = TcpStream>,
-        address: SocketAddr,
-    ) -> Result<(), Fail> {
+    // A client comes to this address.
+    fn come(&mut self, net: &HostRuntime, address: SocketAddr) -> Result<(), Fail> {
         let client = Client::new(net, self.alloc, address)?;
         self.clients.push(client)?;
         Ok(())
@@ -220,21 +257,10 @@ impl Play {
         }
     }
 
+    /// So many connections are open, and so many are held that are no longer open.
     fn held(&self, open: usize, departing: usize) -> Result<(), Fail> {
-        if self.driver.event_loop.open_count() == open
-            && self.driver.event_loop.departing_count() == departing
-        {
-            Ok(())
-        } else {
-            Err(Fail::new("other connections are held"))
-        }
-    }
-}
-
-fn ended(has_ended: bool) -> Result<(), Fail> {
-    if has_ended {
-        Ok(())
-    } else {
-        Err(Fail::new("no end came"))
+        let event_loop = &self.driver.event_loop;
+        let is_so = event_loop.open_count() == open && event_loop.departing_count() == departing;
+        holds(is_so, "other connections are held")
     }
 }

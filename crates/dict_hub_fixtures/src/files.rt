@@ -1,20 +1,32 @@
 // Catalogues in memory with one long text.
-use dict_desk::PlainDesk;
+use crate::parts::PartsDesk;
 use dict_hub::{Event, Hub, HubFault, Kind};
 use dict_io::LimitedSink;
 use std::alloc::{AllocError, Global};
 
 // Does what a request asks.
-fn install(alloc: Global, desk: &mut PlainDesk, request: &[u8]) -> Result<(), HubFault> {
-    let Ok(mut hub) = Hub::new(alloc, "localhost") else {
-        return Err(HubFault::Memory);
-    };
-    let Ok(mut sink) = LimitedSink::new(alloc, 1000) else {
-        return Err(HubFault::Memory);
-    };
-    hub.event(desk, Event::Opened(1, Kind::Http), &mut sink)?;
-    hub.event(desk, Event::Bytes(1, request), &mut sink)?;
+fn ask(
+    hub: &mut Hub,
+    desk: &mut PartsDesk,
+    sink: &mut LimitedSink,
+    request: &[u8],
+) -> Result<(), HubFault> {
+    hub.event(desk, Event::Opened(1, Kind::Http), sink)?;
+    hub.event(desk, Event::Bytes(1, request), sink)?;
     Ok(())
+}
+
+// The same in a new hub.
+fn ask_anew(
+    alloc: Global,
+    desk: &mut PartsDesk,
+    sink: &mut LimitedSink,
+    request: &[u8],
+) -> Result<(), HubFault> {
+    match Hub::new(alloc, "localhost") {
+        Ok(mut hub) => ask(&mut hub, desk, sink, request),
+        Err(_) => Err(HubFault::Memory),
+    }
 }
 
 const LONG_HEAD: &[u8] =
@@ -26,24 +38,25 @@ const SHORT_HEAD: &[u8] =
 // One of the lines of a text, of 64 octets.
 const LONG_LINE: &[u8] = b"..........................................a line of a long text\n";
 
-/// A desk over which `gem` was installed, whose one entry has a text of 2,621,440 octets.
-pub fn long_desk(alloc: Global) -> Result<PlainDesk, HubFault> {
-    desk_of(alloc, LONG_HEAD, 40_960)
+/// Installs `gem`, whose one entry has a text of 2,621,440 octets.
+pub fn install_long(alloc: Global, desk: &mut PartsDesk) -> Result<(), HubFault> {
+    install(alloc, desk, LONG_HEAD, 40_960)
 }
 
 /// The same of a text of 32,768 octets. The answer to `DEFINE gem opal` has 33,855.
-pub fn short_desk(alloc: Global) -> Result<PlainDesk, HubFault> {
-    desk_of(alloc, SHORT_HEAD, 512)
+pub fn install_short(alloc: Global, desk: &mut PartsDesk) -> Result<(), HubFault> {
+    install(alloc, desk, SHORT_HEAD, 512)
 }
 
-// A desk over which a request was made that begins so, and goes on with so many lines.
-fn desk_of(alloc: Global, head: &[u8], lines: u32) -> Result<PlainDesk, HubFault> {
+// Does what a request asks that begins so, and goes on with so many lines.
+fn install(alloc: Global, desk: &mut PartsDesk, head: &[u8], lines: u32) -> Result<(), HubFault> {
     let Ok(request) = request_of(alloc, head, lines) else {
         return Err(HubFault::Memory);
     };
-    let mut desk = PlainDesk::new(alloc);
-    install(alloc, &mut desk, request.as_slice())?;
-    Ok(desk)
+    match LimitedSink::new(alloc, 1000) {
+        Ok(mut sink) => ask_anew(alloc, desk, &mut sink, request.as_slice()),
+        Err(_) => Err(HubFault::Memory),
+    }
 }
 
 // A request that begins so, and goes on with so many lines.

@@ -5,5 +5,5 @@
 mod files;
 mod parts;
 
-pub use files::{long_desk, short_desk};
+pub use files::{install_long, install_short};
 pub use parts::{HEAD, PartsDesk};

@@ -152,12 +152,12 @@ impl Preparer for PartsDesk {
         }
         self.expected = self.expected.saturating_add(1);
         self.left = self.each;
-        Ok(())
+        self.desk.expect(command)
     }
 
     fn prepare(&mut self) -> Result<bool, Fault> {
         if self.left == 0 {
-            return Ok(false);
+            return self.desk.prepare();
         }
         self.left -= 1;
         Ok(true)
@@ -167,6 +167,6 @@ impl Preparer for PartsDesk {
         self.noted = String::new(self.alloc);
         self.forgotten = self.forgotten.saturating_add(1);
         self.left = 0;
-        Ok(())
+        self.desk.forget()
     }
 }
