@@ -129,6 +129,11 @@ impl Play {
         Ok(self.driver.event_loop.round(&mut self.desk)?)
     }
 
+    // One in which something happens.
+    fn round_busy(&mut self) -> Result<(), Fail> {
+        holds(self.round()?, "nothing happened")
+    }
+
     /// Rounds until nothing happens.
     pub(crate) fn settle(&mut self) -> Result<(), Fail> {
         for _ in 0..100_000u32 {
@@ -195,11 +200,12 @@ impl Play {
 
     // One step of the network's or of the driver's.
     fn step(&mut self, net: &HostRuntime, step: Step) -> Result<(), Fail> {
+        let (dict, http) = self.driver.addresses();
         match step {
-            Step::Reader => self.come(net, self.driver.addresses().0),
-            Step::Editor => self.come(net, self.driver.addresses().1),
-            Step::InUse => are_in_use(net, self.alloc, self.driver.addresses()),
-            Step::Round => holds(self.round()?, "nothing happened"),
+            Step::Reader => self.come(net, dict),
+            Step::Editor => self.come(net, http),
+            Step::InUse => are_in_use(net, self.alloc, (dict, http)),
+            Step::Round => self.round_busy(),
             Step::Settle => self.settle(),
             Step::Wait(most) => self.wait(most),
             Step::Serve(count) => self.serve(count, Duration::ZERO),
