@@ -6,16 +6,23 @@ use std::alloc::Global;
 use std::net::SocketAddr;
 use std::test::Fail;
 
+fn told_of(fault: &Option<BindFault>) -> &'static str {
+    match fault {
+        None => "bound",
+        Some(BindFault::Dict(AddressFault::Unread)) => "dict unread",
+        Some(BindFault::Dict(AddressFault::Unbound(_))) => "dict unbound",
+        Some(BindFault::Http(AddressFault::Unread)) => "http unread",
+        Some(BindFault::Http(AddressFault::Unbound(_))) => "http unbound",
+        Some(BindFault::Wait(_) | BindFault::Memory) => "another fault",
+    }
+}
+
 // Why no driver is bound to two addresses.
 fn told(net: &HostRuntime, alloc: Global, dict: &str, http: &str) -> &'static str {
-    match bind(net, alloc, dict, http) {
-        Ok(_) => "bound",
-        Err(BindFault::Dict(AddressFault::Unread)) => "dict unread",
-        Err(BindFault::Dict(AddressFault::Unbound(_))) => "dict unbound",
-        Err(BindFault::Http(AddressFault::Unread)) => "http unread",
-        Err(BindFault::Http(AddressFault::Unbound(_))) => "http unbound",
-        Err(BindFault::Wait(_) | BindFault::Memory) => "another fault",
-    }
+    let fault = bind(net, alloc, dict, http).err();
+    let told = told_of(&fault);
+    drop(fault);
+    told
 }
 
 static UNREAD: [&str; 7] = [

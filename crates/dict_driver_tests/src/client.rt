@@ -19,17 +19,31 @@ pub(crate) struct Client {
     pub(crate) has_ended: bool,
 }
 
+// A connection that waits for nothing.
+fn connect(net: &HostRuntime, address: SocketAddr) -> IoResult<TcpStream> {
+    let stream = TcpStream::connect(net, address)?;
+    match set_up(&stream) {
+        Ok(()) => Ok(stream),
+        Err(error) => {
+            drop(stream);
+            Err(error)
+        }
+    }
+}
+
+fn set_up(stream: &TcpStream) -> IoResult<()> {
+    stream.set_nonblocking(true)?;
+    stream.set_nodelay(true)
+}
+
 impl Client {
     pub(crate) fn new(
         net: &HostRuntime,
         alloc: Global,
         address: SocketAddr,
     ) -> Result<Client, Fail> {
-        let stream = TcpStream::connect(net, address)?;
-        stream.set_nonblocking(true)?;
-        stream.set_nodelay(true)?;
         Ok(Client {
-            stream,
+            stream: connect(net, address)?,
             alloc,
             got: Vec::new(alloc),
             has_ended: false,

@@ -27,11 +27,22 @@ fn rounds(
     Ok(busy)
 }
 
-// What comes of so many rounds over a crowd.
+// What comes of so many rounds.
+fn make_rounds(
+    event_loop: &mut EventLoop<'_, Peer, Crowd>,
+    desk: &mut PartsDesk,
+    count: u32,
+) -> IoResult<After> {
+    let busy = rounds(event_loop, desk, count)?;
+    Ok(After(busy, event_loop.open_count(), event_loop.departing_count()))
+}
+
+// The same over a crowd.
 fn come_of(alloc: Global, desk: &mut PartsDesk, crowd: Crowd, count: u32) -> Result<After, Fail> {
     let mut event_loop = EventLoop::new(alloc, crowd, "localhost")?;
-    let busy = rounds(&mut event_loop, desk, count)?;
-    Ok(After(busy, event_loop.open_count(), event_loop.departing_count()))
+    let after = make_rounds(&mut event_loop, desk, count);
+    drop(event_loop);
+    Ok(after?)
 }
 
 // Asks for the status by each reading, and takes what it is sent.
@@ -48,7 +59,9 @@ static OPEN: [(u32, usize); 4] = [(1, 1), (5, 1), (6, 17), (7, 33)];
 fn want_descriptors(alloc: Global, count: u32, open: usize) -> Result<(), Fail> {
     let mut desk = PartsDesk::new(alloc, 0);
     let crowd = Crowd::new(alloc, BUSY, 1, 5, u32::MAX);
-    let after = come_of(alloc, &mut desk, crowd, count)?;
+    let after = come_of(alloc, &mut desk, crowd, count);
+    drop(desk);
+    let after = after?;
     holds(after.0 == count && after.1 == open, "others are open")
 }
 
@@ -79,5 +92,7 @@ fn wait_for_many(alloc: Global, desk: &mut PartsDesk) -> Result<(), Fail> {
 #[test]
 fn much_waits_for_few(rt: HostRuntime) -> Result<(), Fail> {
     let mut desk = PartsDesk::new(rt.alloc(), 0);
-    wait_for_many(rt.alloc(), &mut desk)
+    let end = wait_for_many(rt.alloc(), &mut desk);
+    drop(desk);
+    end
 }

@@ -30,7 +30,10 @@ fn octets_in_order(rt: HostRuntime) -> Result<(), Fail> {
     };
     let mut queue = Queue::new(rt.alloc());
     let mut peer = Peer::new(rt.alloc(), script);
-    send_by_fives(&mut queue, &mut peer)
+    let end = send_by_fives(&mut queue, &mut peer);
+    drop(peer);
+    drop(queue);
+    end
 }
 
 // It takes up to its limit and nothing more.
@@ -47,5 +50,7 @@ fn fill(queue: &mut Queue) -> Result<(), Fail> {
 #[test]
 fn a_full_queue(rt: HostRuntime) -> Result<(), Fail> {
     let mut queue = Queue::new(rt.alloc());
-    fill(&mut queue)
+    let end = fill(&mut queue);
+    drop(queue);
+    end
 }

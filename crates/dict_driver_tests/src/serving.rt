@@ -88,7 +88,9 @@ pub(crate) fn start(rt: &HostRuntime, rows: &[(u32, &'static [Part])]) -> Result
 
 fn start_one(rt: &HostRuntime, each: u32, parts: &[Part]) -> Result<(), Fail> {
     let mut play = Play::new(rt, rt.alloc(), each)?;
-    play.run_parts(rt, parts)
+    let end = play.run_parts(rt, parts);
+    drop(play);
+    end
 }
 
 /// A driver that is bound to these addresses.

@@ -180,7 +180,11 @@ fn open(
 ) -> Result<(), Fail> {
     let peer = Peer::new(alloc, talk.script);
     match Connection::open(rooms, alloc, 7, talk.kind, peer, hub, desk) {
-        Some(mut one) => holds(make_all(rooms, hub, desk, &mut one, talk.steps), talk.name),
+        Some(mut one) => {
+            let is_made = make_all(rooms, hub, desk, &mut one, talk.steps);
+            drop(one);
+            holds(is_made, talk.name)
+        }
         None => Err(Fail::new("refused")),
     }
 }
@@ -189,16 +193,25 @@ fn open_over(alloc: Global, desk: &mut PartsDesk, talk: Talk) -> Result<(), Fail
     if talk.has_text {
         install_long(alloc, desk)?;
     }
-    let rooms = Crowd::empty(alloc);
     let mut hub = Hub::new(alloc, "localhost")?;
-    open(alloc, &rooms, &mut hub, desk, talk)
+    let rooms = Crowd::empty(alloc);
+    let end = open(alloc, &rooms, &mut hub, desk, talk);
+    drop(rooms);
+    drop(hub);
+    end
+}
+
+fn open_anew(alloc: Global, talk: Talk) -> Result<(), Fail> {
+    let mut desk = PartsDesk::new(alloc, talk.parts);
+    let end = open_over(alloc, &mut desk, talk);
+    drop(desk);
+    end
 }
 
 /// Each connection by itself makes its steps.
 pub(crate) fn make_turns(alloc: Global, talks: &[Talk]) -> Result<(), Fail> {
     for talk in talks {
-        let mut desk = PartsDesk::new(alloc, talk.parts);
-        open_over(alloc, &mut desk, *talk)?;
+        open_anew(alloc, *talk)?;
     }
     Ok(())
 }
