@@ -3,7 +3,7 @@
 use super::files::{DELETE, DELETED_TOLD, Row, play, send, told};
 use super::runs::{Run, over_failing, over_memory};
 use crate::checks::same;
-use dict_failing_desk::FailingDesk;
+use dict_desk::Keeper;
 use dict_hub::{Event, Hub, Kind};
 use dict_io::LimitedSink;
 use std::alloc::Global;
@@ -47,11 +47,11 @@ static A_READER_AND_TWO_EDITORS: [Row; 3] = [
 ];
 
 /// A reader's line and an editor's request, which comes twice, are answered as a row has it.
-pub(crate) fn meet_no_memory(
+pub(crate) fn meet_no_memory<K: Keeper>(
     rt: &impl Abort,
     alloc: Global,
     hub: &mut Hub,
-    desk: &mut FailingDesk,
+    desk: &mut K,
     wanted: (&'static str, &'static str, &'static str),
 ) -> Result<(), Fail> {
     play(rt, alloc, hub, desk, &A_READER_AND_TWO_EDITORS)?;
@@ -95,11 +95,11 @@ static TWO_READERS_AND_AN_EDITOR: [Row; 3] = [
 ];
 
 /// All is unavailable after a reader's line.
-pub(crate) fn meet_no_store(
+pub(crate) fn meet_no_store<K: Keeper>(
     rt: &impl Abort,
     alloc: Global,
     hub: &mut Hub,
-    desk: &mut FailingDesk,
+    desk: &mut K,
 ) -> Result<(), Fail> {
     play(rt, alloc, hub, desk, &TWO_READERS_AND_AN_EDITOR)?;
     told(alloc, hub, desk, Event::Bytes(1, b"DEFINE gem opal\r\n"))?;
@@ -116,10 +116,10 @@ fn a_call_finds_no_store(rt: HostRuntime) -> Result<(), Fail> {
 }
 
 // What is told of a reader whose sink has this room, of its next line, and what the sink took.
-fn told_within(
+fn told_within<K: Keeper>(
     alloc: Global,
     hub: &mut Hub,
-    desk: &mut FailingDesk,
+    desk: &mut K,
     id: u64,
     room: usize,
 ) -> Result<String, Fail> {
@@ -142,11 +142,11 @@ static ONE_OPENED: [Row; 1] = [(
 
 static ONE_ANSWERED: [Row; 1] = [(Event::Bytes(0, b"DEFINE gem opal\r\n"), FOUND_TOLD)];
 
-fn check_room(
+fn check_room<K: Keeper>(
     rt: &impl Abort,
     alloc: Global,
     hub: &mut Hub,
-    desk: &mut FailingDesk,
+    desk: &mut K,
     room: usize,
 ) -> Result<(), Fail> {
     let id = (room as u64).saturating_add(1);
@@ -158,11 +158,11 @@ fn check_room(
 }
 
 /// A sink that fails within an answer closes its connection alone.
-pub(crate) fn meet_no_room(
+pub(crate) fn meet_no_room<K: Keeper>(
     rt: &impl Abort,
     alloc: Global,
     hub: &mut Hub,
-    desk: &mut FailingDesk,
+    desk: &mut K,
 ) -> Result<(), Fail> {
     play(rt, alloc, hub, desk, &ONE_OPENED)?;
     for room in 0..FOUND.len() {

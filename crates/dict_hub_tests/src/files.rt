@@ -1,7 +1,6 @@
 // A catalogue in memory, and what a hub puts over it.
 use crate::checks::{same, same_text};
-use dict_desk::PlainDesk;
-use dict_failing_desk::FailingDesk;
+use dict_desk::{Keeper, PlainDesk};
 use dict_hub::{Event, Hub, HubFault, Kind, Out};
 use dict_io::LimitedSink;
 use std::alloc::Global;
@@ -20,9 +19,9 @@ pub(crate) const DELETED_TOLD: &str =
     "Ok(Close) HTTP/1.1 200 OK\r\nContent-Type: application/json\r\nContent-Length: 56\r\nConnection: close\r\n\r\n{\"edition\":null,\"name\":\"gem\",\"number\":2,\"verb\":\"retire\"}";
 
 /// What becomes of a connection after an event.
-pub(crate) fn send(
+pub(crate) fn send<K: Keeper>(
     hub: &mut Hub,
-    desk: &mut FailingDesk,
+    desk: &mut K,
     event: Event,
     sink: &mut LimitedSink,
 ) -> Result<Out, HubFault> {
@@ -38,17 +37,17 @@ pub(crate) fn same_out(
     same(rt, found, wanted);
 }
 
-fn put(hub: &mut Hub, desk: &mut PlainDesk, sink: &mut LimitedSink) -> Result<(), HubFault> {
-    hub.event(desk, Event::Opened(1, Kind::Http), sink)?;
-    hub.event(desk, Event::Bytes(1, PUT), sink)?;
+fn put<K: Keeper>(hub: &mut Hub, desk: &mut K, sink: &mut LimitedSink) -> Result<(), Fail> {
+    send(hub, desk, Event::Opened(1, Kind::Http), sink)?;
+    send(hub, desk, Event::Bytes(1, PUT), sink)?;
     Ok(())
 }
 
-// Installs `gem`.
-fn install(alloc: Global, desk: &mut PlainDesk) -> Result<(), Fail> {
+/// Installs `gem`.
+pub(crate) fn install<K: Keeper>(alloc: Global, desk: &mut K) -> Result<(), Fail> {
     let mut sink = LimitedSink::new(alloc, 1000)?;
     let mut hub = Hub::new(alloc, HOST)?;
-    Ok(put(&mut hub, desk, &mut sink)?)
+    put(&mut hub, desk, &mut sink)
 }
 
 /// A desk over which `gem` was installed.
@@ -58,37 +57,28 @@ pub(crate) fn gem_desk(alloc: Global) -> Result<PlainDesk, Fail> {
     Ok(desk)
 }
 
-/// What becomes of a connection, and what was put for it, as a text.
-pub(crate) fn told_of(
-    alloc: Global,
-    out: &Result<Out, HubFault>,
-    sink: &LimitedSink,
-) -> Result<String, Fail> {
-    let text = str::from_utf8(sink.taken()).unwrap_or("not UTF-8");
-    Ok(format!(in alloc; "{out:?} {text}")?)
-}
-
-/// The same of an event.
-pub(crate) fn told(
+/// What becomes of a connection after an event, and what is put for it.
+pub(crate) fn told<K: Keeper>(
     alloc: Global,
     hub: &mut Hub,
-    desk: &mut FailingDesk,
+    desk: &mut K,
     event: Event,
 ) -> Result<String, Fail> {
     let mut sink = LimitedSink::new(alloc, 10_000)?;
     let out = send(hub, desk, event, &mut sink);
-    told_of(alloc, &out, &sink)
+    let text = str::from_utf8(sink.taken()).unwrap_or("not UTF-8");
+    Ok(format!(in alloc; "{out:?} {text}")?)
 }
 
 /// An event, and what is told of it.
 pub(crate) type Row = (Event<'static>, &'static str);
 
 /// These events, one after the other.
-pub(crate) fn play(
+pub(crate) fn play<K: Keeper>(
     rt: &impl Abort,
     alloc: Global,
     hub: &mut Hub,
-    desk: &mut FailingDesk,
+    desk: &mut K,
     rows: &[Row],
 ) -> Result<(), Fail> {
     for (event, wanted) in rows {

@@ -1,9 +1,8 @@
 // Requests of which a desk is told before they are answered.
-use super::files::{HOST, PUT, told_of};
+use super::files::{HOST, PUT, told};
 use crate::checks::{same, same_text};
 use dict_hub::{Event, Hub, Kind};
 use dict_hub_fixtures::PartsDesk;
-use dict_io::LimitedSink;
 use std::alloc::{AllocError, Global};
 use std::process::Abort;
 use std::test::Fail;
@@ -98,9 +97,7 @@ impl Run {
 
     // Notes what an event is answered.
     fn take(&mut self, alloc: Global, event: Event) -> Result<(), Fail> {
-        let mut sink = LimitedSink::new(alloc, 10_000)?;
-        let out = self.hub.event(&mut self.desk, event, &mut sink);
-        let answer = told_of(alloc, &out, &sink)?;
+        let answer = told(alloc, &mut self.hub, &mut self.desk, event)?;
         self.answers.push_str(answer.as_str())?;
         Ok(())
     }

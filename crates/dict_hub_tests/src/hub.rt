@@ -2,7 +2,7 @@
 use super::files::{PUT, Row, play, same_out, send};
 use super::runs::{Run, over_memory};
 use crate::checks::{same, same_text};
-use dict_failing_desk::FailingDesk;
+use dict_desk::Keeper;
 use dict_hub::{Event, Hub, HubFault, Kind, Out};
 use dict_io::LimitedSink;
 use std::alloc::Global;
@@ -10,18 +10,18 @@ use std::process::Abort;
 use std::test::Fail;
 
 // Opens an editor's connection.
-fn open(
+fn open<K: Keeper>(
     hub: &mut Hub,
-    desk: &mut FailingDesk,
+    desk: &mut K,
     sink: &mut LimitedSink,
     id: u64,
 ) -> Result<Out, HubFault> {
     send(hub, desk, Event::Opened(id, Kind::Http), sink)
 }
 
-fn end(
+fn end<K: Keeper>(
     hub: &mut Hub,
-    desk: &mut FailingDesk,
+    desk: &mut K,
     sink: &mut LimitedSink,
     id: u64,
 ) -> Result<Out, HubFault> {
@@ -29,10 +29,10 @@ fn end(
 }
 
 // Opens a connection twice and ends it.
-fn open_twice(
+fn open_twice<K: Keeper>(
     rt: &impl Abort,
     hub: &mut Hub,
-    desk: &mut FailingDesk,
+    desk: &mut K,
     sink: &mut LimitedSink,
     id: u64,
 ) {
@@ -57,9 +57,9 @@ static AT_ONCE: [(bool, u64, u64, Result<Out, HubFault>); 7] = [
     (true, 4_160, 4_161, Ok(Out::More)),
 ];
 
-fn open_or_end(
+fn open_or_end<K: Keeper>(
     hub: &mut Hub,
-    desk: &mut FailingDesk,
+    desk: &mut K,
     sink: &mut LimitedSink,
     is_opened: bool,
     id: u64,
@@ -71,7 +71,7 @@ fn open_or_end(
     }
 }
 
-fn at_once(rt: &impl Abort, hub: &mut Hub, desk: &mut FailingDesk, sink: &mut LimitedSink) {
+fn at_once<K: Keeper>(rt: &impl Abort, hub: &mut Hub, desk: &mut K, sink: &mut LimitedSink) {
     for (is_opened, first, behind, wanted) in &AT_ONCE {
         for id in *first..*behind {
             same_out(rt, &open_or_end(hub, desk, sink, *is_opened, id), wanted);
@@ -80,11 +80,11 @@ fn at_once(rt: &impl Abort, hub: &mut Hub, desk: &mut FailingDesk, sink: &mut Li
 }
 
 /// Each of 4,096 connections is opened and ended, then 64 are open at once.
-pub(crate) fn open_and_close(
+pub(crate) fn open_and_close<K: Keeper>(
     rt: &impl Abort,
     alloc: Global,
     hub: &mut Hub,
-    desk: &mut FailingDesk,
+    desk: &mut K,
 ) -> Result<(), Fail> {
     let mut sink = LimitedSink::new(alloc, 1000)?;
     for id in 0..4_096u64 {
@@ -110,9 +110,9 @@ const INSTALLED: &str =
     "HTTP/1.1 200 OK\r\nContent-Type: application/json\r\nContent-Length: 54\r\nConnection: close\r\n\r\n{\"edition\":1,\"name\":\"gem\",\"number\":1,\"verb\":\"install\"}";
 
 // The pieces, until one is answered: how many there were.
-fn take_pieces(
+fn take_pieces<K: Keeper>(
     hub: &mut Hub,
-    desk: &mut FailingDesk,
+    desk: &mut K,
     sink: &mut LimitedSink,
     pieces: &[&[u8]],
 ) -> Result<usize, Fail> {
@@ -127,10 +127,10 @@ fn take_pieces(
 }
 
 // Their count, and what was put into a sink with this room.
-fn told_pieces(
+fn told_pieces<K: Keeper>(
     alloc: Global,
     hub: &mut Hub,
-    desk: &mut FailingDesk,
+    desk: &mut K,
     pieces: &[&[u8]],
     room: usize,
 ) -> Result<String, Fail> {
@@ -141,7 +141,7 @@ fn told_pieces(
 }
 
 // What is told of an install whose octets come one by one.
-fn told_octets(alloc: Global, hub: &mut Hub, desk: &mut FailingDesk) -> Result<String, Fail> {
+fn told_octets<K: Keeper>(alloc: Global, hub: &mut Hub, desk: &mut K) -> Result<String, Fail> {
     let mut pieces = Vec::new(alloc);
     for octet in PUT.chunks(1) {
         pieces.push(octet)?;
@@ -150,11 +150,11 @@ fn told_octets(alloc: Global, hub: &mut Hub, desk: &mut FailingDesk) -> Result<S
 }
 
 /// It is installed once the last of them came.
-pub(crate) fn single_octets(
+pub(crate) fn single_octets<K: Keeper>(
     rt: &impl Abort,
     alloc: Global,
     hub: &mut Hub,
-    desk: &mut FailingDesk,
+    desk: &mut K,
 ) -> Result<(), Fail> {
     let told = told_octets(alloc, hub, desk)?;
     let count = PUT.len();
@@ -169,11 +169,11 @@ fn a_request_octet_by_octet(rt: HostRuntime) -> Result<(), Fail> {
 }
 
 /// What stands behind a request is no second one, and an answer that isn't taken closes too.
-pub(crate) fn one_piece(
+pub(crate) fn one_piece<K: Keeper>(
     rt: &impl Abort,
     alloc: Global,
     hub: &mut Hub,
-    desk: &mut FailingDesk,
+    desk: &mut K,
 ) -> Result<(), Fail> {
     let piece =
         b"DELETE /databases/gem HTTP/1.1\r\n\r\nDELETE /databases/gem HTTP/1.1\r\n\r\n".as_slice();
@@ -233,11 +233,11 @@ fn a_line_before_an_install(rt: HostRuntime) -> Result<(), Fail> {
 }
 
 // Opens connections of both kinds in turn, with the ids from 1.
-fn open_many(
+fn open_many<K: Keeper>(
     rt: &impl Abort,
     alloc: Global,
     hub: &mut Hub,
-    desk: &mut FailingDesk,
+    desk: &mut K,
 ) -> Result<(), Fail> {
     let mut sink = LimitedSink::new(alloc, 10_000)?;
     for id in 1..65u64 {
@@ -272,11 +272,11 @@ static WITH_MANY: [Row; 7] = [
 ];
 
 /// They come, one ends and another comes.
-pub(crate) fn come_and_go(
+pub(crate) fn come_and_go<K: Keeper>(
     rt: &impl Abort,
     alloc: Global,
     hub: &mut Hub,
-    desk: &mut FailingDesk,
+    desk: &mut K,
 ) -> Result<(), Fail> {
     open_many(rt, alloc, hub, desk)?;
     play(rt, alloc, hub, desk, &WITH_MANY)

@@ -1,10 +1,10 @@
-//! The runs, each in a new hub over a desk. One function owns a hub and one a desk; what is run stands in functions that borrow both.
+//! The runs, each in a new hub over a desk. One function owns a hub and one a desk; what is run stands in functions over any desk.
 
 use super::failing::{meet_no_memory, meet_no_room, meet_no_store};
-use super::files::{HOST, Row, gem_desk, play};
+use super::files::{HOST, Row, gem_desk, install, play};
 use super::hub::{come_and_go, one_piece, open_and_close, single_octets};
 use super::together::serve_all;
-use dict_desk::PlainDesk;
+use dict_desk::{Keeper, PlainDesk};
 use dict_failing_desk::FailingDesk;
 use dict_hub::Hub;
 use std::alloc::Global;
@@ -25,11 +25,11 @@ pub(crate) enum Run {
     Together,
 }
 
-fn run_one(
+fn run_one<K: Keeper>(
     rt: &impl Abort,
     alloc: Global,
     hub: &mut Hub,
-    desk: &mut FailingDesk,
+    desk: &mut K,
     run: Run,
 ) -> Result<(), Fail> {
     match run {
@@ -47,37 +47,34 @@ fn run_one(
     }
 }
 
-fn run_anew(rt: &impl Abort, alloc: Global, desk: &mut FailingDesk, run: Run) -> Result<(), Fail> {
+fn run_anew<K: Keeper>(rt: &impl Abort, alloc: Global, desk: &mut K, run: Run) -> Result<(), Fail> {
     let mut hub = Hub::new(alloc, HOST)?;
     run_one(rt, alloc, &mut hub, desk, run)
 }
 
-// A run over a desk that fails after so many calls: for memory, or as a store does.
-fn run_over(
+// The same once `gem` was installed, where that is asked for.
+fn run_after<K: Keeper>(
     rt: &impl Abort,
     alloc: Global,
-    desk: PlainDesk,
-    fails: (u64, bool),
+    desk: &mut K,
+    has_gem: bool,
     run: Run,
 ) -> Result<(), Fail> {
-    let (calls, by_disk) = fails;
-    let mut desk = FailingDesk::new(desk, calls, by_disk);
-    run_anew(rt, alloc, &mut desk, run)
+    if has_gem {
+        install(alloc, desk)?;
+    }
+    run_anew(rt, alloc, desk, run)
 }
 
-/// A run over a desk that never fails, and has `gem` or nothing.
+/// A run over a desk in memory, which has `gem` or nothing.
 pub(crate) fn over_memory(
     rt: &impl Abort,
     alloc: Global,
     has_gem: bool,
     run: Run,
 ) -> Result<(), Fail> {
-    let desk = if has_gem {
-        gem_desk(alloc)?
-    } else {
-        PlainDesk::new(alloc)
-    };
-    run_over(rt, alloc, desk, (u64::MAX, false), run)
+    let mut desk = PlainDesk::new(alloc);
+    run_after(rt, alloc, &mut desk, has_gem, run)
 }
 
 /// A run over a desk that has `gem`, and fails after so many calls: for memory, or as a store does.
@@ -88,5 +85,6 @@ pub(crate) fn over_failing(
     by_disk: bool,
     run: Run,
 ) -> Result<(), Fail> {
-    run_over(rt, alloc, gem_desk(alloc)?, (calls, by_disk), run)
+    let mut desk = FailingDesk::new(gem_desk(alloc)?, calls, by_disk);
+    run_anew(rt, alloc, &mut desk, run)
 }

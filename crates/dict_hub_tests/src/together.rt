@@ -2,8 +2,7 @@
 use super::files::{HOST, PUT, gem_desk, same_out, send};
 use super::runs::{Run, over_memory};
 use crate::checks::same;
-use dict_desk::PlainDesk;
-use dict_failing_desk::FailingDesk;
+use dict_desk::{Keeper, PlainDesk};
 use dict_http::{Need, Service, need};
 use dict_hub::{Event, Hub, HubFault, Kind};
 use dict_io::LimitedSink;
@@ -90,10 +89,10 @@ fn is_as_alone(alloc: Global, id: u64, taken: &[u8]) -> Result<bool, Fail> {
 }
 
 // Opens 64 connections, each with a sink of its own.
-fn open_all(
+fn open_all<K: Keeper>(
     alloc: Global,
     hub: &mut Hub,
-    desk: &mut FailingDesk,
+    desk: &mut K,
     sinks: &mut Vec<LimitedSink>,
 ) -> Result<(), Fail> {
     for id in 1..65u64 {
@@ -105,7 +104,7 @@ fn open_all(
 }
 
 // Sends each connection its octet of this place. What comes on one that is closed is refused.
-fn send_each(hub: &mut Hub, desk: &mut FailingDesk, sinks: &mut [LimitedSink], place: usize) {
+fn send_each<K: Keeper>(hub: &mut Hub, desk: &mut K, sinks: &mut [LimitedSink], place: usize) {
     for (id, sink) in (1..65u64).zip(sinks.iter_mut()) {
         if let Some(octet) = sent(id).get(place) {
             let piece = [*octet];
@@ -115,11 +114,11 @@ fn send_each(hub: &mut Hub, desk: &mut FailingDesk, sinks: &mut [LimitedSink], p
 }
 
 // Each is answered as it would be alone, and is closed.
-fn end_each(
+fn end_each<K: Keeper>(
     rt: &impl Abort,
     alloc: Global,
     hub: &mut Hub,
-    desk: &mut FailingDesk,
+    desk: &mut K,
     sinks: &mut [LimitedSink],
 ) -> Result<(), Fail> {
     for (id, sink) in (1..65u64).zip(sinks.iter_mut()) {
@@ -130,11 +129,11 @@ fn end_each(
     Ok(())
 }
 
-fn send_and_end(
+fn send_and_end<K: Keeper>(
     rt: &impl Abort,
     alloc: Global,
     hub: &mut Hub,
-    desk: &mut FailingDesk,
+    desk: &mut K,
     sinks: &mut [LimitedSink],
 ) -> Result<(), Fail> {
     for place in 0..300 {
@@ -144,11 +143,11 @@ fn send_and_end(
 }
 
 /// All are opened, sent their octets in turn, and ended.
-pub(crate) fn serve_all(
+pub(crate) fn serve_all<K: Keeper>(
     rt: &impl Abort,
     alloc: Global,
     hub: &mut Hub,
-    desk: &mut FailingDesk,
+    desk: &mut K,
 ) -> Result<(), Fail> {
     let mut sinks = Vec::new(alloc);
     open_all(alloc, hub, desk, &mut sinks)?;
