@@ -1,4 +1,4 @@
-use crate::checks::same;
+use crate::checks::holds;
 use dict_io::OverWrite;
 use dict_proto::{Reply, write_reply};
 use std::io::{Result as IoResult, Write};
@@ -61,7 +61,7 @@ static CALLS: [(Reply<'static>, usize); 6] = [
 #[test]
 fn a_writer_is_called_once_a_line(rt: HostRuntime) -> Result<(), Fail> {
     for (reply, calls) in &CALLS {
-        same(&rt, &calls_for(reply)?, calls);
+        holds(&rt, calls_for(reply)? == *calls, "calls");
     }
     Ok(())
 }

@@ -1,5 +1,4 @@
 //! Assertions, each a function of its own, so that the proof of a test has one step for it.
-use std::fmt::Debug;
 use std::process::Abort;
 
 /// The text is the one that is wanted.
@@ -10,11 +9,6 @@ pub(crate) fn same_text(test: &impl Abort, found: &str, wanted: &str) {
 /// The same of what is named.
 pub(crate) fn same_text_of(test: &impl Abort, found: &str, wanted: &str, of: &str) {
     assert_eq!(test; found, wanted, "of {of:?}");
-}
-
-/// The value is the one that is wanted.
-pub(crate) fn same<T: PartialEq + Debug>(test: &impl Abort, found: &T, wanted: &T) {
-    assert_eq!(test; *found, *wanted);
 }
 
 /// It is so, of what is named.

@@ -1,7 +1,7 @@
 // Desks, readers and writers that fail.
 
-use crate::checks::{same, same_text};
-use crate::files::{Files, GEM, STONES, desk_of};
+use crate::checks::{holds, same_text};
+use crate::files::{Files, GEM, STONES, fill};
 use crate::sessions::{text_of, told_feed, told_run};
 use dict_desk::PlainDesk;
 use dict_failing_desk::FailingDesk;
@@ -9,6 +9,7 @@ use dict_io::{LimitedSink, OverRead};
 use dict_session::run;
 use std::alloc::Global;
 use std::io::{Error, ErrorKind, Read, Result as IoResult};
+use std::process::Abort;
 use std::test::Fail;
 
 // A line, after how many of its calls the desk fails, and what the session comes to and is answered. Each database asked is
@@ -93,45 +94,52 @@ static ROWS: [Row; 15] = [
     ),
 ];
 
-// A catalogue of these databases that fails after so many calls.
-fn failing_desk(alloc: Global, databases: &[Files], calls_left: u64) -> Result<FailingDesk, Fail> {
-    Ok(FailingDesk::new(desk_of(alloc, databases)?, calls_left, false))
+/// What is done over a catalogue that fails.
+#[derive(Clone, Copy)]
+enum Failing {
+    /// A line and a STATUS are fed.
+    Fed(&'static str),
+    /// This input is run.
+    Run(&'static str),
 }
 
-// What a line and a STATUS come to over such a catalogue.
-fn told_failing(alloc: Global, line: &str, calls_left: u64) -> Result<String, Fail> {
-    let mut desk = failing_desk(alloc, &[STONES, GEM], calls_left)?;
-    told_feed(
+fn tell(alloc: Global, desk: &mut FailingDesk, failing: Failing) -> Result<String, Fail> {
+    match failing {
+        Failing::Fed(line) => {
+            told_feed(alloc, desk, (line.as_bytes(), b"STATUS\r\n", b""), 1000)
+        }
+        Failing::Run(input) => told_run(alloc, desk, input, 1000),
+    }
+}
+
+// What is done comes to, over a catalogue of these databases that fails after so many calls.
+fn told_failing(
+    alloc: Global,
+    databases: &[Files],
+    calls_left: u64,
+    failing: Failing,
+) -> Result<String, Fail> {
+    let mut plain = PlainDesk::new(alloc);
+    fill(alloc, &mut plain, databases, false)?;
+    tell(
         alloc,
-        &mut desk,
-        (line.as_bytes(), b"STATUS\r\n", b""),
-        1000,
+        &mut FailingDesk::new(plain, calls_left, false),
+        failing,
     )
 }
 
+const FAILED_RUN: &str =
+    "Err(Broken) 220 gems.test dictcat ready <7@gems.test>\r\n150 1 definitions retrieved\r\n";
+
 #[test]
 fn a_desk_fails_at_each_of_its_calls(rt: HostRuntime) -> Result<(), Fail> {
-    for (line, calls_left, told) in &ROWS {
-        same_text(
-            &rt,
-            told_failing(rt.alloc(), line, *calls_left)?.as_str(),
-            *told,
-        );
+    for (line, calls_left, wanted) in &ROWS {
+        let told = told_failing(rt.alloc(), &[STONES, GEM], *calls_left, Failing::Fed(line))?;
+        same_text(&rt, told.as_str(), *wanted);
     }
-    Ok(())
-}
-
-// What a run over a desk comes to that fails after one call.
-fn told_failed_run(alloc: Global) -> Result<String, Fail> {
-    let mut desk = failing_desk(alloc, &[GEM], 1)?;
-    told_run(alloc, &mut desk, "DEFINE gem opal\r\nSTATUS\r\n", 1000)
-}
-
-#[test]
-fn a_failed_desk_ends_a_run(rt: HostRuntime) -> Result<(), Fail> {
-    let want =
-        "Err(Broken) 220 gems.test dictcat ready <7@gems.test>\r\n150 1 definitions retrieved\r\n";
-    same_text(&rt, told_failed_run(rt.alloc())?.as_str(), want);
+    let input = Failing::Run("DEFINE gem opal\r\nSTATUS\r\n");
+    let told = told_failing(rt.alloc(), &[GEM], 1, input)?;
+    same_text(&rt, told.as_str(), FAILED_RUN);
     Ok(())
 }
 
@@ -161,29 +169,26 @@ fn told_torn(alloc: Global, desk: &mut PlainDesk) -> Result<String, Fail> {
     Ok(format!(in alloc; "{end:?} {written}")?)
 }
 
-#[test]
-fn a_reader_fails_after_an_answer(rt: HostRuntime) -> Result<(), Fail> {
-    let mut desk = PlainDesk::new(rt.alloc());
-    let told = told_torn(rt.alloc(), &mut desk)?;
+/// A reader fails after an answer.
+pub(crate) fn tear(rt: &impl Abort, alloc: Global, desk: &mut PlainDesk) -> Result<(), Fail> {
     let want = "Err(Read) 220 gems.test dictcat ready <7@gems.test>\r\n210 0 databases\r\n";
-    same_text(&rt, told.as_str(), want);
+    same_text(rt, told_torn(alloc, desk)?.as_str(), want);
     Ok(())
 }
 
 const WHOLE: &str =
     "220 gems.test dictcat ready <7@gems.test>\r\n210 0 databases\r\n221 closing connection\r\n";
 
-// What a whole run comes to over a writer with this room.
-fn told_within(alloc: Global, room: usize) -> Result<String, Fail> {
-    let mut desk = PlainDesk::new(alloc);
-    told_run(alloc, &mut desk, "STATUS\r\nQUIT\r\n", room)
-}
-
-#[test]
-fn a_full_writer_ends_a_run(rt: HostRuntime) -> Result<(), Fail> {
+/// A writer with each room that is too small ends a run, and has its front.
+pub(crate) fn fill_writers(
+    rt: &impl Abort,
+    alloc: Global,
+    desk: &mut PlainDesk,
+) -> Result<(), Fail> {
     for room in 0..WHOLE.len() {
-        let told = told_within(rt.alloc(), room)?;
-        same(&rt, &told.strip_prefix("Err(Write) "), &WHOLE.get(..room));
+        let told = told_run(alloc, desk, "STATUS\r\nQUIT\r\n", room)?;
+        let front = told.strip_prefix("Err(Write) ");
+        holds(rt, front == WHOLE.get(..room), "a full writer");
     }
     Ok(())
 }

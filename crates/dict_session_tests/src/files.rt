@@ -2,7 +2,7 @@
 use dict_catalogue::Command;
 use dict_desk::{Keeper, PlainDesk};
 use dict_examples::{GEM_INDEX, GEM_TEXT, ORE_INDEX, ORE_TEXT};
-use dict_index::{Edition, read_edition};
+use dict_index::read_edition;
 use std::alloc::Global;
 use std::test::Fail;
 
@@ -41,35 +41,33 @@ pub(crate) fn apply(desk: &mut PlainDesk, id: &str, command: &Command) -> Result
     Ok(())
 }
 
-// Installs an edition under the name, which is the request's id too.
-fn install(desk: &mut PlainDesk, name: &str, edition: &Edition) -> Result<(), Fail> {
-    let command = Command::Install { name, edition };
-    apply(desk, name, &command)
-}
-
-// Installs the edition that the files say.
-fn install_files(alloc: Global, desk: &mut PlainDesk, files: Files) -> Result<(), Fail> {
+// Installs the edition that the files say, under their name, which is the request's id too.
+fn install(alloc: Global, desk: &mut PlainDesk, files: Files) -> Result<(), Fail> {
     let edition = read_edition(alloc, files.1, files.2)?;
-    install(desk, files.0, &edition)
-}
-
-/// A catalogue of these databases, in their order.
-pub(crate) fn desk_of(alloc: Global, databases: &[Files]) -> Result<PlainDesk, Fail> {
-    let mut desk = PlainDesk::new(alloc);
-    for files in databases {
-        install_files(alloc, &mut desk, *files)?;
-    }
-    Ok(desk)
-}
-
-/// `ore`, `gem`, and `all`, which lists these two.
-pub(crate) fn ore_gem_all(alloc: Global) -> Result<PlainDesk, Fail> {
-    let mut desk = desk_of(alloc, &[ORE, GEM])?;
-    let command = Command::PutVirtual {
-        name: "all",
-        title: "All",
-        members: &["ore", "gem"],
+    let command = Command::Install {
+        name: files.0,
+        edition: &edition,
     };
-    apply(&mut desk, "put", &command)?;
-    Ok(desk)
+    apply(desk, files.0, &command)
+}
+
+/// Installs these databases in their order, and puts `all`, which lists `ore` and `gem`, where it is asked.
+pub(crate) fn fill(
+    alloc: Global,
+    desk: &mut PlainDesk,
+    databases: &[Files],
+    has_all: bool,
+) -> Result<(), Fail> {
+    for files in databases {
+        install(alloc, desk, *files)?;
+    }
+    if has_all {
+        let command = Command::PutVirtual {
+            name: "all",
+            title: "All",
+            members: &["ore", "gem"],
+        };
+        apply(desk, "put", &command)?;
+    }
+    Ok(())
 }

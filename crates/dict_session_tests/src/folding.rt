@@ -1,7 +1,5 @@
 // What is found without regard to case, past ASCII too.
-use crate::files::{ETE, desk_of};
-use crate::sessions::{Row, answer_rows};
-use std::test::Fail;
+use crate::sessions::Row;
 
 const SEASON: &str =
     "150 1 definitions retrieved\r\n151 \"ÉTÉ\" ete \"Mots\"\r\nsaison\r\n.\r\n250 ok\r\n";
@@ -26,7 +24,7 @@ const NO_MATCH: &str = "552 no match\r\n";
 
 // The accents of the third query are characters of their own; the `ı` of the twelfth is a letter of its own; the last
 // query has no virama.
-static ROWS: [Row; 14] = [
+pub(crate) const ROWS: &[Row] = &[
     ("DEFINE ete été\r\n", false, SEASON),
     ("MATCH ete suffix é\r\n", false, ONE_SEASON),
     ("MATCH ete exact e\u{301}te\u{301}\r\n", false, NO_MATCH),
@@ -42,9 +40,3 @@ static ROWS: [Row; 14] = [
     ("MATCH ete exact ⱥ\r\n", false, AN_A),
     ("MATCH ete exact हिनदी\r\n", false, HINDI),
 ];
-
-#[test]
-fn words_are_found_in_any_case(rt: HostRuntime) -> Result<(), Fail> {
-    let mut desk = desk_of(rt.alloc(), &[ETE])?;
-    answer_rows(&rt, rt.alloc(), &mut desk, &ROWS)
-}

@@ -19,4 +19,6 @@ mod lines;
 #[cfg(test)]
 mod replies;
 #[cfg(test)]
+mod runs;
+#[cfg(test)]
 mod sessions;

@@ -1,6 +1,6 @@
 // Sessions at the limits: lines of the greatest lengths, keys with the last character, catalogues that become empty.
-use crate::checks::same_text;
-use crate::files::{EDGE, apply, desk_of, ore_gem_all};
+use crate::checks::{holds, same_text};
+use crate::files::apply;
 use crate::sessions::{Row, answer_rows, told_run};
 use dict_catalogue::Command;
 use dict_desk::{Fault, Keeper, PlainDesk};
@@ -18,35 +18,29 @@ fn client_line(alloc: Global, letters: usize) -> Result<String, Fail> {
     Ok(line)
 }
 
-// What a run of that comes to.
-fn told_client(alloc: Global, letters: usize) -> Result<String, Fail> {
+/// A run of that comes to this.
+pub(crate) fn send_client(
+    rt: &impl Abort,
+    alloc: Global,
+    desk: &mut PlainDesk,
+    letters: usize,
+    wanted: &str,
+) -> Result<(), Fail> {
     let line = client_line(alloc, letters)?;
-    let mut desk = PlainDesk::new(alloc);
-    told_run(alloc, &mut desk, &line, 1000)
-}
-
-const DONE: &str =
-    "Ok(InputEnd) 220 gems.test dictcat ready <7@gems.test>\r\n250 ok\r\n210 0 databases\r\n";
-
-const UNKNOWN: &str =
-    "Ok(InputEnd) 220 gems.test dictcat ready <7@gems.test>\r\n500 command not recognized\r\n210 0 databases\r\n";
-
-static LENGTHS: [(usize, &str); 4] = [
-    (1015, DONE),
-    (1016, UNKNOWN),
-    (6135, UNKNOWN),
-    (6136, UNKNOWN),
-];
-
-#[test]
-fn lines_of_the_greatest_lengths(rt: HostRuntime) -> Result<(), Fail> {
-    for (letters, told) in &LENGTHS {
-        same_text(&rt, told_client(rt.alloc(), *letters)?.as_str(), *told);
-    }
+    same_text(rt, told_run(alloc, desk, &line, 1000)?.as_str(), wanted);
     Ok(())
 }
 
-static EDGE_ROWS: [Row; 2] = [
+/// The end of a run with a line of a lawful length.
+pub(crate) const DONE: &str =
+    "Ok(InputEnd) 220 gems.test dictcat ready <7@gems.test>\r\n250 ok\r\n210 0 databases\r\n";
+
+/// The end of a run with a longer line.
+pub(crate) const UNKNOWN: &str =
+    "Ok(InputEnd) 220 gems.test dictcat ready <7@gems.test>\r\n500 command not recognized\r\n210 0 databases\r\n";
+
+/// Keys with the last character.
+pub(crate) const EDGE_ROWS: &[Row] = &[
     (
         "MATCH edge prefix a\r\n",
         false,
@@ -59,13 +53,7 @@ static EDGE_ROWS: [Row; 2] = [
     ),
 ];
 
-#[test]
-fn keys_with_the_last_character(rt: HostRuntime) -> Result<(), Fail> {
-    let mut desk = desk_of(rt.alloc(), &[EDGE])?;
-    answer_rows(&rt, rt.alloc(), &mut desk, &EDGE_ROWS)
-}
-
-static NONE_ROWS: [Row; 2] = [
+const NONE_ROWS: &[Row] = &[
     ("SHOW DB\r\n", false, "554 no databases present\r\n"),
     ("DEFINE * opal\r\n", false, "552 no match\r\n"),
 ];
@@ -76,17 +64,11 @@ fn is_listed(desk: &mut PlainDesk, id: &str, name: &str) -> bool {
     matches!(retired, Err(Fault::Refused(refusal)) if refusal.number() == 24)
 }
 
-// Retires all, that which lists others before them.
-fn retire_all(rt: &impl Abort, alloc: Global, desk: &mut PlainDesk) -> Result<(), Fail> {
-    assert!(rt; is_listed(desk, "r1", "gem"));
+/// Retires all, that which lists others before them.
+pub(crate) fn retire_all(rt: &impl Abort, alloc: Global, desk: &mut PlainDesk) -> Result<(), Fail> {
+    holds(rt, is_listed(desk, "r1", "gem"), "gem");
     for (id, name) in [("r2", "all"), ("r3", "gem"), ("r4", "ore")] {
         apply(desk, id, &Command::Retire { name })?;
     }
-    answer_rows(rt, alloc, desk, &NONE_ROWS)
-}
-
-#[test]
-fn a_catalogue_becomes_empty(rt: HostRuntime) -> Result<(), Fail> {
-    let mut desk = ore_gem_all(rt.alloc())?;
-    retire_all(&rt, rt.alloc(), &mut desk)
+    answer_rows(rt, alloc, desk, NONE_ROWS)
 }

@@ -1,6 +1,6 @@
 //! The octets of each reply.
-use crate::checks::{holds, same, same_text};
-use dict_io::{LimitedSink, OverWrite, Sink, put_all};
+use crate::checks::holds;
+use dict_io::{LimitedSink, OverWrite, Sink, SinkFault, put_all};
 use dict_proto::{Reply, list_is_a_block, put_quoted, reply_lines_are_short, write_reply};
 use std::alloc::Global;
 use std::process::Abort;
@@ -25,7 +25,7 @@ fn put_rows(rt: &impl Abort, alloc: Global, rows: &[(Reply, &str)]) -> Result<()
     Ok(())
 }
 
-static NUMBERS: [(Reply<'static>, &str); 11] = [
+const NUMBERS: &[(Reply<'static>, &str)] = &[
     (
         Reply::Banner {
             host: "localhost",
@@ -57,7 +57,7 @@ static NUMBERS: [(Reply<'static>, &str); 11] = [
     ),
 ];
 
-static FIXED: [(Reply<'static>, &str); 13] = [
+const FIXED: &[(Reply<'static>, &str)] = &[
     (Reply::Done, "250 ok\r\n"),
     (Reply::Closing, "221 closing connection\r\n"),
     (Reply::Unavailable, "420 server temporarily unavailable\r\n"),
@@ -76,7 +76,7 @@ static FIXED: [(Reply<'static>, &str); 13] = [
     ),
 ];
 
-static LINES: [(Reply<'static>, &str); 6] = [
+const LINES: &[(Reply<'static>, &str)] = &[
     (
         Reply::ListLine {
             name: "gem",
@@ -122,7 +122,7 @@ static LINES: [(Reply<'static>, &str); 6] = [
 ];
 
 // A period is doubled at the beginning of each line.
-static DEFINITIONS: [(Reply<'static>, &str); 5] = [
+const DEFINITIONS: &[(Reply<'static>, &str)] = &[
     (
         Reply::Definition {
             headword: "Fire Opal",
@@ -170,7 +170,7 @@ static DEFINITIONS: [(Reply<'static>, &str); 5] = [
     ),
 ];
 
-static INFOS: [(Reply<'static>, &str); 3] = [
+const INFOS: &[(Reply<'static>, &str)] = &[
     (Reply::InfoText(b""), ".\r\n"),
     (Reply::InfoText(b"Gems\n"), "Gems\r\n.\r\n"),
     (
@@ -180,18 +180,13 @@ static INFOS: [(Reply<'static>, &str); 3] = [
 ];
 
 #[test]
-fn replies_of_a_line(rt: HostRuntime) -> Result<(), Fail> {
+fn replies_and_texts(rt: HostRuntime) -> Result<(), Fail> {
     reply_lines_are_short();
-    put_rows(&rt, rt.alloc(), &NUMBERS)?;
-    put_rows(&rt, rt.alloc(), &FIXED)
-}
-
-#[test]
-fn lists_and_texts(rt: HostRuntime) -> Result<(), Fail> {
     list_is_a_block();
-    put_rows(&rt, rt.alloc(), &LINES)?;
-    put_rows(&rt, rt.alloc(), &DEFINITIONS)?;
-    put_rows(&rt, rt.alloc(), &INFOS)
+    for rows in [NUMBERS, FIXED, LINES, DEFINITIONS, INFOS] {
+        put_rows(&rt, rt.alloc(), rows)?;
+    }
+    Ok(())
 }
 
 // A text of so many letters, and two lines more.
@@ -217,27 +212,20 @@ fn long_texts(rt: HostRuntime) -> Result<(), Fail> {
     Ok(())
 }
 
+fn quote(sink: &mut OverWrite<Vec<u8>>) -> Result<(), SinkFault> {
+    put_quoted(sink, "Gems")?;
+    put_all(sink, &[b" ", b"-", b" "])?;
+    put_quoted(sink, "say \"a\\b\"")?;
+    sink.put(b"\r\n")
+}
+
 #[test]
 fn quotes(rt: HostRuntime) -> Result<(), Fail> {
     let mut sink = OverWrite::new(Vec::new(rt.alloc()));
-    put_quoted(&mut sink, "Gems")?;
-    put_all(&mut sink, &[b" ", b"-", b" "])?;
-    put_quoted(&mut sink, "say \"a\\b\"")?;
-    sink.put(b"\r\n")?;
-    same(
-        &rt,
-        &sink.into_inner().as_slice(),
-        &b"\"Gems\" - \"say \\\"a\\\\b\\\"\"\r\n".as_slice(),
-    );
+    quote(&mut sink)?;
+    let wanted = b"\"Gems\" - \"say \\\"a\\\\b\\\"\"\r\n".as_slice();
+    holds(&rt, sink.into_inner().as_slice() == wanted, "quotes");
     Ok(())
-}
-
-// What a sink with this room takes of a reply, and whether the reply says that it took all.
-fn told_within(alloc: Global, reply: &Reply, room: usize) -> Result<(String, bool), Fail> {
-    let mut sink = LimitedSink::new(alloc, room)?;
-    let is_ok = write_reply(&mut sink, reply).is_ok();
-    let taken = str::from_utf8(sink.taken()).unwrap_or("not UTF-8");
-    Ok((String::from_str(alloc, taken)?, is_ok))
 }
 
 static WHOLE: [(Reply<'static>, &str); 4] = [
@@ -267,18 +255,12 @@ static WHOLE: [(Reply<'static>, &str); 4] = [
     ),
 ];
 
-fn put_within(
-    rt: &impl Abort,
-    alloc: Global,
-    reply: &Reply,
-    text: &str,
-    room: usize,
-) -> Result<(), Fail> {
-    let (taken, is_ok) = told_within(alloc, reply, room)?;
+// Whether a sink with this room takes as much of a reply as it has room for, and the reply says whether it took all.
+fn is_put_within(alloc: Global, reply: &Reply, text: &str, room: usize) -> Result<bool, Fail> {
+    let mut sink = LimitedSink::new(alloc, room)?;
+    let is_ok = write_reply(&mut sink, reply).is_ok();
     let front = text.get(..room).unwrap_or(text);
-    holds(rt, is_ok == (room >= text.len()), text);
-    same_text(rt, taken.as_str(), front);
-    Ok(())
+    Ok(is_ok == (room >= text.len()) && sink.taken() == front.as_bytes())
 }
 
 // A sink with room for k octets takes the first k, and the reply is Ok only with room for all.
@@ -286,7 +268,8 @@ fn put_within(
 fn a_sink_with_little_room(rt: HostRuntime) -> Result<(), Fail> {
     for (reply, text) in &WHOLE {
         for room in 0..text.len() + 2 {
-            put_within(&rt, rt.alloc(), reply, text, room)?;
+            let is_so = is_put_within(rt.alloc(), reply, text, room)?;
+            holds(&rt, is_so, text);
         }
     }
     Ok(())

@@ -1,6 +1,5 @@
 // Sessions over catalogues in memory.
-use crate::checks::{same, same_text};
-use crate::files::{GEM, STONES, desk_of, ore_gem_all};
+use crate::checks::{holds, same_text};
 use dict_desk::{Lookup, PlainDesk};
 use dict_io::{LimitedSink, OverRead};
 use dict_session::{
@@ -28,8 +27,8 @@ const STRATEGIES: &str =
 const HELP: &str =
     "113 help text\r\nDEFINE database word\r\nMATCH database strategy word\r\nSHOW DB\r\nSHOW STRAT\r\nSHOW INFO database\r\nSHOW SERVER\r\nCLIENT text\r\nSTATUS\r\nHELP\r\nQUIT\r\n.\r\n250 ok\r\n";
 
-// Over `stones` alone.
-static STONES_ROWS: [Row; 22] = [
+/// Over `stones` alone.
+pub(crate) const STONES_ROWS: &[Row] = &[
     ("", false, ""),
     ("DEFINE stones Pearl\r\n", false, PEARLS),
     ("MATCH stones exact Pearl\r\n", false, ONE_PEARL),
@@ -85,8 +84,8 @@ static STONES_ROWS: [Row; 22] = [
 const OPAL: &str =
     "150 1 definitions retrieved\r\n151 \"opal\" gem \"Gems\"\r\nopal\r\n  a stone\r\n.\r\n250 ok\r\n";
 
-// Over `ore`, `gem` and `all`, which lists both.
-static ALL_ROWS: [Row; 16] = [
+/// Over `ore`, `gem` and `all`, which lists both.
+pub(crate) const ALL_ROWS: &[Row] = &[
     ("DEFINE ! opal\r\n", false, OPAL),
     ("DEFINE all opal\r\n", false, OPAL),
     ("DEFINE * opal\r\n", false, OPAL),
@@ -137,8 +136,8 @@ static ALL_ROWS: [Row; 16] = [
     ("STATUS\r\n", false, "210 3 databases\r\n"),
 ];
 
-// Over no database.
-static EMPTY_ROWS: [Row; 5] = [
+/// Over no database.
+pub(crate) const EMPTY_ROWS: &[Row] = &[
     ("SHOW DB\r\n", false, "554 no databases present\r\n"),
     ("DEFINE * opal\r\n", false, "552 no match\r\n"),
     ("MATCH ! . opal\r\n", false, "552 no match\r\n"),
@@ -202,17 +201,6 @@ fn feed<D: Lookup>(
     step
 }
 
-// Feeds them to a new session.
-fn feed_new<D: Lookup>(
-    alloc: Global,
-    desk: &mut D,
-    pieces: (&[u8], &[u8], &[u8]),
-    sink: &mut LimitedSink,
-) -> Result<Step, Fail> {
-    let mut session = Session::new(alloc, "gems.test", 7)?;
-    Ok(feed(alloc, &mut session, desk, pieces, sink))
-}
-
 /// What a new session comes to by two pieces and then other octets one by one, and what it writes into a sink with this
 /// room; after a QUIT or a fault of the sink each octet comes to the same.
 pub(crate) fn told_feed<D: Lookup>(
@@ -221,8 +209,9 @@ pub(crate) fn told_feed<D: Lookup>(
     pieces: (&[u8], &[u8], &[u8]),
     room: usize,
 ) -> Result<String, Fail> {
+    let mut session = Session::new(alloc, "gems.test", 7)?;
     let mut sink = LimitedSink::new(alloc, room)?;
-    let step = feed_new(alloc, desk, pieces, &mut sink)?;
+    let step = feed(alloc, &mut session, desk, pieces, &mut sink);
     let written = text_of(&sink);
     Ok(format!(in alloc; "{step:?} {written}")?)
 }
@@ -282,8 +271,8 @@ pub(crate) fn answer_rows(
     feed_rows(rt, alloc, desk, rows)
 }
 
-// Over `stones` and `gem`.
-static BOTH_ROWS: [Row; 2] = [
+/// Over `stones` and `gem`.
+pub(crate) const BOTH_ROWS: &[Row] = &[
     (
         "DEFINE * opal\r\n",
         false,
@@ -296,36 +285,8 @@ static BOTH_ROWS: [Row; 2] = [
     ),
 ];
 
-#[test]
-fn answers_over_one_database(rt: HostRuntime) -> Result<(), Fail> {
-    one_cut();
-    spoken_answers();
-    spoken_or_unavailable();
-    broken_is_a_front();
-    session_lines_are_short();
-    let mut desk = desk_of(rt.alloc(), &[STONES])?;
-    answer_rows(&rt, rt.alloc(), &mut desk, &STONES_ROWS)
-}
-
-#[test]
-fn answers_over_several_databases(rt: HostRuntime) -> Result<(), Fail> {
-    let mut desk = ore_gem_all(rt.alloc())?;
-    answer_rows(&rt, rt.alloc(), &mut desk, &ALL_ROWS)
-}
-
-#[test]
-fn answers_over_no_database(rt: HostRuntime) -> Result<(), Fail> {
-    let mut desk = PlainDesk::new(rt.alloc());
-    answer_rows(&rt, rt.alloc(), &mut desk, &EMPTY_ROWS)
-}
-
-#[test]
-fn equal_headwords_stand_under_their_databases(rt: HostRuntime) -> Result<(), Fail> {
-    let mut desk = desk_of(rt.alloc(), &[STONES, GEM])?;
-    answer_rows(&rt, rt.alloc(), &mut desk, &BOTH_ROWS)
-}
-
-fn break_off(rt: &impl Abort, alloc: Global, desk: &mut PlainDesk) -> Result<(), Fail> {
+/// A full sink breaks a list off.
+pub(crate) fn break_off(rt: &impl Abort, alloc: Global, desk: &mut PlainDesk) -> Result<(), Fail> {
     for room in 0..ALL_STONES.len() {
         let pieces = (
             b"MATCH stones substring a\r".as_slice(),
@@ -333,23 +294,17 @@ fn break_off(rt: &impl Abort, alloc: Global, desk: &mut PlainDesk) -> Result<(),
             b"STATUS\r\n".as_slice(),
         );
         let told = told_feed(alloc, desk, pieces, room)?;
-        let front = ALL_STONES.get(..room);
-        same(rt, &told.strip_prefix("Broken "), &front);
+        let front = told.strip_prefix("Broken ");
+        holds(rt, front == ALL_STONES.get(..room), "a full sink");
     }
     Ok(())
 }
 
-#[test]
-fn a_full_sink_breaks_a_list_off(rt: HostRuntime) -> Result<(), Fail> {
-    let mut desk = desk_of(rt.alloc(), &[STONES])?;
-    break_off(&rt, rt.alloc(), &mut desk)
-}
-
 // What a session comes to by its greeting into one sink, and what comes to another by a second greeting and a line.
-fn told_both<D: Lookup>(
+fn told_both(
     alloc: Global,
     session: &mut Session,
-    desk: &mut D,
+    desk: &mut PlainDesk,
     full: &mut LimitedSink,
     other: &mut LimitedSink,
 ) -> Result<String, AllocError> {
@@ -360,28 +315,24 @@ fn told_both<D: Lookup>(
     format!(in alloc; "{first:?} {written} {second:?} {third:?} {more}")
 }
 
-// The same where the first has room for three octets.
-fn told_greeting(alloc: Global, session: &mut Session) -> Result<String, Fail> {
-    let mut desk = PlainDesk::new(alloc);
+/// A full sink breaks the greeting off: it has room for three octets.
+pub(crate) fn greet(rt: &impl Abort, alloc: Global, desk: &mut PlainDesk) -> Result<(), Fail> {
+    let mut session = Session::new(alloc, "gems.test", 7)?;
     let mut full = LimitedSink::new(alloc, 3)?;
     let mut other = LimitedSink::new(alloc, 1000)?;
-    Ok(told_both(alloc, session, &mut desk, &mut full, &mut other)?)
-}
-
-#[test]
-fn a_full_sink_breaks_the_greeting_off(rt: HostRuntime) -> Result<(), Fail> {
-    let mut session = Session::new(rt.alloc(), "gems.test", 7)?;
-    let told = told_greeting(rt.alloc(), &mut session)?;
-    same_text(&rt, told.as_str(), "Broken 220 Broken Broken ");
+    let told = told_both(alloc, &mut session, desk, &mut full, &mut other)?;
+    same_text(rt, told.as_str(), "Broken 220 Broken Broken ");
     Ok(())
 }
 
 #[test]
-fn names_of_hosts(rt: HostRuntime) -> Result<(), Fail> {
-    assert!(rt; is_host("localhost"));
-    assert!(rt; is_host("Gems-1.test"));
-    assert!(rt; !is_host(""));
-    assert!(rt; !is_host("gems_1"));
-    assert!(rt; !is_host("gems test"));
-    Ok(())
+fn names_of_hosts(rt: HostRuntime) {
+    holds(&rt, is_host("localhost") && is_host("Gems-1.test"), "hosts");
+    holds(&rt, !is_host("") && !is_host("gems_1"), "no hosts");
+    holds(&rt, !is_host("gems test"), "no host");
+    one_cut();
+    spoken_answers();
+    spoken_or_unavailable();
+    broken_is_a_front();
+    session_lines_are_short();
 }

@@ -1,0 +1,83 @@
+//! What is done over a new catalogue in memory, which one function owns.
+use crate::faults::{fill_writers, tear};
+use crate::files::{EDGE, ETE, Files, GEM, ORE, STONES, fill};
+use crate::folding;
+use crate::limits::{DONE, EDGE_ROWS, UNKNOWN, retire_all, send_client};
+use crate::sessions::{
+    ALL_ROWS, BOTH_ROWS, EMPTY_ROWS, Row, STONES_ROWS, answer_rows, break_off, greet,
+};
+use dict_desk::PlainDesk;
+use std::alloc::Global;
+use std::process::Abort;
+use std::test::Fail;
+
+/// What is done.
+#[derive(Clone, Copy)]
+enum Run {
+    /// What clients send is answered so.
+    Rows(&'static [Row]),
+    BreakOff,
+    Greet,
+    Retire,
+    Tear,
+    FillWriters,
+    /// A line of CLIENT with so many letters comes to this.
+    Client(usize, &'static str),
+}
+
+/// The databases in their order, whether `all` is behind them, and what is done.
+#[derive(Clone, Copy)]
+struct Case(&'static [Files], bool, Run);
+
+static CASES: [Case; 15] = [
+    Case(&[STONES], false, Run::Rows(STONES_ROWS)),
+    Case(&[ORE, GEM], true, Run::Rows(ALL_ROWS)),
+    Case(&[], false, Run::Rows(EMPTY_ROWS)),
+    Case(&[STONES, GEM], false, Run::Rows(BOTH_ROWS)),
+    Case(&[ETE], false, Run::Rows(folding::ROWS)),
+    Case(&[EDGE], false, Run::Rows(EDGE_ROWS)),
+    Case(&[ORE, GEM], true, Run::Retire),
+    Case(&[STONES], false, Run::BreakOff),
+    Case(&[], false, Run::Greet),
+    Case(&[], false, Run::Tear),
+    Case(&[], false, Run::FillWriters),
+    Case(&[], false, Run::Client(1015, DONE)),
+    Case(&[], false, Run::Client(1016, UNKNOWN)),
+    Case(&[], false, Run::Client(6135, UNKNOWN)),
+    Case(&[], false, Run::Client(6136, UNKNOWN)),
+];
+
+fn run_one(rt: &impl Abort, alloc: Global, desk: &mut PlainDesk, run: Run) -> Result<(), Fail> {
+    match run {
+        Run::Rows(rows) => answer_rows(rt, alloc, desk, rows),
+        Run::BreakOff => break_off(rt, alloc, desk),
+        Run::Greet => greet(rt, alloc, desk),
+        Run::Retire => retire_all(rt, alloc, desk),
+        Run::Tear => tear(rt, alloc, desk),
+        Run::FillWriters => fill_writers(rt, alloc, desk),
+        Run::Client(letters, wanted) => send_client(rt, alloc, desk, letters, wanted),
+    }
+}
+
+fn fill_and_run(
+    rt: &impl Abort,
+    alloc: Global,
+    desk: &mut PlainDesk,
+    case: &Case,
+) -> Result<(), Fail> {
+    fill(alloc, desk, case.0, case.1)?;
+    run_one(rt, alloc, desk, case.2)
+}
+
+fn run_anew(rt: &impl Abort, alloc: Global, case: &Case) -> Result<(), Fail> {
+    let mut desk = PlainDesk::new(alloc);
+    fill_and_run(rt, alloc, &mut desk, case)
+}
+
+#[test]
+fn sessions_over_catalogues(rt: HostRuntime) -> Result<(), Fail> {
+    for case in &CASES {
+        run_anew(&rt, rt.alloc(), case)?;
+    }
+    Ok(())
+}
