@@ -2,7 +2,7 @@
 use dict_catalogue::Command;
 use dict_desk::{Keeper, PlainDesk};
 use dict_examples::{GEM_INDEX, GEM_TEXT, ORE_INDEX, ORE_TEXT};
-use dict_index::read_edition;
+use dict_index::{Edition, read_edition};
 use std::alloc::Global;
 use std::test::Fail;
 
@@ -41,14 +41,16 @@ pub(crate) fn apply(desk: &mut PlainDesk, id: &str, command: &Command) -> Result
     Ok(())
 }
 
-// Installs the edition that the files say, under their name, which is the request's id too.
-fn install(alloc: Global, desk: &mut PlainDesk, files: Files) -> Result<(), Fail> {
+// Installs an edition under the name, which is the request's id too.
+fn install(desk: &mut PlainDesk, name: &str, edition: &Edition) -> Result<(), Fail> {
+    let command = Command::Install { name, edition };
+    apply(desk, name, &command)
+}
+
+// Installs the edition that the files say.
+fn install_files(alloc: Global, desk: &mut PlainDesk, files: Files) -> Result<(), Fail> {
     let edition = read_edition(alloc, files.1, files.2)?;
-    let command = Command::Install {
-        name: files.0,
-        edition: &edition,
-    };
-    apply(desk, files.0, &command)
+    install(desk, files.0, &edition)
 }
 
 /// Installs these databases in their order, and puts `all`, which lists `ore` and `gem`, where it is asked.
@@ -59,7 +61,7 @@ pub(crate) fn fill(
     has_all: bool,
 ) -> Result<(), Fail> {
     for files in databases {
-        install(alloc, desk, *files)?;
+        install_files(alloc, desk, *files)?;
     }
     if has_all {
         let command = Command::PutVirtual {
