@@ -24,8 +24,10 @@ impl Write for Counting {
 // How often a writer is called for a reply.
 fn calls_for(reply: &Reply) -> Result<usize, Fail> {
     let mut sink = OverWrite::new(Counting { calls: 0 });
-    write_reply(&mut sink, reply)?;
-    Ok(sink.into_inner().calls)
+    let put = write_reply(&mut sink, reply);
+    let calls = sink.into_inner().calls;
+    put?;
+    Ok(calls)
 }
 
 static CALLS: [(Reply<'static>, usize); 6] = [

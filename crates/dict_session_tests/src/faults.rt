@@ -2,12 +2,11 @@
 
 use crate::checks::{holds, same_text};
 use crate::files::{Files, GEM, STONES, fill};
-use crate::sessions::{text_of, told_feed, told_run};
-use dict_desk::PlainDesk;
+use crate::sessions::{told_feed, told_of_run, told_run};
+use dict_desk::{Lookup, PlainDesk};
 use dict_failing_desk::FailingDesk;
-use dict_io::{LimitedSink, OverRead};
-use dict_session::run;
-use std::alloc::Global;
+use dict_io::OverRead;
+use std::alloc::{AllocError, Global};
 use std::io::{Error, ErrorKind, Read, Result as IoResult};
 use std::process::Abort;
 use std::test::Fail;
@@ -103,12 +102,24 @@ enum Failing {
     Run(&'static str),
 }
 
-fn tell(alloc: Global, desk: &mut FailingDesk, failing: Failing) -> Result<String, Fail> {
+fn tell<D: Lookup>(alloc: Global, desk: &mut D, failing: Failing) -> Result<String, AllocError> {
     match failing {
         Failing::Fed(line) => {
             told_feed(alloc, desk, (line.as_bytes(), b"STATUS\r\n", b""), 1000)
         }
         Failing::Run(input) => told_run(alloc, desk, input, 1000),
+    }
+}
+
+// A catalogue of these databases.
+fn desk_of(alloc: Global, databases: &[Files]) -> Result<PlainDesk, Fail> {
+    let mut desk = PlainDesk::new(alloc);
+    match fill(alloc, &mut desk, databases, false) {
+        Ok(()) => Ok(desk),
+        Err(fail) => {
+            drop(desk);
+            Err(fail)
+        }
     }
 }
 
@@ -119,28 +130,45 @@ fn told_failing(
     calls_left: u64,
     failing: Failing,
 ) -> Result<String, Fail> {
-    let mut plain = PlainDesk::new(alloc);
-    fill(alloc, &mut plain, databases, false)?;
-    tell(
-        alloc,
-        &mut FailingDesk::new(plain, calls_left, false),
-        failing,
-    )
+    let plain = desk_of(alloc, databases)?;
+    let mut desk = FailingDesk::new(plain, calls_left, false);
+    let told = tell(alloc, &mut desk, failing);
+    drop(desk);
+    Ok(told?)
 }
 
 const FAILED_RUN: &str =
     "Err(Broken) 220 gems.test dictcat ready <7@gems.test>\r\n150 1 definitions retrieved\r\n";
 
+fn fail(
+    rt: &impl Abort,
+    alloc: Global,
+    databases: &[Files],
+    calls_left: u64,
+    failing: Failing,
+    wanted: &str,
+) -> Result<(), Fail> {
+    let told = told_failing(alloc, databases, calls_left, failing)?;
+    same_text(rt, told.as_str(), wanted);
+    drop(told);
+    Ok(())
+}
+
 #[test]
 fn a_desk_fails_at_each_of_its_calls(rt: HostRuntime) -> Result<(), Fail> {
     for (line, calls_left, wanted) in &ROWS {
-        let told = told_failing(rt.alloc(), &[STONES, GEM], *calls_left, Failing::Fed(line))?;
-        same_text(&rt, told.as_str(), *wanted);
+        let failing = Failing::Fed(line);
+        fail(
+            &rt,
+            rt.alloc(),
+            &[STONES, GEM],
+            *calls_left,
+            failing,
+            wanted,
+        )?;
     }
-    let input = Failing::Run("DEFINE gem opal\r\nSTATUS\r\n");
-    let told = told_failing(rt.alloc(), &[GEM], 1, input)?;
-    same_text(&rt, told.as_str(), FAILED_RUN);
-    Ok(())
+    let failing = Failing::Run("DEFINE gem opal\r\nSTATUS\r\n");
+    fail(&rt, rt.alloc(), &[GEM], 1, failing, FAILED_RUN)
 }
 
 // A reader that fails once its octets are given.
@@ -159,20 +187,23 @@ impl<'a> Read for Torn<'a> {
 }
 
 // What a run comes to whose reader fails.
-fn told_torn(alloc: Global, desk: &mut PlainDesk) -> Result<String, Fail> {
+fn told_torn<D: Lookup>(alloc: Global, desk: &mut D) -> Result<String, AllocError> {
     let mut reader = OverRead::new(Torn {
         octets: b"STATUS\r\nSTATUS\r",
     });
-    let mut writer = LimitedSink::new(alloc, 1000)?;
-    let end = run(alloc, &mut reader, &mut writer, desk, "gems.test", 7);
-    let written = text_of(&writer);
-    Ok(format!(in alloc; "{end:?} {written}")?)
+    told_of_run(alloc, &mut reader, desk, 1000)
 }
 
 /// A reader fails after an answer.
-pub(crate) fn tear(rt: &impl Abort, alloc: Global, desk: &mut PlainDesk) -> Result<(), Fail> {
+pub(crate) fn tear<D: Lookup>(
+    rt: &impl Abort,
+    alloc: Global,
+    desk: &mut D,
+) -> Result<(), AllocError> {
     let want = "Err(Read) 220 gems.test dictcat ready <7@gems.test>\r\n210 0 databases\r\n";
-    same_text(rt, told_torn(alloc, desk)?.as_str(), want);
+    let told = told_torn(alloc, desk)?;
+    same_text(rt, told.as_str(), want);
+    drop(told);
     Ok(())
 }
 
@@ -180,15 +211,16 @@ const WHOLE: &str =
     "220 gems.test dictcat ready <7@gems.test>\r\n210 0 databases\r\n221 closing connection\r\n";
 
 /// A writer with each room that is too small ends a run, and has its front.
-pub(crate) fn fill_writers(
+pub(crate) fn fill_writers<D: Lookup>(
     rt: &impl Abort,
     alloc: Global,
-    desk: &mut PlainDesk,
-) -> Result<(), Fail> {
+    desk: &mut D,
+) -> Result<(), AllocError> {
     for room in 0..WHOLE.len() {
         let told = told_run(alloc, desk, "STATUS\r\nQUIT\r\n", room)?;
-        let front = told.strip_prefix("Err(Write) ");
-        holds(rt, front == WHOLE.get(..room), "a full writer");
+        let is_so = told.strip_prefix("Err(Write) ") == WHOLE.get(..room);
+        drop(told);
+        holds(rt, is_so, "a full writer");
     }
     Ok(())
 }

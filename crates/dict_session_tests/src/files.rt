@@ -1,6 +1,6 @@
 // Catalogues in memory.
 use dict_catalogue::Command;
-use dict_desk::{Keeper, PlainDesk};
+use dict_desk::Keeper;
 use dict_examples::{GEM_INDEX, GEM_TEXT, ORE_INDEX, ORE_TEXT};
 use dict_index::{Edition, read_edition};
 use std::alloc::Global;
@@ -36,27 +36,29 @@ pub(crate) const STONES: Files = Files(
 );
 
 /// Applies a command, and forgets its reply.
-pub(crate) fn apply(desk: &mut PlainDesk, id: &str, command: &Command) -> Result<(), Fail> {
-    desk.apply(id, command)?;
+pub(crate) fn apply<K: Keeper>(desk: &mut K, id: &str, command: &Command) -> Result<(), Fail> {
+    drop(desk.apply(id, command)?);
     Ok(())
 }
 
 // Installs an edition under the name, which is the request's id too.
-fn install(desk: &mut PlainDesk, name: &str, edition: &Edition) -> Result<(), Fail> {
+fn install<K: Keeper>(desk: &mut K, name: &str, edition: &Edition) -> Result<(), Fail> {
     let command = Command::Install { name, edition };
     apply(desk, name, &command)
 }
 
 // Installs the edition that the files say.
-fn install_files(alloc: Global, desk: &mut PlainDesk, files: Files) -> Result<(), Fail> {
+fn install_files<K: Keeper>(alloc: Global, desk: &mut K, files: Files) -> Result<(), Fail> {
     let edition = read_edition(alloc, files.1, files.2)?;
-    install(desk, files.0, &edition)
+    let end = install(desk, files.0, &edition);
+    drop(edition);
+    end
 }
 
 /// Installs these databases in their order, and puts `all`, which lists `ore` and `gem`, where it is asked.
-pub(crate) fn fill(
+pub(crate) fn fill<K: Keeper>(
     alloc: Global,
-    desk: &mut PlainDesk,
+    desk: &mut K,
     databases: &[Files],
     has_all: bool,
 ) -> Result<(), Fail> {

@@ -24,7 +24,7 @@ const NO_MATCH: &str = "552 no match\r\n";
 
 // The accents of the third query are characters of their own; the `ı` of the twelfth is a letter of its own; the last
 // query has no virama.
-pub(crate) const ROWS: &[Row] = &[
+pub(crate) static ROWS: [Row; 14] = [
     ("DEFINE ete été\r\n", false, SEASON),
     ("MATCH ete suffix é\r\n", false, ONE_SEASON),
     ("MATCH ete exact e\u{301}te\u{301}\r\n", false, NO_MATCH),

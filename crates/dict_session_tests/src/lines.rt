@@ -1,6 +1,6 @@
 //! What the lines of clients ask for.
 use crate::checks::{same_text, same_text_of};
-use dict_line::{Request, one_reading, parse_line, worked_lines, worked_meanings};
+use dict_line::{LineFault, Request, one_reading, parse_line, worked_lines, worked_meanings};
 use std::alloc::{AllocError, Global};
 use std::process::Abort;
 use std::test::Fail;
@@ -19,17 +19,26 @@ fn told_request(alloc: Global, request: &Request) -> Result<String, AllocError> 
     }
 }
 
-// What a line asks for, or why it asks for nothing.
-fn told(alloc: Global, line: &[u8]) -> Result<String, AllocError> {
-    match parse_line(alloc, line) {
-        Ok(request) => told_request(alloc, &request),
+fn told_reading(alloc: Global, read: &Result<Request, LineFault>) -> Result<String, AllocError> {
+    match read {
+        Ok(request) => told_request(alloc, request),
         Err(fault) => format!(in alloc; "{fault:?}"),
     }
 }
 
+// What a line asks for, or why it asks for nothing.
+fn told(alloc: Global, line: &[u8]) -> Result<String, AllocError> {
+    let read = parse_line(alloc, line);
+    let told = told_reading(alloc, &read);
+    drop(read);
+    told
+}
+
 fn ask(rt: &impl Abort, alloc: Global, rows: &[(&str, &str)]) -> Result<(), AllocError> {
     for (line, wanted) in rows {
-        same_text_of(rt, told(alloc, line.as_bytes())?.as_str(), *wanted, line);
+        let told = told(alloc, line.as_bytes())?;
+        same_text_of(rt, told.as_str(), *wanted, line);
+        drop(told);
     }
     Ok(())
 }
@@ -37,7 +46,9 @@ fn ask(rt: &impl Abort, alloc: Global, rows: &[(&str, &str)]) -> Result<(), Allo
 // These lines ask for nothing, for this cause.
 fn refuse(rt: &impl Abort, alloc: Global, lines: &[&[u8]], cause: &str) -> Result<(), AllocError> {
     for line in lines {
-        same_text(rt, told(alloc, line)?.as_str(), cause);
+        let told = told(alloc, line)?;
+        same_text(rt, told.as_str(), cause);
+        drop(told);
     }
     Ok(())
 }
@@ -199,17 +210,32 @@ fn lines_that_ask_for_nothing(rt: HostRuntime) -> Result<(), Fail> {
     Ok(())
 }
 
-// How many octets a front is with so many of a text behind it, and why that is no line, if it is none.
-fn told_long(alloc: Global, front: &str, text: &str, count: usize) -> Result<String, AllocError> {
-    let mut line = String::from_str(alloc, front)?;
+fn told_len(alloc: Global, line: &str) -> Result<String, AllocError> {
+    let len = line.len();
+    match parse_line(alloc, line.as_bytes()).err() {
+        None => format!(in alloc; "{len}"),
+        Some(fault) => format!(in alloc; "{len} {fault:?}"),
+    }
+}
+
+fn told_filled(
+    alloc: Global,
+    line: &mut String,
+    text: &str,
+    count: usize,
+) -> Result<String, AllocError> {
     for _ in 0..count {
         line.push_str(text)?;
     }
-    let len = line.len();
-    match parse_line(alloc, line.as_bytes()) {
-        Ok(_) => format!(in alloc; "{len}"),
-        Err(fault) => format!(in alloc; "{len} {fault:?}"),
-    }
+    told_len(alloc, line.as_str())
+}
+
+// How many octets a front is with so many of a text behind it, and why that is no line, if it is none.
+fn told_long(alloc: Global, front: &str, text: &str, count: usize) -> Result<String, AllocError> {
+    let mut line = String::from_str(alloc, front)?;
+    let told = told_filled(alloc, &mut line, text, count);
+    drop(line);
+    told
 }
 
 // With its CR LF a line has at most 1,024 characters, which are counted and not octets, and 6,144 octets.
@@ -225,11 +251,9 @@ static LONG: [(&str, &str, usize, &str); 6] = [
 #[test]
 fn long_lines(rt: HostRuntime) -> Result<(), Fail> {
     for (front, text, count, wanted) in &LONG {
-        same_text(
-            &rt,
-            told_long(rt.alloc(), front, text, *count)?.as_str(),
-            *wanted,
-        );
+        let told = told_long(rt.alloc(), front, text, *count)?;
+        same_text(&rt, told.as_str(), *wanted);
+        drop(told);
     }
     Ok(())
 }

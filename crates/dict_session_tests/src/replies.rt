@@ -2,20 +2,25 @@
 use crate::checks::holds;
 use dict_io::{LimitedSink, OverWrite, Sink, SinkFault, put_all};
 use dict_proto::{Reply, list_is_a_block, put_quoted, reply_lines_are_short, write_reply};
-use std::alloc::Global;
+use std::alloc::{AllocError, Global};
 use std::process::Abort;
 use std::test::Fail;
 
 // What a reply puts.
 fn octets_of(alloc: Global, reply: &Reply) -> Result<Vec<u8>, Fail> {
     let mut sink = OverWrite::new(Vec::new(alloc));
-    write_reply(&mut sink, reply)?;
-    Ok(sink.into_inner())
+    let put = write_reply(&mut sink, reply);
+    let octets = sink.into_inner();
+    put?;
+    Ok(octets)
 }
 
 // Whether a reply puts this text.
 fn puts(alloc: Global, reply: &Reply, text: &str) -> Result<bool, Fail> {
-    Ok(octets_of(alloc, reply)?.as_slice() == text.as_bytes())
+    let octets = octets_of(alloc, reply)?;
+    let is_so = octets.as_slice() == text.as_bytes();
+    drop(octets);
+    Ok(is_so)
 }
 
 fn put_rows(rt: &impl Abort, alloc: Global, rows: &[(Reply, &str)]) -> Result<(), Fail> {
@@ -25,7 +30,7 @@ fn put_rows(rt: &impl Abort, alloc: Global, rows: &[(Reply, &str)]) -> Result<()
     Ok(())
 }
 
-const NUMBERS: &[(Reply<'static>, &str)] = &[
+static NUMBERS: [(Reply<'static>, &str); 11] = [
     (
         Reply::Banner {
             host: "localhost",
@@ -57,7 +62,7 @@ const NUMBERS: &[(Reply<'static>, &str)] = &[
     ),
 ];
 
-const FIXED: &[(Reply<'static>, &str)] = &[
+static FIXED: [(Reply<'static>, &str); 13] = [
     (Reply::Done, "250 ok\r\n"),
     (Reply::Closing, "221 closing connection\r\n"),
     (Reply::Unavailable, "420 server temporarily unavailable\r\n"),
@@ -76,7 +81,7 @@ const FIXED: &[(Reply<'static>, &str)] = &[
     ),
 ];
 
-const LINES: &[(Reply<'static>, &str)] = &[
+static LINES: [(Reply<'static>, &str); 6] = [
     (
         Reply::ListLine {
             name: "gem",
@@ -122,7 +127,7 @@ const LINES: &[(Reply<'static>, &str)] = &[
 ];
 
 // A period is doubled at the beginning of each line.
-const DEFINITIONS: &[(Reply<'static>, &str)] = &[
+static DEFINITIONS: [(Reply<'static>, &str); 5] = [
     (
         Reply::Definition {
             headword: "Fire Opal",
@@ -170,7 +175,7 @@ const DEFINITIONS: &[(Reply<'static>, &str)] = &[
     ),
 ];
 
-const INFOS: &[(Reply<'static>, &str)] = &[
+static INFOS: [(Reply<'static>, &str); 3] = [
     (Reply::InfoText(b""), ".\r\n"),
     (Reply::InfoText(b"Gems\n"), "Gems\r\n.\r\n"),
     (
@@ -183,31 +188,51 @@ const INFOS: &[(Reply<'static>, &str)] = &[
 fn replies_and_texts(rt: HostRuntime) -> Result<(), Fail> {
     reply_lines_are_short();
     list_is_a_block();
-    for rows in [NUMBERS, FIXED, LINES, DEFINITIONS, INFOS] {
+    for rows in [
+        NUMBERS.as_slice(),
+        FIXED.as_slice(),
+        LINES.as_slice(),
+        DEFINITIONS.as_slice(),
+        INFOS.as_slice(),
+    ] {
         put_rows(&rt, rt.alloc(), rows)?;
     }
     Ok(())
 }
 
 // A text of so many letters, and two lines more.
-fn long_text(alloc: Global, letters: usize, more: &str) -> Result<String, Fail> {
-    let mut text = String::new(alloc);
+fn push_long(text: &mut String, letters: usize, more: &str) -> Result<(), AllocError> {
     for _ in 0..letters {
         text.push('x')?;
     }
-    text.push_str(more)?;
+    text.push_str(more)
+}
+
+fn long_text(alloc: Global, letters: usize, more: &str) -> Result<String, AllocError> {
+    let mut text = String::new(alloc);
+    push_long(&mut text, letters, more)?;
     Ok(text)
+}
+
+fn puts_text(alloc: Global, letters: usize, text: &str) -> Result<bool, Fail> {
+    let body = long_text(alloc, letters, "\n.y\n")?;
+    let is_so = puts(alloc, &Reply::InfoText(body.as_bytes()), text);
+    drop(body);
+    is_so
+}
+
+fn puts_long(alloc: Global, letters: usize) -> Result<bool, Fail> {
+    let text = long_text(alloc, letters, "\r\n..y\r\n.\r\n")?;
+    let is_so = puts_text(alloc, letters, text.as_str());
+    drop(text);
+    is_so
 }
 
 // Lines about as long as what is gathered at once, and longer.
 #[test]
 fn long_texts(rt: HostRuntime) -> Result<(), Fail> {
-    let alloc = rt.alloc();
     for letters in [1017, 1018, 1019, 1020, 1021, 1022, 1023, 1024, 1025, 3000] {
-        let body = long_text(alloc, letters, "\n.y\n")?;
-        let text = long_text(alloc, letters, "\r\n..y\r\n.\r\n")?;
-        let reply = Reply::InfoText(body.as_bytes());
-        holds(&rt, puts(alloc, &reply, text.as_str())?, "a long text");
+        holds(&rt, puts_long(rt.alloc(), letters)?, "a long text");
     }
     Ok(())
 }
@@ -222,9 +247,12 @@ fn quote(sink: &mut OverWrite<Vec<u8>>) -> Result<(), SinkFault> {
 #[test]
 fn quotes(rt: HostRuntime) -> Result<(), Fail> {
     let mut sink = OverWrite::new(Vec::new(rt.alloc()));
-    quote(&mut sink)?;
-    let wanted = b"\"Gems\" - \"say \\\"a\\\\b\\\"\"\r\n".as_slice();
-    holds(&rt, sink.into_inner().as_slice() == wanted, "quotes");
+    let put = quote(&mut sink);
+    let octets = sink.into_inner();
+    let is_so = octets.as_slice() == b"\"Gems\" - \"say \\\"a\\\\b\\\"\"\r\n".as_slice();
+    drop(octets);
+    put?;
+    holds(&rt, is_so, "quotes");
     Ok(())
 }
 
@@ -260,7 +288,9 @@ fn is_put_within(alloc: Global, reply: &Reply, text: &str, room: usize) -> Resul
     let mut sink = LimitedSink::new(alloc, room)?;
     let is_ok = write_reply(&mut sink, reply).is_ok();
     let front = text.get(..room).unwrap_or(text);
-    Ok(is_ok == (room >= text.len()) && sink.taken() == front.as_bytes())
+    let is_so = is_ok == (room >= text.len()) && sink.taken() == front.as_bytes();
+    drop(sink);
+    Ok(is_so)
 }
 
 // A sink with room for k octets takes the first k, and the reply is Ok only with room for all.

@@ -1,14 +1,13 @@
 // Sessions over catalogues in memory.
 use crate::checks::{holds, same_text};
-use dict_desk::{Lookup, PlainDesk};
-use dict_io::{LimitedSink, OverRead};
+use dict_desk::Lookup;
+use dict_io::{LimitedSink, OverRead, Source};
 use dict_session::{
     Session, Step, broken_is_a_front, is_host, one_cut, run, session_lines_are_short,
     spoken_answers, spoken_or_unavailable,
 };
 use std::alloc::{AllocError, Global};
 use std::process::Abort;
-use std::test::Fail;
 
 /// What a client sends, whether a QUIT in it is answered, and the answers.
 pub(crate) type Row = (&'static str, bool, &'static str);
@@ -28,7 +27,7 @@ const HELP: &str =
     "113 help text\r\nDEFINE database word\r\nMATCH database strategy word\r\nSHOW DB\r\nSHOW STRAT\r\nSHOW INFO database\r\nSHOW SERVER\r\nCLIENT text\r\nSTATUS\r\nHELP\r\nQUIT\r\n.\r\n250 ok\r\n";
 
 /// Over `stones` alone.
-pub(crate) const STONES_ROWS: &[Row] = &[
+pub(crate) static STONES_ROWS: [Row; 22] = [
     ("", false, ""),
     ("DEFINE stones Pearl\r\n", false, PEARLS),
     ("MATCH stones exact Pearl\r\n", false, ONE_PEARL),
@@ -85,7 +84,7 @@ const OPAL: &str =
     "150 1 definitions retrieved\r\n151 \"opal\" gem \"Gems\"\r\nopal\r\n  a stone\r\n.\r\n250 ok\r\n";
 
 /// Over `ore`, `gem` and `all`, which lists both.
-pub(crate) const ALL_ROWS: &[Row] = &[
+pub(crate) static ALL_ROWS: [Row; 16] = [
     ("DEFINE ! opal\r\n", false, OPAL),
     ("DEFINE all opal\r\n", false, OPAL),
     ("DEFINE * opal\r\n", false, OPAL),
@@ -137,7 +136,7 @@ pub(crate) const ALL_ROWS: &[Row] = &[
 ];
 
 /// Over no database.
-pub(crate) const EMPTY_ROWS: &[Row] = &[
+pub(crate) static EMPTY_ROWS: [Row; 5] = [
     ("SHOW DB\r\n", false, "554 no databases present\r\n"),
     ("DEFINE * opal\r\n", false, "552 no match\r\n"),
     ("MATCH ! . opal\r\n", false, "552 no match\r\n"),
@@ -150,39 +149,83 @@ pub(crate) fn text_of(sink: &LimitedSink) -> &str {
     str::from_utf8(sink.taken()).unwrap_or("not UTF-8")
 }
 
-/// How a run of this input ends, and all that it writes into a sink with this room.
+// How a run ends, and all that it writes into this sink.
+fn told_into<S: Source, D: Lookup>(
+    alloc: Global,
+    reader: &mut S,
+    desk: &mut D,
+    writer: &mut LimitedSink,
+) -> Result<String, AllocError> {
+    let end = run(alloc, reader, writer, desk, "gems.test", 7);
+    let written = text_of(writer);
+    format!(in alloc; "{end:?} {written}")
+}
+
+/// How a run ends, and all that it writes into a sink with this room.
+pub(crate) fn told_of_run<S: Source, D: Lookup>(
+    alloc: Global,
+    reader: &mut S,
+    desk: &mut D,
+    room: usize,
+) -> Result<String, AllocError> {
+    let mut writer = LimitedSink::new(alloc, room)?;
+    let told = told_into(alloc, reader, desk, &mut writer);
+    drop(writer);
+    told
+}
+
+/// The same of a run of this input.
 pub(crate) fn told_run<D: Lookup>(
     alloc: Global,
     desk: &mut D,
     input: &str,
     room: usize,
-) -> Result<String, Fail> {
+) -> Result<String, AllocError> {
     let mut reader = OverRead::new(input.as_bytes());
-    let mut writer = LimitedSink::new(alloc, room)?;
-    let end = run(alloc, &mut reader, &mut writer, desk, "gems.test", 7);
-    let written = text_of(&writer);
-    Ok(format!(in alloc; "{end:?} {written}")?)
+    told_of_run(alloc, &mut reader, desk, room)
+}
+
+/// A run of this input comes to this.
+pub(crate) fn run_as<D: Lookup>(
+    rt: &impl Abort,
+    alloc: Global,
+    desk: &mut D,
+    input: &str,
+    wanted: &str,
+) -> Result<(), AllocError> {
+    let told = told_run(alloc, desk, input, 1000)?;
+    same_text(rt, told.as_str(), wanted);
+    drop(told);
+    Ok(())
 }
 
 // Runs the rows whole.
-fn run_rows(
+fn run_rows<D: Lookup>(
     rt: &impl Abort,
     alloc: Global,
-    desk: &mut PlainDesk,
+    desk: &mut D,
     rows: &[Row],
-) -> Result<(), Fail> {
+) -> Result<(), AllocError> {
     for (input, is_over, answers) in rows {
         let end = if *is_over { "Quit" } else { "InputEnd" };
         let want = format!(in alloc;
             "Ok({end}) 220 gems.test dictcat ready <7@gems.test>\r\n{answers}"
         )?;
-        same_text(
-            rt,
-            told_run(alloc, desk, input, 1000)?.as_str(),
-            want.as_str(),
-        );
+        let end = run_as(rt, alloc, desk, input, want.as_str());
+        drop(want);
+        end?;
     }
     Ok(())
+}
+
+fn feed_piece<D: Lookup>(
+    alloc: Global,
+    session: &mut Session,
+    desk: &mut D,
+    piece: &[u8],
+    sink: &mut LimitedSink,
+) -> Step {
+    session.feed(alloc, piece, desk, sink)
 }
 
 // Feeds two pieces, and then other octets one by one.
@@ -193,12 +236,35 @@ fn feed<D: Lookup>(
     pieces: (&[u8], &[u8], &[u8]),
     sink: &mut LimitedSink,
 ) -> Step {
-    session.feed(alloc, pieces.0, desk, sink);
-    let mut step = session.feed(alloc, pieces.1, desk, sink);
+    feed_piece(alloc, session, desk, pieces.0, sink);
+    let mut step = feed_piece(alloc, session, desk, pieces.1, sink);
     for octet in pieces.2 {
-        step = session.feed(alloc, &[*octet], desk, sink);
+        step = feed_piece(alloc, session, desk, &[*octet], sink);
     }
     step
+}
+
+fn feed_new<D: Lookup>(
+    alloc: Global,
+    desk: &mut D,
+    pieces: (&[u8], &[u8], &[u8]),
+    sink: &mut LimitedSink,
+) -> Result<Step, AllocError> {
+    let mut session = Session::new(alloc, "gems.test", 7)?;
+    let step = feed(alloc, &mut session, desk, pieces, sink);
+    drop(session);
+    Ok(step)
+}
+
+fn told_feed_into<D: Lookup>(
+    alloc: Global,
+    desk: &mut D,
+    pieces: (&[u8], &[u8], &[u8]),
+    sink: &mut LimitedSink,
+) -> Result<String, AllocError> {
+    let step = feed_new(alloc, desk, pieces, sink)?;
+    let written = text_of(sink);
+    format!(in alloc; "{step:?} {written}")
 }
 
 /// What a new session comes to by two pieces and then other octets one by one, and what it writes into a sink with this
@@ -208,71 +274,72 @@ pub(crate) fn told_feed<D: Lookup>(
     desk: &mut D,
     pieces: (&[u8], &[u8], &[u8]),
     room: usize,
-) -> Result<String, Fail> {
-    let mut session = Session::new(alloc, "gems.test", 7)?;
+) -> Result<String, AllocError> {
     let mut sink = LimitedSink::new(alloc, room)?;
-    let step = feed(alloc, &mut session, desk, pieces, &mut sink);
-    let written = text_of(&sink);
-    Ok(format!(in alloc; "{step:?} {written}")?)
+    let told = told_feed_into(alloc, desk, pieces, &mut sink);
+    drop(sink);
+    told
 }
 
-// Feeds a row cut in two at each place.
-fn feed_cut(
+fn feed_as<D: Lookup>(
     rt: &impl Abort,
     alloc: Global,
-    desk: &mut PlainDesk,
-    input: &[u8],
+    desk: &mut D,
+    pieces: (&[u8], &[u8], &[u8]),
     want: &str,
-) -> Result<(), Fail> {
-    for place in 0..=input.len() {
-        let (first, second) = input.split_at(place);
-        let told = told_feed(alloc, desk, (first, second, b""), 1000)?;
-        same_text(rt, told.as_str(), want);
-    }
+) -> Result<(), AllocError> {
+    let told = told_feed(alloc, desk, pieces, 1000)?;
+    same_text(rt, told.as_str(), want);
+    drop(told);
     Ok(())
 }
 
 // Feeds a row octet by octet, and cut in two at each place.
-fn feed_row(
+fn feed_pieces<D: Lookup>(
     rt: &impl Abort,
     alloc: Global,
-    desk: &mut PlainDesk,
+    desk: &mut D,
     input: &[u8],
     want: &str,
-) -> Result<(), Fail> {
-    let told = told_feed(alloc, desk, (b"", b"", input), 1000)?;
-    same_text(rt, told.as_str(), want);
-    feed_cut(rt, alloc, desk, input, want)
+) -> Result<(), AllocError> {
+    feed_as(rt, alloc, desk, (b"", b"", input), want)?;
+    for place in 0..=input.len() {
+        let (first, second) = input.split_at(place);
+        feed_as(rt, alloc, desk, (first, second, b""), want)?;
+    }
+    Ok(())
 }
 
 // Feeds the rows octet by octet, and cut in two at each place.
-fn feed_rows(
+fn feed_rows<D: Lookup>(
     rt: &impl Abort,
     alloc: Global,
-    desk: &mut PlainDesk,
+    desk: &mut D,
     rows: &[Row],
-) -> Result<(), Fail> {
+) -> Result<(), AllocError> {
     for (input, is_over, answers) in rows {
         let step = if *is_over { "Quit" } else { "More" };
         let want = format!(in alloc; "{step} {answers}")?;
-        feed_row(rt, alloc, desk, input.as_bytes(), &want)?;
+        let end = feed_pieces(rt, alloc, desk, input.as_bytes(), want.as_str());
+        drop(want);
+        end?;
     }
     Ok(())
 }
 
 /// Runs the rows whole, and feeds them octet by octet and cut in two at each place.
-pub(crate) fn answer_rows(
+pub(crate) fn answer_rows<D: Lookup>(
     rt: &impl Abort,
     alloc: Global,
-    desk: &mut PlainDesk,
+    desk: &mut D,
     rows: &[Row],
-) -> Result<(), Fail> {
+) -> Result<(), AllocError> {
     run_rows(rt, alloc, desk, rows)?;
     feed_rows(rt, alloc, desk, rows)
 }
 
 /// Over `stones` and `gem`.
-pub(crate) const BOTH_ROWS: &[Row] = &[
+pub(crate) static BOTH_ROWS: [Row; 2] = [
     (
         "DEFINE * opal\r\n",
         false,
@@ -286,7 +353,11 @@ pub(crate) const BOTH_ROWS: &[Row] = &[
 ];
 
 /// A full sink breaks a list off.
-pub(crate) fn break_off(rt: &impl Abort, alloc: Global, desk: &mut PlainDesk) -> Result<(), Fail> {
+pub(crate) fn break_off<D: Lookup>(
+    rt: &impl Abort,
+    alloc: Global,
+    desk: &mut D,
+) -> Result<(), AllocError> {
     for room in 0..ALL_STONES.len() {
         let pieces = (
             b"MATCH stones substring a\r".as_slice(),
@@ -294,34 +365,67 @@ pub(crate) fn break_off(rt: &impl Abort, alloc: Global, desk: &mut PlainDesk) ->
             b"STATUS\r\n".as_slice(),
         );
         let told = told_feed(alloc, desk, pieces, room)?;
-        let front = told.strip_prefix("Broken ");
-        holds(rt, front == ALL_STONES.get(..room), "a full sink");
+        let is_so = told.strip_prefix("Broken ") == ALL_STONES.get(..room);
+        drop(told);
+        holds(rt, is_so, "a full sink");
     }
     Ok(())
 }
 
 // What a session comes to by its greeting into one sink, and what comes to another by a second greeting and a line.
-fn told_both(
+fn told_both<D: Lookup>(
     alloc: Global,
     session: &mut Session,
-    desk: &mut PlainDesk,
+    desk: &mut D,
     full: &mut LimitedSink,
     other: &mut LimitedSink,
 ) -> Result<String, AllocError> {
     let first = session.greet(full);
     let second = session.greet(other);
-    let third = session.feed(alloc, b"STATUS\r\n", desk, other);
+    let third = feed_piece(alloc, session, desk, b"STATUS\r\n", other);
     let (written, more) = (text_of(full), text_of(other));
     format!(in alloc; "{first:?} {written} {second:?} {third:?} {more}")
 }
 
-/// A full sink breaks the greeting off: it has room for three octets.
-pub(crate) fn greet(rt: &impl Abort, alloc: Global, desk: &mut PlainDesk) -> Result<(), Fail> {
+fn told_greeting<D: Lookup>(
+    alloc: Global,
+    desk: &mut D,
+    full: &mut LimitedSink,
+    other: &mut LimitedSink,
+) -> Result<String, AllocError> {
     let mut session = Session::new(alloc, "gems.test", 7)?;
-    let mut full = LimitedSink::new(alloc, 3)?;
+    let told = told_both(alloc, &mut session, desk, full, other);
+    drop(session);
+    told
+}
+
+fn greet_into<D: Lookup>(
+    alloc: Global,
+    desk: &mut D,
+    full: &mut LimitedSink,
+) -> Result<String, AllocError> {
     let mut other = LimitedSink::new(alloc, 1000)?;
-    let told = told_both(alloc, &mut session, desk, &mut full, &mut other)?;
+    let told = told_greeting(alloc, desk, full, &mut other);
+    drop(other);
+    told
+}
+
+fn told_greet<D: Lookup>(alloc: Global, desk: &mut D) -> Result<String, AllocError> {
+    let mut full = LimitedSink::new(alloc, 3)?;
+    let told = greet_into(alloc, desk, &mut full);
+    drop(full);
+    told
+}
+
+/// A full sink breaks the greeting off: it has room for three octets.
+pub(crate) fn greet<D: Lookup>(
+    rt: &impl Abort,
+    alloc: Global,
+    desk: &mut D,
+) -> Result<(), AllocError> {
+    let told = told_greet(alloc, desk)?;
     same_text(rt, told.as_str(), "Broken 220 Broken Broken ");
+    drop(told);
     Ok(())
 }
 
