@@ -1,4 +1,5 @@
 // Commands on a catalogue in memory, and what it shows after them.
+use super::all::apply_four;
 use super::asked::{Asked, listed, push_kept, push_refusal};
 use super::files::{GEM, install, read};
 use crate::checks::{same, same_text, same_text_of};
@@ -26,38 +27,63 @@ fn push_answer(
 }
 
 /// What the desk answers to a command.
-fn answered(
+fn answered<K: Keeper>(
     alloc: Global,
-    desk: &mut PlainDesk,
+    desk: &mut K,
     id: &str,
     command: &Command<'_>,
 ) -> Result<String, AllocError> {
-    let mut text = String::new(alloc);
     let answer = desk.apply(id, command);
-    push_answer(alloc, &mut text, &answer)?;
+    let mut text = String::new(alloc);
+    let put = push_answer(alloc, &mut text, &answer);
+    drop(answer);
+    put?;
     Ok(text)
 }
 
-fn check(
+fn check_answer<K: Keeper>(
     rt: &impl Abort,
     alloc: Global,
-    desk: &mut PlainDesk,
+    desk: &mut K,
+    id: &str,
+    command: &Command<'_>,
+    answer: &str,
+) -> Result<(), Fail> {
+    let text = answered(alloc, desk, id, command)?;
+    same_text(rt, text.as_str(), answer);
+    drop(text);
+    Ok(())
+}
+
+fn check_items<K: Keeper>(
+    rt: &impl Abort,
+    alloc: Global,
+    desk: &K,
+    after: &str,
+) -> Result<(), Fail> {
+    let items = listed(alloc, desk.summary()?)?;
+    same_text(rt, items.as_str(), after);
+    drop(items);
+    Ok(())
+}
+
+fn check<K: Keeper>(
+    rt: &impl Abort,
+    alloc: Global,
+    desk: &mut K,
     gem: &Edition<'static>,
     row: Row,
 ) -> Result<(), Fail> {
     let Row(id, asked, answer, after) = row;
-    let answered = answered(alloc, desk, id, &asked.command(gem))?;
-    same_text(rt, answered.as_str(), answer);
-    let items = listed(alloc, desk.summary()?)?;
-    same_text(rt, items.as_str(), after);
-    Ok(())
+    check_answer(rt, alloc, desk, id, &asked.command(gem), answer)?;
+    check_items(rt, alloc, desk, after)
 }
 
 /// Applies the commands one after another.
-fn run(
+fn run<K: Keeper>(
     rt: &impl Abort,
     alloc: Global,
-    desk: &mut PlainDesk,
+    desk: &mut K,
     gem: &Edition<'static>,
     rows: &[Row],
 ) -> Result<(), Fail> {
@@ -67,14 +93,51 @@ fn run(
     Ok(())
 }
 
-/// The same over a new desk.
-fn run_anew(rt: &impl Abort, alloc: Global, rows: &[Row]) -> Result<(), Fail> {
-    let gem = read(alloc, GEM)?;
-    let mut desk = PlainDesk::new(alloc);
-    run(rt, alloc, &mut desk, &gem, rows)
+/// What is done over a new desk.
+#[derive(Clone, Copy)]
+enum Task {
+    Rows(&'static [Row]),
+    Once,
+    Full,
+    Four,
 }
 
-static SWAPPED: [Row; 7] = [
+fn run_one<K: Keeper>(
+    rt: &impl Abort,
+    alloc: Global,
+    desk: &mut K,
+    gem: &Edition<'static>,
+    what: Task,
+) -> Result<(), Fail> {
+    match what {
+        Task::Rows(rows) => run(rt, alloc, desk, gem, rows),
+        Task::Once => run_once(rt, alloc, desk, gem),
+        Task::Full => run_full(rt, alloc, desk, gem),
+        Task::Four => apply_four(rt, alloc, desk, gem),
+    }
+}
+
+/// One function owns a desk, and one what is installed.
+fn run_over(
+    rt: &impl Abort,
+    alloc: Global,
+    gem: &Edition<'static>,
+    what: Task,
+) -> Result<(), Fail> {
+    let mut desk = PlainDesk::new(alloc);
+    let end = run_one(rt, alloc, &mut desk, gem, what);
+    drop(desk);
+    end
+}
+
+fn run_anew(rt: &impl Abort, alloc: Global, what: Task) -> Result<(), Fail> {
+    let gem = read(alloc, GEM)?;
+    let end = run_over(rt, alloc, &gem, what);
+    drop(gem);
+    end
+}
+
+const SWAPPED: &[Row] = &[
     Row(
         "r1",
         Asked::Install("gem"),
@@ -114,7 +177,7 @@ static SWAPPED: [Row; 7] = [
     ),
 ];
 
-static ONCE: [Row; 5] = [
+const ONCE: &[Row] = &[
     Row(
         "r1",
         Asked::Install("gem"),
@@ -132,7 +195,7 @@ static ONCE: [Row; 5] = [
     Row("r5", Asked::Rollback("gem"), "2 Retire gem", ""),
 ];
 
-static PLACED: [Row; 12] = [
+const PLACED: &[Row] = &[
     Row(
         "a",
         Asked::Install("ore"),
@@ -194,7 +257,7 @@ static PLACED: [Row; 12] = [
 
 const GEM_AND_ALL: &str = "gem Gems 1; all All +gem; ";
 
-static REFUSED: [Row; 17] = [
+const REFUSED: &[Row] = &[
     Row(
         "a",
         Asked::Install("gem"),
@@ -259,10 +322,19 @@ static REFUSED: [Row; 17] = [
     ),
 ];
 
+static TASKS: [Task; 6] = [
+    Task::Rows(SWAPPED),
+    Task::Rows(PLACED),
+    Task::Rows(REFUSED),
+    Task::Once,
+    Task::Full,
+    Task::Four,
+];
+
 #[test]
 fn commands_over_a_new_desk(rt: HostRuntime) -> Result<(), Fail> {
-    for rows in [SWAPPED.as_slice(), PLACED.as_slice(), REFUSED.as_slice()] {
-        run_anew(&rt, rt.alloc(), rows)?;
+    for what in &TASKS {
+        run_anew(&rt, rt.alloc(), *what)?;
     }
     Ok(())
 }
@@ -275,43 +347,75 @@ static KEPT: [(&str, &str); 4] = [
     ("", "none"),
 ];
 
-/// The reply that is kept under an id.
-fn kept_under(alloc: Global, desk: &mut PlainDesk, id: &str) -> Result<String, Fail> {
-    let mut text = String::new(alloc);
-    match desk.kept(id)? {
-        Some(kept) => push_kept(alloc, &mut text, &kept)?,
-        None => text.push_str("none")?,
+fn push_found(alloc: Global, text: &mut String, found: &Option<Kept>) -> Result<(), AllocError> {
+    match found {
+        Some(kept) => push_kept(alloc, text, kept),
+        None => text.push_str("none"),
     }
+}
+
+/// The reply that is kept under an id.
+fn kept_under<K: Keeper>(alloc: Global, desk: &mut K, id: &str) -> Result<String, Fail> {
+    let found = desk.kept(id)?;
+    let mut text = String::new(alloc);
+    let put = push_found(alloc, &mut text, &found);
+    drop(found);
+    put?;
     Ok(text)
 }
 
-fn check_kept(rt: &impl Abort, alloc: Global, desk: &mut PlainDesk) -> Result<(), Fail> {
+fn check_one_kept<K: Keeper>(
+    rt: &impl Abort,
+    alloc: Global,
+    desk: &mut K,
+    id: &str,
+    reply: &str,
+) -> Result<(), Fail> {
+    let kept = kept_under(alloc, desk, id)?;
+    same_text_of(rt, kept.as_str(), reply, id);
+    drop(kept);
+    Ok(())
+}
+
+fn check_kept<K: Keeper>(rt: &impl Abort, alloc: Global, desk: &mut K) -> Result<(), Fail> {
     for (id, reply) in &KEPT {
-        let kept = kept_under(alloc, desk, id)?;
-        same_text_of(rt, kept.as_str(), *reply, id);
+        check_one_kept(rt, alloc, desk, id, reply)?;
     }
     Ok(())
 }
 
-#[test]
-fn an_id_acts_once(rt: HostRuntime) -> Result<(), Fail> {
-    let alloc = rt.alloc();
-    let gem = read(alloc, GEM)?;
-    let mut desk = PlainDesk::new(alloc);
-    run(&rt, alloc, &mut desk, &gem, &ONCE)?;
-    check_kept(&rt, alloc, &mut desk)
+/// An id acts once.
+fn run_once<K: Keeper>(
+    rt: &impl Abort,
+    alloc: Global,
+    desk: &mut K,
+    gem: &Edition<'static>,
+) -> Result<(), Fail> {
+    run(rt, alloc, desk, gem, ONCE)?;
+    check_kept(rt, alloc, desk)
+}
+
+fn install_nth<K: Keeper>(
+    alloc: Global,
+    desk: &mut K,
+    gem: &Edition<'static>,
+    n: u64,
+) -> Result<(), Fail> {
+    let name = format!(in alloc; "gem{n}")?;
+    let end = install(desk, name.as_str(), name.as_str(), gem);
+    drop(name);
+    end
 }
 
 /// Installs `gem0` to `gem63`.
-fn fill(
+fn fill<K: Keeper>(
     rt: &impl Abort,
     alloc: Global,
-    desk: &mut PlainDesk,
+    desk: &mut K,
     gem: &Edition<'static>,
 ) -> Result<(), Fail> {
     for n in 0..64u64 {
-        let name = format!(in alloc; "gem{n}")?;
-        install(desk, name.as_str(), name.as_str(), gem)?;
+        install_nth(alloc, desk, gem, n)?;
     }
     same(rt, &desk.summary()?.items.len(), &64);
     Ok(())
@@ -323,25 +427,16 @@ static PAST_64: [(Asked, &str); 2] = [
     (Asked::Install("gem63"), "65 Install gem63 #65"),
 ];
 
-fn check_answer(
+/// Sixty-four items.
+fn run_full<K: Keeper>(
     rt: &impl Abort,
     alloc: Global,
-    desk: &mut PlainDesk,
+    desk: &mut K,
     gem: &Edition<'static>,
-    row: (Asked, &'static str),
 ) -> Result<(), Fail> {
-    let (asked, answer) = row;
-    let answered = answered(alloc, desk, "more", &asked.command(gem))?;
-    same_text(rt, answered.as_str(), answer);
+    fill(rt, alloc, desk, gem)?;
+    for (asked, answer) in &PAST_64 {
+        check_answer(rt, alloc, desk, "more", &asked.command(&*gem), answer)?;
+    }
     Ok(())
-}
-
-#[test]
-fn sixty_four_items(rt: HostRuntime) -> Result<(), Fail> {
-    let alloc = rt.alloc();
-    let gem = read(alloc, GEM)?;
-    let mut desk = PlainDesk::new(alloc);
-    fill(&rt, alloc, &mut desk, &gem)?;
-    check_answer(&rt, alloc, &mut desk, &gem, PAST_64[0])?;
-    check_answer(&rt, alloc, &mut desk, &gem, PAST_64[1])
 }

@@ -2,7 +2,7 @@
 use super::files::{EDGE, Files, GEM, ORE, STONES, TELL, install, install_files};
 use super::rows::{Sought, counts, hand_out};
 use crate::checks::{holds, same, same_text_of};
-use dict_desk::PlainDesk;
+use dict_desk::{Fault, Keeper, PlainDesk};
 use dict_index::read_edition;
 use dict_match::Strategy;
 use std::alloc::{AllocError, Global};
@@ -25,20 +25,21 @@ fn row_count(text: &str) -> u64 {
 }
 
 // These rows are handed out of an edition, of which so many are taken at most.
-fn check_out(
+fn check_out<K: Keeper>(
     rt: &impl Abort,
     alloc: Global,
-    desk: &mut PlainDesk,
+    desk: &mut K,
     (number, sought): (u64, Sought),
     (strategy, query): (Strategy, &str),
     (most, wanted): (usize, &str),
 ) -> Result<(), Fail> {
     let rows = hand_out(alloc, desk, number, sought, strategy, query, most)?;
     same_text_of(rt, rows.as_str(), wanted, query);
+    drop(rows);
     Ok(())
 }
 
-fn check(rt: &impl Abort, alloc: Global, desk: &mut PlainDesk, row: Row) -> Result<(), Fail> {
+fn check<K: Keeper>(rt: &impl Abort, alloc: Global, desk: &mut K, row: Row) -> Result<(), Fail> {
     let Row(number, strategy, query, found, heads) = row;
     let by = (strategy, query);
     check_out(rt, alloc, desk, (number, Sought::Found), by, (9, found))?;
@@ -172,10 +173,10 @@ static INFOS: [Stop; 3] = [
     (1, Sought::Info, 1, "=;!"),
 ];
 
-fn check_stops(
+fn check_stops<K: Keeper>(
     rt: &impl Abort,
     alloc: Global,
-    desk: &mut PlainDesk,
+    desk: &mut K,
     stops: &[Stop],
 ) -> Result<(), Fail> {
     for (number, sought, most, wanted) in stops {
@@ -187,25 +188,20 @@ fn check_stops(
 
 static FIVE: [Files; 5] = [GEM, ORE, EDGE, TELL, STONES];
 
-fn install_five(alloc: Global, desk: &mut PlainDesk) -> Result<(), Fail> {
+fn install_five<K: Keeper>(alloc: Global, desk: &mut K) -> Result<(), Fail> {
     for files in &FIVE {
         install_files(alloc, desk, files.0, files.0, *files)?;
     }
     Ok(())
 }
 
-fn run(rt: &impl Abort, alloc: Global, desk: &mut PlainDesk) -> Result<(), Fail> {
+/// All strategies.
+fn look_up<K: Keeper>(rt: &impl Abort, alloc: Global, desk: &mut K) -> Result<(), Fail> {
     install_five(alloc, desk)?;
     for row in &ROWS {
         check(rt, alloc, desk, *row)?;
     }
     check_stops(rt, alloc, desk, &INFOS)
-}
-
-#[test]
-fn all_strategies(rt: HostRuntime) -> Result<(), Fail> {
-    let mut desk = PlainDesk::new(rt.alloc());
-    run(&rt, rt.alloc(), &mut desk)
 }
 
 // What is sought in `stones`.
@@ -231,18 +227,17 @@ static STOPS: [Stop; 9] = [
     (1, Sought::Heads, 4, "pearl=;opal=;agate=;."),
 ];
 
-#[test]
-fn a_sink_stops_at_each_row(rt: HostRuntime) -> Result<(), Fail> {
-    let mut desk = PlainDesk::new(rt.alloc());
-    install_files(rt.alloc(), &mut desk, "a", "stones", STONES)?;
-    check_stops(&rt, rt.alloc(), &mut desk, &STOPS)
+/// A sink stops at each row.
+fn stop<K: Keeper>(rt: &impl Abort, alloc: Global, desk: &mut K) -> Result<(), Fail> {
+    install_files(alloc, desk, "a", "stones", STONES)?;
+    check_stops(rt, alloc, desk, &STOPS)
 }
 
 // How many entries end by the word opal in the first edition, and none in the second.
-fn check_opals(
+fn check_opals<K: Keeper>(
     rt: &impl Abort,
     alloc: Global,
-    desk: &mut PlainDesk,
+    desk: &mut K,
     opals: u64,
 ) -> Result<(), Fail> {
     let (first, _) = counts(alloc, desk, 1, Strategy::Last, "opal")?;
@@ -252,7 +247,7 @@ fn check_opals(
     Ok(())
 }
 
-fn come_and_go(rt: &impl Abort, alloc: Global, desk: &mut PlainDesk) -> Result<(), Fail> {
+fn come_and_go<K: Keeper>(rt: &impl Abort, alloc: Global, desk: &mut K) -> Result<(), Fail> {
     install_files(alloc, desk, "a", "gem", GEM)?;
     check_opals(rt, alloc, desk, 2)?;
     install_files(alloc, desk, "b", "gem", ORE)?;
@@ -261,27 +256,39 @@ fn come_and_go(rt: &impl Abort, alloc: Global, desk: &mut PlainDesk) -> Result<(
     check_opals(rt, alloc, desk, 0)
 }
 
-#[test]
-fn editions_come_and_go(rt: HostRuntime) -> Result<(), Fail> {
-    let mut desk = PlainDesk::new(rt.alloc());
-    come_and_go(&rt, rt.alloc(), &mut desk)
+fn push_line(alloc: Global, index: &mut String, word: u64) -> Result<(), AllocError> {
+    let line = format!(in alloc; "word {word}\tb\tC\n")?;
+    let put = index.push_str(line.as_str());
+    drop(line);
+    put
+}
+
+fn push_thousand(alloc: Global, index: &mut String) -> Result<(), AllocError> {
+    for n in 0..1000u64 {
+        push_line(alloc, index, n % 250)?;
+    }
+    Ok(())
 }
 
 // An index of 1,000 entries: `word 0` to `word 249`, four times over.
 fn thousand(alloc: Global) -> Result<String, AllocError> {
     let mut index = String::from_str(alloc, "00-database-short\tA\tb\n")?;
-    for n in 0..1000u64 {
-        let word = n % 250;
-        let line = format!(in alloc; "word {word}\tb\tC\n")?;
-        index.push_str(line.as_str())?;
-    }
+    push_thousand(alloc, &mut index)?;
     Ok(index)
 }
 
-fn install_thousand(alloc: Global, desk: &mut PlainDesk) -> Result<(), Fail> {
-    let index = thousand(alloc)?;
+fn install_index<K: Keeper>(alloc: Global, desk: &mut K, index: &str) -> Result<(), Fail> {
     let edition = read_edition(alloc, index.as_bytes(), STONES.2)?;
-    install(desk, "a", "stones", &edition)
+    let end = install(desk, "a", "stones", &edition);
+    drop(edition);
+    end
+}
+
+fn install_thousand<K: Keeper>(alloc: Global, desk: &mut K) -> Result<(), Fail> {
+    let index = thousand(alloc)?;
+    let end = install_index(alloc, desk, &index);
+    drop(index);
+    end
 }
 
 /// A strategy, a query, how many entries it finds, and how many headwords.
@@ -302,19 +309,38 @@ static THOUSAND: [Many; 11] = [
     Many(Strategy::Last, "250", 0, 0),
 ];
 
-fn check_many(rt: &impl Abort, alloc: Global, desk: &mut PlainDesk, row: Many) -> Result<(), Fail> {
+// How many rows of these are handed out, at most 2,000.
+fn count_out<K: Keeper>(
+    alloc: Global,
+    desk: &mut K,
+    sought: Sought,
+    strategy: Strategy,
+    query: &str,
+) -> Result<u64, Fault> {
+    let rows = hand_out(alloc, desk, 1, sought, strategy, query, 2000)?;
+    let count = row_count(rows.as_str());
+    drop(rows);
+    Ok(count)
+}
+
+fn check_many<K: Keeper>(
+    rt: &impl Abort,
+    alloc: Global,
+    desk: &mut K,
+    row: Many,
+) -> Result<(), Fail> {
     let Many(strategy, query, entries, heads) = row;
     let (found, words) = counts(alloc, desk, 1, strategy, query)?;
     holds(rt, found == entries, query);
     holds(rt, words == heads, query);
-    let found = row_count(hand_out(alloc, desk, 1, Sought::Found, strategy, query, 2000)?.as_str());
+    let found = count_out(alloc, desk, Sought::Found, strategy, query)?;
     holds(rt, found == entries, query);
-    let words = row_count(hand_out(alloc, desk, 1, Sought::Heads, strategy, query, 2000)?.as_str());
+    let words = count_out(alloc, desk, Sought::Heads, strategy, query)?;
     holds(rt, words == heads, query);
     Ok(())
 }
 
-fn run_thousand(rt: &impl Abort, alloc: Global, desk: &mut PlainDesk) -> Result<(), Fail> {
+fn run_thousand<K: Keeper>(rt: &impl Abort, alloc: Global, desk: &mut K) -> Result<(), Fail> {
     install_thousand(alloc, desk)?;
     for row in &THOUSAND {
         check_many(rt, alloc, desk, *row)?;
@@ -322,8 +348,41 @@ fn run_thousand(rt: &impl Abort, alloc: Global, desk: &mut PlainDesk) -> Result<
     Ok(())
 }
 
+/// What is done over a new desk.
+#[derive(Clone, Copy)]
+enum Task {
+    LookUp,
+    Stop,
+    ComeAndGo,
+    Thousand,
+}
+
+fn run_one<K: Keeper>(
+    rt: &impl Abort,
+    alloc: Global,
+    desk: &mut K,
+    what: Task,
+) -> Result<(), Fail> {
+    match what {
+        Task::LookUp => look_up(rt, alloc, desk),
+        Task::Stop => stop(rt, alloc, desk),
+        Task::ComeAndGo => come_and_go(rt, alloc, desk),
+        Task::Thousand => run_thousand(rt, alloc, desk),
+    }
+}
+
+// One function owns a desk.
+fn run_anew(rt: &impl Abort, alloc: Global, what: Task) -> Result<(), Fail> {
+    let mut desk = PlainDesk::new(alloc);
+    let end = run_one(rt, alloc, &mut desk, what);
+    drop(desk);
+    end
+}
+
 #[test]
-fn a_thousand_entries(rt: HostRuntime) -> Result<(), Fail> {
-    let mut desk = PlainDesk::new(rt.alloc());
-    run_thousand(&rt, rt.alloc(), &mut desk)
+fn lookups_over_a_new_desk(rt: HostRuntime) -> Result<(), Fail> {
+    for what in [Task::LookUp, Task::Stop, Task::ComeAndGo, Task::Thousand] {
+        run_anew(&rt, rt.alloc(), what)?;
+    }
+    Ok(())
 }

@@ -43,7 +43,40 @@ fn step(
     if let Ok(change) = &mut planned {
         swap(summary, &mut change.summary);
     }
+    drop(planned);
     put
+}
+
+/// What is answered to it.
+fn told(alloc: Global, summary: &mut Summary, command: &Command<'_>) -> Result<String, AllocError> {
+    let mut text = String::new(alloc);
+    step(alloc, &mut text, summary, command)?;
+    Ok(text)
+}
+
+fn check_answer(
+    rt: &impl Abort,
+    alloc: Global,
+    summary: &mut Summary,
+    command: &Command<'_>,
+    answer: &str,
+) -> Result<(), AllocError> {
+    let text = told(alloc, summary, command)?;
+    same_text(rt, text.as_str(), answer);
+    drop(text);
+    Ok(())
+}
+
+fn check_items(
+    rt: &impl Abort,
+    alloc: Global,
+    summary: &Summary,
+    after: &str,
+) -> Result<(), AllocError> {
+    let items = listed(alloc, summary)?;
+    same_text(rt, items.as_str(), after);
+    drop(items);
+    Ok(())
 }
 
 fn check(
@@ -52,14 +85,10 @@ fn check(
     summary: &mut Summary,
     gem: &Edition<'static>,
     row: Row,
-) -> Result<(), Fail> {
+) -> Result<(), AllocError> {
     let Row(asked, answer, after) = row;
-    let mut text = String::new(alloc);
-    step(alloc, &mut text, summary, &asked.command(gem))?;
-    same_text(rt, text.as_str(), answer);
-    let items = listed(alloc, summary)?;
-    same_text(rt, items.as_str(), after);
-    Ok(())
+    check_answer(rt, alloc, summary, &asked.command(gem), answer)?;
+    check_items(rt, alloc, summary, after)
 }
 
 /// Plans the commands one after another from this summary on.
@@ -69,28 +98,28 @@ fn run(
     summary: &mut Summary,
     gem: &Edition<'static>,
     rows: &[Row],
-) -> Result<(), Fail> {
+) -> Result<(), AllocError> {
     for row in rows {
         check(rt, alloc, summary, gem, *row)?;
     }
     Ok(())
 }
 
-/// The same from the empty summary on, by two tables: how many installs were accepted then, and how many commands.
+/// The same by two tables: so many installs were accepted then, and so many commands.
 fn run_both(
     rt: &impl Abort,
     alloc: Global,
-    first: &[Row],
-    rows: &[Row],
-) -> Result<(u64, u64), Fail> {
-    let gem = read(alloc, GEM)?;
-    let mut summary = Summary::new(alloc);
-    run(rt, alloc, &mut summary, &gem, first)?;
-    run(rt, alloc, &mut summary, &gem, rows)?;
-    Ok((summary.installs, summary.accepted))
+    summary: &mut Summary,
+    gem: &Edition<'static>,
+    (first, rows, accepted): (&[Row], &[Row], (u64, u64)),
+) -> Result<(), AllocError> {
+    run(rt, alloc, summary, gem, first)?;
+    run(rt, alloc, summary, gem, rows)?;
+    same(rt, &(summary.installs, summary.accepted), &accepted);
+    Ok(())
 }
 
-static ONE: [Row; 15] = [
+const ONE: &[Row] = &[
     Row(Asked::Rollback("gem"), "21 Unknown", ""),
     Row(Asked::Retire("gem"), "21 Unknown", ""),
     Row(Asked::Install("gem"), "1 Install gem #1", "gem Gems 1; "),
@@ -131,7 +160,7 @@ static ONE: [Row; 15] = [
 const THREE: &str = "ore Gems 1; gem Gems 2; all All +ore +gem; ";
 
 // `ore`, `gem` and the virtual `all` of both.
-static MADE: [Row; 3] = [
+const MADE: &[Row] = &[
     Row(Asked::Install("ore"), "1 Install ore #1", "ore Gems 1; "),
     Row(
         Asked::Install("gem"),
@@ -145,7 +174,7 @@ static MADE: [Row; 3] = [
     ),
 ];
 
-static OF_THREE: [Row; 11] = [
+const OF_THREE: &[Row] = &[
     Row(Asked::Install("all"), "22 IsVirtual", THREE),
     Row(Asked::Rollback("all"), "22 IsVirtual", THREE),
     Row(Asked::Retire("gem"), "24 Listed", THREE),
@@ -183,7 +212,7 @@ static OF_THREE: [Row; 11] = [
     Row(Asked::Retire("ruby"), "11 Retire ruby -4", ""),
 ];
 
-static PLACES: [Row; 9] = [
+const PLACES: &[Row] = &[
     Row(Asked::Place("gem", 3), "30 BadPlace", THREE),
     Row(Asked::Place("gem", 4_294_967_295), "30 BadPlace", THREE),
     Row(Asked::Place("zz", 3), "21 Unknown", THREE),
@@ -217,7 +246,7 @@ static PLACES: [Row; 9] = [
 
 const MANY: &[&str] = &["zz"; 65];
 
-static REFUSED: [Row; 17] = [
+const REFUSED: &[Row] = &[
     Row(Asked::Put("gem", "Gem", &["ore"]), "32 IsRegular", THREE),
     Row(Asked::Put("gem", " Gem", &[]), "32 IsRegular", THREE),
     Row(Asked::Put("1", " Gem", &[]), "20 BadName", THREE),
@@ -261,22 +290,73 @@ static REFUSED: [Row; 17] = [
     ),
 ];
 
+/// What is planned from the empty summary on.
+#[derive(Clone, Copy)]
+enum Task {
+    /// Two tables of commands: so many installs are accepted then, and so many commands.
+    Both(&'static [Row], &'static [Row], (u64, u64)),
+    /// Commands of which one is left.
+    Late,
+    /// Commands over as many items as there may be.
+    Full,
+}
+
+static TASKS: [Task; 6] = [
+    Task::Both(&[], ONE, (5, 10)),
+    Task::Both(MADE, OF_THREE, (4, 11)),
+    Task::Both(MADE, PLACES, (2, 8)),
+    Task::Both(MADE, REFUSED, (2, 4)),
+    Task::Late,
+    Task::Full,
+];
+
+fn run_one(
+    rt: &impl Abort,
+    alloc: Global,
+    summary: &mut Summary,
+    gem: &Edition<'static>,
+    what: Task,
+) -> Result<(), AllocError> {
+    match what {
+        Task::Both(first, rows, accepted) => {
+            run_both(rt, alloc, summary, gem, (first, rows, accepted))
+        }
+        Task::Late => run_late(rt, alloc, summary, gem),
+        Task::Full => run_full(rt, alloc, summary, gem),
+    }
+}
+
+/// One function owns a summary, and one what is installed.
+fn run_over(
+    rt: &impl Abort,
+    alloc: Global,
+    gem: &Edition<'static>,
+    what: Task,
+) -> Result<(), AllocError> {
+    let mut summary = Summary::new(alloc);
+    let end = run_one(rt, alloc, &mut summary, gem, what);
+    drop(summary);
+    end
+}
+
+fn run_anew(rt: &impl Abort, alloc: Global, what: Task) -> Result<(), Fail> {
+    let gem = read(alloc, GEM)?;
+    let end = run_over(rt, alloc, &gem, what);
+    drop(gem);
+    Ok(end?)
+}
+
 #[test]
 fn commands_one_after_another(rt: HostRuntime) -> Result<(), Fail> {
-    for (first, rows, accepted) in [
-        ([].as_slice(), ONE.as_slice(), (5, 10)),
-        (MADE.as_slice(), OF_THREE.as_slice(), (4, 11)),
-        (MADE.as_slice(), PLACES.as_slice(), (2, 8)),
-        (MADE.as_slice(), REFUSED.as_slice(), (2, 4)),
-    ] {
-        same(&rt, &run_both(&rt, rt.alloc(), first, rows)?, &accepted);
+    for what in &TASKS {
+        run_anew(&rt, rt.alloc(), *what)?;
     }
     Ok(())
 }
 
 const LATE: &str = "ore Gems 1; gem Gems 2; all All +gem; ";
 
-static LAST: [Row; 9] = [
+const LAST: &[Row] = &[
     Row(
         Asked::Put("all", "All", &["gem"]),
         "9223372036854775807 Virtual all",
@@ -298,15 +378,17 @@ fn run_late(
     alloc: Global,
     summary: &mut Summary,
     gem: &Edition<'static>,
-) -> Result<(), Fail> {
-    run(rt, alloc, summary, gem, &MADE)?;
+) -> Result<(), AllocError> {
+    run(rt, alloc, summary, gem, MADE)?;
     let mut late = Summary {
         items: Vec::new(alloc),
         installs: 2,
         accepted: 9_223_372_036_854_775_806,
     };
     swap(&mut late.items, &mut summary.items);
-    run(rt, alloc, &mut late, gem, &LAST)
+    let end = run(rt, alloc, &mut late, gem, LAST);
+    drop(late);
+    end
 }
 
 // A command over 64 items, its answer, and how many items there are after it.
@@ -328,37 +410,75 @@ static FULL: [(Asked, &str, usize); 11] = [
     (Asked::Place("v0", 64), "30 BadPlace", 64),
 ];
 
+fn put_named(
+    alloc: Global,
+    text: &mut String,
+    summary: &mut Summary,
+    name: &str,
+) -> Result<(), AllocError> {
+    let command = Command::PutVirtual {
+        name,
+        title: "V",
+        members: &["gem"],
+    };
+    step(alloc, text, summary, &command)
+}
+
+fn put_nth(
+    alloc: Global,
+    text: &mut String,
+    summary: &mut Summary,
+    n: u8,
+) -> Result<(), AllocError> {
+    let name = format!(in alloc; "v{n}")?;
+    let end = put_named(alloc, text, summary, name.as_str());
+    drop(name);
+    end
+}
+
 /// Makes `gem` with a former edition, and 63 virtual items.
-fn fill(alloc: Global, summary: &mut Summary, gem: &Edition<'static>) -> Result<(), Fail> {
-    let mut text = String::new(alloc);
+fn fill_telling(
+    alloc: Global,
+    text: &mut String,
+    summary: &mut Summary,
+    gem: &Edition<'static>,
+) -> Result<(), AllocError> {
     let install = Asked::Install("gem").command(gem);
-    step(alloc, &mut text, summary, &install)?;
-    step(alloc, &mut text, summary, &install)?;
+    step(alloc, text, summary, &install)?;
+    step(alloc, text, summary, &install)?;
     for n in 0u8..63 {
-        let name = format!(in alloc; "v{n}")?;
-        let command = Command::PutVirtual {
-            name: name.as_str(),
-            title: "V",
-            members: &["gem"],
-        };
-        step(alloc, &mut text, summary, &command)?;
+        put_nth(alloc, text, summary, n)?;
     }
     Ok(())
 }
 
-/// What is answered to a command, and how many items there are after the change, or 64 where there is none.
+fn fill(alloc: Global, summary: &mut Summary, gem: &Edition<'static>) -> Result<(), AllocError> {
+    let mut text = String::new(alloc);
+    let end = fill_telling(alloc, &mut text, summary, gem);
+    drop(text);
+    end
+}
+
+/// How many items there are after the change, or 64 where there is none.
+fn count_after(planned: &Result<PlannedChange, PlanFault>) -> usize {
+    match planned {
+        Ok(change) => change.summary.items.len(),
+        Err(_) => 64,
+    }
+}
+
+/// What is answered to a command, and how many items there are then.
 fn told_full(
     alloc: Global,
     summary: &Summary,
     command: &Command<'_>,
 ) -> Result<(String, usize), AllocError> {
-    let mut text = String::new(alloc);
     let planned = plan(alloc, summary, command);
-    push_answer(alloc, &mut text, &planned)?;
-    let count = match &planned {
-        Ok(change) => change.summary.items.len(),
-        Err(_) => 64,
-    };
+    let mut text = String::new(alloc);
+    let put = push_answer(alloc, &mut text, &planned);
+    let count = count_after(&planned);
+    drop(planned);
+    put?;
     Ok((text, count))
 }
 
@@ -372,6 +492,7 @@ fn check_full(
     let (asked, answer, count) = row;
     let (text, found) = told_full(alloc, summary, &asked.command(gem))?;
     same_text(rt, text.as_str(), answer);
+    drop(text);
     same(rt, &found, &count);
     Ok(())
 }
@@ -381,21 +502,12 @@ fn run_full(
     alloc: Global,
     summary: &mut Summary,
     gem: &Edition<'static>,
-) -> Result<(), Fail> {
+) -> Result<(), AllocError> {
     fill(alloc, summary, gem)?;
     for row in &FULL {
         check_full(rt, alloc, summary, gem, *row)?;
     }
     Ok(())
-}
-
-#[test]
-fn where_the_catalogue_is_full(rt: HostRuntime) -> Result<(), Fail> {
-    let gem = read(rt.alloc(), GEM)?;
-    let mut late = Summary::new(rt.alloc());
-    run_late(&rt, rt.alloc(), &mut late, &gem)?;
-    let mut full = Summary::new(rt.alloc());
-    run_full(&rt, rt.alloc(), &mut full, &gem)
 }
 
 static REFUSALS: [(CommandRefusal, u8, &str); 13] = [
