@@ -18,6 +18,7 @@ use dict_messages::ProgramFault;
 use dict_serving::HOST;
 use dict_session::{SessionFault, run};
 use std::alloc::Global;
+use std::mem;
 
 /// The id under which the database is installed.
 const INSTALL_ID: &str = "plain";
@@ -37,7 +38,7 @@ pub fn run_plain<S: Source, W: Sink>(
     ensures { PlainEnds (standing desk.new) name.now index.items text.items result
         (change S.stream reader.old reader.new) (change W.stream writer.old writer.new) }
 {
-    *desk = PlainDesk::new(alloc);
+    drop(mem::replace(desk, PlainDesk::new(alloc)));
     install_octets(alloc, desk, name, index, text)?;
     run_over(alloc, desk, reader, writer)
 }

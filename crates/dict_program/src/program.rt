@@ -57,9 +57,15 @@ pub fn command<
     match read_words(rt.alloc(), words) {
         Ok(task) => {
             let end = perform(rt, network, &task, desks, plain, files, reader, writer);
-            status_of_end(&end, faults)
+            let status = status_of_end(&end, faults);
+            drop(task);
+            status
         }
-        Err(error) => answer_words(rt.alloc(), &error, writer, faults),
+        Err(error) => {
+            let status = answer_words(rt.alloc(), &error, writer, faults);
+            drop(error);
+            status
+        }
     }
 }
 

@@ -99,7 +99,7 @@ fn serve<'w, K: Preparer + Drop, D: DeskOpener<K>, B: Network<TcpListener, Syste
         (change W.stream writer.old writer.new) }
 {
     let mut driver = None;
-    serve_catalogue(
+    let end = serve_catalogue(
         network,
         rt,
         rt.alloc(),
@@ -108,7 +108,9 @@ fn serve<'w, K: Preparer + Drop, D: DeskOpener<K>, B: Network<TcpListener, Syste
         wanted,
         writer,
         &mut driver,
-    )
+    );
+    drop(driver);
+    end
 }
 
 // Changes the catalogue of a file.
