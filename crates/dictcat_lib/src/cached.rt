@@ -101,6 +101,7 @@ pub(crate) fn open_cached<S: Start>(
         Err(error) => return Err((error, None)),
     };
     let Some(options) = options(rt, path) else {
+        drop(files);
         return Err((CANNOT_OPEN, None));
     };
     match Connection::open_files_with(rt.alloc(), files, options, true) {

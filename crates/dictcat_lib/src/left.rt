@@ -7,9 +7,9 @@ ghost use Rattle.dict_store.specs.Prepared.{Undoes};
 use dict_store::{Desk, Unopened};
 use sqlite::{Connection, FileStore, Files};
 use sqlite_disk::Disk;
+use std::mem;
 
 /// What is left of the connection that was closed last, or of the desk whose file wasn't opened again.
-#[derive(Drop)]
 pub(crate) enum Left<D: Disk + Drop> {
     /// The two files. The log was copied.
     Closed(Files<D>),
@@ -19,6 +19,18 @@ pub(crate) enum Left<D: Disk + Drop> {
     Unopened(Unopened<D>),
     /// The desk's connection. Its files were not let go of.
     Kept(Connection<FileStore<D>>),
+}
+
+// It is written out, so that what owns one doesn't prove again how each part is dropped.
+impl<D: Disk + Drop> Drop for Left<D> {
+    fn drop(self) {
+        match self {
+            Left::Closed(_) => {}
+            Left::Uncopied(_) => {}
+            Left::Unopened(_) => {}
+            Left::Kept(_) => {}
+        }
+    }
 }
 
 // The connection of a desk, in which what was prepared is undone.
@@ -36,5 +48,5 @@ pub(crate) fn connection_of<D: Disk + Drop>(desk: Desk<FileStore<D>>) -> Connect
 pub(crate) fn hold<D: Disk + Drop>(held: &mut Option<Left<D>>, left: Left<D>)
     ensures { held.new ≡ Some left }
 {
-    *held = Some(left);
+    drop(mem::replace(held, Some(left)));
 }

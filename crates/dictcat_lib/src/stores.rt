@@ -82,6 +82,9 @@ pub(crate) fn close_file<D: Disk + Drop>(conn: Connection<FileStore<D>>) -> Left
 {
     match conn.close_files() {
         Ok(files) => Left::Closed(files),
-        Err((_, store)) => Left::Uncopied(store),
+        Err((error, store)) => {
+            drop(error);
+            Left::Uncopied(store)
+        }
     }
 }
