@@ -1,102 +1,60 @@
 // Commands one after another.
 use super::asked::{Asked, push_kept, push_refusal};
+use super::files::{GEM, read};
 use crate::checks::{same, same_text};
-use dict_catalogue::{Command, CommandRefusal, Kept};
-use dict_desk::{Fault, Halted, Keeper, Lookup, apply_all};
+use dict_catalogue::{CommandRefusal, Kept};
+use dict_desk::{Fault, Halted, Lookup, PlainDesk, apply_all};
 use dict_index::Edition;
 use std::alloc::{AllocError, Global};
 use std::process::Abort;
 use std::test::Fail;
 
-fn push_answer(
-    alloc: Global,
-    text: &mut String,
-    answer: &Result<Kept, CommandRefusal>,
-) -> Result<(), AllocError> {
-    match answer {
-        Ok(kept) => push_kept(alloc, text, kept),
-        Err(refusal) => push_refusal(alloc, text, refusal.number(), refusal.name()),
-    }
-}
-
-/// Puts the answers in order.
-fn push_all(
-    alloc: Global,
-    text: &mut String,
-    answers: &[Result<Kept, CommandRefusal>],
-) -> Result<(), AllocError> {
+/// The answers in order.
+fn told_all(alloc: Global, answers: &[Result<Kept, CommandRefusal>]) -> Result<String, AllocError> {
+    let mut text = String::new(alloc);
     for answer in answers {
-        push_answer(alloc, text, answer)?;
+        match answer {
+            Ok(kept) => push_kept(alloc, &mut text, kept)?,
+            Err(refusal) => push_refusal(alloc, &mut text, refusal.number(), refusal.name())?,
+        }
         text.push_str("; ")?;
     }
-    Ok(())
+    Ok(text)
 }
 
-fn apply_each<K: Keeper>(
-    alloc: Global,
-    desk: &mut K,
-    requests: &[(&str, Command)],
-) -> Result<Vec<Result<Kept, CommandRefusal>>, Halted> {
-    apply_all(alloc, desk, requests)
-}
-
-/// Puts what a desk answers to an install, a rollback, a repeat of the first id and a retire.
-fn push_four<K: Keeper>(
-    alloc: Global,
-    text: &mut String,
-    desk: &mut K,
-    gem: &Edition<'static>,
-) -> Result<(), Fail> {
+/// What a desk answers to an install, a rollback, a repeat of the first id and a retire.
+fn told_four(alloc: Global, desk: &mut PlainDesk, gem: &Edition<'static>) -> Result<String, Fail> {
     let requests = [
         ("r1", Asked::Install("gem").command(gem)),
         ("r2", Asked::Rollback("gem").command(gem)),
         ("r1", Asked::Retire("gem").command(gem)),
         ("r2", Asked::Retire("gem").command(gem)),
     ];
-    let answers = apply_each(alloc, desk, &requests)?;
-    let put = push_all(alloc, text, answers.as_slice());
-    drop(answers);
-    Ok(put?)
-}
-
-fn check_four<K: Keeper>(
-    rt: &impl Abort,
-    alloc: Global,
-    text: &mut String,
-    desk: &mut K,
-    gem: &Edition<'static>,
-) -> Result<(), Fail> {
-    push_four(alloc, text, desk, gem)?;
-    same_text(
-        rt,
-        text.as_str(),
-        "1 Install gem #1; 23 NoFormer; 1 Install gem #1; 2 Retire gem; ",
-    );
-    Ok(())
+    let answers = apply_all(alloc, desk, &requests)?;
+    Ok(told_all(alloc, answers.as_slice())?)
 }
 
 /// What comes after it: nothing is there, and no command is no answer.
-fn check_after<K: Keeper>(rt: &impl Abort, alloc: Global, desk: &mut K) -> Result<(), Fail> {
+fn check_after(rt: &impl Abort, alloc: Global, desk: &mut PlainDesk) -> Result<(), Fail> {
     same(rt, &desk.summary()?.items.len(), &0);
     same(rt, &desk.summary()?.accepted, &2);
-    let answers = apply_each(alloc, desk, &[])?;
-    same(rt, &answers.len(), &0);
-    drop(answers);
+    let count = apply_all(alloc, desk, &[])?.len();
+    same(rt, &count, &0);
     Ok(())
 }
 
-/// Each of four commands in turn.
-pub(crate) fn apply_four<K: Keeper>(
-    rt: &impl Abort,
-    alloc: Global,
-    desk: &mut K,
-    gem: &Edition<'static>,
-) -> Result<(), Fail> {
-    let mut text = String::new(alloc);
-    let end = check_four(rt, alloc, &mut text, desk, gem);
-    drop(text);
-    end?;
-    check_after(rt, alloc, desk)
+#[test]
+fn each_in_turn(rt: HostRuntime) -> Result<(), Fail> {
+    let alloc = rt.alloc();
+    let gem = read(alloc, GEM)?;
+    let mut desk = PlainDesk::new(alloc);
+    let text = told_four(alloc, &mut desk, &gem)?;
+    same_text(
+        &rt,
+        text.as_str(),
+        "1 Install gem #1; 23 NoFormer; 1 Install gem #1; 2 Retire gem; ",
+    );
+    check_after(&rt, alloc, &mut desk)
 }
 
 #[test]

@@ -1,5 +1,4 @@
 // Commands on a catalogue in memory, and what it shows after them.
-use super::all::apply_four;
 use super::asked::{Asked, listed, push_kept, push_refusal};
 use super::files::{GEM, install, read};
 use crate::checks::{same, same_text, same_text_of};
@@ -27,63 +26,38 @@ fn push_answer(
 }
 
 /// What the desk answers to a command.
-fn answered<K: Keeper>(
+fn answered(
     alloc: Global,
-    desk: &mut K,
+    desk: &mut PlainDesk,
     id: &str,
     command: &Command<'_>,
 ) -> Result<String, AllocError> {
-    let answer = desk.apply(id, command);
     let mut text = String::new(alloc);
-    let put = push_answer(alloc, &mut text, &answer);
-    drop(answer);
-    put?;
+    let answer = desk.apply(id, command);
+    push_answer(alloc, &mut text, &answer)?;
     Ok(text)
 }
 
-fn check_answer<K: Keeper>(
+fn check(
     rt: &impl Abort,
     alloc: Global,
-    desk: &mut K,
-    id: &str,
-    command: &Command<'_>,
-    answer: &str,
-) -> Result<(), Fail> {
-    let text = answered(alloc, desk, id, command)?;
-    same_text(rt, text.as_str(), answer);
-    drop(text);
-    Ok(())
-}
-
-fn check_items<K: Keeper>(
-    rt: &impl Abort,
-    alloc: Global,
-    desk: &K,
-    after: &str,
-) -> Result<(), Fail> {
-    let items = listed(alloc, desk.summary()?)?;
-    same_text(rt, items.as_str(), after);
-    drop(items);
-    Ok(())
-}
-
-fn check<K: Keeper>(
-    rt: &impl Abort,
-    alloc: Global,
-    desk: &mut K,
+    desk: &mut PlainDesk,
     gem: &Edition<'static>,
     row: Row,
 ) -> Result<(), Fail> {
     let Row(id, asked, answer, after) = row;
-    check_answer(rt, alloc, desk, id, &asked.command(gem), answer)?;
-    check_items(rt, alloc, desk, after)
+    let answered = answered(alloc, desk, id, &asked.command(gem))?;
+    same_text(rt, answered.as_str(), answer);
+    let items = listed(alloc, desk.summary()?)?;
+    same_text(rt, items.as_str(), after);
+    Ok(())
 }
 
 /// Applies the commands one after another.
-fn run<K: Keeper>(
+fn run(
     rt: &impl Abort,
     alloc: Global,
-    desk: &mut K,
+    desk: &mut PlainDesk,
     gem: &Edition<'static>,
     rows: &[Row],
 ) -> Result<(), Fail> {
@@ -93,51 +67,14 @@ fn run<K: Keeper>(
     Ok(())
 }
 
-/// What is done over a new desk.
-#[derive(Clone, Copy)]
-enum Task {
-    Rows(&'static [Row]),
-    Once,
-    Full,
-    Four,
-}
-
-fn run_one<K: Keeper>(
-    rt: &impl Abort,
-    alloc: Global,
-    desk: &mut K,
-    gem: &Edition<'static>,
-    what: Task,
-) -> Result<(), Fail> {
-    match what {
-        Task::Rows(rows) => run(rt, alloc, desk, gem, rows),
-        Task::Once => run_once(rt, alloc, desk, gem),
-        Task::Full => run_full(rt, alloc, desk, gem),
-        Task::Four => apply_four(rt, alloc, desk, gem),
-    }
-}
-
-/// One function owns a desk, and one what is installed.
-fn run_over(
-    rt: &impl Abort,
-    alloc: Global,
-    gem: &Edition<'static>,
-    what: Task,
-) -> Result<(), Fail> {
-    let mut desk = PlainDesk::new(alloc);
-    let end = run_one(rt, alloc, &mut desk, gem, what);
-    drop(desk);
-    end
-}
-
-fn run_anew(rt: &impl Abort, alloc: Global, what: Task) -> Result<(), Fail> {
+/// The same over a new desk.
+fn run_anew(rt: &impl Abort, alloc: Global, rows: &[Row]) -> Result<(), Fail> {
     let gem = read(alloc, GEM)?;
-    let end = run_over(rt, alloc, &gem, what);
-    drop(gem);
-    end
+    let mut desk = PlainDesk::new(alloc);
+    run(rt, alloc, &mut desk, &gem, rows)
 }
 
-const SWAPPED: &[Row] = &[
+static SWAPPED: [Row; 7] = [
     Row(
         "r1",
         Asked::Install("gem"),
@@ -177,7 +114,7 @@ const SWAPPED: &[Row] = &[
     ),
 ];
 
-const ONCE: &[Row] = &[
+static ONCE: [Row; 5] = [
     Row(
         "r1",
         Asked::Install("gem"),
@@ -195,7 +132,7 @@ const ONCE: &[Row] = &[
     Row("r5", Asked::Rollback("gem"), "2 Retire gem", ""),
 ];
 
-const PLACED: &[Row] = &[
+static PLACED: [Row; 12] = [
     Row(
         "a",
         Asked::Install("ore"),
@@ -257,7 +194,7 @@ const PLACED: &[Row] = &[
 
 const GEM_AND_ALL: &str = "gem Gems 1; all All +gem; ";
 
-const REFUSED: &[Row] = &[
+static REFUSED: [Row; 17] = [
     Row(
         "a",
         Asked::Install("gem"),
@@ -322,19 +259,10 @@ const REFUSED: &[Row] = &[
     ),
 ];
 
-static TASKS: [Task; 6] = [
-    Task::Rows(SWAPPED),
-    Task::Rows(PLACED),
-    Task::Rows(REFUSED),
-    Task::Once,
-    Task::Full,
-    Task::Four,
-];
-
 #[test]
 fn commands_over_a_new_desk(rt: HostRuntime) -> Result<(), Fail> {
-    for what in &TASKS {
-        run_anew(&rt, rt.alloc(), *what)?;
+    for rows in [SWAPPED.as_slice(), PLACED.as_slice(), REFUSED.as_slice()] {
+        run_anew(&rt, rt.alloc(), rows)?;
     }
     Ok(())
 }
@@ -347,75 +275,43 @@ static KEPT: [(&str, &str); 4] = [
     ("", "none"),
 ];
 
-fn push_found(alloc: Global, text: &mut String, found: &Option<Kept>) -> Result<(), AllocError> {
-    match found {
-        Some(kept) => push_kept(alloc, text, kept),
-        None => text.push_str("none"),
-    }
-}
-
 /// The reply that is kept under an id.
-fn kept_under<K: Keeper>(alloc: Global, desk: &mut K, id: &str) -> Result<String, Fail> {
-    let found = desk.kept(id)?;
+fn kept_under(alloc: Global, desk: &mut PlainDesk, id: &str) -> Result<String, Fail> {
     let mut text = String::new(alloc);
-    let put = push_found(alloc, &mut text, &found);
-    drop(found);
-    put?;
+    match desk.kept(id)? {
+        Some(kept) => push_kept(alloc, &mut text, &kept)?,
+        None => text.push_str("none")?,
+    }
     Ok(text)
 }
 
-fn check_one_kept<K: Keeper>(
-    rt: &impl Abort,
-    alloc: Global,
-    desk: &mut K,
-    id: &str,
-    reply: &str,
-) -> Result<(), Fail> {
-    let kept = kept_under(alloc, desk, id)?;
-    same_text_of(rt, kept.as_str(), reply, id);
-    drop(kept);
-    Ok(())
-}
-
-fn check_kept<K: Keeper>(rt: &impl Abort, alloc: Global, desk: &mut K) -> Result<(), Fail> {
+fn check_kept(rt: &impl Abort, alloc: Global, desk: &mut PlainDesk) -> Result<(), Fail> {
     for (id, reply) in &KEPT {
-        check_one_kept(rt, alloc, desk, id, reply)?;
+        let kept = kept_under(alloc, desk, id)?;
+        same_text_of(rt, kept.as_str(), *reply, id);
     }
     Ok(())
 }
 
-/// An id acts once.
-fn run_once<K: Keeper>(
-    rt: &impl Abort,
-    alloc: Global,
-    desk: &mut K,
-    gem: &Edition<'static>,
-) -> Result<(), Fail> {
-    run(rt, alloc, desk, gem, ONCE)?;
-    check_kept(rt, alloc, desk)
-}
-
-fn install_nth<K: Keeper>(
-    alloc: Global,
-    desk: &mut K,
-    gem: &Edition<'static>,
-    n: u64,
-) -> Result<(), Fail> {
-    let name = format!(in alloc; "gem{n}")?;
-    let end = install(desk, name.as_str(), name.as_str(), gem);
-    drop(name);
-    end
+#[test]
+fn an_id_acts_once(rt: HostRuntime) -> Result<(), Fail> {
+    let alloc = rt.alloc();
+    let gem = read(alloc, GEM)?;
+    let mut desk = PlainDesk::new(alloc);
+    run(&rt, alloc, &mut desk, &gem, &ONCE)?;
+    check_kept(&rt, alloc, &mut desk)
 }
 
 /// Installs `gem0` to `gem63`.
-fn fill<K: Keeper>(
+fn fill(
     rt: &impl Abort,
     alloc: Global,
-    desk: &mut K,
+    desk: &mut PlainDesk,
     gem: &Edition<'static>,
 ) -> Result<(), Fail> {
     for n in 0..64u64 {
-        install_nth(alloc, desk, gem, n)?;
+        let name = format!(in alloc; "gem{n}")?;
+        install(desk, name.as_str(), name.as_str(), gem)?;
     }
     same(rt, &desk.summary()?.items.len(), &64);
     Ok(())
@@ -427,16 +323,25 @@ static PAST_64: [(Asked, &str); 2] = [
     (Asked::Install("gem63"), "65 Install gem63 #65"),
 ];
 
-/// Sixty-four items.
-fn run_full<K: Keeper>(
+fn check_answer(
     rt: &impl Abort,
     alloc: Global,
-    desk: &mut K,
+    desk: &mut PlainDesk,
     gem: &Edition<'static>,
+    row: (Asked, &'static str),
 ) -> Result<(), Fail> {
-    fill(rt, alloc, desk, gem)?;
-    for (asked, answer) in &PAST_64 {
-        check_answer(rt, alloc, desk, "more", &asked.command(&*gem), answer)?;
-    }
+    let (asked, answer) = row;
+    let answered = answered(alloc, desk, "more", &asked.command(gem))?;
+    same_text(rt, answered.as_str(), answer);
     Ok(())
+}
+
+#[test]
+fn sixty_four_items(rt: HostRuntime) -> Result<(), Fail> {
+    let alloc = rt.alloc();
+    let gem = read(alloc, GEM)?;
+    let mut desk = PlainDesk::new(alloc);
+    fill(&rt, alloc, &mut desk, &gem)?;
+    check_answer(&rt, alloc, &mut desk, &gem, PAST_64[0])?;
+    check_answer(&rt, alloc, &mut desk, &gem, PAST_64[1])
 }

@@ -5,7 +5,6 @@ use bstr::ByteSlice;
 use dict_index::{
     Edition, EditionRefusal, Entry, IndexFault, entry_key, is_edition_text, is_shown, read_edition,
 };
-use dict_match::Key;
 use std::alloc::{AllocError, Global};
 use std::process::Abort;
 use std::test::Fail;
@@ -17,12 +16,12 @@ struct Told(&'static str, usize);
 const READ: Told = Told("", 0);
 
 fn told_of(alloc: Global, index: &[u8], text: &[u8]) -> Result<Told, AllocError> {
-    match read_edition(alloc, index, text).err() {
-        None => Ok(READ),
-        Some(IndexFault::Refused { refusal, line }) => {
+    match read_edition(alloc, index, text) {
+        Ok(_edition) => Ok(READ),
+        Err(IndexFault::Refused { refusal, line }) => {
             Ok(Told(refusal.name(), line.unwrap_or(0)))
         }
-        Some(IndexFault::Memory) => Err(AllocError),
+        Err(IndexFault::Memory) => Err(AllocError),
     }
 }
 
@@ -33,18 +32,11 @@ fn check(
     index: &[u8],
     text: &[u8],
     told: Told,
-) -> Result<(), AllocError> {
+) -> Result<(), Fail> {
     let Told(name, line) = told_of(alloc, index, text)?;
     same_text(rt, name, told.0);
     same(rt, &line, &told.1);
     Ok(())
-}
-
-fn append(octets: &mut Vec<u8>, piece: &[u8], count: usize, end: &[u8]) -> Result<(), AllocError> {
-    for _ in 0..count {
-        octets.extend_from_slice(piece)?;
-    }
-    octets.extend_from_slice(end)
 }
 
 // So many pieces, one behind the other, between a front and an end.
@@ -56,20 +48,16 @@ fn repeated(
     end: &[u8],
 ) -> Result<Vec<u8>, AllocError> {
     let mut octets = front.to_vec(alloc)?;
-    append(&mut octets, piece, count, end)?;
+    for _ in 0..count {
+        octets.extend_from_slice(piece)?;
+    }
+    octets.extend_from_slice(end)?;
     Ok(octets)
 }
 
 // The octets as text, or the empty text where they are none.
 fn as_text(octets: &[u8]) -> &str {
     octets.to_str().unwrap_or("")
-}
-
-fn push_span(alloc: Global, text: &mut String, entry: &Entry<'_>) -> Result<(), AllocError> {
-    let span = format!(in alloc; " {} {} ", entry.offset, entry.size)?;
-    let put = text.push_str(span.as_str());
-    drop(span);
-    put
 }
 
 // Puts an entry as its headword, what is shown where that is another text, its key, offset, size and text.
@@ -81,20 +69,16 @@ fn push_entry(alloc: Global, text: &mut String, entry: &Entry<'_>) -> Result<(),
     }
     text.push_str("=")?;
     text.push_str(as_text(entry.key.as_bytes()))?;
-    push_span(alloc, text, entry)?;
+    let span = format!(in alloc; " {} {} ", entry.offset, entry.size)?;
+    text.push_str(span.as_str())?;
     text.push_str(entry.body)
-}
-
-fn push_entries(alloc: Global, text: &mut String, entries: &[Entry<'_>]) -> Result<(), AllocError> {
-    for entry in entries {
-        push_entry(alloc, text, entry)?;
-    }
-    Ok(())
 }
 
 fn entries_in(alloc: Global, entries: &[Entry<'_>]) -> Result<String, AllocError> {
     let mut text = String::new(alloc);
-    push_entries(alloc, &mut text, entries)?;
+    for entry in entries {
+        push_entry(alloc, &mut text, entry)?;
+    }
     Ok(text)
 }
 
@@ -190,7 +174,7 @@ fn check_edition(
     alloc: Global,
     edition: &Edition<'static>,
     case: &Case,
-) -> Result<(), AllocError> {
+) -> Result<(), Fail> {
     let Case(_, text, title, info, entries) = case;
     edition.is_well_formed();
     same_text(rt, edition.title(), *title);
@@ -198,15 +182,12 @@ fn check_edition(
     holds(rt, edition.text() == *text, title);
     let read = entries_in(alloc, edition.entries())?;
     same_text_of(rt, read.as_str(), *entries, title);
-    drop(read);
     Ok(())
 }
 
 fn read_case(rt: &impl Abort, alloc: Global, case: &Case) -> Result<(), Fail> {
     let edition = read_edition(alloc, case.0, case.1)?;
-    let end = check_edition(rt, alloc, &edition, case);
-    drop(edition);
-    Ok(end?)
+    check_edition(rt, alloc, &edition, case)
 }
 
 #[test]
@@ -262,23 +243,11 @@ static HEADWORDS: [(&str, &str); 14] = [
     ("00-databa\u{17f}e-short", "00databaseshort"),
 ];
 
-// The key as text, or the empty text where there is none.
-fn key_text(key: &Option<Key>) -> &str {
-    match key {
-        Some(key) => as_text(key.as_bytes()),
-        None => "",
+fn check_headword(rt: &impl Abort, alloc: Global, headword: &str, key: &str) -> Result<(), Fail> {
+    match entry_key(alloc, headword)? {
+        Some(found) => same_text_of(rt, as_text(found.as_bytes()), key, headword),
+        None => same_text_of(rt, "", key, headword),
     }
-}
-
-fn check_headword(
-    rt: &impl Abort,
-    alloc: Global,
-    headword: &str,
-    key: &str,
-) -> Result<(), AllocError> {
-    let found = entry_key(alloc, headword)?;
-    same_text_of(rt, key_text(&found), key, headword);
-    drop(found);
     Ok(())
 }
 
@@ -325,34 +294,14 @@ enum Place {
     Line,
 }
 
-fn may_be_headword(alloc: Global, letters: &[u8]) -> Result<bool, AllocError> {
-    let key = entry_key(alloc, as_text(letters))?;
-    let is_lawful = key.is_some();
-    drop(key);
-    Ok(is_lawful)
-}
-
-fn may_be_line(alloc: Global, letters: &[u8]) -> Result<bool, AllocError> {
-    let text = repeated(alloc, b"x\n", letters, 1, b"\ny")?;
-    let is_lawful = is_edition_text(&text);
-    drop(text);
-    Ok(is_lawful)
-}
-
-fn is_lawful_at(alloc: Global, place: Place, letters: &[u8]) -> Result<bool, AllocError> {
-    match place {
-        Place::Headword => may_be_headword(alloc, letters),
-        Place::Shown => Ok(is_shown(as_text(letters))),
-        Place::Line => may_be_line(alloc, letters),
-    }
-}
-
 // Whether so many letters are lawful there.
 fn may_be(alloc: Global, place: Place, count: usize) -> Result<bool, AllocError> {
     let letters = repeated(alloc, b"", b"a", count, b"")?;
-    let is_lawful = is_lawful_at(alloc, place, &letters);
-    drop(letters);
-    is_lawful
+    match place {
+        Place::Headword => Ok(entry_key(alloc, as_text(&letters))?.is_some()),
+        Place::Shown => Ok(is_shown(as_text(&letters))),
+        Place::Line => Ok(is_edition_text(&repeated(alloc, b"x\n", &letters, 1, b"\ny")?)),
+    }
 }
 
 // How many are lawful at most.
@@ -399,9 +348,8 @@ fn refuses_files_as_a_whole(rt: HostRuntime) -> Result<(), Fail> {
 
 // Behind the text of `gem`: a line that a text may not have, and a line of 1,022 octets.
 fn with_bad_end(alloc: Global, line: &[u8]) -> Result<Vec<u8>, AllocError> {
-    let mut octets = repeated(alloc, GEM.2, b"", 0, line)?;
-    append(&mut octets, b"x", 1_022, b"")?;
-    Ok(octets)
+    let front = repeated(alloc, GEM.2, b"", 0, line)?;
+    repeated(alloc, &front, b"x", 1_022, b"")
 }
 
 // Where two faults are in a line, that of the earlier test is told.
@@ -436,7 +384,9 @@ static LINES: [(&[u8], &str); 26] = [
 
 static GOOD: [&[u8]; 2] = [b"00-database-short\tA\tZ\n", b"dot\to\tF\n"];
 
-fn push_good(index: &mut Vec<u8>, line: &[u8], place: usize) -> Result<(), AllocError> {
+// The good lines, with another one at this place.
+fn index_with(alloc: Global, line: &[u8], place: usize) -> Result<Vec<u8>, AllocError> {
+    let mut index: Vec<u8> = Vec::new(alloc);
     for (k, other) in GOOD.iter().enumerate() {
         if k == place {
             index.extend_from_slice(line)?;
@@ -446,28 +396,7 @@ fn push_good(index: &mut Vec<u8>, line: &[u8], place: usize) -> Result<(), Alloc
     if place == 2 {
         index.extend_from_slice(line)?;
     }
-    Ok(())
-}
-
-// The good lines, with another one at this place.
-fn index_with(alloc: Global, line: &[u8], place: usize) -> Result<Vec<u8>, AllocError> {
-    let mut index: Vec<u8> = Vec::new(alloc);
-    push_good(&mut index, line, place)?;
     Ok(index)
-}
-
-fn check_at(
-    rt: &impl Abort,
-    alloc: Global,
-    text: &[u8],
-    line: &[u8],
-    name: &'static str,
-    place: usize,
-) -> Result<(), AllocError> {
-    let index = index_with(alloc, line, place)?;
-    let end = check(rt, alloc, &index, text, Told(name, place.saturating_add(1)));
-    drop(index);
-    end
 }
 
 fn check_line(
@@ -476,16 +405,10 @@ fn check_line(
     text: &[u8],
     line: &[u8],
     name: &'static str,
-) -> Result<(), AllocError> {
+) -> Result<(), Fail> {
     for place in 0..3usize {
-        check_at(rt, alloc, text, line, name, place)?;
-    }
-    Ok(())
-}
-
-fn check_lines(rt: &impl Abort, alloc: Global, text: &[u8]) -> Result<(), AllocError> {
-    for (line, name) in &LINES {
-        check_line(rt, alloc, text, line, name)?;
+        let index = index_with(alloc, line, place)?;
+        check(rt, alloc, &index, text, Told(name, place + 1))?;
     }
     Ok(())
 }
@@ -493,9 +416,10 @@ fn check_lines(rt: &impl Abort, alloc: Global, text: &[u8]) -> Result<(), AllocE
 #[test]
 fn refuses_a_line_wherever_it_stands(rt: HostRuntime) -> Result<(), Fail> {
     let text = with_bad_end(rt.alloc(), b"\xc3\x01\n")?;
-    let end = check_lines(&rt, rt.alloc(), &text);
-    drop(text);
-    Ok(end?)
+    for (line, name) in &LINES {
+        check_line(&rt, rt.alloc(), &text, line, name)?;
+    }
+    Ok(())
 }
 
 // Lines behind that of the title, and what is told of them.
@@ -538,33 +462,14 @@ static FIRST: [(&[u8], Told); 21] = [
     (b"00-database\tA\tA\n", Told("Reserved", 2)),
 ];
 
-// Reads an index of these pieces.
-fn check_repeated(
-    rt: &impl Abort,
-    alloc: Global,
-    (front, piece, count, end): (&[u8], &[u8], usize, &[u8]),
-    text: &[u8],
-    told: Told,
-) -> Result<(), AllocError> {
-    let index = repeated(alloc, front, piece, count, end)?;
-    let end = check(rt, alloc, &index, text, told);
-    drop(index);
-    end
-}
-
-fn check_first(rt: &impl Abort, alloc: Global, text: &[u8]) -> Result<(), AllocError> {
-    for (lines, told) in &FIRST {
-        check_repeated(rt, alloc, (GOOD[0], lines, 1, b""), text, *told)?;
-    }
-    Ok(())
-}
-
 #[test]
 fn tells_the_first_fault(rt: HostRuntime) -> Result<(), Fail> {
     let text = with_bad_end(rt.alloc(), b"\x01\n")?;
-    let end = check_first(&rt, rt.alloc(), &text);
-    drop(text);
-    Ok(end?)
+    for (lines, told) in &FIRST {
+        let index = repeated(rt.alloc(), GOOD[0], lines, 1, b"")?;
+        check(&rt, rt.alloc(), &index, &text, *told)?;
+    }
+    Ok(())
 }
 
 fn told_of_index(len: usize) -> Told {
@@ -601,8 +506,7 @@ fn refuses_files_that_are_cut_short(rt: HostRuntime) -> Result<(), Fail> {
     let cut = b"00-database-short\tA\tX\niron\tX\tB\n";
     let whole = b"00-database-short\tA\tX\niron\tX\tC\n";
     check(&rt, rt.alloc(), cut, text, Told("BodyText", 2))?;
-    check(&rt, rt.alloc(), whole, text, READ)?;
-    Ok(())
+    check(&rt, rt.alloc(), whole, text, READ)
 }
 
 const SHORT: &[u8] = b"00-database-short\tA\tZ\n";
@@ -648,61 +552,48 @@ static LIMITS: [(&[u8], &[u8], usize, &[u8], Told); 8] = [
     (OPAL, b"h", 256, b"\n", Told("Shown", 2)),
 ];
 
-// A title of 200 letters and one of 201, in this text.
-fn check_titles(rt: &impl Abort, alloc: Global, text: &[u8]) -> Result<(), AllocError> {
-    check(rt, alloc, b"00databaseshort\tA\tDa\n", text, READ)?;
+#[test]
+fn keeps_to_columns_and_limits(rt: HostRuntime) -> Result<(), Fail> {
+    for (front, piece, count, end, told) in &LIMITS {
+        let index = repeated(rt.alloc(), front, piece, *count, end)?;
+        check(&rt, rt.alloc(), &index, GEM.2, *told)?;
+    }
+    let title = repeated(rt.alloc(), b"00-database-short\n", b"x", 201, b"")?;
+    check(&rt, rt.alloc(), b"00databaseshort\tA\tDa\n", &title, READ)?;
     check(
-        rt,
-        alloc,
+        &rt,
+        rt.alloc(),
         b"00databaseshort\tA\tDb\n",
-        text,
+        &title,
         Told("BadTitle", 0),
     )
 }
 
-#[test]
-fn keeps_to_columns_and_limits(rt: HostRuntime) -> Result<(), Fail> {
-    for (front, piece, count, end, told) in &LIMITS {
-        check_repeated(&rt, rt.alloc(), (front, piece, *count, end), GEM.2, *told)?;
-    }
-    let text = repeated(rt.alloc(), b"00-database-short\n", b"x", 201, b"")?;
-    let end = check_titles(&rt, rt.alloc(), &text);
-    drop(text);
-    Ok(end?)
-}
-
 const LINE: &[u8] = b"a\tA\tA\n";
 
-// Behind the title 262,143 lines, and then one more.
-fn check_count(rt: &impl Abort, alloc: Global, index: &mut Vec<u8>) -> Result<(), AllocError> {
-    append(index, LINE, 262_143, b"")?;
-    check(rt, alloc, index, GEM.2, READ)?;
-    index.extend_from_slice(LINE)?;
-    check(rt, alloc, index, GEM.2, Told("TooManyEntries", 0))?;
-    index.extend_from_slice(b"a")?;
-    check(rt, alloc, index, GEM.2, Told("LastLine", 0))
+// The title, and 262,143 lines more.
+fn most_lines(alloc: Global) -> Result<Vec<u8>, AllocError> {
+    let block = repeated(alloc, b"", LINE, 512, b"")?;
+    let others = repeated(alloc, b"", LINE, 511, b"")?;
+    repeated(alloc, SHORT, &block, 511, &others)
 }
 
 #[test]
 fn keeps_to_the_limit_of_lines(rt: HostRuntime) -> Result<(), Fail> {
-    let mut index = SHORT.to_vec(rt.alloc())?;
-    let end = check_count(&rt, rt.alloc(), &mut index);
-    drop(index);
-    Ok(end?)
-}
-
-fn check_length(rt: &impl Abort, alloc: Global, text: &mut Vec<u8>) -> Result<(), AllocError> {
-    text.resize(67_108_864, b'x')?;
-    check(rt, alloc, b"", text, Told("NoTitle", 0))?;
-    text.push(b'x')?;
-    check(rt, alloc, b"", text, Told("TextTooLong", 0))?;
-    check(rt, alloc, b"\xff", text, Told("TextTooLong", 0))
+    let mut index = most_lines(rt.alloc())?;
+    check(&rt, rt.alloc(), &index, GEM.2, READ)?;
+    index.extend_from_slice(LINE)?;
+    check(&rt, rt.alloc(), &index, GEM.2, Told("TooManyEntries", 0))?;
+    index.extend_from_slice(b"a")?;
+    check(&rt, rt.alloc(), &index, GEM.2, Told("LastLine", 0))
 }
 
 #[test]
 fn keeps_to_the_limit_of_a_text(rt: HostRuntime) -> Result<(), Fail> {
     let mut text: Vec<u8> = Vec::new(rt.alloc());
-    let end = check_length(&rt, rt.alloc(), &mut text);
-    drop(text);
-    Ok(end?)
+    text.resize(67_108_864, b'x')?;
+    check(&rt, rt.alloc(), b"", &text, Told("NoTitle", 0))?;
+    text.push(b'x')?;
+    check(&rt, rt.alloc(), b"", &text, Told("TextTooLong", 0))?;
+    check(&rt, rt.alloc(), b"\xff", &text, Told("TextTooLong", 0))
 }

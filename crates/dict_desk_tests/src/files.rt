@@ -1,6 +1,6 @@
 // Pairs of files.
 use dict_catalogue::Command;
-use dict_desk::Keeper;
+use dict_desk::{Keeper, PlainDesk};
 use dict_examples::{GEM_INDEX, GEM_TEXT, ORE_INDEX, ORE_TEXT};
 use dict_index::{Edition, IndexFault, read_edition};
 use std::alloc::Global;
@@ -16,29 +16,27 @@ pub(crate) fn read(alloc: Global, files: Files) -> Result<Edition<'static>, Inde
 }
 
 /// Installs the edition under a name.
-pub(crate) fn install<K: Keeper>(
-    desk: &mut K,
+pub(crate) fn install(
+    desk: &mut PlainDesk,
     id: &str,
     name: &str,
     edition: &Edition,
 ) -> Result<(), Fail> {
     let command = Command::Install { name, edition };
-    drop(desk.apply(id, &command)?);
+    desk.apply(id, &command)?;
     Ok(())
 }
 
 /// The same for the edition that the files say.
-pub(crate) fn install_files<K: Keeper>(
+pub(crate) fn install_files(
     alloc: Global,
-    desk: &mut K,
+    desk: &mut PlainDesk,
     id: &str,
     name: &str,
     files: Files,
 ) -> Result<(), Fail> {
     let edition = read(alloc, files)?;
-    let end = install(desk, id, name, &edition);
-    drop(edition);
-    end
+    install(desk, id, name, &edition)
 }
 
 pub(crate) const GEM: Files = Files("gem", GEM_INDEX, GEM_TEXT);

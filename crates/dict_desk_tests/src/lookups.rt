@@ -2,7 +2,7 @@
 use super::files::{EDGE, Files, GEM, ORE, STONES, TELL, install, install_files};
 use super::rows::{Sought, counts, hand_out};
 use crate::checks::{holds, same, same_text_of};
-use dict_desk::{Fault, Keeper, PlainDesk};
+use dict_desk::PlainDesk;
 use dict_index::read_edition;
 use dict_match::Strategy;
 use std::alloc::{AllocError, Global};
@@ -25,21 +25,20 @@ fn row_count(text: &str) -> u64 {
 }
 
 // These rows are handed out of an edition, of which so many are taken at most.
-fn check_out<K: Keeper>(
+fn check_out(
     rt: &impl Abort,
     alloc: Global,
-    desk: &mut K,
+    desk: &mut PlainDesk,
     (number, sought): (u64, Sought),
     (strategy, query): (Strategy, &str),
     (most, wanted): (usize, &str),
 ) -> Result<(), Fail> {
     let rows = hand_out(alloc, desk, number, sought, strategy, query, most)?;
     same_text_of(rt, rows.as_str(), wanted, query);
-    drop(rows);
     Ok(())
 }
 
-fn check<K: Keeper>(rt: &impl Abort, alloc: Global, desk: &mut K, row: Row) -> Result<(), Fail> {
+fn check(rt: &impl Abort, alloc: Global, desk: &mut PlainDesk, row: Row) -> Result<(), Fail> {
     let Row(number, strategy, query, found, heads) = row;
     let by = (strategy, query);
     check_out(rt, alloc, desk, (number, Sought::Found), by, (9, found))?;
@@ -173,10 +172,10 @@ static INFOS: [Stop; 3] = [
     (1, Sought::Info, 1, "=;!"),
 ];
 
-fn check_stops<K: Keeper>(
+fn check_stops(
     rt: &impl Abort,
     alloc: Global,
-    desk: &mut K,
+    desk: &mut PlainDesk,
     stops: &[Stop],
 ) -> Result<(), Fail> {
     for (number, sought, most, wanted) in stops {
@@ -188,20 +187,25 @@ fn check_stops<K: Keeper>(
 
 static FIVE: [Files; 5] = [GEM, ORE, EDGE, TELL, STONES];
 
-fn install_five<K: Keeper>(alloc: Global, desk: &mut K) -> Result<(), Fail> {
+fn install_five(alloc: Global, desk: &mut PlainDesk) -> Result<(), Fail> {
     for files in &FIVE {
         install_files(alloc, desk, files.0, files.0, *files)?;
     }
     Ok(())
 }
 
-/// All strategies.
-fn look_up<K: Keeper>(rt: &impl Abort, alloc: Global, desk: &mut K) -> Result<(), Fail> {
+fn run(rt: &impl Abort, alloc: Global, desk: &mut PlainDesk) -> Result<(), Fail> {
     install_five(alloc, desk)?;
     for row in &ROWS {
         check(rt, alloc, desk, *row)?;
     }
     check_stops(rt, alloc, desk, &INFOS)
+}
+
+#[test]
+fn all_strategies(rt: HostRuntime) -> Result<(), Fail> {
+    let mut desk = PlainDesk::new(rt.alloc());
+    run(&rt, rt.alloc(), &mut desk)
 }
 
 // What is sought in `stones`.
@@ -227,17 +231,18 @@ static STOPS: [Stop; 9] = [
     (1, Sought::Heads, 4, "pearl=;opal=;agate=;."),
 ];
 
-/// A sink stops at each row.
-fn stop<K: Keeper>(rt: &impl Abort, alloc: Global, desk: &mut K) -> Result<(), Fail> {
-    install_files(alloc, desk, "a", "stones", STONES)?;
-    check_stops(rt, alloc, desk, &STOPS)
+#[test]
+fn a_sink_stops_at_each_row(rt: HostRuntime) -> Result<(), Fail> {
+    let mut desk = PlainDesk::new(rt.alloc());
+    install_files(rt.alloc(), &mut desk, "a", "stones", STONES)?;
+    check_stops(&rt, rt.alloc(), &mut desk, &STOPS)
 }
 
 // How many entries end by the word opal in the first edition, and none in the second.
-fn check_opals<K: Keeper>(
+fn check_opals(
     rt: &impl Abort,
     alloc: Global,
-    desk: &mut K,
+    desk: &mut PlainDesk,
     opals: u64,
 ) -> Result<(), Fail> {
     let (first, _) = counts(alloc, desk, 1, Strategy::Last, "opal")?;
@@ -247,7 +252,7 @@ fn check_opals<K: Keeper>(
     Ok(())
 }
 
-fn come_and_go<K: Keeper>(rt: &impl Abort, alloc: Global, desk: &mut K) -> Result<(), Fail> {
+fn come_and_go(rt: &impl Abort, alloc: Global, desk: &mut PlainDesk) -> Result<(), Fail> {
     install_files(alloc, desk, "a", "gem", GEM)?;
     check_opals(rt, alloc, desk, 2)?;
     install_files(alloc, desk, "b", "gem", ORE)?;
@@ -256,39 +261,27 @@ fn come_and_go<K: Keeper>(rt: &impl Abort, alloc: Global, desk: &mut K) -> Resul
     check_opals(rt, alloc, desk, 0)
 }
 
-fn push_line(alloc: Global, index: &mut String, word: u64) -> Result<(), AllocError> {
-    let line = format!(in alloc; "word {word}\tb\tC\n")?;
-    let put = index.push_str(line.as_str());
-    drop(line);
-    put
-}
-
-fn push_thousand(alloc: Global, index: &mut String) -> Result<(), AllocError> {
-    for n in 0..1000u64 {
-        push_line(alloc, index, n % 250)?;
-    }
-    Ok(())
+#[test]
+fn editions_come_and_go(rt: HostRuntime) -> Result<(), Fail> {
+    let mut desk = PlainDesk::new(rt.alloc());
+    come_and_go(&rt, rt.alloc(), &mut desk)
 }
 
 // An index of 1,000 entries: `word 0` to `word 249`, four times over.
 fn thousand(alloc: Global) -> Result<String, AllocError> {
     let mut index = String::from_str(alloc, "00-database-short\tA\tb\n")?;
-    push_thousand(alloc, &mut index)?;
+    for n in 0..1000u64 {
+        let word = n % 250;
+        let line = format!(in alloc; "word {word}\tb\tC\n")?;
+        index.push_str(line.as_str())?;
+    }
     Ok(index)
 }
 
-fn install_index<K: Keeper>(alloc: Global, desk: &mut K, index: &str) -> Result<(), Fail> {
-    let edition = read_edition(alloc, index.as_bytes(), STONES.2)?;
-    let end = install(desk, "a", "stones", &edition);
-    drop(edition);
-    end
-}
-
-fn install_thousand<K: Keeper>(alloc: Global, desk: &mut K) -> Result<(), Fail> {
+fn install_thousand(alloc: Global, desk: &mut PlainDesk) -> Result<(), Fail> {
     let index = thousand(alloc)?;
-    let end = install_index(alloc, desk, &index);
-    drop(index);
-    end
+    let edition = read_edition(alloc, index.as_bytes(), STONES.2)?;
+    install(desk, "a", "stones", &edition)
 }
 
 /// A strategy, a query, how many entries it finds, and how many headwords.
@@ -309,38 +302,19 @@ static THOUSAND: [Many; 11] = [
     Many(Strategy::Last, "250", 0, 0),
 ];
 
-// How many rows of these are handed out, at most 2,000.
-fn count_out<K: Keeper>(
-    alloc: Global,
-    desk: &mut K,
-    sought: Sought,
-    strategy: Strategy,
-    query: &str,
-) -> Result<u64, Fault> {
-    let rows = hand_out(alloc, desk, 1, sought, strategy, query, 2000)?;
-    let count = row_count(rows.as_str());
-    drop(rows);
-    Ok(count)
-}
-
-fn check_many<K: Keeper>(
-    rt: &impl Abort,
-    alloc: Global,
-    desk: &mut K,
-    row: Many,
-) -> Result<(), Fail> {
+fn check_many(rt: &impl Abort, alloc: Global, desk: &mut PlainDesk, row: Many) -> Result<(), Fail> {
     let Many(strategy, query, entries, heads) = row;
     let (found, words) = counts(alloc, desk, 1, strategy, query)?;
     holds(rt, found == entries, query);
     holds(rt, words == heads, query);
-    let found = count_out(alloc, desk, Sought::Found, strategy, query)?;
+    let found = row_count(hand_out(alloc, desk, 1, Sought::Found, strategy, query, 2000)?.as_str());
     holds(rt, found == entries, query);
-    let words = count_out(alloc, desk, Sought::Heads, strategy, query)?;
+    let words = row_count(hand_out(alloc, desk, 1, Sought::Heads, strategy, query, 2000)?.as_str());
     holds(rt, words == heads, query);
     Ok(())
 }
 
-fn run_thousand<K: Keeper>(rt: &impl Abort, alloc: Global, desk: &mut K) -> Result<(), Fail> {
+fn run_thousand(rt: &impl Abort, alloc: Global, desk: &mut PlainDesk) -> Result<(), Fail> {
     install_thousand(alloc, desk)?;
     for row in &THOUSAND {
         check_many(rt, alloc, desk, *row)?;
@@ -348,41 +322,8 @@ fn run_thousand<K: Keeper>(rt: &impl Abort, alloc: Global, desk: &mut K) -> Resu
     Ok(())
 }
 
-/// What is done over a new desk.
-#[derive(Clone, Copy)]
-enum Task {
-    LookUp,
-    Stop,
-    ComeAndGo,
-    Thousand,
-}
-
-fn run_one<K: Keeper>(
-    rt: &impl Abort,
-    alloc: Global,
-    desk: &mut K,
-    what: Task,
-) -> Result<(), Fail> {
-    match what {
-        Task::LookUp => look_up(rt, alloc, desk),
-        Task::Stop => stop(rt, alloc, desk),
-        Task::ComeAndGo => come_and_go(rt, alloc, desk),
-        Task::Thousand => run_thousand(rt, alloc, desk),
-    }
-}
-
-// One function owns a desk.
-fn run_anew(rt: &impl Abort, alloc: Global, what: Task) -> Result<(), Fail> {
-    let mut desk = PlainDesk::new(alloc);
-    let end = run_one(rt, alloc, &mut desk, what);
-    drop(desk);
-    end
-}
-
 #[test]
-fn lookups_over_a_new_desk(rt: HostRuntime) -> Result<(), Fail> {
-    for what in [Task::LookUp, Task::Stop, Task::ComeAndGo, Task::Thousand] {
-        run_anew(&rt, rt.alloc(), what)?;
-    }
-    Ok(())
+fn a_thousand_entries(rt: HostRuntime) -> Result<(), Fail> {
+    let mut desk = PlainDesk::new(rt.alloc());
+    run_thousand(&rt, rt.alloc(), &mut desk)
 }

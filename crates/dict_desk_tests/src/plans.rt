@@ -43,40 +43,7 @@ fn step(
     if let Ok(change) = &mut planned {
         swap(summary, &mut change.summary);
     }
-    drop(planned);
     put
-}
-
-/// What is answered to it.
-fn told(alloc: Global, summary: &mut Summary, command: &Command<'_>) -> Result<String, AllocError> {
-    let mut text = String::new(alloc);
-    step(alloc, &mut text, summary, command)?;
-    Ok(text)
-}
-
-fn check_answer(
-    rt: &impl Abort,
-    alloc: Global,
-    summary: &mut Summary,
-    command: &Command<'_>,
-    answer: &str,
-) -> Result<(), AllocError> {
-    let text = told(alloc, summary, command)?;
-    same_text(rt, text.as_str(), answer);
-    drop(text);
-    Ok(())
-}
-
-fn check_items(
-    rt: &impl Abort,
-    alloc: Global,
-    summary: &Summary,
-    after: &str,
-) -> Result<(), AllocError> {
-    let items = listed(alloc, summary)?;
-    same_text(rt, items.as_str(), after);
-    drop(items);
-    Ok(())
 }
 
 fn check(
@@ -85,10 +52,14 @@ fn check(
     summary: &mut Summary,
     gem: &Edition<'static>,
     row: Row,
-) -> Result<(), AllocError> {
+) -> Result<(), Fail> {
     let Row(asked, answer, after) = row;
-    check_answer(rt, alloc, summary, &asked.command(gem), answer)?;
-    check_items(rt, alloc, summary, after)
+    let mut text = String::new(alloc);
+    step(alloc, &mut text, summary, &asked.command(gem))?;
+    same_text(rt, text.as_str(), answer);
+    let items = listed(alloc, summary)?;
+    same_text(rt, items.as_str(), after);
+    Ok(())
 }
 
 /// Plans the commands one after another from this summary on.
@@ -98,28 +69,28 @@ fn run(
     summary: &mut Summary,
     gem: &Edition<'static>,
     rows: &[Row],
-) -> Result<(), AllocError> {
+) -> Result<(), Fail> {
     for row in rows {
         check(rt, alloc, summary, gem, *row)?;
     }
     Ok(())
 }
 
-/// The same by two tables: so many installs were accepted then, and so many commands.
+/// The same from the empty summary on, by two tables: how many installs were accepted then, and how many commands.
 fn run_both(
     rt: &impl Abort,
     alloc: Global,
-    summary: &mut Summary,
-    gem: &Edition<'static>,
-    (first, rows, accepted): (&[Row], &[Row], (u64, u64)),
-) -> Result<(), AllocError> {
-    run(rt, alloc, summary, gem, first)?;
-    run(rt, alloc, summary, gem, rows)?;
-    same(rt, &(summary.installs, summary.accepted), &accepted);
-    Ok(())
+    first: &[Row],
+    rows: &[Row],
+) -> Result<(u64, u64), Fail> {
+    let gem = read(alloc, GEM)?;
+    let mut summary = Summary::new(alloc);
+    run(rt, alloc, &mut summary, &gem, first)?;
+    run(rt, alloc, &mut summary, &gem, rows)?;
+    Ok((summary.installs, summary.accepted))
 }
 
-const ONE: &[Row] = &[
+static ONE: [Row; 15] = [
     Row(Asked::Rollback("gem"), "21 Unknown", ""),
     Row(Asked::Retire("gem"), "21 Unknown", ""),
     Row(Asked::Install("gem"), "1 Install gem #1", "gem Gems 1; "),
@@ -160,7 +131,7 @@ const ONE: &[Row] = &[
 const THREE: &str = "ore Gems 1; gem Gems 2; all All +ore +gem; ";
 
 // `ore`, `gem` and the virtual `all` of both.
-const MADE: &[Row] = &[
+static MADE: [Row; 3] = [
     Row(Asked::Install("ore"), "1 Install ore #1", "ore Gems 1; "),
     Row(
         Asked::Install("gem"),
@@ -174,7 +145,7 @@ const MADE: &[Row] = &[
     ),
 ];
 
-const OF_THREE: &[Row] = &[
+static OF_THREE: [Row; 11] = [
     Row(Asked::Install("all"), "22 IsVirtual", THREE),
     Row(Asked::Rollback("all"), "22 IsVirtual", THREE),
     Row(Asked::Retire("gem"), "24 Listed", THREE),
@@ -212,7 +183,7 @@ const OF_THREE: &[Row] = &[
     Row(Asked::Retire("ruby"), "11 Retire ruby -4", ""),
 ];
 
-const PLACES: &[Row] = &[
+static PLACES: [Row; 9] = [
     Row(Asked::Place("gem", 3), "30 BadPlace", THREE),
     Row(Asked::Place("gem", 4_294_967_295), "30 BadPlace", THREE),
     Row(Asked::Place("zz", 3), "21 Unknown", THREE),
@@ -246,7 +217,7 @@ const PLACES: &[Row] = &[
 
 const MANY: &[&str] = &["zz"; 65];
 
-const REFUSED: &[Row] = &[
+static REFUSED: [Row; 17] = [
     Row(Asked::Put("gem", "Gem", &["ore"]), "32 IsRegular", THREE),
     Row(Asked::Put("gem", " Gem", &[]), "32 IsRegular", THREE),
     Row(Asked::Put("1", " Gem", &[]), "20 BadName", THREE),
@@ -290,73 +261,22 @@ const REFUSED: &[Row] = &[
     ),
 ];
 
-/// What is planned from the empty summary on.
-#[derive(Clone, Copy)]
-enum Task {
-    /// Two tables of commands: so many installs are accepted then, and so many commands.
-    Both(&'static [Row], &'static [Row], (u64, u64)),
-    /// Commands of which one is left.
-    Late,
-    /// Commands over as many items as there may be.
-    Full,
-}
-
-static TASKS: [Task; 6] = [
-    Task::Both(&[], ONE, (5, 10)),
-    Task::Both(MADE, OF_THREE, (4, 11)),
-    Task::Both(MADE, PLACES, (2, 8)),
-    Task::Both(MADE, REFUSED, (2, 4)),
-    Task::Late,
-    Task::Full,
-];
-
-fn run_one(
-    rt: &impl Abort,
-    alloc: Global,
-    summary: &mut Summary,
-    gem: &Edition<'static>,
-    what: Task,
-) -> Result<(), AllocError> {
-    match what {
-        Task::Both(first, rows, accepted) => {
-            run_both(rt, alloc, summary, gem, (first, rows, accepted))
-        }
-        Task::Late => run_late(rt, alloc, summary, gem),
-        Task::Full => run_full(rt, alloc, summary, gem),
-    }
-}
-
-/// One function owns a summary, and one what is installed.
-fn run_over(
-    rt: &impl Abort,
-    alloc: Global,
-    gem: &Edition<'static>,
-    what: Task,
-) -> Result<(), AllocError> {
-    let mut summary = Summary::new(alloc);
-    let end = run_one(rt, alloc, &mut summary, gem, what);
-    drop(summary);
-    end
-}
-
-fn run_anew(rt: &impl Abort, alloc: Global, what: Task) -> Result<(), Fail> {
-    let gem = read(alloc, GEM)?;
-    let end = run_over(rt, alloc, &gem, what);
-    drop(gem);
-    Ok(end?)
-}
-
 #[test]
 fn commands_one_after_another(rt: HostRuntime) -> Result<(), Fail> {
-    for what in &TASKS {
-        run_anew(&rt, rt.alloc(), *what)?;
+    for (first, rows, accepted) in [
+        ([].as_slice(), ONE.as_slice(), (5, 10)),
+        (MADE.as_slice(), OF_THREE.as_slice(), (4, 11)),
+        (MADE.as_slice(), PLACES.as_slice(), (2, 8)),
+        (MADE.as_slice(), REFUSED.as_slice(), (2, 4)),
+    ] {
+        same(&rt, &run_both(&rt, rt.alloc(), first, rows)?, &accepted);
     }
     Ok(())
 }
 
 const LATE: &str = "ore Gems 1; gem Gems 2; all All +gem; ";
 
-const LAST: &[Row] = &[
+static LAST: [Row; 9] = [
     Row(
         Asked::Put("all", "All", &["gem"]),
         "9223372036854775807 Virtual all",
@@ -378,17 +298,15 @@ fn run_late(
     alloc: Global,
     summary: &mut Summary,
     gem: &Edition<'static>,
-) -> Result<(), AllocError> {
-    run(rt, alloc, summary, gem, MADE)?;
+) -> Result<(), Fail> {
+    run(rt, alloc, summary, gem, &MADE)?;
     let mut late = Summary {
         items: Vec::new(alloc),
         installs: 2,
         accepted: 9_223_372_036_854_775_806,
     };
     swap(&mut late.items, &mut summary.items);
-    let end = run(rt, alloc, &mut late, gem, LAST);
-    drop(late);
-    end
+    run(rt, alloc, &mut late, gem, &LAST)
 }
 
 // A command over 64 items, its answer, and how many items there are after it.
@@ -410,75 +328,37 @@ static FULL: [(Asked, &str, usize); 11] = [
     (Asked::Place("v0", 64), "30 BadPlace", 64),
 ];
 
-fn put_named(
-    alloc: Global,
-    text: &mut String,
-    summary: &mut Summary,
-    name: &str,
-) -> Result<(), AllocError> {
-    let command = Command::PutVirtual {
-        name,
-        title: "V",
-        members: &["gem"],
-    };
-    step(alloc, text, summary, &command)
-}
-
-fn put_nth(
-    alloc: Global,
-    text: &mut String,
-    summary: &mut Summary,
-    n: u8,
-) -> Result<(), AllocError> {
-    let name = format!(in alloc; "v{n}")?;
-    let end = put_named(alloc, text, summary, name.as_str());
-    drop(name);
-    end
-}
-
 /// Makes `gem` with a former edition, and 63 virtual items.
-fn fill_telling(
-    alloc: Global,
-    text: &mut String,
-    summary: &mut Summary,
-    gem: &Edition<'static>,
-) -> Result<(), AllocError> {
+fn fill(alloc: Global, summary: &mut Summary, gem: &Edition<'static>) -> Result<(), Fail> {
+    let mut text = String::new(alloc);
     let install = Asked::Install("gem").command(gem);
-    step(alloc, text, summary, &install)?;
-    step(alloc, text, summary, &install)?;
+    step(alloc, &mut text, summary, &install)?;
+    step(alloc, &mut text, summary, &install)?;
     for n in 0u8..63 {
-        put_nth(alloc, text, summary, n)?;
+        let name = format!(in alloc; "v{n}")?;
+        let command = Command::PutVirtual {
+            name: name.as_str(),
+            title: "V",
+            members: &["gem"],
+        };
+        step(alloc, &mut text, summary, &command)?;
     }
     Ok(())
 }
 
-fn fill(alloc: Global, summary: &mut Summary, gem: &Edition<'static>) -> Result<(), AllocError> {
-    let mut text = String::new(alloc);
-    let end = fill_telling(alloc, &mut text, summary, gem);
-    drop(text);
-    end
-}
-
-/// How many items there are after the change, or 64 where there is none.
-fn count_after(planned: &Result<PlannedChange, PlanFault>) -> usize {
-    match planned {
-        Ok(change) => change.summary.items.len(),
-        Err(_) => 64,
-    }
-}
-
-/// What is answered to a command, and how many items there are then.
+/// What is answered to a command, and how many items there are after the change, or 64 where there is none.
 fn told_full(
     alloc: Global,
     summary: &Summary,
     command: &Command<'_>,
 ) -> Result<(String, usize), AllocError> {
-    let planned = plan(alloc, summary, command);
     let mut text = String::new(alloc);
-    let put = push_answer(alloc, &mut text, &planned);
-    let count = count_after(&planned);
-    drop(planned);
-    put?;
+    let planned = plan(alloc, summary, command);
+    push_answer(alloc, &mut text, &planned)?;
+    let count = match &planned {
+        Ok(change) => change.summary.items.len(),
+        Err(_) => 64,
+    };
     Ok((text, count))
 }
 
@@ -492,7 +372,6 @@ fn check_full(
     let (asked, answer, count) = row;
     let (text, found) = told_full(alloc, summary, &asked.command(gem))?;
     same_text(rt, text.as_str(), answer);
-    drop(text);
     same(rt, &found, &count);
     Ok(())
 }
@@ -502,12 +381,21 @@ fn run_full(
     alloc: Global,
     summary: &mut Summary,
     gem: &Edition<'static>,
-) -> Result<(), AllocError> {
+) -> Result<(), Fail> {
     fill(alloc, summary, gem)?;
     for row in &FULL {
         check_full(rt, alloc, summary, gem, *row)?;
     }
     Ok(())
+}
+
+#[test]
+fn where_the_catalogue_is_full(rt: HostRuntime) -> Result<(), Fail> {
+    let gem = read(rt.alloc(), GEM)?;
+    let mut late = Summary::new(rt.alloc());
+    run_late(&rt, rt.alloc(), &mut late, &gem)?;
+    let mut full = Summary::new(rt.alloc());
+    run_full(&rt, rt.alloc(), &mut full, &gem)
 }
 
 static REFUSALS: [(CommandRefusal, u8, &str); 13] = [

@@ -1,5 +1,5 @@
 // What is handed out, as text.
-use dict_desk::{Demand, End, Fault, Lookup, Row, RowSink, What};
+use dict_desk::{Demand, End, Fault, Lookup, PlainDesk, Row, RowSink, What};
 use dict_match::{Key, Strategy, key_of};
 use std::alloc::{AllocError, Global};
 
@@ -46,8 +46,8 @@ pub(crate) enum Sought {
     Info,
 }
 
-fn hand<L: Lookup>(
-    desk: &mut L,
+fn hand(
+    desk: &mut PlainDesk,
     number: u64,
     sought: Sought,
     strategy: Strategy,
@@ -61,25 +61,10 @@ fn hand<L: Lookup>(
     }
 }
 
-fn hand_all<L: Lookup>(
-    desk: &mut L,
-    number: u64,
-    sought: Sought,
-    strategy: Strategy,
-    query: &Key,
-    rows: &mut Rows,
-) -> Result<(), Fault> {
-    let sign = match hand(desk, number, sought, strategy, query, rows)? {
-        End::All => '.',
-        End::Stopped => '!',
-    };
-    Ok(rows.text.push(sign)?)
-}
-
 /// The rows that are handed out, at most so many, and `.` behind them where they are all, or `!` where the sink stopped.
-pub(crate) fn hand_out<L: Lookup>(
+pub(crate) fn hand_out(
     alloc: Global,
-    desk: &mut L,
+    desk: &mut PlainDesk,
     number: u64,
     sought: Sought,
     strategy: Strategy,
@@ -91,14 +76,16 @@ pub(crate) fn hand_out<L: Lookup>(
         text: String::new(alloc),
         left: most,
     };
-    let end = hand_all(desk, number, sought, strategy, &query, &mut rows);
-    drop(query);
-    end?;
+    let end = hand(desk, number, sought, strategy, &query, &mut rows)?;
+    rows.text.push(match end {
+        End::All => '.',
+        End::Stopped => '!',
+    })?;
     Ok(rows.text)
 }
 
-fn count_both<L: Lookup>(
-    desk: &mut L,
+fn count_both(
+    desk: &mut PlainDesk,
     number: u64,
     strategy: Strategy,
     query: &Key,
@@ -109,15 +96,13 @@ fn count_both<L: Lookup>(
 }
 
 /// How many entries are found, and how many headwords.
-pub(crate) fn counts<L: Lookup>(
+pub(crate) fn counts(
     alloc: Global,
-    desk: &mut L,
+    desk: &mut PlainDesk,
     number: u64,
     strategy: Strategy,
     query: &str,
 ) -> Result<(u64, u64), Fault> {
     let query = key_of(alloc, query)?;
-    let both = count_both(desk, number, strategy, &query);
-    drop(query);
-    both
+    count_both(desk, number, strategy, &query)
 }
