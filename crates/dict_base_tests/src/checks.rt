@@ -1,15 +1,11 @@
-//! Assertions, each a function of its own, so that the proof of a test has one step for it.
+//! Assertions, and what adds to a list, each a function of its own, so that the proof of a test has one step for it.
+use std::alloc::AllocError;
 use std::fmt::Debug;
 use std::process::Abort;
 
 /// The text is the one that is wanted.
 pub(crate) fn same_text(test: &impl Abort, found: &str, wanted: &str) {
     assert_eq!(test; found, wanted);
-}
-
-/// The same of what is named.
-pub(crate) fn same_text_of(test: &impl Abort, found: &str, wanted: &str, of: &str) {
-    assert_eq!(test; found, wanted, "of {of:?}");
 }
 
 /// The value is the one that is wanted.
@@ -20,4 +16,13 @@ pub(crate) fn same<T: PartialEq + Debug>(test: &impl Abort, found: &T, wanted: &
 /// It is so, of what is named.
 pub(crate) fn holds(test: &impl Abort, is_so: bool, of: &str) {
     assert!(test; is_so, "of {of:?}");
+}
+
+/// Adds what was made, if it was.
+pub(crate) fn push<T: Drop>(
+    list: &mut Vec<T>,
+    made: Result<T, AllocError>,
+) -> Result<(), AllocError> {
+    list.push(made?)?;
+    Ok(())
 }

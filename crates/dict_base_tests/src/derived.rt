@@ -1,8 +1,9 @@
 //! Keys at every edge, and what is selected beside the filter of a whole list.
-use crate::checks::{holds, same_text, same_text_of};
-use dict_derived::{Selection, is_kept, is_tested, range_law, search_laws, select};
+use crate::checks::{holds, push, same_text};
+use dict_derived::{Selection, is_kept, is_tested, select};
 use dict_match::{Key, Strategy, key_of, matches, words};
 use std::alloc::{AllocError, Global};
+use std::process::Abort;
 use std::test::Fail;
 
 /// The key of a headword, and its octets in reverse order.
@@ -14,7 +15,8 @@ struct Derived {
 
 fn derive(alloc: Global, headword: &str) -> Result<Derived, AllocError> {
     let key = key_of(alloc, headword)?;
-    let reversed = key.as_bytes().iter().rev().copied().collect(alloc)?;
+    let mut reversed = key.as_bytes().to_vec(alloc)?;
+    reversed.reverse();
     Ok(Derived { key, reversed })
 }
 
@@ -99,33 +101,12 @@ fn finds_the_same(
     Ok(true)
 }
 
-/// The strategies by which it isn't, as text.
-fn told_others(alloc: Global, text: &str, list: &[Derived]) -> Result<String, AllocError> {
-    let mut told = String::new(alloc);
-    for strategy in Strategy::ALL {
-        if !finds_the_same(alloc, strategy, text, list)? {
-            told.push_str(strategy.name())?;
-        }
+/// Each strategy finds the text so.
+fn look_up(rt: &impl Abort, alloc: Global, text: &str, list: &[Derived]) -> Result<(), AllocError> {
+    for strategy in &Strategy::ALL {
+        let is_so = finds_the_same(alloc, *strategy, text, list)?;
+        holds(rt, is_so, strategy.name());
     }
-    Ok(told)
-}
-
-#[test]
-fn the_edges_are_found_by_their_selections(rt: HostRuntime) -> Result<(), Fail> {
-    let mut list = Vec::new(rt.alloc());
-    for headword in &EDGES {
-        list.push(derive(rt.alloc(), headword)?)?;
-    }
-    for text in &EDGES {
-        same_text_of(
-            &rt,
-            told_others(rt.alloc(), text, &list)?.as_str(),
-            "",
-            text,
-        );
-    }
-    range_law();
-    search_laws();
     Ok(())
 }
 
@@ -163,26 +144,24 @@ static SELECTED: [(Strategy, &[u8], &str); 8] = [
 
 fn told_selection(alloc: Global, strategy: Strategy, query: &[u8]) -> Result<String, AllocError> {
     let selection = select(alloc, strategy, query)?;
-    format!(in alloc; "{selection:?}")
+    let told = format!(in alloc; "{selection:?}");
+    drop(selection);
+    told
 }
 
+// A run of three octets, and whether it is kept: one whose last is the first of a character is left out.
+static KEPT: [(&[u8], bool); 3] = [(b"abc", true), (b"ab\xbf", true), (b"ab\xc0", false)];
+
 #[test]
-fn octet_255_ends_a_range(rt: HostRuntime) -> Result<(), Fail> {
-    for (strategy, query, told) in &SELECTED {
-        same_text(
-            &rt,
-            told_selection(rt.alloc(), *strategy, query)?.as_str(),
-            *told,
-        );
+fn ranges_and_runs_at_their_ends(rt: HostRuntime) -> Result<(), Fail> {
+    for (strategy, query, wanted) in &SELECTED {
+        let told = told_selection(rt.alloc(), *strategy, query)?;
+        same_text(&rt, told.as_str(), *wanted);
+        drop(told);
     }
-    Ok(())
-}
-
-#[test]
-fn runs_up_to_a_character_are_left_out(rt: HostRuntime) -> Result<(), Fail> {
-    holds(&rt, is_kept(b"abc"), "three letters");
-    holds(&rt, is_kept(b"ab\xbf"), "the last octet of a character");
-    holds(&rt, !is_kept(b"ab\xc0"), "the first octet of a character");
+    for (run, kept) in &KEPT {
+        holds(&rt, is_kept(run) == *kept, "a run");
+    }
     Ok(())
 }
 
@@ -194,37 +173,57 @@ fn draw(state: &mut u64) -> u64 {
     *state >> 33
 }
 
-/// A headword of one to three short words over few letters, so that many have parts in common.
-fn headword(alloc: Global, state: &mut u64) -> Result<String, AllocError> {
-    let mut text = String::new(alloc);
+/// Makes the text a headword of one to three short words over few letters, so that many have parts in common.
+fn draw_headword(text: &mut String, state: &mut u64) -> Result<(), AllocError> {
+    text.clear();
     for _ in 0..1 + draw(state) % 3 {
         text.push(' ')?;
         for _ in 0..1 + draw(state) % 6 {
-            match draw(state) % 6 {
-                0 => text.push('a')?,
-                1 => text.push('b')?,
-                2 => text.push('C')?,
-                3 => text.push('-')?,
-                4 => text.push('é')?,
-                _ => text.push('e')?,
-            }
+            let letter = match draw(state) % 6 {
+                0 => 'a',
+                1 => 'b',
+                2 => 'C',
+                3 => '-',
+                4 => 'é',
+                _ => 'e',
+            };
+            text.push(letter)?;
         }
     }
-    Ok(text)
+    Ok(())
+}
+
+/// Over a list of the edges, and then over one with 10,000 headwords more.
+fn look_up_all(
+    rt: &impl Abort,
+    alloc: Global,
+    list: &mut Vec<Derived>,
+    text: &mut String,
+) -> Result<(), AllocError> {
+    for edge in &EDGES {
+        push(list, derive(alloc, edge))?;
+    }
+    for edge in &EDGES {
+        look_up(rt, alloc, edge, list.as_slice())?;
+    }
+    let mut state = 23;
+    for _ in 0..10_000 {
+        draw_headword(text, &mut state)?;
+        push(list, derive(alloc, text.as_str()))?;
+    }
+    for _ in 0..20 {
+        draw_headword(text, &mut state)?;
+        look_up(rt, alloc, text.as_str(), list.as_slice())?;
+    }
+    Ok(())
 }
 
 #[test]
 fn selections_find_what_the_whole_list_has(rt: HostRuntime) -> Result<(), Fail> {
-    let alloc = rt.alloc();
-    let mut state = 23;
-    let mut list = Vec::new(alloc);
-    for _ in 0..10_000 {
-        let text = headword(alloc, &mut state)?;
-        list.push(derive(alloc, &text)?)?;
-    }
-    for _ in 0..20 {
-        let text = headword(alloc, &mut state)?;
-        same_text_of(&rt, told_others(alloc, &text, &list)?.as_str(), "", &text);
-    }
-    Ok(())
+    let mut list = Vec::new(rt.alloc());
+    let mut text = String::new(rt.alloc());
+    let end = look_up_all(&rt, rt.alloc(), &mut list, &mut text);
+    drop(text);
+    drop(list);
+    Ok(end?)
 }

@@ -1,7 +1,7 @@
 //! Lines of an index as they are stored, worked by hand.
 
 use crate::checks::holds;
-use dict_index_lines::{Columns, read_line, write_line};
+use dict_index_lines::{read_line, write_line};
 use std::test::Fail;
 
 struct Row {
@@ -50,17 +50,16 @@ static ROWS: [Row; 5] = [
     },
 ];
 
-fn is_of(columns: &Columns<'_>, row: &Row) -> bool {
-    columns.headword == row.headword
-        && columns.offset == row.offset
-        && columns.size == row.size
-        && columns.shown == row.shown
-}
-
 // Whether octets begin with a row's line, behind which these follow.
 fn reads(octets: &[u8], row: &Row, behind: &[u8]) -> bool {
     match read_line(octets) {
-        Some((columns, rest)) => is_of(&columns, row) && rest == behind,
+        Some((columns, rest)) => {
+            columns.headword == row.headword
+                && columns.offset == row.offset
+                && columns.size == row.size
+                && columns.shown == row.shown
+                && rest == behind
+        }
         None => false,
     }
 }
@@ -68,18 +67,16 @@ fn reads(octets: &[u8], row: &Row, behind: &[u8]) -> bool {
 #[test]
 fn reads_what_was_written(rt: HostRuntime) -> Result<(), Fail> {
     let mut lines = Vec::new(rt.alloc());
-    write_line("gem", 0, 64, "gem", &mut lines)?;
-    holds(&rt, lines.as_slice() == ROWS[0].line, "a line");
-    write_line("gem", 25, 4_096, "Gem", &mut lines)?;
-    holds(&rt, reads(&lines, &ROWS[0], ROWS[1].line), "two lines");
+    let first = write_line("gem", 0, 64, "gem", &mut lines);
+    let is_first = lines.as_slice() == ROWS[0].line;
+    let second = write_line("gem", 25, 4_096, "Gem", &mut lines);
+    let are_two = reads(&lines, &ROWS[0], ROWS[1].line);
+    drop(lines);
+    first?;
+    second?;
+    holds(&rt, is_first, "a line");
+    holds(&rt, are_two, "two lines");
     Ok(())
-}
-
-#[test]
-fn reads_lines(rt: HostRuntime) {
-    for row in &ROWS {
-        holds(&rt, reads(row.line, row, b""), row.shown);
-    }
 }
 
 static NO_LINES: [&[u8]; 13] = [
@@ -99,7 +96,10 @@ static NO_LINES: [&[u8]; 13] = [
 ];
 
 #[test]
-fn reads_nothing_else(rt: HostRuntime) {
+fn reads_lines_and_nothing_else(rt: HostRuntime) {
+    for row in &ROWS {
+        holds(&rt, reads(row.line, row, b""), row.shown);
+    }
     for octets in &NO_LINES {
         holds(&rt, read_line(octets).is_none(), "no line");
     }

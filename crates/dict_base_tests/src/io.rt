@@ -36,39 +36,41 @@ impl Read for Interrupted {
 }
 
 #[test]
-fn a_writer_of_single_octets(rt: HostRuntime) -> Result<(), Fail> {
+fn sinks_over_writers(rt: HostRuntime) {
     let mut patient = OverWrite::new(OneAtATime { calls_left: 8 });
     same(&rt, &patient.put(b"250 ok\r\n"), &Ok(()));
     same(&rt, &patient.into_inner().calls_left, &0);
     let mut hasty = OverWrite::new(OneAtATime { calls_left: 7 });
     same(&rt, &hasty.put(b"250 ok\r\n"), &Err(SinkFault));
-    Ok(())
-}
-
-#[test]
-fn a_writer_without_room(rt: HostRuntime) -> Result<(), Fail> {
     let mut room = [0u8; 5];
     let mut sink = OverWrite::new(room.as_mut_slice());
     same(&rt, &sink.put(b"250 ok\r\n"), &Err(SinkFault));
-    let left = sink.into_inner();
-    assert!(rt; left.is_empty());
+    same(&rt, &sink.into_inner().len(), &0);
     same(&rt, &room.as_slice(), &b"250 o".as_slice());
-    Ok(())
 }
+
+// What is put in turn into a sink with room for three octets, whether it is taken, and what the sink has then.
+static PUT: [(&[u8], bool, &[u8]); 4] = [
+    (b"ab", true, b"ab"),
+    (b"", true, b"ab"),
+    (b"cd", false, b"abc"),
+    (b"e", false, b"abc"),
+];
 
 #[test]
 fn a_sink_of_limited_room(rt: HostRuntime) -> Result<(), Fail> {
     let mut sink = LimitedSink::new(rt.alloc(), 3)?;
-    let puts = [sink.put(b"ab"), sink.put(b""), sink.put(b"cd")];
-    same(&rt, &puts, &[Ok(()), Ok(()), Err(SinkFault)]);
-    same(&rt, &sink.taken(), &b"abc".as_slice());
-    same(&rt, &sink.put(b"e"), &Err(SinkFault));
-    same(&rt, &sink.taken(), &b"abc".as_slice());
+    for (octets, is_taken, taken) in &PUT {
+        let wanted = if *is_taken { Ok(()) } else { Err(SinkFault) };
+        same(&rt, &sink.put(octets), &wanted);
+        same(&rt, &sink.taken(), taken);
+    }
+    drop(sink);
     Ok(())
 }
 
 #[test]
-fn a_reader_in_memory(rt: HostRuntime) -> Result<(), Fail> {
+fn sources_over_readers(rt: HostRuntime) {
     let mut source = OverRead::new(b"abcde".as_slice());
     let mut room = [0u8; 3];
     same(&rt, &source.take(&mut room), &Ok(3));
@@ -76,21 +78,18 @@ fn a_reader_in_memory(rt: HostRuntime) -> Result<(), Fail> {
     same(&rt, &source.take(&mut room), &Ok(2));
     same(&rt, &room.get(..2), &Some(b"de".as_slice()));
     same(&rt, &source.take(&mut room), &Ok(0));
-    Ok(())
-}
-
-#[test]
-fn a_reader_that_is_interrupted(rt: HostRuntime) -> Result<(), Fail> {
     let mut source = OverRead::new(Interrupted);
-    let mut room = [0u8; 3];
     same(&rt, &source.take(&mut room), &Err(SourceFault));
-    Ok(())
 }
 
 #[test]
 fn parts_in_order(rt: HostRuntime) -> Result<(), Fail> {
     let mut sink = OverWrite::new(Vec::new(rt.alloc()));
-    put_all(&mut sink, &[b"a", b"", b"bc"])?;
-    same(&rt, &sink.into_inner().as_slice(), &b"abc".as_slice());
+    let put = put_all(&mut sink, &[b"a", b"", b"bc"]);
+    let octets = sink.into_inner();
+    let is_so = octets.as_slice() == b"abc".as_slice();
+    drop(octets);
+    same(&rt, &put, &Ok(()));
+    same(&rt, &is_so, &true);
     Ok(())
 }

@@ -13,6 +13,8 @@ mod index_lines;
 #[cfg(test)]
 mod io;
 #[cfg(test)]
+mod laws;
+#[cfg(test)]
 mod matching;
 #[cfg(test)]
 mod name;

@@ -1,10 +1,8 @@
 //! Keys, words and strategies, and which queries hit which keys.
 
-use crate::checks::{holds, same};
-use dict_match::{
-    Strategy, hit_laws, key_laws, key_of, matches, reserved_key_of, scalar_law, strategy_laws,
-    version_laws, word_laws, words, worked_ascii_keys, worked_keys,
-};
+use crate::checks::holds;
+use dict_match::{Strategy, key_of, matches, reserved_key_of, words};
+use std::alloc::{AllocError, Global};
 use std::test::Fail;
 
 const ALL_SEVEN: &str = "exact prefix suffix substring word first last";
@@ -93,15 +91,15 @@ static ROWS: [(&str, &str, &str); 68] = [
     ("\t", "", "word first last"),
 ];
 
-#[test]
-fn hits_by_the_rules(rt: HostRuntime) {
-    for (query, key, finders) in &ROWS {
-        for strategy in Strategy::ALL {
-            let is_found = matches(strategy, query.as_bytes(), key.as_bytes());
-            holds(&rt, is_found == finders.contains(strategy.name()), key);
+// Whether the query finds the key by these strategies, and by no others.
+fn is_found_by(query: &str, key: &str, finders: &str) -> bool {
+    for strategy in &Strategy::ALL {
+        let is_found = matches(*strategy, query.as_bytes(), key.as_bytes());
+        if is_found != finders.contains(strategy.name()) {
+            return false;
         }
     }
-    hit_laws();
+    true
 }
 
 static NAMES: [(Strategy, &str, &str); 7] = [
@@ -126,6 +124,16 @@ static NAMES: [(Strategy, &str, &str); 7] = [
     ),
 ];
 
+static LISTED: [Strategy; 7] = [
+    Strategy::Exact,
+    Strategy::Prefix,
+    Strategy::Suffix,
+    Strategy::Substring,
+    Strategy::Word,
+    Strategy::First,
+    Strategy::Last,
+];
+
 static NO_NAMES: [&str; 10] = [
     "", ".", "PREFIX", "Exact", "exac", "exactly", " exact", "re", "soundex", "lev",
 ];
@@ -138,15 +146,17 @@ fn is_named(strategy: Strategy, name: &str, title: &str) -> bool {
 }
 
 #[test]
-fn names_and_titles(rt: HostRuntime) {
-    for ((strategy, name, title), listed) in NAMES.iter().zip(Strategy::ALL) {
-        let is_listed = listed == *strategy && is_named(listed, name, title);
-        holds(&rt, is_listed, name);
+fn hits_and_names(rt: HostRuntime) {
+    for (query, key, finders) in &ROWS {
+        holds(&rt, is_found_by(query, key, finders), key);
+    }
+    holds(&rt, Strategy::ALL == LISTED, "all");
+    for (strategy, name, title) in &NAMES {
+        holds(&rt, is_named(*strategy, name, title), name);
     }
     for name in &NO_NAMES {
         holds(&rt, Strategy::by_name(name).is_none(), name);
     }
-    strategy_laws();
 }
 
 // A text, its key by the first version of folding, and its key.
@@ -222,33 +232,45 @@ static KEYS: [(&str, &str, &str); 55] = [
     ("\u{1e921}", "\u{1e921}", "\u{1e943}"),
 ];
 
-#[test]
-fn keys_by_the_rules(rt: HostRuntime) -> Result<(), Fail> {
-    for (text, reserved, key) in &KEYS {
-        let found = reserved_key_of(rt.alloc(), text)?;
-        holds(&rt, found.as_bytes() == reserved.as_bytes(), text);
-        let found = key_of(rt.alloc(), text)?;
-        holds(&rt, found.as_bytes() == key.as_bytes(), text);
+// Whether these are the two keys of a text.
+fn has_keys(alloc: Global, text: &str, reserved: &str, key: &str) -> Result<bool, AllocError> {
+    let found = reserved_key_of(alloc, text)?;
+    let is_reserved = found.as_bytes() == reserved.as_bytes();
+    drop(found);
+    let found = key_of(alloc, text)?;
+    let is_key = found.as_bytes() == key.as_bytes();
+    drop(found);
+    Ok(is_reserved && is_key)
+}
+
+// A text, and its words.
+static WORDS: [(&[u8], &[&[u8]]); 5] = [
+    (b" fire\t opal  \xc3\xa9 ", &[b"fire", b"opal", b"\xc3\xa9"]),
+    (b"", &[]),
+    (b" \t ", &[]),
+    (b"a", &[b"a"]),
+    (b"a\nb c", &[b"a\nb", b"c"]),
+];
+
+// Whether they come one after another, and none behind them, nor when it is asked again.
+fn has_words(text: &[u8], wanted: &[&[u8]]) -> bool {
+    let mut left = words(text);
+    for word in wanted {
+        if left.next() != Some(*word) {
+            return false;
+        }
     }
-    worked_ascii_keys();
-    worked_keys();
-    key_laws();
-    version_laws();
-    scalar_law();
-    Ok(())
+    left.next().is_none() && left.next().is_none()
 }
 
 #[test]
-fn words_by_the_rules(rt: HostRuntime) {
-    let mut left = words(b" fire\t opal  \xc3\xa9 ");
-    assert!(rt; left.next() == Some(b"fire".as_slice()));
-    assert!(rt; left.next() == Some(b"opal".as_slice()));
-    assert!(rt; left.next() == Some(b"\xc3\xa9".as_slice()));
-    assert!(rt; left.next().is_none());
-    assert!(rt; left.next().is_none());
-    same(&rt, &words(b"").count(), &0);
-    same(&rt, &words(b" \t ").count(), &0);
-    same(&rt, &words(b"a").count(), &1);
-    same(&rt, &words(b"a\nb c").count(), &2);
-    word_laws();
+fn keys_and_words(rt: HostRuntime) -> Result<(), Fail> {
+    for (text, reserved, key) in &KEYS {
+        holds(&rt, has_keys(rt.alloc(), text, reserved, key)?, text);
+    }
+    for (text, wanted) in &WORDS {
+        holds(&rt, has_words(text, wanted), "words");
+        holds(&rt, words(text).count() == wanted.len(), "count");
+    }
+    Ok(())
 }

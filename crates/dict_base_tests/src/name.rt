@@ -21,13 +21,6 @@ static NAMES: [(&str, bool); 15] = [
     ("*", false),
 ];
 
-#[test]
-fn names(rt: HostRuntime) {
-    for (name, lawful) in &NAMES {
-        holds(&rt, is_name(name) == *lawful, name);
-    }
-}
-
 static IDS: [(&str, bool); 9] = [
     ("r1", true),
     ("-", true),
@@ -46,13 +39,6 @@ static IDS: [(&str, bool); 9] = [
     ("ü", false),
 ];
 
-#[test]
-fn request_ids(rt: HostRuntime) {
-    for (id, lawful) in &IDS {
-        holds(&rt, is_request_id(id) == *lawful, id);
-    }
-}
-
 static TITLES: [(&str, bool); 7] = [
     ("All", true),
     ("A b\u{a0}", true),
@@ -64,7 +50,13 @@ static TITLES: [(&str, bool); 7] = [
 ];
 
 #[test]
-fn titles(rt: HostRuntime) {
+fn names_ids_and_titles(rt: HostRuntime) {
+    for (name, lawful) in &NAMES {
+        holds(&rt, is_name(name) == *lawful, name);
+    }
+    for (id, lawful) in &IDS {
+        holds(&rt, is_request_id(id) == *lawful, id);
+    }
     for (title, lawful) in &TITLES {
         holds(&rt, is_title(title) == *lawful, title);
     }

@@ -38,13 +38,17 @@ fn splits_and_joins(rt: &impl Abort, octets: &[u8], joiner: &mut Joiner) {
     holds(rt, false, "no more parts");
 }
 
-fn goes_around(rt: &impl Abort, alloc: Global, length: usize) -> Result<(), Fail> {
+fn goes_around(rt: &impl Abort, alloc: Global, length: usize) -> Result<(), AllocError> {
+    let mut roomy = Joiner::with_room(alloc, length)?;
     let octets = file(alloc, length)?;
     let mut joiner = Joiner::new(alloc);
     splits_and_joins(rt, &octets, &mut joiner);
-    let mut roomy = Joiner::with_room(alloc, length)?;
+    drop(joiner);
     splits_and_joins(rt, &octets, &mut roomy);
-    holds(rt, roomy.into_bytes() == octets, "the octets");
+    let joined = roomy.into_bytes();
+    holds(rt, joined == octets, "the octets");
+    drop(joined);
+    drop(octets);
     Ok(())
 }
 
@@ -72,62 +76,48 @@ fn joins_in_order(rt: &impl Abort, octets: &[u8], joiner: &mut Joiner) {
 #[test]
 fn refuses_what_is_no_next_part(rt: HostRuntime) -> Result<(), Fail> {
     let octets = file(rt.alloc(), PART_SIZE + 1)?;
-    joins_in_order(&rt, &octets, &mut Joiner::new(rt.alloc()));
+    let mut joiner = Joiner::new(rt.alloc());
+    joins_in_order(&rt, &octets, &mut joiner);
+    drop(joiner);
+    drop(octets);
     Ok(())
 }
 
-// Where an interval begins, and how many octets it has.
-static INTERVALS: [(u32, u32); 8] = [
-    (0, 0),
-    (0, 81_921),
-    (16_383, 1),
-    (16_383, 2),
-    (16_384, 16_384),
-    (16_383, 49_154),
-    (81_920, 1),
-    (81_921, 0),
+// How long a file is, where an interval begins, how many octets it has, and whether the file has it.
+static INTERVALS: [(usize, u32, u32, bool); 11] = [
+    (81_921, 0, 0, true),
+    (81_921, 0, 81_921, true),
+    (81_921, 16_383, 1, true),
+    (81_921, 16_383, 2, true),
+    (81_921, 16_384, 16_384, true),
+    (81_921, 16_383, 49_154, true),
+    (81_921, 81_920, 1, true),
+    (81_921, 81_921, 0, true),
+    (PART_SIZE, 16_383, 2, false),
+    (PART_SIZE, 16_384, 1, false),
+    (PART_SIZE, 99_999, 1, false),
 ];
 
-// Whether an interval of a file is cut out of it.
-fn is_cut(alloc: Global, octets: &[u8], start: u32, size: u32) -> bool {
+// Whether an interval of a file is cut out of it, or the file is told to end before the interval does.
+fn is_cut(alloc: Global, octets: &[u8], start: u32, size: u32, is_whole: bool) -> bool {
     let (start, size) = (u64::from(start), u64::from(size));
     let end = start + size;
     match cut(alloc, &mut InMemory::new(octets), start, size) {
-        Ok(found) => octets.get(start as usize..end as usize) == Some(found.as_slice()),
-        Err(_) => false,
+        Ok(found) => {
+            let same = octets.get(start as usize..end as usize) == Some(found.as_slice());
+            drop(found);
+            is_whole && same
+        }
+        Err(fault) => !is_whole && fault == CutFault::Short,
     }
 }
 
 #[test]
 fn cuts_an_interval(rt: HostRuntime) -> Result<(), Fail> {
-    let octets = file(rt.alloc(), 81_921)?;
-    for (start, size) in &INTERVALS {
-        let is_so = is_cut(rt.alloc(), &octets, *start, *size);
-        holds(&rt, is_so, "an interval");
-    }
-    Ok(())
-}
-
-static BEHIND: [(u32, u32); 3] = [(16_383, 2), (16_384, 1), (99_999, 1)];
-
-// Whether a file ends before an interval does.
-fn is_short(alloc: Global, octets: &[u8], start: u32, size: u32) -> bool {
-    match cut(
-        alloc,
-        &mut InMemory::new(octets),
-        u64::from(start),
-        u64::from(size),
-    ) {
-        Ok(_) => false,
-        Err(fault) => fault == CutFault::Short,
-    }
-}
-
-#[test]
-fn tells_a_file_that_ends_before(rt: HostRuntime) -> Result<(), Fail> {
-    let octets = file(rt.alloc(), PART_SIZE)?;
-    for (start, size) in &BEHIND {
-        let is_so = is_short(rt.alloc(), &octets, *start, *size);
+    for (length, start, size, is_whole) in &INTERVALS {
+        let octets = file(rt.alloc(), *length)?;
+        let is_so = is_cut(rt.alloc(), &octets, *start, *size, *is_whole);
+        drop(octets);
         holds(&rt, is_so, "an interval");
     }
     Ok(())

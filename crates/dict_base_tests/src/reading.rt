@@ -68,29 +68,9 @@ fn two_slices(
     Ok((first, count, second, reader.is_at_end(index)))
 }
 
-#[test]
-fn reads_in_two_slices(rt: HostRuntime) -> Result<(), Fail> {
-    let index = many_lines(rt.alloc(), SLICE_LINES, b"")?;
-    let told = two_slices(rt.alloc(), &index);
-    same(&rt, &told, &Ok((Ok(true), SLICE_LINES, Ok(false), true)));
-    Ok(())
-}
-
 fn told_by_all(alloc: Global, index: &[u8]) -> Result<(), IndexFault> {
     let mut reader = EditionReader::begin(alloc, index, TEXT)?;
     reader.take_all(index, TEXT)
-}
-
-#[test]
-fn tells_a_line_of_the_second_slice(rt: HostRuntime) -> Result<(), Fail> {
-    let index = many_lines(rt.alloc(), SLICE_LINES, b"00-database-short\tA\tZ\n")?;
-    let told = told_by_all(rt.alloc(), &index);
-    let twice = IndexFault::Refused {
-        refusal: EditionRefusal::ReservedTwice,
-        line: Some(SLICE_LINES + 2),
-    };
-    same(&rt, &told, &Err(twice));
-    Ok(())
 }
 
 // Whether all lines are read, and no edition comes of them.
@@ -101,7 +81,19 @@ fn lacks_a_title(alloc: Global, index: &[u8]) -> Result<bool, IndexFault> {
 }
 
 #[test]
-fn tells_a_missing_title(rt: HostRuntime) -> Result<(), Fail> {
+fn reads_in_two_slices_and_tells_what_is_amiss(rt: HostRuntime) -> Result<(), Fail> {
+    let index = many_lines(rt.alloc(), SLICE_LINES, b"")?;
+    let told = two_slices(rt.alloc(), &index);
+    drop(index);
+    same(&rt, &told, &Ok((Ok(true), SLICE_LINES, Ok(false), true)));
+    let index = many_lines(rt.alloc(), SLICE_LINES, b"00-database-short\tA\tZ\n")?;
+    let told = told_by_all(rt.alloc(), &index);
+    drop(index);
+    let twice = IndexFault::Refused {
+        refusal: EditionRefusal::ReservedTwice,
+        line: Some(SLICE_LINES + 2),
+    };
+    same(&rt, &told, &Err(twice));
     let is_so = lacks_a_title(rt.alloc(), b"opal\tZ\tP\n")?;
     holds(&rt, is_so, "no title");
     Ok(())

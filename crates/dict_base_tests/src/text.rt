@@ -1,48 +1,80 @@
 //! Characters, blanks and lines.
-use crate::checks::same;
+use crate::checks::holds;
 use dict_text::{
     has_control, is_blank, is_blank_octet, is_control, is_control_octet, text_lines,
     without_blanks_at_ends, without_leading_blanks,
 };
-use std::test::Fail;
 
-#[test]
-fn kinds_of_characters(rt: HostRuntime) {
-    assert!(rt; is_blank(' ') && is_blank('\t'));
-    assert!(rt; !is_blank('\n') && !is_blank('\u{a0}'));
-    assert!(rt; is_control('\0') && is_control('\u{1f}') && is_control('\u{7f}'));
-    assert!(rt; !is_control(' ') && !is_control('\u{80}'));
-    assert!(rt; is_blank_octet(b'\t') && !is_blank_octet(0xa0));
-    assert!(rt; is_control_octet(0x7f) && !is_control_octet(0x80));
-    assert!(rt; has_control(b"a\nb") && !has_control("a\u{80} b".as_bytes()));
-}
+// A character, whether it is a blank, and whether it is a control.
+static CHARACTERS: [(char, bool, bool); 8] = [
+    (' ', true, false),
+    ('\t', true, true),
+    ('\n', false, true),
+    ('\u{a0}', false, false),
+    ('\0', false, true),
+    ('\u{1f}', false, true),
+    ('\u{7f}', false, true),
+    ('\u{80}', false, false),
+];
 
-// A text, what is behind its leading blanks, and what is between the blanks at its ends.
-static BLANKS: [(&[u8], &[u8], &[u8]); 5] = [
-    (b"", b"", b""),
-    (b" \t", b"", b""),
-    (b"\t a b \t", b"a b \t", b"a b"),
-    (b"a", b"a", b"a"),
-    (b"\n ", b"\n ", b"\n"),
+// The same of octets.
+static OCTETS: [(u8, bool, bool); 4] = [
+    (b'\t', true, true),
+    (0x7f, false, true),
+    (0x80, false, false),
+    (0xa0, false, false),
+];
+
+// A text, what is behind its leading blanks, what is between the blanks at its ends, and whether it has a control.
+static TEXTS: [(&[u8], &[u8], &[u8], bool); 7] = [
+    (b"", b"", b"", false),
+    (b" \t", b"", b"", true),
+    (b"\t a b \t", b"a b \t", b"a b", true),
+    (b"a", b"a", b"a", false),
+    (b"\n ", b"\n ", b"\n", true),
+    (b"a\nb", b"a\nb", b"a\nb", true),
+    (b"a\xc2\x80 b", b"a\xc2\x80 b", b"a\xc2\x80 b", false),
 ];
 
 #[test]
-fn blanks_at_ends(rt: HostRuntime) {
-    for (text, behind_blanks, between_blanks) in &BLANKS {
-        assert!(rt; without_leading_blanks(text) == *behind_blanks);
-        assert!(rt; without_blanks_at_ends(text) == *between_blanks);
+fn characters_and_blanks(rt: HostRuntime) {
+    for (character, blank, control) in &CHARACTERS {
+        holds(&rt, is_blank(*character) == *blank, "a blank");
+        holds(&rt, is_control(*character) == *control, "a control");
+    }
+    for (octet, blank, control) in &OCTETS {
+        holds(&rt, is_blank_octet(*octet) == *blank, "a blank octet");
+        holds(&rt, is_control_octet(*octet) == *control, "an octet");
+    }
+    for (text, behind, between, control) in &TEXTS {
+        holds(&rt, without_leading_blanks(text) == *behind, "behind");
+        holds(&rt, without_blanks_at_ends(text) == *between, "between");
+        holds(&rt, has_control(text) == *control, "a control in a text");
     }
 }
 
+// A text, and its lines.
+static LINES: [(&[u8], &[&[u8]]); 4] = [
+    (b"", &[]),
+    (b"a\n\n.b", &[b"a", b"", b".b"]),
+    (b"a\n", &[b"a"]),
+    (b"\n", &[b""]),
+];
+
+fn has_lines(text: &[u8], wanted: &[&[u8]]) -> bool {
+    let mut left = text_lines(text);
+    for line in wanted {
+        if left.next() != Some(*line) {
+            return false;
+        }
+    }
+    left.next().is_none()
+}
+
 #[test]
-fn lines_of_texts(rt: HostRuntime) -> Result<(), Fail> {
-    same(&rt, &text_lines(b"").count(), &0);
-    let lines: Vec<&[u8]> = text_lines(b"a\n\n.b").collect(rt.alloc())?;
-    same(&rt, &lines.len(), &3);
-    assert!(rt; lines[0] == b"a".as_slice());
-    assert!(rt; lines[1].is_empty());
-    assert!(rt; lines[2] == b".b".as_slice());
-    same(&rt, &text_lines(b"a\n").count(), &1);
-    same(&rt, &text_lines(b"\n").count(), &1);
-    Ok(())
+fn lines_of_texts(rt: HostRuntime) {
+    for (text, wanted) in &LINES {
+        holds(&rt, has_lines(text, wanted), "lines");
+        holds(&rt, text_lines(text).count() == wanted.len(), "count");
+    }
 }

@@ -1,39 +1,32 @@
 //! One record changed at a time.
 
 use super::records::{
-    Change, EditionRow, EntryRow, GEM, ItemRow, KeptRow, MarkRow, MemberRow, ORES, empty,
-    is_damaged_with, put, put_whole,
+    Change, EditionRow, EntryRow, GEM, ItemRow, KeptRow, MarkRow, MemberRow, ORES, WHOLE,
+    is_damaged_with, says, summary_after,
 };
+use crate::checks::{holds, same};
 use dict_catalogue::Summary;
-use dict_rows::summary_of;
 use std::process::Abort;
 use std::test::Fail;
 
 fn look_at_the_whole(rt: &impl Abort, summary: &Summary) {
-    assert_eq!(rt; summary.items.len(), 3);
-    assert_eq!(rt; summary.items[0].name(), "ore");
-    assert_eq!(rt; summary.items[1].title(), "Gems");
-    assert_eq!(rt; summary.items[2].title(), "All");
-    assert_eq!(rt; summary.installs, 2);
-    assert_eq!(rt; summary.accepted, 3);
+    same(rt, &summary.items.len(), &3);
+    holds(rt, says(summary.items.get(0), "ore", "Ores"), "ore");
+    holds(rt, says(summary.items.get(1), "gem", "Gems"), "gem");
+    holds(rt, says(summary.items.get(2), "all", "All"), "all");
+    same(rt, &summary.installs, &2);
+    same(rt, &summary.accepted, &3);
 }
 
 #[test]
-fn whole_catalogue(rt: HostRuntime) -> Result<(), Fail> {
-    let mut rows = empty(rt.alloc());
-    put_whole(rt.alloc(), &mut rows)?;
-    let summary = summary_of(rt.alloc(), 1, &rows.tables())?;
+fn whole_and_empty_catalogues(rt: HostRuntime) -> Result<(), Fail> {
+    let summary = summary_after(rt.alloc(), &WHOLE, &[])?;
     look_at_the_whole(&rt, &summary);
-    Ok(())
-}
-
-#[test]
-fn empty_catalogue(rt: HostRuntime) -> Result<(), Fail> {
-    let mut rows = empty(rt.alloc());
+    drop(summary);
     let mark = Change::Marks(&[MarkRow("dictcat", 1, 0)]);
-    put(rt.alloc(), &mut rows, mark)?;
-    let summary = summary_of(rt.alloc(), 1, &rows.tables())?;
-    assert_eq!(rt; summary.items.len(), 0);
+    let summary = summary_after(rt.alloc(), &[mark], &[])?;
+    same(&rt, &summary.items.len(), &0);
+    drop(summary);
     Ok(())
 }
 
@@ -122,9 +115,8 @@ static DAMAGED: [Change<'static>; 24] = [
 ];
 
 #[test]
-fn changes_that_leave_no_catalogue(rt: HostRuntime) -> Result<(), Fail> {
-    for (place, change) in DAMAGED.iter().enumerate() {
-        assert!(rt; is_damaged_with(rt.alloc(), *change)?, "in row {place}");
+fn changes_that_leave_no_catalogue(rt: HostRuntime) {
+    for change in &DAMAGED {
+        holds(&rt, is_damaged_with(rt.alloc(), *change), "a change");
     }
-    Ok(())
 }

@@ -1,10 +1,11 @@
 //! Catalogues at the limits, and records with numbers and octets that no catalogue has.
 
 use super::records::{
-    Change, EditionRow, EntryRow, GEM, ItemRow, KeptRow, MarkRow, MemberRow, Rows, edition, empty,
-    is_damaged, is_damaged_with, item, kept, member, put, put_whole,
+    Change, EditionRow, EntryRow, GEM, ItemRow, KeptRow, MarkRow, MemberRow, Rows, WHOLE, edition,
+    empty, is_damaged_with, item, kept, member, put, put_all, says, summary_after,
 };
-use dict_rows::summary_of;
+use crate::checks::{holds, push, same};
+use dict_rows::{RowsFault, summary_of};
 use std::alloc::{AllocError, Global};
 use std::process::Abort;
 use std::test::Fail;
@@ -20,25 +21,33 @@ fn add_one(alloc: Global, rows: &mut Rows, place: u32, name: &str) -> Result<(),
     let place = i64::from(place);
     let number = place + 1;
     let regular = ItemRow::Regular(place, name, number, None);
-    rows.items.push(item(alloc, regular)?)?;
+    push(&mut rows.items, item(alloc, regular))?;
     let entries = [EntryRow(0, "iron", 0, 11)];
     let one = EditionRow(number, name, "Ores", IRON, &entries);
-    rows.editions.push(edition(alloc, one)?)?;
+    push(&mut rows.editions, edition(alloc, one))?;
     let reply = KeptRow(name, number, "install", name, Some(number));
-    rows.kept.push(kept(alloc, reply)?)?;
-    Ok(())
+    push(&mut rows.kept, kept(alloc, reply))
+}
+
+/// Adds the database at a place, or lists it as a member there of the virtual one.
+fn add(alloc: Global, rows: &mut Rows, place: u32, is_member: bool) -> Result<(), AllocError> {
+    let name = format!(in alloc; "d{place}")?;
+    let end = if is_member {
+        let row = MemberRow("all", i64::from(place), name.as_str());
+        push(&mut rows.members, member(alloc, row))
+    } else {
+        add_one(alloc, rows, place, name.as_str())
+    };
+    drop(name);
+    end
 }
 
 /// Adds so many databases, each with one edition.
 fn add_many(alloc: Global, rows: &mut Rows, count: u32) -> Result<(), AllocError> {
-    put(
-        alloc,
-        rows,
-        Change::Marks(&[MarkRow("dictcat", 1, i64::from(count))]),
-    )?;
+    let marks = [MarkRow("dictcat", 1, i64::from(count))];
+    put(alloc, rows, Change::Marks(&marks))?;
     for place in 0..count {
-        let name = format!(in alloc; "d{place}")?;
-        add_one(alloc, rows, place, name.as_str())?;
+        add(alloc, rows, place, false)?;
     }
     Ok(())
 }
@@ -47,19 +56,16 @@ fn add_many(alloc: Global, rows: &mut Rows, count: u32) -> Result<(), AllocError
 fn add_all(alloc: Global, rows: &mut Rows, count: u32, again: bool) -> Result<(), AllocError> {
     let place = i64::from(count);
     let all = ItemRow::Listed(place, "all", 1, "All");
-    rows.items.push(item(alloc, all)?)?;
+    push(&mut rows.items, item(alloc, all))?;
     for ord in 0..count {
-        let name = format!(in alloc; "d{ord}")?;
-        let row = member(alloc, MemberRow("all", i64::from(ord), name.as_str()))?;
-        rows.members.push(row)?;
+        add(alloc, rows, ord, true)?;
     }
     if again {
-        rows.members
-            .push(member(alloc, MemberRow("all", place, "d0"))?)?;
+        let row = MemberRow("all", place, "d0");
+        push(&mut rows.members, member(alloc, row))?;
     }
     let reply = KeptRow("all", place + 1, "virtual", "all", None);
-    rows.kept.push(kept(alloc, reply)?)?;
-    Ok(())
+    push(&mut rows.kept, kept(alloc, reply))
 }
 
 // How many databases there are; of how many a virtual database is, and whether it has one of them twice; and how many items are read, where they are.
@@ -75,22 +81,27 @@ fn look_at_a_size(
     rt: &impl Abort,
     alloc: Global,
     rows: &mut Rows,
-    size: (u32, Option<(u32, bool)>, Option<usize>),
+    (count, all, wanted): (u32, Option<(u32, bool)>, Option<usize>),
 ) -> Result<(), Fail> {
-    let (count, all, wanted) = size;
     add_many(alloc, rows, count)?;
     if let Some((members, again)) = all {
         add_all(alloc, rows, members, again)?;
     }
     match wanted {
-        None => assert!(rt; is_damaged(alloc, rows)),
+        None => {
+            let fault = summary_of(alloc, 1, &rows.tables()).err();
+            same(rt, &fault, &Some(RowsFault::Damaged));
+        }
         Some(items) => {
             let summary = summary_of(alloc, 1, &rows.tables())?;
-            assert_eq!(rt; summary.items.len(), items);
-            let last = if all.is_some() { "all" } else { "d63" };
-            if let Some(item) = summary.items.last() {
-                assert_eq!(rt; item.name(), last);
-            }
+            same(rt, &summary.items.len(), &items);
+            let (name, title) = if all.is_some() {
+                ("all", "All")
+            } else {
+                ("d63", "Ores")
+            };
+            holds(rt, says(summary.items.last(), name, title), name);
+            drop(summary);
         }
     }
     Ok(())
@@ -100,7 +111,9 @@ fn look_at_a_size(
 fn sizes_at_the_limit(rt: HostRuntime) -> Result<(), Fail> {
     for size in &SIZES {
         let mut rows = empty(rt.alloc());
-        look_at_a_size(&rt, rt.alloc(), &mut rows, *size)?;
+        let end = look_at_a_size(&rt, rt.alloc(), &mut rows, *size);
+        drop(rows);
+        end?;
     }
     Ok(())
 }
@@ -111,67 +124,65 @@ fn put_cut(
     rows: &mut Rows,
     number: i64,
     body: &[u8],
-    cut: (i64, i64),
+    (start, length): (i64, i64),
 ) -> Result<(), AllocError> {
-    put_whole(alloc, rows)?;
+    put_all(alloc, rows, &WHOLE)?;
     rows.editions.clear();
-    let entries = [EntryRow(0, "iron", cut.0, cut.1)];
+    let entries = [EntryRow(0, "iron", start, length)];
     let ore = EditionRow(number, "ore", "Ores", body, &entries);
-    rows.editions.push(edition(alloc, ore)?)?;
-    rows.editions.push(edition(alloc, GEM)?)?;
-    Ok(())
+    push(&mut rows.editions, edition(alloc, ore))?;
+    push(&mut rows.editions, edition(alloc, GEM))
 }
 
 /// Whether no catalogue has such an edition.
-fn is_damaged_cut(
-    alloc: Global,
-    number: i64,
-    body: &[u8],
-    cut: (i64, i64),
-) -> Result<bool, AllocError> {
+fn is_damaged_cut(alloc: Global, number: i64, body: &[u8], cut: (i64, i64)) -> bool {
     let mut rows = empty(alloc);
-    put_cut(alloc, &mut rows, number, body, cut)?;
-    Ok(is_damaged(alloc, &rows))
+    let put = put_cut(alloc, &mut rows, number, body, cut);
+    let fault = summary_of(alloc, 1, &rows.tables()).err();
+    drop(rows);
+    put.is_ok() && fault == Some(RowsFault::Damaged)
 }
 
 /// Whether no catalogue has this mark.
-fn is_damaged_mark(alloc: Global, version: i64, installs: i64) -> Result<bool, AllocError> {
-    let marks = [MarkRow("dictcat", version, installs)];
-    is_damaged_with(alloc, Change::Marks(&marks))
+fn is_damaged_mark(alloc: Global, version: i64, installs: i64) -> bool {
+    is_damaged_with(
+        alloc,
+        Change::Marks(&[MarkRow("dictcat", version, installs)]),
+    )
 }
 
 static ENDS: [i64; 3] = [LEAST, -1, MOST];
 
 #[test]
-fn numbers_at_both_ends(rt: HostRuntime) -> Result<(), Fail> {
+fn numbers_at_both_ends(rt: HostRuntime) {
     let alloc = rt.alloc();
     for number in &ENDS {
-        assert!(rt; is_damaged_mark(alloc, 1, *number)?);
-        assert!(rt; is_damaged_mark(alloc, *number, 2)?);
-        assert!(rt; is_damaged_cut(alloc, 1, IRON, (*number, 11))?);
-        assert!(rt; is_damaged_cut(alloc, 1, IRON, (0, *number))?);
-        assert!(rt; is_damaged_cut(alloc, 1, IRON, (*number, *number))?);
-        assert!(rt; is_damaged_cut(alloc, *number, IRON, (0, 11))?);
+        holds(&rt, is_damaged_mark(alloc, 1, *number), "installs");
+        holds(&rt, is_damaged_mark(alloc, *number, 2), "version");
+        holds(&rt, is_damaged_cut(alloc, 1, IRON, (*number, 11)), "start");
+        holds(&rt, is_damaged_cut(alloc, 1, IRON, (0, *number)), "length");
+        let is_so = is_damaged_cut(alloc, 1, IRON, (*number, *number));
+        holds(&rt, is_so, "start and length");
+        holds(&rt, is_damaged_cut(alloc, *number, IRON, (0, 11)), "number");
     }
-    Ok(())
 }
 
 const NO_TEXT: &[u8] = b"\xff\xfeiron\n  ore\n\xff";
 
-fn look_at_octets(rt: &impl Abort, alloc: Global, rows: &mut Rows) -> Result<(), Fail> {
-    put_cut(alloc, rows, 1, NO_TEXT, (2, 11))?;
-    let summary = summary_of(alloc, 1, &rows.tables())?;
-    assert_eq!(rt; summary.items.len(), 3);
-    assert_eq!(rt; summary.items[0].title(), "Ores");
-    Ok(())
-}
+/// An edition of `ore` of octets that are no text, of which its one entry is.
+static NO_TEXTS: [EditionRow<'static>; 2] = [
+    EditionRow(1, "ore", "Ores", NO_TEXT, &[EntryRow(0, "iron", 2, 11)]),
+    GEM,
+];
 
 #[test]
 fn octets_that_are_no_text(rt: HostRuntime) -> Result<(), Fail> {
     let alloc = rt.alloc();
-    let mut rows = empty(alloc);
-    look_at_octets(&rt, alloc, &mut rows)?;
-    assert!(rt; is_damaged_cut(alloc, 1, NO_TEXT, (1, 12))?);
-    assert!(rt; is_damaged_cut(alloc, 1, NO_TEXT, (2, 12))?);
+    let summary = summary_after(alloc, &WHOLE, &[Change::Editions(&NO_TEXTS)])?;
+    same(&rt, &summary.items.len(), &3);
+    holds(&rt, says(summary.items.get(0), "ore", "Ores"), "ore");
+    drop(summary);
+    holds(&rt, is_damaged_cut(alloc, 1, NO_TEXT, (1, 12)), "from 1");
+    holds(&rt, is_damaged_cut(alloc, 1, NO_TEXT, (2, 12)), "from 2");
     Ok(())
 }

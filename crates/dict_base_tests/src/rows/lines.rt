@@ -1,6 +1,7 @@
 //! Editions whose entries are read as the lines of an index.
 
-use super::records::{EditionRow, GEM, ORE, Rows, edition, empty, put_whole};
+use super::records::{EditionRow, GEM, ORE, Rows, WHOLE, edition, empty, put_all, says};
+use crate::checks::{holds, same};
 use dict_catalogue::Summary;
 use dict_rows::{Reader, RowsFault};
 use std::alloc::Global;
@@ -54,24 +55,25 @@ fn read_whole(alloc: Global, rows: &Rows) -> Result<Summary, RowsFault> {
     reader.finish()
 }
 
-#[test]
-fn lines_of_a_whole_catalogue(rt: HostRuntime) -> Result<(), Fail> {
-    let mut rows = empty(rt.alloc());
-    put_whole(rt.alloc(), &mut rows)?;
-    let summary = read_whole(rt.alloc(), &rows)?;
-    assert_eq!(rt; summary.items.len(), 3);
-    assert_eq!(rt; summary.items[1].title(), "Gems");
+fn look_at_lines(rt: &impl Abort, alloc: Global, rows: &mut Rows) -> Result<(), RowsFault> {
+    put_all(alloc, rows, &WHOLE)?;
+    let summary = read_whole(alloc, rows)?;
+    same(rt, &summary.items.len(), &3);
+    holds(rt, says(summary.items.get(1), "gem", "Gems"), "gem");
+    drop(summary);
+    for line in &DAMAGED {
+        let mut reader = begin(alloc, rows)?;
+        let read = read_lines(alloc, &mut reader, ORE, &[*line]);
+        drop(reader);
+        holds(rt, read.err() == Some(RowsFault::Damaged), line.0);
+    }
     Ok(())
 }
 
 #[test]
-fn lines_of_no_catalogue(rt: HostRuntime) -> Result<(), Fail> {
+fn lines_of_a_catalogue_and_of_none(rt: HostRuntime) -> Result<(), Fail> {
     let mut rows = empty(rt.alloc());
-    put_whole(rt.alloc(), &mut rows)?;
-    for (place, line) in DAMAGED.iter().enumerate() {
-        let mut reader = begin(rt.alloc(), &rows)?;
-        let read = read_lines(rt.alloc(), &mut reader, ORE, &[*line]);
-        assert!(rt; read.err() == Some(RowsFault::Damaged), "in row {place}");
-    }
-    Ok(())
+    let end = look_at_lines(&rt, rt.alloc(), &mut rows);
+    drop(rows);
+    Ok(end?)
 }

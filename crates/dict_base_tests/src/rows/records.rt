@@ -1,5 +1,7 @@
 //! The records of a catalogue with the databases `ore` and `gem` and the virtual database `all`.
 
+use crate::checks::push;
+use dict_catalogue::{Item as CatalogueItem, Summary};
 use dict_records::{Edition, Entry, Item, Kept, Mark, Member, Stored};
 use dict_rows::{EditionRows, RowsFault, Tables, summary_of};
 use std::alloc::{AllocError, Global};
@@ -81,7 +83,7 @@ pub(crate) const GEM: EditionRow<'static> = EditionRow(
 );
 
 /// The records of the whole catalogue.
-static WHOLE: [Change<'static>; 5] = [
+pub(crate) static WHOLE: [Change<'static>; 5] = [
     Change::Marks(&[MarkRow("dictcat", 1, 2)]),
     Change::Items(&[
         ItemRow::Regular(0, "ore", 1, None),
@@ -119,14 +121,10 @@ impl Rows {
     }
 }
 
-fn text(alloc: Global, text: &str) -> Result<String, AllocError> {
-    String::from_str(alloc, text)
-}
-
 pub(crate) fn mark(alloc: Global, row: MarkRow) -> Result<Stored<Mark<String>>, AllocError> {
     let value = Mark {
         id: 1,
-        magic: text(alloc, row.0)?,
+        magic: String::from_str(alloc, row.0)?,
         version: row.1,
         installs: row.2,
     };
@@ -138,7 +136,7 @@ pub(crate) fn item(alloc: Global, row: ItemRow<'_>) -> Result<Stored<Item<String
         ItemRow::Regular(place, name, current, former) => {
             let value = Item {
                 place,
-                name: text(alloc, name)?,
+                name: String::from_str(alloc, name)?,
                 kind: 0,
                 title: None,
                 current: Some(current),
@@ -152,9 +150,9 @@ pub(crate) fn item(alloc: Global, row: ItemRow<'_>) -> Result<Stored<Item<String
         ItemRow::Listed(place, name, kind, title) => {
             let value = Item {
                 place,
-                name: text(alloc, name)?,
+                name: String::from_str(alloc, name)?,
                 kind,
-                title: Some(text(alloc, title)?),
+                title: Some(String::from_str(alloc, title)?),
                 current: None,
                 former: None,
             };
@@ -171,9 +169,9 @@ pub(crate) fn member(
     row: MemberRow<'_>,
 ) -> Result<Stored<Member<String>>, AllocError> {
     let value = Member {
-        owner: text(alloc, row.0)?,
+        owner: String::from_str(alloc, row.0)?,
         ord: row.1,
-        name: text(alloc, row.2)?,
+        name: String::from_str(alloc, row.2)?,
     };
     Ok(Stored {
         rowid: row.1,
@@ -185,7 +183,7 @@ fn entry(alloc: Global, edition: i64, row: EntryRow) -> Result<Stored<Entry<Stri
     let value = Entry {
         edition,
         ord: row.0,
-        headword: text(alloc, row.1)?,
+        headword: String::from_str(alloc, row.1)?,
         start: row.2,
         length: row.3,
     };
@@ -201,9 +199,9 @@ fn edition_record(
 ) -> Result<Stored<Edition<String, Vec<u8>>>, AllocError> {
     let value = Edition {
         number: row.0,
-        owner: text(alloc, row.1)?,
-        title: text(alloc, row.2)?,
-        info: text(alloc, "")?,
+        owner: String::from_str(alloc, row.1)?,
+        title: String::from_str(alloc, row.2)?,
+        info: String::from_str(alloc, "")?,
         body: Vec::from_slice(alloc, row.3)?,
     };
     Ok(Stored {
@@ -215,7 +213,7 @@ fn edition_record(
 pub(crate) fn edition(alloc: Global, row: EditionRow<'_>) -> Result<EditionRows, AllocError> {
     let mut entries = Vec::new(alloc);
     for one in row.4 {
-        entries.push(entry(alloc, row.0, *one)?)?;
+        push(&mut entries, entry(alloc, row.0, *one))?;
     }
     Ok(EditionRows {
         edition: edition_record(alloc, row)?,
@@ -225,10 +223,10 @@ pub(crate) fn edition(alloc: Global, row: EditionRow<'_>) -> Result<EditionRows,
 
 pub(crate) fn kept(alloc: Global, row: KeptRow<'_>) -> Result<Stored<Kept<String>>, AllocError> {
     let value = Kept {
-        id: text(alloc, row.0)?,
+        id: String::from_str(alloc, row.0)?,
         number: row.1,
-        verb: text(alloc, row.2)?,
-        name: text(alloc, row.3)?,
+        verb: String::from_str(alloc, row.2)?,
+        name: String::from_str(alloc, row.3)?,
         edition: row.4,
     };
     Ok(Stored {
@@ -254,54 +252,70 @@ pub(crate) fn put(alloc: Global, rows: &mut Rows, change: Change<'_>) -> Result<
         Change::Marks(marks) => {
             rows.marks.clear();
             for row in marks {
-                rows.marks.push(mark(alloc, *row)?)?;
+                push(&mut rows.marks, mark(alloc, *row))?;
             }
         }
         Change::Items(items) => {
             rows.items.clear();
             for row in items {
-                rows.items.push(item(alloc, *row)?)?;
+                push(&mut rows.items, item(alloc, *row))?;
             }
         }
         Change::Members(members) => {
             rows.members.clear();
             for row in members {
-                rows.members.push(member(alloc, *row)?)?;
+                push(&mut rows.members, member(alloc, *row))?;
             }
         }
         Change::Editions(editions) => {
             rows.editions.clear();
             for row in editions {
-                rows.editions.push(edition(alloc, *row)?)?;
+                push(&mut rows.editions, edition(alloc, *row))?;
             }
         }
         Change::Kept(replies) => {
             rows.kept.clear();
             for row in replies {
-                rows.kept.push(kept(alloc, *row)?)?;
+                push(&mut rows.kept, kept(alloc, *row))?;
             }
         }
     }
     Ok(())
 }
 
-/// Puts the records of the whole catalogue.
-pub(crate) fn put_whole(alloc: Global, rows: &mut Rows) -> Result<(), AllocError> {
-    for part in &WHOLE {
-        put(alloc, rows, *part)?;
+/// Puts these records, in turn.
+pub(crate) fn put_all(
+    alloc: Global,
+    rows: &mut Rows,
+    changes: &[Change<'_>],
+) -> Result<(), AllocError> {
+    for change in changes {
+        put(alloc, rows, *change)?;
     }
     Ok(())
 }
 
-/// Whether the records stand for no catalogue.
-pub(crate) fn is_damaged(alloc: Global, rows: &Rows) -> bool {
-    summary_of(alloc, 1, &rows.tables()).err() == Some(RowsFault::Damaged)
+/// The catalogue for which the records stand after these changes and then these.
+pub(crate) fn summary_after(
+    alloc: Global,
+    changes: &[Change<'_>],
+    more: &[Change<'_>],
+) -> Result<Summary, RowsFault> {
+    let mut rows = empty(alloc);
+    put_all(alloc, &mut rows, changes)?;
+    put_all(alloc, &mut rows, more)?;
+    summary_of(alloc, 1, &rows.tables())
 }
 
 /// Whether the records of the catalogue stand for none with this change.
-pub(crate) fn is_damaged_with(alloc: Global, change: Change<'_>) -> Result<bool, AllocError> {
-    let mut rows = empty(alloc);
-    put_whole(alloc, &mut rows)?;
-    put(alloc, &mut rows, change)?;
-    Ok(is_damaged(alloc, &rows))
+pub(crate) fn is_damaged_with(alloc: Global, change: Change<'_>) -> bool {
+    summary_after(alloc, &WHOLE, &[change]).err() == Some(RowsFault::Damaged)
+}
+
+/// Whether an item is there, and has this name and this title.
+pub(crate) fn says(item: Option<&CatalogueItem>, name: &str, title: &str) -> bool {
+    match item {
+        Some(item) => item.name() == name && item.title() == title,
+        None => false,
+    }
 }
