@@ -24,7 +24,7 @@ static LINES: [Line<'static>; 10] = [
     ("+", "plus", 45, 10),
 ];
 
-static ASKED: &str = "
+const ASKED: &str = "
 o
 a
 op
@@ -38,7 +38,7 @@ a query that is longer than every key
 ";
 
 // The headwords of the databases of examples/.
-static EXAMPLES: &str = "00-database-short
+const EXAMPLES: &str = "00-database-short
 opal
 Fire Opal
 dot
@@ -194,7 +194,7 @@ x-height
 zero-width space
 ";
 
-static ASKED_OF_EXAMPLES: &str = "
+const ASKED_OF_EXAMPLES: &str = "
 a
 in
 line
@@ -217,7 +217,7 @@ a query that is longer than every key
 ";
 
 // Runs of letters that the made headwords have, beside whole ones.
-static RUNS: &str = "e
+const RUNS: &str = "e
 e a
 th
 tio
@@ -243,7 +243,7 @@ a query that is longer than every key
 ";
 
 // Keys that begin with one another.
-static NESTED: &str = "a
+const NESTED: &str = "a
 ab
 abc
 abcd
@@ -260,6 +260,22 @@ abcdefghijkl
 /// How many lines an edition may have.
 const MOST: usize = 262_144;
 
+// Texts, a line for each headword and for each query, and how many the queries find by all strategies: as many as a filter in Python.
+static TEXTS: [(&str, &str, usize); 4] = [
+    ("o", "o", 7),
+    ("", ASKED, 0),
+    (EXAMPLES, ASKED_OF_EXAMPLES, 213),
+    // 12 by each of five strategies, and by two each key of twelve with all that are longer
+    (NESTED, NESTED, 5 * 12 + 2 * 78),
+];
+
+// Lines, of which one has its text past what 32 bits count.
+static FAR: [Line<'static>; 3] = [
+    ("a", "a", 1, 2),
+    ("b", "b", 4_294_967_296, 3),
+    ("c", "c", 4, 5),
+];
+
 fn lines_of(alloc: Global, text: &str) -> Result<Vec<Line<'_>>, AllocError> {
     let mut lines = Vec::new(alloc);
     for headword in text.lines() {
@@ -268,21 +284,40 @@ fn lines_of(alloc: Global, text: &str) -> Result<Vec<Line<'_>>, AllocError> {
     Ok(lines)
 }
 
-fn built(alloc: Global, lines: &[Line]) -> Result<Index, AllocError> {
-    let mut builder = IndexBuilder::new(alloc);
+fn push_lines(builder: &mut IndexBuilder, lines: &[Line]) -> Result<(), AllocError> {
     for line in lines {
         builder.push(line.0, line.1, line.2, line.3)?;
     }
-    if builder.len() > MOST {
+    Ok(())
+}
+
+fn built(alloc: Global, lines: &[Line]) -> Result<Index, AllocError> {
+    let mut builder = IndexBuilder::new(alloc);
+    if push_lines(&mut builder, lines).is_err() || builder.len() > MOST {
+        drop(builder);
         return Err(AllocError);
     }
     builder.finish()
 }
 
+fn push_key(alloc: Global, keys: &mut Vec<Key>, text: &str) -> Result<(), AllocError> {
+    keys.push(key_of(alloc, text)?)?;
+    Ok(())
+}
+
 fn keys_of(alloc: Global, lines: &[Line]) -> Result<Vec<Key>, AllocError> {
     let mut keys = Vec::new(alloc);
     for line in lines {
-        keys.push(key_of(alloc, line.0)?)?;
+        push_key(alloc, &mut keys, line.0)?;
+    }
+    Ok(keys)
+}
+
+// The keys of the queries, a line for each.
+fn keys_asked(alloc: Global, asked: &str) -> Result<Vec<Key>, AllocError> {
+    let mut keys = Vec::new(alloc);
+    for query in asked.lines() {
+        push_key(alloc, &mut keys, query)?;
     }
     Ok(keys)
 }
@@ -305,6 +340,35 @@ fn filtered(
     Ok(places)
 }
 
+fn count_candidates(
+    alloc: Global,
+    index: &Index,
+    strategy: Strategy,
+    query: &[u8],
+) -> Result<usize, AllocError> {
+    let selection = select(alloc, strategy, query)?;
+    let candidates = index.candidates(alloc, &selection);
+    drop(selection);
+    Ok(candidates?.len())
+}
+
+// Whether a query finds these places, and is counted and looks at entries as many as it is to.
+fn finds(
+    alloc: Global,
+    index: &Index,
+    strategy: Strategy,
+    query: &[u8],
+    wanted: &[u32],
+) -> Result<bool, AllocError> {
+    let counted = index.count_entries(alloc, strategy, query)?;
+    let looked_at = count_candidates(alloc, index, strategy, query)?;
+    let found = index.find(alloc, strategy, query)?;
+    let same = found.places.as_slice() == wanted;
+    let seen = found.looked_at;
+    drop(found);
+    Ok(same && counted.count == wanted.len() && looked_at == seen)
+}
+
 // One query of some lines, beside the filter: how many it finds.
 fn try_one(
     rt: &impl Abort,
@@ -315,27 +379,11 @@ fn try_one(
     query: &[u8],
 ) -> Result<usize, AllocError> {
     let wanted = filtered(alloc, keys, strategy, query)?;
-    let found = index.find(alloc, strategy, query)?;
-    let counted = index.count_entries(alloc, strategy, query)?;
-    let looked_at = count_candidates(alloc, index, strategy, query)?;
-    let same = found.places.as_slice() == wanted.as_slice();
-    holds(
-        rt,
-        same && counted.count == wanted.len() && looked_at == found.looked_at,
-        strategy.name(),
-    );
-    Ok(wanted.len())
-}
-
-fn count_candidates(
-    alloc: Global,
-    index: &Index,
-    strategy: Strategy,
-    query: &[u8],
-) -> Result<usize, AllocError> {
-    let selection = select(alloc, strategy, query)?;
-    let candidates = index.candidates(alloc, &selection)?;
-    Ok(candidates.len())
+    let count = wanted.len();
+    let found = finds(alloc, index, strategy, query, wanted.as_slice());
+    drop(wanted);
+    holds(rt, found?, strategy.name());
+    Ok(count)
 }
 
 // Each query by one strategy: how many they find.
@@ -355,6 +403,7 @@ fn try_queries(
     Ok(found)
 }
 
+// Each query by each of the strategies: how many they find.
 fn try_strategies(
     rt: &impl Abort,
     alloc: Global,
@@ -371,20 +420,49 @@ fn try_strategies(
     Ok(found)
 }
 
-// Each query by each of the strategies, of one index of the lines: how many they find.
-fn try_lines(
+// The same of one index of the lines, whose keys are these.
+fn try_index(
+    rt: &impl Abort,
+    alloc: Global,
+    lines: &[Line],
+    keys: &[Key],
+    strategies: &[Strategy],
+    asked: &[Key],
+) -> Result<usize, AllocError> {
+    let index = built(alloc, lines)?;
+    let found = try_strategies(rt, alloc, &index, keys, strategies, asked);
+    drop(index);
+    found
+}
+
+fn try_keys(
     rt: &impl Abort,
     alloc: Global,
     lines: &[Line],
     strategies: &[Strategy],
     asked: &[Key],
 ) -> Result<usize, AllocError> {
-    let index = built(alloc, lines)?;
     let keys = keys_of(alloc, lines)?;
-    try_strategies(rt, alloc, &index, keys.as_slice(), strategies, asked)
+    let found = try_index(rt, alloc, lines, keys.as_slice(), strategies, asked);
+    drop(keys);
+    found
 }
 
-// The same of texts: a line for each headword, and for each query.
+// The same of queries, a line for each.
+fn try_lines(
+    rt: &impl Abort,
+    alloc: Global,
+    lines: &[Line],
+    strategies: &[Strategy],
+    asked: &str,
+) -> Result<usize, AllocError> {
+    let asked = keys_asked(alloc, asked)?;
+    let found = try_keys(rt, alloc, lines, strategies, asked.as_slice());
+    drop(asked);
+    found
+}
+
+// The same of a text, with a line for each headword.
 fn try_text(
     rt: &impl Abort,
     alloc: Global,
@@ -393,106 +471,107 @@ fn try_text(
     asked: &str,
 ) -> Result<usize, AllocError> {
     let lines = lines_of(alloc, text)?;
-    let queries = lines_of(alloc, asked)?;
-    let asked = keys_of(alloc, queries.as_slice())?;
-    try_lines(rt, alloc, lines.as_slice(), strategies, asked.as_slice())
+    let found = try_lines(rt, alloc, lines.as_slice(), strategies, asked);
+    drop(lines);
+    found
 }
 
 #[test]
 fn queries_find_what_the_filter_finds(rt: HostRuntime) -> Result<(), Fail> {
     edition_laws();
     selection_law();
-    let alloc = rt.alloc();
-    let queries = lines_of(alloc, ASKED)?;
-    let asked = keys_of(alloc, queries.as_slice())?;
-    let found = try_lines(&rt, alloc, &LINES, &Strategy::ALL, asked.as_slice())?;
+    let found = try_lines(&rt, rt.alloc(), &LINES, &Strategy::ALL, ASKED)?;
     holds(&rt, found > 0, "found");
     Ok(())
 }
 
 #[test]
-fn one_entry_and_none(rt: HostRuntime) -> Result<(), Fail> {
-    let alloc = rt.alloc();
-    holds(
-        &rt,
-        try_text(&rt, alloc, "o", &Strategy::ALL, "o")? == 7,
-        "o",
-    );
-    holds(
-        &rt,
-        try_text(&rt, alloc, "", &Strategy::ALL, ASKED)? == 0,
-        "none",
-    );
+fn as_many_are_found_as_are_wanted(rt: HostRuntime) -> Result<(), Fail> {
+    for (text, asked, wanted) in &TEXTS {
+        let found = try_text(&rt, rt.alloc(), *text, &Strategy::ALL, *asked)?;
+        holds(&rt, found == *wanted, asked);
+    }
     Ok(())
 }
 
-#[test]
-fn headwords_of_the_examples(rt: HostRuntime) -> Result<(), Fail> {
-    let found = try_text(&rt, rt.alloc(), EXAMPLES, &Strategy::ALL, ASKED_OF_EXAMPLES)?;
-    // as many as a filter in Python finds
-    holds(&rt, found == 213, "found");
-    Ok(())
+// How many queries find that are made as the headwords are, with others behind them.
+fn try_made(
+    rt: &impl Abort,
+    alloc: Global,
+    text: &str,
+    asked: &mut String,
+) -> Result<usize, AllocError> {
+    asked.push_str(RUNS)?;
+    try_text(rt, alloc, text, &Strategy::ALL, asked.as_str())
 }
 
-#[test]
-fn keys_that_begin_with_one_another(rt: HostRuntime) -> Result<(), Fail> {
-    let found = try_text(&rt, rt.alloc(), NESTED, &Strategy::ALL, NESTED)?;
-    // 12 by each of five strategies, and by two each key of twelve with all that are longer
-    holds(&rt, found == 5 * 12 + 2 * 78, "found");
-    Ok(())
+fn try_scripts(rt: &impl Abort, alloc: Global, text: &str) -> Result<usize, AllocError> {
+    let mut asked = made_headwords(alloc, 5)?;
+    let found = try_made(rt, alloc, text, &mut asked);
+    drop(asked);
+    found
 }
 
 #[test]
 fn headwords_in_six_scripts(rt: HostRuntime) -> Result<(), Fail> {
-    let alloc = rt.alloc();
-    let text = made_headwords(alloc, 3_400)?;
-    let mut asked = made_headwords(alloc, 5)?;
-    asked.push_str(RUNS)?;
-    let found = try_text(&rt, alloc, text.as_str(), &Strategy::ALL, asked.as_str())?;
+    let text = made_headwords(rt.alloc(), 3_400)?;
+    let found = try_scripts(&rt, rt.alloc(), text.as_str());
+    drop(text);
     // as many as a filter in Python finds
-    holds(&rt, found == 13_167, "found");
+    holds(&rt, found? == 13_167, "found");
     Ok(())
 }
 
 #[test]
 fn equal_keys(rt: HostRuntime) -> Result<(), Fail> {
-    let alloc = rt.alloc();
-    let text = repeated(alloc, "opal\n", 262_144)?;
+    let text = repeated(rt.alloc(), "opal\n", 262_144)?;
     let strategies = [Strategy::Exact, Strategy::Prefix, Strategy::Substring];
-    let found = try_text(&rt, alloc, text.as_str(), &strategies, "opal")?;
-    holds(&rt, found == 3 * 262_144, "found");
+    let found = try_text(&rt, rt.alloc(), text.as_str(), &strategies, "opal");
+    drop(text);
+    holds(&rt, found? == 3 * 262_144, "found");
+    Ok(())
+}
+
+// Whether the entry at a place is of this line.
+fn is_of(index: &Index, place: u32, line: &Line) -> bool {
+    let entry = index.entry(place);
+    entry.shown == line.1 && entry.start == line.2 && entry.size == line.3
+}
+
+// The entries are of these lines, and there are no others.
+fn look_at_entries(rt: &impl Abort, index: &Index, lines: &[Line]) {
+    let mut place: u32 = 0;
+    for line in lines {
+        holds(rt, is_of(index, place, line), line.0);
+        place = place.wrapping_add(1);
+    }
+    let is_last = index.len() == lines.len() && index.entry(place).shown == "";
+    holds(rt, is_last, "the last");
+}
+
+fn look_at_headwords(rt: &impl Abort, alloc: Global, index: &Index) -> Result<(), AllocError> {
+    let counted = index.count_headwords(alloc, Strategy::Suffix, b"opal")?;
+    holds(rt, counted.count == 3 && counted.looked_at == 4, "opal");
+    let found = index.find_headwords(alloc, Strategy::Suffix, b"opal")?;
+    let is_so = found.places.as_slice() == [0, 1, 3].as_slice();
+    drop(found);
+    holds(rt, is_so, "opal");
     Ok(())
 }
 
 #[test]
 fn headwords_come_once_and_entries_by_their_places(rt: HostRuntime) -> Result<(), Fail> {
-    let alloc = rt.alloc();
-    let index = built(alloc, &LINES)?;
-    let found = index.find_headwords(alloc, Strategy::Suffix, b"opal")?;
-    holds(&rt, found.places.as_slice() == [0, 1, 3].as_slice(), "opal");
-    let counted = index.count_headwords(alloc, Strategy::Suffix, b"opal")?;
-    holds(&rt, counted.count == 3 && counted.looked_at == 4, "opal");
-    let entry = index.entry(3);
-    holds(&rt, entry.shown == "Opal", "shown");
-    holds(&rt, entry.start == 12 && entry.size == 1, "start and size");
-    holds(&rt, index.len() == 10 && index.entry(10).shown == "", "ten");
-    Ok(())
+    let index = built(rt.alloc(), &LINES)?;
+    look_at_entries(&rt, &index, &LINES);
+    let end = look_at_headwords(&rt, rt.alloc(), &index);
+    drop(index);
+    Ok(end?)
 }
 
 #[test]
 fn spans_of_any_size_are_kept(rt: HostRuntime) -> Result<(), Fail> {
-    let alloc = rt.alloc();
-    let far: [Line; 3] = [
-        ("a", "a", 1, 2),
-        ("b", "b", 4_294_967_296, 3),
-        ("c", "c", 4, 5),
-    ];
-    let index = built(alloc, &far)?;
-    let first = index.entry(0);
-    holds(&rt, first.start == 1 && first.size == 2, "a");
-    let second = index.entry(1);
-    holds(&rt, second.start == 4_294_967_296 && second.size == 3, "b");
-    let third = index.entry(2);
-    holds(&rt, third.start == 4 && third.size == 5, "c");
+    let index = built(rt.alloc(), &FAR)?;
+    look_at_entries(&rt, &index, &FAR);
+    drop(index);
     Ok(())
 }

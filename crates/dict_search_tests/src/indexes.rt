@@ -3,19 +3,17 @@
 use crate::checks::same_text;
 use dict_indexes::Indexes;
 use dict_search::{Index, IndexBuilder};
-use std::alloc::Global;
+use std::alloc::{AllocError, Global};
 use std::process::Abort;
 use std::test::Fail;
 
-fn index_of(alloc: Global, shown: &str) -> Result<Index, Fail> {
+fn index_of(alloc: Global, shown: &str) -> Result<Index, AllocError> {
     let mut builder = IndexBuilder::new(alloc);
-    if builder.len() == 0 {
-        builder.push(shown, shown, 0, 1)?;
+    if builder.push(shown, shown, 0, 1).is_err() || builder.len() > 1 {
+        drop(builder);
+        return Err(AllocError);
     }
-    if builder.len() > 1 {
-        return Err(Fail::new("one entry"));
-    }
-    Ok(builder.finish()?)
+    builder.finish()
 }
 
 fn shown_under(indexes: &Indexes, number: u64) -> &str {
@@ -25,13 +23,23 @@ fn shown_under(indexes: &Indexes, number: u64) -> &str {
     }
 }
 
+fn put(alloc: Global, indexes: &mut Indexes, number: u64, shown: &str) -> Result<(), AllocError> {
+    let index = index_of(alloc, shown)?;
+    indexes.put(number, index)
+}
+
+static PUT: [(u64, &str); 4] = [(1, "iron"), (2, "opal"), (3, "ruby"), (2, "fire opal")];
+
 // Indexes are put under numbers, in place of those that were there, and let go of.
-fn stand_under_numbers(rt: &impl Abort, alloc: Global, indexes: &mut Indexes) -> Result<(), Fail> {
+fn stand_under_numbers(
+    rt: &impl Abort,
+    alloc: Global,
+    indexes: &mut Indexes,
+) -> Result<(), AllocError> {
     same_text(rt, shown_under(indexes, 1), "none");
-    indexes.put(1, index_of(alloc, "iron")?)?;
-    indexes.put(2, index_of(alloc, "opal")?)?;
-    indexes.put(3, index_of(alloc, "ruby")?)?;
-    indexes.put(2, index_of(alloc, "fire opal")?)?;
+    for (number, shown) in &PUT {
+        put(alloc, indexes, *number, *shown)?;
+    }
     same_text(rt, shown_under(indexes, 2), "fire opal");
     indexes.let_go(1);
     same_text(rt, shown_under(indexes, 1), "none");
@@ -43,5 +51,8 @@ fn stand_under_numbers(rt: &impl Abort, alloc: Global, indexes: &mut Indexes) ->
 
 #[test]
 fn indexes_stand_under_numbers(rt: HostRuntime) -> Result<(), Fail> {
-    stand_under_numbers(&rt, rt.alloc(), &mut Indexes::new(rt.alloc()))
+    let mut indexes = Indexes::new(rt.alloc());
+    let end = stand_under_numbers(&rt, rt.alloc(), &mut indexes);
+    drop(indexes);
+    Ok(end?)
 }
