@@ -18,8 +18,8 @@ def lines(folder):
 
 def members(folder):
     """What a crate was made of, if it was."""
-    from merge import PLAN, SPARE
-    plan = [it for it in SPARE + PLAN if it.name == folder.name]
+    from merge import PLAN
+    plan = [it for it in PLAN if it.name == folder.name]
     is_made = lambda it: not any((folder.parent / name).exists() for name in it.members if name != it.name)
     return next((it.members for it in plan if is_made(it)), [folder.name])
 

@@ -1,9 +1,9 @@
 #!/usr/bin/env python3
 """Makes fewer crates of those of a tree, in one step, by the plan below.
 
-  merge.py TREE [--spare] [--unformatted]   TREE is a clean clone of the repository; nothing is committed. It takes a quarter of a minute.
+  merge.py TREE [--unformatted]   TREE is a clean clone of the repository; nothing is committed. It takes a quarter of a minute.
 
-With --spare one crate fewer: see SPARE. With --unformatted no program of the toolchain is run: `rt fmt` is still to come.
+With --unformatted no program of the toolchain is run: `rt fmt` is still to come.
 """
 import re
 import subprocess
@@ -65,10 +65,8 @@ PLAN = [
           row="editions, commands, older files; a disk that fails at a call"),
     Group("dict_sql_tests", ["dict_sql_checks", "dict_sql_tests"], main="dict_sql_tests", roots={"dict_sql_checks": "texts"}),
     Group("dict_store_stop_tests", ["dict_serving_tests", "dict_store_stop_tests"], main="dict_store_stop_tests", words={"dict_serving_tests": "serving"}),
-]
-
-# What may be joined too, where a new crate asks for it: 98 functions, as `rt` counted them.
-SPARE = [
+    Group("dictcat_tests", ["dict_program_tests", "dictcat_tests"], main="dictcat_tests", words={"dict_program_tests": "program"},
+          says="Tries what the program does with words, over any catalogues and over files, and its servers."),
     Group("dict_connection", ["dict_outlet", "dict_connection"], main="dict_connection", words={"dict_outlet": "outlet"},
           row="one connection's octets, its turns, and what is held of it"),
 ]
@@ -113,7 +111,6 @@ UNUSED = [("crates/dict_http/src/changing.rt", "AllocError"), ("crates/dict_http
 
 # Behind: what pages and tools say in words.
 BEHIND = [
-    ("docs/ARCHITECTURE.md", "|the same of statements, the store, its stops, the program|", "|the same of statements, the store, its stops and a server's opening again, the program|"),
     ("docs/DEFINITIONS.md", "`stored_line` (`dict_parts`), `parts_of` (`dict_parts`): an entry and a file as stored.", "`stored_line`, `parts_of` (`dict_parts`): an entry and a file as stored."),
     ("docs/GATE.md", "The gate tries three each of four crates (`must-fail/`).", "The gate tries twelve of three crates (`must-fail/`)."),
     ("crates/dict_search_tests/README.md", "Tries an index in memory beside the filter of the whole list.",
@@ -164,16 +161,15 @@ def gate(tree, mover):
 
 
 def main(words):
-    plan = PLAN + SPARE if "--spare" in words else PLAN
     is_formatted = "--unformatted" not in words
-    words = [it for it in words if it not in ("--spare", "--unformatted")]
+    words = [it for it in words if it != "--unformatted"]
     if len(words) != 1 or words[0].startswith("-"):
         print(__doc__.strip())
         return 0 if set(words) & {"-h", "--help"} else 2
     tree = Tree(words[0])
     change(tree, BEFORE, "before")
     drop_unused(tree)
-    mover = Mover(tree, plan)
+    mover = Mover(tree, PLAN)
     mover.run()
     change(tree, BEHIND, "behind")
     if is_formatted:

@@ -18,14 +18,14 @@ NAMES = {
     "dict_records": "store_records", "dict_tables": "store_tables", "dict_sql": "store_sql", "dict_edition_sql": "store_edition_sql",
     "dict_older_sql": "store_older_sql", "dict_sql_tests": "store_sql_tests",
     "dict_parts": "store_parts", "dict_rows": "store_rows", "dict_holdings": "store_holdings",
-    "dict_derived": "store_derived", "dict_search": "store_search", "dict_search_tests": "store_search_tests",
+    "dict_derived": "store_derived", "dict_places": "store_places", "dict_search": "store_search", "dict_search_tests": "store_search_tests",
     "dict_scans": "store_scans", "dict_opening": "store_opening", "dict_lookup": "store_lookup", "dict_commands": "store_commands",
     "dict_migration": "store_migration", "dict_store": "store_desk",
     "dict_store_fixtures": "store_fixtures", "dict_store_tests": "store_tests", "dict_store_stop_tests": "store_stop_tests",
-    "dict_hub": "net_hub", "dict_hub_tests": "net_hub_tests", "dict_outlet": "net_outlet", "dict_connection": "net_connection",
-    "dict_connection_tests": "net_connection_tests", "dict_driver": "net_driver", "dict_driver_tests": "net_driver_tests",
+    "dict_hub": "net_hub", "dict_hub_tests": "net_hub_tests", "dict_connection": "net_connection",
+    "dict_driver": "net_driver", "dict_driver_tests": "net_driver_tests",
     "dict_serving": "net_serving",
-    "dict_messages": "app_words", "dictcat_tests": "app_tests",
+    "dict_messages": "app_words", "dict_program": "app_commands", "dictcat_tests": "app_tests",
 }
 
 SAYS = ("A crate's name begins with its layer: `dict_` what speaks DICT, and the rules; `http_` what editors ask; `net_` connections, sockets "
