@@ -8,6 +8,7 @@ ghost use Rattle.dict_desk.specs.declared.fault.Fault.TheVariants as faults;
 use dict_catalogue::{Command, Kept, Summary};
 use dict_desk::{End, Fault, Keeper, Lookup, PlainDesk, RowSink, What};
 use dict_match::{Key, Strategy};
+use dict_preparing::{Answered, Preparer};
 
 /// A desk in memory that fails at one call: for memory, and goes on, or as a store does, and is closed. Contracts say
 /// nothing of what it shows; it is there to be run.
@@ -54,6 +55,7 @@ impl FailingDesk {
         ensures closes { self.new.is_closed ≡ (self.old.is_closed || has_closed_by result) }
         ensures closed { (result ≡ Err faults.Closed) ↔ (self.old.is_closed ≡ true) }
         ensures goes_on { OnOk result (self.new.is_closed ≡ false) }
+        ensures same { OnOk result (self.new.has_failed ≡ self.old.has_failed) }
         ensures by_disk { IfErr result (λ fault. fault ≡ faults.Disk → (self.old.by_disk ≡ true) × (self.old.left ≡ 0)) }
     {
         if self.is_closed {
@@ -168,5 +170,49 @@ impl Keeper for FailingDesk {
         let answer = self.desk.apply(id, command);
         self.has_failed = failed_by(&answer);
         answer
+    }
+}
+
+// It prepares nothing, and is asked for it by a call that may fail.
+impl Preparer for FailingDesk {
+    ghost use Rattle.std.specs.Prelude.{◌≡◌, true};
+    ghost use Rattle.dict_desk.specs.declared.fault.Fault.TheVariants as faults;
+
+    ghost expects = { λ _ _ _. Unit {0} };
+
+    ghost prepares = { λ _ _ _. Unit {0} };
+
+    ghost fails_to_prepare = { λ old _ fault. fault ≡ faults.Disk → (old.by_disk ≡ true) × (old.left ≡ 0) };
+
+    fn expect(&mut self, _command: &Command) -> Result<(), Fault> {
+        self.turn()
+    }
+
+    fn expect_install(&mut self, _name: &str, _index: &[u8], _text: &[u8]) -> Result<(), Fault> {
+        self.turn()
+    }
+
+    fn prepare(&mut self) -> Result<bool, Fault> {
+        match self.turn() {
+            Ok(()) => Ok(false),
+            Err(fault) => Err(fault),
+        }
+    }
+
+    fn answer_prepared(
+        &mut self,
+        _id: &str,
+        _name: &str,
+        _index: &[u8],
+        _text: &[u8],
+    ) -> Result<Option<Answered>, Fault> {
+        match self.turn() {
+            Ok(()) => Ok(None),
+            Err(fault) => Err(fault),
+        }
+    }
+
+    fn forget(&mut self) -> Result<(), Fault> {
+        self.turn()
     }
 }
