@@ -1,8 +1,9 @@
 -- How an answer ends, by what the keeper answered.
 use Rattle.std.proofs.Common.{◌≡◌, inl, inr, ℕ, Bool, true, false, List, [], ◌∷◌, Option, Some, None, refl, sym, ap, ◌∙◌, subst}
-use Rattle.std.specs.Prelude.{MatchBool, MatchOption, is_some, Ok, Err}
-use Rattle.dict_index.specs.Edition.{Edition}
-use Rattle.dict_catalogue.specs.Commands.{Command}
+use Rattle.std.specs.Prelude.{◌↔◌, MatchBool, MatchOption, is_some, Result, Ok, Err}
+use Rattle.dict_index.specs.Edition.{Edition, ReadEdition, edition_of}
+use Rattle.dict_index.specs.Meaning.{IsReadEdition, IsFault}
+use Rattle.dict_catalogue.specs.Commands.{Command, install}
 use Rattle.dict_catalogue.specs.Effects.{KeptReply}
 use Rattle.dict_catalogue.specs.Steps.{Catalogue, step, kept_under}
 use Rattle.dict_catalogue.specs.Views.{kept_shown}
@@ -13,12 +14,18 @@ use Rattle.dict_desk.specs.declared.fault.Fault.{Fault}
 use Rattle.dict_desk.specs.declared.fault.Fault.TheVariants.{Refused, Memory, Disk, Closed, NotACatalogue, Damaged, NewerSchema}
 use Rattle.dict_desk.proofs.LeavesLemmas.{IsWide, contains_later, contains_alone}
 use Rattle.dict_head.specs.declared.statuses.Status.TheVariants as statuses
-use Rattle.dict_json.specs.Texts.{kept_text, refused_command_text}
+use Rattle.dict_json.specs.Texts.{kept_text, refused_command_text, refused_edition_text}
+use Rattle.dict_preparing.specs.Answering.{IfDone, IfRefused}
+use Rattle.dict_preparing.specs.declared.answered.Answered.{Answered}
+use Rattle.dict_preparing.specs.declared.answered.Answered.TheVariants as prepared
 use Rattle.serde_json.specs.Data.{Data}
 use Rattle.dict_json.specs.Bodies.{IsJson, IsVirtualValue}
-use Rattle.dict_http.specs.Answers.{Response, response_text, with_body, unavailable_text}
+use Rattle.dict_http.specs.Answers.{Response, response_text, with_body}
+use Rattle.dict_http.specs.Actions.{AreParts, command, no_edition}
 use Rattle.dict_http.specs.Settling.{Settled, SettlesNew, SettlesChange, stays, applied, replied, is_accepted}
 use Rattle.dict_http.specs.declared.actions.Action.{Action}
+use Rattle.dict_http.specs.declared.actions.Action.TheVariants.{Install}
+use Rattle.dict_http.specs.Outcomes.{IsAnswerOf, IsAnswerTo, SettlesFiles}
 use Rattle.dict_http.specs.Responding.{IsAnswer, Ends, answered, unchanged, unknown, Responds, ended, failed}
 
 abbrev Left : Type 1
@@ -44,16 +51,18 @@ after_refusal Shows Before After M id asked refusal octets wide applies no_more 
 after_refusal Shows Before After M id asked refusal octets wide applies no_more (inr text) =
     unknown text (inr applies.1) (λ ms left. wide ms (Some (step M id asked).catalogue ∷ ms) (λ m. contains_later (Some (step M id asked).catalogue) m ms) (no_more ms left))
 
-pub after_failure : (Shows : Catalogue → Type 0) (Before After : List (Option Catalogue) → Type 0) (M : Catalogue) (id : List ℕ) (asked : Command Edition) (fault : Fault) (octets : List ℕ)
-    → ((refusal : CommandRefusal) → fault ≡ Refused refusal → ⊥) → Applies Shows M (step M id asked) (Err fault) → Leaves Before After (is_some (kept_under M.kept id)) (step M id asked).catalogue (Err fault)
-    → octets ≡ unavailable_text → Ends Shows Before After M (applied M id asked) octets
-after_failure Shows Before After M id asked (Refused refusal) octets other applies leaves text = absurd (other refusal refl)
-after_failure Shows Before After M id asked Memory octets other applies leaves text = unchanged text applies leaves
-after_failure Shows Before After M id asked Disk octets other applies leaves text = unknown text applies leaves
-after_failure Shows Before After M id asked Closed octets other applies leaves text = unchanged text applies leaves
-after_failure Shows Before After M id asked NotACatalogue octets other applies leaves text = absurd applies
-after_failure Shows Before After M id asked Damaged octets other applies leaves text = absurd applies
-after_failure Shows Before After M id asked NewerSchema octets other applies leaves text = absurd applies
+-- by whatever the keeper answered
+pub after_outcome : (Shows : Catalogue → Type 0) (Before After : List (Option Catalogue) → Type 0) (M : Catalogue) (id : List ℕ) (asked : Command Edition) (outcome : Result Kept Fault) (octets : List ℕ)
+    → IsWide After → kept_under M.kept id ≡ None → Applies Shows M (step M id asked) outcome → Leaves Before After (is_some (kept_under M.kept id)) (step M id asked).catalogue outcome
+    → IsAnswerTo outcome octets → Ends Shows Before After M (applied M id asked) octets
+after_outcome Shows Before After M id asked (Ok kept) octets wide none applies leaves text = after_ok Shows Before After M id asked kept octets wide none applies leaves text
+after_outcome Shows Before After M id asked (Err (Refused refusal)) octets wide none applies leaves text = after_refusal Shows Before After M id asked refusal octets wide applies leaves text
+after_outcome Shows Before After M id asked (Err Memory) octets wide none applies leaves text = unchanged text applies leaves
+after_outcome Shows Before After M id asked (Err Disk) octets wide none applies leaves text = unknown text applies leaves
+after_outcome Shows Before After M id asked (Err Closed) octets wide none applies leaves text = unchanged text applies leaves
+after_outcome Shows Before After M id asked (Err NotACatalogue) octets wide none applies leaves text = absurd applies
+after_outcome Shows Before After M id asked (Err Damaged) octets wide none applies leaves text = absurd applies
+after_outcome Shows Before After M id asked (Err NewerSchema) octets wide none applies leaves text = absurd applies
 
 -- what a stop could leave before is wider
 pub ends_before : (Shows : Catalogue → Type 0) (Before Mid After : List (Option Catalogue) → Type 0) (M : Catalogue) (s : Settled) (octets : List ℕ) → LeavesNoMore Before Mid
@@ -82,6 +91,33 @@ pub stays_so : (Shows : Catalogue → Type 0) (Before : List (Option Catalogue) 
     → IsAnswer octets response → Ends Shows Before Before M (stays M response) octets
 stays_so Shows Before M response octets shown (inl text) = answered text shown (λ ms left. left)
 stays_so Shows Before M response octets shown (inr text) = unchanged text shown (λ ms left. left)
+
+-- by what a keeper answered of two files that it had prepared: `Did` is what it tells of the command beside
+pub after_prepared : {K : Type 0} (Did : ReadEdition → Result Kept Fault → Type 0) (Shows : K → Catalogue → Type 0) (LeavesOneOf : K → List (Option Catalogue) → Type 0) (old new : K) (M : Catalogue) (id name index text octets : List ℕ) (it : Answered)
+    → IsWide (LeavesOneOf new) → Shows old M → kept_under M.kept id ≡ None
+    → IfDone (Ok (Some it)) (λ outcome. (reading : ReadEdition) × IsReadEdition index text reading × Did reading outcome)
+    → IfDone (Ok (Some it)) (λ outcome. (reading : ReadEdition) → IsReadEdition index text reading → Applies (Shows new) M (step M id (install name (edition_of reading))) outcome)
+    → IfDone (Ok (Some it)) (λ outcome. (reading : ReadEdition) → IsReadEdition index text reading → Leaves (LeavesOneOf old) (LeavesOneOf new) (is_some (kept_under M.kept id)) (step M id (install name (edition_of reading))).catalogue outcome)
+    → IfRefused (Ok (Some it)) (λ refusal line. IsFault index text refusal line × (new ≡ old))
+    → IsAnswerOf it octets → Responds (Shows new) (LeavesOneOf old) (LeavesOneOf new) M (SettlesFiles M id name index text) octets
+after_prepared Did Shows LeavesOneOf old new M id name index text octets (prepared.Done outcome) wide shown none (reading, is, did) value left refused told =
+    let asked : Command Edition = install name (edition_of reading) in
+    ended (applied M id asked) (command asked, inl (edition_of reading, (reading, is, refl), refl), refl)
+    (after_outcome (Shows new) (LeavesOneOf old) (LeavesOneOf new) M id asked outcome octets wide none (value reading is) (left reading is) told)
+after_prepared Did Shows LeavesOneOf old new M id name index text octets (prepared.Refused refusal line) wide shown none done value left (fault, same) told =
+    subst (λ k. Responds (Shows k) (LeavesOneOf old) (LeavesOneOf k) M (SettlesFiles M id name index text) octets) (sym same)
+    (ended (stays M (with_body statuses.UnprocessableContent (refused_edition_text refusal line))) (no_edition refusal line, inr (refusal, line, fault, refl), refl)
+    (stays_so (Shows old) (LeavesOneOf old) M (with_body statuses.UnprocessableContent (refused_edition_text refusal line)) octets shown told))
+
+-- the files are those of the body
+pub settles_files : (M : Catalogue) (id name body index text : List ℕ) (s : Settled) → AreParts body index text → SettlesFiles M id name index text s → SettlesNew M id Install name body s
+settles_files M id name body index text s parts (said, says, is) = (said, inl (index, text, parts, says), is)
+
+-- a call of a closed keeper is answered `Closed`, so one that was answered else was of an open one
+pub other_if_open : {T : Type 0} (value : T) (result : Result T Fault) (shut : Bool) → result ≡ Ok value → ((result ≡ Err Closed) ↔ (shut ≡ true)) → shut ≡ true → ⊥
+other_if_open value result shut is closed so =
+    let e : Ok value ≡ Err Closed = sym is ∙ closed.1 so in
+    cc
 
 -- of a text's one value
 pub no_virtual : (body : List ℕ) (value other : Data) → IsJson body value → IsJson body other → ((title : List ℕ) (members : List (List ℕ)) → ¬ IsVirtualValue value title members)

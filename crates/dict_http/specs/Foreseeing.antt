@@ -1,33 +1,32 @@
 -- An install that a request asks for, before it is answered.
 use Rattle.std.specs.Prelude.{◌≡◌, ℕ, List, None, Some, true}
-use Rattle.dict_index.specs.Edition.{Edition}
 use Rattle.dict_name.specs.Names.{is_request_id}
-use Rattle.dict_catalogue.specs.Commands.{Command}
 use Rattle.dict_catalogue.specs.Steps.{Catalogue, kept_under}
 use Rattle.dict_head.specs.Requests.{Request, IsRequest}
 use Rattle.dict_route.specs.Paths.{IsPath}
 use Rattle.dict_route.specs.declared.kinds.Route.{Route}
-use Rattle.dict_http.specs.Actions.{action_of, command, Says, IsId}
+use Rattle.dict_preparing.specs.Expected.{Expected, of_files}
+use Rattle.dict_http.specs.Actions.{action_of, AreParts, IsId}
 use Rattle.dict_http.specs.declared.actions.Action.TheVariants.{Install}
 
--- the body of an install says this, about the name
-abbrev pub SaysInstall : List ℕ → List ℕ → Command Edition → Type 0
-SaysInstall name body asked = Says Install name body (command asked)
+-- the body of an install has these two files, about the name
+abbrev pub SaysInstall : List ℕ → List ℕ → Expected → Type 0
+SaysInstall name body asked = (index : List ℕ) × (text : List ℕ) × AreParts body index text × (asked ≡ of_files name index text)
 
 -- an install asks for this, under one lawful id
-pub record AsksBy (ids : List (List ℕ)) (name body : List ℕ) (asked : Command Edition) : Type 0 where
+pub record AsksBy (ids : List (List ℕ)) (name body : List ℕ) (asked : Expected) : Type 0 where
   pub id : List ℕ
   pub one : IsId ids id
   pub lawful : is_request_id id ≡ true
   pub says : SaysInstall name body asked
 
 -- and under that id no reply is kept
-pub record AsksAnewBy (before : Catalogue) (ids : List (List ℕ)) (name body : List ℕ) (asked : Command Edition) : Type 0 where
+pub record AsksAnewBy (before : Catalogue) (ids : List (List ℕ)) (name body : List ℕ) (asked : Expected) : Type 0 where
   pub asks : AsksBy ids name body asked
   pub anew : kept_under before.kept asks.id ≡ None
 
 -- a whole request stands at the front of the octets, whose route and method install, and it asks for this
-pub record AsksForInstall (octets : List ℕ) (asked : Command Edition) : Type 0 where
+pub record AsksForInstall (octets : List ℕ) (asked : Expected) : Type 0 where
   pub request : Request
   pub is : IsRequest octets request
   pub route : Route
@@ -37,13 +36,13 @@ pub record AsksForInstall (octets : List ℕ) (asked : Command Edition) : Type 0
   pub asks : AsksBy request.ids name request.body asked
 
 -- and under the one id of that request no reply is kept
-pub record AsksAnewForInstall (before : Catalogue) (octets : List ℕ) (asked : Command Edition) : Type 0 where
+pub record AsksAnewForInstall (before : Catalogue) (octets : List ℕ) (asked : Expected) : Type 0 where
   pub asks : AsksForInstall octets asked
   pub anew : kept_under before.kept asks.asks.id ≡ None
 
--- the last that a keeper was told of is a command that is asked for
-pub record HasForeseen {K : Type 0} (expects : K → Command Edition → K → Type 0) (Asks : Command Edition → Type 0) (keeper : K) : Type 0 where
-  pub asked : Command Edition
+-- the last that a keeper was told of is what is asked for
+pub record HasForeseen {K : Type 0} (expects : K → Expected → K → Type 0) (Asks : Expected → Type 0) (keeper : K) : Type 0 where
+  pub asked : Expected
   pub asks : Asks asked
   pub before : K
   pub told : expects before asked keeper

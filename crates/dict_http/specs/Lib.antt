@@ -2,4 +2,5 @@ pub mod Answers
 pub mod Actions
 pub mod Settling
 pub mod Responding
+pub mod Outcomes
 pub mod Foreseeing

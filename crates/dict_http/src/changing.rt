@@ -9,6 +9,7 @@ ghost use Rattle.dict_json.specs.Texts.{kept_text, refused_command_text, refused
 ghost use Rattle.dict_http.specs.Answers.{octets_of, with_body};
 ghost use Rattle.dict_http.specs.Settling.{applied, SettlesNew, SettlesChange};
 ghost use Rattle.dict_http.specs.Responding.{IsAnswer, Ends, Responds};
+ghost use Rattle.dict_http.specs.Outcomes.{IsAnswerOf, IsAnswerTo, SettlesFiles};
 ghost use Rattle.dict_http.specs.declared.actions.Action.TheVariants as actions;
 
 use crate::actions::Action;
@@ -19,6 +20,7 @@ use dict_desk::{Fault, Keeper};
 use dict_head::Status;
 use dict_index::{Edition, EditionRefusal, IndexFault, read_edition};
 use dict_json::{read_json, read_place, read_virtual, refused_command_json, refused_edition_json};
+use dict_preparing::{Answered, Preparer};
 use std::alloc::{AllocError, Global};
 
 /// The JSON of the reply to an accepted command, as octets.
@@ -69,17 +71,34 @@ fn refused_edition(alloc: Global, refusal: EditionRefusal, line: Option<usize>) 
     }
 }
 
+// The answer to a command that a keeper answered so.
+fn command_answer(alloc: Global, outcome: Result<Kept, Fault>) -> Answer
+    ensures { IsAnswerTo outcome (octets_of result) }
+{
+    match outcome {
+        Ok(kept) => kept_answer(alloc, &kept),
+        Err(Fault::Refused(refusal)) => refused_command(alloc, refusal),
+        Err(_) => unavailable(),
+    }
+}
+
+// The answer to an install that a keeper answered so by what it had prepared.
+fn prepared_answer(alloc: Global, answered: Answered) -> Answer
+    ensures { IsAnswerOf answered (octets_of result) }
+{
+    match answered {
+        Answered::Done(outcome) => command_answer(alloc, outcome),
+        Answered::Refused { refusal, line } => refused_edition(alloc, refusal, line),
+    }
+}
+
 // Applies a command under a new id.
 fn apply<K: Keeper>(alloc: Global, desk: &mut K, id: &str, command: &Command) -> Answer
     ensures ends { K.is_trusted desk.new → (M : Catalogue) → K.shows desk.old M → kept_under M.kept id.now ≡ None → Ends (K.shows desk.new) (K.leaves_one_of desk.old) (K.leaves_one_of desk.new) M (applied M id.now (command_meant command.now)) (octets_of result) }
     ensures trust { K.is_trusted desk.new → K.is_trusted desk.old }
     ensures closed { K.is_closed desk.old ≡ true → K.is_closed desk.new ≡ true }
 {
-    match desk.apply(id, command) {
-        Ok(kept) => kept_answer(alloc, &kept),
-        Err(Fault::Refused(refusal)) => refused_command(alloc, refusal),
-        Err(_) => unavailable(),
-    }
+    command_answer(alloc, desk.apply(id, command))
 }
 
 // Installs an edition.
@@ -97,19 +116,55 @@ fn install_edition<K: Keeper>(
     apply(alloc, desk, id, &Command::Install { name, edition })
 }
 
-// Installs the edition that a body has.
-fn install<K: Keeper>(alloc: Global, desk: &mut K, id: &str, name: &str, body: &[u8]) -> Answer
-    ensures responds { K.is_trusted desk.new → (M : Catalogue) → K.shows desk.old M → kept_under M.kept id.now ≡ None → Responds (K.shows desk.new) (K.leaves_one_of desk.old) (K.leaves_one_of desk.new) M (SettlesNew M id.now actions.Install name.now body.now) (octets_of result) }
+// Reads two files, and installs the edition that they say.
+fn install_read<K: Keeper>(
+    alloc: Global,
+    desk: &mut K,
+    id: &str,
+    name: &str,
+    index: &[u8],
+    text: &[u8],
+) -> Answer
+    ensures responds { K.is_trusted desk.new → (M : Catalogue) → K.shows desk.old M → kept_under M.kept id.now ≡ None → Responds (K.shows desk.new) (K.leaves_one_of desk.old) (K.leaves_one_of desk.new) M (SettlesFiles M id.now name.now index.now text.now) (octets_of result) }
     ensures trust { K.is_trusted desk.new → K.is_trusted desk.old }
     ensures closed { K.is_closed desk.old ≡ true → K.is_closed desk.new ≡ true }
 {
-    let Some((index, text)) = parts_of(body) else {
-        return bad_request();
-    };
     match read_edition(alloc, index, text) {
         Ok(edition) => install_edition(alloc, desk, id, name, &edition),
         Err(IndexFault::Refused { refusal, line }) => refused_edition(alloc, refusal, line),
         Err(IndexFault::Memory) => unavailable(),
+    }
+}
+
+// Installs the edition that two files say: by what was prepared of them, or, where nothing was, by reading them.
+fn install_files<K: Preparer>(
+    alloc: Global,
+    desk: &mut K,
+    id: &str,
+    name: &str,
+    index: &[u8],
+    text: &[u8],
+) -> Answer
+    ensures responds { K.is_trusted desk.new → (M : Catalogue) → K.shows desk.old M → kept_under M.kept id.now ≡ None → Responds (K.shows desk.new) (K.leaves_one_of desk.old) (K.leaves_one_of desk.new) M (SettlesFiles M id.now name.now index.now text.now) (octets_of result) }
+    ensures trust { K.is_trusted desk.new → K.is_trusted desk.old }
+    ensures closed { K.is_closed desk.old ≡ true → K.is_closed desk.new ≡ true }
+{
+    match desk.answer_prepared(id, name, index, text) {
+        Ok(Some(answered)) => prepared_answer(alloc, answered),
+        Ok(None) => install_read(alloc, desk, id, name, index, text),
+        Err(_) => unavailable(),
+    }
+}
+
+// Installs the edition that a body has.
+fn install<K: Preparer>(alloc: Global, desk: &mut K, id: &str, name: &str, body: &[u8]) -> Answer
+    ensures responds { K.is_trusted desk.new → (M : Catalogue) → K.shows desk.old M → kept_under M.kept id.now ≡ None → Responds (K.shows desk.new) (K.leaves_one_of desk.old) (K.leaves_one_of desk.new) M (SettlesNew M id.now actions.Install name.now body.now) (octets_of result) }
+    ensures trust { K.is_trusted desk.new → K.is_trusted desk.old }
+    ensures closed { K.is_closed desk.old ≡ true → K.is_closed desk.new ≡ true }
+{
+    match parts_of(body) {
+        Some((index, text)) => install_files(alloc, desk, id, name, index, text),
+        None => bad_request(),
     }
 }
 
@@ -162,7 +217,7 @@ fn put_virtual<K: Keeper>(alloc: Global, desk: &mut K, id: &str, name: &str, bod
 }
 
 // Does what a request asks for under a new id.
-fn change_anew<K: Keeper>(
+fn change_anew<K: Preparer>(
     alloc: Global,
     desk: &mut K,
     action: Action,
@@ -186,7 +241,7 @@ fn change_anew<K: Keeper>(
 }
 
 // Does what a request asks for under its id: a kept one answers its reply again.
-pub fn change<K: Keeper>(
+pub fn change<K: Preparer>(
     alloc: Global,
     desk: &mut K,
     action: Action,

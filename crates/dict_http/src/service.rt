@@ -55,7 +55,7 @@ fn list<K: Keeper>(alloc: Global, desk: &K) -> Answer
 }
 
 // Does what a request asks for.
-fn act<K: Keeper>(
+fn act<K: Preparer>(
     alloc: Global,
     desk: &mut K,
     action: Action,
@@ -84,7 +84,7 @@ impl Service {
     }
 
     // Answers a request.
-    fn respond_to<K: Keeper>(&self, alloc: Global, request: Request<'_>, desk: &mut K) -> Answer
+    fn respond_to<K: Preparer>(&self, alloc: Global, request: Request<'_>, desk: &mut K) -> Answer
         ensures responds { K.is_trusted desk.new → (M : Catalogue) (asked : WholeRequest) → K.shows desk.old M → Tells request.entry asked → Responds (K.shows desk.new) (K.leaves_one_of desk.old) (K.leaves_one_of desk.new) M (SettlesRequest M asked) (octets_of result) }
         ensures trust { K.is_trusted desk.new → K.is_trusted desk.old }
         ensures closed { K.is_closed desk.old ≡ true → K.is_closed desk.new ≡ true }
@@ -103,7 +103,7 @@ impl Service {
     ///
     /// After an answer other than 503 the catalogue is the one that the answer tells of. After 503 it is the one before,
     /// or the one after the whole command, and the request may be sent again under its id.
-    pub fn respond<K: Keeper>(&self, alloc: Global, octets: &[u8], desk: &mut K) -> Answer
+    pub fn respond<K: Preparer>(&self, alloc: Global, octets: &[u8], desk: &mut K) -> Answer
         requires whole { ¬ Needs octets.now needs.More }
         ensures responds { K.is_trusted desk.new → (M : Catalogue) → K.shows desk.old M → Responds (K.shows desk.new) (K.leaves_one_of desk.old) (K.leaves_one_of desk.new) M (Settles M octets.now) (octets_of result) }
         ensures trust { K.is_trusted desk.new → K.is_trusted desk.old }
@@ -119,10 +119,10 @@ impl Service {
     /// Tells the desk of the install that a whole request at the front of the octets asks for, so that it may prepare it before the
     /// request is answered. Nothing that is shown changes.
     ///
-    /// It is told only of one that may act: under one lawful id that isn't kept, of an edition that is accepted; and it lets go
-    /// of what it noted before. Whether it was told of one, and took note. Where memory is wanting, or the desk fails, it
-    /// didn't, and the request may be answered as ever.
-    pub fn foresee<K: Preparer>(&self, alloc: Global, octets: &[u8], desk: &mut K) -> bool
+    /// It is told only of one that may act, under one lawful id that isn't kept, by its name and its two files, of which none is read;
+    /// and it lets go of what it noted before. Whether it was told of one, and took note. Where memory is wanting, or the desk fails,
+    /// it didn't, and the request may be answered as ever.
+    pub fn foresee<K: Preparer>(&self, octets: &[u8], desk: &mut K) -> bool
         ensures foreseen { result ≡ true → HasForeseen K.expects (AsksForInstall octets.now) desk.new }
         ensures anew { result ≡ true → K.is_trusted desk.new → (M : Catalogue) → K.shows desk.old M → HasForeseen K.expects (AsksAnewForInstall M octets.now) desk.new }
         ensures trust { K.is_trusted desk.new → K.is_trusted desk.old }
@@ -138,7 +138,7 @@ impl Service {
         };
         match action_of(found.route, request.method) {
             Some(Action::Install) => {
-                foresee_install(alloc, desk, request.ids, found.name, request.body)
+                foresee_install(desk, request.ids, found.name, request.body)
             }
             _ => false,
         }

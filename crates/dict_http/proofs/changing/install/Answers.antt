@@ -1,32 +1,18 @@
-use Rattle.std.proofs.Common.{inl, inr, refl}
-use Rattle.dict_index.specs.Edition.{edition_of}
-use Rattle.dict_catalogue.specs.Commands.{install}
-use Rattle.dict_head.specs.declared.statuses.Status.TheVariants.{BadRequest, UnprocessableContent}
-use Rattle.dict_json.specs.Texts.{refused_edition_text}
-use Rattle.dict_http.specs.Answers.{plain, with_body}
-use Rattle.dict_http.specs.Actions.{command, no_edition, unformed}
-use Rattle.dict_http.specs.Settling.{applied, stays}
+use Rattle.std.proofs.Common.{inr, refl}
+use Rattle.dict_head.specs.declared.statuses.Status.TheVariants.{BadRequest}
+use Rattle.dict_http.specs.Answers.{plain}
+use Rattle.dict_http.specs.Actions.{unformed}
+use Rattle.dict_http.specs.Settling.{stays}
 use Rattle.dict_http.specs.Responding.{ended, answered}
-use Rattle.dict_http.proofs.RespondLemmas.{stays_so}
+use Rattle.dict_http.proofs.RespondLemmas.{responds_so, settles_files}
 use Rattle.dict_http.proofs.changing.install.Goals as goal
 
-pub returns-in_default-clause-responds : goal.returns-in_default-clause-responds
-returns-in_default-clause-responds g c = λ trusted M shown none.
-    ended (stays M (plain BadRequest)) (unformed, inr (c.in_default.ensures, refl), refl)
+pub returns-in-Some-clause-responds : goal.returns-in-Some-clause-responds
+returns-in-Some-clause-responds g c = λ trusted M shown none.
+    responds_so _ _ _ M _ _ _ (λ s. settles_files M c.args.id.now c.args.name.now c.args.body.now c.in-Some.index.now c.in-Some.text.now s c.in-Some.ensures)
+    (c.install_files.ensures.responds trusted M shown none)
+
+pub returns-in-None-clause-responds : goal.returns-in-None-clause-responds
+returns-in-None-clause-responds g c = λ trusted M shown none.
+    ended (stays M (plain BadRequest)) (unformed, inr (c.in-None.ensures, refl), refl)
     (answered c.bad_request.ensures shown (λ ms left. left))
-
-pub returns-in-Ok-clause-responds : goal.returns-in-Ok-clause-responds
-returns-in-Ok-clause-responds g c = λ trusted M shown none.
-    let edition = edition_of c.in-Ok.edition in
-    ended (applied M c.args.id.now (install c.args.name.now edition))
-    (command (install c.args.name.now edition), inl (c.in-Some.index.now, c.in-Some.text.now, c.in-Some.ensures, inl (edition, (c.in-Ok.edition, c.in-Ok.ensures.edition, refl), refl)), refl)
-    (c.install_edition.ensures.ends trusted M shown none)
-
-pub returns-in-Err-Refused-clause-responds : goal.returns-in-Err-Refused-clause-responds
-returns-in-Err-Refused-clause-responds g c = λ trusted M shown none.
-    let refusal = c.in-Err-Refused.refusal in
-    let line = c.in-Err-Refused.line in
-    let fault = rw c.in-Err-Refused.field-0-is at c.in-Err-Refused.ensures.refused in
-    ended (stays M (with_body UnprocessableContent (refused_edition_text refusal line)))
-    (no_edition refusal line, inl (c.in-Some.index.now, c.in-Some.text.now, c.in-Some.ensures, inr (refusal, line, fault, refl)), refl)
-    (stays_so _ _ M _ _ shown c.refused_edition.ensures)
