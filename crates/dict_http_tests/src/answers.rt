@@ -2,9 +2,10 @@
 
 use crate::checks::{holds, same, same_text, same_text_of};
 use dict_catalogue::{Kept, Verb};
-use dict_desk::{Keeper, PlainDesk};
+use dict_desk::PlainDesk;
 use dict_http::{Answer, Need, Service, Status, kept_json, need};
 use dict_io::{LimitedSink, Sink};
+use dict_preparing::Preparer;
 use memchr::memmem;
 use std::alloc::Global;
 use std::process::Abort;
@@ -77,7 +78,11 @@ fn lengths_of_bodies(rt: HostRuntime) -> Result<(), Fail> {
 }
 
 /// What a request is answered that is whole or refused.
-pub(crate) fn told<K: Keeper>(alloc: Global, desk: &mut K, request: &[u8]) -> Result<String, Fail> {
+pub(crate) fn told<K: Preparer>(
+    alloc: Global,
+    desk: &mut K,
+    request: &[u8],
+) -> Result<String, Fail> {
     if let Need::More = need(request) {
         return Ok(String::from_str(alloc, "more is needed")?);
     }
@@ -144,7 +149,7 @@ static DONE: [(&str, &str); 7] = [
 ];
 
 // Sends requests one after the other.
-fn send<K: Keeper>(
+fn send<K: Preparer>(
     rt: &impl Abort,
     alloc: Global,
     desk: &mut K,

@@ -3,8 +3,9 @@
 use crate::answers::told;
 use crate::checks::same_text_of;
 use crate::table::{INSTALL, Row, request_of, run};
-use dict_desk::{Keeper, PlainDesk};
+use dict_desk::PlainDesk;
 use dict_failing_desk::FailingDesk;
+use dict_preparing::Preparer;
 use std::alloc::Global;
 use std::process::Abort;
 use std::test::Fail;
@@ -45,7 +46,7 @@ static ROWS: [Row; 5] = [
 ];
 
 // This request is answered 503.
-fn is_unavailable<K: Keeper>(
+fn is_unavailable<K: Preparer>(
     rt: &impl Abort,
     alloc: Global,
     desk: &mut K,
@@ -57,7 +58,7 @@ fn is_unavailable<K: Keeper>(
 }
 
 // The requests of these rows are answered 503.
-fn are_unavailable<K: Keeper>(
+fn are_unavailable<K: Preparer>(
     rt: &impl Abort,
     alloc: Global,
     desk: &mut K,
@@ -70,9 +71,9 @@ fn are_unavailable<K: Keeper>(
     Ok(())
 }
 
-// Which row's request meets a failure behind so many calls: each makes two.
+// Which row's request meets a failure behind so many calls: each makes two, and the install, which comes first, three.
 fn which(calls: u64) -> usize {
-    (calls / 2) as usize
+    (calls.saturating_sub(1) / 2) as usize
 }
 
 // The request that finds no memory is answered 503, and sent again it is answered as ever.
@@ -90,7 +91,7 @@ fn meet_no_memory(
 
 #[test]
 fn a_call_finds_no_memory(rt: HostRuntime) -> Result<(), Fail> {
-    for calls in 0..10u64 {
+    for calls in 0..11u64 {
         let mut desk = FailingDesk::new(PlainDesk::new(rt.alloc()), calls, false);
         meet_no_memory(&rt, rt.alloc(), &mut desk, which(calls))?;
     }
@@ -112,7 +113,7 @@ fn meet_no_store(
 
 #[test]
 fn a_call_finds_no_store(rt: HostRuntime) -> Result<(), Fail> {
-    for calls in 0..10u64 {
+    for calls in 0..11u64 {
         let mut desk = FailingDesk::new(PlainDesk::new(rt.alloc()), calls, true);
         meet_no_store(&rt, rt.alloc(), &mut desk, which(calls))?;
     }

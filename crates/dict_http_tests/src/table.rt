@@ -1,7 +1,8 @@
 // Requests one after another, each with its answer.
 use crate::answers::{response, told};
 use crate::checks::same_text_of;
-use dict_desk::{Keeper, PlainDesk};
+use dict_desk::PlainDesk;
+use dict_preparing::Preparer;
 use std::alloc::Global;
 use std::process::Abort;
 use std::test::Fail;
@@ -236,7 +237,7 @@ pub(crate) fn request_of(alloc: Global, row: Row) -> Result<String, Fail> {
 }
 
 /// A request is answered by this status and this body.
-pub(crate) fn ask<K: Keeper>(
+pub(crate) fn ask<K: Preparer>(
     rt: &impl Abort,
     alloc: Global,
     desk: &mut K,
@@ -250,7 +251,7 @@ pub(crate) fn ask<K: Keeper>(
 }
 
 /// The requests of a table one after another, each answered as its row says.
-pub(crate) fn run<K: Keeper>(
+pub(crate) fn run<K: Preparer>(
     rt: &impl Abort,
     alloc: Global,
     desk: &mut K,
