@@ -9,8 +9,7 @@ use Rattle.std.proofs.lemmas.List.{get_or_append_left, get_or-set_same, get_or-s
 use Rattle.std.proofs.lemmas.List.Sums.{prefix_len_passes}
 use Rattle.std.proofs.lemmas.List.Edits.{get_or-remove_below, get_or-remove_above, length-remove}
 use Rattle.std.proofs.lemmas.List.Quantifiers.{position-Some}
-use Rattle.dict_index.specs.Edition.{Edition}
-use Rattle.dict_catalogue.specs.Commands.{Command}
+use Rattle.dict_preparing.specs.Expected.{Expected}
 use Rattle.dict_hub.specs.Books.{place_of, opening, is_given}
 use Rattle.dict_hub.specs.Foreseen.{IsForeseen, AreForeseen}
 use Rattle.dict_hub.specs.Holding.{Holding}
@@ -192,7 +191,7 @@ set_each host ids lines p id was line rising even in_p at_p is same other held a
     by false e = set_others host ids lines p id line at_p other held (λ own. let so = eq-eqb other id own in cc (so, e)) at
 
 -- what is foreseen of the one at a place is foreseen of its id
-pub foreseen_there : {K : Type 0} (expects : K → Command Edition → K → Type 0) (Asks : List ℕ → Command Edition → Type 0) (host ids : List ℕ) (lines : List Exchange) (p id : ℕ) (was : Exchange) (piece : List ℕ) (desk : K)
+pub foreseen_there : {K : Type 0} (expects : K → Expected → K → Type 0) (Asks : List ℕ → Expected → Type 0) (host ids : List ℕ) (lines : List Exchange) (p id : ℕ) (was : Exchange) (piece : List ℕ) (desk : K)
     → AllPairs (λ a b. a < b) ids → p < length ids → get_or ids p 0 ≡ id → was ≡ get_or lines p was
     → ((held : Holding) → Holds host id was held → IsForeseen expects Asks held piece desk)
     → (held : Option Holding) → StandsAt host ids lines id held → AreForeseen expects Asks held piece desk

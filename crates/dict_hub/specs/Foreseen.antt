@@ -1,17 +1,16 @@
 -- What is foreseen of the octets that come next on a connection.
 use Rattle.std.specs.Prelude.{◌≡◌, ◌++◌, ℕ, List, Option, Some, None}
-use Rattle.dict_index.specs.Edition.{Edition}
-use Rattle.dict_catalogue.specs.Commands.{Command}
+use Rattle.dict_preparing.specs.Expected.{Expected}
 use Rattle.dict_http.specs.Foreseeing.{HasForeseen}
 use Rattle.dict_hub.specs.Holding.{Holding}
 use Rattle.dict_hub.specs.declared.kind.Kind.TheVariants.{Http}
 
 -- it is an editor's, they make its request whole, and the last that the desk was told of is the install that it asks for so
-pub record IsForeseen {K : Type 0} (expects : K → Command Edition → K → Type 0) (Asks : List ℕ → Command Edition → Type 0) (held : Holding) (piece : List ℕ) (desk : K) : Type 0 where
+pub record IsForeseen {K : Type 0} (expects : K → Expected → K → Type 0) (Asks : List ℕ → Expected → Type 0) (held : Holding) (piece : List ℕ) (desk : K) : Type 0 where
   pub kind : held.kind ≡ Http
   pub told : HasForeseen expects (Asks (held.octets ++ piece)) desk
 
 -- the connection is open, and this holds of what is held of it
-abbrev pub AreForeseen : {K : Type 0} → (K → Command Edition → K → Type 0) → (List ℕ → Command Edition → Type 0) → Option Holding → List ℕ → K → Type 0
+abbrev pub AreForeseen : {K : Type 0} → (K → Expected → K → Type 0) → (List ℕ → Expected → Type 0) → Option Holding → List ℕ → K → Type 0
 AreForeseen expects Asks None piece desk = ⊥
 AreForeseen expects Asks (Some held) piece desk = IsForeseen expects Asks held piece desk

@@ -13,7 +13,6 @@ ghost use Rattle.dict_hub.specs.declared.fault.HubFault.TheVariants.{Memory};
 use crate::fault::HubFault;
 use crate::incoming::{Incoming, Out};
 use crate::kind::Kind;
-use dict_desk::Keeper;
 use dict_http::Service;
 use dict_io::Sink;
 use dict_preparing::Preparer;
@@ -69,7 +68,7 @@ impl<'h> Exchange<'h> {
     }
 
     /// Takes the next piece of what came, and answers what it makes whole. Where a growth is refused nothing has changed.
-    pub fn take<K: Keeper, S: Sink>(
+    pub fn take<K: Preparer, S: Sink>(
         &mut self,
         service: &Service,
         alloc: Global,
@@ -101,13 +100,7 @@ impl<'h> Exchange<'h> {
 
     /// Whether this piece makes an editor's request whole that installs an edition, and the desk was told of it. Nothing of
     /// what is held changes.
-    pub fn foresee<K: Preparer>(
-        &mut self,
-        service: &Service,
-        alloc: Global,
-        piece: &[u8],
-        desk: &mut K,
-    ) -> bool
+    pub fn foresee<K: Preparer>(&mut self, service: &Service, piece: &[u8], desk: &mut K) -> bool
         ensures holds { (host : List ℕ) (id : ℕ) (held : Holding) → Holds host id self.old held → Holds host id self.new held }
         ensures foreseen { result ≡ true → (host : List ℕ) (id : ℕ) (held : Holding) → Holds host id self.old held → IsForeseen K.expects AsksForInstall held piece.now desk.new }
         ensures anew { result ≡ true → K.is_trusted desk.new → (M : Catalogue) → K.shows desk.old M → (host : List ℕ) (id : ℕ) (held : Holding) → Holds host id self.old held → IsForeseen K.expects (AsksAnewForInstall M) held piece.now desk.new }
@@ -118,7 +111,7 @@ impl<'h> Exchange<'h> {
     {
         match self {
             Exchange::Reader(_) => false,
-            Exchange::Editor(incoming) => incoming.foresee(service, alloc, piece, desk),
+            Exchange::Editor(incoming) => incoming.foresee(service, piece, desk),
         }
     }
 }

@@ -18,7 +18,6 @@ use crate::exchange::Exchange;
 use crate::fault::HubFault;
 use crate::incoming::Out;
 use crate::kind::Kind;
-use dict_desk::Keeper;
 use dict_http::Service;
 use dict_io::Sink;
 use dict_preparing::Preparer;
@@ -72,7 +71,7 @@ impl<'h> Hub<'h> {
     /// a QUIT or where the sink or the desk failed, an editor's by its answer. So where a list of accepted events has led
     /// to this hub and this desk, that list with this event leads to what both are then. An event that is refused changes
     /// nothing and puts nothing. The sink is the connection's own.
-    pub fn event<K: Keeper, S: Sink>(
+    pub fn event<K: Preparer, S: Sink>(
         &mut self,
         desk: &mut K,
         event: Event,
@@ -138,7 +137,7 @@ impl<'h> Hub<'h> {
         let Some(place) = self.book.place_of(id) else {
             return false;
         };
-        self.lines[place].foresee(&self.service, self.alloc, piece, desk)
+        self.lines[place].foresee(&self.service, piece, desk)
     }
 
     // Opens a connection, and greets a reader.
@@ -199,7 +198,7 @@ impl<'h> Hub<'h> {
     }
 
     // Octets came on a connection.
-    fn bytes<K: Keeper, S: Sink>(
+    fn bytes<K: Preparer, S: Sink>(
         &mut self,
         id: u64,
         piece: &[u8],

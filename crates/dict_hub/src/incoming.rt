@@ -8,7 +8,6 @@ ghost use Rattle.std.specs.Prelude.{Ok};
 ghost use Rattle.dict_hub.specs.declared.fault.HubFault.TheVariants.{Memory};
 
 use crate::fault::HubFault;
-use dict_desk::Keeper;
 use dict_head::{Reading, read_request};
 use dict_http::Service;
 use dict_io::Sink;
@@ -50,7 +49,7 @@ impl Incoming {
     /// Takes the next piece of a request that an editor sends. While more octets are needed they are held; else the request,
     /// or what can't become one, is answered, and the connection closes, whatever stands behind it. Where a growth is
     /// refused nothing has changed.
-    pub fn take<K: Keeper, S: Sink>(
+    pub fn take<K: Preparer, S: Sink>(
         &mut self,
         service: &Service,
         alloc: Global,
@@ -90,13 +89,7 @@ impl Incoming {
 
     /// Whether this piece, behind the octets that have come, makes a request whole that installs an edition, and the desk was
     /// told of it and took note. The piece isn't held. Where memory is wanting the desk is told nothing.
-    pub fn foresee<K: Preparer>(
-        &mut self,
-        service: &Service,
-        alloc: Global,
-        piece: &[u8],
-        desk: &mut K,
-    ) -> bool
+    pub fn foresee<K: Preparer>(&mut self, service: &Service, piece: &[u8], desk: &mut K) -> bool
         ensures octets { self.new.octets.items ≡ self.old.octets.items }
         ensures awaited { self.new.awaited ≡ self.old.awaited }
         ensures foreseen { result ≡ true → HasForeseen K.expects (AsksForInstall (self.old.octets.items ++ piece.now)) desk.new }
@@ -115,7 +108,7 @@ impl Incoming {
         if grown.is_err() {
             return false;
         }
-        let is_foreseen = service.foresee(alloc, &self.octets, desk);
+        let is_foreseen = service.foresee(&self.octets, desk);
         self.octets.truncate(held);
         is_foreseen
     }
