@@ -3,21 +3,45 @@ ghost use Rattle.std.specs.Prelude.{◌≡◌, ℕ};
 
 use dict_catalogue::{Command, Kept, Summary};
 use dict_desk::{End, Fault, Keeper, Lookup, PlainDesk, RowSink, What};
+use dict_index::{IndexFault, read_edition};
 use dict_match::{Key, Strategy};
-use dict_preparing::Preparer;
+use dict_preparing::{Answered, Preparer};
 use std::alloc::{AllocError, Global};
 
 /// A request for an install, without the last 65,536 octets of its text.
 pub const HEAD: &[u8] =
     b"PUT /databases/gem HTTP/1.1\r\nRequest-Id: r1\r\nContent-Length: 65637\r\n\r\n53\n00-database-short\tA\tZ\nopal\tZ\tP\nFire Opal\tZ\tP\ndot\to\tF\n00-database-short\n  Gems\nopal\n  a stone\n.dot\n";
 
-/// A desk in memory that prepares each command by so many parts, in which nothing is done, and notes which it was told of. Contracts
-/// say nothing of what it shows; it is there to be run.
+// An install by its name and its files.
+#[derive(Drop)]
+struct Files {
+    name: String,
+    index: Vec<u8>,
+    text: Vec<u8>,
+}
+
+impl Files {
+    fn new(alloc: Global, name: &str, index: &[u8], text: &[u8]) -> Result<Files, AllocError> {
+        Ok(Files {
+            name: String::from_str(alloc, name)?,
+            index: Vec::from_slice(alloc, index)?,
+            text: Vec::from_slice(alloc, text)?,
+        })
+    }
+
+    fn are(&self, name: &str, index: &[u8], text: &[u8]) -> bool {
+        self.name.as_str() == name && self.index.as_slice() == index && self.text.as_slice() == text
+    }
+}
+
+/// A desk in memory that prepares each install by so many parts, in which nothing is done, and notes which it was told of. It answers
+/// an install whose files it noted, once no part is left, and no other. Contracts say nothing of what it shows; it is there to be run.
 #[derive(Drop)]
 pub struct PartsDesk {
     alloc: Global,
     desk: PlainDesk,
-    // What it was told of last, as a text.
+    // The install that it was told of last, and the same as a text.
+    files: Option<Files>,
     noted: String,
     // By how many parts a command is prepared.
     each: u32,
@@ -27,6 +51,8 @@ pub struct PartsDesk {
     pub expected: u32,
     /// How many commands were applied.
     pub applied: u32,
+    /// How many of them were what it had prepared.
+    pub answered: u32,
     /// How often it let go of what it had prepared.
     pub forgotten: u32,
 }
@@ -37,30 +63,35 @@ impl PartsDesk {
         PartsDesk {
             alloc,
             desk: PlainDesk::new(alloc),
+            files: None,
             noted: String::new(alloc),
             each,
             left: 0,
             expected: 0,
             applied: 0,
+            answered: 0,
             forgotten: 0,
         }
     }
 
-    /// Of the install that it was told of last, and has not let go of: name, title, how many entries and how many octets of text.
+    /// Of the install that it was told of last, and has not let go of: its name, and how many octets its index and its text have.
     pub fn noted(&self) -> &str {
         self.noted.as_str()
     }
+
+    // Whether it was told of this install last, and no part is left.
+    fn has_prepared(&self, name: &str, index: &[u8], text: &[u8]) -> bool {
+        match &self.files {
+            Some(files) => self.left == 0 && files.are(name, index, text),
+            None => false,
+        }
+    }
 }
 
-fn noted_of(alloc: Global, command: &Command) -> Result<String, AllocError> {
-    let Command::Install { name, edition } = command else {
-        return String::from_str(alloc, "no install");
-    };
-    let name = *name;
-    let title = edition.title();
-    let entries = edition.entries().len();
-    let octets = edition.text().len();
-    Ok(format!(in alloc; "{name} {title} {entries} {octets}")?)
+fn noted_of(alloc: Global, name: &str, index: &[u8], text: &[u8]) -> Result<String, AllocError> {
+    let index = index.len();
+    let text = text.len();
+    Ok(format!(in alloc; "{name} {index} {text}")?)
 }
 
 impl Lookup for PartsDesk {
@@ -147,12 +178,20 @@ impl Preparer for PartsDesk {
     ghost fails_to_prepare = { λ _ _ _. Unit {0} };
 
     fn expect(&mut self, command: &Command) -> Result<(), Fault> {
-        if let Ok(noted) = noted_of(self.alloc, command) {
-            self.noted = noted;
-        }
-        self.expected = self.expected.saturating_add(1);
+        self.files = None;
+        self.noted = String::new(self.alloc);
         self.left = self.each;
         self.desk.expect(command)
+    }
+
+    fn expect_install(&mut self, name: &str, index: &[u8], text: &[u8]) -> Result<(), Fault> {
+        if let Ok(noted) = noted_of(self.alloc, name, index, text) {
+            self.noted = noted;
+        }
+        self.files = Files::new(self.alloc, name, index, text).ok();
+        self.expected = self.expected.saturating_add(1);
+        self.left = self.each;
+        self.desk.expect_install(name, index, text)
     }
 
     fn prepare(&mut self) -> Result<bool, Fault> {
@@ -163,7 +202,32 @@ impl Preparer for PartsDesk {
         Ok(true)
     }
 
+    fn answer_prepared(
+        &mut self,
+        id: &str,
+        name: &str,
+        index: &[u8],
+        text: &[u8],
+    ) -> Result<Option<Answered>, Fault> {
+        if !self.has_prepared(name, index, text) {
+            return Ok(None);
+        }
+        match read_edition(self.alloc, index, text) {
+            Ok(edition) => {
+                self.answered = self.answered.saturating_add(1);
+                let edition = &edition;
+                let outcome = self.apply(id, &Command::Install { name, edition });
+                Ok(Some(Answered::Done(outcome)))
+            }
+            Err(IndexFault::Refused { refusal, line }) => {
+                Ok(Some(Answered::Refused { refusal, line }))
+            }
+            Err(IndexFault::Memory) => Ok(None),
+        }
+    }
+
     fn forget(&mut self) -> Result<(), Fault> {
+        self.files = None;
         self.noted = String::new(self.alloc);
         self.forgotten = self.forgotten.saturating_add(1);
         self.left = 0;

@@ -3,9 +3,9 @@
 use super::files::{DELETE, DELETED_TOLD, Row, play, send, told};
 use super::runs::{Run, over_failing, over_memory};
 use crate::checks::same;
-use dict_desk::Keeper;
 use dict_hub::{Event, Hub, Kind};
 use dict_io::LimitedSink;
+use dict_preparing::Preparer;
 use std::alloc::Global;
 use std::process::Abort;
 use std::test::Fail;
@@ -47,7 +47,7 @@ static A_READER_AND_TWO_EDITORS: [Row; 3] = [
 ];
 
 /// A reader's line and an editor's request, which comes twice, are answered as a row has it.
-pub(crate) fn meet_no_memory<K: Keeper>(
+pub(crate) fn meet_no_memory<K: Preparer>(
     rt: &impl Abort,
     alloc: Global,
     hub: &mut Hub,
@@ -95,7 +95,7 @@ static TWO_READERS_AND_AN_EDITOR: [Row; 3] = [
 ];
 
 /// All is unavailable after a reader's line.
-pub(crate) fn meet_no_store<K: Keeper>(
+pub(crate) fn meet_no_store<K: Preparer>(
     rt: &impl Abort,
     alloc: Global,
     hub: &mut Hub,
@@ -116,7 +116,7 @@ fn a_call_finds_no_store(rt: HostRuntime) -> Result<(), Fail> {
 }
 
 // What is told of a reader whose sink has this room, of its next line, and what the sink took.
-fn told_within<K: Keeper>(
+fn told_within<K: Preparer>(
     alloc: Global,
     hub: &mut Hub,
     desk: &mut K,
@@ -142,7 +142,7 @@ static ONE_OPENED: [Row; 1] = [(
 
 static ONE_ANSWERED: [Row; 1] = [(Event::Bytes(0, b"DEFINE gem opal\r\n"), FOUND_TOLD)];
 
-fn check_room<K: Keeper>(
+fn check_room<K: Preparer>(
     rt: &impl Abort,
     alloc: Global,
     hub: &mut Hub,
@@ -158,7 +158,7 @@ fn check_room<K: Keeper>(
 }
 
 /// A sink that fails within an answer closes its connection alone.
-pub(crate) fn meet_no_room<K: Keeper>(
+pub(crate) fn meet_no_room<K: Preparer>(
     rt: &impl Abort,
     alloc: Global,
     hub: &mut Hub,

@@ -1,8 +1,9 @@
 // A catalogue in memory, and what a hub puts over it.
 use crate::checks::{same, same_text};
-use dict_desk::{Keeper, PlainDesk};
+use dict_desk::PlainDesk;
 use dict_hub::{Event, Hub, HubFault, Kind, Out};
 use dict_io::LimitedSink;
+use dict_preparing::Preparer;
 use std::alloc::Global;
 use std::process::Abort;
 use std::test::Fail;
@@ -19,7 +20,7 @@ pub(crate) const DELETED_TOLD: &str =
     "Ok(Close) HTTP/1.1 200 OK\r\nContent-Type: application/json\r\nContent-Length: 56\r\nConnection: close\r\n\r\n{\"edition\":null,\"name\":\"gem\",\"number\":2,\"verb\":\"retire\"}";
 
 /// What becomes of a connection after an event.
-pub(crate) fn send<K: Keeper>(
+pub(crate) fn send<K: Preparer>(
     hub: &mut Hub,
     desk: &mut K,
     event: Event,
@@ -37,14 +38,14 @@ pub(crate) fn same_out(
     same(rt, found, wanted);
 }
 
-fn put<K: Keeper>(hub: &mut Hub, desk: &mut K, sink: &mut LimitedSink) -> Result<(), Fail> {
+fn put<K: Preparer>(hub: &mut Hub, desk: &mut K, sink: &mut LimitedSink) -> Result<(), Fail> {
     send(hub, desk, Event::Opened(1, Kind::Http), sink)?;
     send(hub, desk, Event::Bytes(1, PUT), sink)?;
     Ok(())
 }
 
 /// Installs `gem`.
-pub(crate) fn install<K: Keeper>(alloc: Global, desk: &mut K) -> Result<(), Fail> {
+pub(crate) fn install<K: Preparer>(alloc: Global, desk: &mut K) -> Result<(), Fail> {
     let mut sink = LimitedSink::new(alloc, 1000)?;
     let mut hub = Hub::new(alloc, HOST)?;
     put(&mut hub, desk, &mut sink)
@@ -58,7 +59,7 @@ pub(crate) fn gem_desk(alloc: Global) -> Result<PlainDesk, Fail> {
 }
 
 /// What becomes of a connection after an event, and what is put for it.
-pub(crate) fn told<K: Keeper>(
+pub(crate) fn told<K: Preparer>(
     alloc: Global,
     hub: &mut Hub,
     desk: &mut K,
@@ -74,7 +75,7 @@ pub(crate) fn told<K: Keeper>(
 pub(crate) type Row = (Event<'static>, &'static str);
 
 /// These events, one after the other.
-pub(crate) fn play<K: Keeper>(
+pub(crate) fn play<K: Preparer>(
     rt: &impl Abort,
     alloc: Global,
     hub: &mut Hub,

@@ -15,13 +15,13 @@ const INSTALL: &str =
     "PUT /databases/gem HTTP/1.1\r\nRequest-Id: r1\r\nContent-Length: 70101\r\n\r\n";
 
 // What stands before `FRONT`, whether it is foreseen with its first piece and with its second, and what the desk notes. In the
-// last two the body has no form, or an edition that is refused.
+// last two the body has no form, or an edition that is refused, which isn't known before it is read.
 static CASES: [(&str, &str, &str); 10] = [
-    (INSTALL, "false true ", "gem Gems 3 70045"),
+    (INSTALL, "false true ", "gem 53 70045"),
     (
         "PUT /databases/ore HTTP/1.1\r\nContent-Length: 70101\r\nRequest-Id: a-1\r\n\r\n",
         "false true ",
-        "ore Gems 3 70045",
+        "ore 53 70045",
     ),
     (
         "PUT /databases/gem HTTP/1.1\r\nContent-Length: 70101\r\n\r\n",
@@ -60,8 +60,8 @@ static CASES: [(&str, &str, &str); 10] = [
     ),
     (
         "PUT /databases/gem HTTP/1.1\r\nRequest-Id: r1\r\nContent-Length: 70101\r\n\r\n1",
-        "false false ",
-        "",
+        "false true ",
+        "gem 153 69944",
     ),
 ];
 
@@ -144,6 +144,30 @@ impl Run {
         Ok(())
     }
 
+    // A request in two pieces, where this one was foreseen in place of the second.
+    fn send_behind(&mut self, alloc: Global, octets: &[u8], foreseen: &[u8]) -> Result<(), Fail> {
+        self.take(alloc, Event::Opened(1, Kind::Http))?;
+        let (first, second) = octets.split_at_checked(66_000).unwrap_or((octets, &[]));
+        self.take(alloc, Event::Bytes(1, first))?;
+        self.note(1, foreseen)?;
+        self.take(alloc, Event::Bytes(1, second))
+    }
+
+    // What is answered then, where as many commands as are wanted were answered by what was prepared, and applied.
+    fn look_behind(
+        &mut self,
+        rt: &impl Abort,
+        alloc: Global,
+        octets: &[u8],
+        foreseen: &[u8],
+        wanted: (u32, u32),
+    ) -> Result<String, Fail> {
+        self.send_behind(alloc, octets, foreseen)?;
+        same_text(rt, self.foreseen.as_str(), "true ");
+        same(rt, &(self.desk.answered, self.desk.applied), &wanted);
+        Ok(self.answers.clone()?)
+    }
+
     // What is answered, where all else is what is wanted.
     fn look(
         &mut self,
@@ -223,5 +247,38 @@ fn installs_are_foreseen(rt: HostRuntime) -> Result<(), Fail> {
 fn other_octets_are_not_foreseen(rt: HostRuntime) -> Result<(), Fail> {
     let octets = request(rt.alloc(), INSTALL)?;
     answers_to(&rt, rt.alloc(), &octets, OTHERS)?;
+    Ok(())
+}
+
+// The answers to a request of which this was foreseen in place of the second piece, in a run of its own.
+fn answers_behind(
+    rt: &impl Abort,
+    alloc: Global,
+    octets: &[u8],
+    foreseen: &[u8],
+    wanted: (u32, u32),
+) -> Result<String, Fail> {
+    let mut run = Run::new(alloc)?;
+    run.look_behind(rt, alloc, octets, foreseen, wanted)
+}
+
+// The second piece of a request, and the same with another last octet.
+fn pieces_of(alloc: Global, octets: &[u8]) -> Result<(Vec<u8>, Vec<u8>), AllocError> {
+    let piece = octets.get(66_000..).unwrap_or(&[]);
+    let mut other = Vec::from_slice(alloc, piece)?;
+    if let Some(last) = other.last_mut() {
+        *last = b'y';
+    }
+    Ok((Vec::from_slice(alloc, piece)?, other))
+}
+
+// What was prepared answers the request that was foreseen. One whose text is another in one octet is answered without.
+#[test]
+fn what_was_prepared_answers(rt: HostRuntime) -> Result<(), Fail> {
+    let octets = request(rt.alloc(), INSTALL)?;
+    let (piece, other) = pieces_of(rt.alloc(), &octets)?;
+    let answers = answers_behind(&rt, rt.alloc(), &octets, &piece, (1, 1))?;
+    let without = answers_behind(&rt, rt.alloc(), &octets, &other, (0, 1))?;
+    same_text(&rt, without.as_str(), answers.as_str());
     Ok(())
 }

@@ -2,15 +2,15 @@
 use super::files::{PUT, Row, play, same_out, send};
 use super::runs::{Run, over_memory};
 use crate::checks::{same, same_text};
-use dict_desk::Keeper;
 use dict_hub::{Event, Hub, HubFault, Kind, Out};
 use dict_io::LimitedSink;
+use dict_preparing::Preparer;
 use std::alloc::Global;
 use std::process::Abort;
 use std::test::Fail;
 
 // Opens an editor's connection.
-fn open<K: Keeper>(
+fn open<K: Preparer>(
     hub: &mut Hub,
     desk: &mut K,
     sink: &mut LimitedSink,
@@ -19,7 +19,7 @@ fn open<K: Keeper>(
     send(hub, desk, Event::Opened(id, Kind::Http), sink)
 }
 
-fn end<K: Keeper>(
+fn end<K: Preparer>(
     hub: &mut Hub,
     desk: &mut K,
     sink: &mut LimitedSink,
@@ -29,7 +29,7 @@ fn end<K: Keeper>(
 }
 
 // Opens a connection twice and ends it.
-fn open_twice<K: Keeper>(
+fn open_twice<K: Preparer>(
     rt: &impl Abort,
     hub: &mut Hub,
     desk: &mut K,
@@ -57,7 +57,7 @@ static AT_ONCE: [(bool, u64, u64, Result<Out, HubFault>); 7] = [
     (true, 4_160, 4_161, Ok(Out::More)),
 ];
 
-fn open_or_end<K: Keeper>(
+fn open_or_end<K: Preparer>(
     hub: &mut Hub,
     desk: &mut K,
     sink: &mut LimitedSink,
@@ -71,7 +71,7 @@ fn open_or_end<K: Keeper>(
     }
 }
 
-fn at_once<K: Keeper>(rt: &impl Abort, hub: &mut Hub, desk: &mut K, sink: &mut LimitedSink) {
+fn at_once<K: Preparer>(rt: &impl Abort, hub: &mut Hub, desk: &mut K, sink: &mut LimitedSink) {
     for (is_opened, first, behind, wanted) in &AT_ONCE {
         for id in *first..*behind {
             same_out(rt, &open_or_end(hub, desk, sink, *is_opened, id), wanted);
@@ -80,7 +80,7 @@ fn at_once<K: Keeper>(rt: &impl Abort, hub: &mut Hub, desk: &mut K, sink: &mut L
 }
 
 /// Each of 4,096 connections is opened and ended, then 64 are open at once.
-pub(crate) fn open_and_close<K: Keeper>(
+pub(crate) fn open_and_close<K: Preparer>(
     rt: &impl Abort,
     alloc: Global,
     hub: &mut Hub,
@@ -110,7 +110,7 @@ const INSTALLED: &str =
     "HTTP/1.1 200 OK\r\nContent-Type: application/json\r\nContent-Length: 54\r\nConnection: close\r\n\r\n{\"edition\":1,\"name\":\"gem\",\"number\":1,\"verb\":\"install\"}";
 
 // The pieces, until one is answered: how many there were.
-fn take_pieces<K: Keeper>(
+fn take_pieces<K: Preparer>(
     hub: &mut Hub,
     desk: &mut K,
     sink: &mut LimitedSink,
@@ -127,7 +127,7 @@ fn take_pieces<K: Keeper>(
 }
 
 // Their count, and what was put into a sink with this room.
-fn told_pieces<K: Keeper>(
+fn told_pieces<K: Preparer>(
     alloc: Global,
     hub: &mut Hub,
     desk: &mut K,
@@ -141,7 +141,7 @@ fn told_pieces<K: Keeper>(
 }
 
 // What is told of an install whose octets come one by one.
-fn told_octets<K: Keeper>(alloc: Global, hub: &mut Hub, desk: &mut K) -> Result<String, Fail> {
+fn told_octets<K: Preparer>(alloc: Global, hub: &mut Hub, desk: &mut K) -> Result<String, Fail> {
     let mut pieces = Vec::new(alloc);
     for octet in PUT.chunks(1) {
         pieces.push(octet)?;
@@ -150,7 +150,7 @@ fn told_octets<K: Keeper>(alloc: Global, hub: &mut Hub, desk: &mut K) -> Result<
 }
 
 /// It is installed once the last of them came.
-pub(crate) fn single_octets<K: Keeper>(
+pub(crate) fn single_octets<K: Preparer>(
     rt: &impl Abort,
     alloc: Global,
     hub: &mut Hub,
@@ -169,7 +169,7 @@ fn a_request_octet_by_octet(rt: HostRuntime) -> Result<(), Fail> {
 }
 
 /// What stands behind a request is no second one, and an answer that isn't taken closes too.
-pub(crate) fn one_piece<K: Keeper>(
+pub(crate) fn one_piece<K: Preparer>(
     rt: &impl Abort,
     alloc: Global,
     hub: &mut Hub,
@@ -233,7 +233,7 @@ fn a_line_before_an_install(rt: HostRuntime) -> Result<(), Fail> {
 }
 
 // Opens connections of both kinds in turn, with the ids from 1.
-fn open_many<K: Keeper>(
+fn open_many<K: Preparer>(
     rt: &impl Abort,
     alloc: Global,
     hub: &mut Hub,
@@ -272,7 +272,7 @@ static WITH_MANY: [Row; 7] = [
 ];
 
 /// They come, one ends and another comes.
-pub(crate) fn come_and_go<K: Keeper>(
+pub(crate) fn come_and_go<K: Preparer>(
     rt: &impl Abort,
     alloc: Global,
     hub: &mut Hub,

@@ -4,9 +4,10 @@ use super::failing::{meet_no_memory, meet_no_room, meet_no_store};
 use super::files::{HOST, Row, gem_desk, install, play};
 use super::hub::{come_and_go, one_piece, open_and_close, single_octets};
 use super::together::serve_all;
-use dict_desk::{Keeper, PlainDesk};
+use dict_desk::PlainDesk;
 use dict_failing_desk::FailingDesk;
 use dict_hub::Hub;
+use dict_preparing::Preparer;
 use std::alloc::Global;
 use std::process::Abort;
 use std::test::Fail;
@@ -25,7 +26,7 @@ pub(crate) enum Run {
     Together,
 }
 
-fn run_one<K: Keeper>(
+fn run_one<K: Preparer>(
     rt: &impl Abort,
     alloc: Global,
     hub: &mut Hub,
@@ -47,13 +48,18 @@ fn run_one<K: Keeper>(
     }
 }
 
-fn run_anew<K: Keeper>(rt: &impl Abort, alloc: Global, desk: &mut K, run: Run) -> Result<(), Fail> {
+fn run_anew<K: Preparer>(
+    rt: &impl Abort,
+    alloc: Global,
+    desk: &mut K,
+    run: Run,
+) -> Result<(), Fail> {
     let mut hub = Hub::new(alloc, HOST)?;
     run_one(rt, alloc, &mut hub, desk, run)
 }
 
 // The same once `gem` was installed, where that is asked for.
-fn run_after<K: Keeper>(
+fn run_after<K: Preparer>(
     rt: &impl Abort,
     alloc: Global,
     desk: &mut K,

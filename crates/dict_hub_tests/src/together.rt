@@ -2,10 +2,11 @@
 use super::files::{HOST, PUT, gem_desk, same_out, send};
 use super::runs::{Run, over_memory};
 use crate::checks::same;
-use dict_desk::{Keeper, PlainDesk};
+use dict_desk::PlainDesk;
 use dict_http::{Need, Service, need};
 use dict_hub::{Event, Hub, HubFault, Kind};
 use dict_io::LimitedSink;
+use dict_preparing::Preparer;
 use dict_session::Session;
 use std::alloc::Global;
 use std::process::Abort;
@@ -89,7 +90,7 @@ fn is_as_alone(alloc: Global, id: u64, taken: &[u8]) -> Result<bool, Fail> {
 }
 
 // Opens 64 connections, each with a sink of its own.
-fn open_all<K: Keeper>(
+fn open_all<K: Preparer>(
     alloc: Global,
     hub: &mut Hub,
     desk: &mut K,
@@ -104,7 +105,7 @@ fn open_all<K: Keeper>(
 }
 
 // Sends each connection its octet of this place. What comes on one that is closed is refused.
-fn send_each<K: Keeper>(hub: &mut Hub, desk: &mut K, sinks: &mut [LimitedSink], place: usize) {
+fn send_each<K: Preparer>(hub: &mut Hub, desk: &mut K, sinks: &mut [LimitedSink], place: usize) {
     for (id, sink) in (1..65u64).zip(sinks.iter_mut()) {
         if let Some(octet) = sent(id).get(place) {
             let piece = [*octet];
@@ -114,7 +115,7 @@ fn send_each<K: Keeper>(hub: &mut Hub, desk: &mut K, sinks: &mut [LimitedSink], 
 }
 
 // Each is answered as it would be alone, and is closed.
-fn end_each<K: Keeper>(
+fn end_each<K: Preparer>(
     rt: &impl Abort,
     alloc: Global,
     hub: &mut Hub,
@@ -129,7 +130,7 @@ fn end_each<K: Keeper>(
     Ok(())
 }
 
-fn send_and_end<K: Keeper>(
+fn send_and_end<K: Preparer>(
     rt: &impl Abort,
     alloc: Global,
     hub: &mut Hub,
@@ -143,7 +144,7 @@ fn send_and_end<K: Keeper>(
 }
 
 /// All are opened, sent their octets in turn, and ended.
-pub(crate) fn serve_all<K: Keeper>(
+pub(crate) fn serve_all<K: Preparer>(
     rt: &impl Abort,
     alloc: Global,
     hub: &mut Hub,
