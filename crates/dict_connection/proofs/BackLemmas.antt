@@ -1,9 +1,8 @@
 -- Whether octets are held back.
 use Rattle.std.proofs.Common.{◌≡◌, ℕ, Bool, true, false, not, List, [], length, refl, sym, ap, ◌∙◌, subst}
 use Rattle.dict_desk.specs.declared.fault.Fault.{Fault}
+use Rattle.dict_preparing.specs.Expected.{Expected}
 use Rattle.std.specs.Prelude.{◌&&◌, ◌==◌, Ok, Result}
-use Rattle.dict_index.specs.Edition.{Edition}
-use Rattle.dict_catalogue.specs.Commands.{Command}
 use Rattle.dict_hub.specs.Events.{is_of_editor}
 use Rattle.dict_hub.specs.declared.hub.Hub.{Hub}
 use Rattle.dict_hub.specs.declared.kind.Kind.{Kind}
@@ -51,7 +50,7 @@ pub back_never : {A : Type 0} (back : Bool) → back ≡ false → back ≡ true
 back_never back isnt is = absurd (let never : true ≡ false = sym is ∙ isnt in cc)
 
 -- the same of the same octets, of a connection with the same id
-pub told_as : {K : Type 0} (expects : K → Command Edition → K → Type 0) (hub : Hub) (id own : ℕ) (from to : List ℕ) (desk : K) → id ≡ own → to ≡ from → AreToldOf expects hub id from desk → AreToldOf expects hub own to desk
+pub told_as : {K : Type 0} (expects : K → Expected → K → Type 0) (hub : Hub) (id own : ℕ) (from to : List ℕ) (desk : K) → id ≡ own → to ≡ from → AreToldOf expects hub id from desk → AreToldOf expects hub own to desk
 told_as expects hub id own from to desk same are told = subst (λ (i : ℕ). AreToldOf expects hub i to desk) same (subst (λ (l : List ℕ). AreToldOf expects hub id l desk) (sym are) told)
 
 -- octets that are held of an editor, where some were held before, were held back
@@ -63,9 +62,9 @@ was_back old new some same back = by (is_held_back old) refl
     by false e = back_never _ (reader_back old new e some same) back
 
 -- how they are held back, by whether they were before
-pub holds_on : {K : Type 0} (expects : K → Command Edition → K → Type 0) (prepares : K → Result Bool Fault → K → Type 0) (was : Bool) (hub : Hub) (old new : K) (id : ℕ) (octets : List ℕ) → was ≡ true → prepares old (Ok true) new → HoldsBy expects prepares was hub old new id octets
+pub holds_on : {K : Type 0} (expects : K → Expected → K → Type 0) (prepares : K → Result Bool Fault → K → Type 0) (was : Bool) (hub : Hub) (old new : K) (id : ℕ) (octets : List ℕ) → was ≡ true → prepares old (Ok true) new → HoldsBy expects prepares was hub old new id octets
 holds_on expects prepares was hub old new id octets is prepared = subst (λ (b : Bool). HoldsBy expects prepares b hub old new id octets) (sym is) prepared
 
-pub begins_to : {K : Type 0} (expects : K → Command Edition → K → Type 0) (prepares : K → Result Bool Fault → K → Type 0) (was : Bool) (hub : Hub) (old new : K) (id own : ℕ) (octets : List ℕ) → was ≡ false → id ≡ own → HoldsBy expects prepares false hub old new id octets → HoldsBy expects prepares was hub old new own octets
+pub begins_to : {K : Type 0} (expects : K → Expected → K → Type 0) (prepares : K → Result Bool Fault → K → Type 0) (was : Bool) (hub : Hub) (old new : K) (id own : ℕ) (octets : List ℕ) → was ≡ false → id ≡ own → HoldsBy expects prepares false hub old new id octets → HoldsBy expects prepares was hub old new own octets
 begins_to expects prepares was hub old new id own octets isnt same begun =
     subst (λ (i : ℕ). HoldsBy expects prepares was hub old new i octets) same (subst (λ (b : Bool). HoldsBy expects prepares b hub old new id octets) (sym isnt) begun)

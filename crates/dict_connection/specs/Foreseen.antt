@@ -1,8 +1,7 @@
 -- Why octets are held back.
 use Rattle.std.specs.Prelude.{◌≡◌, ℕ, Bool, true, false, List, Option, Ok, Result}
 use Rattle.dict_desk.specs.declared.fault.Fault.{Fault}
-use Rattle.dict_index.specs.Edition.{Edition}
-use Rattle.dict_catalogue.specs.Commands.{Command}
+use Rattle.dict_preparing.specs.Expected.{Expected}
 use Rattle.dict_http.specs.Foreseeing.{AsksForInstall}
 use Rattle.dict_hub.specs.Foreseen.{AreForeseen}
 use Rattle.dict_hub.specs.Holding.{Holding}
@@ -13,10 +12,10 @@ use Rattle.dict_connection.specs.Stages.{is_open}
 use Rattle.dict_connection.specs.declared.connection.Connection.{Connection}
 
 -- behind what the hub has of the connection of this id, these octets make an install whole, and this desk was told of it last
-abbrev pub AreToldOf : {K : Type 0} → (K → Command Edition → K → Type 0) → Hub → ℕ → List ℕ → K → Type 0
+abbrev pub AreToldOf : {K : Type 0} → (K → Expected → K → Type 0) → Hub → ℕ → List ℕ → K → Type 0
 AreToldOf expects hub id octets desk = (held : Option Holding) → Has hub id held → AreForeseen expects AsksForInstall held octets desk
 
-module _ {K : Type 0} (expects : K → Command Edition → K → Type 0) (prepares : K → Result Bool Fault → K → Type 0) where
+module _ {K : Type 0} (expects : K → Expected → K → Type 0) (prepares : K → Result Bool Fault → K → Type 0) where
   -- octets are held back in a turn over this desk, which left that one: they were before, and then all that the desk was asked is to
   -- prepare a part, and there is more to prepare; or they begin to be, and then this was asked of it as it was told of what they make
   -- whole, behind which nothing else was

@@ -13,7 +13,6 @@ use crate::delivering::{deliver, deliver_through};
 use crate::held::{Held, PIECE};
 use crate::opening::Opening;
 use crate::stage::{Stage, answered, drained, has_departed, parted, stage_of_new, told};
-use dict_desk::Keeper;
 use dict_hub::{Event, Hub, Kind};
 use dict_outlet::{Queue, Received, Sent, Transport, has_moved, received_by, sent_by};
 use dict_preparing::Preparer;
@@ -50,7 +49,7 @@ impl<T: Transport> Connection<T> {
     ghost use Rattle.dict_connection.specs.Ordering.{IsOnly};
 
     /// Tells the hub of a new connection. `None` where the hub refused it, or there is no memory for what is read.
-    pub fn open<K: Keeper, O: Opening>(
+    pub fn open<K: Preparer, O: Opening>(
         opening: &O,
         alloc: Global,
         id: u64,
@@ -354,7 +353,7 @@ impl<T: Transport> Connection<T> {
 
     // Hands the next piece to the hub. Where the hub closes the connection, what waits is still sent; and where it refuses
     // the octets, nothing is.
-    fn hand<K: Keeper, O: Opening>(&mut self, opening: &O, hub: &mut Hub, desk: &mut K)
+    fn hand<K: Preparer, O: Opening>(&mut self, opening: &O, hub: &mut Hub, desk: &mut K)
         ensures led { HasLedOn (K.is_trusted desk.new) (K.shows desk.old) (K.leaves_one_of desk.old) (K.shows desk.new) (K.leaves_one_of desk.new) hub.old hub.new
             (λ events. HandsOver T.taken T.coming T.made (held_in self.old.held) self.old self.new events × LeadsByAnswer (IsRefused O.refuses hub.old) (held_in self.old.held) self.old self.new events
             × AreCausedBy (condition K.has_failed K.is_closed desk.new) self.old self.new events × StaysForReader self.old.held.kind hub.old desk.old desk.new events) }
@@ -380,7 +379,7 @@ impl<T: Transport> Connection<T> {
     }
 
     // The peer ended its side. What waits is still sent.
-    fn end_input<K: Keeper>(&mut self, hub: &mut Hub, desk: &mut K)
+    fn end_input<K: Preparer>(&mut self, hub: &mut Hub, desk: &mut K)
         ensures led { HasLedOn (K.is_trusted desk.new) (K.shows desk.old) (K.leaves_one_of desk.old) (K.shows desk.new) (K.leaves_one_of desk.new) hub.old hub.new
             (λ events. Hands [] self.old self.new events × LeadsByEnd (parted (is_clear self.new.queue)) self.old self.new events
             × AreCausedBy (condition K.has_failed K.is_closed desk.new) self.old self.new events) }
@@ -396,7 +395,7 @@ impl<T: Transport> Connection<T> {
     }
 
     // Nothing more comes, and nothing more is sent.
-    fn end<K: Keeper>(&mut self, hub: &mut Hub, desk: &mut K)
+    fn end<K: Preparer>(&mut self, hub: &mut Hub, desk: &mut K)
         ensures led { HasLedOn (K.is_trusted desk.new) (K.shows desk.old) (K.leaves_one_of desk.old) (K.shows desk.new) (K.leaves_one_of desk.new) hub.old hub.new
             (λ events. Hands [] self.old self.new events × IsOnly (ended self.old.id) events × AreCausedBy (condition K.has_failed K.is_closed desk.new) self.old self.new events) }
         ensures trust { K.is_trusted desk.new → K.is_trusted desk.old }

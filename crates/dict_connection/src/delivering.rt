@@ -9,14 +9,14 @@ ghost use Rattle.dict_connection.specs.Quiet.{StaysIfQuiet};
 ghost use Rattle.dict_connection.specs.Telling.{IsTold, IsToldThrough, KeepsOthers, MayRefuse, answer_of};
 
 use crate::opening::Opening;
-use dict_desk::Keeper;
 use dict_hub::{Event, Hub, HubFault, Kind, Out};
 use dict_outlet::{Beginning, Outlet, Queue, Transport};
+use dict_preparing::Preparer;
 use std::marker::Brand;
 use std::mem;
 
 /// Hands an event to the hub, whose octets wait in the queue of its connection then. `None` where the hub refused it.
-pub fn deliver<K: Keeper>(
+pub fn deliver<K: Preparer>(
     hub: &mut Hub,
     desk: &mut K,
     event: Event,
@@ -37,7 +37,7 @@ pub fn deliver<K: Keeper>(
 
 /// Hands octets to the hub that came on a connection, where the transport is asked to take what waits as often as the queue is full.
 /// The fault is the hub's.
-pub fn deliver_through<T: Transport, K: Keeper, O: Opening>(
+pub fn deliver_through<T: Transport, K: Preparer, O: Opening>(
     opening: &O,
     hub: &mut Hub,
     desk: &mut K,
@@ -74,7 +74,7 @@ pub fn deliver_through<T: Transport, K: Keeper, O: Opening>(
 }
 
 // Hands octets to the hub, and gives back the queue and the transport of their connection.
-fn deliver_from<T: Transport, K: Keeper, O: Opening, B: Beginning>(
+fn deliver_from<T: Transport, K: Preparer, O: Opening, B: Beginning>(
     opening: &O,
     hub: &mut Hub,
     desk: &mut K,

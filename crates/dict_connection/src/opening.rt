@@ -15,10 +15,10 @@ ghost use Rattle.dict_hub.specs.declared.fault.HubFault.{HubFault};
 ghost use Rattle.dict_hub.specs.declared.hub.Hub.{Hub};
 ghost use Rattle.dict_hub.specs.declared.kind.Kind.{Kind};
 
-use dict_desk::Keeper;
 use dict_hub::{Event, Hub, HubFault, Kind, Out};
 use dict_io::Sink;
 use dict_outlet::Queue;
+use dict_preparing::Preparer;
 use std::alloc::{AllocError, Global};
 
 /// What takes memory where a connection is opened, and where octets come on it: room for what is read of it, its place in the
@@ -33,7 +33,7 @@ pub trait Opening {
         ensures { MatchResult result (λ octets. (octets.items ≡ []) × (4096 ≤ vec_capacity octets)) (λ _. refuses hub.now id kind None) };
 
     /// Tells the hub of a connection, whose greeting waits in its queue then.
-    fn greet<K: Keeper>(
+    fn greet<K: Preparer>(
         &self,
         hub: &mut Hub,
         desk: &mut K,
@@ -50,7 +50,7 @@ pub trait Opening {
         ensures refused { IfErr result (λ fault. refuses hub.old id kind (Some fault)) };
 
     /// Hands octets that came on a connection to the hub.
-    fn hand<K: Keeper, S: Sink>(
+    fn hand<K: Preparer, S: Sink>(
         &self,
         hub: &mut Hub,
         desk: &mut K,
@@ -74,7 +74,7 @@ pub trait Opening {
 }
 
 /// Tells a hub of a connection, whose greeting waits in its queue then.
-pub fn greet_by_hub<K: Keeper>(
+pub fn greet_by_hub<K: Preparer>(
     hub: &mut Hub,
     desk: &mut K,
     id: u64,
@@ -95,7 +95,7 @@ pub fn greet_by_hub<K: Keeper>(
 }
 
 /// Hands octets that came on a connection to a hub.
-pub fn hand_by_hub<K: Keeper, S: Sink>(
+pub fn hand_by_hub<K: Preparer, S: Sink>(
     hub: &mut Hub,
     desk: &mut K,
     id: u64,

@@ -3,11 +3,11 @@ ghost use Rattle.std.specs.Prelude.{None, ⊤};
 
 use crate::peer::{Peer, SILENT, Script};
 use dict_connection::{Opening, greet_by_hub, hand_by_hub};
-use dict_desk::Keeper;
 use dict_driver::Sockets;
 use dict_hub::{Hub, HubFault, Kind, Out};
 use dict_io::Sink;
 use dict_outlet::Queue;
+use dict_preparing::Preparer;
 use std::alloc::{AllocError, Global};
 use std::io::{Error, ErrorKind, Result as IoResult};
 use std::time::Duration;
@@ -56,7 +56,7 @@ impl Opening for Crowd {
         Vec::with_capacity(alloc, 4_096)
     }
 
-    fn greet<K: Keeper>(
+    fn greet<K: Preparer>(
         &self,
         hub: &mut Hub,
         desk: &mut K,
@@ -67,7 +67,7 @@ impl Opening for Crowd {
         greet_by_hub(hub, desk, id, kind, queue)
     }
 
-    fn hand<K: Keeper, S: Sink>(
+    fn hand<K: Preparer, S: Sink>(
         &self,
         hub: &mut Hub,
         desk: &mut K,

@@ -27,12 +27,12 @@ const SENDER: Talk = Talk {
     ..READER
 };
 
-// The desk lets go before it is told of the install, and behind the one piece that was held back.
+// The desk lets go of nothing before it is told of the install, but behind the one piece that was held back.
 const LETS_GO: &[Step] = &[
     Step::Turns(19),
-    Step::Forgotten(1),
+    Step::Forgotten(0),
     Step::Turns(1),
-    Step::Forgotten(2),
+    Step::Forgotten(1),
 ];
 
 // By three parts in three turns; and at most 1,000,000 turns. Nothing is read meanwhile.
