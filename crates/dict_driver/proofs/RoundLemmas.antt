@@ -1,8 +1,7 @@
 -- What a round does with the octets that wait.
 use Rattle.std.proofs.Common.{◌≡◌, ◌≢◌, ◌<◌, ◌≤◌, ◌+◌, ℕ, Bool, true, false, ◌-◌, All, List, [], ◌∷◌, ◌++◌, length, length-set, length-append, get_or, set, take, ◌||◌, refl, sym, ap, ◌∙◌, subst, inl, inr, arith, append_assoc, append-nil}
-use Rattle.dict_index.specs.Edition.{Edition}
-use Rattle.dict_catalogue.specs.Commands.{Command}
 use Rattle.dict_desk.specs.declared.fault.Fault.{Fault}
+use Rattle.dict_preparing.specs.Expected.{Expected}
 use Rattle.std.specs.Prelude.{Option, Result}
 use Rattle.std.specs.List.{AllPairs, filter}
 use Rattle.std.proofs.lemmas.Bool.{ne_eqb}
@@ -150,12 +149,12 @@ turn_kept taken coming made preparing from to old new moved events keeps turns =
 }
 
 -- and so is why octets are held back, where one hub has all of the connection that another has
-holds_by_kept : {K : Type 0} (expects : K → Command Edition → K → Type 0) (prepares : K → Result Bool Fault → K → Type 0) (was : Bool) (between hub : Hub) (from to : K) (id : ℕ) (octets : List ℕ) → ((held : Option Holding) → Has hub id held → Has between id held)
+holds_by_kept : {K : Type 0} (expects : K → Expected → K → Type 0) (prepares : K → Result Bool Fault → K → Type 0) (was : Bool) (between hub : Hub) (from to : K) (id : ℕ) (octets : List ℕ) → ((held : Option Holding) → Has hub id held → Has between id held)
     → HoldsBy expects prepares was between from to id octets → HoldsBy expects prepares was hub from to id octets
 holds_by_kept expects prepares true between hub from to id octets keeps by = by
 holds_by_kept expects prepares false between hub from to id octets keeps (told, are, prepared) = (told, (λ held has. are held (keeps held has)), prepared)
 
-holds_kept : {K T : Type 0} (expects : K → Command Edition → K → Type 0) (prepares : K → Result Bool Fault → K → Type 0) (between hub : Hub) (from to : K) (old new : Connection T) → ((held : Option Holding) → Has hub old.id held → Has between old.id held)
+holds_kept : {K T : Type 0} (expects : K → Expected → K → Type 0) (prepares : K → Result Bool Fault → K → Type 0) (between hub : Hub) (from to : K) (old new : Connection T) → ((held : Option Holding) → Has hub old.id held → Has between old.id held)
     → HoldsBack expects prepares between from to old new → HoldsBack expects prepares hub from to old new
 holds_kept expects prepares between hub from to old new keeps back still is = holds_by_kept expects prepares (is_held_back old.held) between hub from to old.id (held_in new.held) keeps (back still is)
 
@@ -190,7 +189,7 @@ preparing_more old now i after before both in_now is more =
     ∙ ap (λ b. any_held_back old || b) (sym (held_back_more (take i now) after) ∙ ap any_held_back (sym (take_more_set now i after in_now)))
 
 -- the connections before this place had their turns, and the others are as they were; octets are held back or not
-pub record TurnUpTo {K T : Type 0} (stands : K → Condition) (expects : K → Command Edition → K → Type 0) (prepares : K → Result Bool Fault → K → Type 0) (taken coming : T → Option (List ℕ)) (made : T → Option (List Call)) (refuses : Hub → ℕ → Kind → Option HubFault → Type 0) (hub : Hub) (from to : K) (old now : List (Connection T)) (i : ℕ) (preparing moved : Bool) (events : List Accepted) : Type 0 where
+pub record TurnUpTo {K T : Type 0} (stands : K → Condition) (expects : K → Expected → K → Type 0) (prepares : K → Result Bool Fault → K → Type 0) (taken coming : T → Option (List ℕ)) (made : T → Option (List Call)) (refuses : Hub → ℕ → Kind → Option HubFault → Type 0) (hub : Hub) (from to : K) (old now : List (Connection T)) (i : ℕ) (preparing moved : Bool) (events : List Accepted) : Type 0 where
   pub len : length now ≡ length old
   pub moves : List Bool
   pub count : length moves ≡ i
@@ -212,7 +211,7 @@ pub record TurnUpTo {K T : Type 0} (stands : K → Condition) (expects : K → C
   pub are_turns : AreOfTurns events
   pub by_id : ComeById events
 
-pub turn_none : {K T : Type 0} (stands : K → Condition) (expects : K → Command Edition → K → Type 0) (prepares : K → Result Bool Fault → K → Type 0) (taken coming : T → Option (List ℕ)) (made : T → Option (List Call)) (refuses : Hub → ℕ → Kind → Option HubFault → Type 0) (hub : Hub) (from : K) (all : List (Connection T)) (preparing : Bool) → preparing ≡ any_held_back all → TurnUpTo stands expects prepares taken coming made refuses hub from from all all 0 preparing false []
+pub turn_none : {K T : Type 0} (stands : K → Condition) (expects : K → Expected → K → Type 0) (prepares : K → Result Bool Fault → K → Type 0) (taken coming : T → Option (List ℕ)) (made : T → Option (List Call)) (refuses : Hub → ℕ → Kind → Option HubFault → Type 0) (hub : Hub) (from : K) (all : List (Connection T)) (preparing : Bool) → preparing ≡ any_held_back all → TurnUpTo stands expects prepares taken coming made refuses hub from from all all 0 preparing false []
 turn_none stands expects prepares taken coming made refuses hub from all preparing is = record {
   is_now = is ∙ sym (or_false (any_held_back all));
   len = refl;
@@ -243,7 +242,7 @@ front_desk : {K : Type 0} (left : List K) (to : K) (k : ℕ) (d : K) → k < len
 front_desk left to k d under = get_or_append_left left (to ∷ []) d k under
 
 -- one more connection had its turn
-pub turn_more : {K T : Type 0} (stands : K → Condition) (expects : K → Command Edition → K → Type 0) (prepares : K → Result Bool Fault → K → Type 0) (taken coming : T → Option (List ℕ)) (made : T → Option (List Call)) (refuses : Hub → ℕ → Kind → Option HubFault → Type 0) (hub between : Hub) (from mid to : K) (old now : List (Connection T)) (i : ℕ) (one after : Connection T) (preparing later before here both : Bool) (es fs : List Accepted)
+pub turn_more : {K T : Type 0} (stands : K → Condition) (expects : K → Expected → K → Type 0) (prepares : K → Result Bool Fault → K → Type 0) (taken coming : T → Option (List ℕ)) (made : T → Option (List Call)) (refuses : Hub → ℕ → Kind → Option HubFault → Type 0) (hub between : Hub) (from mid to : K) (old now : List (Connection T)) (i : ℕ) (one after : Connection T) (preparing later before here both : Bool) (es fs : List Accepted)
     → AllPairs (λ a b. a.id < b.id) old → i < length old → get_or now i one ≡ one → later ≡ preparing || is_held_back after.held → both ≡ before || here → KeepsFrom old i hub between
     → Turns taken coming made preparing (IsRefused refuses between) one after here fs → AreCausedBy (stands to) one after fs → StaysForReader one.held.kind between mid to fs → HoldsBack expects prepares between mid to one after → ((stands mid).closed ≡ true → (stands to).closed ≡ true)
     → TurnUpTo stands expects prepares taken coming made refuses hub from mid old now i preparing before es → TurnUpTo stands expects prepares taken coming made refuses hub from to old (set now i after) (i + 1) later both (es ++ fs)
@@ -348,7 +347,7 @@ turn_more {K} {T} stands expects prepares taken coming made refuses hub between 
     }
 
 -- each had its turn
-pub turn_whole : {K T : Type 0} (stands : K → Condition) (expects : K → Command Edition → K → Type 0) (prepares : K → Result Bool Fault → K → Type 0) (taken coming : T → Option (List ℕ)) (made : T → Option (List Call)) (refuses : Hub → ℕ → Kind → Option HubFault → Type 0) (hub : Hub) (from to : K) (old now : List (Connection T)) (i : ℕ) (preparing moved : Bool) (events : List Accepted) → length old ≤ i
+pub turn_whole : {K T : Type 0} (stands : K → Condition) (expects : K → Expected → K → Type 0) (prepares : K → Result Bool Fault → K → Type 0) (taken coming : T → Option (List ℕ)) (made : T → Option (List Call)) (refuses : Hub → ℕ → Kind → Option HubFault → Type 0) (hub : Hub) (from to : K) (old now : List (Connection T)) (i : ℕ) (preparing moved : Bool) (events : List Accepted) → length old ≤ i
     → TurnUpTo stands expects prepares taken coming made refuses hub from to old now i preparing moved events → TurnAll stands expects prepares taken coming made refuses hub from to old now moved events
 turn_whole stands expects prepares taken coming made refuses hub from to old now i preparing moved events whole all =
     let at : i ≡ length old = let in_all = all.within in omega (arith, whole, in_all) in
@@ -370,7 +369,7 @@ turn_whole stands expects prepares taken coming made refuses hub from to old now
       by_id = all.by_id;
     }
 
-pub turn_ids : {K T : Type 0} {stands : K → Condition} {expects : K → Command Edition → K → Type 0} {prepares : K → Result Bool Fault → K → Type 0} {moved : Bool} {taken coming : T → Option (List ℕ)} {made : T → Option (List Call)} {refuses : Hub → ℕ → Kind → Option HubFault → Type 0} {hub : Hub} {from to : K} (old new : List (Connection T)) (events : List Accepted) → TurnAll stands expects prepares taken coming made refuses hub from to old new moved events → HaveSameIds old new
+pub turn_ids : {K T : Type 0} {stands : K → Condition} {expects : K → Expected → K → Type 0} {prepares : K → Result Bool Fault → K → Type 0} {moved : Bool} {taken coming : T → Option (List ℕ)} {made : T → Option (List Call)} {refuses : Hub → ℕ → Kind → Option HubFault → Type 0} {hub : Hub} {from to : K} (old new : List (Connection T)) (events : List Accepted) → TurnAll stands expects prepares taken coming made refuses hub from to old new moved events → HaveSameIds old new
 turn_ids old new events all = record { len = all.len; same = λ k d within. (all.turns k d within).id }
 
 pub depart_ids : {T : Type 0} {moved : Bool} {taken coming : T → Option (List ℕ)} {made : T → Option (List Call)} (old new : List (Connection T)) → DepartAll taken coming made old new moved → HaveSameIds old new
@@ -445,7 +444,7 @@ moves_opened a b one events opened departing last above own flows =
     }
 
 -- each had its turn
-pub moves_turned : {K T : Type 0} {G : Ghosts T} {stands : K → Condition} {expects : K → Command Edition → K → Type 0} {prepares : K → Result Bool Fault → K → Type 0} {taken coming : T → Option (List ℕ)} {made : T → Option (List Call)} {refuses : Hub → ℕ → Kind → Option HubFault → Type 0} {hub : Hub} {from to : K} (a b : Connections T G) (moved : Bool) (events : List Accepted) → TurnEach stands expects prepares taken coming made refuses hub from to a b moved events → Moves a b events
+pub moves_turned : {K T : Type 0} {G : Ghosts T} {stands : K → Condition} {expects : K → Expected → K → Type 0} {prepares : K → Result Bool Fault → K → Type 0} {taken coming : T → Option (List ℕ)} {made : T → Option (List Call)} {refuses : Hub → ℕ → Kind → Option HubFault → Type 0} {hub : Hub} {from to : K} (a b : Connections T G) (moved : Bool) (events : List Accepted) → TurnEach stands expects prepares taken coming made refuses hub from to a b moved events → Moves a b events
 moves_turned {taken = taken} {coming = coming} {made = made} a b moved events each =
     let last = each.last in
     let ids = turn_ids a.opened.items each.turned events each.turns in

@@ -1,11 +1,10 @@
 -- Rounds, one behind the others.
 use Rattle.std.proofs.Common.{◌≡◌, ◌-◌, ℕ, Bool, true, false, List, [], ◌∷◌, ◌++◌, refl, sym, ap, ◌∙◌, subst, inl, inr}
-use Rattle.dict_index.specs.Edition.{Edition}
-use Rattle.dict_catalogue.specs.Commands.{Command}
 use Rattle.dict_desk.specs.declared.fault.Fault.{Fault}
 use Rattle.std.specs.Prelude.{Option, None, Some, Result, Ok, Err, is_err, is_ok}
 use Rattle.std.specs.declared.io.Error.{Error}
 use Rattle.dict_catalogue.specs.Steps.{Catalogue}
+use Rattle.dict_preparing.specs.Expected.{Expected}
 use Rattle.dict_hub.specs.declared.fault.HubFault.{HubFault}
 use Rattle.dict_hub.specs.declared.hub.Hub.{Hub}
 use Rattle.dict_hub.specs.declared.kind.Kind.{Kind}
@@ -29,7 +28,7 @@ closed_by_summary false (Ok value) told shows is fails = absurd (let never : fal
 closed_by_summary false (Err fault) told shows is fails = absurd (let never : false ≡ true = shows refl in cc)
 
 module _ {K T S : Type 0} {G : transport.Ghosts T} (Shows : K → Catalogue → Type 0) (LeavesOneOf : K → List (Option Catalogue) → Type 0) (IsTrusted : K → Type 0) (has_failed is_closed : K → Bool)
-    (expects : K → Command Edition → K → Type 0) (prepares : K → Result Bool Fault → K → Type 0) (taken coming : T → Option (List ℕ)) (made : T → Option (List Call)) (refuses : Hub → ℕ → Kind → Option HubFault → Type 0) (asked : S → Option (List (Asking T))) (told : S → List ℕ) (wait : ℕ) where
+    (expects : K → Expected → K → Type 0) (prepares : K → Result Bool Fault → K → Type 0) (taken coming : T → Option (List ℕ)) (made : T → Option (List Call)) (refuses : Hub → ℕ → Kind → Option HubFault → Type 0) (asked : S → Option (List (Asking T))) (told : S → List ℕ) (wait : ℕ) where
   -- so far these were made, with so many that are left, and none of them ended it
   abbrev pub AreMade : ℕ → EventLoop T S G → K → EventLoop T S G → K → List (Round K T S G) → ℕ → Type 0
   AreMade rounds old desk now left [] rest = (rest ≡ rounds) × (now ≡ old) × (left ≡ desk)

@@ -1,8 +1,7 @@
 -- What a round does, call by call.
 use Rattle.std.specs.Prelude.{◌≡◌, ◌||◌, ℕ, nat_lt, Bool, true, List, [], ◌∷◌, ◌++◌, Option, Result, Ok, Err}
-use Rattle.dict_index.specs.Edition.{Edition}
-use Rattle.dict_catalogue.specs.Commands.{Command}
 use Rattle.dict_desk.specs.declared.fault.Fault.{Fault}
+use Rattle.dict_preparing.specs.Expected.{Expected}
 use Rattle.std.specs.declared.io.Error.{Error}
 use Rattle.dict_session.specs.Desks.{Condition}
 use Rattle.dict_hub.specs.Runs.{Accepted}
@@ -21,7 +20,7 @@ use Rattle.dict_driver.specs.Turning.{KeepsAllBut, MarkAll, any_held_back}
 use Rattle.dict_driver.specs.declared.connections.Connections.{Connections}
 use Rattle.dict_driver.specs.declared.event_loop.EventLoop.{EventLoop}
 
-module _ {K T S : Type 0} {G : transport.Ghosts T} (stands : K → Condition) (expects : K → Command Edition → K → Type 0) (prepares : K → Result Bool Fault → K → Type 0) (taken coming : T → Option (List ℕ)) (made : T → Option (List Call))
+module _ {K T S : Type 0} {G : transport.Ghosts T} (stands : K → Condition) (expects : K → Expected → K → Type 0) (prepares : K → Result Bool Fault → K → Type 0) (taken coming : T → Option (List ℕ)) (made : T → Option (List Call))
     (refuses : Hub → ℕ → Kind → Option HubFault → Type 0) (asked : S → Option (List (Asking T))) where
   -- The sockets are looked at without a wait, and those connections are marked of which the look told. Then the connections that wait at
   -- the socket for readers are taken, and then those at that for editors, unless octets of one are held back, by at most 16 calls each;

@@ -1,8 +1,7 @@
 -- What is done to each connection of a list, place by place.
 use Rattle.std.specs.Prelude.{◌≡◌, ◌≢◌, ◌<◌, ◌||◌, ℕ, Bool, true, false, List, [], ◌∷◌, Option, length, slice_index_or, take, Result}
-use Rattle.dict_index.specs.Edition.{Edition}
-use Rattle.dict_catalogue.specs.Commands.{Command}
 use Rattle.dict_desk.specs.declared.fault.Fault.{Fault}
+use Rattle.dict_preparing.specs.Expected.{Expected}
 use Rattle.dict_session.specs.Desks.{Condition}
 use Rattle.dict_hub.specs.Holding.{Holding}
 use Rattle.dict_hub.specs.Hubs.{Has}
@@ -57,7 +56,7 @@ pub record DepartAll {T : Type 0} (taken coming : T → Option (List ℕ)) (made
 -- one; a closed desk stays closed. What failed, that a reader's turn for which nothing is looked up left the desk as it was, and why octets
 -- are held back, is told of the desks of its turn. Each event is of one of these connections, in the order of their ids. Something happened
 -- where it did in one of the turns
-pub record TurnAll {K T : Type 0} (stands : K → Condition) (expects : K → Command Edition → K → Type 0) (prepares : K → Result Bool Fault → K → Type 0) (taken coming : T → Option (List ℕ)) (made : T → Option (List Call)) (refuses : Hub → ℕ → Kind → Option HubFault → Type 0) (hub : Hub) (from to : K) (old new : List (Connection T)) (moved : Bool) (events : List Accepted) : Type 0 where
+pub record TurnAll {K T : Type 0} (stands : K → Condition) (expects : K → Expected → K → Type 0) (prepares : K → Result Bool Fault → K → Type 0) (taken coming : T → Option (List ℕ)) (made : T → Option (List Call)) (refuses : Hub → ℕ → Kind → Option HubFault → Type 0) (hub : Hub) (from to : K) (old new : List (Connection T)) (moved : Bool) (events : List Accepted) : Type 0 where
   pub len : length new ≡ length old
   pub moves : List Bool
   pub count : length moves ≡ length old

@@ -5,7 +5,6 @@ ghost use Rattle.dict_connection.specs.Stages.{is_open};
 
 use crate::turning::{depart_all, have_bounded_room, is_any_held_back, mark_one, turn_all};
 use dict_connection::{Connection, Opening};
-use dict_desk::Keeper;
 use dict_hub::{Hub, Kind, MAX_OPEN};
 use dict_outlet::Transport;
 use dict_preparing::Preparer;
@@ -113,7 +112,7 @@ impl<T: Transport> Connections<T> {
 
     /// Opens a connection, or drops its transport where there is no place for it or the hub refuses it. Its id is then
     /// that of the next one.
-    pub fn admit<K: Keeper, O: Opening>(
+    pub fn admit<K: Preparer, O: Opening>(
         &mut self,
         opening: &O,
         transport: T,

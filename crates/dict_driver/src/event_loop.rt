@@ -8,7 +8,6 @@ ghost use Rattle.dict_driver.specs.Turning.{MarkAll};
 use crate::connections::Connections;
 use crate::listening::{Listening, listening_by};
 use crate::sockets::Sockets;
-use dict_desk::Keeper;
 use dict_hub::{Hub, Kind};
 use dict_outlet::Transport;
 use dict_preparing::Preparer;
@@ -142,7 +141,7 @@ impl<'h, T: Transport, S: Sockets<T>> EventLoop<'h, T, S> {
 
     // Takes the connections that wait at a listening socket, in the order in which it hands them out, at most 16. Whether one may
     // wait there still.
-    fn accept_all<K: Keeper>(&mut self, kind: Kind, desk: &mut K) -> bool
+    fn accept_all<K: Preparer>(&mut self, kind: Kind, desk: &mut K) -> bool
         ensures led { HasLedOn (K.is_trusted desk.new) (K.shows desk.old) (K.leaves_one_of desk.old) (K.shows desk.new) (K.leaves_one_of desk.new) self.old.hub self.new.hub
             (λ events. Moves self.old.connections self.new.connections events × HasAccepted S.refuses S.asked kind self.old self.new events) }
         ensures trust { K.is_trusted desk.new → K.is_trusted desk.old }
@@ -163,7 +162,7 @@ impl<'h, T: Transport, S: Sockets<T>> EventLoop<'h, T, S> {
     }
 
     // Asks a listening socket for a connection, and takes it. Whether one came, or the call is to be made again.
-    fn accept<K: Keeper>(&mut self, kind: Kind, desk: &mut K) -> bool
+    fn accept<K: Preparer>(&mut self, kind: Kind, desk: &mut K) -> bool
         ensures led { HasLedOn (K.is_trusted desk.new) (K.shows desk.old) (K.leaves_one_of desk.old) (K.shows desk.new) (K.leaves_one_of desk.new) self.old.hub self.new.hub
             (λ events. Moves self.old.connections self.new.connections events × HasAsked S.refuses S.asked kind self.old self.new events) }
         ensures trust { K.is_trusted desk.new → K.is_trusted desk.old }
@@ -189,7 +188,7 @@ impl<'h, T: Transport, S: Sockets<T>> EventLoop<'h, T, S> {
 
     // Takes the editors' connections that wait, at most 16, unless octets of one are held back: then the socket isn't asked.
     // Whether one may wait there still.
-    fn accept_editors<K: Keeper>(&mut self, desk: &mut K) -> bool
+    fn accept_editors<K: Preparer>(&mut self, desk: &mut K) -> bool
         ensures led { HasLedOn (K.is_trusted desk.new) (K.shows desk.old) (K.leaves_one_of desk.old) (K.shows desk.new) (K.leaves_one_of desk.new) self.old.hub self.new.hub
             (λ events. Moves self.old.connections self.new.connections events × HasLetIn S.refuses S.asked self.old self.new events) }
         ensures trust { K.is_trusted desk.new → K.is_trusted desk.old }
@@ -230,7 +229,7 @@ impl<'h, T: Transport, S: Sockets<T>> EventLoop<'h, T, S> {
     }
 
     // Opens the connection, or closes its socket where there is no place for it.
-    fn admit<K: Keeper>(&mut self, transport: T, kind: Kind, desk: &mut K)
+    fn admit<K: Preparer>(&mut self, transport: T, kind: Kind, desk: &mut K)
         ensures led { HasLedOn (K.is_trusted desk.new) (K.shows desk.old) (K.leaves_one_of desk.old) (K.shows desk.new) (K.leaves_one_of desk.new) self.old.hub self.new.hub
             (λ events. Moves self.old.connections self.new.connections events × HasTaken S.refuses S.asked transport kind self.old self.new events) }
         ensures trust { K.is_trusted desk.new → K.is_trusted desk.old }

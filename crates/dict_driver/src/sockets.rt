@@ -7,10 +7,10 @@ ghost use Rattle.mio.specs.Events.{items};
 ghost use Rattle.dict_driver.specs.Asking.{Asking, Asks, looks, accepts, watches};
 
 use dict_connection::{Opening, PIECE, greet_by_hub, hand_by_hub};
-use dict_desk::Keeper;
 use dict_hub::{Hub, HubFault, Kind, Out};
 use dict_io::Sink;
 use dict_outlet::{Queue, Socket, Transport};
+use dict_preparing::Preparer;
 use mio::net::TcpListener;
 use mio::{Events, Poll, Token};
 use std::alloc::{AllocError, Global};
@@ -90,7 +90,7 @@ impl Opening for SystemSockets {
         Vec::with_capacity(alloc, PIECE)
     }
 
-    fn greet<K: Keeper>(
+    fn greet<K: Preparer>(
         &self,
         hub: &mut Hub,
         desk: &mut K,
@@ -101,7 +101,7 @@ impl Opening for SystemSockets {
         greet_by_hub(hub, desk, id, kind, queue)
     }
 
-    fn hand<K: Keeper, S: Sink>(
+    fn hand<K: Preparer, S: Sink>(
         &self,
         hub: &mut Hub,
         desk: &mut K,
