@@ -1,11 +1,10 @@
 -- What each status tells of how the program ended.
 use Rattle.std.proofs.Common.{◌≡◌, ℕ, ◌≤◌, List, Option, Ok, Err, refl, inl, inr, arith, subst}
-use Rattle.dict_index.specs.Edition.{Edition as AnEdition}
-use Rattle.dict_catalogue.specs.Commands.{Command}
 use Rattle.dict_desk.specs.declared.fault.Fault.{Fault}
 use Rattle.std.specs.Prelude.{◌⊎◌, Bool, Result}
 use Rattle.dict_desk.specs.Plain.{PlainState}
 use Rattle.dict_desk.specs.declared.lookup.Lookup as lookup
+use Rattle.dict_preparing.specs.Expected.{Expected}
 use Rattle.dict_driver.specs.declared.binding.Network as network
 use Rattle.dict_driver.specs.declared.sockets.SystemSockets.{SystemSockets}
 use Rattle.dict_io.specs.Streams.{StreamChange}
@@ -103,7 +102,7 @@ spared_other (CannotBind address) reader writer h other = h
 spared_other CannotWait reader writer h other = h
 spared_other Memory reader writer h other = h
 
-module _ {K D B L : Type 0} (k : lookup.Ghosts K) (d : desks.Ghosts D K) (c : catalogues.Ghosts D K) (n : network.Ghosts B L SystemSockets) (expects : K → Command AnEdition → K → Type 0) (prepares : K → Result Bool Fault → K → Type 0) (plain : PlainState) (old new : D) where
+module _ {K D B L : Type 0} (k : lookup.Ghosts K) (d : desks.Ghosts D K) (c : catalogues.Ghosts D K) (n : network.Ghosts B L SystemSockets) (expects : K → Expected → K → Type 0) (prepares : K → Result Bool Fault → K → Type 0) (plain : PlainState) (old new : D) where
   -- a status is at most 4
   pub statuses : (files : List ℕ → Option (List ℕ)) (words : List (List ℕ)) (status : ℕ) (reader writer faults : StreamChange)
       → CommandEnds k d c n expects prepares files plain old new words status reader writer faults → status ≤ 4

@@ -12,6 +12,7 @@ use Rattle.dict_serving.specs.declared.desks.DeskOpener as desks
 use Rattle.dict_catalogue.specs.declared.reply.Kept.{Kept}
 use Rattle.dict_catalogue.specs.Steps.{Catalogue}
 use Rattle.dict_desk.specs.declared.fault.Fault.{Fault as DeskFault, Fault}
+use Rattle.dict_preparing.specs.Expected.{Expected}
 use Rattle.dict_messages.specs.Faults.{status_of}
 use Rattle.dict_messages.specs.Writing.{IsUntouched, Writes}
 use Rattle.dict_messages.specs.declared.fault.ProgramFault.{ProgramFault}
@@ -91,7 +92,7 @@ module _ {K D : Type 0} (k : lookup.Ghosts K) (d : desks.Ghosts D K) where
   task_spoils files old new path name id (Virtual title members) fault writer h = change_spoils path id (put_virtual name title.now (words_shown members.items)) old new fault writer h
   task_spoils files old new path name id (Place at) fault writer h = change_spoils path id (place name at) old new fault writer h
 
-  module _ {B L : Type 0} (n : network.Ghosts B L SystemSockets) (expects : K → Command AnEdition → K → Type 0) (prepares : K → Result Bool Fault → K → Type 0) (old new : D) where
+  module _ {B L : Type 0} (n : network.Ghosts B L SystemSockets) (expects : K → Expected → K → Type 0) (prepares : K → Result Bool Fault → K → Type 0) (old new : D) where
     serves_spoils : (path dict http : List ℕ) (rounds : Option ℕ) (fault : ProgramFault) (writer : StreamChange) → ServesOn k d n expects prepares path dict http rounds old new (Err fault) writer
         → Spoils fault writer ⊎ IsServedUntil k d expects prepares path dict http rounds old new fault writer
     unfolding Rattle.dict_program.specs.Working.ServesOn
@@ -122,7 +123,7 @@ module _ {K D : Type 0} (k : lookup.Ghosts K) (d : desks.Ghosts D K) (c : catalo
   audit_spoils path old new fault writer (inl h) = inl h.4
   audit_spoils path old new fault writer (inr (desk, left, closed, is, does, shut, (audited, read, stays, told, alone))) = sound_spoils audited closed fault writer told
 
-  module _ (expects : K → Command AnEdition → K → Type 0) (prepares : K → Result Bool Fault → K → Type 0) (plain : PlainState) (old new : D) where
+  module _ (expects : K → Expected → K → Type 0) (prepares : K → Result Bool Fault → K → Type 0) (plain : PlainState) (old new : D) where
     pub spoiled_failed : (words : List (List ℕ)) (fault : ProgramFault) (reader writer : StreamChange) → IsUntouched reader → Spoils fault writer → IsFailed k d c expects prepares plain old new words reader writer
     spoiled_failed words fault reader writer r (inl h) = inl (r, h)
     spoiled_failed words fault reader writer r (inr h) = inr (inr (inl (r, h.1)))

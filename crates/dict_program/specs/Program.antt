@@ -1,13 +1,13 @@
 -- How the program ends.
 use Rattle.std.specs.Prelude.{◌≡◌, ◌≢◌, ℕ, ◌⊎◌, List, ◌++◌, Option, Result, Ok, Err, codes, ⊤, Bool}
-use Rattle.dict_index.specs.Edition.{Edition}
 use Rattle.dict_desk.specs.declared.fault.Fault.{Fault}
 use Rattle.clap.specs.Kinds.{IsAmong}
 use Rattle.clap.specs.declared.error.kind.ErrorKind.{ErrorKind}
 use Rattle.clap.specs.declared.error.kind.ErrorKind.TheVariants as kinds
-use Rattle.dict_catalogue.specs.Commands.{Command, rollback, retire, put_virtual, place}
+use Rattle.dict_catalogue.specs.Commands.{rollback, retire, put_virtual, place}
 use Rattle.dict_desk.specs.Plain.{PlainState}
 use Rattle.dict_desk.specs.declared.lookup.Lookup as lookup
+use Rattle.dict_preparing.specs.Expected.{Expected}
 use Rattle.dict_driver.specs.declared.binding.Network as network
 use Rattle.dict_driver.specs.declared.sockets.SystemSockets.{SystemSockets}
 use Rattle.dict_io.specs.Streams.{StreamChange, HasFailed, Puts, PutsAll, PutsFront}
@@ -89,7 +89,7 @@ AnswerEnds words status reader writer faults =
 
 -- By what is known of desks, and of what makes, opens and closes them, and what desks were told of and prepared; of the catalogue in memory as
 -- it was left, and of these before and after.
-module _ {K D : Type 0} (k : lookup.Ghosts K) (d : desks.Ghosts D K) (c : catalogues.Ghosts D K) (expects : K → Command Edition → K → Type 0) (prepares : K → Result Bool Fault → K → Type 0) where
+module _ {K D : Type 0} (k : lookup.Ghosts K) (d : desks.Ghosts D K) (c : catalogues.Ghosts D K) (expects : K → Expected → K → Type 0) (prepares : K → Result Bool Fault → K → Type 0) where
   -- a session over a lawful database, or over the catalogue of the file that was asked for, was ended by a fault of its reader, its
   -- writer or its desk
   abbrev pub IsBroken : PlainState → D → D → List (List ℕ) → StreamChange → StreamChange → Type 0
@@ -136,7 +136,7 @@ module _ {K D : Type 0} (k : lookup.Ghosts K) (d : desks.Ghosts D K) (files : Li
   ChangeTaskEnds old new file name id (changes.Virtual title members) end writer = ChangeEnds k d file id (put_virtual name title.now (words_shown members.items)) old new end writer
   ChangeTaskEnds old new file name id (changes.Place at) end writer = ChangeEnds k d file id (place name at) old new end writer
 
-module _ {K D B L : Type 0} (k : lookup.Ghosts K) (d : desks.Ghosts D K) (c : catalogues.Ghosts D K) (n : network.Ghosts B L SystemSockets) (expects : K → Command Edition → K → Type 0) (prepares : K → Result Bool Fault → K → Type 0) (files : List ℕ → Option (List ℕ)) (plain : PlainState) (old new : D) where
+module _ {K D B L : Type 0} (k : lookup.Ghosts K) (d : desks.Ghosts D K) (c : catalogues.Ghosts D K) (n : network.Ghosts B L SystemSockets) (expects : K → Expected → K → Type 0) (prepares : K → Result Bool Fault → K → Type 0) (files : List ℕ → Option (List ℕ)) (plain : PlainState) (old new : D) where
   -- a task ends so
   abbrev pub TaskEnds : Task → Result (Unit {0}) ProgramFault → StreamChange → StreamChange → Type 0
   TaskEnds (tasks.Plain name index text) end reader writer = FilesEnd (standing plain) files name.now index.now text.now end reader writer × (new ≡ old)

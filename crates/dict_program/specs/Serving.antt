@@ -1,9 +1,8 @@
 -- What comes of serving a file's catalogue, whatever opens it.
 use Rattle.std.specs.Prelude.{ℕ, List, Option, Err, Bool, Result}
-use Rattle.dict_index.specs.Edition.{Edition}
-use Rattle.dict_catalogue.specs.Commands.{Command}
 use Rattle.dict_desk.specs.declared.fault.Fault.{Fault}
 use Rattle.dict_desk.specs.declared.lookup.Lookup as lookup
+use Rattle.dict_preparing.specs.Expected.{Expected}
 use Rattle.dict_io.specs.Streams.{StreamChange}
 use Rattle.dict_messages.specs.declared.fault.ProgramFault.{ProgramFault}
 use Rattle.dict_serving.specs.Deeds.{WasShut}
@@ -16,7 +15,7 @@ abbrev pub WasShutBy : {K D : Type 0} → lookup.Ghosts K → desks.Ghosts D K �
 WasShutBy k d = WasShut k.shows k.leaves_one_of k.is_trusted d.is_safe d.holds_alone d.still_leaves d.is_uncopied
 
 -- the catalogue of the file with a path was served at two addresses, which were told, until this fault ended it
-abbrev pub IsServedUntil : {K D : Type 0} → lookup.Ghosts K → desks.Ghosts D K → (K → Command Edition → K → Type 0) → (K → Result Bool Fault → K → Type 0) → List ℕ → List ℕ → List ℕ → Option ℕ → D → D → ProgramFault → StreamChange → Type 0
+abbrev pub IsServedUntil : {K D : Type 0} → lookup.Ghosts K → desks.Ghosts D K → (K → Expected → K → Type 0) → (K → Result Bool Fault → K → Type 0) → List ℕ → List ℕ → List ℕ → Option ℕ → D → D → ProgramFault → StreamChange → Type 0
 IsServedUntil k d expects prepares path dict http rounds old new fault writer =
     (desk : _) × (served : HasServed k.shows k.leaves_one_of k.is_trusted d.is_opened k.has_failed k.is_closed expects prepares desk dict http rounds (Err fault) (WasShutBy k d new) (IsNotReopened k.leaves_one_of d.is_unreopened d.still_leaves new path) writer)
     × WasDone (WasShutBy k d new) (d.history old) (d.history new) path desk served.stretches

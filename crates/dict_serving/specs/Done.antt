@@ -1,9 +1,8 @@
 -- What was done to the file whose catalogue was served.
 use Rattle.std.specs.Prelude.{◌≡◌, ◌⊎◌, ◌++◌, ℕ, Bool, List, [], ◌∷◌, Option, Some, None, MatchOption, Result, Ok, Err, ⊤}
-use Rattle.dict_index.specs.Edition.{Edition}
-use Rattle.dict_catalogue.specs.Commands.{Command}
 use Rattle.dict_desk.specs.declared.fault.Fault.{Fault}
 use Rattle.dict_catalogue.specs.Steps.{Catalogue}
+use Rattle.dict_preparing.specs.Expected.{Expected}
 use Rattle.dict_io.specs.Streams.{StreamChange}
 use Rattle.dict_driver.specs.declared.driver.Driver.{Driver}
 use Rattle.dict_messages.specs.Writing.{IsUntouched}
@@ -49,7 +48,7 @@ WasDone {K} Shut old new path desk stretches =
     × MatchOption last ⊤ Shut
 
 module _ {K : Type 0} (Shows : K → Catalogue → Type 0) (LeavesOneOf : K → List (Option Catalogue) → Type 0) (IsTrusted : K → Type 0) (IsOpened : Option K → K → Type 0)
-    (has_failed is_closed : K → Bool) (expects : K → Command Edition → K → Type 0) (prepares : K → Result Bool Fault → K → Type 0)
+    (has_failed is_closed : K → Bool) (expects : K → Expected → K → Type 0) (prepares : K → Result Bool Fault → K → Type 0)
     (Begins : List ℕ → List ℕ → Result Driver ProgramFault → StreamChange → Type 0) where
   -- There is no desk of the file; or there is, and no sockets were bound to both addresses, or they couldn't be told, and it was closed;
   -- or they were, it was served, and the driver that is kept is the one that served it. Nothing else was done to any file

@@ -1,11 +1,10 @@
 -- How serving goes: the stretches of rounds, one for each opening of the file.
 use Rattle.std.specs.Prelude.{◌≡◌, ◌⊎◌, ◌+◌, ℕ, Bool, true, false, List, [], ◌∷◌, Option, None, Some, Contains, Result, Ok, Err, codes, ⊤}
-use Rattle.dict_catalogue.specs.Commands.{Command}
 use Rattle.dict_desk.specs.declared.fault.Fault.{Fault}
 use Rattle.std.specs.declared.io.Error.{Error}
 use Rattle.std.specs.declared.io.ErrorKind.{ErrorKind}
-use Rattle.dict_index.specs.Edition.{Edition}
 use Rattle.dict_catalogue.specs.Steps.{Catalogue}
+use Rattle.dict_preparing.specs.Expected.{Expected}
 use Rattle.dict_io.specs.Streams.{StreamChange, PutsAll}
 use Rattle.dict_hub.specs.Runs.{IsAt, beginning}
 use Rattle.dict_connection.specs.Leading.{HasLedOn}
@@ -113,7 +112,7 @@ Ends is_closed Shut Unreopened stretches driver (Err fault) = (CannotWait driver
 -- By what a desk shows, what a stop may leave of it, that what it stands on has returned what was written, that it was opened, whether
 -- its last call failed and its store has, and what it was told of and prepared.
 module _ {K : Type 0} (Shows : K → Catalogue → Type 0) (LeavesOneOf : K → List (Option Catalogue) → Type 0) (IsTrusted : K → Type 0) (IsOpened : Option K → K → Type 0)
-    (has_failed is_closed : K → Bool) (expects : K → Command Edition → K → Type 0) (prepares : K → Result Bool Fault → K → Type 0) where
+    (has_failed is_closed : K → Bool) (expects : K → Expected → K → Type 0) (prepares : K → Result Bool Fault → K → Type 0) where
   -- Over the desk of one opening events led the hub from where it was to where it is, and what waits for each connection is what
   -- waited and what its own events put, without a front that was sent. So many rounds were made more than before, of those that were to be
   -- made, each from where the one before it ended
