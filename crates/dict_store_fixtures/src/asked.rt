@@ -74,6 +74,11 @@ impl Source {
             Source::Alike => 4,
         }
     }
+
+    /// The index and the text. None of a source that isn't listed, which there is none of.
+    pub fn files(self) -> Option<(&'static [u8], &'static [u8])> {
+        SOURCES.get(self.place()).copied()
+    }
 }
 
 impl Asked {

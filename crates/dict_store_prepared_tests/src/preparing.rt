@@ -1,11 +1,11 @@
 //! A change that is prepared part by part: what is shown meanwhile, and what comes of it.
 
 use crate::checks::{holds, same_text};
-use dict_catalogue::Command;
+use dict_catalogue::{Command, Kept};
 use dict_desk::{Fault, Keeper, Lookup, PlainDesk};
-use dict_index::{Edition, read_edition};
+use dict_index::{Edition, EditionRefusal, read_edition};
 use dict_match::{Strategy, key_of};
-use dict_preparing::Preparer;
+use dict_preparing::{Answered, Preparer};
 use dict_store::Desk;
 use dict_store_fixtures::{
     Asked, Editions, Rows, Source, accept_all, connection_of, desk_over, listed, read_editions,
@@ -29,10 +29,33 @@ static BEGUN: [(&str, Asked); 3] = [
 // The edition that comes, with so long a text that it is prepared by more than one part: a part takes 1,048,576 octets.
 const LONG_INDEX: &[u8] = b"00-database-short\tA\tE\nopal\tE\tC\n";
 
+// Files with this index are no edition.
+const UNTITLED_INDEX: &[u8] = b"opal\tE\tC\n";
+
+const NAME: &str = "gem";
+
 const LONG_OCTETS: usize = 2_500_000;
 
 fn long_text(alloc: Global) -> Result<Vec<u8>, AllocError> {
     Vec::from_elem(alloc, b'x', LONG_OCTETS)
+}
+
+// As long a text, of which the last octet is another one.
+fn other_text(alloc: Global) -> Result<Vec<u8>, AllocError> {
+    let mut text = Vec::from_elem(alloc, b'x', LONG_OCTETS - 1)?;
+    text.push(b'y')?;
+    Ok(text)
+}
+
+/// The files by which an install comes.
+#[derive(Clone, Copy)]
+enum Files {
+    /// Those of the edition that comes.
+    These,
+    /// Its index, and another text.
+    OtherText,
+    /// Its text, and an index without a title.
+    Untitled,
 }
 
 const BEFORE: &str = "gem Gems 3/1; ore Ores 2; opal=0!/opal=6!/iron=iron\n  ore\n/";
@@ -43,13 +66,19 @@ const AFTER: &str = "gem xxxx 4/3; ore Ores 2; opal=0!/opal=6!/iron=iron\n  ore\
 #[derive(Clone, Copy)]
 enum Act {
     /// The desk is told of a command.
-    Expect(Option<Asked>),
+    Expect(Asked),
+    /// It is told of an install under a name by its files.
+    ExpectFiles(&'static str, Files),
     /// So many parts are prepared at most, and whether that was all.
     Parts(usize, bool),
     /// One part is prepared, and whether there is more.
     Part(bool),
     /// A command is answered so.
     Apply(&'static str, Option<Asked>, &'static str),
+    /// The install that comes is answered so under an id: by what was prepared of its files, or else as a command.
+    Come(&'static str, bool, &'static str),
+    /// Files without a title are refused.
+    Refuse,
     /// Whether a reply is kept under this id.
     Kept(&'static str, bool),
     /// This is shown of the editions that sessions ask.
@@ -64,10 +93,12 @@ enum Act {
     Audit,
 }
 
-/// The command that comes, the editions of others, and what lists show before it, and behind it.
+/// The command that comes, its text and another one, the editions of others, and what lists show before it, and behind it.
 #[derive(Clone, Copy)]
 struct Coming<'a> {
     next: Command<'a>,
+    text: &'a [u8],
+    other: &'a [u8],
     editions: &'a Editions,
     before: &'a str,
     behind: &'a str,
@@ -125,6 +156,46 @@ fn command_of<'a>(coming: &Coming<'a>, asked: Option<Asked>) -> Command<'a> {
     }
 }
 
+fn files_of<'a>(coming: &Coming<'a>, files: Files) -> (&'a [u8], &'a [u8]) {
+    match files {
+        Files::These => (LONG_INDEX, coming.text),
+        Files::OtherText => (LONG_INDEX, coming.other),
+        Files::Untitled => (UNTITLED_INDEX, coming.text),
+    }
+}
+
+// The install comes, by its files where they are prepared, and else as a command.
+fn come<P: Preparer>(
+    rt: &impl Abort,
+    desk: &mut P,
+    coming: &Coming<'_>,
+    id: &str,
+    is_prepared: bool,
+) -> Result<Result<Kept, Fault>, Fail> {
+    match desk.answer_prepared(id, NAME, LONG_INDEX, coming.text)? {
+        Some(Answered::Done(answer)) => {
+            holds(rt, is_prepared, "what was prepared");
+            Ok(answer)
+        }
+        Some(Answered::Refused { .. }) => Err(Fail::new("refused")),
+        None => {
+            holds(rt, !is_prepared, "what wasn't prepared");
+            Ok(desk.apply(id, &coming.next))
+        }
+    }
+}
+
+// Files without a title come, and are refused for just that.
+fn refuse<P: Preparer>(rt: &impl Abort, desk: &mut P, coming: &Coming<'_>) -> Result<(), Fail> {
+    let answered = desk.answer_prepared("d", NAME, UNTITLED_INDEX, coming.text)?;
+    let Some(Answered::Refused { refusal, line }) = answered else {
+        return Err(Fail::new("not refused"));
+    };
+    holds(rt, refusal == EditionRefusal::NoTitle, "no title");
+    holds(rt, line.is_none(), "no line");
+    Ok(())
+}
+
 // What is told of a desk that is looked at.
 fn told_by<P: Preparer>(alloc: Global, desk: &mut P, act: Act) -> Result<String, Fault> {
     match act {
@@ -144,7 +215,11 @@ fn act_on<P: Preparer>(
     act: Act,
 ) -> Result<(), Fail> {
     match act {
-        Act::Expect(asked) => desk.expect(&command_of(coming, asked))?,
+        Act::Expect(asked) => desk.expect(&asked.command(coming.editions))?,
+        Act::ExpectFiles(name, files) => {
+            let (index, text) = files_of(coming, files);
+            desk.expect_install(name, index, text)?;
+        }
         Act::Parts(most, is_end) => holds(
             rt,
             prepare_parts(rt, alloc, desk, most)? == is_end,
@@ -155,6 +230,11 @@ fn act_on<P: Preparer>(
             let answer = desk.apply(id, &command_of(coming, asked));
             same_text(rt, told(alloc, &answer)?.as_str(), wanted, "the reply");
         }
+        Act::Come(id, is_prepared, wanted) => {
+            let answer = come(rt, desk, coming, id, is_prepared)?;
+            same_text(rt, told(alloc, &answer)?.as_str(), wanted, "the reply");
+        }
+        Act::Refuse => refuse(rt, desk, coming)?,
         Act::Kept(id, is_kept) => holds(rt, desk.kept(id)?.is_some() == is_kept, id),
         Act::Shows(wanted) | Act::Lists(wanted) | Act::Finds(_, wanted) => {
             same_text(rt, told_by(alloc, desk, act)?.as_str(), wanted, "a look");
@@ -260,13 +340,19 @@ fn run_with(
     alloc: Global,
     editions: &Editions,
     edition: &Edition,
+    text: &[u8],
     runs: &[&[&[Act]]],
 ) -> Result<(), Fail> {
-    let name = "gem";
-    let next = Command::Install { name, edition };
+    let next = Command::Install {
+        name: NAME,
+        edition,
+    };
     let (before, behind) = shown_around(alloc, &mut PlainDesk::new(alloc), editions, &next)?;
+    let other = other_text(alloc)?;
     let coming = Coming {
         next,
+        text,
+        other: other.as_slice(),
         editions,
         before: before.as_str(),
         behind: behind.as_str(),
@@ -285,7 +371,7 @@ fn run_over(
     runs: &[&[&[Act]]],
 ) -> Result<(), Fail> {
     let edition = read_edition(alloc, LONG_INDEX, text)?;
-    run_with(rt, alloc, editions, &edition, runs)
+    run_with(rt, alloc, editions, &edition, text, runs)
 }
 
 // The edition that comes has the long text.
@@ -295,19 +381,27 @@ fn over_a_long_text(rt: &impl Abort, alloc: Global, runs: &[&[&[Act]]]) -> Resul
     run_over(rt, alloc, &editions, text.as_slice(), runs)
 }
 
-// The command that comes, and what is shown then.
-const NEXT: Act = Act::Apply("d", None, "4 Install gem Some(4)");
+// The install that comes is noted by its files.
+const EXPECT: Act = Act::ExpectFiles(NAME, Files::These);
+
+// It comes, and was prepared, or not.
+const PREPARED_ONE: Act = Act::Come("d", true, "4 Install gem Some(4)");
+
+const NEXT: Act = Act::Come("d", false, "4 Install gem Some(4)");
 
 const WHOLE: Act = Act::Parts(MAX_PARTS, true);
+
+// The files are read, and some parts are filed.
+const SOME: Act = Act::Parts(5, false);
 
 const UNPREPARED: &[&[Act]] = &[&[NEXT, Act::Shows(AFTER), Act::Audit, Act::All(true)]];
 
 const PART_BY_PART: &[&[Act]] = &[&[
-    Act::Expect(None),
+    EXPECT,
     WHOLE,
     Act::Part(false),
     Act::Shows(BEFORE),
-    NEXT,
+    PREPARED_ONE,
     Act::Shows(AFTER),
     Act::Audit,
     Act::All(true),
@@ -323,8 +417,8 @@ fn an_install_is_prepared_part_by_part(rt: HostRuntime) -> Result<(), Fail> {
 // All editions are asked, of which a former one ends what was prepared.
 static ASKED: [&[&[Act]]; 1] = [&[&[
     Act::All(false),
-    Act::Expect(None),
-    Act::Parts(2, false),
+    EXPECT,
+    SOME,
     Act::All(false),
     Act::Part(false),
     NEXT,
@@ -340,7 +434,7 @@ fn a_former_edition_is_asked_meanwhile(rt: HostRuntime) -> Result<(), Fail> {
 
 // Of the edition that didn't come nothing is found, and the one that stays answers.
 static ANOTHER: [&[&[Act]]; 1] = [&[&[
-    Act::Expect(None),
+    EXPECT,
     WHOLE,
     Act::Apply("x", Some(Asked::Retire("ore")), "4 Retire ore None"),
     Act::Lists("gem Gems 3/1; "),
@@ -355,7 +449,7 @@ fn another_command_comes_between(rt: HostRuntime) -> Result<(), Fail> {
 }
 
 static IDS: [&[&[Act]]; 1] = [&[&[
-    Act::Expect(None),
+    EXPECT,
     WHOLE,
     Act::Kept("a", true),
     Act::Kept("d", false),
@@ -373,7 +467,7 @@ fn a_kept_id_and_an_unlawful_one_come_between(rt: HostRuntime) -> Result<(), Fai
 }
 
 static OPENED_AGAIN: [&[&[Act]]; 1] = [&[
-    &[Act::Expect(None), Act::Parts(2, false)],
+    &[EXPECT, SOME],
     &[Act::Shows(BEFORE), NEXT, Act::Shows(AFTER), Act::Audit],
 ]];
 
@@ -384,19 +478,19 @@ fn a_desk_is_opened_again_meanwhile(rt: HostRuntime) -> Result<(), Fail> {
 
 // Of each of these three commands nothing is prepared.
 static OTHERS: [&[&[Act]]; 1] = [&[&[
-    Act::Expect(None),
+    EXPECT,
     Act::Part(true),
-    Act::Expect(Some(Asked::Retire("ore"))),
+    Act::Expect(Asked::Retire("ore")),
     Act::Part(false),
     Act::Shows(BEFORE),
-    Act::Expect(None),
+    EXPECT,
     Act::Part(true),
-    Act::Expect(Some(Asked::Rollback("gem"))),
+    Act::Expect(Asked::Rollback("gem")),
     Act::Part(false),
     Act::Shows(BEFORE),
-    Act::Expect(None),
+    EXPECT,
     Act::Part(true),
-    Act::Expect(Some(Asked::Install("", Source::Gems))),
+    Act::Expect(Asked::Install("", Source::Gems)),
     Act::Part(false),
     Act::Shows(BEFORE),
 ]]];
@@ -404,4 +498,37 @@ static OTHERS: [&[&[Act]]; 1] = [&[&[
 #[test]
 fn nothing_is_prepared_of_other_commands(rt: HostRuntime) -> Result<(), Fail> {
     over_a_long_text(&rt, rt.alloc(), &OTHERS)
+}
+
+// Files of which one differs in an octet, or which come under another name, aren't answered by what was prepared.
+static OTHER_FILES: [&[&[Act]]; 1] = [&[&[
+    Act::ExpectFiles(NAME, Files::OtherText),
+    WHOLE,
+    NEXT,
+    Act::Shows(AFTER),
+    Act::ExpectFiles("ore", Files::These),
+    Act::Part(true),
+    Act::Come("e", false, "5 Install gem Some(5)"),
+    Act::Audit,
+]]];
+
+#[test]
+fn other_files_come(rt: HostRuntime) -> Result<(), Fail> {
+    over_a_long_text(&rt, rt.alloc(), &OTHER_FILES)
+}
+
+// Files that are no edition are refused by the first test that they don't pass, and nothing is filed.
+static REFUSED: [&[&[Act]]; 1] = [&[&[
+    Act::ExpectFiles(NAME, Files::Untitled),
+    WHOLE,
+    Act::Kept("d", false),
+    Act::Refuse,
+    Act::Shows(BEFORE),
+    Act::Audit,
+    Act::All(false),
+]]];
+
+#[test]
+fn files_are_refused(rt: HostRuntime) -> Result<(), Fail> {
+    over_a_long_text(&rt, rt.alloc(), &REFUSED)
 }

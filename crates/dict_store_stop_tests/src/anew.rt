@@ -3,7 +3,7 @@
 use crate::files::{Octets, opened, options};
 use dict_desk::{Fault, Keeper, Lookup};
 use dict_failing_disk::failing_disk;
-use dict_preparing::Preparer;
+use dict_preparing::{Answered, Preparer};
 use dict_store::{Desk, Unopened};
 use dict_store_fixtures::{Asked, Editions, Source, desk_over, listed};
 use sqlite::{Alter, Connection, FileStore, Files};
@@ -67,6 +67,30 @@ fn prepare_parts<S: Alter + Drop>(desk: &mut Desk<S>) -> bool {
     false
 }
 
+// Notes the next edition of gem by its files. Whether that was done.
+fn expect_next<S: Alter + Drop>(desk: &mut Desk<S>) -> bool {
+    match Source::Alike.files() {
+        Some((index, text)) => desk.expect_install("gem", index, text).is_ok(),
+        None => false,
+    }
+}
+
+// The next edition of gem comes: whether it was installed. It is answered by what was prepared of its files, or else applied.
+fn come_next<S: Alter + Drop>(desk: &mut Desk<S>, editions: &Editions, id: &str) -> bool {
+    let Some((index, text)) = Source::Alike.files() else {
+        return false;
+    };
+    match desk.answer_prepared(id, "gem", index, text) {
+        Ok(Some(Answered::Done(outcome))) => outcome.is_ok(),
+        Ok(Some(Answered::Refused { .. })) => false,
+        Ok(None) => {
+            let command = Asked::Install("gem", Source::Alike).command(editions);
+            desk.apply(id, &command).is_ok()
+        }
+        Err(_) => false,
+    }
+}
+
 // Does it over a desk.
 fn do_work<S: Alter + Drop>(desk: &mut Desk<S>, editions: &Editions, work: Work) -> Done {
     let (id, asked) = match work {
@@ -74,11 +98,14 @@ fn do_work<S: Alter + Drop>(desk: &mut Desk<S>, editions: &Editions, work: Work)
         Work::Retire => ("r", Asked::Retire("gem")),
         Work::Prepare | Work::PrepareAndInstall => ("c", Asked::Install("gem", Source::Alike)),
     };
-    let command = asked.command(editions);
     let prepares = work == Work::Prepare || work == Work::PrepareAndInstall;
-    let is_expected = prepares && desk.expect(&command).is_ok();
+    let is_expected = prepares && expect_next(desk);
     let is_whole = prepares && prepare_parts(desk);
-    let is_applied = work != Work::Prepare && desk.apply(id, &command).is_ok();
+    let is_applied = match work {
+        Work::Prepare => false,
+        Work::PrepareAndInstall => come_next(desk, editions, id),
+        Work::Install | Work::Retire => desk.apply(id, &asked.command(editions)).is_ok(),
+    };
     Done {
         is_prepared: is_expected && is_whole,
         is_applied,
