@@ -1,9 +1,11 @@
 // A desk that prepares.
-ghost use Rattle.std.specs.Prelude.{◌≡◌, ℕ};
+ghost use Rattle.std.specs.Prelude.{◌≡◌, ◌≢◌, ℕ, IfErr, Err, false};
+ghost use Rattle.dict_desk.specs.Faults.{IsOfCommand, has_closed_by, has_failed_by};
+ghost use Rattle.dict_desk.specs.declared.fault.Fault.TheVariants as faults;
 
 use dict_catalogue::{Command, Kept, Summary};
 use dict_desk::{End, Fault, Keeper, Lookup, PlainDesk, RowSink, What};
-use dict_index::{IndexFault, read_edition};
+use dict_index::{Edition, IndexFault, read_edition};
 use dict_match::{Key, Strategy};
 use dict_preparing::{Answered, Preparer};
 use std::alloc::{AllocError, Global};
@@ -77,6 +79,17 @@ impl PartsDesk {
     /// Of the install that it was told of last, and has not let go of: its name, and how many octets its index and its text have.
     pub fn noted(&self) -> &str {
         self.noted.as_str()
+    }
+
+    // Does an install that it had prepared.
+    fn install(&mut self, id: &str, name: &str, edition: &Edition) -> Result<Kept, Fault>
+        ensures kinds { IfErr result IsOfCommand }
+        ensures failed { self.new.desk.has_failed ≡ has_failed_by result }
+        ensures closes { has_closed_by result ≡ false }
+        ensures closed { result ≢ Err faults.Closed }
+    {
+        self.answered = self.answered.saturating_add(1);
+        self.apply(id, &Command::Install { name, edition })
     }
 
     // Whether it was told of this install last, and no part is left.
@@ -213,12 +226,7 @@ impl Preparer for PartsDesk {
             return Ok(None);
         }
         match read_edition(self.alloc, index, text) {
-            Ok(edition) => {
-                self.answered = self.answered.saturating_add(1);
-                let edition = &edition;
-                let outcome = self.apply(id, &Command::Install { name, edition });
-                Ok(Some(Answered::Done(outcome)))
-            }
+            Ok(edition) => Ok(Some(Answered::Done(self.install(id, name, &edition)))),
             Err(IndexFault::Refused { refusal, line }) => {
                 Ok(Some(Answered::Refused { refusal, line }))
             }
