@@ -14,3 +14,4 @@ pub mod AddLemmas
 pub mod FaultLemmas
 pub mod FilingLemmas
 pub mod FinishLemmas
+pub mod DraftLemmas

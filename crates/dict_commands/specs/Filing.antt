@@ -12,18 +12,14 @@ use Rattle.dict_sql.specs.Effects.{equals_number, rows_of}
 use Rattle.dict_sql.specs.Statements.{Statement, FailsInTurn}
 use Rattle.dict_records.specs.Records.{Part}
 use Rattle.dict_index_lines.specs.Stored.{stored_index}
-use Rattle.dict_catalogue.specs.Tests.{Holdings, refusal_of}
-use Rattle.dict_catalogue.specs.Effects.{effect, editions_gone}
 use Rattle.dict_catalogue.specs.Steps.{KeptFor}
-use Rattle.dict_catalogue.specs.Views.{command_shown}
-use Rattle.dict_catalogue.specs.declared.commands.Command.{Command as Typed}
 use Rattle.dict_desk.specs.declared.fault.Fault.{Fault}
 use Rattle.dict_desk.specs.declared.fault.Fault.TheVariants.{Memory, Disk}
 use Rattle.dict_rows.specs.After.{Installed, is_gone}
 use Rattle.dict_files.specs.Files.{parts_under}
 use Rattle.dict_files.specs.AllTables.{AllTables}
 use Rattle.dict_commands.specs.Kept.{HasRecords, IsUsable, SparesOthers, HoldsReplies, IsStorable, AreStorable}
-use Rattle.dict_commands.specs.Changes.{installed_by, without_parts}
+use Rattle.dict_commands.specs.Changes.{without_parts}
 use Rattle.dict_commands.specs.declared.files.EditionFiles.{EditionFiles}
 use Rattle.dict_commands.specs.declared.filing.Filing.{Filing}
 
@@ -54,17 +50,6 @@ pub record HasNoneFiled (f : Filing) : Type 0 where
 abbrev pub IsOfEdition : Filing → Option Installed → Type 0
 IsOfEdition f None = ⊥
 IsOfEdition f (Some new) = (f.number ≡ new.number) × (f.index.items ≡ stored_index new.reading.lines) × (f.text.items ≡ new.reading.text)
-
--- What is to be filed of a command over this summary: nothing where the summary refuses it, or it installs nothing; else the files
--- of the edition that it installs, under the next number, beside the numbers of the editions that go.
-abbrev pub IsFilingFor : Holdings (List ℕ) → Typed → Option Filing → Type 0
-IsFilingFor before command None = (refusal_of before (command_shown command) ≢ None) ⊎ ((number : ℕ) → installed_by number command ≡ None)
-IsFilingFor before command (Some f) =
-    (refusal_of before (command_shown command) ≡ None)
-    × (f.number ≡ before.installs + 1)
-    × (f.gone.items ≡ editions_gone before.items (effect (command_shown command) before).items)
-    × IsOfEdition f (installed_by f.number command)
-    × HasNoneFiled f
 
 -- only how much was filed differs
 abbrev pub HasSameRows : Filing → Filing → Type 0

@@ -1,12 +1,13 @@
 -- The rest of a command whose edition was filed.
-use Rattle.std.specs.Prelude.{◌≡◌, ◌⊎◌, ◌≤◌, ℕ, List, ◌++◌, map, flat_map, true, false, pos, IsTrue, IfErr, OnOk, Result, Option}
+use Rattle.std.specs.Prelude.{◌≡◌, ◌⊎◌, ◌≤◌, ℕ, List, ◌++◌, map, flat_map, true, false, pos, IsTrue, IfErr, OnOk, OnErr, Result, Option}
 use Rattle.sqlite.specs.Effect.{Database}
 use Rattle.sqlite.specs.State.{State, HasCleanDisk, IsUnchanged, IsRolledBack, Survives}
 use Rattle.sqlite.specs.Held.{Held, state}
 use Rattle.sqlite_trees.specs.declared.store.Store.{Ghosts}
 use Rattle.dict_sql.specs.Statements.{Statement}
-use Rattle.dict_index.specs.Edition.{Edition}
-use Rattle.dict_catalogue.specs.Commands.{Command}
+use Rattle.dict_index.specs.Edition.{Edition, ReadEdition, edition_of}
+use Rattle.dict_name.specs.Names.{is_request_id}
+use Rattle.dict_catalogue.specs.Commands.{Command, install}
 use Rattle.dict_catalogue.specs.Tests.{Holdings}
 use Rattle.dict_catalogue.specs.Steps.{Catalogue, summary_of, step}
 use Rattle.dict_desk.specs.Faults.{is_failure}
@@ -23,7 +24,9 @@ use Rattle.dict_commands.specs.Statements.{summary_anew, taking, adding_edition,
 use Rattle.dict_commands.specs.Committed.{IsTreesOf}
 use Rattle.dict_commands.specs.Answers.{Answers, has_written, summary_after, numbers_after, IsOfApply, IsOfShut, IsPlanned, HoldsAfter, FailsToApply}
 use Rattle.dict_commands.specs.declared.applied.Applied.{Applied}
+use Rattle.dict_commands.specs.Installs.{install_read}
 use Rattle.dict_commands.specs.Filing.{IsOfEdition, rested, FailsInside}
+use Rattle.dict_commands.specs.Installed.{HasInstalled}
 use Rattle.dict_commands.specs.declared.filing.Filing.{Filing}
 
 -- behind what was filed: the summary anew, what is left of the editions that go, the record of the edition, and the reply
@@ -83,8 +86,25 @@ module _ {S : Type 0} (g : Ghosts S) where
   abbrev pub LooksOnly : Held S → Held S → Type 0
   LooksOnly old new = (new ≡ old) ⊎ ((old.in_transaction ≡ true) × (IsUnchanged (state g old) (state g new) ⊎ IsRolledBack (state g old) (state g new)))
 
-  -- A command over a filing fails that is not refused: what was filed is undone, and it fails anew; or the rest isn't made.
+  -- A command that is not refused fails where a transaction was open: what was filed is undone, and it fails anew.
+  abbrev pub FailsToApplyAnew : Holdings (List ℕ) → List ℕ → Command Edition → Held S → Held S → Fault → Type 0
+  FailsToApplyAnew summary id command old new fault =
+      (mid : Held S) × IsUndone old mid × Survives (state g old) (state g mid) (λ _. ⊥) × FailsToApply g summary id command mid new fault
+
+  -- A command whose edition was filed fails: behind a lookup the rest isn't made.
+  abbrev pub FailsBehindFiled : Holdings (List ℕ) → List ℕ → Command Edition → Held S → Held S → Fault → Type 0
+  FailsBehindFiled summary id command old new fault =
+      (mid : Held S) × IsUnchanged (state g old) (state g mid) × Survives (state g old) (state g mid) (λ _. ⊥) × FailsToFinish summary id command mid new fault
+
+  -- A command over a filing fails that is not refused, in either way.
   abbrev pub FailsToApplyFiled : Holdings (List ℕ) → List ℕ → Command Edition → Held S → Held S → Fault → Type 0
-  FailsToApplyFiled summary id command old new fault =
-      ((mid : Held S) × IsUndone old mid × Survives (state g old) (state g mid) (λ _. ⊥) × FailsToApply g summary id command mid new fault)
-      ⊎ ((mid : Held S) × IsUnchanged (state g old) (state g mid) × Survives (state g old) (state g mid) (λ _. ⊥) × FailsToFinish summary id command mid new fault)
+  FailsToApplyFiled summary id command old new fault = FailsToApplyAnew summary id command old new fault ⊎ FailsBehindFiled summary id command old new fault
+
+  -- The install of what was read, under a name, was answered so, behind what was filed of it: as a command, of what is committed.
+  pub record IsFinished (summary : Holdings (List ℕ)) (id name : List ℕ) (reading : ReadEdition) (old new : Held S) (result : Result Applied Fault) : Type 0 where
+    pub lawful : is_request_id id ≡ true
+    pub inside : old.in_transaction ≡ true
+    pub applied : IsAppliedOver summary id (install name (edition_of reading)) (state g old) (state g new) result
+    pub failed : HasCleanDisk (state g new) → IfErr result (λ fault. is_failure fault ≡ true → FailsBehindFiled summary id (install name (edition_of reading)) old new fault)
+    pub installed : HasCleanDisk (state g new) → IsTrue (state g new).is_open → HasInstalled (install_read name reading) result (state g new).committed
+    pub stays : HasCleanDisk (state g new) → IsTrue (state g new).is_open → OnErr result ((state g new).committed ≡ (state g old).committed)

@@ -5,7 +5,9 @@ pub mod Writes
 pub mod Decided
 pub mod Committed
 pub mod Answers
+pub mod Drafts
 pub mod Filing
+pub mod Installs
 pub mod Parts
 pub mod Finishing
 pub mod Installed

@@ -4,6 +4,7 @@ ghost use Rattle.sqlite.specs.Held.{state};
 ghost use Rattle.dict_sql.specs.Effects.{WhileOpen};
 ghost use Rattle.dict_records.specs.Records.{header_of};
 ghost use Rattle.dict_records.specs.Typed.{lent_header};
+ghost use Rattle.dict_index.specs.Edition.{ReadEdition};
 ghost use Rattle.dict_index_lines.specs.Stored.{stored_index};
 ghost use Rattle.dict_rows.specs.Written.{edition_record};
 ghost use Rattle.dict_commands.specs.Kept.{IsUsable, IsStorable, AreStorable};
@@ -82,34 +83,35 @@ pub(crate) fn take_editions<S: Alter, T: OpenTransaction<S>>(
 }
 
 // The header of an edition of this owner, with its number.
-fn header_row<'a>(owner: &'a str, number: u64, edition: &Edition<'a>) -> Header<&'a str>
+fn header_row<'a>(owner: &'a str, number: u64, title: &'a str, info: &'a str) -> Header<&'a str>
     requires { IsStorable number }
-    ensures { lent_header result ≡ header_of (edition_record owner.now number edition.now) }
+    ensures { (reading : ReadEdition) → reading.title ≡ title.now → reading.info ≡ info.now → lent_header result ≡ header_of (edition_record owner.now number reading) }
 {
     Header {
         number: number as i64,
         owner,
-        title: edition.title(),
-        info: edition.info(),
+        title,
+        info,
     }
 }
 
-/// Adds the record of an edition, which has no text.
+/// Adds the record of an edition of this title and info, which has no text.
 pub(crate) fn add_record<S: Alter, T: OpenTransaction<S>>(
     tx: &mut T,
     owner: &str,
     number: u64,
-    edition: &Edition,
+    title: &str,
+    info: &str,
 ) -> Result<(), Error>
     requires number { IsStorable number }
     requires usable { WhileOpen (state S.Store (T.held tx.old)) IsUsable }
     ensures same_reference { T.reference tx.new ≡ T.reference tx.old }
-    ensures wrote { OnOk result (Wrote S.Store (adding_edition (edition_record owner.now number edition.now) ∷ []) (with_more_editions (edition_record owner.now number edition.now ∷ [])) (T.held tx.old) (T.held tx.new)) }
+    ensures wrote { OnOk result ((reading : ReadEdition) → reading.title ≡ title.now → reading.info ≡ info.now → Wrote S.Store (adding_edition (edition_record owner.now number reading) ∷ []) (with_more_editions (edition_record owner.now number reading ∷ [])) (T.held tx.old) (T.held tx.new)) }
     ensures usable { OnOk result (WhileOpen (state S.Store (T.held tx.new)) IsUsable) }
-    ensures failed { IfErr result (FailsToWrite S.Store (adding_edition (edition_record owner.now number edition.now) ∷ []) (T.held tx.old) (T.held tx.new)) }
+    ensures failed { IfErr result (λ e. (reading : ReadEdition) → reading.title ≡ title.now → reading.info ≡ info.now → FailsToWrite S.Store (adding_edition (edition_record owner.now number reading) ∷ []) (T.held tx.old) (T.held tx.new) e) }
     ensures spares { Spares S.Store (T.held tx.old) (T.held tx.new) }
 {
-    let row = header_row(owner, number, edition);
+    let row = header_row(owner, number, title, info);
     insert_header(tx, &row)?;
     Ok(())
 }
@@ -137,7 +139,7 @@ fn add_edition<S: Alter, T: OpenTransaction<S>>(
         text: edition.text(),
     };
     add_parts(tx, &files, 0, files.part_count())?;
-    add_record(tx, owner, number, edition)?;
+    add_record(tx, owner, number, edition.title(), edition.info())?;
     Ok(())
 }
 
