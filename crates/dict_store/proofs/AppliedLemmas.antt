@@ -8,9 +8,9 @@ use Rattle.sqlite.specs.Held.{Held, state}
 use Rattle.sqlite.specs.Tree.{Trees}
 use Rattle.sqlite.proofs.StateLemmas.{survives_weaker}
 use Rattle.sqlite_trees.specs.declared.store.Store.{Ghosts}
-use Rattle.dict_index.specs.Edition.{Edition}
+use Rattle.dict_index.specs.Edition.{Edition, ReadEdition, edition_of}
 use Rattle.dict_name.specs.Names.{is_request_id}
-use Rattle.dict_catalogue.specs.Commands.{Command}
+use Rattle.dict_catalogue.specs.Commands.{Command, install}
 use Rattle.dict_catalogue.specs.Tests.{Holdings}
 use Rattle.dict_catalogue.specs.Steps.{Catalogue, Outcome, summary_of, step}
 use Rattle.dict_catalogue.specs.declared.fault.CommandRefusal.TheVariants.{BadRequestId}
@@ -23,12 +23,15 @@ use Rattle.dict_commands.specs.Committed.{IsTreesOf}
 use Rattle.dict_commands.specs.Kept.{KeepsTexts, SparesOthers}
 use Rattle.dict_commands.specs.Changes.{IsInRange}
 use Rattle.dict_commands.specs.Filing.{rested}
-use Rattle.dict_commands.specs.Finishing.{IsAppliedOver, FailsToApplyFiled}
+use Rattle.dict_commands.specs.Finishing.{IsAppliedOver, IsFinished, FailsToApplyFiled}
 use Rattle.dict_commands.specs.Answers.{HoldsBy, Answers, has_written, numbers_after, summary_after, IsOfApply, IsOfShut, FailsToApply}
 use Rattle.dict_commands.specs.declared.applied.Applied.{Applied}
 use Rattle.dict_commands.specs.declared.applied.Applied.TheVariants.{Repeated, Done}
+use Rattle.dict_commands.proofs.ApplyLemmas.{holds_again}
+use Rattle.dict_commands.proofs.WriteLemmas.{clean_before}
 use Rattle.dict_store.specs.Applied.{AppliesOver}
 use Rattle.dict_store.specs.Causes.{FailsToApplyOver}
+use Rattle.dict_store.specs.Desk.{HasCommitted}
 use Rattle.dict_store.proofs.DeskLemmas.{survives_itself}
 
 -- what is said of a store holds of it as a rollback would leave it
@@ -197,3 +200,20 @@ applied_never g summary id command h never range = record {
   settled = λ clean. absurd (never clean);
   inside = λ clean inside. refl;
 }
+
+-- the install of what was prepared, as it was finished
+pub finished_over : {S : Type 0} (g : Ghosts S) (summary : Holdings (List ℕ)) (id name : List ℕ) (reading : ReadEdition) (old new : Held S) (result : Result Applied Fault) → IsFinished g summary id name reading old new result
+    → (HasCleanDisk (state g new) → IsTrue (state g new).is_open → (state g new).now ≡ (state g new).committed) → HoldsBy summary (rested (state g old)) → IsInRange summary
+    → AppliesOver g summary id (install name (edition_of reading)) old new result
+finished_over g summary id name reading old new result it settled holds range =
+    let command = install name (edition_of reading) in
+    let value : HasCleanDisk (state g new) → (M : Catalogue) → Rests known (rested (state g old)) M → summary_of M ≡ summary → Answers (rested (state g new)) M id (step M id command) result =
+    λ clean M rests is. it.applied.value clean M (λ live. rests.holds) is in
+    applied_beside g summary id command old new result it.inside value
+    (λ clean. err_weaker (λ fault. is_failure fault ≡ true → _) (λ fault. is_failure fault ≡ true → FailsToApplyFiled g summary id command old new fault) result (λ fault h failure. inr (h failure)) (it.failed clean))
+    (holds_again summary id command (rested (state g old)) (rested (state g new)) result holds (λ clean. clean_before (state g old) (state g new) it.applied.crash clean) it.applied.lives value)
+    range (λ _. it.applied) (λ clean _. settled clean) (λ no. absurd (false≢true (sym no ∙ it.lawful)))
+
+-- what is committed is what a rollback would leave
+pub committed_rested : {S : Type 0} (g : Ghosts S) (summary : Holdings (List ℕ)) (h : Held S) → HasCommitted summary (state g h) → HoldsBy summary (rested (state g h))
+committed_rested g summary h holds = λ clean live. let it = holds clean live in (it.0, record { is_open = live; settled = refl; holds = it.1 }, it.2)

@@ -1,5 +1,5 @@
 -- What a desk is behind what is prepared, and behind what was prepared is undone.
-use Rattle.std.proofs.Common.{◌≡◌, inl, inr, ℕ, ◌||◌, Bool, true, false, List, refl, sym, ap, subst, ◌∙◌, arith}
+use Rattle.std.proofs.Common.{◌≡◌, ◌⊎◌, inl, inr, ℕ, ◌||◌, Bool, true, false, List, refl, sym, ap, subst, ◌∙◌, arith}
 use Rattle.std.specs.Prelude.{◌↔◌, IsTrue, IfSome, Option, Some, None, Result, Ok, Err, OnOk, OnErr, IfErr}
 use Rattle.std.proofs.lemmas.Bool.{false≢true, true≢false}
 use Rattle.sqlite.specs.Effect.{Database}
@@ -80,6 +80,27 @@ module _ {S : Type 0} (g : Ghosts S) where
   pub planned_filed : (found : Option Filing) (h : Held S) → IfSome found IsDrawnUp → h.in_transaction ≡ false → HasFiled g found h
   planned_filed None h drawn none = λ clean. none
   planned_filed (Some f) h drawn none = (drawn, λ clean live inside. absurd (false≢true (sym none ∙ inside)))
+
+  -- a draft was read, or what it says is planned
+  pub read_filed : (before after : Option Filing) (h : Held S) → (after ≡ before) ⊎ IfSome after IsDrawnUp → h.in_transaction ≡ false → HasFiled g before h → HasFiled g after h
+  read_filed before after h (inl same) none filed = subst (λ (f : Option Filing). HasFiled g f h) (sym same) filed
+  read_filed before after h (inr drawn) none filed = planned_filed after h drawn none
+
+  -- there is more to prepare: a transaction is open, or all that is seen of the desk is as it was
+  pub more_prepared : (old : DeskState S) (conn : Held S) (last : LastCall) (texts : List (Key × List ℕ)) (result : Result Bool Fault) → last ≡ last_behind old.last result → texts ≡ texts_behind result old.texts → result ≡ Ok true
+      → (conn.in_transaction ≡ true) ⊎ (conn ≡ old.conn) → (conn.in_transaction ≡ true) ⊎ (record { conn = conn; summary = old.summary; last = last; indexes = old.indexes; texts = texts } ≡ old)
+  more_prepared old conn last texts (Ok more) by is ok (inl inside) = inl inside
+  more_prepared old conn last texts (Ok more) by is ok (inr same) = inr (λ i. record { conn = same i; summary = old.summary; last = by i; indexes = old.indexes; texts = is i })
+  more_prepared old conn last texts (Err fault) by is ok h = absurd (let e = ok in cc)
+
+-- memory alone was refused
+pub no_disk : {T P : Type 0} (result : Result T Fault) → IfErr result (λ fault. fault ≡ Memory) → IfErr result (λ fault. fault ≡ Disk → P)
+no_disk (Ok value) h = tt
+no_disk (Err fault) h = λ is. absurd (let e : Memory ≡ Disk = sym h ∙ is in cc)
+
+pub memory_kind : {T : Type 0} (result : Result T Fault) → IfErr result (λ fault. fault ≡ Memory) → IfErr result IsOfStore
+memory_kind (Ok value) h = tt
+memory_kind (Err fault) h = subst IsOfStore (sym h) tt
 
 -- ---- what was prepared is undone
 
@@ -228,3 +249,8 @@ module _ {S T : Type 0} (old new : DeskState S) where
   pub forgotten_closed : (result : Result T Fault) → OnOk result (is_closed old.last ≡ false) → IfErr result (λ fault. (fault ≡ Shut) ↔ (is_closed old.last ≡ true)) → (result ≡ Err Shut) ↔ (is_closed old.last ≡ true)
   forgotten_closed (Ok value) fine closed = (λ is. absurd (let e = is in cc), λ shut. absurd (false≢true (sym fine ∙ shut)))
   forgotten_closed (Err fault) fine closed = (λ is. closed.0 (let e = is in cc), λ shut. ap Err (closed.1 shut))
+
+-- what was noted before is let go of, or that failed
+pub told_by : {T E : Type 0} (result : Result T E) (P Q : Type 0) → OnErr result P → OnOk result Q → P ⊎ Q
+told_by (Ok value) P Q failed ended = inr ended
+told_by (Err fault) P Q failed ended = inl failed

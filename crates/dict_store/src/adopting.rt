@@ -29,6 +29,7 @@ ghost use Rattle.dict_store.specs.Adopted.{FailsToOpen, MayCommitBeside};
 use crate::desk::Desk;
 use crate::kept::forget_by;
 use crate::last::{LastCall, last_by};
+use crate::withdrawing::Withdrawn;
 use dict_catalogue::{Summary, edition_numbers};
 use dict_commands::{kept_reply, summaries_in_range};
 use dict_desk::Fault;
@@ -260,7 +261,7 @@ impl<S: Alter + Drop> Desk<S> {
         ensures closed { is_closed self.old.last ≡ true → result ≡ Err Fault.Closed }
         ensures kinds { is_closed self.old.last ≡ false → IfErr result IsOfOpening }
     {
-        self.withdraw()?;
+        self.withdraw(Withdrawn::All)?;
         let outcome = read_committed(self.alloc, &mut self.conn);
         self.last = last_by(&outcome);
         forget_by(&mut self.texts, self.last);

@@ -38,15 +38,15 @@ pub(crate) fn connection_of<S: Alter + Drop>(desk: Desk<S>) -> Connection<S>
         summary,
         indexes,
         texts,
+        draft,
         filing,
-        coming,
         ..
     } = desk;
     drop(summary);
     drop(indexes);
     drop(texts);
+    drop(draft);
     drop(filing);
-    drop(coming);
     conn
 }
 

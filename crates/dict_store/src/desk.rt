@@ -19,14 +19,14 @@ ghost use Rattle.dict_store.specs.Prepared.{Undoes};
 ghost use Rattle.dict_rows.specs.Versions.{known};
 
 use crate::closing::connection_of;
+use crate::coming::Coming;
 use crate::last::LastCall;
 use crate::withdrawing::undo;
 use dict_catalogue::Summary;
-use dict_commands::Filing;
+use dict_commands::Draft;
 use dict_desk::Fault;
 use dict_indexes::Indexes;
 use dict_migration::create;
-use dict_search::IndexMaking;
 use dict_texts::Texts;
 use sqlite::{Alter, Connection};
 use std::alloc::Global;
@@ -48,12 +48,12 @@ pub struct Desk<S: Alter + Drop> {
     pub(crate) texts: Texts,
     // The entries that lookups have looked at, and the rows that their statements have handed over. Nothing rests on it.
     pub(crate) rows_taken: u64,
-    // What is prepared of a change that may come: rows of it are filed in the transaction that is open, if one is.
-    pub(crate) filing: Option<Filing>,
+    // What is read of an install that may come.
+    pub(crate) draft: Option<Draft>,
+    // What is prepared of it, once it is read: rows of it are filed in the transaction that is open, if one is.
+    pub(crate) filing: Option<Coming>,
     // How many times it may begin yet. Nothing rests on it.
     pub(crate) begins: u8,
-    // The index of the edition that may come, as far as it is made. Nothing rests on it.
-    pub(crate) coming: Option<Box<IndexMaking>>,
 }
 
 impl<S: Alter + Drop> Model for Desk<S> {
@@ -95,9 +95,9 @@ impl<S: Alter + Drop> Desk<S> {
             indexes,
             texts: Texts::new(alloc),
             rows_taken: 0,
+            draft: None,
             filing: None,
             begins: 0,
-            coming: None,
         }
     }
 

@@ -2,7 +2,7 @@
 ghost use Rattle.std.specs.Prelude.{◌≡◌, ◌≢◌, ◌≤◌, ◌+◌, ℕ, true, false, length, map, nat_eq, if◌then◌else◌, Some, None, IfOk, OnOk, OnErr};
 ghost use Rattle.std.specs.List.{AllByRecursion};
 ghost use Rattle.dict_index.specs.Limits.{most_entries};
-ghost use Rattle.dict_index.specs.Views.{line_of, HasItsKey};
+ghost use Rattle.dict_index.specs.Views.{line_of};
 ghost use Rattle.dict_catalogue.specs.Items.{edition_numbers, numbers_of};
 ghost use Rattle.dict_catalogue.specs.Commands.{verb_of};
 ghost use Rattle.dict_catalogue.specs.Views.{command_meant, item_shown};
@@ -16,126 +16,40 @@ use dict_commands::Applied;
 use dict_desk::Fault;
 use dict_index::{Edition, Entry};
 use dict_indexes::Indexes;
-use dict_search::{Index, IndexBuilder, IndexMaking};
+use dict_search::{Index, IndexBuilder};
 use std::alloc::{AllocError, Global};
-
-// The entries of an index that is to be made.
-fn taken(alloc: Global, entries: &[Entry]) -> Result<IndexBuilder, AllocError>
-    ensures { IfOk result (λ builder. builder ≡ map entry_of (map line_of entries.now)) }
-{
-    let mut builder = IndexBuilder::new(alloc);
-    for entry in entries {
-        builder.push(entry.headword, entry.shown, entry.offset, entry.size)?;
-    }
-    Ok(builder)
-}
 
 // The index of entries.
 fn index_entries(alloc: Global, entries: &[Entry]) -> Result<Index, AllocError>
     requires { length entries.now ≤ most_entries }
     ensures { IfOk result (λ index. index ≡ map entry_of (map line_of entries.now)) }
 {
-    let builder = taken(alloc, entries)?;
+    let mut builder = IndexBuilder::new(alloc);
+    for entry in entries {
+        builder.push(entry.headword, entry.shown, entry.offset, entry.size)?;
+    }
     builder.finish()
 }
 
-// The index of entries, of which nothing is made yet.
-fn making_of(alloc: Global, entries: &[Entry]) -> Result<IndexMaking, AllocError>
-    requires { length entries.now ≤ most_entries }
-{
-    let builder = taken(alloc, entries)?;
-    Ok(builder.making())
-}
-
-// The index of the edition that a command would install, of which nothing is made but the list of its entries. None where it
-// installs none, or memory was refused. Nothing rests on what it is: it is compared before it is used.
-pub(crate) fn begin_coming(alloc: Global, command: &Command) -> Option<Box<IndexMaking>> {
-    let Command::Install { edition, .. } = command else {
-        return None;
-    };
-    edition.is_well_formed();
-    match making_of(alloc, edition.entries()) {
-        Ok(making) => boxed(alloc, making),
-        Err(_) => None,
-    }
-}
-
-// An index that is made, in a place of its own: what holds it is let go of by one call. None where memory was refused.
-fn boxed(alloc: Global, making: IndexMaking) -> Option<Box<IndexMaking>> {
-    match Box::new(alloc, making) {
-        Ok(making) => Some(making),
-        Err(failed) => {
-            drop(failed);
-            None
-        }
-    }
-}
-
-// Makes the next part of the index that comes, if one is begun. Whether one was made; where memory was refused it is let go of.
-pub(crate) fn step_coming(coming: &mut Option<Box<IndexMaking>>) -> bool {
-    let Some(making) = coming else {
-        return false;
-    };
-    match making.step() {
-        Ok(more) => more,
-        Err(_) => {
-            drop(coming.take());
-            false
-        }
-    }
-}
-
-// The index of entries: what was made of one, where it is of these, or one that is made now.
-fn index_made(
-    alloc: Global,
-    entries: &[Entry],
-    made: Option<Box<IndexMaking>>,
-) -> Result<Index, AllocError>
-    requires few { length entries.now ≤ most_entries }
-    requires keys { AllByRecursion HasItsKey entries.now }
-    ensures { IfOk result (λ index. index ≡ map entry_of (map line_of entries.now)) }
-{
-    let Some(boxed) = made else {
-        return index_entries(alloc, entries);
-    };
-    let making = Box::into_inner(boxed);
-    if making.is_of(entries) {
-        return making.end();
-    }
-    drop(making);
-    index_entries(alloc, entries)
-}
-
-// The index of an edition, of which something may be made.
-fn index_edition(
-    alloc: Global,
-    edition: &Edition,
-    made: Option<Box<IndexMaking>>,
-) -> Result<Index, AllocError>
+// The index of an edition.
+fn index_edition(alloc: Global, edition: &Edition) -> Result<Index, AllocError>
     ensures { IfOk result (λ index. index ≡ map entry_of edition.now.lines) }
 {
     edition.is_well_formed();
-    index_made(alloc, edition.entries(), made)
+    index_entries(alloc, edition.entries())
 }
 
 // The index of the edition that a command installs, if it installs one.
-fn index_coming(
-    alloc: Global,
-    command: &Command,
-    made: Option<Box<IndexMaking>>,
-) -> Result<Option<Index>, AllocError>
+fn index_coming(alloc: Global, command: &Command) -> Result<Option<Index>, AllocError>
     ensures coming { IfOk result (λ coming. coming ≡ index_coming command.now) }
     ensures asked { OnErr result (is_install (verb_of (command_meant command.now)) ≡ true) }
 {
     match command {
-        Command::Install { edition, .. } => Ok(Some(index_edition(alloc, edition, made)?)),
+        Command::Install { edition, .. } => Ok(Some(index_edition(alloc, edition)?)),
         Command::Rollback { .. }
         | Command::Retire { .. }
         | Command::PutVirtual { .. }
-        | Command::Place { .. } => {
-            drop(made);
-            Ok(None)
-        }
+        | Command::Place { .. } => Ok(None),
     }
 }
 
@@ -145,13 +59,12 @@ pub(crate) fn put_coming(
     indexes: &mut Indexes,
     number: u64,
     command: &Command,
-    made: Option<Box<IndexMaking>>,
 ) -> Result<(), AllocError>
     ensures put { OnOk result (HasPut number (index_coming command.now) indexes.old indexes.new) }
     ensures refused { OnErr result ((q : ℕ) → entries_under q indexes.new ≡ entries_under q indexes.old) }
     ensures asked { OnErr result (is_install (verb_of (command_meant command.now)) ≡ true) }
 {
-    let Some(index) = index_coming(alloc, command, made)? else {
+    let Some(index) = index_coming(alloc, command)? else {
         return Ok(());
     };
     indexes.put(number, index)

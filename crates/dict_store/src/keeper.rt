@@ -7,15 +7,15 @@ ghost use Rattle.dict_commands.specs.Answers.{summary_after};
 ghost use Rattle.dict_commands.specs.Changes.{IsInRange};
 ghost use Rattle.dict_commands.specs.Installed.{HasInstalled};
 ghost use Rattle.dict_store.specs.Applied.{AppliesOver};
-ghost use Rattle.dict_store.specs.Desk.{HasCommitted, HasFiled, reply_of};
+ghost use Rattle.dict_store.specs.Desk.{HasCommitted, reply_of};
 
 use crate::desk::Desk;
 use crate::indexing::{put_coming, settle};
 use crate::kept::forget_by;
 use crate::last::{LastCall, last_by};
-use crate::withdrawing::let_go_when_ended;
+use crate::withdrawing::{Withdrawn, let_go_when_ended};
 use dict_catalogue::{Command, Kept, Summary};
-use dict_commands::{Applied, Filing, apply, apply_filed, kept_reply};
+use dict_commands::{Applied, apply, apply_anew, kept_reply};
 use dict_desk::{Fault, Keeper};
 use sqlite::{Alter, Connection};
 use std::alloc::Global;
@@ -26,11 +26,9 @@ fn apply_over<S: Alter>(
     alloc: Global,
     conn: &mut Connection<S>,
     summary: &Summary,
-    filing: &Option<Filing>,
     id: &str,
     command: &Command,
 ) -> Result<Applied, Fault>
-    requires filed { HasFiled S.Store filing.now conn.old }
     requires settled { HasCleanDisk (state S.Store conn.old) → IsTrue (state S.Store conn.old).is_open → conn.old.in_transaction ≡ false → (state S.Store conn.old).now ≡ (state S.Store conn.old).committed }
     requires holds { HasCommitted (summary_shown summary.now) (state S.Store conn.old) }
     requires range { IsInRange (summary_shown summary.now) }
@@ -41,14 +39,14 @@ fn apply_over<S: Alter>(
     if conn.is_autocommit() {
         return apply(alloc, conn, summary, id, command);
     }
-    let Some(filing) = filing else {
-        return Err(Fault::Disk);
-    };
-    apply_filed(alloc, conn, summary, id, command, filing)
+    apply_anew(alloc, conn, summary, id, command)
 }
 
 // The reply that was answered; the summary after it is taken over.
-fn take_over(summary: &mut Summary, outcome: Result<Applied, Fault>) -> Result<Kept, Fault>
+pub(crate) fn take_over(
+    summary: &mut Summary,
+    outcome: Result<Applied, Fault>,
+) -> Result<Kept, Fault>
     ensures reply { result ≡ reply_of outcome }
     ensures after { summary_shown summary.new ≡ summary_after (summary_shown summary.old) outcome }
 {
@@ -73,7 +71,7 @@ impl<S: Alter + Drop> Keeper for Desk<S> {
         if let Some(reply) = self.kept_beside(id) {
             return Ok(reply);
         }
-        self.withdraw()?;
+        self.withdraw(Withdrawn::Filed)?;
         let outcome = kept_reply(self.alloc, &mut self.conn, id);
         self.last = last_by(&outcome);
         forget_by(&mut self.texts, self.last);
@@ -85,22 +83,15 @@ impl<S: Alter + Drop> Keeper for Desk<S> {
             return Err(Fault::Closed);
         }
         let number = self.summary.installs.saturating_add(1);
-        let made = self.coming.take();
-        let Ok(()) = put_coming(self.alloc, &mut self.indexes, number, command, made) else {
+        let Ok(()) = put_coming(self.alloc, &mut self.indexes, number, command) else {
             self.last = LastCall::Failed;
             forget_by(&mut self.texts, LastCall::Failed);
             return Err(Fault::Memory);
         };
-        let outcome = apply_over(
-            self.alloc,
-            &mut self.conn,
-            &self.summary,
-            &self.filing,
-            id,
-            command,
-        );
+        let outcome = apply_over(self.alloc, &mut self.conn, &self.summary, id, command);
         self.last = last_by(&outcome);
         forget_by(&mut self.texts, self.last);
+        drop(self.draft.take());
         let_go_when_ended(&self.conn, &mut self.filing);
         settle(&mut self.indexes, &self.summary.items, number, &outcome);
         take_over(&mut self.summary, outcome)

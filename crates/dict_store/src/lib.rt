@@ -4,13 +4,16 @@
 mod adopting;
 mod answering;
 mod closing;
+mod coming;
 mod desk;
+mod finishing;
 mod indexing;
 mod keeper;
 mod kept;
 mod last;
 mod laws;
 mod lookups;
+mod making;
 mod preparing;
 mod promise;
 mod reopening;

@@ -1,27 +1,30 @@
 // What a desk prepares of a change that may come.
-ghost use Rattle.std.specs.Prelude.{◌≡◌, ◌⊎◌, true, false, IsTrue, IfErr, Ok};
+ghost use Rattle.std.specs.Prelude.{◌≡◌, ◌⊎◌, true, false, IsTrue, IfErr, IfSome, Ok};
 ghost use Rattle.sqlite.specs.Disk.{MoreFaults};
 ghost use Rattle.sqlite.specs.State.{HasCleanDisk, KeepsCommit, Survives};
 ghost use Rattle.sqlite.specs.Held.{state};
 ghost use Rattle.dict_sql.specs.Effects.{WhileOpen};
 ghost use Rattle.dict_commands.specs.Committed.{IsOfStore};
-ghost use Rattle.dict_commands.specs.Filing.{rested};
+ghost use Rattle.dict_catalogue.specs.Views.{summary_shown};
+ghost use Rattle.dict_commands.specs.Changes.{IsInRange};
+ghost use Rattle.dict_commands.specs.Filing.{IsDrawnUp, rested};
 ghost use Rattle.dict_commands.specs.Kept.{IsUsable};
 ghost use Rattle.dict_store.specs.Causes.{FailsToPrepare};
-ghost use Rattle.dict_store.specs.Desk.{HasFiled, has_failed};
+ghost use Rattle.dict_store.specs.Desk.{HasFiled, has_failed, is_closed};
 ghost use Rattle.dict_store.specs.Prepared.{LetsGo, last_behind};
 
+use crate::coming::Coming;
 use crate::desk::Desk;
-use crate::indexing::{begin_coming, step_coming};
 use crate::kept::{forget_behind, forget_by};
 use crate::last::LastCall;
-use crate::withdrawing::let_go_when_ended;
+use crate::withdrawing::Withdrawn;
 use dict_catalogue::{Command, Summary};
-use dict_commands::{Filing, file_part, plan_filing};
+use dict_commands::{Draft, plan_draft};
 use dict_desk::Fault;
-use dict_preparing::Preparer;
-use dict_search::IndexMaking;
+use dict_index::one_meaning;
+use dict_preparing::{Answered, Preparer};
 use sqlite::{Alter, Connection};
+use std::alloc::Global;
 use std::mem;
 
 // A filing may begin so many times. A lookup that fails for want of memory undoes what was filed; after the last time nothing is
@@ -29,7 +32,7 @@ use std::mem;
 const MAX_BEGINS: u8 = 3;
 
 // Counts that a filing begins, if it does, where no transaction is open; one that may not begin any more is let go of.
-fn count_begin<S: Alter>(conn: &Connection<S>, filing: &mut Option<Filing>, begins: &mut u8)
+fn count_begin<S: Alter>(conn: &Connection<S>, filing: &mut Option<Coming>, begins: &mut u8)
     ensures { LetsGo conn.now filing.old filing.new }
 {
     if !conn.is_autocommit() {
@@ -39,21 +42,25 @@ fn count_begin<S: Alter>(conn: &Connection<S>, filing: &mut Option<Filing>, begi
         *begins -= 1;
         return;
     }
-    *filing = None;
+    drop(filing.take());
 }
 
-// Whether there is more to prepare: more rows to file or, once all are filed, a part of the index that comes, which is made here.
-fn goes_on(more: bool, coming: &mut Option<Box<IndexMaking>>) -> bool {
-    if more { true } else { step_coming(coming) }
+// Whether there is more, or else makes a part of the index: whether there was one.
+fn goes_on(more: bool, planned: &mut Coming) -> bool
+    ensures { planned.new ≡ planned.old }
+{
+    if more {
+        return true;
+    }
+    planned.make()
 }
 
-// Files a bounded part of what is to be prepared over this summary, if anything is, and once all is filed makes a
-// part of its index. What can't be filed is let go of.
+// Files a bounded part of what is to be prepared over this summary, if anything is, and once all is filed makes a part of its index.
+// What can't be filed is let go of.
 fn file_next<S: Alter>(
     conn: &mut Connection<S>,
     summary: &Summary,
-    filing: &mut Option<Filing>,
-    coming: &mut Option<Box<IndexMaking>>,
+    filing: &mut Option<Coming>,
 ) -> Result<bool, Fault>
     requires filed { HasFiled S.Store filing.old conn.old }
     requires usable { WhileOpen (rested (state S.Store conn.old)) IsUsable }
@@ -69,14 +76,116 @@ fn file_next<S: Alter>(
     let Some(planned) = filing else {
         return Ok(false);
     };
-    match file_part(conn, summary, planned) {
-        Ok(more) => Ok(goes_on(more, coming)),
-        Err(Some(fault)) => Err(fault),
+    match planned.file(conn, summary) {
+        Ok(more) => Ok(goes_on(more, planned)),
+        Err(Some(fault)) => {
+            drop(filing.take());
+            Err(fault)
+        }
         Err(None) => {
-            *filing = None;
+            drop(filing.take());
             Ok(false)
         }
     }
+}
+
+// What is to be filed of a draft of which all is read, planned over this summary. It is none where a test fails. The draft is used up.
+fn plan_next(alloc: Global, summary: &Summary, draft: &mut Option<Draft>) -> Option<Coming>
+    requires { IsInRange (summary_shown summary.now) }
+    ensures { IfSome result IsDrawnUp }
+{
+    let Some(whole) = draft.take() else {
+        return None;
+    };
+    let Some(planned) = plan_draft(alloc, summary, whole) else {
+        return None;
+    };
+    Some(Coming::of(alloc, planned))
+}
+
+/// What comes of a draft's next step.
+#[derive(Clone, Copy)]
+enum Step {
+    /// There is more to read, or to write.
+    More,
+    /// All is, and it can be planned.
+    Whole,
+    /// A test fails, or there is no draft.
+    Stays,
+    /// Memory was refused, and the draft is let go of.
+    Refused,
+}
+
+// Reads a bounded part of a draft.
+fn step_draft(draft: &mut Option<Draft>) -> Step {
+    let Some(reading) = draft else {
+        return Step::Stays;
+    };
+    match reading.step() {
+        Ok(true) => Step::More,
+        Ok(false) => {
+            if reading.is_refused() {
+                Step::Stays
+            } else {
+                Step::Whole
+            }
+        }
+        Err(_) => {
+            drop(draft.take());
+            Step::Refused
+        }
+    }
+}
+
+// Reads a bounded part of a draft. Whether there is more to read or, where all is, something to file, which is planned over this summary
+// then. A draft of which a test fails stays.
+fn read_next(
+    alloc: Global,
+    summary: &Summary,
+    draft: &mut Option<Draft>,
+    filing: &mut Option<Coming>,
+) -> Result<bool, Fault>
+    requires range { IsInRange (summary_shown summary.now) }
+    ensures filed { (filing.new ≡ filing.old) ⊎ IfSome filing.new IsDrawnUp }
+    ensures kinds { IfErr result (λ fault. fault ≡ Fault.Memory) }
+{
+    match step_draft(draft) {
+        Step::More => Ok(true),
+        Step::Stays => Ok(false),
+        Step::Refused => Err(Fault::Memory),
+        Step::Whole => {
+            drop(mem::replace(filing, plan_next(alloc, summary, draft)));
+            Ok(filing.is_some())
+        }
+    }
+}
+
+// Prepares a bounded part of what was noted over this summary: reads it, or files it. Whether there is more.
+fn prepare_next<S: Alter>(
+    alloc: Global,
+    conn: &mut Connection<S>,
+    summary: &Summary,
+    draft: &mut Option<Draft>,
+    filing: &mut Option<Coming>,
+    begins: &mut u8,
+) -> Result<bool, Fault>
+    requires range { IsInRange (summary_shown summary.now) }
+    requires filed { HasFiled S.Store filing.old conn.old }
+    requires usable { WhileOpen (rested (state S.Store conn.old)) IsUsable }
+    requires settled { HasCleanDisk (state S.Store conn.old) → IsTrue (state S.Store conn.old).is_open → conn.old.in_transaction ≡ false → (state S.Store conn.old).now ≡ (state S.Store conn.old).committed }
+    ensures filed { HasFiled S.Store filing.new conn.new }
+    ensures keeps { HasCleanDisk (state S.Store conn.new) → KeepsCommit (state S.Store conn.old) (state S.Store conn.new) }
+    ensures settled { HasCleanDisk (state S.Store conn.new) → IsTrue (state S.Store conn.new).is_open → conn.new.in_transaction ≡ false → (state S.Store conn.new).now ≡ (state S.Store conn.new).committed }
+    ensures faulted { HasCleanDisk (state S.Store conn.new) → IfErr result (λ fault. fault ≡ Fault.Disk → MoreFaults (state S.Store conn.old).faults (state S.Store conn.new).faults) }
+    ensures kinds { IfErr result IsOfStore }
+    ensures inside { HasCleanDisk (state S.Store conn.new) → result ≡ Ok true → (conn.new.in_transaction ≡ true) ⊎ (conn.new ≡ conn.old) }
+    ensures survives { Survives (state S.Store conn.old) (state S.Store conn.new) (λ _. ⊥) }
+{
+    if draft.is_some() && conn.is_autocommit() {
+        return read_next(alloc, summary, draft, filing);
+    }
+    count_begin(conn, filing, begins);
+    file_next(conn, summary, filing)
 }
 
 // How the last call ended, where something was prepared behind it with this outcome.
@@ -91,24 +200,29 @@ fn last_behind<T>(last: LastCall, outcome: &Result<T, Fault>) -> LastCall
     }
 }
 
-/// A filing is at most begun three times: a lookup that is refused memory undoes it. What is filed is let go of where another command, a
-/// lookup in the text of an edition that goes or comes, or a call that hands the connection out comes first.
+/// An install is noted by its files: they are copied, and read in slices before any of it is filed. A filing is at most begun three times: a
+/// lookup that is refused memory undoes it. What is filed is let go of where another command, a lookup in the text of an edition that goes
+/// or comes, or a call that hands the connection out comes first.
 impl<S: Alter + Drop> Preparer for Desk<S> {
     // It failed, or what was prepared before is let go of: no transaction is open.
     ghost expects = { λ _ _ desk. (has_failed desk.last ≡ true) ⊎ (desk.conn.in_transaction ≡ false) };
 
-    // Where there is more to prepare, a transaction is open, in which rows of it are filed.
-    ghost prepares = { λ _ result desk. HasCleanDisk (state S.Store desk.conn) → result ≡ Ok true → desk.conn.in_transaction ≡ true };
+    // Where there is more to prepare, a transaction is open, in which rows of it are filed; or the files are being read, and all that is
+    // seen of the desk is as it was.
+    ghost prepares = { λ old result desk. HasCleanDisk (state S.Store desk.conn) → result ≡ Ok true → (desk.conn.in_transaction ≡ true) ⊎ (desk ≡ old) };
 
     ghost fails_to_prepare = { FailsToPrepare S.Store };
 
-    fn expect(&mut self, command: &Command) -> Result<(), Fault> {
-        self.withdraw()?;
-        match plan_filing(self.alloc, &self.summary, command) {
-            Ok(filing) => {
-                self.filing = filing;
+    fn expect(&mut self, _command: &Command) -> Result<(), Fault> {
+        self.withdraw(Withdrawn::All)
+    }
+
+    fn expect_install(&mut self, name: &str, index: &[u8], text: &[u8]) -> Result<(), Fault> {
+        self.withdraw(Withdrawn::All)?;
+        match Draft::begin(self.alloc, name, index, text) {
+            Ok(draft) => {
+                drop(mem::replace(&mut self.draft, Some(draft)));
                 self.begins = MAX_BEGINS;
-                drop(mem::replace(&mut self.coming, begin_coming(self.alloc, command)));
                 Ok(())
             }
             Err(_) => {
@@ -123,20 +237,46 @@ impl<S: Alter + Drop> Preparer for Desk<S> {
         if self.last == LastCall::Closed {
             return Err(Fault::Closed);
         }
-        count_begin(&self.conn, &mut self.filing, &mut self.begins);
-        let outcome = file_next(
+        let outcome = prepare_next(
+            self.alloc,
             &mut self.conn,
             &self.summary,
+            &mut self.draft,
             &mut self.filing,
-            &mut self.coming,
+            &mut self.begins,
         );
         forget_behind(&mut self.texts, &outcome);
         self.last = last_behind(self.last, &outcome);
-        let_go_when_ended(&self.conn, &mut self.filing);
         outcome
     }
 
+    fn answer_prepared(
+        &mut self,
+        id: &str,
+        name: &str,
+        index: &[u8],
+        text: &[u8],
+    ) -> Result<Option<Answered>, Fault> {
+        if self.is_closed() {
+            return Err(Fault::Closed);
+        }
+        if let Some(told) = self.refusal(name, index, text) {
+            return Ok(Some(Answered::Refused {
+                refusal: told.0,
+                line: told.1,
+            }));
+        }
+        one_meaning();
+        if let Some(outcome) = self.finish(id, name, index, text) {
+            return Ok(Some(Answered::Done(outcome)));
+        }
+        match self.withdraw(Withdrawn::All) {
+            Ok(()) => Ok(None),
+            Err(fault) => Err(fault),
+        }
+    }
+
     fn forget(&mut self) -> Result<(), Fault> {
-        self.withdraw()
+        self.withdraw(Withdrawn::All)
     }
 }

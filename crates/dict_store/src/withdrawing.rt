@@ -9,11 +9,12 @@ ghost use Rattle.dict_lookup.specs.Searches.{column_of};
 ghost use Rattle.dict_store.specs.Desk.{Shows, is_closed, has_failed};
 ghost use Rattle.dict_store.specs.Prepared.{IsAlike, IsApart, LetsGo, Undoes};
 
+use crate::coming::Coming;
 use crate::desk::Desk;
 use crate::kept::forget_by;
 use crate::last::LastCall;
 use dict_catalogue::Kept;
-use dict_commands::{Filing, kept_reply, shows_still};
+use dict_commands::{Draft, kept_reply, shows_still};
 use dict_desk::Fault;
 use dict_sql::transaction::roll_back;
 use sqlite::{Alter, Connection};
@@ -44,7 +45,7 @@ fn column_of(number: u64) -> u64
 }
 
 // Whether no transaction is open, or what is filed in it has nothing of the edition of this number.
-fn is_apart<S: Alter>(conn: &Connection<S>, filing: &Option<Filing>, number: u64) -> bool
+fn is_apart<S: Alter>(conn: &Connection<S>, filing: &Option<Coming>, number: u64) -> bool
     ensures { IsTrue result → IsApart filing.now number conn.now }
 {
     if conn.is_autocommit() {
@@ -57,26 +58,43 @@ fn is_apart<S: Alter>(conn: &Connection<S>, filing: &Option<Filing>, number: u64
 }
 
 // The same of the number as a column has it, too.
-fn are_apart<S: Alter>(conn: &Connection<S>, filing: &Option<Filing>, number: u64) -> bool
+fn are_apart<S: Alter>(conn: &Connection<S>, filing: &Option<Coming>, number: u64) -> bool
     ensures { IsTrue result → IsApart filing.now number conn.now × IsApart filing.now (column_of number) conn.now }
 {
     is_apart(conn, filing, number) && is_apart(conn, filing, column_of(number))
 }
 
 // Lets go of what was prepared, where no transaction is open.
-pub(crate) fn let_go_when_ended<S: Alter>(conn: &Connection<S>, filing: &mut Option<Filing>)
+pub(crate) fn let_go_when_ended<S: Alter>(conn: &Connection<S>, filing: &mut Option<Coming>)
     ensures { LetsGo conn.now filing.old filing.new }
 {
     if !conn.is_autocommit() {
         return;
     }
-    *filing = None;
+    drop(filing.take());
+}
+
+/// What is let go of.
+#[derive(Clone, Copy)]
+pub(crate) enum Withdrawn {
+    /// What is filed.
+    Filed,
+    /// That, and what is read.
+    All,
+}
+
+// Lets go of what is read, if all is let go of.
+fn let_go_of_read(draft: &mut Option<Draft>, what: Withdrawn) {
+    match what {
+        Withdrawn::Filed => {}
+        Withdrawn::All => drop(draft.take()),
+    }
 }
 
 impl<S: Alter + Drop> Desk<S> {
-    // Undoes what is prepared. `Closed`: the desk was so before, and nothing is done. `Disk`: the disk gave other octets than were
+    // Undoes what is prepared, and lets go of it. `Closed`: the desk was so before, and nothing is done. `Disk`: the disk gave other octets than were
     // written, and the desk is closed.
-    pub(crate) fn withdraw(&mut self) -> Result<(), Fault>
+    pub(crate) fn withdraw(&mut self, what: Withdrawn) -> Result<(), Fault>
         ensures open { OnOk result (is_closed self.old.last ≡ false) }
         ensures last { OnOk result (self.new.last ≡ self.old.last) }
         ensures ended { OnOk result (self.new.conn.in_transaction ≡ false) }
@@ -95,8 +113,8 @@ impl<S: Alter + Drop> Desk<S> {
         if self.last == LastCall::Closed {
             return Err(Fault::Closed);
         }
-        self.filing = None;
-        drop(self.coming.take());
+        drop(self.filing.take());
+        let_go_of_read(&mut self.draft, what);
         if undo(&mut self.conn) {
             return Ok(());
         }
@@ -129,7 +147,7 @@ impl<S: Alter + Drop> Desk<S> {
             shows_still();
             return Ok(());
         }
-        self.withdraw()
+        self.withdraw(Withdrawn::Filed)
     }
 
     // The reply that is kept under an id, or that none is, where a transaction is open: as it is seen beside what is prepared. None where

@@ -6,10 +6,10 @@ use Rattle.dict_index.specs.Views.{line_of}
 use Rattle.dict_search.specs.Entries.{entry_of}
 use Rattle.dict_store.proofs.indexing.index_edition.Goals as goal
 
-pub index_made-requires-clause-few : goal.index_made-requires-clause-few
-index_made-requires-clause-few c =
+pub index_entries-requires : goal.index_entries-requires
+index_entries-requires c =
     let edition = c.args.edition.now in
     omega (arith, c.is_well_formed.ensures.few, length-map edition.lines (entry_in edition.text), length-map c.entries.result.now line_of, ap length c.entries.ensures.lines)
 
 pub returns : goal.returns
-returns c = IfOk-weaker c.index_made.result _ _ (λ index h. h ∙ ap (map entry_of) c.entries.ensures.lines) c.index_made.ensures
+returns c = IfOk-weaker c.index_entries.result _ _ (λ index h. h ∙ ap (map entry_of) c.entries.ensures.lines) c.index_entries.ensures

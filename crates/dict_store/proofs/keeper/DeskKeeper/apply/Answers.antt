@@ -26,11 +26,6 @@ use Rattle.dict_store.proofs.keeper.DeskKeeper.apply.Goals as goal
 abbrev LeftBeside : State → Trees → Type 0
 LeftBeside s trees = IsTrue s.is_open × IsTreesOf (SparesOthers s.committed) trees
 
-pub apply_over-outcome-requires-clause-filed : goal.apply_over-outcome-requires-clause-filed
-apply_over-outcome-requires-clause-filed g c =
-    let before : is_closed c.self.inside.last ≡ false = search rules in
-    c.self.invariant.0.filed before
-
 pub apply_over-outcome-requires-clause-settled : goal.apply_over-outcome-requires-clause-settled
 apply_over-outcome-requires-clause-settled g c =
     let before : is_closed c.self.inside.last ≡ false = search rules in

@@ -1,0 +1,14 @@
+-- The index in memory of an edition that may come, as far as it is made.
+use Rattle.std.specs.Prelude.{◌≡◌, List, length, map, take}
+use Rattle.dict_index.specs.Edition.{ReadEdition}
+use Rattle.dict_index.specs.Meaning.{IsReadEdition}
+use Rattle.dict_search.specs.Entries.{Indexed, entry_of}
+use Rattle.dict_commands.specs.declared.reads.ReadInstall.{ReadInstall}
+use Rattle.dict_store.specs.declared.making.IndexPart.{IndexPart}
+use Rattle.dict_store.specs.declared.making.IndexPart.TheVariants.{Entries, Parts, Lost}
+
+-- whatever edition the install's files say, the index is of so many of its entries, the first ones, or of all; or none is made
+abbrev pub IsIndexOf : ReadInstall → IndexPart → Type 0
+IsIndexOf f (Entries builder) = (reading : ReadEdition) → IsReadEdition f.came.items f.filing.text.items reading → builder ≡ map entry_of (take (length builder) reading.lines)
+IsIndexOf f (Parts making) = (reading : ReadEdition) → IsReadEdition f.came.items f.filing.text.items reading → making.entries ≡ map entry_of reading.lines
+IsIndexOf f Lost = Unit {0}
