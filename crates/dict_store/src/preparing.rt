@@ -1,5 +1,5 @@
 // What a desk prepares of a change that may come.
-ghost use Rattle.std.specs.Prelude.{◌≡◌, ◌⊎◌, true, false, IsTrue, IfErr, IfSome, Ok};
+ghost use Rattle.std.specs.Prelude.{◌≡◌, ◌≢◌, ◌⊎◌, true, false, IsTrue, IfErr, IfSome, None, Ok, Some};
 ghost use Rattle.sqlite.specs.Disk.{MoreFaults};
 ghost use Rattle.sqlite.specs.State.{HasCleanDisk, KeepsCommit, Survives};
 ghost use Rattle.sqlite.specs.Held.{state};
@@ -55,6 +55,24 @@ fn goes_on(more: bool, planned: &mut Coming) -> bool
     planned.make()
 }
 
+// Lets go of what is prepared.
+fn let_go(filing: &mut Option<Coming>)
+    ensures { filing.new ≡ None }
+{
+    drop(filing.take());
+}
+
+// What is told where a part wasn't filed: the fault, if there was one.
+fn told_of(why: Option<Fault>) -> Result<bool, Fault>
+    ensures fault { IfErr result (λ fault. why ≡ Some fault) }
+    ensures never { result ≢ Ok true }
+{
+    match why {
+        Some(fault) => Err(fault),
+        None => Ok(false),
+    }
+}
+
 // Files a bounded part of what is to be prepared over this summary, if anything is, and once all is filed makes a part of its index.
 // What can't be filed is let go of.
 fn file_next<S: Alter>(
@@ -78,13 +96,9 @@ fn file_next<S: Alter>(
     };
     match planned.file(conn, summary) {
         Ok(more) => Ok(goes_on(more, planned)),
-        Err(Some(fault)) => {
-            drop(filing.take());
-            Err(fault)
-        }
-        Err(None) => {
-            drop(filing.take());
-            Ok(false)
+        Err(why) => {
+            let_go(filing);
+            told_of(why)
         }
     }
 }

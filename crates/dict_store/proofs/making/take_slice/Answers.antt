@@ -12,8 +12,8 @@ making-requires c =
 pub take_entries-requires-clause-front : goal.take_entries-requires-clause-front
 take_entries-requires-clause-front c = c.requires.index c.in-Some.reading c.in-Some.ensures
 
-pub returns-then-len-len : goal.returns-then-len-len
-returns-then-len-len c = λ other said.
+pub returns-then-len : goal.returns-then-len
+returns-then-len c = λ other said.
     c.making.ensures.same
     ∙ whole_of_any c.args.install.now.came.items c.args.install.now.filing.text.items c.in-Some.reading c.in-Some.ensures c.one_meaning.ensures.one_reading c.args.builder (omega arith)
     (c.requires.index c.in-Some.reading c.in-Some.ensures) other said
