@@ -94,9 +94,9 @@ module _ {S : Type 0} (g : Ghosts S) where
   more_prepared old conn last texts (Err fault) by is ok h = absurd (let e = ok in cc)
 
 -- memory alone was refused
-pub no_disk : {T P : Type 0} (result : Result T Fault) → IfErr result (λ fault. fault ≡ Memory) → IfErr result (λ fault. fault ≡ Disk → P)
-no_disk (Ok value) h = tt
-no_disk (Err fault) h = λ is. absurd (let e : Memory ≡ Disk = sym h ∙ is in cc)
+pub no_disk : {T : Type 0} (P : Type 0) (result : Result T Fault) → IfErr result (λ fault. fault ≡ Memory) → IfErr result (λ fault. fault ≡ Disk → P)
+no_disk P (Ok value) h = tt
+no_disk P (Err fault) h = λ is. absurd (let e : Memory ≡ Disk = sym h ∙ is in cc)
 
 pub memory_kind : {T : Type 0} (result : Result T Fault) → IfErr result (λ fault. fault ≡ Memory) → IfErr result IsOfStore
 memory_kind (Ok value) h = tt

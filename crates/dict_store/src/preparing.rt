@@ -1,5 +1,5 @@
 // What a desk prepares of a change that may come.
-ghost use Rattle.std.specs.Prelude.{◌≡◌, ◌≢◌, ◌⊎◌, true, false, IsTrue, IfErr, IfSome, None, Ok, Some};
+ghost use Rattle.std.specs.Prelude.{◌≡◌, ◌≢◌, ◌⊎◌, true, false, IsTrue, IfErr, IfSome, Ok, Some};
 ghost use Rattle.sqlite.specs.Disk.{MoreFaults};
 ghost use Rattle.sqlite.specs.State.{HasCleanDisk, KeepsCommit, Survives};
 ghost use Rattle.sqlite.specs.Held.{state};
@@ -17,7 +17,7 @@ use crate::coming::Coming;
 use crate::desk::Desk;
 use crate::kept::{forget_behind, forget_by};
 use crate::last::LastCall;
-use crate::withdrawing::Withdrawn;
+use crate::withdrawing::{Withdrawn, let_go};
 use dict_catalogue::{Command, Summary};
 use dict_commands::{Draft, plan_draft};
 use dict_desk::Fault;
@@ -53,13 +53,6 @@ fn goes_on(more: bool, planned: &mut Coming) -> bool
         return true;
     }
     planned.make()
-}
-
-// Lets go of what is prepared.
-fn let_go(filing: &mut Option<Coming>)
-    ensures { filing.new ≡ None }
-{
-    drop(filing.take());
 }
 
 // What is told where a part wasn't filed: the fault, if there was one.

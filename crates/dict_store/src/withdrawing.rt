@@ -1,5 +1,5 @@
 // What is prepared of a change is undone, before anything that it doesn't fit.
-ghost use Rattle.std.specs.Prelude.{◌≡◌, ◌↔◌, ◌||◌, false, true, IsTrue, IfErr, IfNone, IfSome, OnErr, OnOk, option_map};
+ghost use Rattle.std.specs.Prelude.{◌≡◌, ◌↔◌, ◌||◌, false, true, IsTrue, IfErr, IfNone, IfSome, None, OnErr, OnOk, option_map};
 ghost use Rattle.sqlite.specs.State.{HasCleanDisk, Survives};
 ghost use Rattle.sqlite.specs.Held.{state};
 ghost use Rattle.dict_catalogue.specs.Steps.{Catalogue, kept_under};
@@ -64,6 +64,13 @@ fn are_apart<S: Alter>(conn: &Connection<S>, filing: &Option<Coming>, number: u6
     is_apart(conn, filing, number) && is_apart(conn, filing, column_of(number))
 }
 
+// Lets go of what is prepared.
+pub(crate) fn let_go(filing: &mut Option<Coming>)
+    ensures { filing.new ≡ None }
+{
+    drop(filing.take());
+}
+
 // Lets go of what was prepared, where no transaction is open.
 pub(crate) fn let_go_when_ended<S: Alter>(conn: &Connection<S>, filing: &mut Option<Coming>)
     ensures { LetsGo conn.now filing.old filing.new }
@@ -113,7 +120,7 @@ impl<S: Alter + Drop> Desk<S> {
         if self.last == LastCall::Closed {
             return Err(Fault::Closed);
         }
-        drop(self.filing.take());
+        let_go(&mut self.filing);
         let_go_of_read(&mut self.draft, what);
         if undo(&mut self.conn) {
             return Ok(());

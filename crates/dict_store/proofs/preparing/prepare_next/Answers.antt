@@ -19,7 +19,7 @@ pub returns-then-is_autocommit-clause-keeps : goal.returns-then-is_autocommit-cl
 returns-then-is_autocommit-clause-keeps g c = λ clean. record { was_open = λ live. live; committed = λ live. refl }
 
 pub returns-then-is_autocommit-clause-faulted : goal.returns-then-is_autocommit-clause-faulted
-returns-then-is_autocommit-clause-faulted g c = λ clean. no_disk c.read_next.result c.read_next.ensures.kinds
+returns-then-is_autocommit-clause-faulted g c = λ clean. no_disk _ c.read_next.result c.read_next.ensures.kinds
 
 pub returns-then-is_autocommit-clause-kinds : goal.returns-then-is_autocommit-clause-kinds
 returns-then-is_autocommit-clause-kinds g c = memory_kind c.read_next.result c.read_next.ensures.kinds

@@ -1,5 +1,5 @@
 -- As those of `apply` of a command, at the install of what was read.
-use Rattle.std.proofs.Common.{◌≡◌, true, false, sym, subst, ap, ◌∙◌, arith}
+use Rattle.std.proofs.Common.{◌≡◌, true, false, sym, subst, ap, ◌∙◌, arith, rules}
 use Rattle.std.specs.Prelude.{IsTrue, is_some, IfErr, Option, Result}
 use Rattle.sqlite.specs.Held.{state}
 use Rattle.sqlite.specs.State.{State, HasCleanDisk, Survives}
@@ -105,7 +105,7 @@ returns-clause-done g c =
     let over : AppliesOver g.S.Store summary c.args.id.now command old new c.in-Some.outcome = finished_over g.S.Store summary c.args.id.now c.args.name.now it.0 old new c.in-Some.outcome it.2 c.in-Some.ensures.settled
     (committed_rested g.S.Store summary old (c.self.invariant.0.holds before)) c.self.invariant.0.range in
     let typed = install_read c.args.name.now it.0 in
-    let after = record { conn = new; summary = summary_shown c.take_over.new.summary; last = c.last_by-self-inside.result; indexes = c.settle.new.indexes; texts = c.forget_by.new.texts } in
+    let after : DeskState _ = record { conn = new; summary = summary_shown c.take_over.new.summary; last = c.last_by-self-inside.result; indexes = c.settle.new.indexes; texts = c.forget_by.new.texts } in
     let texts = c.forget_by.ensures ∙ ap (λ (l : LastCall). texts_after l c.self.inside.texts) c.last_by-self-inside.ensures in (
       it.0,
       it.1,

@@ -1,7 +1,8 @@
 use Rattle.std.proofs.Common.{◌≡◌, false, sym, subst, rules}
-use Rattle.std.specs.Prelude.{None}
+use Rattle.std.specs.Prelude.{Option}
 use Rattle.dict_catalogue.specs.Views.{summary_shown}
-use Rattle.dict_store.specs.Desk.{DeskState, Shows, is_closed}
+use Rattle.dict_commands.specs.declared.filing.Filing.{Filing}
+use Rattle.dict_store.specs.Desk.{DeskState, HasFiled, Shows, is_closed}
 use Rattle.dict_store.specs.Kept.{KeepsTexts}
 use Rattle.dict_store.specs.Prepared.{Undoes}
 use Rattle.dict_store.specs.declared.last.LastCall.TheVariants.{Closed}
@@ -12,13 +13,14 @@ use Rattle.dict_store.proofs.desk.Desk.withdraw.Goals as goal
 pub invariant_of-self : goal.invariant_of-self
 invariant_of-self g c =
     let before : is_closed c.self.inside.last ≡ false = search rules in (
-      undone_rests g.S.Store c.self.inside.conn c.undo.new.conn (summary_shown c.self.inside.summary) c.self.inside.filing c.self.inside.last before c.self.invariant.0 c.undo.ensures.survives c.undo.ensures.undone None c.undo.ensures.ended,
+      undone_rests g.S.Store c.self.inside.conn c.undo.new.conn (summary_shown c.self.inside.summary) c.self.inside.filing c.self.inside.last before c.self.invariant.0 c.undo.ensures.survives c.undo.ensures.undone c.let_go.new.filing
+          (subst (λ (f : Option Filing). HasFiled g.S.Store f c.undo.new.conn) (sym c.let_go.ensures) c.undo.ensures.ended),
       c.self.invariant.1,
     )
 
 pub invariant_of-self-2 : goal.invariant_of-self-2
 invariant_of-self-2 g c = (
-  closed_rests g.S.Store (summary_shown c.self.inside.summary) c.self.inside.filing None c.self.inside.last c.self.inside.conn c.undo.new.conn c.self.invariant.0 c.undo.ensures.survives,
+  closed_rests g.S.Store (summary_shown c.self.inside.summary) c.self.inside.filing c.let_go.new.filing c.self.inside.last c.self.inside.conn c.undo.new.conn c.self.invariant.0 c.undo.ensures.survives,
   subst (KeepsTexts Closed (summary_shown c.self.inside.summary)) (sym c.forget_by.ensures) (texts_keep Closed (summary_shown c.self.inside.summary) c.self.inside.texts c.self.invariant.1.made),
 )
 

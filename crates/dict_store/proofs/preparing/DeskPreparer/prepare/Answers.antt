@@ -79,7 +79,7 @@ returns-clause-closed g c =
 
 pub returns-clause-prepared : goal.returns-clause-prepared
 returns-clause-prepared g c = λ clean is.
-    let old = record { conn = c.self.inside.conn; summary = summary_shown c.self.inside.summary; last = c.self.inside.last; indexes = c.self.inside.indexes; texts = c.self.inside.texts } in
+    let old : DeskState _ = record { conn = c.self.inside.conn; summary = summary_shown c.self.inside.summary; last = c.self.inside.last; indexes = c.self.inside.indexes; texts = c.self.inside.texts } in
     subst (λ (d : DeskState _). (c.prepare_next-outcome.new.conn.in_transaction ≡ true)
     ⊎ (record { conn = c.prepare_next-outcome.new.conn; summary = summary_shown c.self.inside.summary; last = c.last_behind-self-inside.result; indexes = c.self.inside.indexes; texts = c.forget_behind.new.texts } ≡ d)) c.self.view_is
     (more_prepared g.S.Store old c.prepare_next-outcome.new.conn c.last_behind-self-inside.result c.forget_behind.new.texts c.prepare_next-outcome.result c.last_behind-self-inside.ensures c.forget_behind.ensures is
