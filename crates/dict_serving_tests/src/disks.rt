@@ -1,4 +1,4 @@
-//! A catalogue on two disks, of which one fails.
+//! A catalogue on two disks, of which one fails. What holds it is any store, but where the two disks are opened.
 ghost use Rattle.std.specs.Prelude.{◌≡◌, ⊤, false, IfOk, IfSome, MatchResult};
 ghost use Rattle.sqlite.specs.State.{HasCleanDisk};
 ghost use Rattle.sqlite.specs.Files.{file_state, over_files};
@@ -6,9 +6,10 @@ ghost use Rattle.sqlite.specs.Held.{state};
 ghost use Rattle.dict_store.specs.Desk.{Shows, LeavesOneOf, is_closed};
 ghost use Rattle.dict_serving.specs.Serving.{Follows, IsNew, IsNone};
 
+use dict_desk::Keeper;
 use dict_messages::{ProgramFault, StoreFault};
 use dict_serving::DeskOpener;
-use dict_store::Desk;
+use dict_store::{Desk, Unopened};
 use sqlite::{Alter, Connection, FileStore, Files, Options};
 use sqlite_disk::{Crash, Disk};
 use std::alloc::Global;
@@ -19,14 +20,20 @@ fn options() -> Options {
     options
 }
 
-// A database on two disks.
-fn opened<D: Disk + Drop>(alloc: Global, files: Files<D>) -> Option<Connection<FileStore<D>>> {
+/// A database on two disks. Where it can't be opened the disks go, by way of their own type, which is cheaper to prove.
+pub(crate) fn opened<D: Disk + Drop>(
+    alloc: Global,
+    files: Files<D>,
+) -> Option<Connection<FileStore<D>>> {
     if !files.may_be_used() {
         return None;
     }
     match Connection::open_files(alloc, files, options()) {
         Ok(conn) => Some(conn),
-        Err(_) => None,
+        Err((_, left)) => {
+            let _files = left.into_files();
+            None
+        }
     }
 }
 
@@ -62,6 +69,44 @@ fn adopt<S: Alter + Drop>(alloc: Global, desk: Desk<S>) -> Result<Desk<S>, Progr
     }
 }
 
+/// What a store stands on, that stops and starts again.
+pub(crate) trait Machine<K: Keeper> {
+    /// The desk over what a stop leaves of the store of another.
+    fn restart(&mut self, desk: K) -> Result<K, ProgramFault<'static>>
+        ensures opened { MatchResult result (IsNew K.shows K.leaves_one_of K.is_trusted (λ _. ⊤)) (IsNone (λ _. ⊤)) }
+        ensures follows { IfOk result (Follows K.shows K.leaves_one_of K.is_trusted desk) };
+}
+
+/// A machine with two disks.
+#[derive(Drop)]
+pub(crate) struct TwoDisks;
+
+impl<D: Crash + Drop> Machine<Desk<FileStore<D>>> for TwoDisks {
+    fn restart(
+        &mut self,
+        desk: Desk<FileStore<D>>,
+    ) -> Result<Desk<FileStore<D>>, ProgramFault<'static>> {
+        restart(desk)
+    }
+}
+
+// The disks go where no desk was opened, by way of their own type.
+fn let_go<D: Disk + Drop>(left: Unopened<D>) {
+    match left {
+        Unopened::Spent(_files) => {}
+        Unopened::Database(conn) => match conn.close_files() {
+            Ok(_files) => {}
+            Err((_, store)) => {
+                let _files = store.close();
+            }
+        },
+        Unopened::Files(Some(left)) => {
+            let _files = left.into_files();
+        }
+        Unopened::Files(None) => {}
+    }
+}
+
 // The desk over what a stop leaves of the disks of another.
 fn restart<D: Crash + Drop>(
     desk: Desk<FileStore<D>>,
@@ -73,36 +118,53 @@ fn restart<D: Crash + Drop>(
 {
     match desk.restart(options()) {
         Ok(desk) => Ok(desk),
-        Err((_, fault)) => Err(ProgramFault::from(fault)),
+        Err((left, fault)) => {
+            let_go(left);
+            Err(ProgramFault::from(fault))
+        }
     }
 }
 
-/// The catalogue on two disks, and how often it was opened again.
+/// The desk that was closed last, if there is one.
+struct Closed<S: Alter + Drop> {
+    desk: Option<Desk<S>>,
+}
+
+// It is written out, so that a caller doesn't prove again how a desk is let go of.
+impl<S: Alter + Drop> Drop for Closed<S> {
+    fn drop(self) {
+        let Closed { desk } = self;
+        drop(desk);
+    }
+}
+
+/// The catalogue on a machine, and how often it was opened again.
 #[derive(Drop)]
-pub(crate) struct Disks<D: Crash + Drop> {
+pub(crate) struct Held<S: Alter + Drop, M: Drop> {
     alloc: Global,
-    closed: Option<Desk<FileStore<D>>>,
+    machine: M,
+    closed: Closed<S>,
     pub(crate) reopened: u64,
 }
 
-impl<D: Crash + Drop> Disks<D> {
-    /// A new catalogue on two disks. Where it can't be made, there is none to open.
-    pub(crate) fn new(alloc: Global, files: Files<D>) -> Disks<D> {
-        Disks {
+impl<S: Alter + Drop, M: Drop> Held<S, M> {
+    /// A new catalogue in this database. Where it can't be made, there is none to open.
+    pub(crate) fn new(alloc: Global, machine: M, conn: Connection<S>) -> Held<S, M> {
+        Held {
             alloc,
-            closed: match opened(alloc, files) {
-                Some(conn) => made(alloc, conn),
-                None => None,
+            machine,
+            closed: Closed {
+                desk: made(alloc, conn),
             },
             reopened: 0,
         }
     }
 }
 
-impl<D: Crash + Drop> DeskOpener<Desk<FileStore<D>>> for Disks<D> {
+impl<S: Alter + Drop, M: Machine<Desk<S>> + Drop> DeskOpener<Desk<S>> for Held<S, M> {
     ghost use Rattle.std.specs.Prelude.{None, MatchOption, ⊤};
     ghost use Rattle.sqlite.specs.State.{HasCleanDisk};
-    ghost use Rattle.sqlite.specs.Files.{file_state, over_files};
+    ghost use Rattle.sqlite.specs.Held.{state};
     ghost use Rattle.dict_store.specs.Desk.{Shows, is_closed};
 
     ghost history = { λ _. None };
@@ -113,34 +175,30 @@ impl<D: Crash + Drop> DeskOpener<Desk<FileStore<D>>> for Disks<D> {
 
     ghost is_unreopened = { λ _ _ _ _. ⊤ };
 
-    ghost is_safe = { λ one. MatchOption one.closed ⊤ (λ desk. HasCleanDisk (file_state desk.conn)) };
+    ghost is_safe = { λ one. MatchOption one.closed.desk ⊤ (λ desk. HasCleanDisk (state S.Store desk.conn)) };
 
-    ghost holds_alone = { λ one M. MatchOption one.closed ⊥ (λ desk. Shows over_files desk M) };
+    ghost holds_alone = { λ one shown. MatchOption one.closed.desk ⊥ (λ desk. Shows S.Store desk shown) };
 
     ghost still_leaves = { λ _ _ _. ⊤ };
 
     ghost is_uncopied = { λ _ _ _. ⊤ };
 
-    fn open<'w>(&mut self, _path: &'w str) -> Result<Desk<FileStore<D>>, ProgramFault<'w>> {
-        match self.closed.take() {
+    fn open<'w>(&mut self, _path: &'w str) -> Result<Desk<S>, ProgramFault<'w>> {
+        match self.closed.desk.take() {
             Some(desk) => adopt(self.alloc, desk),
             None => Err(ProgramFault::Store(StoreFault::Closed)),
         }
     }
 
-    /// What a stop leaves of the two disks is opened.
-    fn reopen<'w>(
-        &mut self,
-        _path: &'w str,
-        desk: Desk<FileStore<D>>,
-    ) -> Result<Desk<FileStore<D>>, ProgramFault<'w>> {
+    /// What a stop leaves of the store is opened.
+    fn reopen<'w>(&mut self, _path: &'w str, desk: Desk<S>) -> Result<Desk<S>, ProgramFault<'w>> {
         self.reopened = self.reopened.saturating_add(1);
-        restart(desk)
+        self.machine.restart(desk)
     }
 
     /// The desk is kept as it is.
-    fn close(&mut self, desk: Desk<FileStore<D>>) -> Result<(), ProgramFault<'static>> {
-        self.closed = Some(desk);
+    fn close(&mut self, desk: Desk<S>) -> Result<(), ProgramFault<'static>> {
+        self.closed = Closed { desk: Some(desk) };
         Ok(())
     }
 }

@@ -1,10 +1,12 @@
 //! A session that meets a failed store, and answers once the catalogue is opened anew.
 use crate::checks::holds;
 use crate::clients::Client;
-use crate::disks::Disks;
+use crate::disks::{Held, Machine, TwoDisks, opened};
 use dict_driver::{Driver, System};
 use dict_preparing::Preparer;
 use dict_serving::{DeskOpener, serve_rounds};
+use dict_store::Desk;
+use sqlite::{Alter, Connection};
 use sqlite_disk::{Crash, Files, Fuse, Memory};
 use std::alloc::Global;
 use std::net::{Net, TcpStream};
@@ -114,8 +116,11 @@ fn take_step<N: Net<Stream = TcpStream>, K: Preparer + Drop, W: DeskOpener<K>>(
     step: Step,
 ) -> Result<(), Fail> {
     match step {
-        Step::Come => both.editor = Some(Client::new(net, alloc, driver.addresses().1)?),
-        Step::Leave => both.editor = None,
+        Step::Come => {
+            let editor = Client::new(net, alloc, driver.addresses().1)?;
+            drop(both.editor.replace(editor));
+        }
+        Step::Leave => drop(both.editor.take()),
         Step::Serve(rounds) => serve(desks, driver, rounds)?,
         Step::Send(is_editor, octets) => both.client(is_editor)?.send(octets)?,
         Step::Poll(is_editor, octets) => both.client(is_editor)?.poll(octets)?,
@@ -148,7 +153,9 @@ fn meet_a_failure<N: Net<Stream = TcpStream>, K: Preparer + Drop, W: DeskOpener<
         reader: Client::new(net, alloc, dict)?,
         editor: None,
     };
-    go_on(net, alloc, desks, driver, &mut both)
+    let end = go_on(net, alloc, desks, driver, &mut both);
+    drop(both);
+    end
 }
 
 // The same over a new server.
@@ -158,18 +165,36 @@ fn meet_a_failure_anew<K: Preparer + Drop, W: DeskOpener<K>>(
     desks: &mut W,
 ) -> Result<(), Fail> {
     let mut driver = Driver::bind(&System, rt, alloc, FREE, FREE, "localhost")?;
-    meet_a_failure(rt, alloc, desks, &mut driver)
+    let end = meet_a_failure(rt, alloc, desks, &mut driver);
+    drop(driver);
+    end
 }
 
-// How often the catalogue on these disks was opened anew.
-fn outlived<D: Crash + Drop>(
+// How often the catalogue in this database was opened anew.
+fn reopened<S: Alter + Drop, M: Machine<Desk<S>> + Drop>(
+    rt: &HostRuntime,
+    alloc: Global,
+    machine: M,
+    conn: Connection<S>,
+) -> Result<u64, Fail> {
+    let mut desks = Held::new(alloc, machine, conn);
+    let end = meet_a_failure_anew(rt, alloc, &mut desks);
+    let reopened = desks.reopened;
+    drop(desks);
+    end?;
+    Ok(reopened)
+}
+
+// The same of a database on these disks.
+fn reopened_on<D: Crash + Drop>(
     rt: &HostRuntime,
     alloc: Global,
     files: Files<D>,
 ) -> Result<u64, Fail> {
-    let mut disks = Disks::new(alloc, files);
-    meet_a_failure_anew(rt, alloc, &mut disks)?;
-    Ok(disks.reopened)
+    match opened(alloc, files) {
+        Some(conn) => reopened(rt, alloc, TwoDisks, conn),
+        None => Err(Fail::new("no database")),
+    }
 }
 
 #[test]
@@ -180,6 +205,6 @@ fn a_session_outlives_a_failed_store(rt: HostRuntime) -> Result<(), Fail> {
         log: Fuse::new(Memory::new(alloc), 40),
         db: Fuse::new(Memory::new(alloc), u64::MAX),
     };
-    holds(&rt, outlived(&rt, alloc, files)? == 1, "once");
+    holds(&rt, reopened_on(&rt, alloc, files)? == 1, "once");
     Ok(())
 }

@@ -9,5 +9,5 @@ returns-in-Ok-clause-opened g c = record {
   alone = λ clean. let over = c.in-Ok.ensures.restarted.over.adopted in let it = over.shows clean in (it.0, it.2, over.only it.0 it.2);
 }
 
-pub returns-clause-opened : goal.returns-clause-opened
-returns-clause-opened g c = (tt, subst IsOfFile (sym c.from.ensures) (restart_of_file c.args.desk c.in-Err.field-0-0 c.in-Err.fault c.in-Err.ensures.unopened))
+pub returns-in-Err-clause-opened : goal.returns-in-Err-clause-opened
+returns-in-Err-clause-opened g c = (tt, subst IsOfFile (sym c.from.ensures) (restart_of_file c.args.desk c.in-Err.left c.in-Err.fault c.in-Err.ensures.unopened))
