@@ -5,8 +5,8 @@ ghost use Rattle.dict_index.specs.Views.{octets_of};
 
 use memchr::memchr;
 
-// What stands before the first such octet, and what behind it.
-pub(crate) fn cut_at(octet: u8, octets: &[u8]) -> Option<(&[u8], &[u8])>
+/// What stands before the first such octet, and what behind it.
+pub fn cut_at(octet: u8, octets: &[u8]) -> Option<(&[u8], &[u8])>
     ensures { MatchOption result (HasNo octet octets.now) (λ parts. IsCutAt octet octets.now parts.0.now parts.1.now) }
 {
     let place = memchr(octet, octets)?;
@@ -15,7 +15,7 @@ pub(crate) fn cut_at(octet: u8, octets: &[u8]) -> Option<(&[u8], &[u8])>
 
 /// The three columns of a line, and the fourth where it has one.
 #[derive(Clone, Copy)]
-pub(crate) struct Columns<'a> {
+pub struct Columns<'a> {
     pub headword: &'a [u8],
     pub offset: &'a [u8],
     pub size: &'a [u8],
@@ -35,8 +35,8 @@ fn last_columns(rest: &[u8]) -> Option<(&[u8], Option<&[u8]>)>
     Some((size, Some(shown)))
 }
 
-// The columns of a line, if it has two tabs or three.
-pub(crate) fn columns_of(line: &[u8]) -> Option<Columns<'_>>
+/// The columns of a line, if it has two tabs or three.
+pub fn columns_of(line: &[u8]) -> Option<Columns<'_>>
     ensures { MatchOption result ((count_by (λ octet. octet == 9) line.now ≢ 2) × (count_by (λ octet. octet == 9) line.now ≢ 3))
         (λ c. AreColumns line.now c.headword.now c.offset.now c.size.now (octets_of c.shown)) }
 {

@@ -14,6 +14,7 @@ mod reading;
 mod title;
 mod whole;
 
+pub use columns::{Columns, columns_of, cut_at};
 pub use edition::Edition;
 pub use entry::Entry;
 pub use fault::{EditionRefusal, IndexFault};
@@ -23,3 +24,5 @@ pub use laws::{
 pub use limits::{MAX_LINES, MAX_TEXT, entry_key, is_edition_text, is_shown};
 pub use line::cut_out;
 pub use reading::read_edition;
+pub use title::{is_title, refused, title_of, without_key_line};
+pub use whole::whole_refusal;

@@ -28,12 +28,8 @@ fn has_key(alloc: Global, line: &str, key: &[u8]) -> Result<bool, AllocError>
     Ok(line_key.as_bytes() == key)
 }
 
-// The text without its first line, where that line has the key.
-pub(crate) fn without_key_line<'a>(
-    alloc: Global,
-    text: &'a str,
-    key: &[u8],
-) -> Result<&'a str, AllocError>
+/// The text without its first line, where that line has the key.
+pub fn without_key_line<'a>(alloc: Global, text: &'a str, key: &[u8]) -> Result<&'a str, AllocError>
     ensures { IfOk result (λ rest. rest.now ≡ without_key_line key.now text.now) }
 {
     let Some((first, rest)) = cut_at(b'\n', text.as_bytes()) else {
@@ -63,8 +59,8 @@ fn first_line(text: &str) -> Option<&str>
     }
 }
 
-// The first line that remains of the short text, without blanks at its ends.
-pub(crate) fn title_of<'a>(alloc: Global, short: &'a str) -> Result<Option<&'a str>, AllocError>
+/// The first line that remains of the short text, without blanks at its ends.
+pub fn title_of<'a>(alloc: Global, short: &'a str) -> Result<Option<&'a str>, AllocError>
     ensures { IfOk result (λ title. option_map (λ line. line.now) title
         ≡ option_map without_blanks_at_ends (slice_get (text_lines (without_key_line short_key short.now)) 0)) }
 {
@@ -75,8 +71,8 @@ pub(crate) fn title_of<'a>(alloc: Global, short: &'a str) -> Result<Option<&'a s
     Ok(Some(as_text(without_blanks_at_ends(line.as_bytes()))))
 }
 
-// Whether a text may be a title.
-pub(crate) fn is_title(title: &str) -> bool
+/// Whether a text may be a title.
+pub fn is_title(title: &str) -> bool
     ensures { MatchBool result (IsTitle title.now) (¬ IsTitle title.now) }
 {
     !title.is_empty() && title.len() <= MAX_TITLE && !has_control(title.as_bytes())
@@ -119,8 +115,8 @@ pub(crate) fn title_and_info<'a>(
     }
 }
 
-// A refusal without a line.
-pub(crate) fn refused(refusal: EditionRefusal) -> IndexFault
+/// A refusal without a line.
+pub fn refused(refusal: EditionRefusal) -> IndexFault
     ensures { result ≡ IndexFault.Refused refusal None }
 {
     IndexFault::Refused {

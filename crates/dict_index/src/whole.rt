@@ -10,8 +10,8 @@ use crate::limits::{MAX_LINES, MAX_TEXT};
 use bstr::ByteSlice;
 use dict_text::text_lines;
 
-// The first test of the whole files that fails.
-pub(crate) fn whole_refusal(index: &[u8], text: &[u8]) -> Option<EditionRefusal>
+/// The first test of the whole files that fails.
+pub fn whole_refusal(index: &[u8], text: &[u8]) -> Option<EditionRefusal>
     ensures { MatchOption result (PassWholes index.now text.now) (λ refusal. FailsWhole refusal index.now text.now) }
 {
     if text.len() > MAX_TEXT {

@@ -1,58 +1,12 @@
 // Whether a schema has the table of the mark, to which a foreign key may refer.
-ghost use Rattle.std.specs.Prelude.{◌≡◌, ◌↔◌, ◌==◌, [], ◌∷◌, codes, IsTrue, true, count_by, nat_eq};
+ghost use Rattle.std.specs.Prelude.{◌≡◌, ◌↔◌, ◌==◌, IsTrue, count_by, nat_eq};
 ghost use Rattle.std.specs.List.{list_any};
 ghost use Rattle.std.specs.Cmp.Lexicographic.{pointwise};
-ghost use Rattle.sqlite.specs.Kind.TheVariants.{Integer};
 ghost use Rattle.dict_tables.specs.Found.{is_further_key};
-ghost use Rattle.dict_tables.specs.Tables.{mark, column_of};
 ghost use Rattle.dict_opening.specs.Marks.{HasMarkTable, IsSingle};
 
-use dict_tables::{find_table, is_column, is_plain};
-use sqlite_schema::schema::{Column, Index, Kind, Schema, Table};
-
-fn are_count_columns(columns: &[Column]) -> bool
-    ensures { IsTrue result ↔ columns.now ≡ column_of (codes "version") Integer true ∷ column_of (codes "installs") Integer true ∷ [] }
-{
-    match columns {
-        [version, installs] => {
-            is_column(version, b"version", Kind::Integer, true)
-                && is_column(installs, b"installs", Kind::Integer, true)
-        }
-        _ => false,
-    }
-}
-
-fn are_mark_columns(columns: &[Column]) -> bool
-    ensures { IsTrue result ↔ columns.now ≡ (mark 0).columns }
-{
-    match columns {
-        [id, magic, counts @ ..] => {
-            is_column(id, b"id", Kind::Integer, true)
-                && is_column(magic, b"magic", Kind::Text, true)
-                && are_count_columns(counts)
-        }
-        _ => false,
-    }
-}
-
-fn are_mark_keys(t: &Table) -> bool
-    ensures { IsTrue result ↔ (t.now.key ≡ (mark 0).key) × (t.now.primary ≡ (mark 0).primary) × (t.now.uniques ≡ (mark 0).uniques) × (t.now.orders ≡ (mark 0).orders) }
-{
-    t.key == Some(0)
-        && t.primary.as_slice() == [0].as_slice()
-        && t.uniques.is_empty()
-        && t.orders.is_empty()
-}
-
-// Whether a table is that of the mark but for its tree.
-fn is_mark(t: &Table) -> bool
-    ensures { IsTrue result ↔ t.now ≡ mark t.now.tree }
-{
-    t.name.as_slice() == b"mark".as_slice()
-        && are_mark_columns(t.columns.as_slice())
-        && are_mark_keys(t)
-        && is_plain(t)
-}
+use dict_tables::{find_table, is_mark};
+use sqlite_schema::schema::{Index, Schema, Table};
 
 fn count_in_tree(schema: &Schema, tree: u32) -> usize
     ensures { result ≡ count_by (λ t. t.tree == tree) schema.now.tables }

@@ -11,7 +11,6 @@ mod places;
 mod reader;
 mod reading;
 mod title;
-mod whole;
 
 pub use places::EntryPlace;
 pub use reader::{EditionReader, SLICE_LINES, SLICE_OCTETS};

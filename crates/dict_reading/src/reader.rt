@@ -4,13 +4,11 @@ ghost use Rattle.dict_index.specs.Meaning.{IsReadEdition};
 ghost use Rattle.dict_index.specs.Refused.{IsIndexFault};
 ghost use Rattle.dict_reading.specs.Lines.{told_at};
 
-use crate::columns::cut_at;
 use crate::gathered::Gathered;
 use crate::line::LineFault;
 use crate::reading::Reading;
 use crate::title::title_and_info;
-use crate::whole::whole_refusal;
-use dict_index::IndexFault;
+use dict_index::{IndexFault, cut_at, whole_refusal};
 use std::alloc::Global;
 
 /// A slice has so many lines at most.

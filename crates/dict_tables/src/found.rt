@@ -118,7 +118,8 @@ fn are_mark_keys(t: &Table) -> bool
         && t.orders.is_empty()
 }
 
-fn is_mark(t: &Table) -> bool
+/// Whether a table is that of the mark but for its tree.
+pub fn is_mark(t: &Table) -> bool
     ensures { IsTrue result ↔ t.now ≡ mark t.now.tree }
 {
     t.name.as_slice() == b"mark".as_slice()

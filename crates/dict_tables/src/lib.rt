@@ -9,7 +9,8 @@ mod room;
 mod tables;
 
 pub use found::{
-    find_table, has_table, is_column, is_only_key, is_only_plain_order, is_plain, is_unshared,
+    find_table, has_table, is_column, is_mark, is_only_key, is_only_plain_order, is_plain,
+    is_unshared,
 };
 pub use keyed::KeyedTable;
 pub use names::{is_name_used, is_own_name_used, lacks_counting_table};
