@@ -6,7 +6,7 @@ here=$(cd "$(dirname "$0")" && pwd)
 source "$here/build.sh"
 work=$(mktemp -d)
 trap 'rm -rf "$work"' EXIT
-crates="dict_session dict_desk dict_catalogue dict_index dict_io"
+crates="dict_session dict_desk dict_catalogue dict_index dict_proto"
 other=$(build "$work/other" session "$crates" "$1")
 ours=$(build "$work/here" session "$crates")
 "$here/../plain.py" 5 "$other" "$ours"

@@ -1,7 +1,7 @@
 //! Numbers in base 64, read and written.
 
 use crate::checks::holds;
-use dict_b64::{MAX_DIGITS, NumberFault, read_number, write_number};
+use dict_text::{MAX_DIGITS, NumberFault, read_number, write_number};
 
 static READ: [(&[u8], Result<u64, NumberFault>); 12] = [
     (b"A", Ok(0)),

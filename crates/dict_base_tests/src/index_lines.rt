@@ -1,7 +1,7 @@
 //! Lines of an index as they are stored, worked by hand.
 
 use crate::checks::holds;
-use dict_index_lines::{read_line, write_line};
+use dict_parts::{read_line, write_line};
 use std::test::Fail;
 
 struct Row {

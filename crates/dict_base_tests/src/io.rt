@@ -1,7 +1,7 @@
 //! Sources and sinks over readers and writers.
 
 use crate::checks::same;
-use dict_io::{LimitedSink, OverRead, OverWrite, Sink, SinkFault, Source, SourceFault, put_all};
+use dict_proto::{LimitedSink, OverRead, OverWrite, Sink, SinkFault, Source, SourceFault, put_all};
 use std::io::{Error, ErrorKind, Read, Result as IoResult, Write};
 use std::test::Fail;
 

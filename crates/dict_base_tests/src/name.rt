@@ -1,7 +1,7 @@
 //! Names, ids and titles.
 
 use crate::checks::holds;
-use dict_name::{is_name, is_request_id, is_title};
+use dict_text::{is_name, is_request_id, is_title};
 
 static NAMES: [(&str, bool); 15] = [
     ("a", true),

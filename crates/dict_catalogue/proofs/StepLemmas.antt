@@ -3,7 +3,7 @@ use Rattle.std.proofs.Common.{◌≡◌, ℕ, Bool, true, false, List, [], ◌�
 use Rattle.std.specs.Prelude.{map, cond, Option, Some, None}
 use Rattle.std.proofs.lemmas.List.{map-append}
 use Rattle.dict_index.specs.Edition.{Edition}
-use Rattle.dict_name.specs.Names.{is_request_id}
+use Rattle.dict_text.specs.Names.{is_request_id}
 use Rattle.dict_catalogue.specs.Commands.{Command}
 use Rattle.dict_catalogue.specs.Tests.{Test, wants, tests_of, first_failing, refusal_of}
 use Rattle.dict_catalogue.specs.Effects.{KeptReply}

@@ -9,7 +9,7 @@ use Rattle.std.proofs.lemmas.Bool.Decides.{nat_tests}
 use Rattle.std.proofs.lemmas.List.Folds.{list_any-append}
 use Rattle.dict_index.specs.Edition.{Edition}
 use Rattle.dict_index.specs.WellFormed.{IsWellFormedEdition}
-use Rattle.dict_name.specs.Names.{is_name, is_request_id}
+use Rattle.dict_text.specs.Names.{is_name, is_request_id}
 use Rattle.dict_catalogue.specs.Items.{Stored, Item, regular, virtual, name_of, is_regular, is_virtual, members_of, editions_of, is_named, lists, is_among, is_known, names_regular, names_virtual, is_listed, current_number, numbers_of, edition_numbers}
 use Rattle.dict_catalogue.specs.Commands.{Command, install, rollback, retire, put_virtual, place, target, verb_of}
 use Rattle.dict_catalogue.specs.Tests.{Holdings, tests_of, has_room, has_turn}

@@ -1,7 +1,7 @@
 -- A catalogue, and what one command or a list of commands makes of it.
 use Rattle.std.specs.Prelude.{◌≡◌, IsTrue, ℕ, Bool, true, false, List, [], ◌∷◌, ◌++◌, length, Option, Some, None, bytes_eq, if◌then◌else◌}
 use Rattle.dict_index.specs.Edition.{Edition}
-use Rattle.dict_name.specs.Names.{is_request_id}
+use Rattle.dict_text.specs.Names.{is_request_id}
 use Rattle.dict_catalogue.specs.Items.{Item}
 use Rattle.dict_catalogue.specs.Commands.{Command, command_as}
 use Rattle.dict_catalogue.specs.Tests.{Test, wants, Holdings, holdings_as, tests_of, refusal_of}

@@ -1,6 +1,6 @@
 -- The tests that a command has to pass, in order, and the refusal of the first that fails.
 use Rattle.std.specs.Prelude.{ℕ, Bool, not, ◌&&◌, ◌||◌, nat_lt, nat_le, List, [], ◌∷◌, ◌++◌, length, Option, Some, None, if◌then◌else◌}
-use Rattle.dict_name.specs.Names.{is_name, is_title}
+use Rattle.dict_text.specs.Names.{is_name, is_title}
 use Rattle.dict_catalogue.specs.Items.{Item, is_known, names_regular, names_virtual, names_former, is_listed, is_among, item_as}
 use Rattle.dict_catalogue.specs.Commands.{Command, install, rollback, retire, put_virtual, place}
 use Rattle.dict_catalogue.specs.declared.fault.CommandRefusal.{CommandRefusal}

@@ -4,7 +4,7 @@ use Rattle.std.specs.List.{AllByRecursion}
 use Rattle.std.specs.Str.{IsUtf8}
 use Rattle.dict_index.specs.Edition.{Edition}
 use Rattle.dict_index.specs.WellFormed.{IsEditionTitle, IsWellFormedEdition}
-use Rattle.dict_name.specs.Names.{is_name, is_request_id}
+use Rattle.dict_text.specs.Names.{is_name, is_request_id}
 use Rattle.dict_catalogue.specs.Items.{Item, regular, virtual, name_of, members_of, editions_of, names_regular, edition_numbers}
 use Rattle.dict_catalogue.specs.Commands.{Command, install, rollback, retire, put_virtual, place}
 use Rattle.dict_catalogue.specs.Steps.{KeptFor, Catalogue}

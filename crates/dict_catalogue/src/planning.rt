@@ -3,7 +3,7 @@ ghost use Rattle.std.specs.Prelude.{◌≡◌, ◌++◌, ◌+◌, ◌<◌, ◌�
 ghost use Rattle.std.specs.List.{list_any};
 ghost use Rattle.dict_catalogue.specs.Items.{numbers_of, edition_numbers};
 ghost use Rattle.dict_catalogue.specs.Effects.{editions_gone, installs_after, edition_told};
-ghost use Rattle.dict_name.specs.Names.{is_request_id};
+ghost use Rattle.dict_text.specs.Names.{is_request_id};
 ghost use Rattle.dict_catalogue.specs.Steps.{Catalogue, summary_of, kept_under, step};
 ghost use Rattle.dict_catalogue.specs.Views.{item_shown, summary_shown, command_shown, command_meant, IsEffect, IsChange, IsFaultOf, IsPlanOf};
 
@@ -31,7 +31,7 @@ pub struct PlannedChange {
 /// reply to be kept, or the refusal of the first of its tests that fails. `Memory` is answered only where a growth
 /// was refused. Nothing is changed.
 ///
-/// The request's id is not among what is planned: a caller has refused an unlawful id (`dict_name::is_request_id`) and
+/// The request's id is not among what is planned: a caller has refused an unlawful id (`dict_text::is_request_id`) and
 /// answered a kept one before. Over every catalogue with this summary the plan then is what the command does there.
 pub fn plan(alloc: Global, summary: &Summary, command: &Command) -> Result<PlannedChange, PlanFault>
     ensures over_summary { MatchResult result (IsChange (summary_shown summary.now) (command_shown command.now)) (IsFaultOf (summary_shown summary.now) (command_shown command.now)) }

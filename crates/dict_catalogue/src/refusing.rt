@@ -8,7 +8,7 @@ use crate::commands::Command;
 use crate::fault::CommandRefusal;
 use crate::lookups::{is_known, is_listed, names_former, names_regular, names_virtual};
 use crate::summary::{Item, Summary};
-use dict_name::{is_name, is_title};
+use dict_text::{is_name, is_title};
 
 /// The most items of a catalogue.
 pub const MAX_ITEMS: usize = 64;

@@ -21,8 +21,8 @@ use Rattle.dict_desk.specs.declared.fault.Fault.TheVariants.{Refused, Memory, Di
 use Rattle.dict_rows.specs.After.{Installed, is_gone}
 use Rattle.dict_rows.specs.Versions.{known}
 use Rattle.dict_rows.proofs.TakenLemmas.{nat_same, same_itself}
-use Rattle.dict_files.specs.AllTables.{AllTables, IsNew, with_derived, all_after}
-use Rattle.dict_files.proofs.FileLemmas.{is_new}
+use Rattle.dict_holdings.specs.AllTables.{AllTables, IsNew, with_derived, all_after}
+use Rattle.dict_holdings.proofs.FileLemmas.{is_new}
 use Rattle.dict_holdings.specs.Texts.{text_rows}
 use Rattle.dict_commands.specs.Kept.{HasRecords, KeepsTexts, Turns}
 use Rattle.dict_commands.specs.Changes.{change_by, installed_by, IsWritable}

@@ -8,13 +8,13 @@ use Rattle.sqlite.specs.Held.{Held, state}
 use Rattle.sqlite.specs.declared.error.Error.{Error}
 use Rattle.sqlite_trees.specs.declared.store.Store.{Ghosts}
 use Rattle.dict_sql.specs.Inserts.{Inserts, FailsToInsert}
-use Rattle.dict_header_sql.specs.Records.{header_row}
+use Rattle.dict_edition_sql.specs.HeaderRecords.{header_row}
 use Rattle.dict_records.specs.Records.{Edition, Header, header_of}
 use Rattle.dict_rows.specs.After.{Installed, installed_entries}
 use Rattle.dict_rows.specs.Written.{edition_record}
-use Rattle.dict_index_lines.specs.Stored.{stored_index}
-use Rattle.dict_files.specs.Files.{parts_under, installed_parts}
-use Rattle.dict_files.specs.AllTables.{AllTables}
+use Rattle.dict_parts.specs.Stored.{stored_index}
+use Rattle.dict_holdings.specs.Files.{parts_under, installed_parts}
+use Rattle.dict_holdings.specs.AllTables.{AllTables}
 use Rattle.dict_commands.specs.Kept.{HasRecords}
 use Rattle.dict_commands.specs.Changes.{with_more_editions, with_more_parts, with_installed}
 use Rattle.dict_commands.specs.Statements.{adding_edition, installing}

@@ -8,7 +8,7 @@ use Rattle.sqlite.specs.Held.{Held, state}
 use Rattle.sqlite_trees.specs.declared.store.Store.{Ghosts}
 use Rattle.dict_desk.specs.Faults.{is_failure}
 use Rattle.dict_index.specs.Edition.{Edition}
-use Rattle.dict_name.specs.Names.{is_request_id}
+use Rattle.dict_text.specs.Names.{is_request_id}
 use Rattle.dict_catalogue.specs.Commands.{Command}
 use Rattle.dict_catalogue.specs.Tests.{Holdings, refusal_of}
 use Rattle.dict_catalogue.specs.Effects.{KeptReply, effect, reply_to}
@@ -24,8 +24,8 @@ use Rattle.dict_desk.specs.declared.fault.Fault.TheVariants.{Refused, Memory, Di
 use Rattle.dict_rows.specs.After.{TableChange, IsChange as IsAChange, tables_after}
 use Rattle.dict_rows.proofs.ChangeLemmas.{after_stands}
 use Rattle.dict_rows.specs.Versions.{known, layout_of}
-use Rattle.dict_files.specs.AllTables.{AllTables, with_derived, all_after}
-use Rattle.dict_files.proofs.FileLemmas.{after_is, is_new}
+use Rattle.dict_holdings.specs.AllTables.{AllTables, with_derived, all_after}
+use Rattle.dict_holdings.proofs.FileLemmas.{after_is, is_new}
 use Rattle.dict_holdings.specs.Readings.{KeepsAll}
 use Rattle.dict_holdings.specs.Faults.{IsUnread}
 use Rattle.dict_holdings.specs.Holds.{Holds, Rests, IsLeftAs}

@@ -14,7 +14,7 @@ use Rattle.dict_catalogue.specs.Items.{Stored, Item, regular, virtual, is_named,
 use Rattle.dict_catalogue.specs.Commands.{Command, install, rollback, retire, put_virtual, place}
 use Rattle.dict_catalogue.specs.Tests.{Test, Holdings, wants, first_failing, refusal_of, has_turn, has_room, has_member_count, member_tests}
 use Rattle.dict_catalogue.specs.declared.fault.CommandRefusal.TheVariants.{BadName, Unknown, IsVirtual, NoFormer, Listed, CatalogueFull, MemberCount, BadTitle, BadPlace, IsRegular}
-use Rattle.dict_name.specs.Names.{is_name, is_title}
+use Rattle.dict_text.specs.Names.{is_name, is_title}
 use Rattle.dict_catalogue.specs.Effects.{effect, items_after, installs_after, edition_told, editions_gone, reply_to}
 use Rattle.dict_catalogue.specs.Steps.{Catalogue, holdings, summary_of}
 use Rattle.dict_catalogue.specs.WellFormed.{IsWellFormed}

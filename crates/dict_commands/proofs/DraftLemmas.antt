@@ -17,9 +17,9 @@ use Rattle.dict_index.specs.Tests.{IfSays}
 use Rattle.dict_index.specs.WellFormed.{IsWellFormedEntry}
 use Rattle.dict_index.specs.declared.fault.EditionRefusal.TheVariants.{Interval}
 use Rattle.dict_index.proofs.WellFormedLemmas.{text_few, well_formed}
-use Rattle.dict_index_lines.specs.Stored.{stored_index, stored_line, IsStorable}
-use Rattle.dict_index_lines.proofs.IndexLemmas.{pushed}
-use Rattle.dict_index_lines.proofs.StoredLemmas.{of_entries}
+use Rattle.dict_parts.specs.Stored.{stored_index, stored_line, IsStorable}
+use Rattle.dict_parts.proofs.IndexLemmas.{pushed}
+use Rattle.dict_parts.proofs.StoredLemmas.{of_entries}
 use Rattle.dict_catalogue.specs.Commands.{install}
 use Rattle.dict_catalogue.specs.WellFormed.{IsLawfulCommand}
 use Rattle.dict_reading.specs.Slices.{IsSlice}

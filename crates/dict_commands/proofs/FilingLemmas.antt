@@ -17,7 +17,7 @@ use Rattle.sqlite.specs.Order.{Row}
 use Rattle.dict_records.specs.Records.{Edition, Entry, Part}
 use Rattle.dict_sql.specs.Effects.{WhileOpen, equals_number, rows_of}
 use Rattle.dict_sql.specs.Encodings.{kept_row}
-use Rattle.dict_part_sql.specs.Records.{part_row}
+use Rattle.dict_edition_sql.specs.PartRecords.{part_row}
 use Rattle.dict_catalogue.specs.Steps.{KeptFor}
 use Rattle.dict_rows.specs.Tables.{same_number}
 use Rattle.dict_rows.specs.After.{Installed, TableChange, is_gone, installed_editions}
@@ -26,8 +26,8 @@ use Rattle.dict_rows.specs.Versions.{known}
 use Rattle.dict_rows.proofs.AfterLemmas.{filter_none}
 use Rattle.dict_rows.proofs.PartLemmas.{filter_filter}
 use Rattle.dict_rows.proofs.TakenLemmas.{same_number_is}
-use Rattle.dict_files.specs.Files.{parts_under, installed_parts}
-use Rattle.dict_files.specs.AllTables.{AllTables, all_after}
+use Rattle.dict_holdings.specs.Files.{parts_under, installed_parts}
+use Rattle.dict_holdings.specs.AllTables.{AllTables, all_after}
 use Rattle.dict_holdings.specs.Holds.{Keeps}
 use Rattle.dict_commands.specs.Kept.{HasRecords, IsUsable, HoldsReplies, Turns}
 use Rattle.dict_commands.specs.Changes.{with_more_editions, with_more_parts, without_parts}

@@ -13,7 +13,7 @@ use Rattle.dict_holdings.specs.Faults.{fault_of, FailsToLookUp}
 use Rattle.dict_desk.specs.declared.fault.Fault.{Fault}
 use Rattle.dict_desk.specs.declared.fault.Fault.TheVariants.{Refused, Memory, Disk, Closed, NotACatalogue, Damaged, NewerSchema}
 use Rattle.dict_index.specs.Edition.{Edition}
-use Rattle.dict_name.specs.Names.{is_request_id}
+use Rattle.dict_text.specs.Names.{is_request_id}
 use Rattle.dict_sql.specs.Effects.{WhileOpen}
 use Rattle.dict_sql.specs.Statements.{RunInTurn}
 use Rattle.dict_catalogue.specs.Commands.{Command}
@@ -25,7 +25,7 @@ use Rattle.dict_catalogue.specs.declared.commands.Command as typed
 use Rattle.dict_catalogue.specs.declared.planning.PlannedChange.{PlannedChange as Planned}
 use Rattle.dict_rows.specs.After.{TableChange}
 use Rattle.dict_rows.specs.Versions.{known}
-use Rattle.dict_files.specs.AllTables.{AllTables, with_derived, all_after}
+use Rattle.dict_holdings.specs.AllTables.{AllTables, with_derived, all_after}
 use Rattle.dict_holdings.specs.Holds.{Holds, Rests, IsLeftAs}
 use Rattle.dict_holdings.specs.Writing.{FailsAtLast}
 use Rattle.dict_commands.specs.Kept.{IsUsable, SparesOthers, KeepsTexts, Turns, HoldsReplies}

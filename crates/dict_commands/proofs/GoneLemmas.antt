@@ -16,7 +16,7 @@ use Rattle.dict_records.specs.Records.{Edition, Entry, Part}
 use Rattle.dict_rows.specs.Tables.{same_number}
 use Rattle.dict_rows.specs.After.{is_gone}
 use Rattle.dict_rows.proofs.PartLemmas.{filter_filter, filter_alike}
-use Rattle.dict_files.specs.AllTables.{AllTables}
+use Rattle.dict_holdings.specs.AllTables.{AllTables}
 use Rattle.dict_holdings.specs.Holds.{Keeps}
 use Rattle.dict_commands.specs.Kept.{HasRecords, IsStorable, Turns}
 use Rattle.dict_commands.specs.Changes.{without_editions}

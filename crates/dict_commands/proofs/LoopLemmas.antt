@@ -8,7 +8,7 @@ use Rattle.sqlite.specs.Held.{Held}
 use Rattle.sqlite.specs.declared.error.Error.{Error}
 use Rattle.sqlite_trees.specs.declared.store.Store.{Ghosts}
 use Rattle.dict_sql.specs.Statements.{Statement}
-use Rattle.dict_files.specs.AllTables.{AllTables}
+use Rattle.dict_holdings.specs.AllTables.{AllTables}
 use Rattle.dict_rows.specs.Written.{numbered}
 use Rattle.dict_rows.proofs.ListLemmas.{numbered_append, numbered_push, map_next}
 use Rattle.dict_commands.specs.Kept.{HasRecords}

@@ -13,12 +13,12 @@ use Rattle.sqlite_trees.specs.declared.store.Store.{Ghosts}
 use Rattle.dict_sql.specs.Deletes.{Removes, FailsToRemove}
 use Rattle.dict_sql.specs.Effects.{IsRemoved, equals_number}
 use Rattle.dict_sql.specs.Statements.{Statement}
-use Rattle.dict_part_sql.specs.Records.{part_row}
-use Rattle.dict_part_sql.specs.Chosen.{is_from}
+use Rattle.dict_edition_sql.specs.PartRecords.{part_row}
+use Rattle.dict_edition_sql.specs.Chosen.{is_from}
 use Rattle.dict_records.specs.Records.{Part}
 use Rattle.dict_rows.specs.After.{is_gone}
 use Rattle.dict_rows.proofs.PartLemmas.{filter_filter}
-use Rattle.dict_files.specs.AllTables.{AllTables}
+use Rattle.dict_holdings.specs.AllTables.{AllTables}
 use Rattle.dict_commands.specs.Kept.{HasRecords, Turns}
 use Rattle.dict_commands.specs.Changes.{without_parts}
 use Rattle.dict_commands.specs.Statements.{taking_of, taking_from, taking_parts}

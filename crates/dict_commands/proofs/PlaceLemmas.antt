@@ -11,13 +11,13 @@ use Rattle.dict_index.specs.Limits.{most_octets}
 use Rattle.dict_index.specs.Views.{line_of, LiesIn}
 use Rattle.dict_index.specs.WellFormed.{IsWellFormedEntry}
 use Rattle.dict_index.specs.declared.entry.Entry.{Entry}
-use Rattle.dict_index_lines.specs.Stored.{stored_index, stored_line, IsStorable}
-use Rattle.dict_index_lines.proofs.StoredLemmas.{of_entries}
+use Rattle.dict_parts.specs.Stored.{stored_index, stored_line, IsStorable}
+use Rattle.dict_parts.proofs.StoredLemmas.{of_entries}
 use Rattle.dict_parts.specs.Parts.{parts_of, part_count}
 use Rattle.dict_parts.proofs.PartLemmas.{parts_length}
 use Rattle.dict_rows.specs.Written.{numbered}
 use Rattle.dict_rows.proofs.ListLemmas.{numbered_length}
-use Rattle.dict_files.specs.Files.{part_at, file_parts, parts_under}
+use Rattle.dict_holdings.specs.Files.{part_at, file_parts, parts_under}
 
 -- ---- how many they are
 

@@ -16,13 +16,13 @@ use Rattle.dict_sql.specs.Effects.{Has, HasApartRowids, IsAdded, IsRemoved, Same
 use Rattle.dict_sql.specs.Deletes.{HasToRemove}
 use Rattle.dict_sql.specs.Encodings.{mark_row, item_row, member_row, kept_row}
 use Rattle.dict_sql.proofs.Callers.{own_has}
-use Rattle.dict_header_sql.specs.Table.{header}
-use Rattle.dict_header_sql.specs.Records.{header_row}
-use Rattle.dict_part_sql.specs.Table.{part}
-use Rattle.dict_part_sql.specs.Records.{part_row}
+use Rattle.dict_edition_sql.specs.HeaderTable.{header}
+use Rattle.dict_edition_sql.specs.HeaderRecords.{header_row}
+use Rattle.dict_edition_sql.specs.PartTable.{part}
+use Rattle.dict_edition_sql.specs.PartRecords.{part_row}
 use Rattle.dict_records.specs.Records.{Mark, Item, Member, Edition, Entry, Part, Kept, header_of}
 use Rattle.dict_rows.specs.Versions.{Parted}
-use Rattle.dict_files.specs.AllTables.{AllTables}
+use Rattle.dict_holdings.specs.AllTables.{AllTables}
 use Rattle.dict_holdings.specs.Readings.{Reading, name_of, readings, KeepsRows}
 use Rattle.dict_holdings.specs.Holds.{Keeps, HasLayout}
 use Rattle.dict_holdings.proofs.KeepLemmas.{unmoved, keeps_added}

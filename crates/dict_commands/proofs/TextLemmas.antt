@@ -10,20 +10,20 @@ use Rattle.sqlite.specs.Effect.{Database}
 use Rattle.sqlite.specs.Order.{Row}
 use Rattle.dict_text.proofs.AllLemmas.{all_append, all_filter}
 use Rattle.dict_sql.specs.Effects.{equals_number, rows_of}
-use Rattle.dict_part_sql.specs.Records.{part_row}
-use Rattle.dict_part_sql.specs.Chosen.{is_of_file}
+use Rattle.dict_edition_sql.specs.PartRecords.{part_row}
+use Rattle.dict_edition_sql.specs.Chosen.{is_of_file}
 use Rattle.dict_records.specs.Records.{Part}
 use Rattle.dict_parts.specs.Parts.{parts_of}
-use Rattle.dict_index_lines.specs.Stored.{stored_index}
+use Rattle.dict_parts.specs.Stored.{stored_index}
 use Rattle.dict_rows.specs.Tables.{Tables, same_number}
 use Rattle.dict_rows.specs.After.{Installed, is_gone}
 use Rattle.dict_rows.specs.Written.{numbered}
 use Rattle.dict_rows.proofs.AfterLemmas.{filter_none}
 use Rattle.dict_rows.proofs.PartLemmas.{filter_filter}
 use Rattle.dict_rows.proofs.TakenLemmas.{same_number_is, same_itself, nat_same}
-use Rattle.dict_files.specs.Files.{part_at, file_parts, parts_under, edition_parts, all_parts, installed_parts}
-use Rattle.dict_files.specs.AllTables.{HasNoneOf}
-use Rattle.dict_files.proofs.FileLemmas.{part_once}
+use Rattle.dict_holdings.specs.Files.{part_at, file_parts, parts_under, edition_parts, all_parts, installed_parts}
+use Rattle.dict_holdings.specs.AllTables.{HasNoneOf}
+use Rattle.dict_holdings.proofs.FileLemmas.{part_once}
 use Rattle.dict_holdings.specs.Holds.{Keeps}
 use Rattle.dict_holdings.specs.Texts.{text_rows, HoldsText}
 use Rattle.dict_commands.specs.Kept.{IsStorable}

@@ -17,7 +17,7 @@ use Rattle.dict_sql.specs.Inserts.{Inserts, FailsToInsert}
 use Rattle.dict_sql.specs.Deletes.{Removes, FailsToRemove}
 use Rattle.dict_sql.specs.Statements.{Statement, add, remove, Succeeds, FailsTo}
 use Rattle.dict_sql.proofs.TurnLemmas.{run_one, run_then, fails_one, fails_before, fails_after}
-use Rattle.dict_files.specs.AllTables.{AllTables}
+use Rattle.dict_holdings.specs.AllTables.{AllTables}
 use Rattle.dict_commands.specs.Kept.{HasRecords, IsUsable, IsOther, SparesOthers, Turns}
 use Rattle.dict_commands.specs.Writes.{Wrote, FailsToWrite, Spares}
 

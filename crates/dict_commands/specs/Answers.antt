@@ -7,7 +7,7 @@ use Rattle.sqlite.specs.Held.{Held, state}
 use Rattle.sqlite_trees.specs.declared.store.Store.{Ghosts}
 use Rattle.dict_index.specs.Edition.{Edition}
 use Rattle.dict_catalogue.specs.Commands.{Command}
-use Rattle.dict_name.specs.Names.{is_request_id}
+use Rattle.dict_text.specs.Names.{is_request_id}
 use Rattle.dict_catalogue.specs.Items.{edition_numbers}
 use Rattle.dict_catalogue.specs.Tests.{Holdings, refusal_of}
 use Rattle.dict_catalogue.specs.Steps.{Catalogue, Outcome, accepted, refused, holdings, summary_of, kept_under, step}

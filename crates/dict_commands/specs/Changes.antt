@@ -9,9 +9,9 @@ use Rattle.dict_catalogue.specs.declared.commands.Command.{Command}
 use Rattle.dict_catalogue.specs.declared.commands.Command.TheVariants.{Install, Rollback, Retire, PutVirtual, Place}
 use Rattle.dict_catalogue.specs.declared.planning.PlannedChange.{PlannedChange as Planned}
 use Rattle.dict_records.specs.Records.{Item as ItemRecord, Member, Edition, Part}
-use Rattle.dict_index_lines.specs.Stored.{stored_index}
-use Rattle.dict_files.specs.Files.{installed_parts}
-use Rattle.dict_files.specs.AllTables.{AllTables}
+use Rattle.dict_parts.specs.Stored.{stored_index}
+use Rattle.dict_holdings.specs.Files.{installed_parts}
+use Rattle.dict_holdings.specs.AllTables.{AllTables}
 use Rattle.dict_rows.specs.Written.{numbered, mark_record, item_record, kept_record}
 use Rattle.dict_rows.specs.After.{Installed, TableChange, all_members, is_gone, installed_editions, installed_entries}
 use Rattle.dict_rows.specs.Versions.{known}

@@ -11,13 +11,13 @@ use Rattle.sqlite_trees.specs.declared.store.Store.{Ghosts}
 use Rattle.dict_sql.specs.Effects.{equals_number, rows_of}
 use Rattle.dict_sql.specs.Statements.{Statement, FailsInTurn}
 use Rattle.dict_records.specs.Records.{Part}
-use Rattle.dict_index_lines.specs.Stored.{stored_index}
+use Rattle.dict_parts.specs.Stored.{stored_index}
 use Rattle.dict_catalogue.specs.Steps.{KeptFor}
 use Rattle.dict_desk.specs.declared.fault.Fault.{Fault}
 use Rattle.dict_desk.specs.declared.fault.Fault.TheVariants.{Memory, Disk}
 use Rattle.dict_rows.specs.After.{Installed, is_gone}
-use Rattle.dict_files.specs.Files.{parts_under}
-use Rattle.dict_files.specs.AllTables.{AllTables}
+use Rattle.dict_holdings.specs.Files.{parts_under}
+use Rattle.dict_holdings.specs.AllTables.{AllTables}
 use Rattle.dict_commands.specs.Kept.{HasRecords, IsUsable, SparesOthers, HoldsReplies, IsStorable, AreStorable}
 use Rattle.dict_commands.specs.Changes.{without_parts}
 use Rattle.dict_commands.specs.declared.files.EditionFiles.{EditionFiles}

@@ -6,7 +6,7 @@ use Rattle.sqlite.specs.Held.{Held, state}
 use Rattle.sqlite_trees.specs.declared.store.Store.{Ghosts}
 use Rattle.dict_sql.specs.Statements.{Statement}
 use Rattle.dict_index.specs.Edition.{Edition, ReadEdition, edition_of}
-use Rattle.dict_name.specs.Names.{is_request_id}
+use Rattle.dict_text.specs.Names.{is_request_id}
 use Rattle.dict_catalogue.specs.Commands.{Command, install}
 use Rattle.dict_catalogue.specs.Tests.{Holdings}
 use Rattle.dict_catalogue.specs.Steps.{Catalogue, summary_of, step}
@@ -15,7 +15,7 @@ use Rattle.dict_holdings.specs.Faults.{fault_of}
 use Rattle.dict_desk.specs.declared.fault.Fault.{Fault}
 use Rattle.dict_rows.specs.Versions.{known}
 use Rattle.dict_rows.specs.After.{Installed, TableChange, is_gone, installed_editions}
-use Rattle.dict_files.specs.AllTables.{AllTables, all_after}
+use Rattle.dict_holdings.specs.AllTables.{AllTables, all_after}
 use Rattle.dict_holdings.specs.Holds.{Holds, IsLeftAs}
 use Rattle.dict_holdings.specs.Writing.{FailsAtLast}
 use Rattle.dict_commands.specs.Kept.{HasRecords, SparesOthers, KeepsTexts}

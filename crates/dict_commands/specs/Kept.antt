@@ -10,7 +10,7 @@ use Rattle.dict_catalogue.specs.WellFormed.{IsEachOnce}
 use Rattle.dict_rows.specs.Written.{kept_record}
 use Rattle.dict_tables.specs.Found.{found_table}
 use Rattle.dict_rows.specs.Versions.{known, layout_of}
-use Rattle.dict_files.specs.AllTables.{AllTables}
+use Rattle.dict_holdings.specs.AllTables.{AllTables}
 use Rattle.dict_holdings.specs.Holds.{HasLayout, Keeps}
 use Rattle.dict_holdings.specs.Readings.{name_of, readings, KeepsAll}
 use Rattle.dict_holdings.specs.Texts.{text_rows}

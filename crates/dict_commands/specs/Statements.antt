@@ -6,11 +6,11 @@ use Rattle.dict_tables.specs.declared.tables.StoreTable.TheVariants as table
 use Rattle.dict_sql.specs.Effects.{equals_number}
 use Rattle.dict_sql.specs.Encodings.{mark_row, item_row, member_row, kept_row}
 use Rattle.dict_sql.specs.Statements.{Statement, add, remove}
-use Rattle.dict_header_sql.specs.Records.{header_row}
-use Rattle.dict_part_sql.specs.Records.{part_row}
-use Rattle.dict_part_sql.specs.Chosen.{is_from}
+use Rattle.dict_edition_sql.specs.HeaderRecords.{header_row}
+use Rattle.dict_edition_sql.specs.PartRecords.{part_row}
+use Rattle.dict_edition_sql.specs.Chosen.{is_from}
 use Rattle.dict_records.specs.Records.{Mark, Item as ItemRecord, Member, Edition, Part, Kept, header_of}
-use Rattle.dict_files.specs.Files.{installed_parts}
+use Rattle.dict_holdings.specs.Files.{installed_parts}
 use Rattle.dict_catalogue.specs.Items.{Item}
 use Rattle.dict_catalogue.specs.Steps.{KeptFor}
 use Rattle.dict_rows.specs.Written.{numbered, mark_record, item_record, kept_record}

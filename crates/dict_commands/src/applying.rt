@@ -2,7 +2,7 @@
 ghost use Rattle.std.specs.Prelude.{◌≡◌, ◌⊎◌, ◌≤◌, false, true, None, IsTrue, IfErr, OnErr, OnOk};
 ghost use Rattle.sqlite.specs.State.{HasCleanDisk, Survives};
 ghost use Rattle.sqlite.specs.Held.{state};
-ghost use Rattle.dict_name.specs.Names.{is_request_id};
+ghost use Rattle.dict_text.specs.Names.{is_request_id};
 ghost use Rattle.dict_catalogue.specs.Steps.{Catalogue, summary_of, kept_under, step};
 ghost use Rattle.dict_catalogue.specs.Tests.{refusal_of};
 ghost use Rattle.dict_catalogue.specs.Views.{summary_shown, command_meant, command_shown};
@@ -21,7 +21,7 @@ use crate::deciding::{decide, lies_within};
 use crate::replies::kept_reply;
 use dict_catalogue::{Command, CommandRefusal, PlannedChange, Summary};
 use dict_desk::Fault;
-use dict_name::is_request_id;
+use dict_text::is_request_id;
 use sqlite::{Alter, Connection};
 use std::alloc::Global;
 

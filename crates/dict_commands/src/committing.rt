@@ -5,7 +5,7 @@ ghost use Rattle.sqlite.specs.Held.{state};
 ghost use Rattle.dict_sql.specs.Effects.{WhileOpen};
 ghost use Rattle.dict_desk.specs.Faults.{is_disk};
 ghost use Rattle.dict_rows.specs.Versions.{known};
-ghost use Rattle.dict_files.specs.AllTables.{all_after};
+ghost use Rattle.dict_holdings.specs.AllTables.{all_after};
 ghost use Rattle.dict_holdings.specs.Writing.{FailsToEnd};
 ghost use Rattle.dict_commands.specs.Kept.{Turns, IsUsable};
 ghost use Rattle.dict_commands.specs.Changes.{change_by, index_by, IsWritable};

@@ -5,12 +5,12 @@ ghost use Rattle.dict_index.specs.Edition.{ReadEdition};
 ghost use Rattle.dict_index.specs.Line.{Line};
 ghost use Rattle.dict_index.specs.Meaning.{IsReadEdition, IsFault};
 ghost use Rattle.dict_index.specs.Refused.{IsIndexFault};
-ghost use Rattle.dict_index_lines.specs.Stored.{stored_index, stored_line, IsStorable};
+ghost use Rattle.dict_parts.specs.Stored.{stored_index, stored_line, IsStorable};
 ghost use Rattle.dict_reading.specs.Reading.{HasRead, IsAtEnd};
 ghost use Rattle.dict_commands.specs.Installs.{IsReadSoFar, ReadsSlice, AreFirstLines, AreAllLines, AreKnown, HasFiles, IsShortStep, is_done, is_refused};
 
 use dict_index::{EditionRefusal, IndexFault, one_meaning};
-use dict_index_lines::write_line;
+use dict_parts::write_line;
 use dict_reading::{EditionReader, Reading};
 use std::alloc::{AllocError, Global};
 

@@ -3,14 +3,14 @@ ghost use Rattle.dict_catalogue.specs.Steps.{Catalogue, holdings, kept_under, su
 ghost use Rattle.dict_catalogue.specs.WellFormed.{IsWellFormed};
 ghost use Rattle.std.specs.Prelude.{◌≡◌, List, ℕ, None, IsTrue};
 ghost use Rattle.sqlite.specs.Effect.{Database};
-ghost use Rattle.dict_name.specs.Names.{is_request_id};
+ghost use Rattle.dict_text.specs.Names.{is_request_id};
 ghost use Rattle.dict_index.specs.Edition.{Edition};
 ghost use Rattle.dict_catalogue.specs.Commands.{Command};
 ghost use Rattle.dict_catalogue.specs.Tests.{refusal_of};
 ghost use Rattle.dict_catalogue.specs.WellFormed.{IsLawfulCommand};
 ghost use Rattle.dict_rows.specs.After.{TableChange, IsChange};
 ghost use Rattle.dict_rows.specs.Versions.{known};
-ghost use Rattle.dict_files.specs.AllTables.{all_after};
+ghost use Rattle.dict_holdings.specs.AllTables.{all_after};
 ghost use Rattle.dict_holdings.specs.Holds.{Holds};
 ghost use Rattle.dict_commands.specs.Kept.{IsUsable, Turns};
 ghost use Rattle.dict_commands.specs.Changes.{IsInRange};

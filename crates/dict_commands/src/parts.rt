@@ -17,7 +17,7 @@ use crate::files::{EditionFiles, add_parts};
 use crate::filing::Filing;
 use dict_catalogue::Summary;
 use dict_desk::Fault;
-use dict_part_sql::{delete_parts, delete_parts_from};
+use dict_edition_sql::{delete_parts, delete_parts_from};
 use dict_sql::transaction::{OpenTransaction, begin, roll_back};
 use sqlite::{Alter, Connection, Error, ErrorCode};
 

@@ -2,7 +2,7 @@
 ghost use Rattle.std.specs.Prelude.{◌≡◌, true, false, Err, IsTrue, IfErr, OnErr};
 ghost use Rattle.sqlite.specs.State.{HasCleanDisk};
 ghost use Rattle.sqlite.specs.Held.{state};
-ghost use Rattle.dict_name.specs.Names.{is_request_id};
+ghost use Rattle.dict_text.specs.Names.{is_request_id};
 ghost use Rattle.dict_catalogue.specs.Steps.{Catalogue, summary_of, step};
 ghost use Rattle.dict_catalogue.specs.Views.{summary_shown, command_meant};
 ghost use Rattle.dict_desk.specs.Faults.{is_failure};
@@ -18,8 +18,8 @@ use crate::applied::Applied;
 use crate::applying::apply;
 use dict_catalogue::{Command, CommandRefusal, Summary};
 use dict_desk::Fault;
-use dict_name::is_request_id;
 use dict_sql::transaction::roll_back;
+use dict_text::is_request_id;
 use sqlite::{Alter, Connection};
 use std::alloc::Global;
 

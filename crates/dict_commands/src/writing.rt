@@ -8,7 +8,7 @@ ghost use Rattle.dict_sql.specs.Effects.{WhileOpen};
 ghost use Rattle.dict_catalogue.specs.Items.{numbers_of};
 ghost use Rattle.dict_catalogue.specs.Views.{item_shown, kept_shown};
 ghost use Rattle.dict_rows.specs.Versions.{known};
-ghost use Rattle.dict_files.specs.AllTables.{all_after};
+ghost use Rattle.dict_holdings.specs.AllTables.{all_after};
 ghost use Rattle.dict_commands.specs.Kept.{IsUsable, IsStorable, AreStorable};
 ghost use Rattle.dict_commands.specs.Statements.{summary_anew, exchanging, replying, statements_of};
 ghost use Rattle.dict_commands.specs.Changes.{with_mark, with_items, with_members, with_reply, without_editions, with_installed, installed_by, index_by, change_by, IsWritable};

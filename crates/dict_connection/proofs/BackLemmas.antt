@@ -1,7 +1,7 @@
 -- Whether octets are held back.
 use Rattle.std.proofs.Common.{◌≡◌, ℕ, Bool, true, false, not, List, [], length, refl, sym, ap, ◌∙◌, subst}
 use Rattle.dict_desk.specs.declared.fault.Fault.{Fault}
-use Rattle.dict_preparing.specs.Expected.{Expected}
+use Rattle.dict_desk.specs.Expected.{Expected}
 use Rattle.std.specs.Prelude.{◌&&◌, ◌==◌, Ok, Result}
 use Rattle.dict_hub.specs.Events.{is_of_editor}
 use Rattle.dict_hub.specs.declared.hub.Hub.{Hub}

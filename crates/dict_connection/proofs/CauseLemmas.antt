@@ -1,10 +1,10 @@
 -- What failed in events, and how the desk stood after them.
 use Rattle.std.proofs.Common.{◌≡◌, ℕ, false, List, [], ◌∷◌, ◌++◌, sym, ap, ◌∙◌, subst}
-use Rattle.dict_io.specs.Streams.{Stream, StreamChange}
+use Rattle.dict_proto.specs.Streams.{Stream, StreamChange}
 use Rattle.dict_session.specs.Desks.{Condition}
 use Rattle.dict_hub.specs.Events.{is_of_editor}
 use Rattle.dict_hub.specs.Runs.{Accepted}
-use Rattle.dict_outlet.specs.declared.queue.Queue.{Queue}
+use Rattle.dict_connection.specs.declared.queue.Queue.{Queue}
 use Rattle.dict_connection.specs.Causes.{CountOn, StandAt, AreCaused, AreCausedBy}
 use Rattle.dict_connection.specs.declared.connection.Connection.{Connection}
 

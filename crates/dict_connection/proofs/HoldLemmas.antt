@@ -9,14 +9,14 @@ use Rattle.dict_hub.specs.Runs.{Accepted, State, IsAt}
 use Rattle.dict_hub.specs.declared.fault.HubFault.{HubFault}
 use Rattle.dict_hub.specs.declared.hub.Hub.{Hub}
 use Rattle.dict_hub.specs.declared.kind.Kind.{Kind}
-use Rattle.dict_outlet.specs.Calls.{Call, Makes, receives}
-use Rattle.dict_outlet.specs.Outlets.{FailsOnlyStuck, Passes, is_sending}
-use Rattle.dict_outlet.specs.Queues.{waiting, is_clear}
-use Rattle.dict_outlet.specs.declared.calls.Received.TheVariants as receiveds
-use Rattle.dict_outlet.specs.declared.calls.Sent.{Sent}
-use Rattle.dict_outlet.specs.declared.calls.Sent.TheVariants as sents
-use Rattle.dict_outlet.proofs.OutletLemmas.{passes_none}
-use Rattle.dict_outlet.proofs.CallLemmas.{makes_none}
+use Rattle.dict_connection.specs.OutletCalls.{Call, Makes, receives}
+use Rattle.dict_connection.specs.Outlets.{FailsOnlyStuck, Passes, is_sending}
+use Rattle.dict_connection.specs.Queues.{waiting, is_clear}
+use Rattle.dict_connection.specs.declared.calls.Received.TheVariants as receiveds
+use Rattle.dict_connection.specs.declared.calls.Sent.{Sent}
+use Rattle.dict_connection.specs.declared.calls.Sent.TheVariants as sents
+use Rattle.dict_connection.proofs.OutletLemmas.{passes_none}
+use Rattle.dict_connection.proofs.CallLemmas.{makes_none}
 use Rattle.dict_connection.specs.Calls.{calls_of_turn, has_turned}
 use Rattle.dict_connection.specs.Events.{AreOf}
 use Rattle.dict_connection.specs.Handing.{held_in, is_handed}

@@ -1,3 +1,5 @@
+pub mod CallLemmas
+pub mod OutletLemmas
 pub mod EventLemmas
 pub mod LeadLemmas
 pub mod OrderLemmas

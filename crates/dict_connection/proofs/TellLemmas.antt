@@ -5,7 +5,7 @@ use Rattle.std.proofs.lemmas.Bool.{eq-eqb, ltb-true, lt-ltb}
 use Rattle.std.specs.Prelude.{Option, Some, None, Result, Ok, Err, IfErr, if◌then◌else◌}
 use Rattle.std.specs.Io.KnownBytes.{Appends}
 use Rattle.std.proofs.KnownBytes.{Appends-nil}
-use Rattle.dict_io.specs.Streams.{StreamChange, Stream, AppendsFront}
+use Rattle.dict_proto.specs.Streams.{StreamChange, Stream, AppendsFront}
 use Rattle.dict_catalogue.specs.Steps.{Catalogue}
 use Rattle.dict_hub.specs.Holding.{Holding, left_by}
 use Rattle.dict_hub.specs.Given.{Greets, Replies, Gets}
@@ -19,20 +19,20 @@ use Rattle.dict_hub.specs.declared.kind.Kind.TheVariants.{Dict, Http}
 use Rattle.dict_hub.specs.declared.incoming.Out.{Out}
 use Rattle.dict_hub.specs.declared.incoming.Out.TheVariants.{More, Close}
 use Rattle.dict_hub.specs.declared.hub.Hub.{Hub}
-use Rattle.dict_line.specs.Meaning.{Meaning}
+use Rattle.dict_proto.specs.Meaning.{Meaning}
 use Rattle.dict_session.specs.Answers.{answer_to}
 use Rattle.dict_session.specs.Desks.{Condition}
 use Rattle.dict_session.specs.Lines.{cut}
-use Rattle.dict_outlet.specs.Queues.{waiting, stream_of}
+use Rattle.dict_connection.specs.Queues.{waiting, stream_of}
 use Rattle.dict_connection.specs.Events.{AreOf, piece_of, pieces_of}
 use Rattle.dict_connection.specs.Ordering.{IsOnly}
 use Rattle.dict_connection.specs.Leading.{HasLedOn}
 use Rattle.dict_connection.specs.Telling.{CountsNone, IsAnswered, IsTold, IsToldThrough, MayRefuse}
-use Rattle.dict_outlet.specs.Calls.{Call}
-use Rattle.dict_outlet.specs.Outlets.{FailsOnlyStuck, HasTaken, MakesSendings, Passes, carried, stream_through}
-use Rattle.dict_outlet.specs.declared.trail.Trail.{Trail}
-use Rattle.dict_outlet.proofs.OutletLemmas.{kept_as, passes_none, sendings_of, taken_as}
-use Rattle.dict_outlet.specs.declared.queue.Queue.{Queue}
+use Rattle.dict_connection.specs.OutletCalls.{Call}
+use Rattle.dict_connection.specs.Outlets.{FailsOnlyStuck, HasTaken, MakesSendings, Passes, carried, stream_through}
+use Rattle.dict_connection.specs.declared.trail.Trail.{Trail}
+use Rattle.dict_connection.proofs.OutletLemmas.{kept_as, passes_none, sendings_of, taken_as}
+use Rattle.dict_connection.specs.declared.queue.Queue.{Queue}
 use Rattle.dict_connection.proofs.StuckLemmas.{stuck_none}
 
 -- known octets have grown at their end

@@ -14,29 +14,29 @@ use Rattle.dict_hub.specs.Events.{Happening, came, ended, is_of_editor}
 use Rattle.dict_hub.specs.Runs.{Accepted}
 use Rattle.dict_hub.specs.declared.incoming.Out.{Out}
 use Rattle.dict_hub.specs.declared.incoming.Out.TheVariants as outs
-use Rattle.dict_outlet.specs.Queues.{waiting, is_clear, Sends}
+use Rattle.dict_connection.specs.Queues.{waiting, is_clear, Sends}
 use Rattle.dict_connection.specs.Stages.{is_open, is_finishing, answered, parted}
-use Rattle.dict_outlet.specs.Calls.{Call, Makes, sends, receives, sent_by, received_by, received_by_kind, has_come, has_failed, has_moved, count_received}
+use Rattle.dict_connection.specs.OutletCalls.{Call, Makes, sends, receives, sent_by, received_by, received_by_kind, has_come, has_failed, has_moved, count_received}
 use Rattle.dict_connection.specs.Calls.{behind, sendings, readings, endings, is_dropped, calls_of_turn, has_departed, has_turned}
 use Rattle.dict_connection.specs.Events.{ArePut, AreOf, piece_of, pieces_of}
 use Rattle.dict_connection.specs.Handing.{held_in, is_handed}
 use Rattle.dict_connection.specs.Pieces.{next_piece, behind_piece}
 use Rattle.dict_connection.specs.declared.held.Held.{Held}
 use Rattle.dict_hub.specs.declared.kind.Kind.{Kind}
-use Rattle.dict_outlet.specs.Outlets.{FailsOnlyStuck, Passes, is_sending}
+use Rattle.dict_connection.specs.Outlets.{FailsOnlyStuck, Passes, is_sending}
 use Rattle.dict_connection.specs.Telling.{IsAnswered, IsTold, IsToldThrough}
 use Rattle.dict_connection.specs.Turns.{BringAllOrNone, Hands, HandsOver, LeadsByAnswer, LeadsByEnd, LeadsByPiece, LeadsByReading, LeadsByTurn, LeadsFurther, is_deferred, may_read, SendsOnce, ReadsOnce, Turns, Finishes, Drains, LeadsOut, LeadsAway, Departs, stage_between, stage_drained, dropped_after, marked_after}
 use Rattle.dict_connection.specs.declared.connection.Connection.{Connection}
-use Rattle.dict_outlet.specs.declared.calls.Sent.{Sent}
-use Rattle.dict_outlet.specs.declared.calls.Sent.TheVariants as sents
-use Rattle.dict_outlet.specs.declared.calls.Received.{Received}
-use Rattle.dict_outlet.specs.declared.calls.Received.TheVariants as receiveds
+use Rattle.dict_connection.specs.declared.calls.Sent.{Sent}
+use Rattle.dict_connection.specs.declared.calls.Sent.TheVariants as sents
+use Rattle.dict_connection.specs.declared.calls.Received.{Received}
+use Rattle.dict_connection.specs.declared.calls.Received.TheVariants as receiveds
 use Rattle.dict_connection.specs.declared.stage.Stage.{Stage}
 use Rattle.dict_connection.specs.declared.stage.Stage.TheVariants as stages
 use Rattle.dict_connection.specs.Ordering.{IsOnly}
-use Rattle.dict_outlet.proofs.CallLemmas.{makes_none, makes_joined}
+use Rattle.dict_connection.proofs.CallLemmas.{makes_none, makes_joined}
 use Rattle.dict_connection.proofs.EventLemmas.{put_joined}
-use Rattle.dict_outlet.proofs.OutletLemmas.{passes_none}
+use Rattle.dict_connection.proofs.OutletLemmas.{passes_none}
 use Rattle.dict_connection.proofs.OrderLemmas.{only_turn}
 use Rattle.dict_connection.proofs.PieceLemmas.{none_held, piece_and_rest}
 use Rattle.dict_connection.proofs.StuckLemmas.{stuck_behind, stuck_from, stuck_none, stuck_turned}

@@ -8,7 +8,7 @@ use Rattle.dict_hub.specs.Runs.{Accepted}
 use Rattle.dict_hub.specs.declared.fault.HubFault.{HubFault}
 use Rattle.dict_hub.specs.declared.hub.Hub.{Hub}
 use Rattle.dict_hub.specs.declared.kind.Kind.{Kind}
-use Rattle.dict_outlet.specs.declared.queue.Queue.{Queue}
+use Rattle.dict_connection.specs.declared.queue.Queue.{Queue}
 use Rattle.dict_connection.specs.Telling.{MayRefuse}
 use Rattle.dict_connection.specs.declared.connection.Connection.{Connection}
 

@@ -1,7 +1,7 @@
 -- Why octets are held back.
 use Rattle.std.specs.Prelude.{◌≡◌, ℕ, Bool, true, false, List, Option, Ok, Result}
 use Rattle.dict_desk.specs.declared.fault.Fault.{Fault}
-use Rattle.dict_preparing.specs.Expected.{Expected}
+use Rattle.dict_desk.specs.Expected.{Expected}
 use Rattle.dict_http.specs.Foreseeing.{AsksForInstall}
 use Rattle.dict_hub.specs.Foreseen.{AreForeseen}
 use Rattle.dict_hub.specs.Holding.{Holding}

@@ -1,3 +1,6 @@
+pub mod OutletCalls
+pub mod Queues
+pub mod Outlets
 pub mod Calls
 pub mod Stages
 pub mod Events

@@ -4,8 +4,8 @@ use Rattle.dict_hub.specs.declared.incoming.Out.{Out}
 use Rattle.dict_hub.specs.declared.incoming.Out.TheVariants as outs
 use Rattle.dict_connection.specs.declared.stage.Stage.{Stage}
 use Rattle.dict_connection.specs.declared.stage.Stage.TheVariants.{Open, Closing, Parting, Draining, Over}
-use Rattle.dict_outlet.specs.declared.calls.Received.{Received}
-use Rattle.dict_outlet.specs.declared.calls.Received.TheVariants.{Nothing, Interrupted, Octets, End, Failed}
+use Rattle.dict_connection.specs.declared.calls.Received.{Received}
+use Rattle.dict_connection.specs.declared.calls.Received.TheVariants.{Nothing, Interrupted, Octets, End, Failed}
 
 -- what comes on it goes to the hub
 abbrev pub is_open : Stage → Bool

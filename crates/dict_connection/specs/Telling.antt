@@ -8,11 +8,11 @@ use Rattle.dict_hub.specs.declared.fault.HubFault.TheVariants.{Memory}
 use Rattle.dict_hub.specs.declared.hub.Hub.{Hub}
 use Rattle.dict_hub.specs.Runs.{Accepted}
 use Rattle.dict_hub.specs.declared.incoming.Out.{Out}
-use Rattle.dict_outlet.specs.Calls.{Call}
-use Rattle.dict_outlet.specs.Outlets.{FailsOnlyStuck, Passes}
-use Rattle.dict_outlet.specs.Queues.{waiting}
+use Rattle.dict_connection.specs.OutletCalls.{Call}
+use Rattle.dict_connection.specs.Outlets.{FailsOnlyStuck, Passes}
+use Rattle.dict_connection.specs.Queues.{waiting}
 use Rattle.dict_connection.specs.Events.{ArePut}
-use Rattle.dict_outlet.specs.declared.queue.Queue.{Queue}
+use Rattle.dict_connection.specs.declared.queue.Queue.{Queue}
 
 -- the hub may refuse octets of this connection by this fault: it has none of its id, or an editor's, whose octets take memory, and memory
 -- is wanting

@@ -8,10 +8,10 @@ use Rattle.dict_hub.specs.Holding.{left_by}
 use Rattle.dict_hub.specs.Hubs.{Has}
 use Rattle.dict_hub.specs.Runs.{Accepted}
 use Rattle.dict_hub.specs.declared.kind.Kind.{Kind}
-use Rattle.dict_outlet.specs.Outlets.{FailsOnlyStuck, Passes, is_sending}
-use Rattle.dict_outlet.specs.Queues.{waiting, is_clear, counts_of}
+use Rattle.dict_connection.specs.Outlets.{FailsOnlyStuck, Passes, is_sending}
+use Rattle.dict_connection.specs.Queues.{waiting, is_clear, counts_of}
 use Rattle.dict_connection.specs.Stages.{is_open, is_finishing, stage_of_new, answered, parted, finished, drained}
-use Rattle.dict_outlet.specs.Calls.{Call, sends, Makes, count_received, has_come}
+use Rattle.dict_connection.specs.OutletCalls.{Call, sends, Makes, count_received, has_come}
 use Rattle.dict_connection.specs.Calls.{behind, sendings, endings, readings, is_dropped, calls_of_turn, has_departed, has_turned}
 use Rattle.dict_connection.specs.Events.{ArePut, AreOf, pieces_of}
 use Rattle.dict_connection.specs.Handing.{held_in, is_handed}
@@ -20,10 +20,10 @@ use Rattle.dict_connection.specs.Ordering.{AreOfTurns, IsOnly}
 use Rattle.dict_connection.specs.Causes.{CountOn}
 use Rattle.dict_hub.specs.declared.hub.Hub.{Hub}
 use Rattle.dict_connection.specs.declared.connection.Connection.{Connection}
-use Rattle.dict_outlet.specs.declared.calls.Sent.{Sent}
-use Rattle.dict_outlet.specs.declared.calls.Sent.TheVariants as sents
-use Rattle.dict_outlet.specs.declared.calls.Received.{Received}
-use Rattle.dict_outlet.specs.declared.calls.Received.TheVariants as receiveds
+use Rattle.dict_connection.specs.declared.calls.Sent.{Sent}
+use Rattle.dict_connection.specs.declared.calls.Sent.TheVariants as sents
+use Rattle.dict_connection.specs.declared.calls.Received.{Received}
+use Rattle.dict_connection.specs.declared.calls.Received.TheVariants as receiveds
 use Rattle.dict_connection.specs.declared.stage.Stage.{Stage}
 use Rattle.dict_connection.specs.declared.stage.Stage.TheVariants as stages
 

@@ -6,16 +6,18 @@ ghost use Rattle.dict_connection.specs.Leading.{HasLedOn};
 ghost use Rattle.dict_hub.specs.Events.{opened, ended, is_of_editor};
 ghost use Rattle.dict_hub.specs.Runs.{Accepted, IsAt, State};
 ghost use Rattle.dict_catalogue.specs.Steps.{Catalogue};
-ghost use Rattle.dict_outlet.specs.Calls.{Makes, receives, count_received};
+ghost use Rattle.dict_connection.specs.OutletCalls.{Makes, receives, count_received};
 ghost use Rattle.dict_connection.specs.Stages.{is_open, parted, stage_of_new};
 
+use crate::calls::{Received, Sent, has_moved, received_by, sent_by};
 use crate::delivering::{deliver, deliver_through};
 use crate::held::{Held, PIECE};
 use crate::opening::Opening;
+use crate::queue::Queue;
 use crate::stage::{Stage, answered, drained, has_departed, parted, stage_of_new, told};
+use crate::transport::Transport;
+use dict_desk::Preparer;
 use dict_hub::{Event, Hub, Kind};
-use dict_outlet::{Queue, Received, Sent, Transport, has_moved, received_by, sent_by};
-use dict_preparing::Preparer;
 use std::alloc::Global;
 
 // The most octets that are dropped of a connection once all is sent: the largest body of a request and 1 MiB.
@@ -37,7 +39,7 @@ pub struct Connection<T: Transport> {
 }
 
 impl<T: Transport> Connection<T> {
-    ghost use Rattle.dict_outlet.specs.Queues.{waiting, is_clear};
+    ghost use Rattle.dict_connection.specs.Queues.{waiting, is_clear};
     ghost use Rattle.dict_connection.specs.Handing.{held_in, is_held_back};
     ghost use Rattle.dict_connection.specs.Causes.{AreCausedBy, IsRefused};
     ghost use Rattle.dict_connection.specs.Foreseen.{AreToldOf, HoldsBack, HoldsBy};

@@ -2,16 +2,18 @@
 ghost use Rattle.std.specs.Prelude.{◌≡◌, true, false, IfErr, Some};
 ghost use Rattle.dict_session.specs.Desks.{condition};
 ghost use Rattle.dict_hub.specs.Events.{asks_desk, came, happening, id_of};
-ghost use Rattle.dict_outlet.specs.Queues.{counts_of};
+ghost use Rattle.dict_connection.specs.Queues.{counts_of};
 ghost use Rattle.dict_connection.specs.Causes.{AreCaused};
 ghost use Rattle.dict_connection.specs.Leading.{HasLedOn};
 ghost use Rattle.dict_connection.specs.Quiet.{StaysIfQuiet};
 ghost use Rattle.dict_connection.specs.Telling.{IsTold, IsToldThrough, KeepsOthers, MayRefuse, answer_of};
 
 use crate::opening::Opening;
+use crate::outlet::{Beginning, Outlet};
+use crate::queue::Queue;
+use crate::transport::Transport;
+use dict_desk::Preparer;
 use dict_hub::{Event, Hub, HubFault, Kind, Out};
-use dict_outlet::{Beginning, Outlet, Queue, Transport};
-use dict_preparing::Preparer;
 use std::marker::Brand;
 use std::mem;
 

@@ -2,7 +2,7 @@
 ghost use Rattle.std.specs.Prelude.{◌≡◌, ◌≤◌, ℕ, List, [], Option, None, Some, IfErr, IfOk, OnErr, true, MatchResult, vec_capacity};
 ghost use Rattle.dict_catalogue.specs.Steps.{Catalogue};
 ghost use Rattle.dict_session.specs.Desks.{condition};
-ghost use Rattle.dict_io.specs.Streams.{change};
+ghost use Rattle.dict_proto.specs.Streams.{change};
 ghost use Rattle.dict_hub.specs.Events.{came, IsQuiet};
 ghost use Rattle.dict_hub.specs.Holding.{Holding};
 ghost use Rattle.dict_hub.specs.Hubs.{Has};
@@ -15,10 +15,10 @@ ghost use Rattle.dict_hub.specs.declared.fault.HubFault.{HubFault};
 ghost use Rattle.dict_hub.specs.declared.hub.Hub.{Hub};
 ghost use Rattle.dict_hub.specs.declared.kind.Kind.{Kind};
 
+use crate::queue::Queue;
+use dict_desk::Preparer;
 use dict_hub::{Event, Hub, HubFault, Kind, Out};
-use dict_io::Sink;
-use dict_outlet::Queue;
-use dict_preparing::Preparer;
+use dict_proto::Sink;
 use std::alloc::{AllocError, Global};
 
 /// What takes memory where a connection is opened, and where octets come on it: room for what is read of it, its place in the

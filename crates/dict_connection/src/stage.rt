@@ -3,8 +3,8 @@ ghost use Rattle.std.specs.Prelude.{◌≡◌};
 ghost use Rattle.dict_connection.specs.Calls.{has_departed};
 ghost use Rattle.dict_connection.specs.Stages.{answered, drained, finished, parted, stage_of_new};
 
+use crate::calls::{Received, Sent};
 use dict_hub::Out;
-use dict_outlet::{Received, Sent};
 
 /// How far a connection has come.
 #[derive(Clone, Copy, Debug, PartialEq, Eq)]

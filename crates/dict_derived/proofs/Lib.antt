@@ -1,3 +1,4 @@
+pub mod RunLemmas
 pub mod EndLemmas
 pub mod PieceLemmas
 pub mod RangeLemmas

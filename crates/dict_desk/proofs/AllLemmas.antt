@@ -7,7 +7,7 @@ use Rattle.std.proofs.lemmas.List.{map-append, length-map}
 use Rattle.std.proofs.Math.ListN.{get_or-map}
 use Rattle.std.proofs.Math.Seq.{take-suc}
 use Rattle.dict_index.specs.Edition.{Edition}
-use Rattle.dict_name.specs.Names.{is_request_id}
+use Rattle.dict_text.specs.Names.{is_request_id}
 use Rattle.dict_catalogue.specs.Commands.{Command}
 use Rattle.dict_catalogue.specs.Tests.{tests_of}
 use Rattle.dict_catalogue.specs.Effects.{KeptReply}

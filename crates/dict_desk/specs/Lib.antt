@@ -9,3 +9,5 @@ pub mod AllApplied
 pub mod PlainEntries
 pub mod Plain
 pub mod Worked
+pub mod Expected
+pub mod Answering

@@ -3,7 +3,7 @@ ghost use Rattle.std.specs.Prelude.{◌≡◌, ◌<◌, ◌++◌, ℕ, List, [],
 ghost use Rattle.std.specs.BTreeMap.{get_by_text};
 ghost use Rattle.std.specs.List.{cons_option};
 ghost use Rattle.std.specs.Str.{bytes_eq};
-ghost use Rattle.dict_name.specs.Names.{is_request_id};
+ghost use Rattle.dict_text.specs.Names.{is_request_id};
 ghost use Rattle.dict_index.specs.Edition.{Edition};
 ghost use Rattle.dict_catalogue.specs.Steps.{empty_catalogue, kept_under, step};
 ghost use Rattle.dict_catalogue.specs.Views.{command_meant, kept_shown, IsChangeOf};
@@ -23,7 +23,7 @@ use crate::replies::{Filed, copied, file_under, note_place};
 use crate::sink::RowSink;
 use dict_catalogue::{Command, CommandRefusal, Kept, PlanFault, PlannedChange, Summary, plan};
 use dict_match::{Key, Strategy};
-use dict_name::is_request_id;
+use dict_text::is_request_id;
 use std::alloc::{AllocError, Global};
 use std::collections::BTreeMap;
 use std::marker::Model;

@@ -1,6 +1,6 @@
 // Callers of any desk, which compose its calls.
 ghost use Rattle.std.specs.Prelude.{◌≡◌, ◌∷◌, true, List, Option, Some, is_some};
-ghost use Rattle.dict_name.specs.Names.{is_request_id};
+ghost use Rattle.dict_text.specs.Names.{is_request_id};
 ghost use Rattle.dict_index.specs.Edition.{Edition};
 ghost use Rattle.dict_catalogue.specs.Steps.{Catalogue, kept_under, step};
 ghost use Rattle.dict_catalogue.specs.Views.{command_meant};

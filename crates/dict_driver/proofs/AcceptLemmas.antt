@@ -9,7 +9,7 @@ use Rattle.dict_hub.specs.declared.fault.HubFault.{HubFault}
 use Rattle.dict_hub.specs.declared.hub.Hub.{Hub}
 use Rattle.dict_hub.specs.declared.kind.Kind.{Kind}
 use Rattle.dict_hub.specs.declared.kind.Kind.TheVariants.{Dict, Http}
-use Rattle.dict_outlet.specs.declared.transport.Transport as transport
+use Rattle.dict_connection.specs.declared.transport.Transport as transport
 use Rattle.dict_driver.specs.Accepting.{Accepts, AcceptsOne, AcceptsUnless, AcceptsUpTo, HasAccepted, HasAsked, HasLetIn, Takes}
 use Rattle.dict_driver.specs.Asking.{Asking, Asks, accepts, watches}
 use Rattle.dict_driver.specs.Listening.{is_ready, listening_by, may_accept}

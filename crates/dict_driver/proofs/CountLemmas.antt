@@ -6,7 +6,7 @@ use Rattle.dict_hub.specs.Runs.{Accepted}
 use Rattle.dict_hub.specs.declared.fault.HubFault.{HubFault}
 use Rattle.dict_hub.specs.declared.hub.Hub.{Hub}
 use Rattle.dict_hub.specs.declared.kind.Kind.{Kind}
-use Rattle.dict_outlet.specs.declared.transport.Transport as transport
+use Rattle.dict_connection.specs.declared.transport.Transport as transport
 use Rattle.dict_driver.specs.Accepting.{Accepts, AcceptsOne, AcceptsUpTo, Takes, TakesBy}
 use Rattle.dict_driver.specs.Asking.{Asking, accept_count, accepts, looks, watches}
 use Rattle.dict_driver.specs.Listening.{is_ready}

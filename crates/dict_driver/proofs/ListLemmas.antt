@@ -8,7 +8,7 @@ use Rattle.std.proofs.lemmas.Grind.{get_or-set_at}
 use Rattle.std.proofs.lemmas.List.Elements.{All-push}
 use Rattle.std.proofs.lemmas.List.Quantifiers.{all_pairs_push}
 use Rattle.std.proofs.lemmas.List.Edits.{get_or-remove_below, get_or-remove_above, length-remove}
-use Rattle.dict_outlet.specs.Queues.{waiting}
+use Rattle.dict_connection.specs.Queues.{waiting}
 use Rattle.dict_driver.specs.Rounds.{WaitsAmong, fitting, room_of}
 use Rattle.dict_driver.specs.Turning.{MarkAll, any}
 use Rattle.dict_connection.specs.Turns.{IsAtRest}

@@ -1,7 +1,7 @@
 -- A round, step by step.
 use Rattle.std.proofs.Common.{◌≡◌, ℕ, Bool, true, List, [], ◌∷◌, ◌++◌, sym, ap, ◌∙◌, subst, append_assoc}
 use Rattle.dict_desk.specs.declared.fault.Fault.{Fault}
-use Rattle.dict_preparing.specs.Expected.{Expected}
+use Rattle.dict_desk.specs.Expected.{Expected}
 use Rattle.std.specs.Prelude.{Option, Result, ◌||◌, is_ok, nat_lt}
 use Rattle.std.specs.declared.io.Error.{Error}
 use Rattle.dict_session.specs.Desks.{Condition}
@@ -10,8 +10,8 @@ use Rattle.dict_hub.specs.declared.fault.HubFault.{HubFault}
 use Rattle.dict_hub.specs.declared.hub.Hub.{Hub}
 use Rattle.dict_hub.specs.declared.kind.Kind.{Kind}
 use Rattle.dict_hub.specs.declared.kind.Kind.TheVariants.{Dict}
-use Rattle.dict_outlet.specs.Calls.{Call}
-use Rattle.dict_outlet.specs.declared.transport.Transport as transport
+use Rattle.dict_connection.specs.OutletCalls.{Call}
+use Rattle.dict_connection.specs.declared.transport.Transport as transport
 use Rattle.dict_driver.specs.Accepting.{Accepts, AcceptsUnless, HasAccepted, HasLetIn}
 use Rattle.dict_driver.specs.Asking.{Asking, Asks, looks}
 use Rattle.dict_driver.specs.EventLoops.{HasRound}

@@ -7,7 +7,7 @@ use Rattle.dict_hub.specs.declared.fault.HubFault.{HubFault}
 use Rattle.dict_hub.specs.declared.hub.Hub.{Hub}
 use Rattle.dict_hub.specs.declared.kind.Kind.{Kind}
 use Rattle.dict_hub.specs.declared.kind.Kind.TheVariants.{Http}
-use Rattle.dict_outlet.specs.declared.transport.Transport as transport
+use Rattle.dict_connection.specs.declared.transport.Transport as transport
 use Rattle.dict_driver.specs.Accepting.{Accepts, AcceptsNone, AcceptsOne, AcceptsUnless, AcceptsUpTo, Takes, TakesBy}
 use Rattle.dict_driver.specs.Asking.{Asking}
 use Rattle.dict_driver.specs.Rounds.{Admits}

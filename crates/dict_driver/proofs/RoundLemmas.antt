@@ -1,7 +1,7 @@
 -- What a round does with the octets that wait.
 use Rattle.std.proofs.Common.{◌≡◌, ◌≢◌, ◌<◌, ◌≤◌, ◌+◌, ℕ, Bool, true, false, ◌-◌, All, List, [], ◌∷◌, ◌++◌, length, length-set, length-append, get_or, set, take, ◌||◌, refl, sym, ap, ◌∙◌, subst, inl, inr, arith, append_assoc, append-nil}
 use Rattle.dict_desk.specs.declared.fault.Fault.{Fault}
-use Rattle.dict_preparing.specs.Expected.{Expected}
+use Rattle.dict_desk.specs.Expected.{Expected}
 use Rattle.std.specs.Prelude.{Option, Result}
 use Rattle.std.specs.List.{AllPairs, filter}
 use Rattle.std.proofs.lemmas.Bool.{ne_eqb}
@@ -14,10 +14,10 @@ use Rattle.dict_hub.specs.Holding.{Holding}
 use Rattle.dict_hub.specs.Hubs.{Has}
 use Rattle.dict_hub.specs.Runs.{Accepted, events_of}
 use Rattle.dict_hub.specs.declared.hub.Hub.{Hub}
-use Rattle.dict_outlet.specs.Queues.{waiting}
+use Rattle.dict_connection.specs.Queues.{waiting}
 use Rattle.dict_connection.specs.Stages.{is_departing, is_held, is_open}
 use Rattle.dict_connection.specs.Events.{AreOf}
-use Rattle.dict_outlet.specs.Calls.{Call}
+use Rattle.dict_connection.specs.OutletCalls.{Call}
 use Rattle.dict_connection.specs.Ordering.{AreOfTurns}
 use Rattle.dict_connection.specs.Quiet.{StaysForReader}
 use Rattle.dict_driver.specs.Ordering.{ComeById}
@@ -30,14 +30,14 @@ use Rattle.dict_connection.specs.Handing.{held_in, is_handed, is_held_back}
 use Rattle.dict_connection.specs.Telling.{KeepsOthers}
 use Rattle.dict_connection.specs.Turns.{Departs, IsOpened, LeadsByAnswer, LeadsByPiece, LeadsByReading, LeadsByTurn, LeadsFurther, Turns, is_deferred}
 use Rattle.dict_driver.specs.Turning.{DepartAll, KeepsAllBut, MarkAll, TurnAll, any, any_held_back, is_preparing}
-use Rattle.dict_outlet.specs.declared.calls.Received.{Received}
-use Rattle.dict_outlet.specs.declared.calls.Received.TheVariants as receiveds
-use Rattle.dict_outlet.specs.declared.calls.Sent.{Sent}
-use Rattle.dict_outlet.specs.declared.calls.Sent.TheVariants as sents
+use Rattle.dict_connection.specs.declared.calls.Received.{Received}
+use Rattle.dict_connection.specs.declared.calls.Received.TheVariants as receiveds
+use Rattle.dict_connection.specs.declared.calls.Sent.{Sent}
+use Rattle.dict_connection.specs.declared.calls.Sent.TheVariants as sents
 use Rattle.dict_driver.specs.Rounds.{WaitsAmong, Waits, Flows, HasWaited, Moves, TurnEach, latest}
 use Rattle.dict_connection.specs.declared.connection.Connection.{Connection}
 use Rattle.dict_driver.specs.declared.connections.Connections.{Connections}
-use Rattle.dict_outlet.specs.declared.transport.Transport.{Ghosts}
+use Rattle.dict_connection.specs.declared.transport.Transport.{Ghosts}
 use Rattle.dict_connection.proofs.EventLemmas.{put_joined, events_joined, own_all, own_none}
 use Rattle.dict_driver.proofs.BoolLemmas.{any_more, front_move, last_move, or_assoc, or_false}
 use Rattle.dict_connection.proofs.OrderLemmas.{turns_of_joined}

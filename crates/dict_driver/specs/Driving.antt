@@ -5,7 +5,7 @@ use Rattle.std.specs.declared.io.Error.{Error}
 use Rattle.mio.specs.Event.{event_token}
 use Rattle.mio.specs.Events.{items}
 use Rattle.dict_catalogue.specs.Steps.{Catalogue}
-use Rattle.dict_preparing.specs.Expected.{Expected}
+use Rattle.dict_desk.specs.Expected.{Expected}
 use Rattle.dict_driver.specs.Served.{AreRounds, Round}
 use Rattle.dict_driver.specs.declared.driver.Driver.{Driver}
 use Rattle.dict_driver.specs.declared.serving.Served.{Served}

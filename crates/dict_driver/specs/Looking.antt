@@ -4,7 +4,7 @@ use Rattle.std.specs.IoError.{error_kind}
 use Rattle.std.specs.declared.io.Error.{Error}
 use Rattle.dict_hub.specs.declared.kind.Kind.{Kind}
 use Rattle.dict_hub.specs.declared.kind.Kind.TheVariants.{Dict, Http}
-use Rattle.dict_outlet.specs.declared.transport.Transport as transport
+use Rattle.dict_connection.specs.declared.transport.Transport as transport
 use Rattle.dict_driver.specs.Asking.{Asking, Asks, looks}
 use Rattle.dict_driver.specs.Listening.{listening_told}
 use Rattle.dict_driver.specs.Turning.{MarkAll}

@@ -1,11 +1,11 @@
 -- What a round does with the octets that wait for each connection.
 use Rattle.std.specs.Prelude.{◌≡◌, ◌⊎◌, ◌||◌, Bool, ◌<◌, ◌≤◌, ◌-◌, ◌+◌, ◌^◌, ℕ, true, List, [], ◌∷◌, ◌++◌, drop, filter, length, sum_by, nat_le, if◌then◌else◌, Option, vec_len, vec_capacity, Result}
 use Rattle.dict_desk.specs.declared.fault.Fault.{Fault}
-use Rattle.dict_preparing.specs.Expected.{Expected}
+use Rattle.dict_desk.specs.Expected.{Expected}
 use Rattle.dict_session.specs.Desks.{Condition}
 use Rattle.dict_hub.specs.Runs.{Accepted, events_of}
-use Rattle.dict_outlet.specs.Queues.{waiting}
-use Rattle.dict_outlet.specs.Calls.{Call}
+use Rattle.dict_connection.specs.Queues.{waiting}
+use Rattle.dict_connection.specs.OutletCalls.{Call}
 use Rattle.dict_connection.specs.Stages.{is_open, is_held, is_departing}
 use Rattle.dict_connection.specs.Events.{ArePut}
 use Rattle.dict_connection.specs.Handing.{held_in}
@@ -18,7 +18,7 @@ use Rattle.dict_hub.specs.declared.hub.Hub.{Hub}
 use Rattle.dict_hub.specs.declared.kind.Kind.{Kind}
 use Rattle.dict_connection.specs.declared.connection.Connection.{Connection}
 use Rattle.dict_driver.specs.declared.connections.Connections.{Connections}
-use Rattle.dict_outlet.specs.declared.transport.Transport.{Ghosts}
+use Rattle.dict_connection.specs.declared.transport.Transport.{Ghosts}
 
 -- one of these connections has this id, and these octets wait for it
 abbrev pub WaitsAmong : {T : Type 0} → List (Connection T) → ℕ → List ℕ → Type 0

@@ -4,13 +4,13 @@ use Rattle.dict_desk.specs.declared.fault.Fault.{Fault}
 use Rattle.std.specs.IoError.{error_kind}
 use Rattle.std.specs.declared.io.Error.{Error}
 use Rattle.dict_catalogue.specs.Steps.{Catalogue}
-use Rattle.dict_preparing.specs.Expected.{Expected}
+use Rattle.dict_desk.specs.Expected.{Expected}
 use Rattle.dict_session.specs.Desks.{condition}
 use Rattle.dict_hub.specs.declared.fault.HubFault.{HubFault}
 use Rattle.dict_hub.specs.declared.hub.Hub.{Hub}
 use Rattle.dict_hub.specs.declared.kind.Kind.{Kind}
-use Rattle.dict_outlet.specs.Calls.{Call}
-use Rattle.dict_outlet.specs.declared.transport.Transport as transport
+use Rattle.dict_connection.specs.OutletCalls.{Call}
+use Rattle.dict_connection.specs.declared.transport.Transport as transport
 use Rattle.dict_driver.specs.Asking.{Asking}
 use Rattle.dict_driver.specs.EventLoops.{GoesRound}
 use Rattle.dict_connection.specs.Leading.{HasLedOn}

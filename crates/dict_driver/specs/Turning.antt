@@ -1,7 +1,7 @@
 -- What is done to each connection of a list, place by place.
 use Rattle.std.specs.Prelude.{◌≡◌, ◌≢◌, ◌<◌, ◌||◌, ℕ, Bool, true, false, List, [], ◌∷◌, Option, length, slice_index_or, take, Result}
 use Rattle.dict_desk.specs.declared.fault.Fault.{Fault}
-use Rattle.dict_preparing.specs.Expected.{Expected}
+use Rattle.dict_desk.specs.Expected.{Expected}
 use Rattle.dict_session.specs.Desks.{Condition}
 use Rattle.dict_hub.specs.Holding.{Holding}
 use Rattle.dict_hub.specs.Hubs.{Has}
@@ -9,7 +9,7 @@ use Rattle.dict_hub.specs.Runs.{Accepted, events_of}
 use Rattle.dict_hub.specs.declared.fault.HubFault.{HubFault}
 use Rattle.dict_hub.specs.declared.hub.Hub.{Hub}
 use Rattle.dict_hub.specs.declared.kind.Kind.{Kind}
-use Rattle.dict_outlet.specs.Calls.{Call}
+use Rattle.dict_connection.specs.OutletCalls.{Call}
 use Rattle.dict_connection.specs.Causes.{AreCausedBy, IsRefused}
 use Rattle.dict_connection.specs.Foreseen.{HoldsBack}
 use Rattle.dict_connection.specs.Handing.{is_held_back}

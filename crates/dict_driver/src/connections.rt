@@ -4,10 +4,9 @@ ghost use Rattle.std.specs.List.{AllPairs};
 ghost use Rattle.dict_connection.specs.Stages.{is_open};
 
 use crate::turning::{depart_all, have_bounded_room, is_any_held_back, mark_one, turn_all};
-use dict_connection::{Connection, Opening};
+use dict_connection::{Connection, Opening, Transport};
+use dict_desk::Preparer;
 use dict_hub::{Hub, Kind, MAX_OPEN};
-use dict_outlet::Transport;
-use dict_preparing::Preparer;
 use std::alloc::{AllocError, Global};
 
 /// The most connections that are no longer open and still held, since octets wait for them or all that comes is not

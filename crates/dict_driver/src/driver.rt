@@ -7,7 +7,7 @@ use crate::binding::{Network, bind_both};
 use crate::event_loop::EventLoop;
 use crate::fault::BindFault;
 use crate::sockets::SystemSockets;
-use dict_outlet::Socket;
+use dict_connection::Socket;
 use mio::net::TcpListener;
 use std::alloc::Global;
 use std::net::{Net, SocketAddr};

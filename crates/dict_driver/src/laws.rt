@@ -9,7 +9,7 @@ ghost use Rattle.dict_driver.specs.declared.listening.Listening.TheVariants.{Rea
 
 use crate::event_loop::EventLoop;
 use crate::sockets::Sockets;
-use dict_outlet::Transport;
+use dict_connection::Transport;
 
 /// In a round a listening socket is asked for a connection at most 16 times. Where one may wait there still as the round ends, it was
 /// asked 16 times: else all that waited were taken.

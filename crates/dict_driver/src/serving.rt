@@ -10,8 +10,8 @@ ghost use Rattle.std.specs.Duration.{as_nanos};
 
 use crate::event_loop::EventLoop;
 use crate::sockets::Sockets;
-use dict_outlet::Transport;
-use dict_preparing::Preparer;
+use dict_connection::Transport;
+use dict_desk::Preparer;
 use std::io;
 use std::time::Duration;
 

@@ -6,11 +6,10 @@ ghost use Rattle.mio.specs.Event.{event_token};
 ghost use Rattle.mio.specs.Events.{items};
 ghost use Rattle.dict_driver.specs.Asking.{Asking, Asks, looks, accepts, watches};
 
-use dict_connection::{Opening, PIECE, greet_by_hub, hand_by_hub};
+use dict_connection::{Opening, PIECE, Queue, Socket, Transport, greet_by_hub, hand_by_hub};
+use dict_desk::Preparer;
 use dict_hub::{Hub, HubFault, Kind, Out};
-use dict_io::Sink;
-use dict_outlet::{Queue, Socket, Transport};
-use dict_preparing::Preparer;
+use dict_proto::Sink;
 use mio::net::TcpListener;
 use mio::{Events, Poll, Token};
 use std::alloc::{AllocError, Global};

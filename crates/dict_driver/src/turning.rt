@@ -7,10 +7,9 @@ ghost use Rattle.dict_driver.specs.Turning.{DepartAll, KeepsAllBut, MarkAll, Tur
 ghost use Rattle.dict_connection.specs.Turns.{IsAtRest};
 ghost use Rattle.dict_driver.specs.Rounds.{room_of};
 
-use dict_connection::{Connection, Opening, PIECE};
+use dict_connection::{Connection, Opening, PIECE, Transport};
+use dict_desk::Preparer;
 use dict_hub::Hub;
-use dict_outlet::Transport;
-use dict_preparing::Preparer;
 
 /// A turn of each open connection, in order. Whether anything happened, or a turn is to be had again at once.
 pub fn turn_all<T: Transport, K: Preparer, O: Opening>(

@@ -2,12 +2,11 @@
 ghost use Rattle.std.specs.Prelude.{None, ⊤};
 
 use crate::peer::{Peer, SILENT, Script};
-use dict_connection::{Opening, greet_by_hub, hand_by_hub};
+use dict_connection::{Opening, Queue, greet_by_hub, hand_by_hub};
+use dict_desk::Preparer;
 use dict_driver::Sockets;
 use dict_hub::{Hub, HubFault, Kind, Out};
-use dict_io::Sink;
-use dict_outlet::Queue;
-use dict_preparing::Preparer;
+use dict_proto::Sink;
 use std::alloc::{AllocError, Global};
 use std::io::{Error, ErrorKind, Result as IoResult};
 use std::time::Duration;

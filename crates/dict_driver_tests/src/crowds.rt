@@ -3,7 +3,7 @@ use crate::checks::holds;
 use crate::crowd::Crowd;
 use crate::peer::{Behind, Peer, SILENT, Script};
 use dict_driver::EventLoop;
-use dict_hub_fixtures::{PartsDesk, install_long};
+use dict_fixtures::{PartsDesk, install_long};
 use std::alloc::Global;
 use std::io::Result as IoResult;
 use std::test::Fail;

@@ -2,8 +2,8 @@
 use crate::peer::{Behind, SILENT, Script};
 use crate::turns::{READER, Step, Talk, make_turns};
 use dict_connection::Stage;
+use dict_fixtures::HEAD;
 use dict_hub::Kind;
-use dict_hub_fixtures::HEAD;
 use std::test::Fail;
 
 const FILLER: &[u8] = &[b'x'; 4_096];

@@ -1,8 +1,7 @@
 // Answers that are longer than what may wait, for peers that take them at once, slowly or never.
 use crate::peer::{SILENT, Script};
 use crate::turns::{READER, Step, Talk, make_turns};
-use dict_connection::Stage;
-use dict_outlet::MAX_WAITING;
+use dict_connection::{MAX_WAITING, Stage};
 use std::test::Fail;
 
 // How many octets the peer is due: a greeting, the answer to STATUS, and that to DEFINE.

@@ -1,7 +1,7 @@
 // Peers of connections, in memory.
 ghost use Rattle.std.specs.Prelude.{Some, None};
 
-use dict_outlet::Transport;
+use dict_connection::Transport;
 use std::alloc::Global;
 use std::io::{Error, ErrorKind, Result as IoResult};
 

@@ -1,6 +1,6 @@
 // An install that is prepared between rounds: the octets that complete it are held back meanwhile.
 use crate::serving::{FILLER, Part, Play, Step, start};
-use dict_hub_fixtures::{HEAD, PartsDesk};
+use dict_fixtures::{HEAD, PartsDesk};
 use std::test::Fail;
 
 /// How far a desk has come with an install.

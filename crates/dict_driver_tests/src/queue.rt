@@ -1,8 +1,8 @@
 // What waits for a peer.
 use crate::checks::holds;
 use crate::peer::{Peer, SILENT, Script};
-use dict_io::{Sink, SinkFault};
-use dict_outlet::{MAX_WAITING, Queue};
+use dict_connection::{MAX_WAITING, Queue};
+use dict_proto::{Sink, SinkFault};
 use std::test::Fail;
 
 fn put_both(queue: &mut Queue) -> Result<(), SinkFault> {

@@ -6,7 +6,7 @@ use crate::ends::{Drowning, drown};
 use crate::newcomers::are_greeted;
 use crate::preparing::{Progress, is_at, round_until};
 use dict_driver::{BindFault, Driver, Served, System, pace, serve};
-use dict_hub_fixtures::{PartsDesk, install_short};
+use dict_fixtures::{PartsDesk, install_short};
 use std::alloc::Global;
 use std::net::SocketAddr;
 use std::test::Fail;

@@ -4,8 +4,8 @@ use crate::checks::holds;
 use crate::crowd::Crowd;
 use crate::peer::{Peer, SILENT, Script};
 use dict_connection::{Connection, Stage};
+use dict_fixtures::{PartsDesk, install_long};
 use dict_hub::{Hub, Kind};
-use dict_hub_fixtures::{PartsDesk, install_long};
 use std::alloc::Global;
 use std::test::Fail;
 

@@ -1,17 +1,19 @@
-//! The heads of editors' requests: how much of a request there is, what it says, or why it is refused.
-//!
-//! A request is HTTP/1.0 or HTTP/1.1 (RFC 9112), one a connection. Its head is what `httparse` reads as one in its
-//! default configuration, with at most 32 headers, in the first 8,192 octets. Its body is what `Content-Length`
-//! says, and octets after it are not looked at.
+//! The heads of editors' requests, and the paths that they ask for.
 #![tactic(auto)]
 
 mod fields;
+mod finding;
 mod kinds;
 mod laws;
 mod parsing;
+mod route_kinds;
+mod route_laws;
 mod statuses;
 
+pub use finding::Routes;
 pub use kinds::{Need, Reading, Request, Values};
 pub use laws::{one_answer, one_request};
 pub use parsing::{need, read_request};
+pub use route_kinds::{Found, Route};
+pub use route_laws::one_route;
 pub use statuses::Status;

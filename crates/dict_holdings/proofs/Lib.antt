@@ -1,3 +1,9 @@
+pub mod FileLemmas
+pub mod VersionLemmas
+pub mod MoreLemmas
+pub mod RiseLemmas
+pub mod TellLemmas
+pub mod WorkedLemmas
 pub mod ReadingLemmas
 pub mod PlaceLemmas
 pub mod KeepLemmas

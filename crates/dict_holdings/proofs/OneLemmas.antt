@@ -14,8 +14,8 @@ use Rattle.sqlite_catalog.proofs.ReadLemmas.{lists_once}
 use Rattle.dict_records.specs.Records as spec
 use Rattle.dict_sql.specs.Effects.{rows_of}
 use Rattle.dict_sql.specs.Encodings.{mark_row, item_row, member_row, edition_row, entry_row, kept_row, number_or_null, text_or_null}
-use Rattle.dict_header_sql.specs.Records.{header_row}
-use Rattle.dict_part_sql.specs.Records.{part_row}
+use Rattle.dict_edition_sql.specs.HeaderRecords.{header_row}
+use Rattle.dict_edition_sql.specs.PartRecords.{part_row}
 use Rattle.dict_catalogue.specs.Steps.{Catalogue}
 use Rattle.dict_rows.specs.Versions.{Layout, Plain, Keyed, Shown, Parted, layout_of, known, IsVersion}
 use Rattle.dict_rows.specs.Tables.{Tables}
@@ -23,11 +23,11 @@ use Rattle.dict_rows.specs.Written.{mark_record}
 use Rattle.dict_rows.specs.Order.{HaveSame}
 use Rattle.dict_rows.proofs.OnceLemmas.{catalogue_same}
 use Rattle.dict_rows.proofs.OrderLemmas.{Same, same_from, one_once, ordered_stands}
-use Rattle.dict_files.specs.AllTables.{with_derived}
-use Rattle.dict_files.specs.Files.{all_parts}
-use Rattle.dict_files.specs.Told.{HaveSameFiles}
-use Rattle.dict_files.proofs.RiseLemmas.{ordered}
-use Rattle.dict_files.proofs.TellLemmas.{told_once}
+use Rattle.dict_holdings.specs.AllTables.{with_derived}
+use Rattle.dict_holdings.specs.Files.{all_parts}
+use Rattle.dict_holdings.specs.Told.{HaveSameFiles}
+use Rattle.dict_holdings.proofs.RiseLemmas.{ordered}
+use Rattle.dict_holdings.proofs.TellLemmas.{told_once}
 use Rattle.dict_holdings.specs.Readings.{KeepsAll, AreShownIn, shown_row}
 use Rattle.dict_holdings.specs.Holds.{Holds, IsHeld, IsLeft, IsLeftAs}
 use Rattle.dict_holdings.proofs.ReadingLemmas.{map_twice}

@@ -11,7 +11,7 @@ use Rattle.sqlite.specs.Effect.{Database}
 use Rattle.sqlite.specs.Order.{Row, column}
 use Rattle.sqlite.specs.declared.types.Value.TheVariants.{Null, Int}
 use Rattle.dict_text.proofs.AllLemmas.{all_map, all_flat_map}
-use Rattle.dict_name.specs.Names.{is_from, is_small_letter, is_capital_letter, is_digit, is_name_octet, is_request_octet, has_size, first_passes, is_name, is_request_id}
+use Rattle.dict_text.specs.Names.{is_from, is_small_letter, is_capital_letter, is_digit, is_name_octet, is_request_octet, has_size, first_passes, is_name, is_request_id}
 use Rattle.dict_records.specs.Records as spec
 use Rattle.dict_sql.specs.Columns.{Content, Number, NumberOrNull, Name, NameOrNull, Octets, HasColumns, IsNumber, kept_columns}
 use Rattle.dict_sql.specs.Effects.{rows_of}
@@ -35,11 +35,11 @@ use Rattle.dict_holdings.specs.Holds.{Holds}
 use Rattle.dict_holdings.specs.Readings as looks
 use Rattle.dict_holdings.specs.Readings.{Reading, KeepsRows, KeepsAll, IsReadable, HasReadableRows}
 use Rattle.dict_rows.specs.Versions.{Layout, Plain, Keyed, Shown, Parted, layout_of}
-use Rattle.dict_header_sql.specs.Records.{header_row}
-use Rattle.dict_part_sql.specs.Records.{part_row}
-use Rattle.dict_files.specs.AllTables.{AllTables, with_derived}
-use Rattle.dict_files.specs.Files.{all_parts}
-use Rattle.dict_files.proofs.RiseLemmas.{any_holds}
+use Rattle.dict_edition_sql.specs.HeaderRecords.{header_row}
+use Rattle.dict_edition_sql.specs.PartRecords.{part_row}
+use Rattle.dict_holdings.specs.AllTables.{AllTables, with_derived}
+use Rattle.dict_holdings.specs.Files.{all_parts}
+use Rattle.dict_holdings.proofs.RiseLemmas.{any_holds}
 
 -- ---- texts of ASCII
 

@@ -5,12 +5,12 @@ use Rattle.sqlite.specs.Effect.{Database}
 use Rattle.dict_records.specs.Records.{Entry, header_of}
 use Rattle.dict_sql.specs.Effects.{rows_of}
 use Rattle.dict_sql.specs.Encodings.{mark_row, item_row, member_row, edition_row, kept_row}
-use Rattle.dict_header_sql.specs.Records.{header_row}
-use Rattle.dict_part_sql.specs.Records.{part_row}
+use Rattle.dict_edition_sql.specs.HeaderRecords.{header_row}
+use Rattle.dict_edition_sql.specs.PartRecords.{part_row}
 use Rattle.dict_rows.specs.Tables.{Tables}
 use Rattle.dict_rows.specs.Versions.{Layout, Plain, Keyed, Shown, Parted}
-use Rattle.dict_files.specs.AllTables.{AllTables, with_derived}
-use Rattle.dict_files.specs.Files.{all_parts}
+use Rattle.dict_holdings.specs.AllTables.{AllTables, with_derived}
+use Rattle.dict_holdings.specs.Files.{all_parts}
 use Rattle.dict_holdings.specs.Readings as looks
 use Rattle.dict_holdings.specs.Readings.{Reading, KeepsRows, KeepsAll}
 use Rattle.dict_holdings.specs.Holds.{Keeps}

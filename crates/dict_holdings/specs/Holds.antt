@@ -10,12 +10,12 @@ use Rattle.dict_tables.specs.Found.{HasOwn}
 use Rattle.dict_tables.specs.Names.{has_prefixed}
 use Rattle.dict_tables.specs.Room.{HasRoom, LeavesRoom}
 use Rattle.dict_sql.specs.Effects.{HasApartRowids, rows_of}
-use Rattle.dict_part_sql.specs.Table.{part}
+use Rattle.dict_edition_sql.specs.PartTable.{part}
 use Rattle.dict_catalogue.specs.Steps.{Catalogue}
 use Rattle.dict_rows.specs.Versions.{Layout, layout_of, IsVersion}
 use Rattle.dict_rows.specs.Tables.{Tables}
 use Rattle.dict_rows.specs.Stands.{Stands}
-use Rattle.dict_files.specs.AllTables.{with_derived}
+use Rattle.dict_holdings.specs.AllTables.{with_derived}
 use Rattle.dict_holdings.specs.Readings.{KeepsAll, AreShownIn, tables_of}
 use Rattle.dict_holdings.specs.Room.{MayBecomeKnown}
 

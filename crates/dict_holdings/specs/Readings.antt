@@ -11,12 +11,12 @@ use Rattle.dict_tables.specs.Keyed as keyed
 use Rattle.dict_sql.specs.Effects.{HasApartRowids, rows_of}
 use Rattle.dict_sql.specs.Columns.{Content, Name, HasColumns, mark_columns, item_columns, member_columns, edition_columns, entry_columns, kept_columns}
 use Rattle.dict_sql.specs.Encodings.{mark_row, item_row, member_row, edition_row, entry_row, kept_row}
-use Rattle.dict_header_sql.specs.Table.{header}
-use Rattle.dict_header_sql.specs.Records.{header_row, header_columns}
-use Rattle.dict_part_sql.specs.Table.{part}
-use Rattle.dict_part_sql.specs.Records.{part_row, part_columns}
+use Rattle.dict_edition_sql.specs.HeaderTable.{header}
+use Rattle.dict_edition_sql.specs.HeaderRecords.{header_row, header_columns}
+use Rattle.dict_edition_sql.specs.PartTable.{part}
+use Rattle.dict_edition_sql.specs.PartRecords.{part_row, part_columns}
 use Rattle.dict_rows.specs.Versions.{Layout, Plain, Keyed, Shown, Parted}
-use Rattle.dict_files.specs.AllTables.{AllTables}
+use Rattle.dict_holdings.specs.AllTables.{AllTables}
 
 -- a table, what its columns hold, those of its columns that are looked at, the rowid first, and the rows that it is to have
 pub record Reading : Type 0 where

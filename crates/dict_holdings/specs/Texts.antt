@@ -3,9 +3,9 @@ use Rattle.std.specs.Prelude.{ℕ, ◌≤◌, pos, List, codes, map, drop, filte
 use Rattle.sqlite.specs.Effect.{Database}
 use Rattle.sqlite.specs.Order.{Row}
 use Rattle.dict_sql.specs.Effects.{rows_of}
-use Rattle.dict_part_sql.specs.Records.{part_row}
-use Rattle.dict_part_sql.specs.Chosen.{is_of_file}
-use Rattle.dict_files.specs.Files.{file_parts}
+use Rattle.dict_edition_sql.specs.PartRecords.{part_row}
+use Rattle.dict_edition_sql.specs.Chosen.{is_of_file}
+use Rattle.dict_holdings.specs.Files.{file_parts}
 
 -- the rows of the text of this number, without their rowids
 abbrev pub text_rows : ℕ → Database → List Row

@@ -1,3 +1,6 @@
+pub mod BodyLemmas
+pub mod EscapeLemmas
+pub mod JsonTextLemmas
 pub mod TextLemmas
 pub mod RespondLemmas
 pub mod PartLemmas

@@ -14,12 +14,12 @@ use Rattle.dict_desk.specs.declared.fault.Fault.{Fault}
 use Rattle.dict_desk.specs.declared.fault.Fault.TheVariants.{Refused, Memory, Disk, Closed, NotACatalogue, Damaged, NewerSchema}
 use Rattle.dict_desk.proofs.LeavesLemmas.{IsWide, contains_later, contains_alone}
 use Rattle.dict_head.specs.declared.statuses.Status.TheVariants as statuses
-use Rattle.dict_json.specs.Texts.{kept_text, refused_command_text, refused_edition_text}
-use Rattle.dict_preparing.specs.Answering.{IfDone, IfRefused}
-use Rattle.dict_preparing.specs.declared.answered.Answered.{Answered}
-use Rattle.dict_preparing.specs.declared.answered.Answered.TheVariants as prepared
+use Rattle.dict_http.specs.Texts.{kept_text, refused_command_text, refused_edition_text}
+use Rattle.dict_desk.specs.Answering.{IfDone, IfRefused}
+use Rattle.dict_desk.specs.declared.answered.Answered.{Answered}
+use Rattle.dict_desk.specs.declared.answered.Answered.TheVariants as prepared
 use Rattle.serde_json.specs.Data.{Data}
-use Rattle.dict_json.specs.Bodies.{IsJson, IsVirtualValue}
+use Rattle.dict_http.specs.Bodies.{IsJson, IsVirtualValue}
 use Rattle.dict_http.specs.Answers.{Response, response_text, with_body}
 use Rattle.dict_http.specs.Actions.{AreParts, command, no_edition}
 use Rattle.dict_http.specs.Settling.{Settled, SettlesNew, SettlesChange, stays, applied, replied, is_accepted}

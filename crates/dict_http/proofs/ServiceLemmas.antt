@@ -10,7 +10,7 @@ use Rattle.dict_head.specs.declared.kinds.Framing.TheVariants.{Body, Refused as 
 use Rattle.dict_head.specs.declared.kinds.Need.TheVariants.{Refused}
 use Rattle.dict_head.specs.declared.statuses.Status.{Status}
 use Rattle.dict_head.specs.declared.statuses.Status.TheVariants.{BadRequest, ContentTooLarge}
-use Rattle.dict_route.specs.declared.kinds.Route.{Route}
+use Rattle.dict_head.specs.declared.route_kinds.Route.{Route}
 use Rattle.dict_http.specs.Answers.{not_allowed}
 use Rattle.dict_http.specs.Actions.{action_of}
 use Rattle.dict_http.specs.Settling.{Settled, stays, SettlesIds, SettlesAction, SettlesRoute}

@@ -22,12 +22,12 @@ use Rattle.dict_head.specs.declared.kinds.Need.TheVariants.{More, Whole, Refused
 use Rattle.dict_head.specs.declared.statuses.Status.{Status}
 use Rattle.dict_head.specs.declared.statuses.Status.TheVariants.{Ok, BadRequest, NotFound}
 use Rattle.dict_head.proofs.LawLemmas as heads
-use Rattle.dict_json.specs.Bodies.{IsPlace, IsVirtual}
-use Rattle.dict_json.specs.Texts.{kept_text, list_text}
-use Rattle.dict_json.proofs.BodyLemmas.{one_place, one_title, one_members}
-use Rattle.dict_route.specs.Paths.{IsPath}
-use Rattle.dict_route.specs.declared.kinds.Route.{Route}
-use Rattle.dict_route.proofs.LawLemmas.{one_route, one_name}
+use Rattle.dict_http.specs.Bodies.{IsPlace, IsVirtual}
+use Rattle.dict_http.specs.Texts.{kept_text, list_text}
+use Rattle.dict_http.proofs.BodyLemmas.{one_place, one_title, one_members}
+use Rattle.dict_head.specs.Paths.{IsPath}
+use Rattle.dict_head.specs.declared.route_kinds.Route.{Route}
+use Rattle.dict_head.proofs.RouteLawLemmas.{one_route, one_name}
 use Rattle.dict_http.specs.Answers.{plain, with_body, not_allowed}
 use Rattle.dict_http.specs.Actions.{action_of, AreParts, Said, command, no_edition, unformed, SaysEdition, Says, IsId}
 use Rattle.dict_http.specs.Settling.{Settled, stays, settled_by, SettlesNew, SettlesChange, SettlesIds, SettlesAction, SettlesRoute, SettlesRequest, Settles}

@@ -3,7 +3,7 @@ use Rattle.std.proofs.Common.{◌≡◌, codes, decimal, refl, arith, lit<}
 use Rattle.std.proofs.lemmas.Fmt.{decimal-digits_value}
 use Rattle.std.proofs.lemmas.Str.Parse.{numerals_by_value, tells_all_ascii_digits}
 use Rattle.dict_head.specs.declared.statuses.Status.TheVariants.{BadRequest, NotFound, ContentTooLarge}
-use Rattle.dict_route.specs.declared.kinds.Route.TheVariants.{Databases, Database, Rollback, Place, Virtual}
+use Rattle.dict_head.specs.declared.route_kinds.Route.TheVariants.{Databases, Database, Rollback, Place, Virtual}
 use Rattle.dict_http.specs.Answers.{response_text, plain, not_allowed, unavailable_text}
 
 d400 : decimal 400 ≡ codes "400"

@@ -5,9 +5,9 @@ use Rattle.dict_index.specs.Edition.{Edition}
 use Rattle.dict_index.specs.Meaning.{IsEdition, IsFault}
 use Rattle.dict_index.specs.declared.fault.EditionRefusal.{EditionRefusal}
 use Rattle.dict_catalogue.specs.Commands.{Command, install, rollback, retire, put_virtual, place}
-use Rattle.dict_json.specs.Bodies.{IsPlace, IsVirtual}
-use Rattle.dict_route.specs.declared.kinds.Route.{Route}
-use Rattle.dict_route.specs.declared.kinds.Route.TheVariants.{Databases, Database, Rollback as RollbackPath, Place as PlacePath, Virtual}
+use Rattle.dict_http.specs.Bodies.{IsPlace, IsVirtual}
+use Rattle.dict_head.specs.declared.route_kinds.Route.{Route}
+use Rattle.dict_head.specs.declared.route_kinds.Route.TheVariants.{Databases, Database, Rollback as RollbackPath, Place as PlacePath, Virtual}
 use Rattle.dict_http.specs.declared.actions.Action.{Action}
 use Rattle.dict_http.specs.declared.actions.Action.TheVariants.{List as Listing, Install, Retire, Rollback, Place, PutVirtual}
 

@@ -3,8 +3,8 @@ use Rattle.std.specs.Prelude.{ℕ, List, [], ◌∷◌, ◌++◌, length, codes,
 use Rattle.dict_head.specs.Statuses.{status_code, reason_phrase}
 use Rattle.dict_head.specs.declared.statuses.Status.{Status}
 use Rattle.dict_head.specs.declared.statuses.Status.TheVariants.{Ok, BadRequest, NotFound, MethodNotAllowed, Conflict, ContentTooLarge, UnprocessableContent, ServiceUnavailable}
-use Rattle.dict_route.specs.declared.kinds.Route.{Route}
-use Rattle.dict_route.specs.declared.kinds.Route.TheVariants.{Databases, Database, Rollback, Place, Virtual}
+use Rattle.dict_head.specs.declared.route_kinds.Route.{Route}
+use Rattle.dict_head.specs.declared.route_kinds.Route.TheVariants.{Databases, Database, Rollback, Place, Virtual}
 use Rattle.dict_http.specs.declared.answers.Answer.{Answer}
 use Rattle.dict_http.specs.declared.answers.Answer.TheVariants.{Fixed, Made}
 

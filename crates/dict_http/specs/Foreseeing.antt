@@ -1,11 +1,11 @@
 -- An install that a request asks for, before it is answered.
 use Rattle.std.specs.Prelude.{◌≡◌, ℕ, List, None, Some, true}
-use Rattle.dict_name.specs.Names.{is_request_id}
+use Rattle.dict_text.specs.Names.{is_request_id}
 use Rattle.dict_catalogue.specs.Steps.{Catalogue, kept_under}
 use Rattle.dict_head.specs.Requests.{Request, IsRequest}
-use Rattle.dict_route.specs.Paths.{IsPath}
-use Rattle.dict_route.specs.declared.kinds.Route.{Route}
-use Rattle.dict_preparing.specs.Expected.{Expected, of_files}
+use Rattle.dict_head.specs.Paths.{IsPath}
+use Rattle.dict_head.specs.declared.route_kinds.Route.{Route}
+use Rattle.dict_desk.specs.Expected.{Expected, of_files}
 use Rattle.dict_http.specs.Actions.{action_of, AreParts, IsId}
 use Rattle.dict_http.specs.declared.actions.Action.TheVariants.{Install}
 

@@ -1,3 +1,6 @@
+pub mod Texts
+pub mod Values
+pub mod Bodies
 pub mod Answers
 pub mod Actions
 pub mod Settling

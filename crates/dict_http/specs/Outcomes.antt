@@ -6,9 +6,9 @@ use Rattle.dict_catalogue.specs.declared.reply.Kept.{Kept}
 use Rattle.dict_desk.specs.declared.fault.Fault.{Fault}
 use Rattle.dict_desk.specs.declared.fault.Fault.TheVariants.{Refused, Memory, Disk, Closed, NotACatalogue, Damaged, NewerSchema}
 use Rattle.dict_head.specs.declared.statuses.Status.TheVariants as statuses
-use Rattle.dict_json.specs.Texts.{kept_text, refused_command_text, refused_edition_text}
-use Rattle.dict_preparing.specs.declared.answered.Answered.{Answered}
-use Rattle.dict_preparing.specs.declared.answered.Answered.TheVariants as prepared
+use Rattle.dict_http.specs.Texts.{kept_text, refused_command_text, refused_edition_text}
+use Rattle.dict_desk.specs.declared.answered.Answered.{Answered}
+use Rattle.dict_desk.specs.declared.answered.Answered.TheVariants as prepared
 use Rattle.dict_http.specs.Actions.{Said, SaysEdition}
 use Rattle.dict_http.specs.Answers.{unavailable_text, with_body}
 use Rattle.dict_http.specs.Settling.{Settled, settled_by}

@@ -3,14 +3,14 @@ use Rattle.std.specs.Prelude.{◌≡◌, ◌⊎◌, ℕ, Bool, true, false, List
 use Rattle.dict_index.specs.Edition.{Edition}
 use Rattle.dict_catalogue.specs.Commands.{Command}
 use Rattle.dict_catalogue.specs.Steps.{Catalogue, Reply, accepted, refused, step, kept_under, summary_of}
-use Rattle.dict_json.specs.Texts.{kept_text, list_text, refused_command_text, refused_edition_text}
+use Rattle.dict_http.specs.Texts.{kept_text, list_text, refused_command_text, refused_edition_text}
 use Rattle.dict_head.specs.Heads.{Needs}
 use Rattle.dict_head.specs.Requests.{Request, IsRequest}
 use Rattle.dict_head.specs.declared.kinds.Need.TheVariants.{Refused}
 use Rattle.dict_head.specs.declared.statuses.Status.{Status}
 use Rattle.dict_head.specs.declared.statuses.Status.TheVariants.{Ok, BadRequest, NotFound, Conflict, UnprocessableContent}
-use Rattle.dict_route.specs.Paths.{IsPath}
-use Rattle.dict_route.specs.declared.kinds.Route.{Route}
+use Rattle.dict_head.specs.Paths.{IsPath}
+use Rattle.dict_head.specs.declared.route_kinds.Route.{Route}
 use Rattle.dict_http.specs.Answers.{Response, with_body, plain, not_allowed}
 use Rattle.dict_http.specs.Actions.{action_of, Said, command, no_edition, unformed, Says, IsId}
 use Rattle.dict_http.specs.declared.actions.Action.{Action}

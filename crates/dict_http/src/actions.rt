@@ -4,8 +4,7 @@ ghost use Rattle.std.specs.Str.{bytes_eq};
 ghost use Rattle.dict_head.specs.Fields.{AreValues};
 ghost use Rattle.dict_http.specs.Actions.{action_of, IsId};
 
-use dict_head::Values;
-use dict_route::Route;
+use dict_head::{Route, Values};
 use std::str;
 
 /// What a request asks for.

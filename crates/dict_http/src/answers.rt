@@ -3,9 +3,8 @@ ghost use Rattle.std.specs.Prelude.{◌≡◌, IfOk};
 ghost use Rattle.dict_head.specs.declared.statuses.Status.TheVariants as statuses;
 ghost use Rattle.dict_http.specs.Answers.{octets_of, response_text, plain, with_body, not_allowed, unavailable_text};
 
-use dict_head::Status;
-use dict_io::{Sink, SinkFault};
-use dict_route::Route;
+use dict_head::{Route, Status};
+use dict_proto::{Sink, SinkFault};
 use std::alloc::{AllocError, Global};
 
 /// The octets of an answer, whole.
@@ -17,7 +16,7 @@ pub enum Answer {
 }
 
 ghost use Rattle.std.specs.List.{flat_map};
-ghost use Rattle.dict_io.specs.Streams.{Puts};
+ghost use Rattle.dict_proto.specs.Streams.{Puts};
 
 impl Answer {
     /// The octets.

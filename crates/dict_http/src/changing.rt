@@ -1,11 +1,11 @@
 // What a request that changes does.
-ghost use Rattle.std.specs.Prelude.{◌≡◌, ◌≢◌, true, List, IfOk, None};
+ghost use Rattle.std.specs.Prelude.{◌≡◌, ◌≢◌, true, List, None};
 ghost use Rattle.dict_index.specs.Edition.{edition_of};
 ghost use Rattle.dict_catalogue.specs.Commands.{install};
 ghost use Rattle.dict_catalogue.specs.Steps.{Catalogue, kept_under};
 ghost use Rattle.dict_catalogue.specs.Views.{kept_shown, command_meant};
 ghost use Rattle.dict_head.specs.declared.statuses.Status.TheVariants as statuses;
-ghost use Rattle.dict_json.specs.Texts.{kept_text, refused_command_text, refused_edition_text};
+ghost use Rattle.dict_http.specs.Texts.{kept_text, refused_command_text, refused_edition_text};
 ghost use Rattle.dict_http.specs.Answers.{octets_of, with_body};
 ghost use Rattle.dict_http.specs.Settling.{applied, SettlesNew, SettlesChange};
 ghost use Rattle.dict_http.specs.Responding.{IsAnswer, Ends, Responds};
@@ -14,22 +14,14 @@ ghost use Rattle.dict_http.specs.declared.actions.Action.TheVariants as actions;
 
 use crate::actions::Action;
 use crate::answers::{Answer, bad_request, made, unavailable};
+use crate::bodies::{read_json, read_place, read_virtual};
 use crate::parts::parts_of;
+use crate::replies::{refused_command_json, refused_edition_json};
 use dict_catalogue::{Command, CommandRefusal, Kept};
-use dict_desk::{Fault, Keeper};
+use dict_desk::{Answered, Fault, Keeper, Preparer};
 use dict_head::Status;
 use dict_index::{Edition, EditionRefusal, IndexFault, read_edition};
-use dict_json::{read_json, read_place, read_virtual, refused_command_json, refused_edition_json};
-use dict_preparing::{Answered, Preparer};
-use std::alloc::{AllocError, Global};
-
-/// The JSON of the reply to an accepted command, as octets.
-pub fn kept_json(alloc: Global, kept: &Kept) -> Result<Vec<u8>, AllocError>
-    ensures { IfOk result (λ octets. octets.items ≡ kept_text (kept_shown kept.now)) }
-{
-    let text = dict_json::kept_json(alloc, kept)?;
-    Ok(text.into_bytes())
-}
+use std::alloc::Global;
 
 // The answer with this status and body, or the one for want of memory.
 pub fn with_text(alloc: Global, status: Status, body: &str) -> Answer
@@ -45,7 +37,7 @@ pub fn with_text(alloc: Global, status: Status, body: &str) -> Answer
 fn kept_answer(alloc: Global, kept: &Kept) -> Answer
     ensures { IsAnswer (octets_of result) (with_body statuses.Ok (kept_text (kept_shown kept.now))) }
 {
-    match dict_json::kept_json(alloc, kept) {
+    match crate::replies::kept_json(alloc, kept) {
         Ok(body) => with_text(alloc, Status::Ok, body.as_str()),
         Err(_) => unavailable(),
     }

@@ -1,16 +1,15 @@
 // Installs that a request asks for, before it is answered.
 ghost use Rattle.std.specs.Prelude.{◌≡◌, ℕ, List, Option, None, true};
-ghost use Rattle.dict_name.specs.Names.{is_request_id};
+ghost use Rattle.dict_text.specs.Names.{is_request_id};
 ghost use Rattle.dict_catalogue.specs.Steps.{Catalogue, kept_under};
 ghost use Rattle.dict_head.specs.Fields.{AreValues};
 ghost use Rattle.dict_http.specs.Foreseeing.{HasForeseen, AsksAnewBy, AsksBy, SaysInstall};
 
 use crate::actions::one_id;
 use crate::parts::parts_of;
-use dict_desk::Keeper;
+use dict_desk::{Keeper, Preparer};
 use dict_head::Values;
-use dict_name::is_request_id;
-use dict_preparing::Preparer;
+use dict_text::is_request_id;
 
 // Whether a command under this id may act: the id is lawful, and no reply is kept under it.
 fn may_act<K: Keeper>(desk: &mut K, id: &str) -> bool

@@ -6,14 +6,23 @@
 
 mod actions;
 mod answers;
+mod bodies;
 mod changing;
 mod foreseeing;
+mod items;
+mod json_laws;
 mod laws;
 mod parts;
+mod putting;
+mod replies;
 mod service;
 
 pub use answers::Answer;
-pub use changing::kept_json;
+pub use bodies::{VirtualBody, read_json, read_place, read_virtual};
 pub use dict_head::{Need, Status, need};
+pub use items::list_json;
+pub use json_laws::one_body;
 pub use laws::one_answer;
+pub use putting::put_kept;
+pub use replies::{kept_json, refused_command_json, refused_edition_json};
 pub use service::Service;

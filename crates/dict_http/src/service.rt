@@ -6,7 +6,7 @@ ghost use Rattle.dict_head.specs.Heads.{Needs};
 ghost use Rattle.dict_head.specs.Requests.{Request as WholeRequest, Tells};
 ghost use Rattle.dict_head.specs.declared.kinds.Need.TheVariants as needs;
 ghost use Rattle.dict_head.specs.declared.statuses.Status.TheVariants as statuses;
-ghost use Rattle.dict_json.specs.Texts.{list_text};
+ghost use Rattle.dict_http.specs.Texts.{list_text};
 ghost use Rattle.dict_http.specs.Answers.{octets_of, plain, with_body, response_text};
 ghost use Rattle.dict_http.specs.Foreseeing.{HasForeseen, AsksAnewForInstall, AsksForInstall};
 ghost use Rattle.dict_http.specs.Settling.{Settles, SettlesRequest, SettlesAction};
@@ -16,11 +16,9 @@ use crate::actions::{Action, action_of, one_id};
 use crate::answers::{Answer, bad_request, method_not_allowed, not_found, too_large, unavailable};
 use crate::changing::{change, with_text};
 use crate::foreseeing::foresee_install;
-use dict_desk::Keeper;
-use dict_head::{Reading, Request, Status, Values, read_request};
-use dict_json::list_json;
-use dict_preparing::Preparer;
-use dict_route::Routes;
+use crate::items::list_json;
+use dict_desk::{Keeper, Preparer};
+use dict_head::{Reading, Request, Routes, Status, Values, read_request};
 use std::alloc::{AllocError, Global};
 
 /// Answers editors' requests.

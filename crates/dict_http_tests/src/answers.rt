@@ -2,10 +2,9 @@
 
 use crate::checks::{holds, same, same_text, same_text_of};
 use dict_catalogue::{Kept, Verb};
-use dict_desk::PlainDesk;
+use dict_desk::{PlainDesk, Preparer};
 use dict_http::{Answer, Need, Service, Status, kept_json, need};
-use dict_io::{LimitedSink, Sink};
-use dict_preparing::Preparer;
+use dict_proto::{LimitedSink, Sink};
 use memchr::memmem;
 use std::alloc::Global;
 use std::process::Abort;
@@ -186,9 +185,7 @@ fn told_kept(alloc: Global) -> Result<String, Fail> {
         name: String::from_str(alloc, "gem")?,
         edition: Some(1),
     };
-    let octets = kept_json(alloc, &kept)?;
-    let text = str::from_utf8(octets.as_slice()).unwrap_or("not UTF-8");
-    Ok(String::from_str(alloc, text)?)
+    Ok(kept_json(alloc, &kept)?)
 }
 
 #[test]

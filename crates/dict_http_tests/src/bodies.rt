@@ -1,11 +1,11 @@
 //! What bodies are taken, and what is written.
 use crate::checks::{same_text, same_text_of};
 use dict_catalogue::{CommandRefusal, Item, Kept, StoredTitle, Summary, Verb};
-use dict_index::EditionRefusal;
-use dict_json::{
+use dict_http::{
     kept_json, list_json, read_json, read_place, read_virtual, refused_command_json,
     refused_edition_json,
 };
+use dict_index::EditionRefusal;
 use std::alloc::{AllocError, Global};
 use std::process::Abort;
 use std::test::Fail;

@@ -3,9 +3,8 @@
 use crate::answers::told;
 use crate::checks::same_text_of;
 use crate::table::{INSTALL, Row, request_of, run};
-use dict_desk::PlainDesk;
-use dict_failing_desk::FailingDesk;
-use dict_preparing::Preparer;
+use dict_desk::{PlainDesk, Preparer};
+use dict_fixtures::FailingDesk;
 use std::alloc::Global;
 use std::process::Abort;
 use std::test::Fail;

@@ -1,6 +1,6 @@
 //! Which paths have which forms.
 use crate::checks::same_text_of;
-use dict_route::Routes;
+use dict_head::Routes;
 use std::alloc::Global;
 use std::process::Abort;
 use std::test::Fail;

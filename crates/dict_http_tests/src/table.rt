@@ -1,8 +1,7 @@
 // Requests one after another, each with its answer.
 use crate::answers::{response, told};
 use crate::checks::same_text_of;
-use dict_desk::PlainDesk;
-use dict_preparing::Preparer;
+use dict_desk::{PlainDesk, Preparer};
 use std::alloc::Global;
 use std::process::Abort;
 use std::test::Fail;

@@ -1,7 +1,7 @@
 -- What a piece does, by whether its connection is open.
 use Rattle.std.proofs.Common.{◌≡◌, ◌++◌, ℕ, List, refl, sym, subst}
 use Rattle.std.specs.Prelude.{Bool, Option, Some, None, Result, Ok, Err, IfErr, IfOk, OnErr}
-use Rattle.dict_io.specs.Streams.{Stream}
+use Rattle.dict_proto.specs.Streams.{Stream}
 use Rattle.dict_catalogue.specs.Steps.{Catalogue}
 use Rattle.dict_hub.specs.Holding.{Holding, left_by}
 use Rattle.dict_hub.specs.Given.{Gets, GetsThrough, LookNothingUp}

@@ -1,8 +1,8 @@
 -- What a piece gives a reader or an editor.
 use Rattle.std.proofs.Common.{◌≡◌, ◌∙◌, ℕ, List, refl, sym, ap, subst, inl, inr}
 use Rattle.std.specs.Prelude.{Bool, Option, Result, Ok, Err, IfOk, OnErr}
-use Rattle.dict_io.specs.Streams.{Stream}
-use Rattle.dict_line.specs.Meaning.{Meaning}
+use Rattle.dict_proto.specs.Streams.{Stream}
+use Rattle.dict_proto.specs.Meaning.{Meaning}
 use Rattle.dict_catalogue.specs.Steps.{Catalogue}
 use Rattle.dict_session.specs.Ending.{Wrote, step_at}
 use Rattle.dict_session.specs.declared.step.Course.{Course}

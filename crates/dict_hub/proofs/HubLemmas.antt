@@ -9,7 +9,7 @@ use Rattle.std.proofs.lemmas.List.{get_or_append_left, get_or-set_same, get_or-s
 use Rattle.std.proofs.lemmas.List.Sums.{prefix_len_passes}
 use Rattle.std.proofs.lemmas.List.Edits.{get_or-remove_below, get_or-remove_above, length-remove}
 use Rattle.std.proofs.lemmas.List.Quantifiers.{position-Some}
-use Rattle.dict_preparing.specs.Expected.{Expected}
+use Rattle.dict_desk.specs.Expected.{Expected}
 use Rattle.dict_hub.specs.Books.{place_of, opening, is_given}
 use Rattle.dict_hub.specs.Foreseen.{IsForeseen, AreForeseen}
 use Rattle.dict_hub.specs.Holding.{Holding}

@@ -3,9 +3,9 @@ use Rattle.std.proofs.Common.{◌≡◌, ◌==◌, ℕ, Bool, true, false, List,
 use Rattle.std.specs.Prelude.{◌⊎◌, Option, Some, None, map, if◌then◌else◌}
 use Rattle.std.proofs.KnownBytes.{Appends-nil}
 use Rattle.std.proofs.lemmas.Bool.{eqb-true}
-use Rattle.dict_io.specs.Streams.{Stream, HasFailed, PutsAll}
+use Rattle.dict_proto.specs.Streams.{Stream, HasFailed, PutsAll}
 use Rattle.dict_catalogue.specs.Steps.{Catalogue}
-use Rattle.dict_line.specs.Meaning.{Meaning}
+use Rattle.dict_proto.specs.Meaning.{Meaning}
 use Rattle.dict_head.specs.Heads.{Needs}
 use Rattle.dict_head.specs.declared.kinds.Need.TheVariants.{More as NeedsMore}
 use Rattle.dict_http.specs.Answers.{unavailable_text}

@@ -2,7 +2,7 @@
 use Rattle.std.proofs.Common.{◌≡◌, ◌≢◌, ◌==◌, ℕ, Bool, true, false, List, [], ◌∷◌, ◌++◌, refl, sym, ap, ◌∙◌, subst, inl, inr}
 use Rattle.std.specs.Prelude.{Option, Some, None, MatchOption, map, if◌then◌else◌}
 use Rattle.std.proofs.lemmas.Bool.{eqb-true, eq-eqb}
-use Rattle.dict_io.specs.Streams.{Stream}
+use Rattle.dict_proto.specs.Streams.{Stream}
 use Rattle.dict_catalogue.specs.Steps.{Catalogue, Request, after, step, kept_under}
 use Rattle.dict_catalogue.specs.Effects.{KeptReply}
 use Rattle.dict_head.specs.Requests.{Request as WholeRequest}

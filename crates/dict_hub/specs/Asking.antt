@@ -1,6 +1,6 @@
 -- What a piece of an editor's request leaves.
 use Rattle.std.specs.Prelude.{◌≡◌, ◌⊎◌, ◌<◌, ◌++◌, ℕ, List, Option, length}
-use Rattle.dict_io.specs.Streams.{Stream, PutsAll, PutsFront}
+use Rattle.dict_proto.specs.Streams.{Stream, PutsAll, PutsFront}
 use Rattle.dict_catalogue.specs.Steps.{Catalogue}
 use Rattle.dict_head.specs.Heads.{Needs}
 use Rattle.dict_head.specs.declared.kinds.Need.TheVariants.{More as NeedsMore}

@@ -1,6 +1,6 @@
 -- What an event is, and what it does to its connection.
 use Rattle.std.specs.Prelude.{◌≡◌, ◌+◌, ◌-◌, ℕ, Bool, true, false, List, [], ◌++◌, Option, Some, None, Result, Ok, Err}
-use Rattle.dict_io.specs.Streams.{Stream}
+use Rattle.dict_proto.specs.Streams.{Stream}
 use Rattle.dict_catalogue.specs.Steps.{Catalogue}
 use Rattle.dict_session.specs.Desks.{Condition}
 use Rattle.dict_hub.specs.Books.{opening}

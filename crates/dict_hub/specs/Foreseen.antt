@@ -1,6 +1,6 @@
 -- What is foreseen of the octets that come next on a connection.
 use Rattle.std.specs.Prelude.{◌≡◌, ◌++◌, ℕ, List, Option, Some, None}
-use Rattle.dict_preparing.specs.Expected.{Expected}
+use Rattle.dict_desk.specs.Expected.{Expected}
 use Rattle.dict_http.specs.Foreseeing.{HasForeseen}
 use Rattle.dict_hub.specs.Holding.{Holding}
 use Rattle.dict_hub.specs.declared.kind.Kind.TheVariants.{Http}

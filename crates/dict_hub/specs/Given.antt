@@ -1,10 +1,10 @@
 -- What an event gives its connection: a function of the host, the connection's id and kind, the octets that have come on it
 -- and the catalogue.
 use Rattle.std.specs.Prelude.{◌≡◌, ◌⊎◌, ℕ, List, Bool, true, false, Option, All}
-use Rattle.dict_io.specs.Streams.{Stream, PutsAll, PutsFront}
+use Rattle.dict_proto.specs.Streams.{Stream, PutsAll, PutsFront}
 use Rattle.dict_catalogue.specs.Steps.{Catalogue}
 use Rattle.dict_desk.specs.Applying.{LeavesNoMore}
-use Rattle.dict_line.specs.Meaning.{Meaning, meaning}
+use Rattle.dict_proto.specs.Meaning.{Meaning, meaning}
 use Rattle.dict_proto.specs.Replies.{banner_octets}
 use Rattle.dict_head.specs.Heads.{Needs}
 use Rattle.dict_head.specs.declared.kinds.Need.TheVariants.{More as NeedsMore}

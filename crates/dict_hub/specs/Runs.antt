@@ -1,6 +1,6 @@
 -- Runs of events: where a list of accepted events leads, from a state of a hub and what its desk stands at.
 use Rattle.std.specs.Prelude.{◌≡◌, ◌==◌, ℕ, List, [], ◌∷◌, ◌++◌, filter, Option, None, Ok, if◌then◌else◌}
-use Rattle.dict_io.specs.Streams.{StreamChange, PutsAll}
+use Rattle.dict_proto.specs.Streams.{StreamChange, PutsAll}
 use Rattle.dict_catalogue.specs.Steps.{Catalogue}
 use Rattle.dict_session.specs.Desks.{Condition}
 use Rattle.dict_hub.specs.Holding.{Holding}

@@ -1,7 +1,7 @@
 -- What an event gives where nothing fails: a function of the host, the connection's id and kind, the octets that have come on
 -- it and the catalogue. And what has failed where it gives something else.
 use Rattle.std.specs.Prelude.{◌≡◌, ◌⊎◌, ℕ, true, List, [], ◌++◌, Option, Some, None, if◌then◌else◌}
-use Rattle.dict_io.specs.Streams.{Stream, HasFailed, PutsAll}
+use Rattle.dict_proto.specs.Streams.{Stream, HasFailed, PutsAll}
 use Rattle.dict_catalogue.specs.Steps.{Catalogue}
 use Rattle.dict_proto.specs.Replies.{banner_octets}
 use Rattle.dict_head.specs.Heads.{Needs}

@@ -13,9 +13,9 @@ ghost use Rattle.dict_hub.specs.declared.fault.HubFault.TheVariants.{Memory};
 use crate::fault::HubFault;
 use crate::incoming::{Incoming, Out};
 use crate::kind::Kind;
+use dict_desk::Preparer;
 use dict_http::Service;
-use dict_io::Sink;
-use dict_preparing::Preparer;
+use dict_proto::Sink;
 use dict_session::{Session, Step};
 use std::alloc::{AllocError, Global};
 

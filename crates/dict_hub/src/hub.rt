@@ -18,9 +18,9 @@ use crate::exchange::Exchange;
 use crate::fault::HubFault;
 use crate::incoming::Out;
 use crate::kind::Kind;
+use dict_desk::Preparer;
 use dict_http::Service;
-use dict_io::Sink;
-use dict_preparing::Preparer;
+use dict_proto::Sink;
 use std::alloc::{AllocError, Global};
 
 /// Something that happened on a connection.
@@ -49,7 +49,7 @@ impl<'h> Hub<'h> {
     ghost use Rattle.dict_hub.specs.Hubs.{Has, host_of, greatest_of, count_of};
     ghost use Rattle.dict_hub.specs.Events.{opened, happening, id_of, admitted, asks_desk, takes_memory, count_after, greatest_after, held_after, Serves, ServesThrough, IsQuiet};
     ghost use Rattle.dict_hub.specs.Runs.{State, Standing, Accepted, IsAt, Leads, LeadsOn, beginning};
-    ghost use Rattle.dict_io.specs.Streams.{change};
+    ghost use Rattle.dict_proto.specs.Streams.{change};
 
     /// No connection is open, and no id was given.
     pub fn new(alloc: Global, host: &'h str) -> Result<Hub<'h>, AllocError>

@@ -8,10 +8,10 @@ ghost use Rattle.std.specs.Prelude.{Ok};
 ghost use Rattle.dict_hub.specs.declared.fault.HubFault.TheVariants.{Memory};
 
 use crate::fault::HubFault;
+use dict_desk::Preparer;
 use dict_head::{Reading, read_request};
 use dict_http::Service;
-use dict_io::Sink;
-use dict_preparing::Preparer;
+use dict_proto::Sink;
 use std::alloc::Global;
 
 /// The least octets of a request that is foreseen. A smaller one is answered sooner than it is prepared.

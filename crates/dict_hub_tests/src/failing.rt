@@ -3,9 +3,9 @@
 use super::files::{DELETE, DELETED_TOLD, Row, play, send, told};
 use super::runs::{Run, over_failing, over_memory};
 use crate::checks::same;
+use dict_desk::Preparer;
 use dict_hub::{Event, Hub, Kind};
-use dict_io::LimitedSink;
-use dict_preparing::Preparer;
+use dict_proto::LimitedSink;
 use std::alloc::Global;
 use std::process::Abort;
 use std::test::Fail;

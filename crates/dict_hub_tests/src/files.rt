@@ -1,9 +1,8 @@
 // A catalogue in memory, and what a hub puts over it.
 use crate::checks::{same, same_text};
-use dict_desk::PlainDesk;
+use dict_desk::{PlainDesk, Preparer};
 use dict_hub::{Event, Hub, HubFault, Kind, Out};
-use dict_io::LimitedSink;
-use dict_preparing::Preparer;
+use dict_proto::LimitedSink;
 use std::alloc::Global;
 use std::process::Abort;
 use std::test::Fail;

@@ -1,8 +1,8 @@
 // Requests of which a desk is told before they are answered.
 use super::files::{HOST, PUT, told};
 use crate::checks::{same, same_text};
+use dict_fixtures::PartsDesk;
 use dict_hub::{Event, Hub, Kind};
-use dict_hub_fixtures::PartsDesk;
 use std::alloc::{AllocError, Global};
 use std::process::Abort;
 use std::test::Fail;

@@ -2,9 +2,9 @@
 use super::files::{PUT, Row, play, same_out, send};
 use super::runs::{Run, over_memory};
 use crate::checks::{same, same_text};
+use dict_desk::Preparer;
 use dict_hub::{Event, Hub, HubFault, Kind, Out};
-use dict_io::LimitedSink;
-use dict_preparing::Preparer;
+use dict_proto::LimitedSink;
 use std::alloc::Global;
 use std::process::Abort;
 use std::test::Fail;

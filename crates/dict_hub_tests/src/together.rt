@@ -2,11 +2,10 @@
 use super::files::{HOST, PUT, gem_desk, same_out, send};
 use super::runs::{Run, over_memory};
 use crate::checks::same;
-use dict_desk::PlainDesk;
+use dict_desk::{PlainDesk, Preparer};
 use dict_http::{Need, Service, need};
 use dict_hub::{Event, Hub, HubFault, Kind};
-use dict_io::LimitedSink;
-use dict_preparing::Preparer;
+use dict_proto::LimitedSink;
 use dict_session::Session;
 use std::alloc::Global;
 use std::process::Abort;

@@ -6,8 +6,8 @@ use Rattle.std.proofs.lemmas.Str.{IsUtf8-from_is_utf8, is_utf8-from_IsUtf8}
 use Rattle.std.specs.Prelude.{◌==◌, count_by, slice_index, IsTrue, Option, Some, None, IfSome, unwrap_or}
 use Rattle.std.specs.List.{AllByRecursion, AllZip}
 use Rattle.std.specs.Str.{IsUtf8, is_utf8, bytes_eq}
-use Rattle.dict_b64.specs.Number.{Spells, IsDigit, alphabet, number_of}
-use Rattle.dict_b64.specs.Faults.{IsSomeDigit}
+use Rattle.dict_text.specs.Number.{Spells, IsDigit, alphabet, number_of}
+use Rattle.dict_text.specs.Faults.{IsSomeDigit}
 use Rattle.dict_text.specs.Characters.{is_control, has_control}
 use Rattle.dict_text.specs.Lines.{text_lines}
 use Rattle.dict_match.specs.Key.{reserved_key_of}

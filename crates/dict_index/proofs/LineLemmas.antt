@@ -3,8 +3,8 @@ use Rattle.std.proofs.Common.{◌≡◌, ◌≢◌, ℕ, zero, suc, ◌<◌, inl
 use Rattle.std.proofs.lemmas.Bool.{cases_lt}
 use Rattle.std.specs.Prelude.{◌==◌, ◌&&◌, not, slice_index, Option, IfSome, unwrap_or}
 use Rattle.std.specs.List.{AllZip}
-use Rattle.dict_b64.specs.Number.{Spells, IsDigit, alphabet}
-use Rattle.dict_b64.proofs.NumberLemmas.{one_number}
+use Rattle.dict_text.specs.Number.{Spells, IsDigit, alphabet}
+use Rattle.dict_text.proofs.NumberLemmas.{one_number}
 use Rattle.dict_index.specs.Cuts.{HasNo, AreColumns}
 use Rattle.dict_index.specs.Line.{Line, IsLine, behind_tab}
 use Rattle.dict_index.specs.Tests.{IfSays, IfFourth}

@@ -2,7 +2,7 @@
 use Rattle.std.proofs.Common.{ℕ, List, ◌∷◌, ◌++◌, refl, sym, subst, arith}
 use Rattle.std.specs.Prelude.{Option, Some, None, IfSome}
 use Rattle.std.specs.Str.{IsUtf8}
-use Rattle.dict_b64.specs.Number.{Spells}
+use Rattle.dict_text.specs.Number.{Spells}
 use Rattle.dict_index.specs.Cuts.{AreColumns}
 use Rattle.dict_index.specs.Line.{Line, IsLine, behind_tab}
 use Rattle.dict_index.specs.Tests.{IfSays, IfFourth, PassesLine}

@@ -5,7 +5,7 @@ use Rattle.std.specs.Prelude.{◌==◌, ◌&&◌, ◌||◌, slice_get}
 use Rattle.std.specs.Str.{IsUtf8}
 use Rattle.dict_text.specs.Characters.{is_blank}
 use Rattle.dict_text.specs.Blanks.{without_leading_blanks, without_trailing_blanks, without_blanks_at_ends}
-use Rattle.dict_name.specs.Names.{passes, first_passes, last_passes}
+use Rattle.dict_text.specs.Names.{passes, first_passes, last_passes}
 use Rattle.dict_index.proofs.CutLemmas.{utf8_parts}
 
 blank_small : (c : ℕ) → is_blank c ≡ true → c < 128

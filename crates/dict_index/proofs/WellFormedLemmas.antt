@@ -12,7 +12,7 @@ use Rattle.std.specs.Str.{IsUtf8, bytes_eq}
 use Rattle.dict_text.specs.Characters.{is_blank}
 use Rattle.dict_text.specs.Blanks.{without_blanks_at_ends}
 use Rattle.dict_text.specs.Lines.{text_lines}
-use Rattle.dict_name.specs.Names.{first_passes, last_passes, is_title}
+use Rattle.dict_text.specs.Names.{first_passes, last_passes, is_title}
 use Rattle.dict_match.specs.Key.{reserved_key_of}
 use Rattle.dict_index.specs.Cuts.{HasNo, IsCutAt, AreColumns}
 use Rattle.dict_index.specs.Limits.{most_lines, most_octets, most_entries}

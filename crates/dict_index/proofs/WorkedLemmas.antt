@@ -6,7 +6,7 @@ use Rattle.std.specs.Prelude.{◌==◌, ◌&&◌, ◌||◌, not, nat_le, count_b
 use Rattle.std.specs.List.{AllByRecursion, AllZip, list_all}
 use Rattle.std.specs.Str.{is_utf8, chars}
 use lib.Utf8.{encode}
-use Rattle.dict_b64.specs.Number.{Spells, alphabet}
+use Rattle.dict_text.specs.Number.{Spells, alphabet}
 use Rattle.dict_text.specs.Characters.{is_control, has_control}
 use Rattle.dict_text.specs.Lines.{text_lines}
 use Rattle.dict_match.specs.Key.{reserved_key_of}

@@ -2,7 +2,7 @@
 -- tab: the headword that is shown.
 use Rattle.std.specs.Prelude.{◌≡◌, ◌≢◌, ℕ, List, [], ◌∷◌, ◌++◌, take, drop, Option, Some, None, IfSome, unwrap_or}
 use Rattle.std.specs.List.{AllByRecursion}
-use Rattle.dict_b64.specs.Number.{Spells}
+use Rattle.dict_text.specs.Number.{Spells}
 
 abbrev pub tab : ℕ
 tab = 9

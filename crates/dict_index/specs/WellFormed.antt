@@ -2,7 +2,7 @@
 use Rattle.std.specs.Prelude.{◌≡◌, ◌≤◌, ℕ, List, length, false, IsTrue}
 use Rattle.std.specs.List.{AllByRecursion}
 use Rattle.std.specs.Str.{IsUtf8}
-use Rattle.dict_name.specs.Names.{is_title}
+use Rattle.dict_text.specs.Names.{is_title}
 use Rattle.dict_match.specs.Key.{reserved_key_of}
 use Rattle.dict_index.specs.Limits.{most_entries}
 use Rattle.dict_index.specs.Edition.{Entry, Edition}

@@ -1,7 +1,7 @@
 // What one line of an index says, over a text.
 ghost use Rattle.std.specs.Prelude.{◌≡◌, ℕ, ◌+◌, ◌<◌, ◌≤◌, ◌^◌, length, take, drop, MatchOption, MatchBool, IfSome, unwrap_or, IfOk, IfErr, OnOk, List};
 ghost use Rattle.std.specs.Str.{IsUtf8};
-ghost use Rattle.dict_b64.specs.Number.{Spells};
+ghost use Rattle.dict_text.specs.Number.{Spells};
 ghost use Rattle.dict_match.specs.Key.{key_of, reserved_key_of};
 ghost use Rattle.dict_index.specs.Cuts.{AreColumns};
 ghost use Rattle.dict_index.specs.Line.{IsLine};
@@ -14,9 +14,8 @@ use crate::columns::{Columns, columns_of};
 use crate::entry::Entry;
 use crate::fault::EditionRefusal;
 use bstr::ByteSlice;
-use dict_b64::read_number;
 use dict_match::{Key, key_of, reserved_key_of};
-use dict_text::{has_control, is_control_octet, text_lines};
+use dict_text::{has_control, is_control_octet, read_number, text_lines};
 use std::alloc::{AllocError, Global};
 
 const MAX_HEADWORD: usize = 255;

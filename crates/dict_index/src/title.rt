@@ -15,8 +15,7 @@ use crate::columns::cut_at;
 use crate::fault::{EditionRefusal, IndexFault};
 use crate::line::as_text;
 use dict_match::reserved_key_of;
-use dict_name::MAX_TITLE;
-use dict_text::{has_control, without_blanks_at_ends};
+use dict_text::{MAX_TITLE, has_control, without_blanks_at_ends};
 use std::alloc::{AllocError, Global};
 use std::collections::BTreeMap;
 

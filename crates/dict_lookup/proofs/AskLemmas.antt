@@ -11,8 +11,8 @@ use Rattle.sqlite.proofs.StateLemmas.{survives_then}
 use Rattle.dict_sql.specs.Effects.{WhileOpen}
 use Rattle.dict_parts.specs.Parts.{parts_of}
 use Rattle.dict_holdings.specs.Texts.{HoldsText}
-use Rattle.dict_texts.specs.Texts.{Key, same_key, with_text}
-use Rattle.dict_texts.proofs.KeptLemmas.{all_without, all_with, all_found}
+use Rattle.dict_lookup.specs.KeptTexts.{Key, same_key, with_text}
+use Rattle.dict_lookup.proofs.KeptLemmas.{all_without, all_with, all_found}
 use Rattle.dict_desk.specs.declared.fault.Fault.{Fault}
 use Rattle.dict_desk.specs.declared.fault.Fault.TheVariants.{Memory}
 use Rattle.dict_lookup.specs.Searches.{IsUnread, column_of}

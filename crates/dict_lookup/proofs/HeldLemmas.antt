@@ -14,11 +14,11 @@ use Rattle.dict_records.specs.Records.{Edition, Part, header_of}
 use Rattle.dict_tables.specs.Found.{HasOwn}
 use Rattle.dict_sql.specs.Columns.{HasColumns}
 use Rattle.dict_sql.specs.Effects.{Has, rows_of, equals_number, same_value}
-use Rattle.dict_header_sql.specs.Records.{header_row, header_columns}
-use Rattle.dict_part_sql.specs.Chosen.{is_of_file}
-use Rattle.dict_part_sql.specs.Records.{part_row, part_columns}
+use Rattle.dict_edition_sql.specs.HeaderRecords.{header_row, header_columns}
+use Rattle.dict_edition_sql.specs.Chosen.{is_of_file}
+use Rattle.dict_edition_sql.specs.PartRecords.{part_row, part_columns}
 use Rattle.dict_index.specs.Edition.{Edition as AnEdition, ReadEdition, edition_of}
-use Rattle.dict_index_lines.specs.Stored.{stored_index}
+use Rattle.dict_parts.specs.Stored.{stored_index}
 use Rattle.dict_catalogue.specs.Items.{Stored, Item, name_of, editions_of, numbers_of}
 use Rattle.dict_catalogue.specs.Steps.{Catalogue, KeptFor}
 use Rattle.dict_catalogue.specs.WellFormed.{IsWellFormed, how_many, is_install}
@@ -26,9 +26,9 @@ use Rattle.dict_rows.specs.Tables.{Tables, same_number, editions_numbered}
 use Rattle.dict_rows.specs.Stands.{HoldsEdition, HoldsEditions}
 use Rattle.dict_rows.specs.Versions.{Parted, layout_of, known}
 use Rattle.dict_rows.proofs.PartLemmas.{filter_filter}
-use Rattle.dict_files.specs.AllTables.{with_derived}
-use Rattle.dict_files.specs.Files.{all_parts, file_parts}
-use Rattle.dict_files.proofs.TellLemmas.{file_told, text_under, parts_held}
+use Rattle.dict_holdings.specs.AllTables.{with_derived}
+use Rattle.dict_holdings.specs.Files.{all_parts, file_parts}
+use Rattle.dict_holdings.proofs.TellLemmas.{file_told, text_under, parts_held}
 use Rattle.dict_desk.specs.Shown.{HasEdition}
 use Rattle.dict_holdings.specs.Readings.{KeepsAll}
 use Rattle.dict_holdings.specs.Holds.{HasLayout, Holds}

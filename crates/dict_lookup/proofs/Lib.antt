@@ -1,3 +1,7 @@
+pub mod UnderLemmas
+pub mod SizeLemmas
+pub mod ViewLemmas
+pub mod KeptLemmas
 pub mod AskLemmas
 pub mod CutLemmas
 pub mod FailLemmas

@@ -21,15 +21,15 @@ use Rattle.dict_sql.specs.Columns.{HasColumns}
 use Rattle.dict_sql.specs.Effects.{rows_of, equals_number, same_value}
 use Rattle.dict_sql.specs.Reads.{IsSelection, FailsToList}
 use Rattle.dict_sql.specs.declared.records.ReadError.{ReadError}
-use Rattle.dict_part_sql.specs.Chosen.{is_of_file, is_numbered}
-use Rattle.dict_part_sql.specs.Records.{part_row, part_columns, owned_part, stored_part}
-use Rattle.dict_part_sql.specs.declared.records.StoredPart.{StoredPart}
+use Rattle.dict_edition_sql.specs.Chosen.{is_of_file, is_numbered}
+use Rattle.dict_edition_sql.specs.PartRecords.{part_row, part_columns, owned_part, stored_part}
+use Rattle.dict_edition_sql.specs.declared.part_records.StoredPart.{StoredPart}
 use Rattle.dict_rows.specs.Tables.{same_number}
 use Rattle.dict_rows.specs.Written.{numbered}
 use Rattle.dict_rows.proofs.OrderLemmas.{all_same, same_from, one_once}
 use Rattle.dict_rows.proofs.PartLemmas.{filter_filter}
 use Rattle.dict_rows.proofs.TakenLemmas.{nat_itself}
-use Rattle.dict_files.specs.Files.{part_at, file_parts}
+use Rattle.dict_holdings.specs.Files.{part_at, file_parts}
 use Rattle.dict_holdings.specs.Texts.{HoldsText, text_rows}
 use Rattle.dict_lookup.specs.Searches.{IsReadable}
 use Rattle.dict_lookup.proofs.ListLemmas.{map_twice}

@@ -14,8 +14,8 @@ use Rattle.sqlite.specs.declared.types.Value.TheVariants.{Text as Letters}
 use Rattle.dict_text.proofs.AllLemmas.{all_map}
 use Rattle.dict_records.specs.Records.{header_of}
 use Rattle.dict_sql.specs.Columns.{HasColumns}
-use Rattle.dict_header_sql.specs.Infos.{headers_with, informed, info_columns}
-use Rattle.dict_header_sql.specs.Records.{header_row, header_columns}
+use Rattle.dict_edition_sql.specs.Infos.{headers_with, informed, info_columns}
+use Rattle.dict_edition_sql.specs.HeaderRecords.{header_row, header_columns}
 use Rattle.dict_index.specs.Edition.{ReadEdition}
 use Rattle.dict_rows.specs.Written.{edition_record}
 use Rattle.dict_rows.proofs.OrderLemmas.{same_from, one_once}

@@ -1,3 +1,5 @@
+pub mod Indexes
+pub mod KeptTexts
 pub mod Searches
 pub mod Texts
 pub mod Taken

@@ -8,11 +8,11 @@ use Rattle.sqlite.specs.State.{State, IsUnchanged, Fails}
 use Rattle.dict_records.specs.Records.{header_of}
 use Rattle.dict_sql.specs.Effects.{Has, equals_number, rows_of}
 use Rattle.dict_sql.specs.Columns.{HasColumns}
-use Rattle.dict_header_sql.specs.Table.{header}
-use Rattle.dict_header_sql.specs.Records.{header_row, header_columns}
-use Rattle.dict_part_sql.specs.Table.{part}
-use Rattle.dict_part_sql.specs.Chosen.{is_of_file}
-use Rattle.dict_part_sql.specs.Records.{part_columns}
+use Rattle.dict_edition_sql.specs.HeaderTable.{header}
+use Rattle.dict_edition_sql.specs.HeaderRecords.{header_row, header_columns}
+use Rattle.dict_edition_sql.specs.PartTable.{part}
+use Rattle.dict_edition_sql.specs.Chosen.{is_of_file}
+use Rattle.dict_edition_sql.specs.PartRecords.{part_columns}
 use Rattle.dict_index.specs.Edition.{ReadEdition}
 use Rattle.dict_rows.specs.Written.{edition_record}
 pub use Rattle.dict_holdings.specs.Faults.{fault_of, fault_of_read, IsOfStore}

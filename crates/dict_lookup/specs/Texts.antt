@@ -9,7 +9,7 @@ use Rattle.dict_index.specs.Edition.{Edition, entry_in}
 use Rattle.dict_parts.specs.Parts.{parts_of}
 use Rattle.dict_holdings.specs.Texts.{HoldsText}
 use Rattle.dict_search.specs.Entries.{Indexed, entry_of}
-use Rattle.dict_texts.specs.Texts.{Key, with_text}
+use Rattle.dict_lookup.specs.KeptTexts.{Key, with_text}
 use Rattle.dict_desk.specs.declared.fault.Fault.{Fault}
 use Rattle.dict_desk.specs.declared.fault.Fault.TheVariants.{Memory}
 use Rattle.dict_lookup.specs.Searches.{FailsToLookUp, column_of}

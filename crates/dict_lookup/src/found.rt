@@ -3,7 +3,7 @@ ghost use Rattle.std.specs.Prelude.{◌≡◌, ◌<◌, ◌^◌, ℕ, List, [], 
 ghost use Rattle.sqlite.specs.State.{HasCleanDisk};
 ghost use Rattle.sqlite.specs.Held.{state};
 ghost use Rattle.dict_sql.specs.Effects.{Has, WhileOpen};
-ghost use Rattle.dict_part_sql.specs.Table.{part as part_table};
+ghost use Rattle.dict_edition_sql.specs.PartTable.{part as part_table};
 ghost use Rattle.dict_desk.specs.Shown.{Row as ShownRow};
 ghost use Rattle.dict_desk.specs.Handing.{Hands};
 ghost use Rattle.dict_search.specs.Entries.{entry_at, entries_at, row_in, headword_row, shown_of};
@@ -12,9 +12,9 @@ ghost use Rattle.dict_lookup.specs.Texts.{HasText, IsAtMostRead, Asks, FailsToFi
 ghost use Rattle.dict_lookup.specs.Taken.{more_taken};
 
 use crate::parts::body;
+use crate::texts::Texts;
 use dict_desk::{Demand, End, Fault, Row, RowSink};
 use dict_search::Index;
-use dict_texts::Texts;
 use sqlite::{Alter, Connection};
 use std::alloc::Global;
 

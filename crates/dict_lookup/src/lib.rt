@@ -4,10 +4,14 @@
 #![tactic(auto)]
 
 mod found;
+mod indexes;
 mod laws;
 mod lookups;
 mod parts;
 mod record;
+mod texts;
 
+pub use indexes::Indexes;
 pub use laws::held_laws;
 pub use lookups::{count, find, heads, info};
+pub use texts::{MAX_OCTETS, MAX_TEXTS, PartKey, Texts};

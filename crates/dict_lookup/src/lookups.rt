@@ -14,11 +14,11 @@ ghost use Rattle.dict_lookup.specs.Taken.{more_taken};
 
 use crate::found::{hand_found, hand_headwords};
 use crate::record::info_of_number;
+use crate::texts::Texts;
 use dict_derived::is_tested;
 use dict_desk::{Demand, End, Fault, Row, RowSink, What};
 use dict_match::{Key, Strategy};
 use dict_search::{Counted, Index, edition_laws};
-use dict_texts::Texts;
 use sqlite::{Alter, Connection};
 use std::alloc::{AllocError, Global};
 

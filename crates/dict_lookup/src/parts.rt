@@ -4,18 +4,18 @@ ghost use Rattle.std.specs.Map.{lookup, remove_entry};
 ghost use Rattle.sqlite.specs.State.{HasCleanDisk, IsUnchanged, Survives};
 ghost use Rattle.sqlite.specs.Held.{state};
 ghost use Rattle.dict_sql.specs.Effects.{Has, WhileOpen};
-ghost use Rattle.dict_part_sql.specs.Table.{part as part_table};
+ghost use Rattle.dict_edition_sql.specs.PartTable.{part as part_table};
 ghost use Rattle.dict_parts.specs.Parts.{parts_of};
 ghost use Rattle.dict_holdings.specs.Texts.{HoldsText};
-ghost use Rattle.dict_texts.specs.Texts.{same_key};
+ghost use Rattle.dict_lookup.specs.KeptTexts.{same_key};
 ghost use Rattle.dict_lookup.specs.Searches.{FailsToLookUp, IsOfStore, column_of};
 ghost use Rattle.dict_lookup.specs.Texts.{HasText, MayKeep, IsAtMostRead, Asks, FailsToFind};
 ghost use Rattle.dict_lookup.specs.Taken.{more_taken, rows_for};
 
 use crate::record::read_part;
+use crate::texts::Texts;
 use dict_desk::Fault;
 use dict_parts::PART_SIZE;
-use dict_texts::Texts;
 use sqlite::{Alter, Connection};
 use std::alloc::{AllocError, Global};
 

@@ -4,9 +4,9 @@ ghost use Rattle.std.specs.declared.alloc.Global.{Global};
 ghost use Rattle.sqlite.specs.State.{HasCleanDisk, IsUnchanged, Survives};
 ghost use Rattle.sqlite.specs.Held.{state};
 ghost use Rattle.dict_sql.specs.Effects.{Has, WhileOpen};
-ghost use Rattle.dict_header_sql.specs.Table.{header};
-ghost use Rattle.dict_part_sql.specs.Table.{part as part_table};
-ghost use Rattle.dict_part_sql.specs.declared.records.StoredPart.{StoredPart as AStoredPart};
+ghost use Rattle.dict_edition_sql.specs.HeaderTable.{header};
+ghost use Rattle.dict_edition_sql.specs.PartTable.{part as part_table};
+ghost use Rattle.dict_edition_sql.specs.declared.part_records.StoredPart.{StoredPart as AStoredPart};
 ghost use Rattle.dict_parts.specs.Parts.{parts_of};
 ghost use Rattle.dict_index.specs.Edition.{ReadEdition};
 ghost use Rattle.dict_holdings.specs.Texts.{HoldsText};
@@ -14,9 +14,8 @@ ghost use Rattle.dict_lookup.specs.Searches.{HoldsOne, FailsToLookUp, IsOfStore,
 ghost use Rattle.dict_lookup.specs.Taken.{more_taken};
 
 use dict_desk::Fault;
-use dict_header_sql::infos_numbered;
+use dict_edition_sql::{StoredPart, infos_numbered, parts_numbered};
 use dict_holdings::fault_of_read;
-use dict_part_sql::{StoredPart, parts_numbered};
 use sqlite::{Alter, Connection};
 use std::alloc::Global;
 

@@ -3,8 +3,8 @@ use Rattle.std.proofs.Common.{◌≡◌, ℕ, ◌+◌, ◌<◌, List, [], ◌∷
 use Rattle.std.specs.List.{flat_map}
 use Rattle.std.proofs.lemmas.List.{drop_more, take_more, length-map, get_or-map, length-take-le}
 use Rattle.std.proofs.lemmas.List.Concat.{flat_map-append}
-use Rattle.dict_io.specs.Streams.{Stream, PutsAll, PutsFront}
-use Rattle.dict_io.proofs.PutLemmas.{all_after, front_after, front_longer}
+use Rattle.dict_proto.specs.Streams.{Stream, PutsAll, PutsFront}
+use Rattle.dict_proto.proofs.PutLemmas.{all_after, front_after, front_longer}
 use Rattle.dict_catalogue.specs.Items.{Item}
 use Rattle.dict_messages.specs.Listing.{item_line, lines_from}
 

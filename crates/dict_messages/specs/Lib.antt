@@ -1,3 +1,9 @@
 pub mod Faults
 pub mod Listing
 pub mod Writing
+pub mod Asked
+pub mod Line
+pub mod Changing
+pub mod Files
+pub mod Installing
+pub mod Listed

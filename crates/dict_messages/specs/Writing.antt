@@ -1,6 +1,6 @@
 -- What is written to standard output.
 use Rattle.std.specs.Prelude.{◌≡◌, ◌≢◌, ℕ, List, Result, Ok, Err}
-use Rattle.dict_io.specs.Streams.{StreamChange, PutsAll, PutsFront}
+use Rattle.dict_proto.specs.Streams.{StreamChange, PutsAll, PutsFront}
 use Rattle.dict_messages.specs.declared.fault.ProgramFault.{ProgramFault}
 use Rattle.dict_messages.specs.declared.fault.ProgramFault.TheVariants as faults
 

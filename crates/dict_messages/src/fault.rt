@@ -1,12 +1,12 @@
 // Why the program didn't do what it was asked.
 ghost use Rattle.std.specs.Prelude.{◌≡◌, ◌++◌, codes};
-ghost use Rattle.dict_io.specs.Streams.{Puts};
+ghost use Rattle.dict_proto.specs.Streams.{Puts};
 ghost use Rattle.dict_messages.specs.Faults.{line_of, refused, refused_at, status_of, store_line};
 
 use dict_catalogue::CommandRefusal;
 use dict_desk::Fault as DeskFault;
 use dict_index::{EditionRefusal, IndexFault};
-use dict_io::{Sink, SinkFault, put_all};
+use dict_proto::{Sink, SinkFault, put_all};
 use itoa::Buffer;
 use thiserror::Error;
 

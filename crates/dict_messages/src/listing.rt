@@ -1,15 +1,14 @@
 // The list of a catalogue's items.
 ghost use Rattle.std.specs.Prelude.{◌++◌, codes, decimal, map, string_bytes};
 ghost use Rattle.std.specs.List.{flat_map};
-ghost use Rattle.dict_io.specs.Streams.{Puts};
+ghost use Rattle.dict_proto.specs.Streams.{Puts};
 ghost use Rattle.dict_catalogue.specs.Items.{regular, virtual};
 ghost use Rattle.dict_catalogue.specs.Views.{item_shown, stored_shown, texts_shown, title_of};
 ghost use Rattle.dict_proto.specs.Text.{quoted};
 ghost use Rattle.dict_messages.specs.Listing.{behind_comma, former_text, item_line, kind_text, list_text, with_commas};
 
 use dict_catalogue::{Item, StoredTitle};
-use dict_io::{Sink, SinkFault, put_all};
-use dict_proto::put_quoted;
+use dict_proto::{Sink, SinkFault, put_all, put_quoted};
 use itoa::Buffer;
 
 /// Puts a line for each item, in order: its place from 0, its name, `regular` with the numbers of its current and its

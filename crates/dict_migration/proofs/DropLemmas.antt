@@ -15,13 +15,13 @@ use Rattle.dict_tables.proofs.MadeLemmas.{store_defined}
 use Rattle.dict_sql.specs.Drops.{IsDropped}
 use Rattle.dict_sql.specs.Effects.{rows_of}
 use Rattle.dict_sql.proofs.DroppedLemmas.{drop_counted, drop_keeps, drop_rows}
-use Rattle.dict_migration_sql.specs.Entries.{entry_of}
-use Rattle.dict_migration_sql.specs.declared.entries.EntryForm.{EntryForm}
-use Rattle.dict_migration_sql.specs.declared.entries.EntryForm.TheVariants as form
-use Rattle.dict_migration_sql.proofs.DefinitionLemmas.{form_defined, word_defined, gram_defined}
-use Rattle.dict_migration_sql.proofs.FreedLemmas.{room_again}
-use Rattle.dict_header_sql.specs.Table.{header}
-use Rattle.dict_header_sql.proofs.DefinitionLemmas.{same_names}
+use Rattle.dict_older_sql.specs.Entries.{entry_of}
+use Rattle.dict_older_sql.specs.declared.entries.EntryForm.{EntryForm}
+use Rattle.dict_older_sql.specs.declared.entries.EntryForm.TheVariants as form
+use Rattle.dict_older_sql.proofs.MigrationDefinitionLemmas.{form_defined, word_defined, gram_defined}
+use Rattle.dict_older_sql.proofs.FreedLemmas.{room_again}
+use Rattle.dict_edition_sql.specs.HeaderTable.{header}
+use Rattle.dict_edition_sql.proofs.HeaderDefinitionLemmas.{same_names}
 use Rattle.dict_migration.specs.Older.{DroppedInTurn, gone_names, gone_tables, gone_with, keyed_tables, plain_tables}
 use Rattle.dict_migration.specs.declared.older.Older.{Older}
 use Rattle.dict_migration.specs.declared.older.Older.TheVariants.{Plain, Keyed, Shown}

@@ -15,7 +15,7 @@ use Rattle.dict_catalogue.specs.Tests.{Holdings}
 use Rattle.dict_desk.specs.declared.fault.Fault.{Fault}
 use Rattle.dict_desk.specs.declared.fault.Fault.TheVariants.{Memory, Disk}
 use Rattle.dict_holdings.specs.Faults.{fault_of_read}
-use Rattle.dict_migration_sql.proofs.CopyLemmas.{none_more}
+use Rattle.dict_older_sql.proofs.CopyLemmas.{none_more}
 use Rattle.dict_migration.specs.Older.{DroppedInTurn}
 use Rattle.dict_migration.specs.Parts.{Part, FailsBy, dropping}
 use Rattle.dict_migration.specs.Places.{Place, Dropping}

@@ -6,7 +6,7 @@ use Rattle.dict_parts.specs.Parts.{parts_of, part_count}
 use Rattle.dict_parts.proofs.PartLemmas.{parts_length}
 use Rattle.dict_rows.specs.Written.{numbered}
 use Rattle.dict_rows.proofs.ListLemmas.{numbered_length}
-use Rattle.dict_files.specs.Files.{part_at, file_parts, parts_under}
+use Rattle.dict_holdings.specs.Files.{part_at, file_parts, parts_under}
 
 -- ---- how many they are
 

@@ -13,14 +13,14 @@ use Rattle.dict_tables.proofs.MadeLemmas.{store_defined}
 use Rattle.dict_sql.specs.Effects.{HasApartRowids, rows_of}
 use Rattle.dict_sql.specs.Encodings.{edition_row}
 use Rattle.dict_sql.proofs.Callers.{apart_none}
-use Rattle.dict_part_sql.specs.Records.{part_row}
-use Rattle.dict_part_sql.specs.Table.{part}
-use Rattle.dict_part_sql.proofs.DefinitionLemmas.{part_defined}
-use Rattle.dict_migration_sql.specs.Entries.{entry_of}
-use Rattle.dict_migration_sql.proofs.DefinitionLemmas.{form_defined}
+use Rattle.dict_edition_sql.specs.PartRecords.{part_row}
+use Rattle.dict_edition_sql.specs.PartTable.{part}
+use Rattle.dict_edition_sql.proofs.PartDefinitionLemmas.{part_defined}
+use Rattle.dict_older_sql.specs.Entries.{entry_of}
+use Rattle.dict_older_sql.proofs.MigrationDefinitionLemmas.{form_defined}
 use Rattle.dict_rows.specs.Order.{is_of, editions_of_numbers}
 use Rattle.dict_rows.specs.Tables.{Tables}
-use Rattle.dict_files.specs.Files.{all_parts}
+use Rattle.dict_holdings.specs.Files.{all_parts}
 use Rattle.dict_migration.specs.Older.{entry_cells, form_of, looked_at}
 use Rattle.dict_migration.specs.Steps.{AreParted, IsPartedOne}
 use Rattle.dict_migration.specs.declared.older.Older.{Older}

@@ -19,13 +19,13 @@ use Rattle.dict_sql.specs.Creates.{IsFree, IsMade}
 use Rattle.dict_sql.specs.Effects.{rows_of}
 use Rattle.dict_sql.proofs.Callers.{still_has, own_has}
 use Rattle.dict_sql.proofs.MakeLemmas.{one_keeps, one_own}
-use Rattle.dict_migration_sql.specs.Entries.{entry_of}
-use Rattle.dict_migration_sql.specs.declared.entries.EntryForm.{EntryForm}
-use Rattle.dict_migration_sql.specs.declared.entries.EntryForm.TheVariants as form
-use Rattle.dict_migration_sql.proofs.DefinitionLemmas.{form_defined, word_defined, gram_defined}
-use Rattle.dict_header_sql.specs.Table.{header}
-use Rattle.dict_part_sql.specs.Table.{part}
-use Rattle.dict_part_sql.proofs.DefinitionLemmas.{part_defined}
+use Rattle.dict_older_sql.specs.Entries.{entry_of}
+use Rattle.dict_older_sql.specs.declared.entries.EntryForm.{EntryForm}
+use Rattle.dict_older_sql.specs.declared.entries.EntryForm.TheVariants as form
+use Rattle.dict_older_sql.proofs.MigrationDefinitionLemmas.{form_defined, word_defined, gram_defined}
+use Rattle.dict_edition_sql.specs.HeaderTable.{header}
+use Rattle.dict_edition_sql.specs.PartTable.{part}
+use Rattle.dict_edition_sql.proofs.PartDefinitionLemmas.{part_defined}
 use Rattle.dict_holdings.specs.Holds.{HasLayout}
 use Rattle.dict_migration.specs.declared.older.Older.{Older}
 use Rattle.dict_migration.specs.declared.older.Older.TheVariants.{Plain, Keyed, Shown}

@@ -13,8 +13,8 @@ use Rattle.std.proofs.lemmas.Grind.{flat_map-append}
 use Rattle.dict_records.specs.Records.{Entry}
 use Rattle.dict_index.specs.Cuts.{HasNo}
 use Rattle.dict_index.specs.Line.{Line}
-use Rattle.dict_index_lines.specs.Stored.{IsColumn, IsStorable, saying, stored_line}
-use Rattle.dict_files.specs.Files.{entry_line, index_octets, natural}
+use Rattle.dict_parts.specs.Stored.{IsColumn, IsStorable, saying, stored_line}
+use Rattle.dict_holdings.specs.Files.{entry_line, index_octets, natural}
 use Rattle.dict_rows.proofs.TakenLemmas.{nat_same, nat_itself}
 use Rattle.dict_sql.specs.declared.records.ReadError.{ReadError}
 use Rattle.dict_sql.specs.declared.records.ReadError.TheVariants.{NoRecord, Store}

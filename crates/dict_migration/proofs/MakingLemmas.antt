@@ -28,15 +28,15 @@ use Rattle.dict_sql.specs.Statements.{Statement}
 use Rattle.dict_sql.proofs.Callers.{apart_none}
 use Rattle.dict_sql.proofs.DroppedLemmas.{own_in}
 use Rattle.dict_sql.proofs.MakeLemmas.{all_made, one_keeps, one_leaves, one_own, one_rows, turn_counted, turn_leaves, turn_sound}
-use Rattle.dict_header_sql.specs.Table.{header}
-use Rattle.dict_header_sql.proofs.DefinitionLemmas.{apart_as, header_defined}
-use Rattle.dict_part_sql.specs.Table.{part}
-use Rattle.dict_part_sql.proofs.DefinitionLemmas.{part_defined}
-use Rattle.dict_part_sql.proofs.DefinitionLemmas.{from_store as part_apart}
+use Rattle.dict_edition_sql.specs.HeaderTable.{header}
+use Rattle.dict_edition_sql.proofs.HeaderDefinitionLemmas.{apart_as, header_defined}
+use Rattle.dict_edition_sql.specs.PartTable.{part}
+use Rattle.dict_edition_sql.proofs.PartDefinitionLemmas.{part_defined}
+use Rattle.dict_edition_sql.proofs.PartDefinitionLemmas.{from_store as part_apart}
 use Rattle.dict_rows.specs.Tables.{Tables}
 use Rattle.dict_rows.specs.Versions.{Parted, known}
 use Rattle.dict_rows.specs.Written.{mark_record}
-use Rattle.dict_files.specs.AllTables.{with_derived}
+use Rattle.dict_holdings.specs.AllTables.{with_derived}
 use Rattle.dict_holdings.specs.Readings.{Reading, KeepsRows, name_of, marks, items, members, editions, contents, kept_replies}
 use Rattle.dict_holdings.specs.Holds.{HasPlace, Holds}
 use Rattle.dict_holdings.proofs.KeepLemmas.{keeps_added, keeps_none}

@@ -21,22 +21,22 @@ use Rattle.dict_sql.specs.Encodings.{mark_row}
 use Rattle.dict_sql.proofs.Callers.{apart_none, own_has}
 use Rattle.dict_sql.proofs.DroppedLemmas.{own_in}
 use Rattle.dict_sql.proofs.MakeLemmas.{one_keeps, one_own, one_rows}
-use Rattle.dict_header_sql.specs.Records.{header_row}
-use Rattle.dict_header_sql.specs.Table.{header}
-use Rattle.dict_header_sql.proofs.DefinitionLemmas.{header_defined}
-use Rattle.dict_part_sql.specs.Records.{part_row}
-use Rattle.dict_part_sql.specs.Table.{part}
-use Rattle.dict_part_sql.proofs.DefinitionLemmas.{part_defined}
-use Rattle.dict_migration_sql.specs.Entries.{entry_of}
-use Rattle.dict_migration_sql.proofs.DefinitionLemmas.{form_defined}
+use Rattle.dict_edition_sql.specs.HeaderRecords.{header_row}
+use Rattle.dict_edition_sql.specs.HeaderTable.{header}
+use Rattle.dict_edition_sql.proofs.HeaderDefinitionLemmas.{header_defined}
+use Rattle.dict_edition_sql.specs.PartRecords.{part_row}
+use Rattle.dict_edition_sql.specs.PartTable.{part}
+use Rattle.dict_edition_sql.proofs.PartDefinitionLemmas.{part_defined}
+use Rattle.dict_older_sql.specs.Entries.{entry_of}
+use Rattle.dict_older_sql.proofs.MigrationDefinitionLemmas.{form_defined}
 use Rattle.dict_rows.specs.Tables.{Tables}
 use Rattle.dict_rows.specs.Stands.{Stands}
 use Rattle.dict_rows.specs.Versions.{Parted, layout_of, known}
 use Rattle.dict_rows.specs.Written.{mark_record}
 use Rattle.dict_rows.specs.Order.{is_of}
 use Rattle.dict_rows.proofs.PartLemmas.{filter_whole}
-use Rattle.dict_files.specs.AllTables.{AllTables, with_derived, as_version}
-use Rattle.dict_files.specs.Files.{all_parts}
+use Rattle.dict_holdings.specs.AllTables.{AllTables, with_derived, as_version}
+use Rattle.dict_holdings.specs.Files.{all_parts}
 use Rattle.dict_holdings.specs.Readings.{Reading, KeepsAll, KeepsRows, name_of, marks, items, members, editions, contents, kept_replies, AreShownIn}
 use Rattle.dict_holdings.specs.Holds.{HasLayout, Holds}
 use Rattle.dict_holdings.proofs.KeepLemmas.{keeps_added, keeps_none}

@@ -15,7 +15,7 @@ use Rattle.dict_rows.specs.Tables.{Tables, same_number, editions_numbered, entri
 use Rattle.dict_rows.specs.Written.{numbered, edition_record, entry_record}
 use Rattle.dict_rows.specs.Stands.{HoldsEdition, HoldsEditions, has_number, Stands}
 use Rattle.dict_rows.specs.Order.{is_of}
-use Rattle.dict_files.specs.Files.{all_parts, edition_parts, file_parts, index_octets, part_at, parts_under}
+use Rattle.dict_holdings.specs.Files.{all_parts, edition_parts, file_parts, index_octets, part_at, parts_under}
 
 -- one record has this number, and the entries that have it are those of an edition, in their order
 pub record AreNumbered (tables : Tables) (n : ℤ) : Type 0 where

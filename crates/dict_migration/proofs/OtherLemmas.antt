@@ -22,12 +22,12 @@ use Rattle.dict_sql.specs.Drops.{IsDropped}
 use Rattle.dict_sql.specs.Effects.{SameOthers, rows_of, table_in}
 use Rattle.dict_sql.proofs.DroppedLemmas.{own_in}
 use Rattle.dict_sql.proofs.MakeLemmas.{found_later, one_rows}
-use Rattle.dict_header_sql.specs.Table.{header}
-use Rattle.dict_header_sql.proofs.DefinitionLemmas.{header_defined}
-use Rattle.dict_part_sql.specs.Table.{part}
-use Rattle.dict_part_sql.proofs.DefinitionLemmas.{part_defined}
-use Rattle.dict_migration_sql.specs.declared.entries.EntryForm.{EntryForm}
-use Rattle.dict_migration_sql.specs.declared.entries.EntryForm.TheVariants as form
+use Rattle.dict_edition_sql.specs.HeaderTable.{header}
+use Rattle.dict_edition_sql.proofs.HeaderDefinitionLemmas.{header_defined}
+use Rattle.dict_edition_sql.specs.PartTable.{part}
+use Rattle.dict_edition_sql.proofs.PartDefinitionLemmas.{part_defined}
+use Rattle.dict_older_sql.specs.declared.entries.EntryForm.{EntryForm}
+use Rattle.dict_older_sql.specs.declared.entries.EntryForm.TheVariants as form
 use Rattle.dict_rows.proofs.TakenLemmas.{nat_itself}
 use Rattle.dict_migration.specs.Moved.{IsMoved}
 use Rattle.dict_migration.specs.Older.{DroppedInTurn, IsOld, form_of, gone_tables, gone_with}

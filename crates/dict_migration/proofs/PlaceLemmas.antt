@@ -4,7 +4,7 @@ use Rattle.sqlite.specs.Effect.{Database}
 use Rattle.sqlite.specs.Order.{Row}
 use Rattle.dict_records.specs.Records.{Header}
 use Rattle.dict_sql.specs.Added.{AreAdded}
-use Rattle.dict_migration_sql.proofs.CopyLemmas.{split_at, rows_at}
+use Rattle.dict_older_sql.proofs.CopyLemmas.{split_at, rows_at}
 use Rattle.dict_migration.specs.Parts.{Part, keeping, putting}
 use Rattle.dict_migration.specs.Places.{Place, First, InEdition, InEditions, Putting}
 use Rattle.dict_migration.specs.Steps.{AreParted}

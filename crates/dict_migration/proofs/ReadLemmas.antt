@@ -17,7 +17,7 @@ use Rattle.dict_records.specs.declared.keyed.OldEntry.{OldEntry as TypedOld}
 use Rattle.dict_records.specs.declared.records.Edition.{Edition as TypedEdition}
 use Rattle.dict_records.specs.declared.records.Entry.{Entry as TypedEntry}
 use Rattle.dict_records.specs.declared.records.Stored.{Stored}
-use Rattle.dict_header_sql.specs.Records.{header_row}
+use Rattle.dict_edition_sql.specs.HeaderRecords.{header_row}
 use Rattle.dict_sql.specs.Effects.{equals_number}
 use Rattle.dict_sql.specs.Encodings.{edition_row, stored_edition, stored_entry}
 use Rattle.dict_sql.specs.Keyed.{stored_keyed_entry, stored_old_entry}

@@ -14,16 +14,16 @@ use Rattle.dict_records.specs.Records.{Edition, Entry, Header, Part, ShowsHeadwo
 use Rattle.dict_sql.specs.Added.{AreAdded}
 use Rattle.dict_sql.specs.Effects.{HasApartRowids, equals_number, same_value, rows_of}
 use Rattle.dict_sql.specs.Encodings.{edition_row, entry_row}
-use Rattle.dict_part_sql.specs.Records.{part_row}
-use Rattle.dict_keyed_sql.proofs.NamedLemmas.{ints, ints_back, behind, filter_map}
+use Rattle.dict_edition_sql.specs.PartRecords.{part_row}
+use Rattle.dict_older_sql.proofs.NamedLemmas.{ints, ints_back, behind, filter_map}
 use Rattle.dict_rows.specs.Tables.{Tables, same_number, editions_numbered, entries_of}
 use Rattle.dict_rows.specs.Written.{entry_record}
 use Rattle.dict_rows.specs.Order.{InOrder, is_of, editions_of_numbers}
 use Rattle.dict_rows.proofs.OrderLemmas.{Below, same_from, ordered_once, one_once, numbered_rise}
 use Rattle.dict_rows.proofs.PartLemmas.{editions_more, numbers_more}
 use Rattle.dict_rows.proofs.TakenLemmas.{same_number_is, same_itself}
-use Rattle.dict_files.specs.Files.{all_parts, edition_parts, index_octets, parts_under}
-use Rattle.dict_files.proofs.FileLemmas.{part_once}
+use Rattle.dict_holdings.specs.Files.{all_parts, edition_parts, index_octets, parts_under}
+use Rattle.dict_holdings.proofs.FileLemmas.{part_once}
 use Rattle.dict_holdings.specs.Readings.{AreShownIn, shown_row}
 use Rattle.dict_holdings.proofs.OneLemmas.{both, both_where, decode_edition, edition_back, decode_entry, entry_back, decode_shown, shown_back}
 use Rattle.dict_migration.specs.Older.{entry_cells, layout_as, looked_at}

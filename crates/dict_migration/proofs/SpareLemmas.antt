@@ -17,11 +17,11 @@ use Rattle.dict_sql.specs.Creates.{IsMade}
 use Rattle.dict_sql.specs.Effects.{SameOthers, rows_of}
 use Rattle.dict_sql.proofs.DroppedLemmas.{own_in}
 use Rattle.dict_sql.proofs.MakeLemmas.{one_keeps, one_rows}
-use Rattle.dict_migration_sql.specs.Entries.{entry_of}
-use Rattle.dict_migration_sql.specs.declared.entries.EntryForm.{EntryForm}
-use Rattle.dict_migration_sql.specs.declared.entries.EntryForm.TheVariants as form
-use Rattle.dict_header_sql.specs.Table.{header}
-use Rattle.dict_part_sql.specs.Table.{part}
+use Rattle.dict_older_sql.specs.Entries.{entry_of}
+use Rattle.dict_older_sql.specs.declared.entries.EntryForm.{EntryForm}
+use Rattle.dict_older_sql.specs.declared.entries.EntryForm.TheVariants as form
+use Rattle.dict_edition_sql.specs.HeaderTable.{header}
+use Rattle.dict_edition_sql.specs.PartTable.{part}
 use Rattle.dict_holdings.proofs.KeepLemmas.{unmoved}
 use Rattle.dict_migration.specs.Older.{DroppedInTurn, gone_with}
 use Rattle.dict_migration.specs.Spared.{IsBeside, Spares}

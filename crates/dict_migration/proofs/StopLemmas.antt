@@ -7,8 +7,8 @@ use Rattle.sqlite.specs.Tree.{Trees}
 use Rattle.sqlite.specs.State.{State, HasCleanDisk, Survives}
 use Rattle.dict_catalogue.specs.Steps.{Catalogue}
 use Rattle.dict_rows.specs.Versions.{known, IsVersion}
-use Rattle.dict_files.specs.AllTables.{as_version}
-use Rattle.dict_files.proofs.VersionLemmas.{same_stands}
+use Rattle.dict_holdings.specs.AllTables.{as_version}
+use Rattle.dict_holdings.proofs.VersionLemmas.{same_stands}
 use Rattle.dict_holdings.specs.Holds.{Holds, IsHeld}
 use Rattle.dict_migration.specs.Migrated.{IsMigrated, HoldsOlder, MayMigrate}
 use Rattle.dict_migration.specs.Leaves.{StandsFor, LeavesOneOf}

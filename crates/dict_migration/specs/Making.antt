@@ -12,8 +12,8 @@ use Rattle.dict_sql.specs.Creates.{Makes, FailsToMake}
 use Rattle.dict_sql.specs.Encodings.{mark_row}
 use Rattle.dict_sql.specs.Statements as sql
 use Rattle.dict_sql.specs.Statements.{Statement, make, add}
-use Rattle.dict_header_sql.specs.Table.{header}
-use Rattle.dict_part_sql.specs.Table.{part}
+use Rattle.dict_edition_sql.specs.HeaderTable.{header}
+use Rattle.dict_edition_sql.specs.PartTable.{part}
 use Rattle.dict_rows.specs.Written.{mark_record}
 use Rattle.dict_desk.specs.declared.fault.Fault.{Fault}
 use Rattle.dict_desk.specs.declared.fault.Fault.TheVariants.{Disk}

@@ -7,7 +7,7 @@ use Rattle.dict_catalogue.specs.Steps.{Catalogue}
 use Rattle.dict_rows.specs.Tables.{Tables}
 use Rattle.dict_rows.specs.Stands.{Stands}
 use Rattle.dict_rows.specs.Versions.{known, layout_of}
-use Rattle.dict_files.specs.AllTables.{with_derived, as_version}
+use Rattle.dict_holdings.specs.AllTables.{with_derived, as_version}
 use Rattle.dict_holdings.specs.Readings.{KeepsAll, AreShownIn}
 use Rattle.dict_holdings.specs.Holds.{Holds, HasLayout, IsLeftAs}
 

@@ -10,9 +10,9 @@ use Rattle.dict_sql.specs.Added.{AreAdded}
 use Rattle.dict_sql.specs.Creates.{IsMade}
 use Rattle.dict_sql.specs.Effects.{IsAdded, IsRemoved}
 use Rattle.dict_sql.specs.Encodings.{mark_row}
-use Rattle.dict_header_sql.specs.Records.{header_row}
-use Rattle.dict_header_sql.specs.Table.{header}
-use Rattle.dict_part_sql.specs.Table.{part}
+use Rattle.dict_edition_sql.specs.HeaderRecords.{header_row}
+use Rattle.dict_edition_sql.specs.HeaderTable.{header}
+use Rattle.dict_edition_sql.specs.PartTable.{part}
 use Rattle.dict_rows.specs.Versions.{known}
 use Rattle.dict_rows.specs.Written.{mark_record}
 use Rattle.dict_migration.specs.declared.older.Older.{Older}

@@ -11,9 +11,9 @@ use Rattle.dict_sql.specs.Drops.{IsDropped}
 use Rattle.dict_sql.specs.Effects.{HasApartRowids, rows_of}
 use Rattle.dict_sql.specs.Encodings.{entry_row}
 use Rattle.dict_sql.specs.Keyed.{old_entry_columns, keyed_entry_columns}
-use Rattle.dict_migration_sql.specs.Entries.{entry_of}
-use Rattle.dict_migration_sql.specs.declared.entries.EntryForm.{EntryForm}
-use Rattle.dict_migration_sql.specs.declared.entries.EntryForm.TheVariants as form
+use Rattle.dict_older_sql.specs.Entries.{entry_of}
+use Rattle.dict_older_sql.specs.declared.entries.EntryForm.{EntryForm}
+use Rattle.dict_older_sql.specs.declared.entries.EntryForm.TheVariants as form
 use Rattle.dict_rows.specs.Versions as layout
 use Rattle.dict_rows.specs.Versions.{Layout}
 use Rattle.dict_holdings.specs.Holds.{HasLayout}

@@ -7,8 +7,8 @@ use Rattle.sqlite.specs.State.{State}
 use Rattle.sqlite.specs.declared.error.Error.TheVariants.{SqliteFailure}
 use Rattle.sqlite.specs.declared.error.ErrorCode.TheVariants.{OutOfMemory}
 use Rattle.dict_records.specs.Records.{Edition, Entry}
-use Rattle.dict_header_sql.specs.Table.{header}
-use Rattle.dict_part_sql.specs.Table.{part}
+use Rattle.dict_edition_sql.specs.HeaderTable.{header}
+use Rattle.dict_edition_sql.specs.PartTable.{part}
 use Rattle.dict_sql.specs.Columns.{Content}
 use Rattle.dict_sql.specs.Creates.{FailsToMake}
 use Rattle.dict_sql.specs.Deletes.{FailsToRemove}

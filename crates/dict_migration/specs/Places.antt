@@ -8,11 +8,11 @@ use Rattle.dict_sql.specs.Columns.{edition_columns}
 use Rattle.dict_sql.specs.Creates.{IsMade}
 use Rattle.dict_sql.specs.Effects.{IsRemoved}
 use Rattle.dict_sql.specs.Encodings.{mark_row}
-use Rattle.dict_header_sql.specs.Records.{header_row}
-use Rattle.dict_header_sql.specs.Table.{header}
-use Rattle.dict_part_sql.specs.Records.{part_row}
-use Rattle.dict_part_sql.specs.Table.{part}
-use Rattle.dict_files.specs.Files.{index_octets, parts_under}
+use Rattle.dict_edition_sql.specs.HeaderRecords.{header_row}
+use Rattle.dict_edition_sql.specs.HeaderTable.{header}
+use Rattle.dict_edition_sql.specs.PartRecords.{part_row}
+use Rattle.dict_edition_sql.specs.PartTable.{part}
+use Rattle.dict_holdings.specs.Files.{index_octets, parts_under}
 use Rattle.dict_rows.specs.Versions.{known}
 use Rattle.dict_rows.specs.Written.{mark_record}
 use Rattle.dict_migration.specs.declared.older.Older.{Older}

@@ -4,18 +4,18 @@ use Rattle.sqlite.specs.Does.{lacks_sequence}
 use Rattle.sqlite.specs.Effect.{Database, IsDatabase}
 use Rattle.sqlite.specs.Order.{Row}
 use Rattle.dict_records.specs.Records.{Edition, Entry, Header, header_of}
-use Rattle.dict_index_lines.specs.Stored.{IsColumn}
+use Rattle.dict_parts.specs.Stored.{IsColumn}
 use Rattle.dict_sql.specs.Added.{AreAdded}
 use Rattle.dict_sql.specs.Effects.{Has, equals_number, rows_of}
 use Rattle.dict_sql.specs.Encodings.{edition_row}
 use Rattle.dict_tables.specs.Room.{LeavesRoom}
 use Rattle.dict_tables.specs.Tables.{edition}
-use Rattle.dict_header_sql.specs.Table.{header}
-use Rattle.dict_part_sql.specs.Records.{part_row}
-use Rattle.dict_part_sql.specs.Table.{part}
-use Rattle.dict_migration_sql.specs.Entries.{entry_of}
+use Rattle.dict_edition_sql.specs.HeaderTable.{header}
+use Rattle.dict_edition_sql.specs.PartRecords.{part_row}
+use Rattle.dict_edition_sql.specs.PartTable.{part}
+use Rattle.dict_older_sql.specs.Entries.{entry_of}
 use Rattle.dict_rows.specs.Order.{InOrder}
-use Rattle.dict_files.specs.Files.{index_octets, parts_under}
+use Rattle.dict_holdings.specs.Files.{index_octets, parts_under}
 use Rattle.dict_holdings.specs.Readings.{AreShownIn}
 use Rattle.dict_migration.specs.declared.older.Older.{Older}
 use Rattle.dict_migration.specs.Older.{entry_cells, form_of, layout_as, looked_at}

@@ -3,8 +3,8 @@ use Rattle.std.specs.Prelude.{List}
 use Rattle.dict_records.specs.Keyed.{KeyedEntry}
 use Rattle.dict_records.specs.Records.{Entry, Part}
 use Rattle.dict_index.specs.Line.{Line}
-use Rattle.dict_index_lines.specs.Stored.{saying}
-use Rattle.dict_files.specs.Files.{natural, parts_under}
+use Rattle.dict_parts.specs.Stored.{saying}
+use Rattle.dict_holdings.specs.Files.{natural, parts_under}
 use Rattle.dict_migration.specs.declared.files.EditionFiles.{EditionFiles}
 use Rattle.dict_migration.specs.declared.lines.Said.{Said}
 

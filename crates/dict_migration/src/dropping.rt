@@ -10,8 +10,7 @@ ghost use Rattle.dict_migration.specs.Older.{DroppedInTurn, gone_names, gone_tab
 ghost use Rattle.dict_migration.specs.Places.{Dropping};
 
 use crate::older::Older;
-use dict_keyed_sql::drop_keyed_table;
-use dict_migration_sql::{EntryForm, drop_entry, drop_old_edition};
+use dict_older_sql::{EntryForm, drop_entry, drop_keyed_table, drop_old_edition};
 use dict_tables::KeyedTable;
 use sqlite::{Alter, Error, Transaction};
 

@@ -12,7 +12,7 @@ ghost use Rattle.dict_migration.specs.Steps.{AreParted, HasThree, IsEditionOf, I
 use crate::files::{EditionFiles, put_files};
 use crate::index::read_index;
 use crate::older::Older;
-use dict_migration_sql::editions_inside;
+use dict_older_sql::editions_inside;
 use dict_records::{Edition, Header, Stored};
 use dict_sql::records::ReadError;
 use sqlite::{Alter, Transaction};

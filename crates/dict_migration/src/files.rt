@@ -2,17 +2,17 @@
 ghost use Rattle.std.specs.Prelude.{◌≡◌, ◌≤◌, ◌<◌, [], codes, length, map, true, slice_index_or, IfErr, OnOk};
 ghost use Rattle.sqlite.specs.State.{HasCleanDisk, KeepsCommit, Survives};
 ghost use Rattle.dict_parts.specs.Parts.{parts_of};
-ghost use Rattle.dict_part_sql.specs.Records.{lent_part, part_row};
-ghost use Rattle.dict_part_sql.specs.Table.{part as part_table};
+ghost use Rattle.dict_edition_sql.specs.PartRecords.{lent_part, part_row};
+ghost use Rattle.dict_edition_sql.specs.PartTable.{part as part_table};
 ghost use Rattle.dict_sql.specs.Added.{AreAdded};
 ghost use Rattle.dict_sql.specs.Effects.{Has, WhileOpen, seen};
 ghost use Rattle.dict_sql.specs.declared.records.ReadError.TheVariants.{Store};
-ghost use Rattle.dict_files.specs.Files.{part_at};
+ghost use Rattle.dict_holdings.specs.Files.{part_at};
 ghost use Rattle.dict_migration.specs.Failing.{FailsInside};
 ghost use Rattle.dict_migration.specs.Places.{Putting};
 ghost use Rattle.dict_migration.specs.Written.{parts_in};
 
-use dict_part_sql::{Part, insert_part};
+use dict_edition_sql::{Part, insert_part};
 use dict_parts::{PART_SIZE, part};
 use sqlite::{Alter, Error, Transaction};
 

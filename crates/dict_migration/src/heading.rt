@@ -2,8 +2,8 @@
 ghost use Rattle.std.specs.Prelude.{◌≡◌, codes, map, true, IfErr, OnOk};
 ghost use Rattle.sqlite.specs.State.{HasCleanDisk, KeepsCommit, Survives};
 ghost use Rattle.dict_records.specs.Typed.{owned_header};
-ghost use Rattle.dict_header_sql.specs.Records.{header_row};
-ghost use Rattle.dict_header_sql.specs.Table.{header as header_table};
+ghost use Rattle.dict_edition_sql.specs.HeaderRecords.{header_row};
+ghost use Rattle.dict_edition_sql.specs.HeaderTable.{header as header_table};
 ghost use Rattle.dict_sql.specs.Added.{AreAdded};
 ghost use Rattle.dict_sql.specs.Effects.{Has, WhileOpen, seen};
 ghost use Rattle.dict_sql.specs.declared.records.ReadError.TheVariants.{Store};
@@ -12,7 +12,7 @@ ghost use Rattle.dict_migration.specs.Moved.{AreHeaded};
 ghost use Rattle.dict_migration.specs.Places.{InHeads, Putting};
 ghost use Rattle.dict_migration.specs.Steps.{MayBeHeaded};
 
-use dict_header_sql::{create_header_table, insert_header};
+use dict_edition_sql::{create_header_table, insert_header};
 use dict_records::Header;
 use sqlite::{Alter, Error, Transaction};
 

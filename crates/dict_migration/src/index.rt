@@ -2,7 +2,7 @@
 ghost use Rattle.std.specs.Prelude.{◌≡◌, IfOk, IfErr};
 ghost use Rattle.sqlite.specs.State.{HasCleanDisk, IsUnchanged, KeepsCommit, Survives};
 ghost use Rattle.dict_sql.specs.Effects.{Has, WhileOpen, seen};
-ghost use Rattle.dict_migration_sql.specs.Entries.{entry_of};
+ghost use Rattle.dict_older_sql.specs.Entries.{entry_of};
 ghost use Rattle.dict_migration.specs.Failing.{FailsInside};
 ghost use Rattle.dict_migration.specs.Older.{form_of};
 ghost use Rattle.dict_migration.specs.Places.{InIndex};
@@ -10,7 +10,7 @@ ghost use Rattle.dict_migration.specs.Steps.{IsIndexOf};
 
 use crate::lines::lines_of_all;
 use crate::older::Older;
-use dict_migration_sql::{entries_inside, old_entries_inside, shown_entries_inside};
+use dict_older_sql::{entries_inside, old_entries_inside, shown_entries_inside};
 use dict_sql::records::ReadError;
 use sqlite::{Alter, Transaction};
 use std::alloc::Global;

@@ -4,13 +4,13 @@ ghost use Rattle.dict_records.specs.Keyed.{owned_old_entry, owned_keyed_entry, p
 ghost use Rattle.dict_records.specs.Records.{Entry as TheEntry};
 ghost use Rattle.dict_records.specs.Typed.{owned_entry};
 ghost use Rattle.dict_index.specs.Cuts.{HasNo};
-ghost use Rattle.dict_index_lines.specs.Stored.{IsColumn, stored_line};
-ghost use Rattle.dict_files.specs.Files.{index_octets};
+ghost use Rattle.dict_parts.specs.Stored.{IsColumn, stored_line};
+ghost use Rattle.dict_holdings.specs.Files.{index_octets};
 ghost use Rattle.dict_migration.specs.Parts.{FailsToWrite};
 ghost use Rattle.dict_migration.specs.Steps.{HasLine, IsShort};
 ghost use Rattle.dict_migration.specs.Written.{line_said, said_of, shown_entry};
 
-use dict_index_lines::write_line;
+use dict_parts::write_line;
 use dict_records::{Entry, KeyedEntry, OldEntry, Stored};
 use dict_sql::records::ReadError;
 use std::alloc::Global;

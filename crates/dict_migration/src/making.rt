@@ -17,9 +17,8 @@ ghost use Rattle.dict_migration.specs.Moved.{AreTreesOf};
 ghost use Rattle.dict_migration.specs.Spared.{SparesOthers};
 
 use dict_desk::Fault;
-use dict_header_sql::create_header_table;
+use dict_edition_sql::{create_header_table, create_part_table};
 use dict_holdings::{fault_of, has_place};
-use dict_part_sql::create_part_table;
 use dict_rows::{KNOWN_VERSION, mark_row};
 use dict_sql::commit::commit;
 use dict_sql::create::create_table;

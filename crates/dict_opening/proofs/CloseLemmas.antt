@@ -12,11 +12,11 @@ use Rattle.dict_text.proofs.AllLemmas.{all_filter, all_weaker}
 use Rattle.dict_records.specs.Records as spec
 use Rattle.dict_records.specs.Records.{header_of}
 use Rattle.dict_index.specs.Line.{Line}
-use Rattle.dict_index_lines.specs.Stored.{stored_line, stored_index}
+use Rattle.dict_parts.specs.Stored.{stored_line, stored_index}
 use Rattle.dict_sql.specs.Effects.{rows_of}
 use Rattle.dict_sql.specs.Encodings.{mark_row, item_row, member_row, kept_row, stored_kept}
 use Rattle.dict_sql.specs.Reads.{IsListing}
-use Rattle.dict_header_sql.specs.Records.{header_row}
+use Rattle.dict_edition_sql.specs.HeaderRecords.{header_row}
 use Rattle.dict_catalogue.specs.Items.{name_of as name_in, editions_of, is_known}
 use Rattle.dict_catalogue.specs.Steps.{Catalogue}
 use Rattle.dict_catalogue.specs.WellFormed.{total, IsEachOnce}
@@ -31,8 +31,8 @@ use Rattle.dict_rows.specs.declared.reader.Reader.{Reader}
 use Rattle.dict_rows.proofs.OrderLemmas.{IsIn, Same, in_all, passed_in, same_from, same_passed}
 use Rattle.dict_rows.proofs.PartLemmas.{filter_whole}
 use Rattle.dict_rows.proofs.TakenLemmas.{holds_same, same_number_is, same_itself}
-use Rattle.dict_files.specs.AllTables.{with_derived}
-use Rattle.dict_files.specs.Files.{entry_line, index_octets}
+use Rattle.dict_holdings.specs.AllTables.{with_derived}
+use Rattle.dict_holdings.specs.Files.{entry_line, index_octets}
 use Rattle.dict_holdings.specs.Holds.{Keeps}
 use Rattle.dict_holdings.specs.Readings.{AreShownIn, editions, contents, name_of}
 use Rattle.dict_holdings.proofs.ReadingLemmas.{map_twice, editions_kept, headers_kept, replies_kept}

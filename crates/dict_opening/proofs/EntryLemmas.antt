@@ -18,7 +18,7 @@ use Rattle.dict_rows.specs.Order.{InOrder}
 use Rattle.dict_rows.specs.Tables.{Tables, same_number}
 use Rattle.dict_rows.specs.Versions.{Layout, Plain, Keyed, Shown, Parted}
 use Rattle.dict_rows.proofs.OrderLemmas.{order_given, all_same}
-use Rattle.dict_files.specs.AllTables.{with_derived}
+use Rattle.dict_holdings.specs.AllTables.{with_derived}
 use Rattle.dict_holdings.specs.Readings.{KeepsRows, AreShownIn, contents}
 use Rattle.dict_holdings.proofs.ReadLemmas.{sorted_order, one_le}
 use Rattle.dict_holdings.proofs.ReadingLemmas.{map_twice}

@@ -12,20 +12,20 @@ use Rattle.dict_records.specs.Records.{Edition, Header, Part, header_of}
 use Rattle.dict_index.specs.Line.{Line}
 use Rattle.dict_index.specs.Edition.{Edition as AnEdition, entry_in}
 use Rattle.dict_index.specs.WellFormed.{IsWellFormedEdition, IsWellFormedEntry}
-use Rattle.dict_index_lines.specs.Stored.{IsStorable, stored_index}
-use Rattle.dict_index_lines.proofs.StoredLemmas.{of_entries}
+use Rattle.dict_parts.specs.Stored.{IsStorable, stored_index}
+use Rattle.dict_parts.proofs.StoredLemmas.{of_entries}
 use Rattle.dict_parts.specs.Parts.{parts_of}
 use Rattle.dict_sql.specs.Effects.{rows_of, same_value}
-use Rattle.dict_part_sql.specs.Chosen.{is_of_file}
-use Rattle.dict_part_sql.specs.Records.{part_row}
+use Rattle.dict_edition_sql.specs.Chosen.{is_of_file}
+use Rattle.dict_edition_sql.specs.PartRecords.{part_row}
 use Rattle.dict_catalogue.specs.Items.{Stored}
 use Rattle.dict_rows.specs.Stands.{HoldsEdition, IsWithin}
 use Rattle.dict_rows.specs.Tables.{Tables, same_number, entries_of, editions_numbered}
 use Rattle.dict_rows.specs.Written.{numbered, entry_record}
 use Rattle.dict_rows.proofs.EntryLemmas.{lines_lawful}
 use Rattle.dict_rows.proofs.PartLemmas.{filter_filter}
-use Rattle.dict_files.specs.Files.{part_at, file_parts, parts_under, edition_parts, all_parts, index_octets}
-use Rattle.dict_files.proofs.FileLemmas.{part_once, lines_back}
+use Rattle.dict_holdings.specs.Files.{part_at, file_parts, parts_under, edition_parts, all_parts, index_octets}
+use Rattle.dict_holdings.proofs.FileLemmas.{part_once, lines_back}
 use Rattle.dict_scans.specs.Files.{file_rows, HasFile}
 use Rattle.dict_scans.proofs.NumberLemmas.{behind_column, same_int}
 

@@ -19,7 +19,7 @@ use Rattle.dict_rows.specs.Written.{numbered, entry_record}
 use Rattle.dict_rows.proofs.OrderLemmas.{all_with}
 use Rattle.dict_scans.proofs.RowidLemmas.{all_of_map}
 use Rattle.dict_search.specs.Entries.{Indexed, entry_of}
-use Rattle.dict_indexes.specs.Indexes.{entries_under}
+use Rattle.dict_lookup.specs.Indexes.{entries_under}
 use Rattle.dict_holdings.specs.Holds.{Holds}
 use Rattle.dict_holdings.proofs.ReadableLemmas.{held_readable}
 use Rattle.dict_scans.specs.Entries.{HasEntries}

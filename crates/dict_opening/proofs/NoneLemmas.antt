@@ -13,7 +13,7 @@ use Rattle.dict_index.specs.Line.{Line}
 use Rattle.dict_sql.specs.Columns.{Content, HasColumns, edition_columns}
 use Rattle.dict_sql.specs.Effects.{rows_of, equals_number}
 use Rattle.dict_sql.specs.Encodings.{edition_row}
-use Rattle.dict_header_sql.specs.Records.{header_columns, header_row}
+use Rattle.dict_edition_sql.specs.HeaderRecords.{header_columns, header_row}
 use Rattle.dict_catalogue.specs.Items.{Item}
 use Rattle.dict_catalogue.specs.Steps.{Catalogue}
 use Rattle.dict_index.specs.Edition.{Edition}
@@ -25,7 +25,7 @@ use Rattle.dict_rows.specs.Whole.{AreOf, with_entries}
 use Rattle.dict_rows.specs.declared.reader.Reader.{Reader}
 use Rattle.dict_rows.proofs.FoundLemmas.{Found}
 use Rattle.dict_rows.proofs.OrderLemmas.{Same, all_same, all_passed, same_from, one_once}
-use Rattle.dict_files.specs.Files.{index_octets}
+use Rattle.dict_holdings.specs.Files.{index_octets}
 use Rattle.dict_holdings.specs.Holds.{Keeps}
 use Rattle.dict_holdings.specs.Readings.{contents}
 use Rattle.dict_holdings.proofs.ReadingLemmas.{map_twice, editions_kept, headers_kept, parts_kept}

@@ -13,9 +13,9 @@ use Rattle.dict_records.specs.Records as spec
 use Rattle.dict_records.specs.Records.{header_of}
 use Rattle.dict_sql.specs.Effects.{rows_of, equals_number}
 use Rattle.dict_sql.specs.Encodings.{edition_row, stored_edition}
-use Rattle.dict_header_sql.specs.Records.{header_row, stored_header}
-use Rattle.dict_part_sql.specs.Chosen.{is_of_file}
-use Rattle.dict_part_sql.specs.Records.{part_row}
+use Rattle.dict_edition_sql.specs.HeaderRecords.{header_row, stored_header}
+use Rattle.dict_edition_sql.specs.Chosen.{is_of_file}
+use Rattle.dict_edition_sql.specs.PartRecords.{part_row}
 use Rattle.dict_catalogue.specs.Steps.{Catalogue}
 use Rattle.dict_rows.specs.Tables.{Tables, same_number, editions_numbered, entries_of}
 use Rattle.dict_rows.specs.Versions.{Layout, Plain, Keyed, Shown, Parted, layout_of}
@@ -26,11 +26,11 @@ use Rattle.dict_rows.specs.Order.{InOrder, is_of}
 use Rattle.dict_rows.specs.declared.reader.Reader.{Reader}
 use Rattle.dict_rows.proofs.StrayLemmas.{numbers_taken}
 use Rattle.dict_rows.proofs.TakenLemmas.{same_number_is, filter_passes_not}
-use Rattle.dict_index_lines.specs.Stored.{stored_index}
-use Rattle.dict_files.specs.AllTables.{HasNoneOf}
-use Rattle.dict_files.specs.Files.{file_parts, edition_parts, parts_under, all_parts, index_octets}
-use Rattle.dict_files.proofs.FileLemmas.{lines_back}
-use Rattle.dict_files.proofs.MoreLemmas.{more}
+use Rattle.dict_parts.specs.Stored.{stored_index}
+use Rattle.dict_holdings.specs.AllTables.{HasNoneOf}
+use Rattle.dict_holdings.specs.Files.{file_parts, edition_parts, parts_under, all_parts, index_octets}
+use Rattle.dict_holdings.proofs.FileLemmas.{lines_back}
+use Rattle.dict_holdings.proofs.MoreLemmas.{more}
 use Rattle.dict_holdings.specs.Readings.{AreShownIn, editions, contents}
 use Rattle.dict_scans.specs.Census.{one_of, is_in_file, is_known_part, is_of_contents}
 use Rattle.dict_scans.specs.Entries.{behind, entry_cells, HasEntries, HasEntryRows, HasIndexFile}

@@ -11,12 +11,12 @@ use Rattle.dict_records.specs.Records.{header_of}
 use Rattle.dict_records.specs.Typed.{owned_edition, owned_header}
 use Rattle.dict_index.specs.Edition.{Edition}
 use Rattle.dict_index.specs.Line.{Line}
-use Rattle.dict_index_lines.specs.Stored.{stored_index}
-use Rattle.dict_index_lines.proofs.IndexLemmas.{says_one_list}
+use Rattle.dict_parts.specs.Stored.{stored_index}
+use Rattle.dict_parts.proofs.IndexLemmas.{says_one_list}
 use Rattle.dict_sql.specs.Effects.{rows_of, equals_number}
 use Rattle.dict_sql.specs.Encodings.{edition_row, stored_edition}
 use Rattle.dict_sql.specs.Reads.{IsSelection}
-use Rattle.dict_header_sql.specs.Records.{header_row, stored_header}
+use Rattle.dict_edition_sql.specs.HeaderRecords.{header_row, stored_header}
 use Rattle.dict_catalogue.specs.Items.{Item}
 use Rattle.dict_catalogue.specs.Steps.{Catalogue}
 use Rattle.dict_rows.specs.Order.{InOrder}
@@ -27,8 +27,8 @@ use Rattle.dict_rows.specs.Versions.{Layout, Plain, Keyed, Shown, Parted, layout
 use Rattle.dict_rows.specs.Written.{numbered, edition_record, entry_record}
 use Rattle.dict_rows.proofs.FoundLemmas.{Found, found_in}
 use Rattle.dict_rows.proofs.OrderLemmas.{Same, Below, all_passed, all_same, same_from, one_once, ordered_once, numbered_rise}
-use Rattle.dict_files.specs.AllTables.{with_derived}
-use Rattle.dict_files.specs.Files.{index_octets}
+use Rattle.dict_holdings.specs.AllTables.{with_derived}
+use Rattle.dict_holdings.specs.Files.{index_octets}
 use Rattle.dict_holdings.specs.Holds.{Keeps}
 use Rattle.dict_holdings.specs.Readings.{KeepsAll, AreShownIn, HasReadableRows}
 use Rattle.dict_holdings.proofs.ReadingLemmas.{map_twice, editions_kept, headers_kept, parts_kept}

@@ -31,8 +31,8 @@ use Rattle.dict_sql.specs.Encodings.{stored_mark, stored_item, stored_member, st
 use Rattle.dict_sql.specs.Reads.{IsListing, by_columns}
 use Rattle.dict_sql.specs.Streams.Scan.{AllKept, KeptById, ByRowid}
 use Rattle.dict_sql.proofs.KitLemmas.{value_cmp_total}
-use Rattle.dict_header_sql.specs.Records.{header_row}
-use Rattle.dict_part_sql.specs.Records.{part_row}
+use Rattle.dict_edition_sql.specs.HeaderRecords.{header_row}
+use Rattle.dict_edition_sql.specs.PartRecords.{part_row}
 use Rattle.dict_parts.specs.Parts.{parts_of as parts_of_octets}
 use Rattle.dict_catalogue.specs.Items.{Item, name_of as name_in, editions_of, edition_numbers, is_known}
 use Rattle.dict_catalogue.specs.Steps.{Catalogue}
@@ -54,8 +54,8 @@ use Rattle.dict_rows.proofs.FinishLemmas.{ids_same}
 use Rattle.dict_rows.proofs.OrderLemmas.{Same, same_from, all_same, all_with, members_same}
 use Rattle.dict_rows.proofs.StrayLemmas.{numbers_taken}
 use Rattle.dict_rows.proofs.TakenLemmas.{same_itself, holds_same}
-use Rattle.dict_files.specs.AllTables.{with_derived}
-use Rattle.dict_files.specs.Files.{part_at, file_parts, parts_under, edition_parts, all_parts, index_octets}
+use Rattle.dict_holdings.specs.AllTables.{with_derived}
+use Rattle.dict_holdings.specs.Files.{part_at, file_parts, parts_under, edition_parts, all_parts, index_octets}
 use Rattle.dict_holdings.specs.Holds.{Keeps}
 use Rattle.dict_holdings.specs.Readings.{KeepsRows, KeepsAll, editions, contents, name_of}
 use Rattle.dict_holdings.proofs.ReadLemmas.{sorted_order, second_le, records_order}

@@ -10,7 +10,7 @@ use Rattle.dict_rows.specs.Tables.{Tables}
 use Rattle.dict_rows.specs.Stands.{HoldsEdition}
 use Rattle.dict_rows.specs.Versions.{Layout}
 use Rattle.dict_search.specs.Entries.{Indexed, entry_of}
-use Rattle.dict_indexes.specs.Indexes.{entries_under}
+use Rattle.dict_lookup.specs.Indexes.{entries_under}
 use Rattle.dict_holdings.specs.Holds.{Holds}
 use Rattle.dict_scans.specs.Entries.{HasEntries}
 use Rattle.dict_scans.specs.Indexing.{indexed_of}

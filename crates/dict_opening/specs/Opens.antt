@@ -14,8 +14,8 @@ use Rattle.dict_sql.specs.Columns.{Content, edition_columns}
 use Rattle.dict_sql.specs.Effects.{HasApartRowids, rows_of, equals_number}
 use Rattle.dict_sql.specs.Encodings.{mark_row, item_row, member_row, stored_edition, stored_kept}
 use Rattle.dict_sql.specs.Reads.{IsListing, IsSelection, HasNoRecord}
-use Rattle.dict_header_sql.specs.Records.{header_columns, stored_header}
-use Rattle.dict_header_sql.specs.declared.records.StoredHeader.{StoredHeader}
+use Rattle.dict_edition_sql.specs.HeaderRecords.{header_columns, stored_header}
+use Rattle.dict_edition_sql.specs.declared.header_records.StoredHeader.{StoredHeader}
 use Rattle.dict_catalogue.specs.Items.{edition_numbers}
 use Rattle.dict_catalogue.specs.Steps.{Catalogue, summary_of}
 use Rattle.dict_catalogue.specs.Tests.{Holdings}
@@ -28,7 +28,7 @@ use Rattle.dict_rows.specs.Taken.{GoesOn, HasTaken, HasIdsOnce, items_in, with_e
 use Rattle.dict_rows.specs.Versions.{Layout, Plain, Keyed, Shown, Parted, layout_of, IsVersion}
 use Rattle.dict_rows.specs.Whole.{with_entries, with_replies}
 use Rattle.dict_rows.specs.declared.reader.Reader.{Reader}
-use Rattle.dict_files.specs.AllTables.{with_derived}
+use Rattle.dict_holdings.specs.AllTables.{with_derived}
 pub use Rattle.dict_holdings.specs.Holds.{HoldsNone, HoldsNoneAs}
 pub use Rattle.dict_holdings.specs.Readings.{HasReadableRows, HasRowidsApart}
 use Rattle.dict_holdings.specs.Readings.{Reading, KeepsAll, AreShownIn, IsReadable, readings, edition_readings, editions, contents, tables_of, name_of}

@@ -16,7 +16,7 @@ ghost use Rattle.dict_opening.specs.Opens.{KeepsNone, HasVersionTables, HasTable
 
 use crate::layout::{TableLayout, layout_of};
 use crate::texts::read_edition;
-use dict_indexes::Indexes;
+use dict_lookup::Indexes;
 use dict_rows::number_in;
 use dict_scans::{
     EditionIndex, EditionReader, ReadingFault, fault_of_rows, read_filed_entries, read_old_entries,

@@ -4,17 +4,16 @@ ghost use Rattle.std.specs.List.{AllByRecursion};
 ghost use Rattle.dict_tables.specs.Found.{HasOwn};
 ghost use Rattle.dict_tables.specs.Keyed.{entry, old_entry, word, gram};
 ghost use Rattle.dict_tables.specs.Tables.{mark, item, member, edition, kept};
-ghost use Rattle.dict_header_sql.specs.Table.{header};
-ghost use Rattle.dict_part_sql.specs.Table.{part};
+ghost use Rattle.dict_edition_sql.specs.HeaderTable.{header};
+ghost use Rattle.dict_edition_sql.specs.PartTable.{part};
 ghost use Rattle.dict_rows.specs.Versions.{Plain, Keyed, Shown, Parted, layout_of};
 ghost use Rattle.dict_holdings.specs.Holds.{HasLayout};
 ghost use Rattle.dict_holdings.specs.Readings.{tables_of};
 ghost use Rattle.dict_opening.specs.Layouts.{layout_in};
 
-use dict_header_sql::has_header_table;
+use dict_edition_sql::{has_header_table, has_part_table};
 use dict_holdings::has_part_room;
-use dict_keyed_sql::{has_keyed_table, has_old_entry};
-use dict_part_sql::has_part_table;
+use dict_older_sql::{has_keyed_table, has_old_entry};
 use dict_tables::{KeyedTable, StoreTable, has_table};
 use sqlite_schema::schema::Schema;
 

@@ -21,7 +21,7 @@ use crate::rowids::test_other_rowids;
 use dict_catalogue::Summary;
 use dict_desk::Fault;
 use dict_holdings::fault_of;
-use dict_indexes::Indexes;
+use dict_lookup::Indexes;
 use dict_records::{Mark, Stored};
 use dict_rows::{KNOWN_VERSION, number_in};
 use dict_scans::ReadingFault;

@@ -17,7 +17,7 @@ ghost use Rattle.dict_opening.specs.Opens.{HasVersionTables, KeepsNone, HoldsNon
 use crate::editions::read_numbered_editions;
 use crate::strays::test_strays;
 use dict_catalogue::Summary;
-use dict_indexes::Indexes;
+use dict_lookup::Indexes;
 use dict_records::{Mark, Stored};
 use dict_rows::Reader;
 use dict_scans::{

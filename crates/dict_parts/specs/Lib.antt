@@ -1,3 +1,7 @@
 pub mod Parts
 pub mod Joining
 pub mod Cutting
+pub mod Spelling
+pub mod Stored
+pub mod Views
+pub mod Appended

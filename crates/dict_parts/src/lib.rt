@@ -1,14 +1,21 @@
-//! A file in parts of 16,384 octets: split, joined, and an interval cut out of it part by part.
+//! A file in parts, and an index as it is stored.
 #![tactic(auto)]
 
+mod columns;
 mod cutting;
 mod file;
 mod joiner;
 mod laws;
+mod line_laws;
 mod memory;
+mod reading;
+mod writing;
 
 pub use cutting::{CutFault, Parts, cut};
 pub use file::{PART_SIZE, part};
 pub use joiner::{Joiner, Refused};
 pub use laws::parts_laws;
+pub use line_laws::{stored_indexes, stored_lines};
 pub use memory::InMemory;
+pub use reading::{Columns, read_line};
+pub use writing::write_line;

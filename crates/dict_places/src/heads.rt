@@ -6,7 +6,7 @@ ghost use Rattle.dict_derived.specs.Derived.{octets_cmp};
 ghost use Rattle.dict_places.specs.Places.{key_at};
 ghost use Rattle.dict_places.specs.Orders.{IsOrderOf};
 
-use dict_runs::Texts;
+use dict_derived::Texts;
 use std::alloc::{AllocError, Global};
 
 /// The first of so many sorted texts has its head in a list, and then each one so many behind it.

@@ -6,9 +6,8 @@ ghost use Rattle.dict_places.specs.Places.{key_at, places_where};
 ghost use Rattle.dict_places.specs.Selected.{has_gram, finds_all};
 
 use crate::grams::has_gram;
-use dict_derived::is_tested;
+use dict_derived::{Texts, is_tested};
 use dict_match::{Strategy, matches, words};
-use dict_runs::Texts;
 
 /// Keeps those of the places whose key a query finds, where none of those that it finds is missing.
 pub fn keep_hits(keys: &Texts, places: &mut Vec<u32>, strategy: Strategy, query: &[u8])

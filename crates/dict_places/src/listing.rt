@@ -5,7 +5,7 @@ ghost use Rattle.dict_places.specs.Listing.{AreListed, AreTaken, AreSorted, AreG
 use crate::merging::{Compares, Merging};
 use crate::pieces::{Pieces, pieces_of, put};
 use crate::placed::{PlacedGram, add_grams, compare_grams, each_once};
-use dict_runs::{PlaceLists, Texts};
+use dict_derived::{PlaceLists, Texts};
 use std::alloc::{AllocError, Global};
 use std::cmp::Ordering;
 

@@ -8,7 +8,7 @@ ghost use Rattle.dict_places.specs.Orders.{place_cmp, IsOrderOf};
 ghost use Rattle.dict_places.specs.Selected.{is_between};
 
 use crate::heads::{all_heads, count_before};
-use dict_runs::Texts;
+use dict_derived::Texts;
 use std::alloc::{AllocError, Global};
 use std::cmp::Ordering;
 

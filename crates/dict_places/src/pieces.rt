@@ -13,8 +13,7 @@ ghost use Rattle.dict_places.specs.PlacedPieces.{words_placed, grams_placed};
 
 use crate::heads::{likely_places, sampled_heads};
 use crate::placed::{PlacedGram, PlacedWord, sorted_grams, sorted_words};
-use dict_derived::is_kept;
-use dict_runs::{PlaceLists, Texts};
+use dict_derived::{PlaceLists, Texts, is_kept};
 use std::alloc::{AllocError, Global};
 use std::cmp::Ordering;
 

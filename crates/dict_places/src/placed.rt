@@ -7,9 +7,8 @@ ghost use Rattle.dict_derived.specs.Kept.{kept_grams};
 ghost use Rattle.dict_places.specs.Pieces.{Placed, at_place, occurrences_from, pair_cmp, AreOccurrences};
 ghost use Rattle.dict_places.specs.PlacedPieces.{words_placed, grams_placed, gram_cmp, gram_rank, FitsRank};
 
-use dict_derived::is_kept;
+use dict_derived::{Texts, is_kept};
 use dict_match::words;
-use dict_runs::Texts;
 use std::alloc::{AllocError, Global};
 use std::cmp::Ordering;
 

@@ -6,7 +6,7 @@ ghost use Rattle.dict_places.specs.Places.{key_at, places_where};
 ghost use Rattle.dict_places.specs.Orders.{IsOrderOf};
 ghost use Rattle.dict_places.specs.Selected.{is_between};
 
-use dict_runs::Texts;
+use dict_derived::Texts;
 use std::alloc::{AllocError, Global};
 use std::cmp::Ordering;
 

@@ -6,7 +6,7 @@ ghost use Rattle.dict_places.specs.Sorting.{ArePlacesOf, AreOrdered};
 use crate::heads::all_heads;
 use crate::merging::{Compares, Merging};
 use crate::order::{compare_heads, first_places, put_in_order, reversed};
-use dict_runs::Texts;
+use dict_derived::Texts;
 use std::alloc::{AllocError, Global};
 use std::cmp::Ordering;
 

@@ -9,8 +9,8 @@ ghost use Rattle.dict_places.specs.Wording.{AreWorded, AreWordsTaken, AreWordsSo
 
 use crate::pieces::{Pieces, pieces_of, put, words_of};
 use crate::sorting::Sorting;
+use dict_derived::{PlaceLists, Texts};
 use dict_match::words;
-use dict_runs::{PlaceLists, Texts};
 use std::alloc::{AllocError, Global};
 
 /// The words of so many keys are taken in a slice.

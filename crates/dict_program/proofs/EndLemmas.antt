@@ -4,17 +4,17 @@ use Rattle.dict_desk.specs.declared.fault.Fault.{Fault}
 use Rattle.std.specs.Prelude.{◌⊎◌, Bool, Result}
 use Rattle.dict_desk.specs.Plain.{PlainState}
 use Rattle.dict_desk.specs.declared.lookup.Lookup as lookup
-use Rattle.dict_preparing.specs.Expected.{Expected}
+use Rattle.dict_desk.specs.Expected.{Expected}
 use Rattle.dict_driver.specs.declared.binding.Network as network
 use Rattle.dict_driver.specs.declared.sockets.SystemSockets.{SystemSockets}
-use Rattle.dict_io.specs.Streams.{StreamChange}
+use Rattle.dict_proto.specs.Streams.{StreamChange}
 use Rattle.dict_serving.specs.declared.desks.DeskOpener as desks
-use Rattle.dict_arguments.specs.Asked.{Asks}
+use Rattle.dict_messages.specs.Asked.{Asks}
 use Rattle.dict_session.specs.Desks.{Stays as DeskStays}
-use Rattle.dict_arguments.specs.declared.task.ItemChange.{ItemChange as AskedChange}
-use Rattle.dict_arguments.specs.declared.task.ItemChange.TheVariants as changes
-use Rattle.dict_arguments.specs.declared.task.Task.{Task}
-use Rattle.dict_arguments.specs.declared.task.Task.TheVariants.{Plain, Create, List as Lists, Audit, Session as SpeaksOver, Change as Changes, Serve as Serves}
+use Rattle.dict_messages.specs.declared.task.ItemChange.{ItemChange as AskedChange}
+use Rattle.dict_messages.specs.declared.task.ItemChange.TheVariants as changes
+use Rattle.dict_messages.specs.declared.task.Task.{Task}
+use Rattle.dict_messages.specs.declared.task.Task.TheVariants.{Plain, Create, List as Lists, Audit, Session as SpeaksOver, Change as Changes, Serve as Serves}
 use Rattle.dict_messages.specs.Faults.{status_of}
 use Rattle.dict_messages.specs.declared.fault.ProgramFault.{ProgramFault}
 use Rattle.dict_messages.specs.declared.fault.ProgramFault.TheVariants.{Line, Edition, Refused, Store, CannotRead, SessionEnded, CannotWrite, CannotBind, CannotWait, Memory}

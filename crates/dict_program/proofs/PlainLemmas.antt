@@ -1,7 +1,7 @@
 -- What the one install of a session over files is answered.
 use Rattle.std.proofs.Common.{◌≡◌, ℕ, List, Bool, true, false, refl, codes}
 use Rattle.std.specs.Prelude.{if◌then◌else◌, None, Some, Result, Ok, Err}
-use Rattle.dict_io.specs.Streams.{StreamChange}
+use Rattle.dict_proto.specs.Streams.{StreamChange}
 use Rattle.dict_session.specs.Desks.{Condition}
 use Rattle.dict_session.specs.Run.{Ends}
 use Rattle.dict_session.specs.declared.session.run.SessionFault.{SessionFault}
@@ -11,7 +11,7 @@ use Rattle.dict_messages.specs.Writing.{IsUntouched}
 use Rattle.dict_program.specs.Plain.{catalogue_of, told_by, RunEnds, IsInstalled, Installs, PlainEnds}
 use Rattle.dict_messages.specs.declared.fault.ProgramFault.{ProgramFault}
 use Rattle.dict_messages.specs.declared.fault.ProgramFault.TheVariants as faults
-use Rattle.dict_name.specs.Names.{is_name, is_request_id}
+use Rattle.dict_text.specs.Names.{is_name, is_request_id}
 use Rattle.dict_index.specs.Edition.{Edition}
 use Rattle.dict_catalogue.specs.Commands.{install}
 use Rattle.dict_catalogue.specs.Effects.{KeptReply}

@@ -5,23 +5,23 @@ use Rattle.dict_desk.specs.Plain.{PlainState}
 use Rattle.dict_desk.specs.declared.lookup.Lookup as lookup
 use Rattle.dict_driver.specs.declared.binding.Network as network
 use Rattle.dict_driver.specs.declared.sockets.SystemSockets.{SystemSockets}
-use Rattle.dict_io.specs.Streams.{StreamChange, HasFailed}
+use Rattle.dict_proto.specs.Streams.{StreamChange, HasFailed}
 use Rattle.dict_index.specs.Edition.{Edition as AnEdition}
 use Rattle.dict_catalogue.specs.Commands.{Command, rollback, retire, put_virtual, place}
 use Rattle.dict_serving.specs.declared.desks.DeskOpener as desks
 use Rattle.dict_catalogue.specs.declared.reply.Kept.{Kept}
 use Rattle.dict_catalogue.specs.Steps.{Catalogue}
 use Rattle.dict_desk.specs.declared.fault.Fault.{Fault as DeskFault, Fault}
-use Rattle.dict_preparing.specs.Expected.{Expected}
+use Rattle.dict_desk.specs.Expected.{Expected}
 use Rattle.dict_messages.specs.Faults.{status_of}
 use Rattle.dict_messages.specs.Writing.{IsUntouched, Writes}
 use Rattle.dict_messages.specs.declared.fault.ProgramFault.{ProgramFault}
 use Rattle.dict_messages.specs.declared.fault.ProgramFault.TheVariants.{Line, Edition, Refused, Store, CannotRead, SessionEnded, CannotWrite, CannotBind, CannotWait, Memory}
-use Rattle.dict_actions.specs.Changing.{TellsAnswer}
-use Rattle.dict_actions.specs.Installing.{InstallEnds}
-use Rattle.dict_arguments.specs.Asked.{words_shown}
-use Rattle.dict_arguments.specs.declared.task.ItemChange.{ItemChange as Asked}
-use Rattle.dict_arguments.specs.declared.task.ItemChange.TheVariants.{Install, Rollback, Retire, Virtual, Place}
+use Rattle.dict_messages.specs.Changing.{TellsAnswer}
+use Rattle.dict_messages.specs.Installing.{InstallEnds}
+use Rattle.dict_messages.specs.Asked.{words_shown}
+use Rattle.dict_messages.specs.declared.task.ItemChange.{ItemChange as Asked}
+use Rattle.dict_messages.specs.declared.task.ItemChange.TheVariants.{Install, Rollback, Retire, Virtual, Place}
 use Rattle.dict_program.specs.Working.{AuditEnds, ChangeEnds, InstallsOn, ListEnds, ServesOn, TellsSound}
 use Rattle.dict_program.specs.declared.catalogues.Catalogues as catalogues
 use Rattle.dict_program.specs.Program.{ChangeTaskEnds, IsCutOff, IsFailed}
@@ -62,7 +62,7 @@ sound_spoils (Err why) closed fault writer h = inl h.1
 module _ {D : Type 0} (Shows : D → Catalogue → Type 0) (LeavesOneOf : D → List (Option Catalogue) → Type 0) (IsTrusted : D → Type 0) (is_closed : D → Bool) where
   pub install_spoils : (files : List ℕ → Option (List ℕ)) (old new : D) (name id index text : List ℕ) (fault : ProgramFault) (writer : StreamChange)
       → InstallEnds Shows LeavesOneOf IsTrusted is_closed files old new name id index text (Err fault) writer → Spoils fault writer
-  unfolding Rattle.dict_actions.specs.Installing.InstallEnds
+  unfolding Rattle.dict_messages.specs.Installing.InstallEnds
   install_spoils files old new name id index text fault writer (inl again) = writes_spoils _ fault writer again.line.0
   install_spoils files old new name id index text fault writer (inr (inl unknown)) = inl unknown.untouched
   install_spoils files old new name id index text fault writer (inr (inr (middle, none, inl unread))) = inl unread.2

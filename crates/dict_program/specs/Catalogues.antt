@@ -1,7 +1,7 @@
 -- What is known of a catalogue that was made, read whole or asked, whatever does it.
 use Rattle.std.specs.Prelude.{[], ◌∷◌, List, Option, Some, Result, Ok, Err, ⊤}
 use Rattle.dict_catalogue.specs.Steps.{Catalogue, empty_catalogue}
-use Rattle.dict_io.specs.Streams.{StreamChange}
+use Rattle.dict_proto.specs.Streams.{StreamChange}
 use Rattle.dict_messages.specs.Writing.{IsUntouched}
 use Rattle.dict_messages.specs.declared.fault.ProgramFault.{ProgramFault}
 use Rattle.dict_messages.specs.declared.fault.ProgramFault.TheVariants as faults

@@ -1,15 +1,15 @@
 -- In which order the faults of files are told.
 use Rattle.std.specs.Prelude.{◌⊎◌, ℕ, List, [], ◌∷◌, None, Result, Err, ⊤}
-use Rattle.dict_io.specs.Streams.{StreamChange}
+use Rattle.dict_proto.specs.Streams.{StreamChange}
 use Rattle.clap.specs.declared.error.kind.ErrorKind.{ErrorKind}
-use Rattle.dict_arguments.specs.Asked.{Asks, Fails}
-use Rattle.dict_arguments.specs.declared.task.ItemChange.{ItemChange as AskedChange}
-use Rattle.dict_arguments.specs.declared.task.ItemChange.TheVariants as changes
-use Rattle.dict_arguments.specs.declared.task.Task.{Task}
-use Rattle.dict_arguments.specs.declared.task.Task.TheVariants as tasks
+use Rattle.dict_messages.specs.Asked.{Asks, Fails}
+use Rattle.dict_messages.specs.declared.task.ItemChange.{ItemChange as AskedChange}
+use Rattle.dict_messages.specs.declared.task.ItemChange.TheVariants as changes
+use Rattle.dict_messages.specs.declared.task.Task.{Task}
+use Rattle.dict_messages.specs.declared.task.Task.TheVariants as tasks
 use Rattle.dict_messages.specs.declared.fault.ProgramFault.{ProgramFault}
-use Rattle.dict_actions.specs.Files.{IsInOrder}
-use Rattle.dict_actions.specs.declared.files.ReadFault.{ReadFault}
+use Rattle.dict_messages.specs.Files.{IsInOrder}
+use Rattle.dict_messages.specs.declared.files.ReadFault.{ReadFault}
 use Rattle.dict_serving.specs.Deeds.{Opens, Does}
 use Rattle.dict_serving.specs.declared.desks.DeskOpener as desks
 use Rattle.dict_program.specs.Program.{Closes}

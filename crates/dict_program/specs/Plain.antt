@@ -1,12 +1,12 @@
 -- How a session over one database in lists ends.
 use Rattle.std.specs.Prelude.{◌≡◌, ◌≢◌, ℕ, ◌⊎◌, IsTrue, false, List, Option, Some, None, Result, Ok, Err, codes}
 use Rattle.dict_catalogue.specs.declared.fault.CommandRefusal.TheVariants.{BadName}
-use Rattle.dict_name.specs.Names.{is_name}
+use Rattle.dict_text.specs.Names.{is_name}
 use Rattle.dict_index.specs.Edition.{Edition}
 use Rattle.dict_index.specs.Meaning.{IsEdition, IsFault}
 use Rattle.dict_catalogue.specs.Commands.{install}
 use Rattle.dict_catalogue.specs.Steps.{Catalogue, empty_catalogue, step}
-use Rattle.dict_io.specs.Streams.{StreamChange}
+use Rattle.dict_proto.specs.Streams.{StreamChange}
 use Rattle.dict_desk.specs.Plain.{PlainState}
 use Rattle.dict_session.specs.Desks.{Condition, condition}
 use Rattle.dict_session.specs.Run.{Ends}
@@ -14,7 +14,7 @@ use Rattle.dict_session.specs.declared.session.run.SessionEnd.{SessionEnd}
 use Rattle.dict_session.specs.declared.session.run.SessionFault.{SessionFault}
 use Rattle.dict_session.specs.declared.session.run.SessionFault.TheVariants as session_faults
 use Rattle.dict_messages.specs.Writing.{IsUntouched}
-use Rattle.dict_actions.specs.Files.{IsReadFrom, IsUnread}
+use Rattle.dict_messages.specs.Files.{IsReadFrom, IsUnread}
 use Rattle.dict_messages.specs.declared.fault.ProgramFault.{ProgramFault}
 use Rattle.dict_messages.specs.declared.fault.ProgramFault.TheVariants as faults
 

@@ -7,20 +7,20 @@ use Rattle.clap.specs.declared.error.kind.ErrorKind.TheVariants as kinds
 use Rattle.dict_catalogue.specs.Commands.{rollback, retire, put_virtual, place}
 use Rattle.dict_desk.specs.Plain.{PlainState}
 use Rattle.dict_desk.specs.declared.lookup.Lookup as lookup
-use Rattle.dict_preparing.specs.Expected.{Expected}
+use Rattle.dict_desk.specs.Expected.{Expected}
 use Rattle.dict_driver.specs.declared.binding.Network as network
 use Rattle.dict_driver.specs.declared.sockets.SystemSockets.{SystemSockets}
-use Rattle.dict_io.specs.Streams.{StreamChange, HasFailed, Puts, PutsAll, PutsFront}
-use Rattle.dict_io.specs.declared.sink.SinkFault.{SinkFault}
+use Rattle.dict_proto.specs.Streams.{StreamChange, HasFailed, Puts, PutsAll, PutsFront}
+use Rattle.dict_proto.specs.declared.sink.SinkFault.{SinkFault}
 use Rattle.dict_session.specs.Desks.{Stays as DeskStays}
 use Rattle.dict_session.specs.declared.session.run.SessionFault.{SessionFault}
 use Rattle.dict_session.specs.declared.session.run.SessionFault.TheVariants as session_faults
 use Rattle.dict_serving.specs.declared.desks.DeskOpener as desks
-use Rattle.dict_arguments.specs.Asked.{Asks, Fails, mistakes_in, words_shown}
-use Rattle.dict_arguments.specs.declared.task.ItemChange.{ItemChange as AskedChange}
-use Rattle.dict_arguments.specs.declared.task.ItemChange.TheVariants as changes
-use Rattle.dict_arguments.specs.declared.task.Task.{Task}
-use Rattle.dict_arguments.specs.declared.task.Task.TheVariants as tasks
+use Rattle.dict_messages.specs.Asked.{Asks, Fails, mistakes_in, words_shown}
+use Rattle.dict_messages.specs.declared.task.ItemChange.{ItemChange as AskedChange}
+use Rattle.dict_messages.specs.declared.task.ItemChange.TheVariants as changes
+use Rattle.dict_messages.specs.declared.task.Task.{Task}
+use Rattle.dict_messages.specs.declared.task.Task.TheVariants as tasks
 use Rattle.dict_messages.specs.Faults.{line_of, status_of}
 use Rattle.dict_messages.specs.declared.fault.ProgramFault.{ProgramFault}
 use Rattle.dict_messages.specs.declared.fault.ProgramFault.TheVariants as faults

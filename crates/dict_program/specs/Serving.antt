@@ -2,8 +2,8 @@
 use Rattle.std.specs.Prelude.{ℕ, List, Option, Err, Bool, Result}
 use Rattle.dict_desk.specs.declared.fault.Fault.{Fault}
 use Rattle.dict_desk.specs.declared.lookup.Lookup as lookup
-use Rattle.dict_preparing.specs.Expected.{Expected}
-use Rattle.dict_io.specs.Streams.{StreamChange}
+use Rattle.dict_desk.specs.Expected.{Expected}
+use Rattle.dict_proto.specs.Streams.{StreamChange}
 use Rattle.dict_messages.specs.declared.fault.ProgramFault.{ProgramFault}
 use Rattle.dict_serving.specs.Deeds.{WasShut}
 use Rattle.dict_serving.specs.Done.{WasDone}

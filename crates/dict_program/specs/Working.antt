@@ -5,8 +5,8 @@ use Rattle.dict_catalogue.specs.Commands.{Command}
 use Rattle.dict_catalogue.specs.Steps.{Catalogue}
 use Rattle.dict_desk.specs.declared.lookup.Lookup as lookup
 use Rattle.dict_index.specs.Edition.{Edition}
-use Rattle.dict_preparing.specs.Expected.{Expected}
-use Rattle.dict_io.specs.Streams.{StreamChange}
+use Rattle.dict_desk.specs.Expected.{Expected}
+use Rattle.dict_proto.specs.Streams.{StreamChange}
 use Rattle.dict_messages.specs.Writing.{IsUntouched, Prints}
 use Rattle.dict_messages.specs.declared.fault.ProgramFault.{ProgramFault}
 use Rattle.dict_messages.specs.declared.fault.ProgramFault.TheVariants as faults
@@ -19,9 +19,9 @@ use Rattle.dict_serving.specs.Done.{ServeEnds}
 use Rattle.dict_serving.specs.Listening.{Begins}
 use Rattle.dict_serving.specs.Serving.{IsNew, IsNone, IsNotReopened}
 use Rattle.dict_serving.specs.declared.desks.DeskOpener as desks
-use Rattle.dict_actions.specs.Changing.{IsChanged}
-use Rattle.dict_actions.specs.Installing.{InstallEnds}
-use Rattle.dict_actions.specs.Listed.{IsListed}
+use Rattle.dict_messages.specs.Changing.{IsChanged}
+use Rattle.dict_messages.specs.Installing.{InstallEnds}
+use Rattle.dict_messages.specs.Listed.{IsListed}
 use Rattle.dict_program.specs.Catalogues.{IsSpared, IsMade, Stays}
 use Rattle.dict_program.specs.Serving.{WasShutBy}
 use Rattle.dict_program.specs.declared.catalogues.Catalogues as catalogues

@@ -1,13 +1,13 @@
 // What the program does to files.
 ghost use Rattle.std.specs.Prelude.{◌≡◌, ◌∷◌, [], ℕ, List, Option, MatchOption, Result, MatchResult, ⊤};
-ghost use Rattle.dict_io.specs.Streams.{StreamChange, change};
+ghost use Rattle.dict_proto.specs.Streams.{StreamChange, change};
 ghost use Rattle.dict_messages.specs.declared.fault.ProgramFault.{ProgramFault as PrintedFault};
 ghost use Rattle.dict_serving.specs.Deeds.{Does, IsShut, Makes, Speaks, got};
 ghost use Rattle.dict_program.specs.Catalogues.{IsMade, IsSpared, Stays};
 
 use dict_desk::Keeper;
-use dict_io::{Sink, Source};
 use dict_messages::ProgramFault;
+use dict_proto::{Sink, Source};
 use dict_serving::DeskOpener;
 
 /// Makes catalogues in files, reads them whole, and runs sessions over them, beside what `DeskOpener` does.

@@ -1,13 +1,13 @@
 // What each status tells.
 ghost use Rattle.std.specs.Prelude.{◌≤◌, ℕ, List, Option};
 ghost use Rattle.dict_desk.specs.Plain.{PlainState};
-ghost use Rattle.dict_io.specs.Streams.{StreamChange};
+ghost use Rattle.dict_proto.specs.Streams.{StreamChange};
 ghost use Rattle.dict_messages.specs.Writing.{IsUntouched};
 ghost use Rattle.dict_program.specs.Program.{CommandEnds, IsDone, IsExhausted, IsFailed};
 
 use crate::catalogues::Catalogues;
+use dict_desk::Preparer;
 use dict_driver::{Network, SystemSockets};
-use dict_preparing::Preparer;
 use mio::net::TcpListener;
 
 /// With 0 what was asked for was done, and nothing is told. With 1 and 2 nothing was read or written. With 3 neither, or a

@@ -1,5 +1,5 @@
 // A session over one database in lists.
-ghost use Rattle.dict_io.specs.Streams.{change};
+ghost use Rattle.dict_proto.specs.Streams.{change};
 ghost use Rattle.dict_session.specs.Desks.{condition};
 ghost use Rattle.dict_program.specs.Plain.{PlainEnds, RunEnds, Installs, FilesEnd, standing, told_by};
 ghost use Rattle.std.specs.Prelude.{◌≡◌, codes};
@@ -7,14 +7,13 @@ ghost use Rattle.dict_index.specs.Edition.{edition_of};
 ghost use Rattle.dict_catalogue.specs.Commands.{install};
 ghost use Rattle.dict_catalogue.specs.Steps.{Catalogue, empty_catalogue, step};
 ghost use Rattle.dict_desk.specs.Applying.{Applies};
-ghost use Rattle.dict_actions.specs.Files.{IsInOrder};
+ghost use Rattle.dict_messages.specs.Files.{IsInOrder};
 
-use dict_actions::{InputFiles, read_file};
 use dict_catalogue::{Command, Kept};
 use dict_desk::{Fault as DeskFault, Keeper, PlainDesk};
 use dict_index::{Edition, read_edition};
-use dict_io::{Sink, Source};
-use dict_messages::ProgramFault;
+use dict_messages::{InputFiles, ProgramFault, read_file};
+use dict_proto::{Sink, Source};
 use dict_serving::HOST;
 use dict_session::{SessionFault, run};
 use std::alloc::Global;

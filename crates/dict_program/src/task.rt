@@ -1,22 +1,19 @@
 // What is done of what the program is asked for.
-ghost use Rattle.dict_io.specs.Streams.{change};
+ghost use Rattle.dict_proto.specs.Streams.{change};
 ghost use Rattle.dict_program.specs.Order.{ChangesInOrder, EndsInOrder};
 ghost use Rattle.dict_program.specs.Program.{ChangeTaskEnds, TaskEnds};
-ghost use Rattle.dict_arguments.specs.Asked.{words_shown};
+ghost use Rattle.dict_messages.specs.Asked.{words_shown};
 ghost use Rattle.dict_catalogue.specs.Commands.{put_virtual};
 ghost use Rattle.dict_program.specs.Working.{ChangeEnds, ServesOn};
 
 use crate::catalogues::Catalogues;
 use crate::plain::run_files;
 use crate::work::{audit_over, change_over, create_over, install_over, list_over};
-use dict_actions::{InputFiles, InstallRequest};
-use dict_arguments::{ItemChange, Task};
 use dict_catalogue::Command;
-use dict_desk::{Keeper, PlainDesk};
+use dict_desk::{Keeper, PlainDesk, Preparer};
 use dict_driver::{Network, SystemSockets};
-use dict_io::{Sink, Source};
-use dict_messages::ProgramFault;
-use dict_preparing::Preparer;
+use dict_messages::{InputFiles, InstallRequest, ItemChange, ProgramFault, Task};
+use dict_proto::{Sink, Source};
 use dict_serving::{DeskOpener, ServerOptions, serve_catalogue};
 use mio::net::TcpListener;
 use std::alloc::Global;

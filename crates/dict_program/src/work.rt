@@ -1,15 +1,14 @@
 // Work over the catalogues of files, whatever opens them.
-ghost use Rattle.dict_io.specs.Streams.{change};
+ghost use Rattle.dict_proto.specs.Streams.{change};
 ghost use Rattle.dict_catalogue.specs.Views.{command_meant};
 ghost use Rattle.dict_program.specs.Order.{InstallsInOrder};
 ghost use Rattle.dict_program.specs.Working.{AuditEnds, ChangeEnds, CreateEnds, InstallsOn, ListEnds, TellsSound};
 
 use crate::catalogues::Catalogues;
-use dict_actions::{InputFiles, InstallRequest, change, install, list};
 use dict_catalogue::Command;
 use dict_desk::Keeper;
-use dict_io::Sink;
-use dict_messages::ProgramFault;
+use dict_messages::{InputFiles, InstallRequest, ProgramFault, change, install, list};
+use dict_proto::Sink;
 use dict_serving::DeskOpener;
 use std::alloc::Global;
 

@@ -4,9 +4,9 @@ use Rattle.std.specs.Prelude.{Result, Ok, Err, IsErr}
 use Rattle.std.specs.List.{flat_map}
 use Rattle.std.proofs.Math.Seq.{take-suc}
 use Rattle.std.proofs.lemmas.List.Concat.{flat_map-append}
-use Rattle.dict_io.specs.Streams.{Stream, PutsAll, PutsFront, Puts}
+use Rattle.dict_proto.specs.Streams.{Stream, PutsAll, PutsFront, Puts}
 use Rattle.dict_proto.specs.Gathering.{Joins, Gathers}
-use Rattle.dict_io.proofs.PutLemmas.{puts_none, all_after, front_after, front_longer, puts_after, pieces_at}
+use Rattle.dict_proto.proofs.PutLemmas.{puts_none, all_after, front_after, front_longer, puts_after, pieces_at}
 
 -- nothing was added
 pub joins_none : (a : Stream) (held : List ℕ) → Joins a a held held []

@@ -1,6 +1,6 @@
 -- What a call leaves of the octets that are gathered for a sink, and of those that the sink took.
 use Rattle.std.specs.Prelude.{◌≡◌, ℕ, List, ◌++◌, Result, MatchResult}
-use Rattle.dict_io.specs.Streams.{Stream, PutsAll, PutsFront}
+use Rattle.dict_proto.specs.Streams.{Stream, PutsAll, PutsFront}
 
 -- bs came behind those that were held; the sink took a front of them all, and the others are held now
 abbrev pub Joins : Stream → Stream → List ℕ → List ℕ → List ℕ → Type 0

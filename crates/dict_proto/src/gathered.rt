@@ -1,11 +1,11 @@
 // Octets that are gathered before they are put.
 ghost use Rattle.std.specs.Prelude.{◌≡◌, [], OnOk};
 ghost use Rattle.std.specs.List.{flat_map};
-ghost use Rattle.dict_io.specs.Streams.{Puts};
+ghost use Rattle.dict_proto.specs.Streams.{Puts};
 ghost use Rattle.dict_proto.specs.Gathering.{Gathers};
 
+use crate::sink::{Sink, SinkFault};
 use arrayvec::ArrayVec;
-use dict_io::{Sink, SinkFault};
 
 /// The most octets that are gathered before they are put.
 const ROOM: usize = 1024;

@@ -1,12 +1,12 @@
 // The parts of a reply line.
 ghost use Rattle.std.specs.List.{flat_map};
-ghost use Rattle.dict_io.specs.Streams.{Puts};
+ghost use Rattle.dict_proto.specs.Streams.{Puts};
 ghost use Rattle.dict_proto.specs.Gathering.{Gathers};
 ghost use Rattle.dict_proto.specs.Parts.{part_octets};
 
 use crate::gathered::Gathered;
 use crate::quoted::add_quoted;
-use dict_io::{Sink, SinkFault};
+use crate::sink::{Sink, SinkFault};
 use itoa::Buffer;
 
 /// A part of a reply line.

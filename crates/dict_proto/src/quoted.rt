@@ -1,12 +1,12 @@
 // Texts between quote signs.
 ghost use Rattle.std.specs.Prelude.{◌≡◌, ◌<◌, ◌∷◌, ◌++◌, length, MatchOption, IfSome};
 ghost use Rattle.std.specs.List.{flat_map, position};
-ghost use Rattle.dict_io.specs.Streams.{Puts};
+ghost use Rattle.dict_proto.specs.Streams.{Puts};
 ghost use Rattle.dict_proto.specs.Gathering.{Gathers};
 ghost use Rattle.dict_proto.specs.Text.{escaped, needs_backslash, quoted};
 
 use crate::gathered::Gathered;
-use dict_io::{Sink, SinkFault};
+use crate::sink::{Sink, SinkFault};
 
 const QUOTE: &[u8] = b"\"";
 

@@ -2,14 +2,14 @@
 ghost use Rattle.std.specs.Prelude.{◌≡◌, ℕ, List, ◌++◌, codes, decimal, map};
 ghost use Rattle.std.specs.List.{flat_map};
 ghost use Rattle.dict_proto.specs.declared.reply.Reply.{Reply};
-ghost use Rattle.dict_io.specs.Streams.{Puts};
+ghost use Rattle.dict_proto.specs.Streams.{Puts};
 ghost use Rattle.dict_proto.specs.Text.{block, crlf};
 ghost use Rattle.dict_proto.specs.ReplyLines.{AreShortLines, IsWithinLimits};
 ghost use Rattle.dict_proto.specs.Replies.{reply_octets, banner_octets, definition_octets, definition_line, list_row, list_line_octets, list_end_octets, help_octets, server_information_octets};
 
 use crate::part::{Part, put_parts};
+use crate::sink::{Sink, SinkFault};
 use crate::text::{put_text, stuffing};
-use dict_io::{Sink, SinkFault};
 
 /// A reply, or a part of one (RFC 2229, sections 3.1 to 3.9). A long answer is put part by part:
 ///

@@ -2,12 +2,12 @@
 ghost use Rattle.std.specs.Prelude.{◌≡◌, ◌∷◌, [], slice_index, ◌==◌, if◌then◌else◌};
 ghost use Rattle.std.specs.List.{flat_map};
 ghost use Rattle.dict_text.specs.Lines.{text_lines};
-ghost use Rattle.dict_io.specs.Streams.{Puts};
+ghost use Rattle.dict_proto.specs.Streams.{Puts};
 ghost use Rattle.dict_proto.specs.Gathering.{Gathers};
 ghost use Rattle.dict_proto.specs.Text.{block, sent_line};
 
 use crate::gathered::Gathered;
-use dict_io::{Sink, SinkFault};
+use crate::sink::{Sink, SinkFault};
 use dict_text::text_lines;
 
 const PERIOD: &[u8] = b".";

@@ -1,7 +1,7 @@
 -- What the columns of a line say, or that it says nothing.
 use Rattle.std.proofs.Common.{◌≡◌, ◌≢◌, ℕ, List, inl, inr, sym, subst, Bor}
 use Rattle.std.specs.Prelude.{Option, Some, None, MatchOption, count_by, ◌==◌}
-use Rattle.dict_b64.specs.Number.{Spells}
+use Rattle.dict_text.specs.Number.{Spells}
 use Rattle.dict_index.specs.Cuts.{AreColumns}
 use Rattle.dict_index.specs.Line.{Line, IsLine}
 use Rattle.dict_index.specs.Views.{octets_of}

@@ -1,6 +1,6 @@
 -- What the columns of a line say.
 use Rattle.std.specs.Prelude.{ℕ, List, unwrap_or}
-use Rattle.dict_b64.specs.Number.{Spells}
+use Rattle.dict_text.specs.Number.{Spells}
 use Rattle.dict_index.specs.Cuts.{AreColumns}
 use Rattle.dict_index.specs.Line.{Line}
 use Rattle.dict_index.specs.Views.{octets_of}

@@ -1,11 +1,11 @@
 // What the columns of a line of an index say.
 ghost use Rattle.std.specs.Prelude.{◌≡◌, ◌<◌, ◌^◌, ℕ, MatchOption};
-ghost use Rattle.dict_b64.specs.Number.{Spells};
+ghost use Rattle.dict_text.specs.Number.{Spells};
 ghost use Rattle.dict_index.specs.Line.{Line, IsLine};
 ghost use Rattle.dict_reading.specs.Columns.{AreSaidBy};
 
-use dict_b64::read_number;
 use dict_index::{Columns, columns_of};
+use dict_text::read_number;
 
 /// What a line says: its headword, the interval that two of its columns spell, and the fourth column where it has one.
 #[derive(Clone, Copy)]

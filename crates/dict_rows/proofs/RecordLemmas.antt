@@ -2,7 +2,7 @@
 use Rattle.std.proofs.Common.{◌≡◌, ℕ, ◌+◌, ◌≤◌, true, List, [], ◌∷◌, length, take, drop, get_or, refl, sym, subst, ◌∙◌, arith, Option}
 use Rattle.std.specs.Prelude.{pos, option_map, is_some, String}
 use Rattle.std.specs.declared.alloc.Global.{Global}
-use Rattle.dict_name.specs.Names.{is_name, is_request_id}
+use Rattle.dict_text.specs.Names.{is_name, is_request_id}
 use Rattle.dict_records.specs.Records as spec
 use Rattle.dict_records.specs.Typed.{owned_mark}
 use Rattle.dict_records.specs.declared.records.Mark.{Mark}

@@ -5,7 +5,7 @@ use Rattle.std.specs.List.{AllByRecursion}
 use Rattle.std.proofs.lemmas.Bool.{false≢true}
 use Rattle.std.proofs.lemmas.Bool.Decides.{nat_tests}
 use Rattle.std.proofs.lemmas.List.Elements.{filter-append}
-use Rattle.dict_name.specs.Names.{is_title}
+use Rattle.dict_text.specs.Names.{is_title}
 use Rattle.dict_index.specs.Edition.{Edition}
 use Rattle.dict_catalogue.specs.Items.{Stored, Item, regular, virtual, numbers_of}
 use Rattle.dict_index.specs.WellFormed.{IsWellFormedEdition}

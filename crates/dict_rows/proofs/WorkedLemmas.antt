@@ -6,7 +6,7 @@ use Rattle.std.specs.Str.{is_utf8, chars}
 use lib.Utf8.{encode}
 use Rattle.std.proofs.lemmas.Bool.{and_parts, or_cases, leb-true}
 use Rattle.std.proofs.lemmas.Str.{IsUtf8-from_is_utf8}
-use Rattle.dict_name.specs.Names.{is_name, is_title, is_request_id}
+use Rattle.dict_text.specs.Names.{is_name, is_title, is_request_id}
 use Rattle.dict_text.specs.Characters.{is_control}
 use Rattle.dict_text.specs.Lines.{text_lines}
 use Rattle.dict_match.proofs.Computing.{keys}

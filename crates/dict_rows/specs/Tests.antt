@@ -2,7 +2,7 @@
 use Rattle.std.specs.Prelude.{ℕ, Bool, true, not, ◌&&◌, ◌==◌, nat_le, List, [], ◌∷◌, length}
 use Rattle.std.specs.List.{list_all, list_any}
 use Rattle.std.specs.Str.{is_utf8}
-use Rattle.dict_name.specs.Names.{is_name, is_title}
+use Rattle.dict_text.specs.Names.{is_name, is_title}
 use Rattle.dict_catalogue.specs.Items.{Item, regular, virtual, name_of, members_of, is_among, is_known, names_regular, edition_numbers}
 use Rattle.dict_catalogue.specs.Tests.{has_member_count}
 

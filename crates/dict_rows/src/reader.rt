@@ -19,8 +19,8 @@ use crate::replies::{is_install, reply_of};
 use crate::titles::{are_titled, place_of, title_at};
 use dict_catalogue::{Item, MAX_ACCEPTED, Summary, edition_numbers};
 use dict_index::{MAX_LINES, is_edition_text};
-use dict_name::is_title;
 use dict_records::{Edition, Entry, Item as ItemRow, Kept, Mark, Member, Stored};
+use dict_text::is_title;
 use std::alloc::Global;
 
 /// The most entries of an edition: one line of an index at least is that of its title.

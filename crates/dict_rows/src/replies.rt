@@ -9,8 +9,8 @@ ghost use Rattle.dict_rows.specs.Given.{IsReply, IsNoReply};
 use crate::fault::RowsFault;
 use crate::items::{is_number, number_if};
 use dict_catalogue::Verb;
-use dict_name::{is_name, is_request_id};
 use dict_records::Kept;
+use dict_text::{is_name, is_request_id};
 
 /// What a command did, by the word for it, where it is one.
 pub fn verb_in(word: &str) -> Option<Verb>

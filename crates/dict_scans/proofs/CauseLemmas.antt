@@ -15,7 +15,7 @@ use Rattle.dict_tables.specs.Tables.{table_of}
 use Rattle.dict_tables.specs.declared.tables.StoreTable.TheVariants.{Edition, Entry, Kept}
 use Rattle.dict_sql.specs.Columns.{Content}
 use Rattle.dict_sql.specs.Reads.{IsSelection, FailsToRead, FailsToList, numbered}
-use Rattle.dict_part_sql.specs.Chosen.{is_of_file}
+use Rattle.dict_edition_sql.specs.Chosen.{is_of_file}
 use Rattle.dict_sql.specs.Streams.{Scan, FailsToMove}
 use Rattle.dict_sql.specs.Streams as store
 use Rattle.dict_scans.specs.Cursors.{Cursor, HasGiven, IsWhole, IsFront}

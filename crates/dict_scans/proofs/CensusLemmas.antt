@@ -14,8 +14,8 @@ use Rattle.dict_sql.specs.Effects.{HasApartRowids, rows_of, same_value, equals_n
 use Rattle.dict_sql.specs.Encodings.{stored_number}
 use Rattle.dict_sql.specs.Reads.{IsSelection, by_columns, numbered}
 use Rattle.dict_sql.specs.Streams.Scan.{EditionNumbers}
-use Rattle.dict_part_sql.specs.Records.{part_columns, stored_part}
-use Rattle.dict_part_sql.specs.declared.records.StoredPart.{StoredPart}
+use Rattle.dict_edition_sql.specs.PartRecords.{part_columns, stored_part}
+use Rattle.dict_edition_sql.specs.declared.part_records.StoredPart.{StoredPart}
 use Rattle.dict_sql.proofs.ListingLemmas.{all_pass}
 use Rattle.dict_rows.specs.Apart.{HasTakenRowids}
 use Rattle.dict_rows.specs.Order.{is_of, InOrder}

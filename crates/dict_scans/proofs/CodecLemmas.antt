@@ -16,10 +16,10 @@ use Rattle.dict_records.specs.declared.records.Stored.{Stored}
 use Rattle.dict_sql.specs.Effects.{rows_of}
 use Rattle.dict_sql.specs.Encodings.{mark_row, item_row, member_row, edition_row, kept_row, stored_mark, stored_item, stored_member, stored_edition, stored_kept}
 use Rattle.dict_sql.specs.Reads.{by_columns}
-use Rattle.dict_header_sql.specs.Records.{header_row, stored_header}
-use Rattle.dict_header_sql.specs.declared.records.StoredHeader.{StoredHeader}
-use Rattle.dict_part_sql.specs.Records.{part_row, owned_part, stored_part}
-use Rattle.dict_part_sql.specs.declared.records.StoredPart.{StoredPart}
+use Rattle.dict_edition_sql.specs.HeaderRecords.{header_row, stored_header}
+use Rattle.dict_edition_sql.specs.declared.header_records.StoredHeader.{StoredHeader}
+use Rattle.dict_edition_sql.specs.PartRecords.{part_row, owned_part, stored_part}
+use Rattle.dict_edition_sql.specs.declared.part_records.StoredPart.{StoredPart}
 use Rattle.dict_holdings.specs.Holds.{Keeps}
 use Rattle.dict_holdings.proofs.ReadLemmas.{sorted_order}
 use Rattle.dict_holdings.proofs.OneLemmas.{decode_mark, decode_item, decode_member, decode_edition, decode_header, decode_part, decode_kept, mark_back, item_back, member_back, edition_back, header_back, part_back, kept_back}

@@ -11,15 +11,15 @@ use Rattle.dict_sql.specs.Reads.{FailsToRead}
 use Rattle.dict_sql.specs.Streams.{FailsToMove}
 use Rattle.dict_sql.specs.declared.records.ReadError.TheVariants.{NoRecord}
 use Rattle.dict_sql.proofs.StreamLemmas as store
-use Rattle.dict_keyed_sql.specs.Scans as scans
-use Rattle.dict_keyed_sql.specs.Scans.Scan.{Of, ByRowid, OldOf, OldByRowid}
-use Rattle.dict_keyed_sql.proofs.ScanLemmas as keyed
+use Rattle.dict_older_sql.specs.Scans as scans
+use Rattle.dict_older_sql.specs.Scans.Scan.{Of, ByRowid, OldOf, OldByRowid}
+use Rattle.dict_older_sql.proofs.ScanLemmas as keyed
 use Rattle.dict_tables.specs.declared.keyed.KeyedTable.TheVariants.{Entry}
-use Rattle.dict_header_sql.specs.Texts as header_texts
-use Rattle.dict_header_sql.proofs.ScanLemmas as headers
-use Rattle.dict_part_sql.specs.Scans as part_scans
-use Rattle.dict_part_sql.specs.Scans.Scan.{OfFile, ByRowid as PartByRowid}
-use Rattle.dict_part_sql.proofs.ScanLemmas as parts
+use Rattle.dict_edition_sql.specs.HeaderTexts as header_texts
+use Rattle.dict_edition_sql.proofs.HeaderScanLemmas as headers
+use Rattle.dict_edition_sql.specs.PartScans as part_scans
+use Rattle.dict_edition_sql.specs.PartScans.Scan.{OfFile, ByRowid as PartByRowid}
+use Rattle.dict_edition_sql.proofs.PartScanLemmas as parts
 use Rattle.dict_scans.specs.Cursors.{Cursor, IsFront, HasGiven, GivesOn, GivesNoRecord}
 use Rattle.dict_scans.specs.Cursors.Cursor.{InStore, ShownEntriesOf, ShownEntriesByRowid, OldEntriesOf, OldEntriesByRowid, PartsOf, PartsByRowid, HeadersByRowid}
 

@@ -16,19 +16,19 @@ use Rattle.dict_records.specs.Records.{Part}
 use Rattle.dict_sql.specs.Columns.{HasColumns}
 use Rattle.dict_sql.specs.Effects.{rows_of, equals_number}
 use Rattle.dict_sql.specs.Reads.{by_columns}
-use Rattle.dict_part_sql.specs.Chosen.{is_of_file}
-use Rattle.dict_part_sql.specs.Records.{part_columns, part_row, stored_part, owned_part}
-use Rattle.dict_part_sql.specs.declared.records.StoredPart.{StoredPart}
+use Rattle.dict_edition_sql.specs.Chosen.{is_of_file}
+use Rattle.dict_edition_sql.specs.PartRecords.{part_columns, part_row, stored_part, owned_part}
+use Rattle.dict_edition_sql.specs.declared.part_records.StoredPart.{StoredPart}
 use Rattle.dict_parts.specs.Parts.{parts_of, AreOfSize, AreParts}
 use Rattle.dict_parts.specs.Joining.{IsNext}
 use Rattle.dict_parts.proofs.PartLemmas.{parts_join, parts_regular}
 use Rattle.dict_rows.specs.Order.{InOrder}
 use Rattle.dict_rows.specs.Written.{numbered}
 use Rattle.dict_rows.proofs.OrderLemmas.{Below, all_passed, all_same, same_from, ordered_once, numbered_rise}
-use Rattle.dict_files.specs.Files.{part_at, file_parts}
+use Rattle.dict_holdings.specs.Files.{part_at, file_parts}
 use Rattle.dict_holdings.proofs.ReadLemmas.{one_le}
 use Rattle.dict_scans.specs.Cursors.Cursor.{PartsOf}
-use Rattle.dict_files.proofs.RiseLemmas.{order_weaker}
+use Rattle.dict_holdings.proofs.RiseLemmas.{order_weaker}
 use Rattle.dict_scans.specs.Cursors.{IsWhole}
 use Rattle.dict_scans.specs.Files.{file_rows, HasFile, HasNoFile, TakesParts, RefusesParts, AreNumbered, octets_in, number_in}
 use Rattle.dict_scans.specs.Scans.{TakesAll, IsWrong}

@@ -7,8 +7,8 @@ use Rattle.std.proofs.lemmas.List.Elements.{filter-append}
 use Rattle.dict_text.proofs.AllLemmas.{all_append}
 use Rattle.dict_records.specs.Records.{Entry}
 use Rattle.dict_index.specs.Line.{Line}
-use Rattle.dict_index_lines.specs.Stored.{IsStorable, stored_index, stored_line}
-use Rattle.dict_index_lines.proofs.IndexLemmas.{goes_on, one_more, no_more}
+use Rattle.dict_parts.specs.Stored.{IsStorable, stored_index, stored_line}
+use Rattle.dict_parts.proofs.IndexLemmas.{goes_on, one_more, no_more}
 use Rattle.dict_rows.specs.Tables.{Tables, same_number, entries_of}
 use Rattle.dict_rows.specs.Taken.{HasTaken, StandsForNone, with_entry, next_entry, IsOfLast}
 use Rattle.dict_rows.specs.Whole.{with_entries}

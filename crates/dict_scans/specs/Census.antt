@@ -4,8 +4,8 @@ use Rattle.std.specs.List.{AllByRecursion, list_any}
 use Rattle.sqlite.specs.Order.{Row}
 use Rattle.sqlite.specs.Effect.{Database}
 use Rattle.dict_sql.specs.Effects.{HasApartRowids, rows_of, equals_number}
-use Rattle.dict_part_sql.specs.Records.{stored_part}
-use Rattle.dict_part_sql.specs.declared.records.StoredPart.{StoredPart}
+use Rattle.dict_edition_sql.specs.PartRecords.{stored_part}
+use Rattle.dict_edition_sql.specs.declared.part_records.StoredPart.{StoredPart}
 use Rattle.dict_rows.specs.Versions.{Layout, Plain, Keyed, Shown, Parted}
 use Rattle.dict_holdings.specs.Readings.{Reading, contents}
 use Rattle.dict_scans.specs.Takers.{takes_rowids, refuses_rowids}

@@ -8,11 +8,11 @@ use Rattle.sqlite_trees.specs.declared.store.Store.{Ghosts}
 use Rattle.dict_tables.specs.declared.keyed.KeyedTable.TheVariants.{Entry}
 use Rattle.dict_sql.specs.Columns.{Content, HasColumns}
 use Rattle.dict_sql.specs.Streams as store
-use Rattle.dict_keyed_sql.specs.Scans as keyed
-use Rattle.dict_keyed_sql.specs.Scans.Scan.{Of, ByRowid, OldOf, OldByRowid}
-use Rattle.dict_header_sql.specs.Scans as headers
-use Rattle.dict_part_sql.specs.Scans as parts
-use Rattle.dict_part_sql.specs.Scans.Scan.{OfFile, ByRowid as PartByRowid}
+use Rattle.dict_older_sql.specs.Scans as keyed
+use Rattle.dict_older_sql.specs.Scans.Scan.{Of, ByRowid, OldOf, OldByRowid}
+use Rattle.dict_edition_sql.specs.HeaderScans as headers
+use Rattle.dict_edition_sql.specs.PartScans as parts
+use Rattle.dict_edition_sql.specs.PartScans.Scan.{OfFile, ByRowid as PartByRowid}
 
 -- the rows of a table of schema 1; or the entries of an edition as schema 4 has them, or as schemas 2 and 3 do, or all of them in
 -- the order of their rowids; or the parts of a file of an edition, or all parts, or all headers, in the order of their rowids

@@ -5,7 +5,7 @@ use Rattle.sqlite.specs.Order.{Row}
 use Rattle.sqlite.specs.Effect.{Database}
 use Rattle.dict_records.specs.Records.{Edition, Entry}
 use Rattle.dict_index.specs.Line.{Line}
-use Rattle.dict_index_lines.specs.Stored.{IsStorable, stored_index}
+use Rattle.dict_parts.specs.Stored.{IsStorable, stored_index}
 use Rattle.dict_sql.specs.Columns.{HasColumns}
 use Rattle.dict_sql.specs.Effects.{rows_of, equals_number}
 use Rattle.dict_sql.specs.Encodings.{entry_row}

@@ -3,13 +3,13 @@ use Rattle.std.specs.Prelude.{◌≡◌, ℕ, ℤ, pos, List, [], ◌∷◌, ◌
 use Rattle.sqlite.specs.Order.{Row}
 use Rattle.sqlite.specs.Effect.{Database}
 use Rattle.dict_sql.specs.Effects.{rows_of}
-use Rattle.dict_part_sql.specs.Chosen.{is_of_file}
-use Rattle.dict_part_sql.specs.Records.{part_row}
-use Rattle.dict_part_sql.specs.declared.records.StoredPart.{StoredPart}
+use Rattle.dict_edition_sql.specs.Chosen.{is_of_file}
+use Rattle.dict_edition_sql.specs.PartRecords.{part_row}
+use Rattle.dict_edition_sql.specs.declared.part_records.StoredPart.{StoredPart}
 use Rattle.dict_parts.specs.Parts.{parts_of}
 use Rattle.dict_rows.specs.Versions.{Parted}
 use Rattle.dict_rows.specs.Written.{numbered}
-use Rattle.dict_files.specs.Files.{file_parts}
+use Rattle.dict_holdings.specs.Files.{file_parts}
 use Rattle.dict_holdings.specs.Readings.{IsReadable, contents}
 
 -- the rows of this file of the edition, without their rowids

@@ -2,7 +2,7 @@
 use Rattle.dict_match.specs.Key.{key_of}
 use Rattle.dict_records.specs.Records.{Entry}
 use Rattle.dict_search.specs.Entries.{Indexed}
-use Rattle.dict_files.specs.Files.{natural}
+use Rattle.dict_holdings.specs.Files.{natural}
 
 abbrev pub indexed_of : Entry → Indexed
 indexed_of e = record { key = key_of e.headword; shown = e.shown; start = natural e.start; size = natural e.length }

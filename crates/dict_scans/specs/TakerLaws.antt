@@ -8,7 +8,7 @@ use Rattle.dict_rows.specs.declared.reader.Reader.{Reader}
 use Rattle.dict_rows.specs.declared.apart.IdReader.{IdReader}
 use Rattle.dict_rows.specs.declared.apart.RowidReader.{RowidReader}
 use Rattle.dict_parts.specs.Parts.{parts_of}
-use Rattle.dict_part_sql.specs.Records.{stored_part}
+use Rattle.dict_edition_sql.specs.PartRecords.{stored_part}
 use Rattle.dict_scans.specs.declared.census.Census.{Census}
 use Rattle.dict_scans.specs.declared.census.PartCensus.{PartCensus}
 use Rattle.dict_scans.specs.declared.filing.EditionReader.{EditionReader}

@@ -3,14 +3,14 @@ ghost use Rattle.std.specs.Prelude.{◌≡◌, ◌∷◌, [], IfErr, OnOk, strin
 ghost use Rattle.dict_records.specs.Keyed.{owned_keyed_entry, owned_old_entry, plain_entry};
 ghost use Rattle.dict_records.specs.Records.{shown_as};
 ghost use Rattle.dict_records.specs.Typed.{owned_entry};
-ghost use Rattle.dict_index_lines.specs.Views.{line_of};
+ghost use Rattle.dict_parts.specs.Views.{line_of};
 ghost use Rattle.dict_scans.specs.Entries.{AreNotTaken, AreNoLines};
 ghost use Rattle.dict_scans.specs.Filing.{without_keys, takes_plain, refuses_plain, takes_old, refuses_old, takes_shown, refuses_shown};
 ghost use Rattle.dict_scans.specs.TakerLaws.{no_plain, no_old, no_shown};
 
 use crate::indexing::EditionIndex;
 use crate::scan::Taker;
-use dict_index_lines::Columns;
+use dict_parts::Columns;
 use dict_records::{Entry, KeyedEntry, OldEntry, Stored};
 use dict_rows::{Reader, RowsFault};
 use std::alloc::Global;

@@ -2,14 +2,14 @@
 ghost use Rattle.std.specs.Prelude.{◌≡◌, ◌++◌, ℕ, pos, List, map, IfErr, OnOk};
 ghost use Rattle.std.specs.List.{AllByRecursion};
 ghost use Rattle.dict_index.specs.Line.{Line};
-ghost use Rattle.dict_index_lines.specs.Stored.{IsStorable, stored_index};
+ghost use Rattle.dict_parts.specs.Stored.{IsStorable, stored_index};
 ghost use Rattle.dict_records.specs.Records.{Entry as AnEntry};
 ghost use Rattle.dict_scans.specs.Entries.{AreNextTaken, IsIndexOf, IsWrongIndex};
 ghost use Rattle.dict_scans.specs.Filing.{AreLinesAdded};
 ghost use Rattle.dict_scans.specs.Indexing.{indexed_of};
 
 use crate::filing::EditionReader;
-use dict_index_lines::read_line;
+use dict_parts::read_line;
 use dict_rows::{RowsFault, number_in};
 use std::alloc::Global;
 

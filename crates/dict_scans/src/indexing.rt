@@ -3,13 +3,13 @@ ghost use Rattle.std.specs.Prelude.{◌≡◌, ◌++◌, ◌∷◌, [], IfOk, If
 ghost use Rattle.dict_match.specs.Key.{key_of};
 ghost use Rattle.dict_records.specs.Records.{shown_as};
 ghost use Rattle.dict_records.specs.Typed.{owned_entry};
-ghost use Rattle.dict_index_lines.specs.Views.{line_of};
+ghost use Rattle.dict_parts.specs.Views.{line_of};
 ghost use Rattle.dict_search.specs.Entries.{entry_of};
-ghost use Rattle.dict_files.specs.Files.{natural};
+ghost use Rattle.dict_holdings.specs.Files.{natural};
 ghost use Rattle.dict_scans.specs.Indexing.{indexed_of};
 
 use dict_index::MAX_LINES;
-use dict_index_lines::Columns;
+use dict_parts::Columns;
 use dict_records::Entry;
 use dict_rows::RowsFault;
 use dict_search::{Index, IndexBuilder};

@@ -7,9 +7,9 @@ use Rattle.std.proofs.lemmas.Bool.{cases_lt}
 use Rattle.std.proofs.lemmas.List.{get_or_past}
 use Rattle.std.proofs.lemmas.List.Elements.{All-push, All-get_or}
 use Rattle.dict_search.specs.Entries.{Indexed, no_entry, entry_at, keys_of}
-use Rattle.dict_runs.specs.Spans.{no_span}
+use Rattle.dict_derived.specs.Spans.{no_span}
 use Rattle.dict_search.specs.Stored.{indexed, stored, AreStored}
-use Rattle.dict_runs.specs.declared.spans.Span.{Span}
+use Rattle.dict_derived.specs.declared.spans.Span.{Span}
 
 pub none_stored : AreStored [] [] []
 none_stored = record { keys_size = refl; texts_size = refl; keys_text = λ k d lt. absurd (omega (arith, lt)); texts_text = λ k d lt. absurd (omega (arith, lt)) }

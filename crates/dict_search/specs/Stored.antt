@@ -2,7 +2,7 @@
 use Rattle.std.specs.Prelude.{◌≡◌, ℕ, All, List, [], ◌∷◌, length}
 use Rattle.std.specs.Str.{IsUtf8}
 use Rattle.dict_search.specs.Entries.{Indexed}
-use Rattle.dict_runs.specs.declared.spans.Span.{Span}
+use Rattle.dict_derived.specs.declared.spans.Span.{Span}
 
 abbrev pub indexed : List ℕ → List ℕ → Span → Indexed
 indexed key shown span = record { key = key; shown = shown; start = span.start; size = span.size }

@@ -5,8 +5,8 @@ ghost use Rattle.dict_match.specs.Key.{key_of};
 use crate::entries::Entries;
 use crate::index::Index;
 use crate::making::IndexMaking;
+use dict_derived::Span;
 use dict_match::{key_laws, key_of};
-use dict_runs::Span;
 use std::alloc::{AllocError, Global};
 use std::marker::Model;
 

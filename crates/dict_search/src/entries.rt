@@ -3,7 +3,7 @@ ghost use Rattle.std.specs.Prelude.{◌≡◌, [], ◌∷◌, ◌++◌, All, len
 ghost use Rattle.std.specs.Str.{IsUtf8};
 ghost use Rattle.dict_search.specs.Entries.{Indexed, entry_at, keys_of};
 
-use dict_runs::{Span, Spans, Texts};
+use dict_derived::{Span, Spans, Texts};
 use std::alloc::{AllocError, Global};
 use std::marker::Model;
 use std::str;

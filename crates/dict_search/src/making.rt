@@ -15,12 +15,12 @@ ghost use Rattle.dict_places.specs.Wording.{AreWorded};
 use crate::entries::Entries;
 use crate::index::{Index, Lists, Orders, index_with, reversed_places};
 use crate::same::are_entries;
+use dict_derived::Texts;
 use dict_index::Entry;
 use dict_places::{
     Listing, Pieces, Places, Wording, are_made, grams_of, heads_of, is_listed, is_worded,
     list_more, place_more, sorted_places, turn_more, word_more, words_of,
 };
-use dict_runs::Texts;
 use std::alloc::{AllocError, Global};
 use std::marker::Model;
 use std::mem::{self, drop};

@@ -1,7 +1,7 @@
 //! Indexes under numbers.
 
 use crate::checks::same_text;
-use dict_indexes::Indexes;
+use dict_lookup::Indexes;
 use dict_search::{Index, IndexBuilder};
 use std::alloc::{AllocError, Global};
 use std::process::Abort;

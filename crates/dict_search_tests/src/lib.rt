@@ -8,4 +8,6 @@ mod filter;
 #[cfg(test)]
 mod indexes;
 #[cfg(test)]
+mod kept_parts;
+#[cfg(test)]
 mod made;

@@ -2,7 +2,7 @@
 use Rattle.std.proofs.Common.{◌≡◌, ◌⊎◌, inl, inr, refl}
 use Rattle.std.specs.Prelude.{Err}
 use Rattle.std.specs.declared.net.socket_addr.SocketAddr.{SocketAddr}
-use Rattle.dict_io.specs.Streams.{StreamChange, PutsFront}
+use Rattle.dict_proto.specs.Streams.{StreamChange, PutsFront}
 use Rattle.dict_messages.specs.Writing.{IsUntouched, Writes}
 use Rattle.dict_messages.specs.declared.fault.ProgramFault.{ProgramFault}
 use Rattle.dict_messages.specs.declared.fault.ProgramFault.TheVariants as faults

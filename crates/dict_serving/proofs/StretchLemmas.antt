@@ -3,7 +3,7 @@ use Rattle.std.proofs.Common.{◌≡◌, ◌⊎◌, ℕ, List, [], ◌∷◌, �
 use Rattle.dict_desk.specs.declared.fault.Fault.{Fault}
 use Rattle.std.specs.Prelude.{Option, Some, Bool, true, Result}
 use Rattle.dict_catalogue.specs.Steps.{Catalogue}
-use Rattle.dict_preparing.specs.Expected.{Expected}
+use Rattle.dict_desk.specs.Expected.{Expected}
 use Rattle.dict_driver.specs.declared.driver.Driver.{Driver}
 use Rattle.dict_messages.specs.declared.fault.ProgramFault.{ProgramFault}
 use Rattle.dict_serving.specs.Serving.{AreLeft, AreServed, CannotWait, Follows, HasGivenOut, HasShut, IsFirst, IsNew, IsOver, Stretch, WasOpened}

@@ -2,8 +2,8 @@
 use Rattle.std.specs.Prelude.{◌≡◌, ◌⊎◌, ◌++◌, ℕ, Bool, List, [], ◌∷◌, Option, Some, None, MatchOption, Result, Ok, Err, ⊤}
 use Rattle.dict_desk.specs.declared.fault.Fault.{Fault}
 use Rattle.dict_catalogue.specs.Steps.{Catalogue}
-use Rattle.dict_preparing.specs.Expected.{Expected}
-use Rattle.dict_io.specs.Streams.{StreamChange}
+use Rattle.dict_desk.specs.Expected.{Expected}
+use Rattle.dict_proto.specs.Streams.{StreamChange}
 use Rattle.dict_driver.specs.declared.driver.Driver.{Driver}
 use Rattle.dict_messages.specs.Writing.{IsUntouched}
 use Rattle.dict_messages.specs.declared.fault.ProgramFault.{ProgramFault}

@@ -6,7 +6,7 @@ use Rattle.std.specs.declared.io.ErrorKind.{ErrorKind}
 use Rattle.std.specs.declared.io.ErrorKind.TheVariants.{OutOfMemory}
 use Rattle.std.specs.declared.net.socket_addr.SocketAddr.{SocketAddr}
 use Rattle.std.specs.Net.Text.{socket_text}
-use Rattle.dict_io.specs.Streams.{StreamChange, PutsAll, PutsFront}
+use Rattle.dict_proto.specs.Streams.{StreamChange, PutsAll, PutsFront}
 use Rattle.dict_driver.specs.Binding.{BindsBoth, IsBound}
 use Rattle.dict_driver.specs.Bound.{sockets_of}
 use Rattle.dict_driver.specs.declared.binding.Network as network

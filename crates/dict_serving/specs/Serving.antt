@@ -4,8 +4,8 @@ use Rattle.dict_desk.specs.declared.fault.Fault.{Fault}
 use Rattle.std.specs.declared.io.Error.{Error}
 use Rattle.std.specs.declared.io.ErrorKind.{ErrorKind}
 use Rattle.dict_catalogue.specs.Steps.{Catalogue}
-use Rattle.dict_preparing.specs.Expected.{Expected}
-use Rattle.dict_io.specs.Streams.{StreamChange, PutsAll}
+use Rattle.dict_desk.specs.Expected.{Expected}
+use Rattle.dict_proto.specs.Streams.{StreamChange, PutsAll}
 use Rattle.dict_hub.specs.Runs.{IsAt, beginning}
 use Rattle.dict_connection.specs.Leading.{HasLedOn}
 use Rattle.dict_driver.specs.Rounds.{Moves}

@@ -1,14 +1,14 @@
 // Two addresses that are bound, and told.
 ghost use Rattle.std.specs.Prelude.{◌≡◌, IfOk, None, codes};
-ghost use Rattle.dict_io.specs.Streams.{change};
+ghost use Rattle.dict_proto.specs.Streams.{change};
 ghost use Rattle.dict_driver.specs.Binding.{AreTold};
 ghost use Rattle.dict_hub.specs.Runs.{IsAt, beginning};
 ghost use Rattle.dict_messages.specs.Writing.{Writes};
 ghost use Rattle.dict_serving.specs.Listening.{Begins, TellsOf, TellsWaiting, lines_of};
 
 use dict_driver::{BindFault, Driver, Network, SystemSockets};
-use dict_io::Sink;
 use dict_messages::ProgramFault;
+use dict_proto::Sink;
 use mio::net::TcpListener;
 use std::alloc::Global;
 use std::io::{Error, ErrorKind};

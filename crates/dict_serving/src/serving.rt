@@ -2,7 +2,7 @@
 ghost use Rattle.std.specs.Prelude.{◌≡◌, ◌<◌, ◌-◌, true, IfOk, MatchResult, Option, Some, None, Result, List, [], ◌∷◌};
 ghost use Rattle.std.specs.declared.io.Error.{Error};
 ghost use Rattle.dict_driver.specs.declared.serving.Served.{Served};
-ghost use Rattle.dict_io.specs.Streams.{change};
+ghost use Rattle.dict_proto.specs.Streams.{change};
 ghost use Rattle.dict_serving.specs.Counting.{AreMade, AreMadeTo};
 ghost use Rattle.dict_serving.specs.Serving.{AreLeft, AreServed, Ends, Follows, IsFirst, IsNew, IsNotReopened, IsOpen, IsOver, Stretch, WasOpened};
 ghost use Rattle.dict_serving.specs.Deeds.{WasShut, got};
@@ -11,10 +11,10 @@ ghost use Rattle.dict_serving.specs.Done.{HasDone, HasReopened, HasTurned, Serve
 
 use crate::desks::DeskOpener;
 use crate::listening::{ServerOptions, listen, waiting_fault};
+use dict_desk::Preparer;
 use dict_driver::{Driver, Network, Served, SystemSockets, pace, serve};
-use dict_io::Sink;
 use dict_messages::ProgramFault;
-use dict_preparing::Preparer;
+use dict_proto::Sink;
 use mio::net::TcpListener;
 use std::alloc::Global;
 use std::net::Net;

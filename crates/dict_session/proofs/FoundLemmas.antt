@@ -11,7 +11,7 @@ use Rattle.std.proofs.lemmas.List.Elements.{filter-append}
 use Rattle.std.proofs.lemmas.Option.{slice_get-map}
 use Rattle.dict_match.specs.declared.strategy.Strategy.{Strategy}
 use Rattle.dict_match.specs.declared.strategy.Strategy.TheVariants.{Exact}
-use Rattle.dict_name.specs.Names.{is_name, is_title, has_size}
+use Rattle.dict_text.specs.Names.{is_name, is_title, has_size}
 use Rattle.dict_index.specs.Limits.{most_entries}
 use Rattle.dict_index.specs.Edition.{Edition, Entry}
 use Rattle.dict_index.specs.WellFormed.{IsWellFormedEdition}

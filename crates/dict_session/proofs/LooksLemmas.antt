@@ -1,7 +1,7 @@
 -- Whether something is looked up for an answer.
 use Rattle.std.proofs.Common.{◌≡◌, ℕ, List, Bool, true, false, sym, ◌∙◌}
 use Rattle.std.specs.Prelude.{Result, Ok, Err}
-use Rattle.dict_io.specs.Streams.{Stream}
+use Rattle.dict_proto.specs.Streams.{Stream}
 use Rattle.dict_session.specs.Answers.{Need}
 use Rattle.dict_session.specs.Ending.{PutsAnswer}
 use Rattle.dict_session.specs.Through.{LooksWhere}

@@ -2,8 +2,8 @@
 use Rattle.std.proofs.Common.{ℕ, ◌<◌, List, ◌++◌, Bool, true, arith, length, take, drop, refl, sym, ap, ◌∙◌, inl, append_assoc, length-append, take-append-drop}
 use Rattle.std.specs.Prelude.{Option, Err}
 use Rattle.std.proofs.lemmas.List.{take-append-le, take_all}
-use Rattle.dict_io.specs.Streams.{Stream, PutsAll}
-use Rattle.dict_io.proofs.PutLemmas.{all_after, appends_longer, appends_after, front_after, front_longer}
+use Rattle.dict_proto.specs.Streams.{Stream, PutsAll}
+use Rattle.dict_proto.proofs.PutLemmas.{all_after, appends_longer, appends_after, front_after, front_longer}
 use Rattle.dict_catalogue.specs.Steps.{Catalogue}
 use Rattle.dict_desk.specs.declared.lookup.What.{What}
 use Rattle.dict_session.specs.Answers.{count_octets, counted_rows}

@@ -1,8 +1,8 @@
 -- What a run has written, from the greeting on.
 use Rattle.std.proofs.Common.{◌≡◌, ℕ, ◌≤◌, List, ◌++◌, length, refl, true, false}
-use Rattle.dict_io.specs.Streams.{Stream, PutsAll}
-use Rattle.dict_io.proofs.PutLemmas.{all_after}
-use Rattle.dict_line.specs.Meaning.{Meaning}
+use Rattle.dict_proto.specs.Streams.{Stream, PutsAll}
+use Rattle.dict_proto.proofs.PutLemmas.{all_after}
+use Rattle.dict_proto.specs.Meaning.{Meaning}
 use Rattle.dict_session.specs.Lines.{cut}
 use Rattle.dict_session.specs.Desks.{Condition}
 use Rattle.dict_session.specs.Ending.{Wrote}

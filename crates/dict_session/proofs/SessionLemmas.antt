@@ -1,8 +1,8 @@
 -- What calls of a session leave, one after the other.
 use Rattle.std.proofs.Common.{◌≡◌, ℕ, List, [], ◌∷◌, ◌++◌, refl, true, false, inl, inr}
-use Rattle.dict_io.specs.Streams.{Stream}
-use Rattle.dict_line.specs.Meaning.{Meaning, meaning}
-use Rattle.dict_io.proofs.PutLemmas.{puts_none, all_after, front_longer, front_after}
+use Rattle.dict_proto.specs.Streams.{Stream}
+use Rattle.dict_proto.specs.Meaning.{Meaning, meaning}
+use Rattle.dict_proto.proofs.PutLemmas.{puts_none, all_after, front_longer, front_after}
 use Rattle.dict_session.specs.Lines.{cut, HasNoLineEnd}
 use Rattle.dict_session.specs.Answers.{is_quit}
 use Rattle.dict_session.specs.Desks.{Condition}

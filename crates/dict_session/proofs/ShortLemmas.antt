@@ -8,7 +8,7 @@ use Rattle.std.proofs.lemmas.List.Concat.{flat_map-append}
 use Rattle.dict_text.specs.Characters.{is_control, has_control}
 use Rattle.dict_text.specs.Lines.{text_lines, onto_first_line}
 use Rattle.dict_text.proofs.AllLemmas.{all_append, all_filter, all_map, all_of}
-use Rattle.dict_name.specs.Names.{has_size, is_name_octet, is_name, is_title}
+use Rattle.dict_text.specs.Names.{has_size, is_name_octet, is_name, is_title}
 use Rattle.dict_index.specs.Edition.{Edition, Entry}
 use Rattle.dict_index.specs.Tests.{IsTextOctet}
 use Rattle.dict_index.specs.WellFormed.{IsEditionText, IsWellFormedEntry, IsWellFormedEdition}
@@ -16,7 +16,7 @@ use Rattle.dict_match.specs.Key.{key_of}
 use Rattle.dict_match.specs.StrategyText.{name_of, title_of, strategies}
 use Rattle.dict_match.specs.declared.strategy.Strategy.{Strategy}
 use Rattle.dict_match.specs.declared.strategy.Strategy.TheVariants.{Exact, Prefix, Suffix, Substring, Word, First, Last}
-use Rattle.dict_line.specs.Meaning.{Meaning, meaning, define, matching, show_databases, show_strategies, show_server, show_info, client, status, help, quit, not_recognized, illegal_parameters, not_implemented}
+use Rattle.dict_proto.specs.Meaning.{Meaning, meaning, define, matching, show_databases, show_strategies, show_server, show_info, client, status, help, quit, not_recognized, illegal_parameters, not_implemented}
 use Rattle.dict_proto.specs.Text.{crlf}
 use Rattle.dict_proto.specs.ReplyLines.{AreShortLines, HasNoReturn, IsShort}
 use Rattle.dict_proto.specs.Replies.{banner_octets, database_count_octets, strategy_count_octets, list_line_octets, list_end_octets, info_heading_octets, help_octets, server_information_octets, done_octets, unavailable_octets, no_match_octets, no_databases_octets}

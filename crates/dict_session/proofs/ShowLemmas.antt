@@ -7,8 +7,8 @@ use Rattle.std.proofs.lemmas.Bool.Decides.{nat_tests}
 use Rattle.std.proofs.lemmas.List.{length-map, get_or-map, take_more}
 use Rattle.dict_session.proofs.PlaceLemmas.{read_at}
 use Rattle.std.proofs.lemmas.List.Concat.{flat_map-append}
-use Rattle.dict_io.specs.Streams.{Stream, PutsAll, PutsFront}
-use Rattle.dict_io.proofs.PutLemmas.{all_after, front_after, front_longer}
+use Rattle.dict_proto.specs.Streams.{Stream, PutsAll, PutsFront}
+use Rattle.dict_proto.proofs.PutLemmas.{all_after, front_after, front_longer}
 use Rattle.dict_index.specs.Edition.{Edition}
 use Rattle.dict_catalogue.specs.Items.{Item, Stored, regular, virtual, is_named, item_as, editions_of}
 use Rattle.dict_catalogue.specs.Steps.{Catalogue, summary_of}

@@ -2,9 +2,9 @@
 use Rattle.std.proofs.Common.{◌≡◌, ℕ, List, [], ◌∷◌, ◌++◌, Bool, true, false, refl, sym, ap, ◌∙◌, subst, append_assoc, append-nil, inl, inr, ◌⊎◌, cond}
 use Rattle.std.specs.Prelude.{All, MatchBool, ◌||◌}
 use Rattle.std.proofs.lemmas.List.Elements.{All-cons, All-head, All-nil, All-tail}
-use Rattle.dict_io.specs.Streams.{Stream}
-use Rattle.dict_io.proofs.PutLemmas.{puts_none, all_after, front_longer, front_after}
-use Rattle.dict_line.specs.Meaning.{Meaning, meaning}
+use Rattle.dict_proto.specs.Streams.{Stream}
+use Rattle.dict_proto.proofs.PutLemmas.{puts_none, all_after, front_longer, front_after}
+use Rattle.dict_proto.specs.Meaning.{Meaning, meaning}
 use Rattle.dict_proto.specs.Replies.{unavailable_octets}
 use Rattle.dict_session.specs.Lines.{cut, HasNoLineEnd}
 use Rattle.dict_session.specs.Answers.{is_quit, need_of, MayBreak, may_be_unavailable}

@@ -4,9 +4,9 @@ use Rattle.std.specs.Prelude.{Bool, false, IsTrue, Option, Result, Ok, Err}
 use Rattle.std.specs.Io.KnownBytes.{Appends}
 use Rattle.std.proofs.KnownBytes.{Appends-nil}
 use Rattle.std.proofs.lemmas.List.{take_all}
-use Rattle.dict_io.specs.Streams.{Stream, StreamChange, AppendsFront}
-use Rattle.dict_io.proofs.PutLemmas.{appends_after, appends_longer}
-use Rattle.dict_line.specs.Meaning.{Meaning}
+use Rattle.dict_proto.specs.Streams.{Stream, StreamChange, AppendsFront}
+use Rattle.dict_proto.proofs.PutLemmas.{appends_after, appends_longer}
+use Rattle.dict_proto.specs.Meaning.{Meaning}
 use Rattle.dict_catalogue.specs.Steps.{Catalogue}
 use Rattle.dict_catalogue.specs.WellFormed.{IsWellFormed}
 use Rattle.dict_proto.specs.Replies.{banner_octets}

@@ -1,7 +1,7 @@
 -- How a call of a session ends, and what it leaves of a sink.
 use Rattle.std.specs.Prelude.{◌≡◌, ℕ, ◌⊎◌, List, Bool, true, false, Result, Ok, Err}
-use Rattle.dict_io.specs.Streams.{Stream, AppendsFront, PutsAll, PutsFront}
-use Rattle.dict_line.specs.Meaning.{Meaning}
+use Rattle.dict_proto.specs.Streams.{Stream, AppendsFront, PutsAll, PutsFront}
+use Rattle.dict_proto.specs.Meaning.{Meaning}
 use Rattle.dict_proto.specs.Replies.{unavailable_octets}
 use Rattle.dict_session.specs.Answers.{Need, need_of, MayBreak, ends_session, may_be_unavailable}
 use Rattle.dict_session.specs.Spoken.{Speaks, IsBeginning, BreaksOff}

@@ -1,9 +1,9 @@
 -- The names of hosts, under which each line of a session is short.
-use Rattle.dict_io.specs.Streams.{Stream, AppendsFront}
+use Rattle.dict_proto.specs.Streams.{Stream, AppendsFront}
 use Rattle.dict_proto.specs.ReplyLines.{AreShortLines}
 use Rattle.std.specs.Prelude.{ℕ, Bool, ◌||◌, ◌&&◌, ◌==◌, List}
 use Rattle.std.specs.List.{list_all}
-use Rattle.dict_name.specs.Names.{has_size, is_capital_letter, is_small_letter, is_digit}
+use Rattle.dict_text.specs.Names.{has_size, is_capital_letter, is_small_letter, is_digit}
 
 -- A-Z a-z 0-9 . -
 abbrev pub is_host_octet : ℕ → Bool

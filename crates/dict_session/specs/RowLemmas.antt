@@ -3,8 +3,8 @@ use Rattle.std.proofs.Common.{◌≡◌, ℕ, List, [], ◌++◌, ◌∷◌, Boo
 use Rattle.std.specs.Prelude.{◌||◌}
 use Rattle.std.specs.List.{flat_map}
 use Rattle.std.proofs.lemmas.List.Concat.{flat_map-append}
-use Rattle.dict_io.specs.Streams.{Stream, PutsAll, PutsFront}
-use Rattle.dict_io.proofs.PutLemmas.{all_after, front_after, front_longer}
+use Rattle.dict_proto.specs.Streams.{Stream, PutsAll, PutsFront}
+use Rattle.dict_proto.proofs.PutLemmas.{all_after, front_after, front_longer}
 use Rattle.dict_desk.specs.Shown.{Row}
 use Rattle.dict_desk.specs.declared.lookup.What.{What}
 use Rattle.dict_session.specs.Rows.{has_some, row_octets}

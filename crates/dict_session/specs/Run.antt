@@ -1,8 +1,8 @@
 -- What a run leaves of its reader and its writer.
 use Rattle.std.specs.Prelude.{◌≡◌, ℕ, ◌-◌, ◌^◌, ◌≤◌, ◌⊎◌, List, [], ◌++◌, length, Bool, false, Result, Ok, Err}
 use Rattle.std.specs.Io.KnownBytes.{Consumes, IsAtEnd}
-use Rattle.dict_io.specs.Streams.{Stream, StreamChange, HasFailed, PutsAll, PutsFront, GivesAll}
-use Rattle.dict_line.specs.Meaning.{Meaning}
+use Rattle.dict_proto.specs.Streams.{Stream, StreamChange, HasFailed, PutsAll, PutsFront, GivesAll}
+use Rattle.dict_proto.specs.Meaning.{Meaning}
 use Rattle.dict_proto.specs.Replies.{banner_octets}
 use Rattle.dict_session.specs.Lines.{cut}
 use Rattle.dict_catalogue.specs.Steps.{Catalogue}

@@ -1,7 +1,7 @@
 -- What a session keeps between two pieces, and what a call leaves.
 use Rattle.std.specs.Prelude.{◌≡◌, ℕ, ◌<◌, List, [], length, MatchBool, ◌-◌, slice_index, ◌==◌, vec_capacity}
-use Rattle.dict_io.specs.Streams.{Stream}
-use Rattle.dict_line.specs.Meaning.{Meaning, meaning}
+use Rattle.dict_proto.specs.Streams.{Stream}
+use Rattle.dict_proto.specs.Meaning.{Meaning, meaning}
 use Rattle.dict_session.specs.Lines.{HasNoLineEnd, cut}
 use Rattle.dict_session.specs.Desks.{Condition}
 use Rattle.dict_session.specs.Ending.{Finishes, Wrote, step_at}

@@ -1,7 +1,7 @@
 -- What a session writes, by what it answers to what a line asks. RFC 2229, section 3.1 (the greeting) and 3.9 (QUIT).
 use Rattle.std.specs.Prelude.{◌≡◌, ◌≢◌, ℕ, ◌⊎◌, List, [], ◌∷◌, ◌++◌, Bool, true, false, MatchBool, if◌then◌else◌}
 use Rattle.std.specs.List.{list_any}
-use Rattle.dict_line.specs.Meaning.{Meaning, meaning}
+use Rattle.dict_proto.specs.Meaning.{Meaning, meaning}
 use Rattle.dict_proto.specs.Replies.{unavailable_octets}
 use Rattle.dict_session.specs.Lines.{cut}
 use Rattle.dict_session.specs.Answers.{is_quit, need_of, MayBreak, may_be_unavailable}

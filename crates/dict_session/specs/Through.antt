@@ -1,12 +1,12 @@
 -- What a session writes, by how its desk stood before each line.
 use Rattle.std.specs.Prelude.{◌≡◌, ℕ, ◌⊎◌, ◌&&◌, List, [], ◌∷◌, ◌++◌, Bool, true, false, MatchBool, Option, None, Some, Result, Ok, Err, find, is_some}
 use Rattle.std.specs.Io.KnownBytes.{Consumes}
-use Rattle.dict_io.specs.Streams.{Stream, StreamChange, PutsAll, PutsFront}
+use Rattle.dict_proto.specs.Streams.{Stream, StreamChange, PutsAll, PutsFront}
 use Rattle.dict_index.specs.Edition.{Edition}
 use Rattle.dict_catalogue.specs.Items.{Item, regular, virtual, is_named}
 use Rattle.dict_catalogue.specs.Steps.{Catalogue}
 use Rattle.dict_desk.specs.Asked.{strategy_of}
-use Rattle.dict_line.specs.Meaning.{Meaning, meaning, define, matching, show_databases, show_strategies, show_server, show_info, client, status, help, quit, not_recognized, illegal_parameters, not_implemented}
+use Rattle.dict_proto.specs.Meaning.{Meaning, meaning, define, matching, show_databases, show_strategies, show_server, show_info, client, status, help, quit, not_recognized, illegal_parameters, not_implemented}
 use Rattle.dict_proto.specs.Replies.{banner_octets, unavailable_octets}
 use Rattle.dict_session.specs.Answers.{answer_to, is_quit, names_databases, need_of, MayBreak, may_be_unavailable}
 use Rattle.dict_session.specs.Desks.{Condition}

@@ -1,8 +1,8 @@
 // The answer to one line.
 ghost use Rattle.std.specs.Prelude.{◌≡◌, ◌≢◌, ◌&&◌, ℕ, List, Bool, true, false, Err, IfOk, OnOk, is_some};
-ghost use Rattle.dict_io.specs.Streams.{Stream, Puts};
-ghost use Rattle.dict_line.specs.Meaning.{Meaning};
-ghost use Rattle.dict_line.specs.Told.{Tells, requested};
+ghost use Rattle.dict_proto.specs.Streams.{Stream, Puts};
+ghost use Rattle.dict_proto.specs.Meaning.{Meaning};
+ghost use Rattle.dict_proto.specs.Told.{Tells, requested};
 ghost use Rattle.dict_catalogue.specs.Steps.{Catalogue};
 ghost use Rattle.dict_proto.specs.Replies.{reply_octets};
 ghost use Rattle.dict_desk.specs.Asked.{strategy_of};
@@ -18,10 +18,8 @@ use crate::query::Query;
 use crate::show::{put_databases, put_help, put_info, put_server, put_status, put_strategies};
 use crate::step::{Answered, Course, PutFault};
 use dict_desk::{Fault, Lookup, What};
-use dict_io::{Sink, SinkFault};
-use dict_line::{LineFault, Request};
 use dict_match::{Strategy, key_of};
-use dict_proto::{Reply, write_reply};
+use dict_proto::{LineFault, Reply, Request, Sink, SinkFault, write_reply};
 use std::alloc::Global;
 
 // Puts the answer to what a line asks, and tells whether the session goes on. Where memory was refused, or the desk

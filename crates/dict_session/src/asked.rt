@@ -7,7 +7,7 @@ ghost use Rattle.dict_session.specs.Places.{places_from, is_regular_named, place
 
 use arrayvec::{ArrayString, ArrayVec};
 use dict_catalogue::Item;
-use dict_name::MAX_TITLE;
+use dict_text::MAX_TITLE;
 
 /// The most databases that a word asks: a catalogue has at most 64 items, and a virtual one at most 64 members.
 const MAX_PLACES: usize = 64;

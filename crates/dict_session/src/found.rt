@@ -6,7 +6,7 @@ ghost use Rattle.dict_catalogue.specs.Steps.{Catalogue, summary_of};
 ghost use Rattle.dict_catalogue.specs.WellFormed.{total};
 ghost use Rattle.dict_desk.specs.Shown.{Row, HasEdition};
 ghost use Rattle.dict_desk.specs.Handing.{Hands};
-ghost use Rattle.dict_io.specs.Streams.{Puts};
+ghost use Rattle.dict_proto.specs.Streams.{Puts};
 ghost use Rattle.dict_session.specs.Answers.{counted_rows};
 ghost use Rattle.dict_session.specs.Desks.{Stays};
 ghost use Rattle.dict_session.specs.Ending.{Delivers, PutsAnswer};
@@ -21,8 +21,7 @@ use crate::show::put_list_end;
 use crate::step::{Answered, PutFault};
 use arrayvec::ArrayVec;
 use dict_desk::{End, Fault, Lookup, RowSink, What};
-use dict_io::{Sink, SinkFault};
-use dict_proto::{Reply, write_reply};
+use dict_proto::{Reply, Sink, SinkFault, write_reply};
 
 /// The places of the databases that give an answer's rows, each at least one, and how many rows there are.
 #[derive(Drop)]

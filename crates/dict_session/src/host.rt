@@ -1,7 +1,7 @@
 // The name of a host.
 ghost use Rattle.std.specs.Prelude.{◌≡◌};
 ghost use Rattle.std.specs.List.{list_all};
-ghost use Rattle.dict_name.specs.Names.{has_size};
+ghost use Rattle.dict_text.specs.Names.{has_size};
 ghost use Rattle.dict_session.specs.Limits.{is_host_octet, is_host};
 
 /// The most octets of a host's name.

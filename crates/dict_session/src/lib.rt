@@ -2,14 +2,14 @@
 #![tactic(auto)]
 
 ghost use Rattle.std.specs.Prelude.{◌≡◌, ◌⊎◌, ℕ, ◌<◌, ◌^◌, List, ◌++◌, Bool, IsTrue, Result};
-ghost use Rattle.dict_line.specs.Meaning.{Meaning};
+ghost use Rattle.dict_proto.specs.Meaning.{Meaning};
 ghost use Rattle.dict_session.specs.Lines.{AreLines, cut};
 ghost use Rattle.dict_catalogue.specs.Steps.{Catalogue};
 ghost use Rattle.dict_catalogue.specs.WellFormed.{IsWellFormed};
 ghost use Rattle.dict_proto.specs.Replies.{banner_octets};
 ghost use Rattle.dict_proto.specs.ReplyLines.{AreShortLines};
 ghost use Rattle.dict_session.specs.Answers.{answer_to};
-ghost use Rattle.dict_io.specs.Streams.{StreamChange};
+ghost use Rattle.dict_proto.specs.Streams.{StreamChange};
 ghost use Rattle.dict_session.specs.Desks.{Condition};
 ghost use Rattle.dict_session.specs.Limits.{is_host, PutsShort};
 ghost use Rattle.dict_session.specs.Run.{Ends, lines_in};

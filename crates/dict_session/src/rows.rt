@@ -1,14 +1,13 @@
 // Sinks of rows that put each row as it comes.
 ghost use Rattle.std.specs.Prelude.{◌≡◌, ◌||◌, []};
 ghost use Rattle.std.specs.List.{flat_map};
-ghost use Rattle.dict_io.specs.Streams.{Puts, PutsAll, PutsFront};
+ghost use Rattle.dict_proto.specs.Streams.{Puts, PutsAll, PutsFront};
 ghost use Rattle.dict_session.specs.Rows.{row_octets, info_row, has_some};
 ghost use Rattle.dict_desk.specs.Shown.{row, row_handed};
 
 use crate::asked::Heading;
 use dict_desk::{Demand, Row, RowSink, What};
-use dict_io::{Sink, SinkFault};
-use dict_proto::{Reply, write_reply};
+use dict_proto::{Reply, Sink, SinkFault, write_reply};
 
 // Puts a row: as a definition of the database with this heading, or as a line of a list.
 fn put_row<K: Sink>(sink: &mut K, what: What, heading: &Heading, row: Row) -> Result<(), SinkFault>
@@ -45,7 +44,7 @@ pub(crate) struct FoundRows<'a, K: Sink> {
 impl<'a, K: Sink> RowSink for FoundRows<'a, K> {
     ghost use Rattle.std.specs.Prelude.{◌≡◌, refl};
     ghost use Rattle.std.proofs.Common.{◌∙◌};
-    ghost use Rattle.dict_io.proofs.PutLemmas.{puts_none};
+    ghost use Rattle.dict_proto.proofs.PutLemmas.{puts_none};
     ghost use Rattle.dict_session.specs.RowLemmas.{found_joined, found_stopped};
 
     ghost takes = { λ a rows b. PutsAll (K.stream a.sink.now) (K.stream b.sink.now) (flat_map (row_octets a.what a.heading.now.name.bytes a.heading.now.title.bytes) rows)
@@ -86,7 +85,7 @@ fn put_info_row<K: Sink>(sink: &mut K, text: &[u8]) -> Result<(), SinkFault>
 impl<'a, K: Sink> RowSink for InfoRow<'a, K> {
     ghost use Rattle.std.specs.Prelude.{◌≡◌, ◌||◌, refl};
     ghost use Rattle.std.proofs.Common.{◌∙◌};
-    ghost use Rattle.dict_io.proofs.PutLemmas.{puts_none};
+    ghost use Rattle.dict_proto.proofs.PutLemmas.{puts_none};
     ghost use Rattle.dict_session.specs.RowLemmas.{all_joined, front_joined, some_none, some_joined};
 
     ghost takes = { λ a rows b. PutsAll (K.stream a.sink.now) (K.stream b.sink.now) (flat_map info_row rows)

@@ -1,7 +1,7 @@
 // One session in pieces.
 ghost use Rattle.std.specs.Prelude.{◌≡◌, ◌≢◌, false, All, ℕ, ◌≤◌, ◌-◌, List, [], ◌∷◌, ◌++◌, IfOk, vec_len, vec_capacity, length, take};
-ghost use Rattle.dict_line.specs.Meaning.{meaning};
-ghost use Rattle.dict_line.specs.Told.{Tells};
+ghost use Rattle.dict_proto.specs.Meaning.{meaning};
+ghost use Rattle.dict_proto.specs.Told.{Tells};
 ghost use Rattle.dict_proto.specs.Replies.{banner_octets};
 ghost use Rattle.dict_session.specs.Answers.{answer_to};
 ghost use Rattle.dict_session.specs.declared.step.Step.TheVariants.{More};
@@ -11,9 +11,7 @@ ghost use Rattle.dict_session.specs.Desks.{condition, Stays};
 use crate::answer::{answer_line, put_line};
 use crate::step::{Course, Step};
 use dict_desk::Lookup;
-use dict_io::Sink;
-use dict_line::{LineFault, MAX_LINE_OCTETS, Request, parse_line};
-use dict_proto::Reply;
+use dict_proto::{LineFault, MAX_LINE_OCTETS, Reply, Request, Sink, parse_line};
 use std::alloc::{AllocError, Global};
 
 pub mod run;

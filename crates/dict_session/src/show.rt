@@ -1,7 +1,7 @@
 // The answers to SHOW, STATUS and HELP.
 ghost use Rattle.std.specs.Prelude.{◌≡◌, ◌++◌, Bool, map, true, false, find, length, option_map, IsOk, IfOk};
 ghost use Rattle.std.specs.List.{flat_map};
-ghost use Rattle.dict_io.specs.Streams.{Puts};
+ghost use Rattle.dict_proto.specs.Streams.{Puts};
 ghost use Rattle.dict_index.specs.Edition.{Edition};
 ghost use Rattle.dict_catalogue.specs.Steps.{Catalogue};
 ghost use Rattle.dict_catalogue.specs.Items.{is_named};
@@ -22,9 +22,8 @@ use crate::rows::InfoRow;
 use crate::step::{Answered, PutFault};
 use dict_catalogue::Item;
 use dict_desk::{End, Fault, Lookup};
-use dict_io::{Sink, SinkFault};
 use dict_match::Strategy;
-use dict_proto::{Reply, write_reply};
+use dict_proto::{Reply, Sink, SinkFault, write_reply};
 
 // Puts the replies, one after the other.
 fn put_replies<K: Sink>(replies: &[Reply], sink: &mut K) -> Result<(), SinkFault>

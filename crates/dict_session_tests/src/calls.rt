@@ -1,6 +1,5 @@
 use crate::checks::holds;
-use dict_io::OverWrite;
-use dict_proto::{Reply, write_reply};
+use dict_proto::{OverWrite, Reply, write_reply};
 use std::io::{Result as IoResult, Write};
 use std::test::Fail;
 

@@ -1,7 +1,7 @@
 // Catalogues in memory.
 use dict_catalogue::Command;
 use dict_desk::Keeper;
-use dict_examples::{GEM_INDEX, GEM_TEXT, ORE_INDEX, ORE_TEXT};
+use dict_fixtures::{GEM_INDEX, GEM_TEXT, ORE_INDEX, ORE_TEXT};
 use dict_index::{Edition, read_edition};
 use std::alloc::Global;
 use std::test::Fail;

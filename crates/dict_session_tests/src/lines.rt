@@ -1,6 +1,6 @@
 //! What the lines of clients ask for.
 use crate::checks::{same_text, same_text_of};
-use dict_line::{LineFault, Request, one_reading, parse_line, worked_lines, worked_meanings};
+use dict_proto::{LineFault, Request, one_reading, parse_line, worked_lines, worked_meanings};
 use std::alloc::{AllocError, Global};
 use std::process::Abort;
 use std::test::Fail;

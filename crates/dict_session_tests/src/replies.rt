@@ -1,7 +1,9 @@
 //! The octets of each reply.
 use crate::checks::holds;
-use dict_io::{LimitedSink, OverWrite, Sink, SinkFault, put_all};
-use dict_proto::{Reply, list_is_a_block, put_quoted, reply_lines_are_short, write_reply};
+use dict_proto::{
+    LimitedSink, OverWrite, Reply, Sink, SinkFault, list_is_a_block, put_all, put_quoted,
+    reply_lines_are_short, write_reply,
+};
 use std::alloc::{AllocError, Global};
 use std::process::Abort;
 use std::test::Fail;

@@ -1,7 +1,7 @@
 // Sessions over catalogues in memory.
 use crate::checks::{holds, same_text};
 use dict_desk::Lookup;
-use dict_io::{LimitedSink, OverRead, Source};
+use dict_proto::{LimitedSink, OverRead, Source};
 use dict_session::{
     Session, Step, broken_is_a_front, is_host, one_cut, run, session_lines_are_short,
     spoken_answers, spoken_or_unavailable,

@@ -1,7 +1,7 @@
 //! The runs, each over memory, and two of them over two files that memory holds too. What is run stands in functions over any store.
 
+use crate::texts::{close, open};
 use crate::{headers, inside, keyed, old, older, parts, plain};
-use dict_sql_checks::{close, open};
 use sqlite::{Alter, Connection, Files};
 use sqlite_disk::{Disk, Memory};
 use std::alloc::Global;

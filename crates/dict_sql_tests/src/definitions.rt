@@ -1,7 +1,7 @@
 //! Which tables are recognised, and told from others, and which names are in use.
 
 use crate::checks::{holds, same_text};
-use dict_keyed_sql::{has_keyed_table, has_old_entry};
+use dict_older_sql::{has_keyed_table, has_old_entry};
 use dict_tables::{
     KeyedTable, StoreTable, has_room, has_table, is_name_used, is_own_index_name_used,
     is_own_name_referred, is_own_name_used, lacks_counting_table,

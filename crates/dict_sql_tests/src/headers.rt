@@ -5,18 +5,18 @@ ghost use Rattle.sqlite.specs.State.{HasCleanDisk};
 ghost use Rattle.sqlite.specs.Held.{state};
 ghost use Rattle.dict_sql.specs.Effects.{HasApartRowids, WhileOpen, rows_of};
 ghost use Rattle.dict_sql.specs.Deletes.{HasToRemove};
-ghost use Rattle.dict_header_sql.specs.Table.{header};
+ghost use Rattle.dict_edition_sql.specs.HeaderTable.{header};
 
 use crate::checks::{holds, same_text};
 use crate::opened::open;
-use dict_header_sql::{
+use crate::texts::told;
+use dict_edition_sql::{
     StoredHeader, create_header_table, delete_header, has_header_table, headers_numbered,
     infos_numbered, insert_header, next_header, read_headers_by_rowid,
 };
 use dict_records::Header;
 use dict_sql::records::ReadError;
 use dict_sql::transaction::{OpenTransaction, begin, commit_open};
-use dict_sql_checks::told;
 use dict_tables::{StoreTable, has_table, is_name_used, lacks_counting_table};
 use sqlite::{Alter, Connection, Error, Rows};
 use std::alloc::Global;

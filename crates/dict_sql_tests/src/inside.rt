@@ -1,10 +1,9 @@
 //! The table `entry` as it is without keys, read inside a transaction.
 
 use crate::checks::same_text;
-use dict_keyed_sql::has_keyed_table;
-use dict_migration_sql::entries_inside;
+use crate::texts::{raw, told};
+use dict_older_sql::{entries_inside, has_keyed_table};
 use dict_sql::records::ReadError;
-use dict_sql_checks::{raw, told};
 use dict_tables::{KeyedTable, StoreTable, has_table};
 use sqlite::{Alter, Connection, Error};
 use std::alloc::Global;

@@ -3,11 +3,11 @@
 use crate::checks::{holds, same_text};
 use crate::opened::open;
 use crate::rest::told_rest;
-use dict_keyed_sql::{drop_keyed_table, has_keyed_table, read_by_rowid, read_rows_of};
+use crate::texts::{compare_numbers, raw};
+use dict_older_sql::{drop_keyed_table, has_keyed_table, read_by_rowid, read_rows_of};
 use dict_records::{Gram, KeyedEntry, Stored, Word};
 use dict_sql::records::ReadError;
 use dict_sql::transaction::commit_open;
-use dict_sql_checks::{compare_numbers, raw};
 use dict_tables::{KeyedTable, is_name_used};
 use sqlite::{Alter, Connection, Error, Rows};
 use std::alloc::Global;

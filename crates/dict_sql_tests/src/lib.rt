@@ -25,3 +25,5 @@ mod parts;
 mod plain;
 #[cfg(test)]
 mod rest;
+#[cfg(test)]
+mod texts;

@@ -2,10 +2,10 @@
 
 use crate::checks::same_text;
 use crate::rest::told_rest;
-use dict_keyed_sql::{has_old_entry, read_old_by_rowid, read_old_rows_of};
+use crate::texts::raw;
+use dict_older_sql::{has_old_entry, read_old_by_rowid, read_old_rows_of};
 use dict_records::{OldEntry, Stored};
 use dict_sql::records::ReadError;
-use dict_sql_checks::raw;
 use sqlite::{Alter, Connection, Error, Rows};
 use std::alloc::Global;
 use std::process::Abort;

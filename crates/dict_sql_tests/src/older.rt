@@ -2,11 +2,10 @@
 
 use crate::checks::{holds, same_text};
 use crate::opened::open;
-use dict_keyed_sql::has_keyed_table;
-use dict_migration_sql::{drop_old_edition, editions_inside, shown_entries_inside};
+use crate::texts::{raw, told};
+use dict_older_sql::{drop_old_edition, editions_inside, has_keyed_table, shown_entries_inside};
 use dict_sql::records::ReadError;
 use dict_sql::transaction::{commit_open, roll_back};
-use dict_sql_checks::{raw, told};
 use dict_tables::{KeyedTable, StoreTable, has_table, is_name_used};
 use sqlite::{Alter, Connection, Error};
 use std::alloc::Global;

@@ -5,11 +5,11 @@ ghost use Rattle.sqlite.specs.State.{HasCleanDisk};
 ghost use Rattle.sqlite.specs.Held.{state};
 ghost use Rattle.dict_sql.specs.Effects.{HasApartRowids, WhileOpen, rows_of};
 ghost use Rattle.dict_sql.specs.Deletes.{HasToRemove};
-ghost use Rattle.dict_part_sql.specs.Table.{part};
+ghost use Rattle.dict_edition_sql.specs.PartTable.{part};
 
 use crate::checks::holds;
 use crate::opened::open;
-use dict_part_sql::{
+use dict_edition_sql::{
     Part, create_part_table, delete_parts, delete_parts_from, has_part_table, insert_part,
 };
 use dict_sql::transaction::{OpenTransaction, begin, commit_open};

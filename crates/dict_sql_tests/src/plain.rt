@@ -1,7 +1,7 @@
 //! The statements of each table on their happy path, with other tables before and after them.
 
 use crate::checks::holds;
-use dict_sql_checks::{compare_numbers, raw};
+use crate::texts::{compare_numbers, raw};
 use dict_tables::{StoreTable, has_table, is_name_used};
 use rows::{drop_kept, make_all, put_all};
 use sqlite::{Alter, Connection};

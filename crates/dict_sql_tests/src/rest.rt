@@ -1,8 +1,8 @@
 //! All records that a reading has still to give.
 
+use crate::texts::told;
 use dict_sql::records::{ReadError, Record};
 use dict_sql::stream::next_record;
-use dict_sql_checks::told;
 use sqlite::{Alter, Rows};
 use std::alloc::Global;
 use std::fmt::Debug;

@@ -26,7 +26,7 @@ use Rattle.dict_commands.specs.declared.filing.Filing.{Filing}
 use Rattle.dict_commands.specs.declared.applied.Applied.{Applied}
 use Rattle.dict_commands.specs.declared.applied.Applied.TheVariants.{Repeated, Done}
 use Rattle.dict_search.specs.Entries.{Indexed}
-use Rattle.dict_texts.specs.Texts.{Key}
+use Rattle.dict_lookup.specs.KeptTexts.{Key}
 use Rattle.dict_store.specs.Desk.{DeskState, IsAtRest, is_closed, reply_of}
 use Rattle.dict_store.specs.Causes.{GivesWay, FailsToApplyOver, FailsToApplyTo}
 use Rattle.dict_store.specs.Prepared.{IsAlike, Undoes}

@@ -24,7 +24,7 @@ use Rattle.dict_store.specs.Desk.{DeskState, LeavesOneOf, Shows, is_closed}
 use Rattle.dict_store.specs.declared.last.LastCall.{LastCall}
 use Rattle.std.proofs.Common.{ℕ}
 use Rattle.dict_holdings.proofs.OneLemmas.{held_known}
-use Rattle.dict_texts.specs.Texts.{Key}
+use Rattle.dict_lookup.specs.KeptTexts.{Key}
 
 -- what is shown is committed
 pub committed_holds : {S : Type 0} (g : store.Ghosts S) (conn : Held S) (summary : Holdings (List ℕ)) (last : LastCall) (indexes : List (ℕ × List Indexed)) (texts : List (Key × List ℕ)) → IsLive (state g conn)

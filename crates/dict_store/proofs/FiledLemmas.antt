@@ -12,14 +12,14 @@ use Rattle.dict_catalogue.specs.Steps.{Catalogue}
 use Rattle.dict_sql.specs.Columns.{Content, Number, Name, Octets, HasColumns}
 use Rattle.dict_sql.specs.Effects.{equals_number, rows_of, same_value}
 use Rattle.dict_sql.specs.Encodings.{kept_row}
-use Rattle.dict_header_sql.specs.Records.{header_row}
-use Rattle.dict_part_sql.specs.Chosen.{is_of_file}
+use Rattle.dict_edition_sql.specs.HeaderRecords.{header_row}
+use Rattle.dict_edition_sql.specs.Chosen.{is_of_file}
 use Rattle.dict_records.specs.Records.{header_of}
 use Rattle.dict_rows.specs.Versions.{known, layout_of}
 use Rattle.dict_rows.specs.Written.{edition_record}
 use Rattle.dict_rows.proofs.OrderLemmas.{all_same}
 use Rattle.dict_rows.proofs.PartLemmas.{filter_filter}
-use Rattle.dict_files.specs.AllTables.{AllTables, with_derived}
+use Rattle.dict_holdings.specs.AllTables.{AllTables, with_derived}
 use Rattle.dict_holdings.specs.Holds.{HasLayout, Holds, Keeps}
 use Rattle.dict_holdings.specs.Texts.{HoldsText, text_rows}
 use Rattle.dict_lookup.specs.Searches.{HoldsOne, IsReadable, rows_under}

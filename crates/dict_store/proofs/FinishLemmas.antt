@@ -20,9 +20,9 @@ use Rattle.dict_desk.specs.declared.fault.Fault.TheVariants.{Refused, Memory, Di
 use Rattle.dict_rows.specs.Versions.{known}
 use Rattle.dict_holdings.specs.Holds.{Holds}
 use Rattle.dict_holdings.specs.Texts.{HoldsText}
-use Rattle.dict_indexes.specs.Indexes.{entries_under}
+use Rattle.dict_lookup.specs.Indexes.{entries_under}
 use Rattle.dict_lookup.specs.Texts.{ArePartsOf}
-use Rattle.dict_texts.specs.Texts.{Key}
+use Rattle.dict_lookup.specs.KeptTexts.{Key}
 use Rattle.dict_search.specs.Entries.{Indexed, entry_of}
 use Rattle.dict_commands.specs.Answers.{IsOfApply}
 use Rattle.dict_commands.specs.Filing.{IsAhead, IsUnderway}

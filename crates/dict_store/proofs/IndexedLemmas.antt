@@ -22,10 +22,10 @@ use Rattle.dict_catalogue.proofs.WellFormedLemmas.{IfInstalled, each_after}
 use Rattle.dict_commands.specs.Installed.{HasTextOf}
 use Rattle.dict_desk.specs.Shown.{HasEdition}
 use Rattle.dict_holdings.specs.Holds.{Holds}
-use Rattle.dict_indexes.specs.Indexes.{entries_under}
+use Rattle.dict_lookup.specs.Indexes.{entries_under}
 use Rattle.dict_holdings.specs.Texts.{HoldsText, text_rows}
 use Rattle.dict_lookup.specs.Texts.{ArePartsOf, AreMade, Cuts}
-use Rattle.dict_texts.specs.Texts.{Key}
+use Rattle.dict_lookup.specs.KeptTexts.{Key}
 use Rattle.dict_lookup.proofs.ListLemmas.{all_unmapped}
 use Rattle.dict_rows.specs.Versions.{known}
 use Rattle.dict_rows.proofs.OrderLemmas.{all_with}

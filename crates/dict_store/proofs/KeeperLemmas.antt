@@ -8,7 +8,7 @@ use Rattle.sqlite.specs.State.{State, HasCleanDisk, IsUnchanged, Survives}
 use Rattle.sqlite.specs.Held.{Held, state}
 use Rattle.sqlite_trees.specs.declared.store.Store.{Ghosts}
 use Rattle.dict_index.specs.Edition.{Edition}
-use Rattle.dict_name.specs.Names.{is_request_id}
+use Rattle.dict_text.specs.Names.{is_request_id}
 use Rattle.dict_catalogue.specs.Commands.{Command}
 use Rattle.dict_catalogue.specs.Tests.{Holdings}
 use Rattle.dict_catalogue.specs.Effects.{KeptReply}
@@ -39,7 +39,7 @@ use Rattle.dict_store.specs.declared.last.LastCall.{LastCall}
 use Rattle.dict_store.proofs.DeskLemmas.{at_rest, filed_less, texts_keep}
 use Rattle.dict_rows.specs.Versions.{known}
 use Rattle.dict_holdings.proofs.OneLemmas.{left_known}
-use Rattle.dict_texts.specs.Texts.{Key}
+use Rattle.dict_lookup.specs.KeptTexts.{Key}
 
 -- ---- kept replies
 

@@ -5,7 +5,7 @@ use Rattle.sqlite.specs.Effect.{Database}
 use Rattle.dict_index.specs.Edition.{Edition}
 use Rattle.dict_catalogue.specs.Items.{Stored, Item, editions_of, name_of}
 use Rattle.dict_catalogue.specs.Steps.{Catalogue}
-use Rattle.dict_files.specs.AllTables.{with_derived, as_version}
+use Rattle.dict_holdings.specs.AllTables.{with_derived, as_version}
 use Rattle.dict_desk.specs.Shown.{HasEdition}
 use Rattle.dict_holdings.specs.Readings.{KeepsAll}
 use Rattle.dict_lookup.proofs.HeldLemmas.{number_few, text_held}

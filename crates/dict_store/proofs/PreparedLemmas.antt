@@ -13,7 +13,7 @@ use Rattle.dict_rows.specs.After.{is_gone}
 use Rattle.dict_rows.specs.Tables.{same_number}
 use Rattle.dict_rows.specs.Versions.{known, layout_of}
 use Rattle.dict_rows.proofs.TakenLemmas.{nat_same}
-use Rattle.dict_files.specs.AllTables.{with_derived}
+use Rattle.dict_holdings.specs.AllTables.{with_derived}
 use Rattle.dict_holdings.specs.Holds.{HasLayout, Holds}
 use Rattle.dict_sql.specs.Effects.{Has}
 use Rattle.dict_tables.specs.Tables.{kept}

@@ -17,12 +17,12 @@ use Rattle.dict_rows.specs.Versions.{known}
 use Rattle.dict_holdings.specs.Faults.{FailsToLookUp}
 use Rattle.dict_holdings.specs.Holds.{Holds}
 use Rattle.dict_lookup.specs.Texts.{ArePartsOf}
-use Rattle.dict_texts.specs.Texts.{Key}
+use Rattle.dict_lookup.specs.KeptTexts.{Key}
 use Rattle.dict_search.specs.Entries.{Indexed}
 use Rattle.dict_commands.specs.Committed.{IsOfStore}
 use Rattle.dict_commands.specs.Filing.{IsDrawnUp}
 use Rattle.dict_commands.specs.declared.filing.Filing.{Filing}
-use Rattle.dict_indexes.specs.Indexes.{entries_under}
+use Rattle.dict_lookup.specs.Indexes.{entries_under}
 use Rattle.dict_store.specs.Causes.{FailsToPrepare}
 use Rattle.dict_store.specs.Desk.{DeskState, HasCommitted, HasFiled, IsAtRest, Shows, has_failed, is_closed}
 use Rattle.dict_store.specs.Kept.{KeepsTexts, texts_after, texts_behind}

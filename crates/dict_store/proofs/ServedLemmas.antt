@@ -9,7 +9,7 @@ use Rattle.dict_text.proofs.AllLemmas.{all_weaker}
 use Rattle.dict_index.specs.Edition.{Edition}
 use Rattle.dict_catalogue.specs.Items.{Stored, Item, editions_of}
 use Rattle.dict_catalogue.specs.Steps.{Catalogue}
-use Rattle.dict_indexes.specs.Indexes.{entries_under}
+use Rattle.dict_lookup.specs.Indexes.{entries_under}
 use Rattle.dict_desk.specs.Shown.{HasEdition}
 use Rattle.dict_holdings.specs.Texts.{HoldsText}
 use Rattle.dict_lookup.specs.Texts.{ArePartsOf}

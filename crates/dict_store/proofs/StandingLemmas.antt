@@ -18,7 +18,7 @@ use Rattle.dict_commands.specs.declared.applied.Applied.{Applied}
 use Rattle.dict_commands.specs.declared.applied.Applied.TheVariants.{Done}
 use Rattle.dict_index.specs.Views.{line_of}
 use Rattle.dict_index.specs.declared.entry.Entry.{Entry}
-use Rattle.dict_indexes.specs.Indexes.{entries_under}
+use Rattle.dict_lookup.specs.Indexes.{entries_under}
 use Rattle.dict_rows.proofs.OrderLemmas.{all_with}
 use Rattle.dict_search.specs.Entries.{Indexed, entry_of}
 use Rattle.dict_store.specs.Indexed.{HasLetGo, HasPut, HasSettled, IsGone, index_coming}

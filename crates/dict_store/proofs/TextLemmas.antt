@@ -11,15 +11,15 @@ use Rattle.dict_catalogue.specs.Tests.{Holdings}
 use Rattle.dict_catalogue.specs.Steps.{Catalogue, summary_of}
 use Rattle.dict_desk.specs.Shown.{HasEdition}
 use Rattle.dict_rows.specs.Versions.{known}
-use Rattle.dict_files.specs.Files.{file_parts}
-use Rattle.dict_part_sql.specs.Records.{part_row}
+use Rattle.dict_holdings.specs.Files.{file_parts}
+use Rattle.dict_edition_sql.specs.PartRecords.{part_row}
 use Rattle.dict_holdings.specs.Holds.{Holds}
 use Rattle.dict_holdings.specs.Texts.{HoldsText, text_rows}
 use Rattle.dict_lookup.specs.Texts.{AreMade}
 use Rattle.dict_lookup.proofs.HeldLemmas.{held_one, text_once}
 use Rattle.dict_lookup.proofs.ListLemmas.{all_unmapped}
 use Rattle.dict_commands.specs.Kept.{KeepsTexts}
-use Rattle.dict_texts.specs.Texts.{Key}
+use Rattle.dict_lookup.specs.KeptTexts.{Key}
 
 -- a text that stays
 pub text_carried : (old new : Database) (number : ℕ) (text : List ℕ) → IsPermutation (text_rows number old) (text_rows number new) → HoldsText old number text → HoldsText new number text

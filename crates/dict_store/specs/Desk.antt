@@ -13,10 +13,10 @@ use Rattle.dict_catalogue.specs.WellFormed.{IsWellFormed}
 use Rattle.dict_desk.specs.Faults.{is_disk, is_failure}
 use Rattle.dict_desk.specs.declared.fault.Fault.{Fault}
 use Rattle.dict_holdings.specs.Holds.{HasLayout, Holds}
-use Rattle.dict_indexes.specs.Indexes.{entries_under}
+use Rattle.dict_lookup.specs.Indexes.{entries_under}
 use Rattle.dict_holdings.specs.Texts.{HoldsText}
 use Rattle.dict_lookup.specs.Texts.{Cuts, ArePartsOf}
-use Rattle.dict_texts.specs.Texts.{Key}
+use Rattle.dict_lookup.specs.KeptTexts.{Key}
 pub use Rattle.dict_migration.specs.Leaves.{StandsFor}
 use Rattle.dict_search.specs.Entries.{Indexed}
 use Rattle.dict_commands.specs.Changes.{IsInRange}

@@ -12,7 +12,7 @@ use Rattle.dict_catalogue.specs.Views.{item_shown}
 use Rattle.dict_commands.specs.declared.applied.Applied.{Applied}
 use Rattle.dict_commands.specs.declared.applied.Applied.TheVariants.{Repeated, Done}
 use Rattle.dict_desk.specs.declared.fault.Fault.{Fault}
-use Rattle.dict_indexes.specs.Indexes.{entries_under}
+use Rattle.dict_lookup.specs.Indexes.{entries_under}
 use Rattle.dict_holdings.specs.Texts.{HoldsText}
 use Rattle.dict_lookup.specs.Texts.{Cuts}
 use Rattle.dict_search.specs.Entries.{Indexed, entry_of}

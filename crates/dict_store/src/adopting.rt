@@ -33,7 +33,7 @@ use crate::withdrawing::Withdrawn;
 use dict_catalogue::{Summary, edition_numbers};
 use dict_commands::{kept_reply, summaries_in_range};
 use dict_desk::Fault;
-use dict_indexes::Indexes;
+use dict_lookup::Indexes;
 use dict_migration::migrate;
 use dict_opening::{held_is_marked, one_is_held, read_catalogue};
 use dict_rows::KNOWN_VERSION;

@@ -6,16 +6,15 @@ ghost use Rattle.dict_sql.specs.Effects.{WhileOpen};
 ghost use Rattle.dict_index.specs.Edition.{Edition};
 ghost use Rattle.dict_desk.specs.Shown.{Row as ShownRow, found_rows, headword_rows, count_of};
 ghost use Rattle.dict_desk.specs.Handing.{Hands};
-ghost use Rattle.dict_indexes.specs.Indexes.{entries_under};
+ghost use Rattle.dict_lookup.specs.Indexes.{entries_under};
 ghost use Rattle.dict_search.specs.Entries.{Indexed};
 ghost use Rattle.dict_holdings.specs.Texts.{HoldsText};
 ghost use Rattle.dict_lookup.specs.Texts.{Cuts, IsIndexOf, ArePartsOf, AreMade, IsAtMostRead, FailsToFind};
 ghost use Rattle.dict_lookup.specs.Searches.{HasLookupTables, IsOfStore};
 
 use dict_desk::{End, Fault, RowSink, What};
-use dict_indexes::Indexes;
+use dict_lookup::{Indexes, Texts};
 use dict_match::{Key, Strategy};
-use dict_texts::Texts;
 use sqlite::{Alter, Connection};
 use std::alloc::Global;
 

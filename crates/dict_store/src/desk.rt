@@ -25,16 +25,15 @@ use crate::withdrawing::undo;
 use dict_catalogue::Summary;
 use dict_commands::Draft;
 use dict_desk::Fault;
-use dict_indexes::Indexes;
+use dict_lookup::{Indexes, Texts};
 use dict_migration::create;
-use dict_texts::Texts;
 use sqlite::{Alter, Connection};
 use std::alloc::Global;
 use std::marker::Model;
 
 /// A desk over one database: the connection to it, the summary of the catalogue that it holds, and an index of each of its editions,
 /// current and former, which counts and finds. The texts of editions from which entries were handed out last are kept in memory, up to
-/// `dict_texts::MAX_OCTETS`. Between two calls a transaction may be open, in which rows of a
+/// `dict_lookup::MAX_OCTETS`. Between two calls a transaction may be open, in which rows of a
 /// change that may come are filed: none of them is shown before that change is applied.
 #[derive(Drop)]
 pub struct Desk<S: Alter + Drop> {

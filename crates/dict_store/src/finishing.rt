@@ -13,7 +13,7 @@ ghost use Rattle.dict_commands.specs.Filing.{rested};
 ghost use Rattle.dict_commands.specs.Finishing.{IsFinished};
 ghost use Rattle.dict_desk.specs.Faults.{IsOfCommand, has_closed_by, has_failed_by};
 ghost use Rattle.dict_store.specs.Causes.{IsAppliedTo};
-ghost use Rattle.dict_indexes.specs.Indexes.{entries_under};
+ghost use Rattle.dict_lookup.specs.Indexes.{entries_under};
 ghost use Rattle.dict_search.specs.Entries.{entry_of};
 ghost use Rattle.dict_store.specs.Desk.{HasFiled, Shows, is_closed, has_failed};
 ghost use Rattle.dict_store.specs.Indexed.{HasPut};
@@ -30,7 +30,7 @@ use dict_catalogue::{Kept, Summary};
 use dict_commands::Applied;
 use dict_desk::Fault;
 use dict_index::EditionRefusal;
-use dict_indexes::Indexes;
+use dict_lookup::Indexes;
 use sqlite::{Alter, Connection};
 use std::alloc::Global;
 

@@ -7,7 +7,7 @@ ghost use Rattle.dict_catalogue.specs.Items.{edition_numbers, numbers_of};
 ghost use Rattle.dict_catalogue.specs.Commands.{verb_of};
 ghost use Rattle.dict_catalogue.specs.Views.{command_meant, item_shown};
 ghost use Rattle.dict_catalogue.specs.WellFormed.{is_install};
-ghost use Rattle.dict_indexes.specs.Indexes.{entries_under};
+ghost use Rattle.dict_lookup.specs.Indexes.{entries_under};
 ghost use Rattle.dict_search.specs.Entries.{entry_of};
 ghost use Rattle.dict_store.specs.Indexed.{index_coming, HasLetGo, HasPut, HasSettled, IsGone};
 
@@ -15,7 +15,7 @@ use dict_catalogue::{Command, Item};
 use dict_commands::Applied;
 use dict_desk::Fault;
 use dict_index::{Edition, Entry};
-use dict_indexes::Indexes;
+use dict_lookup::Indexes;
 use dict_search::{Index, IndexBuilder};
 use std::alloc::{AllocError, Global};
 

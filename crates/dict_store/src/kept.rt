@@ -4,7 +4,7 @@ ghost use Rattle.dict_store.specs.Kept.{texts_after, texts_behind};
 
 use crate::last::LastCall;
 use dict_desk::Fault;
-use dict_texts::Texts;
+use dict_lookup::Texts;
 
 // After a fault from 40 on none is kept: what memory they had is free then.
 pub(crate) fn forget_by(texts: &mut Texts, last: LastCall)

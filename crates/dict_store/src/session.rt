@@ -3,7 +3,7 @@ ghost use Rattle.std.specs.Prelude.{◌≡◌, false, List, Option, None, IfOk, 
 ghost use Rattle.sqlite.specs.State.{HasCleanDisk};
 ghost use Rattle.sqlite.specs.Held.{state};
 ghost use Rattle.dict_catalogue.specs.Steps.{Catalogue};
-ghost use Rattle.dict_io.specs.Streams.{change};
+ghost use Rattle.dict_proto.specs.Streams.{change};
 ghost use Rattle.dict_store.specs.Adopted.{IsNotAdopted, FailsToOpen};
 ghost use Rattle.dict_store.specs.Desk.{LeavesOneOf};
 ghost use Rattle.dict_store.specs.Over.{HasRun, IsUntouched, Leaves, TellsNoLeft};
@@ -11,7 +11,7 @@ ghost use Rattle.dict_store.specs.Over.{HasRun, IsUntouched, Leaves, TellsNoLeft
 use crate::adopting::is_whole;
 use crate::desk::Desk;
 use dict_desk::Fault;
-use dict_io::{Sink, Source};
+use dict_proto::{Sink, Source};
 use dict_session::{SessionEnd, SessionFault, run};
 use sqlite::{Alter, Connection};
 use std::alloc::Global;

@@ -2,7 +2,7 @@
 
 use dict_catalogue::{Command, CommandRefusal, Kept};
 use dict_desk::Fault;
-use dict_examples::{GEM_INDEX, GEM_TEXT, ORE_INDEX, ORE_TEXT};
+use dict_fixtures::{GEM_INDEX, GEM_TEXT, ORE_INDEX, ORE_TEXT};
 use dict_index::{Edition, IndexFault, read_edition};
 use std::alloc::{AllocError, Global};
 

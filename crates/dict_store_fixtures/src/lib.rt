@@ -4,10 +4,12 @@
 
 mod asked;
 mod desks;
+mod disks;
 mod showing;
 mod stored;
 
 pub use asked::{Asked, Editions, Source, read_editions, requests, told, told_outcome};
 pub use desks::{accept_all, batched, connection_of, desk_over};
+pub use disks::{Failing, FailsOnce, crashed, failing_disk};
 pub use showing::{Rows, listed, shown};
 pub use stored::{CAPITALS, Older, PARTED, PLAIN, SHARED, SHOWN, older_files};

@@ -2,10 +2,9 @@
 
 use crate::checks::{holds, same_text};
 use dict_catalogue::{Command, Kept};
-use dict_desk::{Fault, Keeper, Lookup, PlainDesk};
+use dict_desk::{Answered, Fault, Keeper, Lookup, PlainDesk, Preparer};
 use dict_index::{Edition, EditionRefusal, read_edition};
 use dict_match::{Strategy, key_of};
-use dict_preparing::{Answered, Preparer};
 use dict_store::Desk;
 use dict_store_fixtures::{
     Asked, Editions, Rows, Source, accept_all, connection_of, desk_over, listed, read_editions,

@@ -1,11 +1,9 @@
 //! Desks over two files that are opened anew, behind what was done or prepared over them. What is done over a desk stands in
 //! functions over any store: only two of them are handed one of files.
 use crate::files::{Octets, opened, options};
-use dict_desk::{Fault, Keeper, Lookup};
-use dict_failing_disk::failing_disk;
-use dict_preparing::{Answered, Preparer};
+use dict_desk::{Answered, Fault, Keeper, Lookup, Preparer};
 use dict_store::{Desk, Unopened};
-use dict_store_fixtures::{Asked, Editions, Source, desk_over, listed};
+use dict_store_fixtures::{Asked, Editions, Source, desk_over, failing_disk, listed};
 use sqlite::{Alter, Connection, FileStore, Files};
 use sqlite_disk::{Crash, Disk};
 use std::alloc::Global;

@@ -6,10 +6,20 @@ mod anew;
 #[cfg(test)]
 mod checks;
 #[cfg(test)]
+mod clients;
+#[cfg(test)]
+mod disks;
+#[cfg(test)]
 mod files;
 #[cfg(test)]
 mod prepared;
 #[cfg(test)]
+mod printed;
+#[cfg(test)]
 mod reopened;
+#[cfg(test)]
+mod reopening;
+#[cfg(test)]
+mod serving_checks;
 #[cfg(test)]
 mod stops;

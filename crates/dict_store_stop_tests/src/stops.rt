@@ -6,12 +6,11 @@ use crate::checks::{holds, same_text};
 use crate::files::{Octets, closed, opened};
 use dict_catalogue::{Command, CommandRefusal, Kept};
 use dict_desk::{Fault, Keeper, Lookup, PlainDesk, What};
-use dict_failing_disk::{Failing, crashed, failing_disk};
 use dict_match::{Strategy, key_of};
 use dict_store::{Desk, apply_to_file};
 use dict_store_fixtures::{
-    Asked, Editions, Older, Rows, Source, accept_all, batched, connection_of, desk_over,
-    older_files, read_editions, requests, shown, told, told_outcome,
+    Asked, Editions, Failing, Older, Rows, Source, accept_all, batched, connection_of, crashed,
+    desk_over, failing_disk, older_files, read_editions, requests, shown, told, told_outcome,
 };
 use sqlite::{Alter, Connection, Files};
 use sqlite_disk::Crash;

@@ -4,7 +4,7 @@ use crate::borders::install;
 use crate::checks::holds;
 use crate::taken::{Counted, found, taken_between};
 use dict_desk::Keeper;
-use dict_examples::GEM_TEXT;
+use dict_fixtures::GEM_TEXT;
 use dict_match::Strategy;
 use std::alloc::{AllocError, Global};
 use std::process::Abort;

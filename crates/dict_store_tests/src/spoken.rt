@@ -1,7 +1,7 @@
 //! Sessions over a database.
 use crate::checks::{holds, same_text};
 use dict_desk::{Fault, Lookup};
-use dict_io::{LimitedSink, OverRead};
+use dict_proto::{LimitedSink, OverRead};
 use dict_session::{Session, SessionEnd, Step};
 use dict_store::session_over;
 use dict_store_fixtures::connection_of;

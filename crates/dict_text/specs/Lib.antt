@@ -1,3 +1,6 @@
 pub mod Characters
 pub mod Blanks
 pub mod Lines
+pub mod Names
+pub mod Number
+pub mod Faults

@@ -1,11 +1,11 @@
 //! dictcat on the command line. The tests of its commands stand in `dictcat_tests`.
 #![tactic(auto)]
 
-use dict_actions::OverFiles;
 use dict_desk::PlainDesk;
 use dict_driver::System;
-use dict_io::{OverRead, OverWrite, Sink, Source};
+use dict_messages::OverFiles;
 use dict_program::{Catalogues, command, refuse_words};
+use dict_proto::{OverRead, OverWrite, Sink, Source};
 use dict_store::Desk;
 use dictcat_lib::CatalogueFiles;
 use sqlite::FileStore;

@@ -17,7 +17,7 @@ use Rattle.dict_store.specs.Reopened.{IsIn, IsReopened}
 use Rattle.dict_store.specs.Unopened.{IsRejectedFrom, IsUnopened, IsUnreopened}
 use Rattle.dict_store.specs.declared.reopening.Unopened.{Unopened}
 use Rattle.dict_store.specs.declared.reopening.Unopened.TheVariants as handed
-use Rattle.dict_io.specs.Streams.{StreamChange}
+use Rattle.dict_proto.specs.Streams.{StreamChange}
 use Rattle.dict_session.specs.declared.session.run.SessionEnd.{SessionEnd}
 use Rattle.dict_session.specs.declared.session.run.SessionFault.{SessionFault}
 use Rattle.dict_messages.specs.Writing.{IsUntouched}

@@ -13,7 +13,7 @@ use Rattle.dict_migration.specs.Moved.{AreTreesOf}
 use Rattle.dict_migration.specs.Spared.{SparesOthers}
 use Rattle.dict_opening.specs.Reading.{HasFailed}
 use Rattle.dict_rows.specs.Versions.{known}
-use Rattle.dict_io.specs.Streams.{StreamChange}
+use Rattle.dict_proto.specs.Streams.{StreamChange}
 use Rattle.dict_session.specs.declared.session.run.SessionEnd.{SessionEnd}
 use Rattle.dict_session.specs.declared.session.run.SessionFault.{SessionFault}
 use Rattle.dict_session.specs.declared.session.run.SessionFault.TheVariants as session_faults

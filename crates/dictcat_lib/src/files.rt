@@ -2,9 +2,9 @@
 use crate::desks::{make_desk, open_desk, reopen_desk};
 use crate::left::Left;
 use crate::session::{run_session, told_over};
-use dict_io::{Sink, Source};
 use dict_messages::ProgramFault;
 use dict_program::Catalogues;
+use dict_proto::{Sink, Source};
 use dict_serving::DeskOpener;
 use dict_store::Desk;
 use sqlite::{File, FileStore, Start, Unknown};

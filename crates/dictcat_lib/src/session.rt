@@ -3,7 +3,7 @@ ghost use Rattle.std.specs.Prelude.{◌≡◌, Err, IfOk, MatchResult};
 ghost use Rattle.sqlite.specs.Files.{over_files};
 ghost use Rattle.sqlite.specs.Held.{Held};
 ghost use Rattle.sqlite.specs.WalFiles.{image_at};
-ghost use Rattle.dict_io.specs.Streams.{change};
+ghost use Rattle.dict_proto.specs.Streams.{change};
 ghost use Rattle.dict_messages.specs.Writing.{IsUntouched};
 ghost use Rattle.dictcat_lib.specs.DeskOpener.{IsNoDesk};
 ghost use Rattle.dictcat_lib.specs.Files.{IsOpenedFrom};
@@ -11,8 +11,8 @@ ghost use Rattle.dictcat_lib.specs.Opening.{HasSpoken, over_told};
 
 use crate::left::{Left, hold};
 use crate::stores::{close_file, open_file};
-use dict_io::{Sink, Source};
 use dict_messages::ProgramFault;
+use dict_proto::{Sink, Source};
 use dict_serving::HOST;
 use dict_session::{SessionEnd, SessionFault};
 use dict_store::{Desk, session_over};

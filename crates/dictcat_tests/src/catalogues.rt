@@ -2,8 +2,8 @@
 use super::fixtures::{ROOM, Row, differing, is_so, outcome, remove, run};
 use super::rows;
 use crate::checks::{holds, same_text};
-use dict_actions::OverFiles;
-use dict_examples::{GEM_INDEX, GEM_TEXT};
+use dict_fixtures::{GEM_INDEX, GEM_TEXT};
+use dict_messages::OverFiles;
 use std::fs;
 use std::process::Abort;
 use std::test::Fail;

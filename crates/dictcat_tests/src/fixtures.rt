@@ -1,12 +1,12 @@
 // What the tests read from and write to.
 ghost use Rattle.std.specs.Prelude.{None, ⊤};
 
-use dict_actions::{InputFiles, ReadFault};
 use dict_desk::PlainDesk;
 use dict_driver::System;
-use dict_examples::{GEM_INDEX, GEM_TEXT, ORE_INDEX, ORE_TEXT};
-use dict_io::{LimitedSink, OverRead, Sink};
+use dict_fixtures::{GEM_INDEX, GEM_TEXT, ORE_INDEX, ORE_TEXT};
+use dict_messages::{InputFiles, ReadFault};
 use dict_program::{Catalogues, command};
+use dict_proto::{LimitedSink, OverRead, Sink};
 use dict_store::Desk;
 use dictcat_lib::CatalogueFiles;
 use sqlite::FileStore;

@@ -1,5 +1,5 @@
 // A session over a source and a sink.
-ghost use Rattle.dict_io.specs.Streams.{change};
+ghost use Rattle.dict_proto.specs.Streams.{change};
 ghost use Rattle.std.specs.Prelude.{◌≡◌, Err};
 ghost use Rattle.dict_catalogue.specs.Steps.{Catalogue};
 ghost use Rattle.dict_session.specs.Desks.{condition, Stays};
@@ -9,7 +9,7 @@ ghost use Rattle.dict_session.specs.Through.{EndsThrough};
 use crate::session::Session;
 use crate::step::{Course, Step};
 use dict_desk::Lookup;
-use dict_io::{Sink, Source};
+use dict_proto::{Sink, Source};
 use std::alloc::Global;
 
 /// How a session ended that met no fault.

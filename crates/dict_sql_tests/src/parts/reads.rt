@@ -1,12 +1,12 @@
 //! What is read of parts: all, in the order of their key and of their rowids, those of a file, and one.
 
 use crate::checks::same_text;
-use dict_part_sql::{
+use crate::texts::told;
+use dict_edition_sql::{
     StoredPart, has_part_table, next_part, parts_numbered, read_parts, read_parts_by_rowid,
     read_parts_of,
 };
 use dict_sql::records::ReadError;
-use dict_sql_checks::told;
 use sqlite::{Alter, Connection, Error, Rows};
 use std::alloc::Global;
 use std::process::Abort;

@@ -2,10 +2,10 @@
 
 use crate::checks::holds;
 use crate::opened::open;
+use crate::texts::{compare_numbers, raw};
 use dict_records::Mark;
 use dict_sql::insert::insert_mark;
 use dict_sql::transaction::{commit_open, roll_back};
-use dict_sql_checks::{compare_numbers, raw};
 use dict_tables::{StoreTable, has_table};
 use sqlite::{Alter, Connection, Error};
 use std::process::Abort;

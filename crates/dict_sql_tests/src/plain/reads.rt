@@ -2,13 +2,13 @@
 
 use crate::checks::same_text;
 use crate::rest::told_rest;
+use crate::texts::told;
 use dict_records::{Entry, Kept, Mark, Stored};
 use dict_sql::read::{editions_numbered, items, kept_replies_of, members};
 use dict_sql::records::{EditionNumber, ReadError};
 use dict_sql::stream::{
     next_record, read_by_rowid, read_edition_numbers, read_entries_of, read_kept_replies,
 };
-use dict_sql_checks::told;
 use dict_tables::{StoreTable, has_table};
 use sqlite::{Alter, Connection, Error, Rows};
 use std::alloc::Global;

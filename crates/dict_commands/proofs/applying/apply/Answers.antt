@@ -2,7 +2,7 @@ use Rattle.std.proofs.Common.{◌≡◌, true, false, None, Some, sym, subst, ru
 use Rattle.sqlite.specs.State.{HasCleanDisk}
 use Rattle.sqlite.specs.Held.{state}
 use Rattle.sqlite.proofs.StateLemmas.{survives_then}
-use Rattle.dict_name.specs.Names.{is_request_id}
+use Rattle.dict_text.specs.Names.{is_request_id}
 use Rattle.dict_catalogue.specs.Steps.{kept_under, Catalogue, summary_of, step}
 use Rattle.dict_catalogue.specs.Tests.{refusal_of}
 use Rattle.dict_catalogue.specs.Views.{command_meant, command_shown, kept_shown, summary_shown}

@@ -12,7 +12,7 @@ use Rattle.dict_sql.proofs.StreamLemmas.{passed_on}
 use Rattle.dict_catalogue.specs.Steps.{Catalogue, summary_of, kept_under, step}
 use Rattle.dict_desk.specs.Faults.{is_failure}
 use Rattle.dict_desk.specs.declared.fault.Fault.TheVariants.{Memory}
-use Rattle.dict_files.specs.AllTables.{with_derived, all_after}
+use Rattle.dict_holdings.specs.AllTables.{with_derived, all_after}
 use Rattle.dict_rows.specs.Versions.{known}
 use Rattle.dict_holdings.specs.Holds.{Holds, Rests}
 use Rattle.dict_commands.specs.Answers.{FailsToAct}

@@ -4,7 +4,7 @@ use Rattle.dict_sql.proofs.StreamLemmas.{passed_on}
 use Rattle.dict_desk.specs.declared.fault.Fault.TheVariants.{Memory}
 use Rattle.dict_holdings.specs.Writing.{FailsToEnd}
 use Rattle.dict_rows.specs.Versions.{known}
-use Rattle.dict_files.specs.AllTables.{all_after}
+use Rattle.dict_holdings.specs.AllTables.{all_after}
 use Rattle.dict_commands.specs.Kept.{Turns}
 use Rattle.dict_commands.specs.Changes.{change_by}
 use Rattle.dict_commands.specs.Committed.{FailsToCommit}

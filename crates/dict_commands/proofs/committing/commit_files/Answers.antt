@@ -2,7 +2,7 @@ use Rattle.std.proofs.Common.{◌≡◌, rules, sym, ap, subst, ◌∙◌, inl, 
 use Rattle.sqlite.specs.Effect.{Database, IsDatabase}
 use Rattle.sqlite.specs.State.{HasCleanDisk, Survives, Fails, IsRolledBack}
 use Rattle.sqlite.specs.Held.{state}
-use Rattle.dict_files.specs.AllTables.{all_after}
+use Rattle.dict_holdings.specs.AllTables.{all_after}
 use Rattle.dict_rows.specs.Versions.{known}
 use Rattle.dict_holdings.proofs.CommitLemmas.{leaves, done, only_left, commit_fails, keeps_begun, stays_undone}
 use Rattle.dict_commands.specs.Kept.{Turns}

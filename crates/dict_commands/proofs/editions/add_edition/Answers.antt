@@ -3,8 +3,8 @@ use Rattle.std.specs.Prelude.{slice_range}
 use Rattle.dict_sql.proofs.StreamLemmas.{passed_on}
 use Rattle.dict_rows.specs.After.{Installed}
 use Rattle.dict_rows.specs.Written.{edition_record}
-use Rattle.dict_files.specs.Files.{parts_under, installed_parts}
-use Rattle.dict_files.specs.AllTables.{AllTables}
+use Rattle.dict_holdings.specs.Files.{parts_under, installed_parts}
+use Rattle.dict_holdings.specs.AllTables.{AllTables}
 use Rattle.dict_commands.specs.Changes.{with_more_editions, with_more_parts, with_installed}
 use Rattle.dict_commands.specs.Statements.{adding_edition, adding_part, installing}
 use Rattle.dict_commands.specs.Writes.{Wrote, FailsToWrite}

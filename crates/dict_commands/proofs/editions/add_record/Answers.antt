@@ -1,7 +1,7 @@
 use Rattle.std.proofs.Common.{◌≡◌, codes, [], ◌∷◌, refl}
 use Rattle.sqlite.specs.Held.{state}
 use Rattle.dict_index.specs.Edition.{ReadEdition}
-use Rattle.dict_header_sql.specs.Records.{header_row}
+use Rattle.dict_edition_sql.specs.HeaderRecords.{header_row}
 use Rattle.dict_sql.proofs.StreamLemmas.{passed_on}
 use Rattle.dict_records.specs.Typed.{lent_header}
 use Rattle.dict_rows.specs.Written.{edition_record}

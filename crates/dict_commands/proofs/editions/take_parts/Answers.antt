@@ -9,7 +9,7 @@ use Rattle.sqlite.specs.Held.{state}
 use Rattle.dict_sql.specs.Deletes.{Removes, FailsToRemove}
 use Rattle.dict_sql.specs.Effects.{equals_number}
 use Rattle.dict_sql.proofs.StreamLemmas.{passed_on}
-use Rattle.dict_part_sql.specs.Chosen.{is_from}
+use Rattle.dict_edition_sql.specs.Chosen.{is_from}
 use Rattle.dict_commands.specs.Statements.{taking_from, taking_parts}
 use Rattle.dict_commands.specs.Writes.{Wrote, FailsToWrite}
 use Rattle.dict_commands.proofs.GoneLemmas.{handed}

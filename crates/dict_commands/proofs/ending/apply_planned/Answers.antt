@@ -1,7 +1,7 @@
 use Rattle.std.proofs.Common.{refl}
 use Rattle.sqlite.specs.Held.{state}
 use Rattle.dict_catalogue.specs.Views.{summary_shown}
-use Rattle.dict_files.specs.AllTables.{all_after, with_derived}
+use Rattle.dict_holdings.specs.AllTables.{all_after, with_derived}
 use Rattle.dict_rows.specs.Versions.{known}
 use Rattle.dict_commands.specs.Kept.{Turns}
 use Rattle.dict_commands.specs.Committed.{IsCommitted}

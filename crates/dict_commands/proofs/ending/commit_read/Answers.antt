@@ -5,7 +5,7 @@ use Rattle.sqlite.specs.Held.{Held, state}
 use Rattle.sqlite.proofs.StateLemmas.{survives_then}
 use Rattle.dict_sql.specs.Statements.{RunInTurn, FailsInTurn}
 use Rattle.dict_rows.specs.Versions.{known}
-use Rattle.dict_files.specs.AllTables.{all_after}
+use Rattle.dict_holdings.specs.AllTables.{all_after}
 use Rattle.dict_holdings.proofs.CommitLemmas.{commit_fails}
 use Rattle.dict_commands.specs.Changes.{change_by}
 use Rattle.dict_commands.specs.Installs.{install_read}

@@ -4,7 +4,7 @@ use Rattle.dict_sql.proofs.StreamLemmas.{passed_on}
 use Rattle.dict_catalogue.specs.Views.{item_shown, kept_shown}
 use Rattle.dict_rows.specs.After.{installed_editions}
 use Rattle.dict_rows.specs.Versions.{known}
-use Rattle.dict_files.specs.AllTables.{AllTables}
+use Rattle.dict_holdings.specs.AllTables.{AllTables}
 use Rattle.dict_commands.specs.Changes.{without_editions}
 use Rattle.dict_commands.specs.Changes.{with_mark, with_items, with_members, with_more_editions, with_reply, installed_by, change_by}
 use Rattle.dict_commands.specs.Installs.{install_read}

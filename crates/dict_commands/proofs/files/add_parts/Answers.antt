@@ -3,7 +3,7 @@ use Rattle.std.specs.Prelude.{slice_range}
 use Rattle.sqlite.specs.Held.{state}
 use Rattle.dict_sql.proofs.StreamLemmas.{passed_on}
 use Rattle.dict_records.specs.Records.{Part}
-use Rattle.dict_part_sql.specs.Records.{lent_part, part_row}
+use Rattle.dict_edition_sql.specs.PartRecords.{lent_part, part_row}
 use Rattle.dict_commands.specs.Changes.{with_more_parts}
 use Rattle.dict_commands.specs.Filing.{parts_of_files}
 use Rattle.dict_commands.specs.Statements.{adding_part}

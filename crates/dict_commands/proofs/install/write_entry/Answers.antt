@@ -1,6 +1,6 @@
 use Rattle.std.proofs.Common.{sym}
 use Rattle.sqlite_trees.proofs.ListLemmas.{all-slice_get}
-use Rattle.dict_index_lines.specs.Stored.{IsStorable}
+use Rattle.dict_parts.specs.Stored.{IsStorable}
 use Rattle.dict_reading.specs.Views.{line_read}
 use Rattle.dict_commands.proofs.install.write_entry.Goals as goal
 

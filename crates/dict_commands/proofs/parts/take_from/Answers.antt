@@ -3,7 +3,7 @@ use mir.Val.{to_z, of_z}
 use mir.Syntax.{w64}
 use Rattle.sqlite.specs.Held.{state}
 use Rattle.dict_sql.proofs.StreamLemmas.{passed_on}
-use Rattle.dict_part_sql.specs.Chosen.{is_from}
+use Rattle.dict_edition_sql.specs.Chosen.{is_from}
 use Rattle.dict_commands.specs.Statements.{taking_from}
 use Rattle.dict_commands.specs.Parts.{FailsSomewhere}
 use Rattle.dict_commands.proofs.GoneLemmas.{handed}

@@ -7,7 +7,7 @@ use Rattle.dict_records.specs.Records.{Mark}
 use Rattle.dict_records.specs.Typed.{lent_mark}
 use Rattle.dict_rows.specs.Versions.{known}
 use Rattle.dict_rows.specs.Written.{mark_record}
-use Rattle.dict_files.specs.AllTables.{AllTables}
+use Rattle.dict_holdings.specs.AllTables.{AllTables}
 use Rattle.dict_commands.specs.Statements.{clearing, adding_mark, mark_anew}
 use Rattle.dict_commands.specs.Writes.{FailsToWrite}
 use Rattle.dict_commands.proofs.TableLemmas.{marks_to_remove, has_marks, marks_cleared, marks_added}

@@ -6,7 +6,7 @@ use Rattle.dict_records.specs.Records.{Kept}
 use Rattle.dict_records.specs.Typed.{lent_kept}
 use Rattle.dict_rows.specs.Written.{kept_record}
 use Rattle.dict_catalogue.specs.Views.{kept_shown}
-use Rattle.dict_files.specs.AllTables.{AllTables}
+use Rattle.dict_holdings.specs.AllTables.{AllTables}
 use Rattle.dict_commands.specs.Statements.{replying}
 use Rattle.dict_commands.specs.Writes.{FailsToWrite}
 use Rattle.dict_commands.proofs.TableLemmas.{has_kept, kept_added}

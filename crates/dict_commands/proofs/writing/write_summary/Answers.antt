@@ -1,6 +1,6 @@
 use Rattle.std.proofs.Common.{map, ◌++◌}
 use Rattle.std.proofs.lemmas.Result.{on_ok_weaker, IfErr-weaker}
-use Rattle.dict_files.specs.AllTables.{AllTables}
+use Rattle.dict_holdings.specs.AllTables.{AllTables}
 use Rattle.dict_commands.specs.Writes.{Wrote, FailsToWrite}
 use Rattle.dict_commands.proofs.WriteLemmas.{wrote_then, failed_before, failed_after, spares_then}
 use Rattle.dict_catalogue.specs.Views.{item_shown}

@@ -1,7 +1,7 @@
 use Rattle.std.proofs.Common.{refl}
 use Rattle.dict_hub.specs.Events.{happening}
 use Rattle.dict_session.specs.Desks.{condition}
-use Rattle.dict_outlet.specs.Queues.{stream_of}
+use Rattle.dict_connection.specs.Queues.{stream_of}
 use Rattle.dict_connection.proofs.CauseLemmas.{caused_none, caused_one}
 use Rattle.dict_connection.proofs.LeadLemmas.{led_none}
 use Rattle.dict_connection.proofs.TellLemmas.{led_accepted, told_none, told_one}

@@ -1,4 +1,4 @@
-use Rattle.dict_outlet.specs.Queues.{counts_of}
+use Rattle.dict_connection.specs.Queues.{counts_of}
 use Rattle.dict_connection.proofs.delivering.deliver_through.Given as goal
 
 abbrev pub ghosts-deliver_from : goal.ghosts-deliver_from

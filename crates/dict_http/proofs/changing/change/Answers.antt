@@ -1,7 +1,7 @@
 use Rattle.std.proofs.Common.{sym}
 use Rattle.dict_catalogue.specs.Views.{kept_shown}
 use Rattle.dict_head.specs.declared.statuses.Status.TheVariants as statuses
-use Rattle.dict_json.specs.Texts.{kept_text}
+use Rattle.dict_http.specs.Texts.{kept_text}
 use Rattle.dict_http.specs.Answers.{with_body}
 use Rattle.dict_http.specs.Settling.{stays}
 use Rattle.dict_http.specs.Responding.{ended}

@@ -2,7 +2,7 @@ use Rattle.std.proofs.Common.{inl, inr, refl}
 use Rattle.dict_index.specs.Edition.{edition_of}
 use Rattle.dict_catalogue.specs.Commands.{install}
 use Rattle.dict_head.specs.declared.statuses.Status.TheVariants.{UnprocessableContent}
-use Rattle.dict_json.specs.Texts.{refused_edition_text}
+use Rattle.dict_http.specs.Texts.{refused_edition_text}
 use Rattle.dict_http.specs.Answers.{with_body}
 use Rattle.dict_http.specs.Actions.{command, no_edition}
 use Rattle.dict_http.specs.Settling.{applied, stays}

@@ -1,7 +1,7 @@
 use Rattle.std.proofs.Common.{inl, inr, refl, sym, subst}
 use Rattle.dict_catalogue.specs.Commands.{place}
 use Rattle.dict_head.specs.declared.statuses.Status.TheVariants.{BadRequest}
-use Rattle.dict_json.specs.Bodies.{IsPlace}
+use Rattle.dict_http.specs.Bodies.{IsPlace}
 use Rattle.dict_http.specs.Answers.{plain}
 use Rattle.dict_http.specs.Actions.{command, unformed}
 use Rattle.dict_http.specs.Settling.{applied, stays}

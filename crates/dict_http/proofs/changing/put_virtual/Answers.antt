@@ -3,7 +3,7 @@ use Rattle.serde_json.specs.View.{view}
 use Rattle.dict_catalogue.specs.Commands.{put_virtual}
 use Rattle.dict_catalogue.specs.Views.{names_shown}
 use Rattle.dict_head.specs.declared.statuses.Status.TheVariants.{BadRequest}
-use Rattle.dict_json.specs.Bodies.{IsVirtualValue}
+use Rattle.dict_http.specs.Bodies.{IsVirtualValue}
 use Rattle.dict_http.specs.Answers.{plain}
 use Rattle.dict_http.specs.Actions.{command, unformed}
 use Rattle.dict_http.specs.Settling.{applied, stays}

@@ -1,5 +1,5 @@
 use Rattle.std.proofs.Common.{refl}
-use Rattle.dict_preparing.specs.Expected.{of_files}
+use Rattle.dict_desk.specs.Expected.{of_files}
 use Rattle.dict_http.proofs.foreseeing.expect_files.Goals as goal
 
 pub returns-in-Some-clause-foreseen : goal.returns-in-Some-clause-foreseen

@@ -1,7 +1,7 @@
 use Rattle.std.proofs.Common.{rules, ◌≡◌, ◌≢◌, inl, inr, refl, subst}
 use Rattle.dict_catalogue.specs.Steps.{summary_of}
 use Rattle.dict_head.specs.declared.statuses.Status.TheVariants as statuses
-use Rattle.dict_json.specs.Texts.{list_text}
+use Rattle.dict_http.specs.Texts.{list_text}
 use Rattle.dict_http.specs.Answers.{plain, with_body}
 use Rattle.dict_http.specs.Settling.{stays, SettlesChange}
 use Rattle.dict_http.specs.Responding.{ended, answered}

@@ -1,7 +1,7 @@
 use Rattle.std.proofs.Common.{◌∙◌, ap, subst, List, ℕ}
 use Rattle.dict_catalogue.specs.Tests.{Holdings}
 use Rattle.dict_head.specs.declared.statuses.Status.TheVariants as statuses
-use Rattle.dict_json.specs.Texts.{list_text}
+use Rattle.dict_http.specs.Texts.{list_text}
 use Rattle.dict_http.specs.Answers.{octets_of, with_body}
 use Rattle.dict_http.specs.Responding.{IsAnswer}
 use Rattle.dict_http.proofs.service.list.Goals as goal

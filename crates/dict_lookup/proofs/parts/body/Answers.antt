@@ -1,7 +1,7 @@
 use Rattle.std.proofs.Common.{◌≡◌, ◌+◌, ◌-◌, ◌++◌, inl, ℕ, drop, length, take, refl, subst, arith, rules}
 use Rattle.sqlite.specs.Held.{state}
 use Rattle.dict_sql.specs.Effects.{Has}
-use Rattle.dict_part_sql.specs.Table.{part as part_table}
+use Rattle.dict_edition_sql.specs.PartTable.{part as part_table}
 use Rattle.dict_parts.proofs.IntervalLemmas.{cut_further}
 use Rattle.dict_desk.specs.declared.fault.Fault.{Fault}
 use Rattle.dict_lookup.specs.Texts.{FailsToFind}

@@ -6,7 +6,7 @@ use Rattle.sqlite.specs.Held.{state}
 use Rattle.sqlite.specs.State.{IsUnchanged}
 use Rattle.dict_parts.specs.Parts.{parts_of}
 use Rattle.dict_holdings.specs.Texts.{HoldsText}
-use Rattle.dict_texts.specs.Texts.{same_key}
+use Rattle.dict_lookup.specs.KeptTexts.{same_key}
 use Rattle.dict_lookup.specs.Texts.{IsAtMostRead}
 use Rattle.dict_lookup.specs.Taken.{more_taken, rows_for}
 use Rattle.dict_lookup.proofs.AskLemmas.{part_kept}

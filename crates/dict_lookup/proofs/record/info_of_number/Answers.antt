@@ -1,6 +1,6 @@
 use Rattle.std.proofs.Common.{ap, sym, subst, length, map, ◌∙◌, Some, string_bytes, option_map}
 use Rattle.std.specs.Prelude.{ℤ, pos}
-use Rattle.dict_header_sql.specs.Infos.{headers_with, informed, info_columns}
+use Rattle.dict_edition_sql.specs.Infos.{headers_with, informed, info_columns}
 use Rattle.dict_sql.specs.Reads.{FailsToList}
 use Rattle.dict_lookup.specs.Searches.{FailsToLookUp, column_of}
 use Rattle.dict_lookup.specs.Taken.{more_taken}

@@ -2,8 +2,8 @@ use Rattle.std.proofs.Common.{ap, refl, sym, subst, codes, filter, length, map, 
 use Rattle.std.specs.Prelude.{pos}
 use Rattle.sqlite.specs.Held.{state}
 use Rattle.dict_sql.specs.Effects.{rows_of}
-use Rattle.dict_part_sql.specs.Chosen.{is_numbered}
-use Rattle.dict_part_sql.specs.Records.{part_columns, stored_part}
+use Rattle.dict_edition_sql.specs.Chosen.{is_numbered}
+use Rattle.dict_edition_sql.specs.PartRecords.{part_columns, stored_part}
 use Rattle.dict_lookup.specs.Searches.{FailsToLookUp, column_of}
 use Rattle.dict_lookup.specs.Taken.{more_taken}
 use Rattle.dict_lookup.proofs.FailLemmas.{list_fails}

@@ -1,6 +1,6 @@
 use Rattle.std.proofs.Common.{arith}
 use Rattle.std.specs.Prelude.{string_bytes}
-use Rattle.dict_io.proofs.PutLemmas.{puts_err}
+use Rattle.dict_proto.proofs.PutLemmas.{puts_err}
 use Rattle.dict_messages.specs.Listing.{behind_comma}
 use Rattle.dict_messages.proofs.LineLemmas.{piece_front, piece_more}
 use Rattle.dict_messages.proofs.listing.put_further.Goals as goal

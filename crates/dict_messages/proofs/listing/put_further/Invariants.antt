@@ -1,6 +1,6 @@
 use Rattle.std.proofs.Common.{take}
 use Rattle.std.specs.List.{flat_map}
-use Rattle.dict_io.specs.Streams.{PutsAll}
+use Rattle.dict_proto.specs.Streams.{PutsAll}
 use Rattle.dict_catalogue.specs.Views.{texts_shown}
 use Rattle.dict_messages.specs.Listing.{behind_comma}
 use Rattle.dict_messages.proofs.listing.put_further.Given as goal

@@ -1,4 +1,4 @@
-use Rattle.dict_io.proofs.PutLemmas.{puts_err, puts_after, front_after, front_longer}
+use Rattle.dict_proto.proofs.PutLemmas.{puts_err, puts_after, front_after, front_longer}
 use Rattle.dict_messages.proofs.listing.put_item.Goals as goal
 
 pub returns-in_err-put_place : goal.returns-in_err-put_place

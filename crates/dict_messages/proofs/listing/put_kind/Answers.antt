@@ -1,4 +1,4 @@
-use Rattle.dict_io.proofs.PutLemmas.{puts_err, puts_after, front_longer}
+use Rattle.dict_proto.proofs.PutLemmas.{puts_err, puts_after, front_longer}
 use Rattle.dict_messages.proofs.listing.put_kind.Goals as goal
 
 pub returns-in_ok-put_virtual-in-Virtual : goal.returns-in_ok-put_virtual-in-Virtual

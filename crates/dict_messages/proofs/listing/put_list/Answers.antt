@@ -1,6 +1,6 @@
 use Rattle.std.proofs.Common.{◌+◌, ap, arith}
 use Rattle.dict_catalogue.specs.Views.{item_shown}
-use Rattle.dict_io.proofs.PutLemmas.{puts_err}
+use Rattle.dict_proto.proofs.PutLemmas.{puts_err}
 use Rattle.dict_messages.proofs.LineLemmas.{line_front, line_more}
 use Rattle.dict_messages.proofs.listing.put_list.Goals as goal
 

@@ -1,5 +1,5 @@
 use Rattle.std.proofs.Common.{◌≡◌, map, take}
-use Rattle.dict_io.specs.Streams.{PutsAll}
+use Rattle.dict_proto.specs.Streams.{PutsAll}
 use Rattle.dict_catalogue.specs.Views.{item_shown}
 use Rattle.dict_messages.specs.Listing.{lines_from}
 use Rattle.dict_messages.proofs.listing.put_list.Given as goal

@@ -7,8 +7,8 @@ use Rattle.dict_sql.specs.Effects.{seen}
 use Rattle.dict_sql.specs.declared.records.ReadError.TheVariants.{Store}
 use Rattle.dict_sql.proofs.Callers.{own_has}
 use Rattle.dict_sql.proofs.StreamLemmas.{passed_on}
-use Rattle.dict_migration_sql.specs.Entries.{entry_of}
-use Rattle.dict_migration_sql.proofs.CopyLemmas.{none_more}
+use Rattle.dict_older_sql.specs.Entries.{entry_of}
+use Rattle.dict_older_sql.proofs.CopyLemmas.{none_more}
 use Rattle.dict_migration.specs.Failing.{FailsInside}
 use Rattle.dict_migration.specs.Older.{keyed_names}
 use Rattle.dict_migration.specs.Places.{Dropping}

@@ -9,8 +9,8 @@ use Rattle.dict_sql.specs.Added.{AreAdded}
 use Rattle.dict_sql.specs.Effects.{seen}
 use Rattle.dict_sql.specs.declared.records.ReadError.TheVariants.{Store}
 use Rattle.dict_sql.proofs.StreamLemmas.{passed_on}
-use Rattle.dict_part_sql.specs.Records.{part_row}
-use Rattle.dict_files.specs.Files.{index_octets, parts_under}
+use Rattle.dict_edition_sql.specs.PartRecords.{part_row}
+use Rattle.dict_holdings.specs.Files.{index_octets, parts_under}
 use Rattle.dict_migration.specs.Failing.{FailsInside}
 use Rattle.dict_migration.specs.Places.{InEdition, InIndex, InRecord, Putting}
 use Rattle.dict_migration.specs.Steps.{IsEditionOf}

@@ -14,7 +14,7 @@ use Rattle.dict_sql.specs.Effects.{seen}
 use Rattle.dict_sql.specs.declared.records.ReadError.TheVariants.{Store}
 use Rattle.dict_sql.proofs.MakeLemmas.{keeps_then}
 use Rattle.dict_sql.proofs.StreamLemmas.{passed_on}
-use Rattle.dict_migration_sql.proofs.CopyLemmas.{keeps_none, none_more}
+use Rattle.dict_older_sql.proofs.CopyLemmas.{keeps_none, none_more}
 use Rattle.dict_migration.specs.Failing.{FailsInside}
 use Rattle.dict_migration.specs.Parts.{keeping}
 use Rattle.dict_migration.specs.Places.{InEdition, InEditions}

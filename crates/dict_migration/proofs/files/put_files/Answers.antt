@@ -5,8 +5,8 @@ use Rattle.sqlite.specs.Held.{state}
 use Rattle.sqlite.specs.Order.{Row}
 use Rattle.sqlite.proofs.StateLemmas.{survives_then}
 use Rattle.dict_records.specs.Records.{Part}
-use Rattle.dict_part_sql.specs.Records.{lent_part, part_row}
-use Rattle.dict_part_sql.specs.Table.{part as part_table}
+use Rattle.dict_edition_sql.specs.PartRecords.{lent_part, part_row}
+use Rattle.dict_edition_sql.specs.PartTable.{part as part_table}
 use Rattle.dict_sql.specs.Added.{AreAdded}
 use Rattle.dict_sql.specs.Effects.{seen}
 use Rattle.dict_sql.specs.declared.records.ReadError.TheVariants.{Store}
@@ -14,7 +14,7 @@ use Rattle.dict_sql.proofs.AddedLemmas.{none_added, one_added}
 use Rattle.dict_sql.proofs.Callers.{still_has}
 use Rattle.dict_sql.proofs.MakeLemmas.{goes_keeps, keeps_then}
 use Rattle.dict_sql.proofs.StreamLemmas.{passed_on}
-use Rattle.dict_migration_sql.proofs.CopyLemmas.{keeps_none, none_more}
+use Rattle.dict_older_sql.proofs.CopyLemmas.{keeps_none, none_more}
 use Rattle.dict_migration.specs.Failing.{FailsInside}
 use Rattle.dict_migration.specs.Parts.{putting}
 use Rattle.dict_migration.specs.Places.{First, Putting}

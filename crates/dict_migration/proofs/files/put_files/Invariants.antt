@@ -3,7 +3,7 @@ use Rattle.std.proofs.Common.{◌≡◌, take, map, codes, true}
 use Rattle.sqlite.specs.State.{HasCleanDisk, Survives, KeepsCommit}
 use Rattle.dict_sql.specs.Added.{AreAdded}
 use Rattle.dict_sql.specs.Effects.{seen}
-use Rattle.dict_part_sql.specs.Records.{part_row}
+use Rattle.dict_edition_sql.specs.PartRecords.{part_row}
 use Rattle.dict_migration.specs.Written.{parts_in}
 use Rattle.dict_migration.proofs.files.put_files.Given as goal
 

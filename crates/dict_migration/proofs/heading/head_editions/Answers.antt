@@ -2,9 +2,9 @@ use Rattle.std.proofs.Common.{arith, codes, map, inl, inr, refl}
 use Rattle.sqlite.specs.Held.{state}
 use Rattle.sqlite.specs.State.{HasCleanDisk}
 use Rattle.dict_records.specs.Typed.{owned_header}
-use Rattle.dict_header_sql.specs.Records.{header_row}
-use Rattle.dict_header_sql.specs.Table.{header}
-use Rattle.dict_header_sql.proofs.DefinitionLemmas.{header_defined}
+use Rattle.dict_edition_sql.specs.HeaderRecords.{header_row}
+use Rattle.dict_edition_sql.specs.HeaderTable.{header}
+use Rattle.dict_edition_sql.proofs.HeaderDefinitionLemmas.{header_defined}
 use Rattle.dict_sql.specs.Effects.{seen}
 use Rattle.dict_sql.specs.declared.records.ReadError.TheVariants.{Store}
 use Rattle.dict_sql.proofs.Callers.{own_has}

@@ -8,8 +8,8 @@ use Rattle.sqlite.proofs.StateLemmas.{survives_then}
 use Rattle.dict_records.specs.Records.{Header}
 use Rattle.dict_records.specs.Typed.{owned_header}
 use Rattle.dict_records.specs.declared.headers.Header.{Header as TypedHeader}
-use Rattle.dict_header_sql.specs.Records.{header_row}
-use Rattle.dict_header_sql.specs.Table.{header}
+use Rattle.dict_edition_sql.specs.HeaderRecords.{header_row}
+use Rattle.dict_edition_sql.specs.HeaderTable.{header}
 use Rattle.dict_sql.specs.Added.{AreAdded}
 use Rattle.dict_sql.specs.Effects.{IsAdded, seen}
 use Rattle.dict_sql.specs.Inserts.{FailsToInsert}
@@ -18,7 +18,7 @@ use Rattle.dict_sql.proofs.AddedLemmas.{none_added, one_added}
 use Rattle.dict_sql.proofs.Callers.{still_has}
 use Rattle.dict_sql.proofs.MakeLemmas.{goes_keeps, keeps_then}
 use Rattle.dict_sql.proofs.StreamLemmas.{passed_on}
-use Rattle.dict_migration_sql.proofs.CopyLemmas.{keeps_none, none_more}
+use Rattle.dict_older_sql.proofs.CopyLemmas.{keeps_none, none_more}
 use Rattle.dict_migration.specs.Failing.{FailsInside}
 use Rattle.dict_migration.specs.Parts.{putting}
 use Rattle.dict_migration.specs.Places.{First, Putting}

@@ -2,7 +2,7 @@
 use Rattle.std.proofs.Common.{◌≡◌, take, map, codes, true}
 use Rattle.sqlite.specs.State.{HasCleanDisk, Survives, KeepsCommit}
 use Rattle.dict_records.specs.Typed.{owned_header}
-use Rattle.dict_header_sql.specs.Records.{header_row}
+use Rattle.dict_edition_sql.specs.HeaderRecords.{header_row}
 use Rattle.dict_sql.specs.Added.{AreAdded}
 use Rattle.dict_sql.specs.Effects.{seen}
 use Rattle.dict_migration.proofs.heading.put_headers.Given as goal

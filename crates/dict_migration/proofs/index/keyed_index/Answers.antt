@@ -8,7 +8,7 @@ use Rattle.dict_sql.specs.Keyed.{stored_old_entry}
 use Rattle.dict_sql.specs.Reads.{IsSelection}
 use Rattle.dict_sql.specs.Keyed.{old_entry_columns}
 use Rattle.dict_sql.proofs.StreamLemmas.{passed_on}
-use Rattle.dict_migration_sql.proofs.CopyLemmas.{list_keeps, unchanged_keeps}
+use Rattle.dict_older_sql.proofs.CopyLemmas.{list_keeps, unchanged_keeps}
 use Rattle.dict_migration.specs.Failing.{FailsInside}
 use Rattle.dict_migration.specs.Parts.{reading, writing}
 use Rattle.dict_migration.specs.Places.{InIndex}

@@ -1,7 +1,7 @@
 use Rattle.std.proofs.Common.{◌∙◌, ◌++◌, ◌∷◌, [], map, ap, sym, subst}
 use Rattle.dict_records.specs.Records.{Entry}
-use Rattle.dict_index_lines.specs.Stored.{stored_line}
-use Rattle.dict_files.specs.Files.{entry_line}
+use Rattle.dict_parts.specs.Stored.{stored_line}
+use Rattle.dict_holdings.specs.Files.{entry_line}
 use Rattle.dict_sql.proofs.StreamLemmas.{passed_on}
 use Rattle.dict_migration.specs.Parts.{FailsToWrite}
 use Rattle.dict_migration.proofs.LineLemmas.{lines_next, write_later}

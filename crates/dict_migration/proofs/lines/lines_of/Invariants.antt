@@ -1,6 +1,6 @@
 -- the lines so far
 use Rattle.std.proofs.Common.{◌≡◌, map, take}
-use Rattle.dict_files.specs.Files.{index_octets}
+use Rattle.dict_holdings.specs.Files.{index_octets}
 use Rattle.dict_migration.proofs.lines.lines_of.Given as goal
 
 abbrev pub invariant-each : goal.invariant-each

@@ -8,8 +8,8 @@ use Rattle.dict_sql.specs.Inserts.{Inserts, FailsToInsert}
 use Rattle.dict_sql.specs.Statements.{make, add}
 use Rattle.dict_sql.proofs.Callers.{own_has}
 use Rattle.dict_sql.proofs.StreamLemmas.{passed_on}
-use Rattle.dict_header_sql.specs.Table.{header}
-use Rattle.dict_part_sql.specs.Table.{part}
+use Rattle.dict_edition_sql.specs.HeaderTable.{header}
+use Rattle.dict_edition_sql.specs.PartTable.{part}
 use Rattle.dict_rows.specs.Versions.{known}
 use Rattle.dict_rows.specs.Written.{mark_record}
 use Rattle.dict_migration.specs.Making.{Step, one, making, lasting_tables, creation, FailsInTurn}

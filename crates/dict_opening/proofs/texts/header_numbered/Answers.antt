@@ -3,7 +3,7 @@ use Rattle.std.proofs.lemmas.Int.{to_z-of_z}
 use mir.Syntax.{w64}
 use Rattle.sqlite.specs.Held.{state}
 use Rattle.dict_sql.specs.Effects.{equals_number}
-use Rattle.dict_header_sql.specs.Records.{header_columns, stored_header}
+use Rattle.dict_edition_sql.specs.HeaderRecords.{header_columns, stored_header}
 use Rattle.dict_sql.specs.Reads.{IsSelection}
 use Rattle.dict_opening.proofs.NoneLemmas.{one_item}
 use Rattle.dict_scans.specs.Reading.{IsExcused}

@@ -4,8 +4,8 @@ use mir.Syntax.{w64}
 use Rattle.sqlite.specs.Effect.{Database}
 use Rattle.sqlite.specs.State.{HasCleanDisk}
 use Rattle.sqlite.specs.Held.{state}
-use Rattle.dict_header_sql.specs.Records.{header_columns, stored_header}
-use Rattle.dict_part_sql.specs.Table.{part}
+use Rattle.dict_edition_sql.specs.HeaderRecords.{header_columns, stored_header}
+use Rattle.dict_edition_sql.specs.PartTable.{part}
 use Rattle.dict_sql.specs.Effects.{Has, equals_number}
 use Rattle.dict_sql.specs.Reads.{IsSelection}
 use Rattle.dict_sql.proofs.StreamLemmas.{passed_on}

@@ -1,7 +1,7 @@
 use Rattle.std.proofs.Common.{◌≡◌, ℕ, List, [], ◌∷◌, ◌++◌, sym, ap, ◌∙◌, subst, append_assoc}
 use Rattle.std.specs.Prelude.{Result}
 use Rattle.std.specs.List.{flat_map}
-use Rattle.dict_io.specs.Streams.{Stream, PutsFront}
+use Rattle.dict_proto.specs.Streams.{Stream, PutsFront}
 use Rattle.dict_proto.specs.Gathering.{Joins, Gathers}
 use Rattle.dict_proto.specs.Text.{escaped, quoted}
 use Rattle.dict_proto.proofs.GatheringLemmas.{gathers_err, gathers_after, joins_after, front_joined, front_more}

@@ -1,4 +1,4 @@
-use Rattle.dict_io.proofs.PutLemmas.{puts_err}
+use Rattle.dict_proto.proofs.PutLemmas.{puts_err}
 use Rattle.dict_proto.proofs.GatheringLemmas.{puts_gathered, front_gathered}
 use Rattle.dict_proto.proofs.quoted.put_quoted.Goals as goal
 

@@ -1,5 +1,5 @@
 use Rattle.dict_proto.specs.Replies.{definition_octets}
-use Rattle.dict_io.proofs.PutLemmas.{puts_err, puts_after, front_longer}
+use Rattle.dict_proto.proofs.PutLemmas.{puts_err, puts_after, front_longer}
 use Rattle.dict_proto.proofs.reply.put_definition.Goals as goal
 
 pub returns-in_err-put_definition_line : goal.returns-in_err-put_definition_line

@@ -1,5 +1,5 @@
 use Rattle.std.proofs.Common.{subst}
-use Rattle.dict_io.specs.Streams.{Puts}
+use Rattle.dict_proto.specs.Streams.{Puts}
 use Rattle.dict_proto.proofs.StuffingLemmas.{list_line-told}
 use Rattle.dict_proto.proofs.reply.put_list_line.Goals as goal
 

@@ -1,6 +1,6 @@
 use Rattle.std.proofs.Common.{◌≡◌, ℕ, List, ◌∷◌, [], ◌++◌, codes, ap, subst, append_assoc}
 use Rattle.std.specs.Prelude.{decimal}
-use Rattle.dict_io.specs.Streams.{Puts}
+use Rattle.dict_proto.specs.Streams.{Puts}
 use Rattle.dict_proto.specs.Text.{crlf, sent_line}
 use Rattle.dict_proto.specs.Replies.{server_lines, server_information_octets}
 use Rattle.dict_proto.proofs.reply.put_server_information.Goals as goal

@@ -2,7 +2,7 @@ use Rattle.std.proofs.Common.{◌≡◌, ℕ, List, [], ◌∷◌, ◌++◌, sym
 use Rattle.std.specs.List.{flat_map}
 use Rattle.std.proofs.lemmas.List.Concat.{flat_map-append}
 use Rattle.dict_text.specs.Lines.{text_lines}
-use Rattle.dict_io.specs.Streams.{Stream, PutsFront}
+use Rattle.dict_proto.specs.Streams.{Stream, PutsFront}
 use Rattle.dict_proto.specs.Gathering.{Joins}
 use Rattle.dict_proto.specs.Text.{sent_line}
 use Rattle.dict_proto.proofs.GatheringLemmas.{gathers_err, joins_after, front_joined, front_more}

@@ -1,7 +1,7 @@
 use Rattle.std.proofs.Common.{◌≡◌, true, ◌&&◌, sym, ap, ◌∙◌}
 use Rattle.std.specs.Str.{is_utf8}
 use Rattle.std.proofs.lemmas.Str.{is_utf8-from_IsUtf8}
-use Rattle.dict_name.specs.Names.{is_title}
+use Rattle.dict_text.specs.Names.{is_title}
 use Rattle.dict_rows.proofs.lawful.is_text_title.Goals as goal
 
 pub returns : goal.returns

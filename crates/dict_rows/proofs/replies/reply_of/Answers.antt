@@ -1,6 +1,6 @@
 use Rattle.std.proofs.Common.{rules, ◌≡◌, true}
 use Rattle.std.specs.Prelude.{is_some}
-use Rattle.dict_name.specs.Names.{is_name, is_request_id}
+use Rattle.dict_text.specs.Names.{is_name, is_request_id}
 use Rattle.dict_catalogue.specs.WellFormed.{tells_edition}
 use Rattle.dict_records.specs.Typed.{owned_kept}
 use Rattle.dict_rows.specs.Written.{verb_name}

@@ -7,7 +7,7 @@ use Rattle.dict_sql.specs.Reads.{FailsToRead}
 use Rattle.dict_scans.specs.Reading.{OnlyReads, IsExcused}
 use Rattle.dict_scans.specs.Scans.{TakesAll, IsWrong}
 use Rattle.std.proofs.Common.{codes}
-use Rattle.dict_header_sql.specs.Records.{header_columns, stored_header}
+use Rattle.dict_edition_sql.specs.HeaderRecords.{header_columns, stored_header}
 use Rattle.dict_scans.specs.Cursors.Cursor.{HeadersByRowid}
 use Rattle.dict_scans.proofs.CensusLemmas.{census_whole, census_wrong}
 use Rattle.std.proofs.Common.{refl}

@@ -7,7 +7,7 @@ use Rattle.sqlite.specs.Held.{state}
 use Rattle.dict_sql.specs.Reads.{FailsToRead}
 use Rattle.dict_scans.specs.Reading.{OnlyReads, IsExcused}
 use Rattle.dict_scans.specs.Scans.{TakesAll, IsWrong}
-use Rattle.dict_part_sql.specs.Records.{part_columns, stored_part}
+use Rattle.dict_edition_sql.specs.PartRecords.{part_columns, stored_part}
 use Rattle.dict_scans.specs.Cursors.Cursor.{PartsOf}
 use Rattle.dict_scans.specs.Files.{TakesParts, RefusesParts}
 use Rattle.dict_scans.proofs.BeginLemmas.{reads_on, whole_on, damaged_on}

@@ -4,7 +4,7 @@ use mir.Syntax.{w64}
 use mir.Val.{to_z, of_z}
 use Rattle.sqlite.specs.Held.{state}
 use Rattle.dict_sql.proofs.StreamLemmas.{passed_on}
-use Rattle.dict_part_sql.specs.Records.{part_columns, stored_part}
+use Rattle.dict_edition_sql.specs.PartRecords.{part_columns, stored_part}
 use Rattle.dict_scans.specs.Cursors.Cursor.{PartsOf}
 use Rattle.dict_scans.specs.Files.{HasFile, HasNoFile, TakesParts, RefusesParts}
 use Rattle.dict_scans.specs.Scans.{TakesAll, IsWrong}

@@ -1,8 +1,8 @@
 use Rattle.std.proofs.Common.{◌≡◌, ◌++◌, ◌∷◌, [], length, refl, ap, ◌∙◌, append-nil, rules}
 use Rattle.std.specs.Prelude.{◌≢◌}
 use Rattle.dict_text.proofs.AllLemmas.{all_append}
-use Rattle.dict_index_lines.specs.Stored.{IsStorable, stored_index, stored_line}
-use Rattle.dict_index_lines.specs.Views.{line_of}
+use Rattle.dict_parts.specs.Stored.{IsStorable, stored_index, stored_line}
+use Rattle.dict_parts.specs.Views.{line_of}
 use Rattle.dict_rows.specs.declared.fault.RowsFault.{RowsFault}
 use Rattle.dict_rows.specs.declared.fault.RowsFault.TheVariants.{Damaged}
 use Rattle.dict_sql.proofs.StreamLemmas.{passed_on}

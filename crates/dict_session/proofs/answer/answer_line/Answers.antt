@@ -1,5 +1,5 @@
 use Rattle.std.proofs.Common.{subst}
-use Rattle.dict_line.specs.Told.{Tells}
+use Rattle.dict_proto.specs.Told.{Tells}
 use Rattle.dict_session.specs.Desks.{across}
 use Rattle.dict_session.proofs.answer.answer_line.Goals as goal
 

@@ -1,8 +1,8 @@
 use Rattle.std.proofs.Common.{ap, subst, sym}
 use Rattle.std.specs.Prelude.{Option, slice_get}
 use Rattle.std.specs.List.{flat_map}
-use Rattle.dict_io.specs.Streams.{PutsAll}
-use Rattle.dict_io.proofs.PutLemmas.{puts_none}
+use Rattle.dict_proto.specs.Streams.{PutsAll}
+use Rattle.dict_proto.proofs.PutLemmas.{puts_none}
 use Rattle.dict_catalogue.specs.Steps.{summary_of}
 use Rattle.dict_session.specs.Places.{IsHeading}
 use Rattle.dict_session.specs.Ending.{Delivers}

@@ -1,7 +1,7 @@
 use Rattle.std.proofs.Common.{List, ℕ, ◌++◌, true, false, subst, append_assoc}
 use Rattle.std.specs.List.{flat_map}
-use Rattle.dict_io.specs.Streams.{PutsAll}
-use Rattle.dict_io.proofs.PutLemmas.{all_after}
+use Rattle.dict_proto.specs.Streams.{PutsAll}
+use Rattle.dict_proto.proofs.PutLemmas.{all_after}
 use Rattle.dict_session.specs.Answers.{no_rows, counted_rows}
 use Rattle.dict_session.specs.Ending.{Breaks, PutsAnswer}
 use Rattle.dict_session.specs.Rows.{count_octets, end_octets, octets_at}

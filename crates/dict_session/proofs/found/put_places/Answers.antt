@@ -2,8 +2,8 @@ use Rattle.std.proofs.Common.{◌++◌, ◌+◌, ◌<◌, [], ◌∷◌, ap, ◌
 use Rattle.std.specs.List.{flat_map}
 use Rattle.std.proofs.lemmas.List.{take_more, take_all}
 use Rattle.std.proofs.lemmas.List.Concat.{flat_map-append}
-use Rattle.dict_io.specs.Streams.{PutsAll}
-use Rattle.dict_io.proofs.PutLemmas.{puts_none, all_after, pieces_at}
+use Rattle.dict_proto.specs.Streams.{PutsAll}
+use Rattle.dict_proto.proofs.PutLemmas.{puts_none, all_after, pieces_at}
 use Rattle.dict_session.specs.Ending.{Breaks}
 use Rattle.dict_session.specs.Rows.{octets_at}
 use Rattle.dict_session.proofs.PartLemmas.{stays_same, stays_after, breaks_after, breaks_longer}

@@ -1,7 +1,7 @@
 use Rattle.std.proofs.Common.{◌≡◌, false, take}
 use Rattle.std.specs.List.{flat_map}
 use Rattle.dict_catalogue.specs.Steps.{Catalogue}
-use Rattle.dict_io.specs.Streams.{PutsAll}
+use Rattle.dict_proto.specs.Streams.{PutsAll}
 use Rattle.dict_session.specs.Desks.{Stays}
 use Rattle.dict_session.specs.Rows.{octets_at}
 use Rattle.dict_session.proofs.found.put_places.Given as goal

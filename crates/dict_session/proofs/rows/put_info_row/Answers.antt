@@ -1,4 +1,4 @@
-use Rattle.dict_io.proofs.PutLemmas.{puts_after}
+use Rattle.dict_proto.proofs.PutLemmas.{puts_after}
 use Rattle.dict_proto.specs.Replies.{info_heading_octets, info_text_octets}
 use Rattle.dict_session.proofs.rows.put_info_row.Goals as goal
 

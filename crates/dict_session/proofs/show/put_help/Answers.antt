@@ -1,5 +1,5 @@
 use Rattle.std.proofs.Common.{subst}
-use Rattle.dict_io.specs.Streams.{Puts}
+use Rattle.dict_proto.specs.Streams.{Puts}
 use Rattle.dict_session.proofs.ShowLemmas.{help_is}
 use Rattle.dict_session.proofs.show.put_help.Goals as goal
 

@@ -1,6 +1,6 @@
 use Rattle.std.proofs.Common.{List, [], ℕ, false, refl, ◌++◌, ◌≡◌, ap, ◌∙◌, sym, subst, map, true, None, Some}
 use Rattle.std.specs.Prelude.{option_map, find, string_bytes}
-use Rattle.dict_io.specs.Streams.{Puts}
+use Rattle.dict_proto.specs.Streams.{Puts}
 use Rattle.dict_catalogue.specs.Items.{is_named, regular, virtual}
 use Rattle.dict_catalogue.specs.Views.{item_shown, texts_shown, stored_shown}
 use Rattle.dict_catalogue.specs.declared.summary.Item.{Item as SummaryItem}

@@ -1,5 +1,5 @@
 use Rattle.std.proofs.Common.{arith}
-use Rattle.dict_io.proofs.PutLemmas.{puts_err}
+use Rattle.dict_proto.proofs.PutLemmas.{puts_err}
 use Rattle.dict_catalogue.specs.Views.{item_shown}
 use Rattle.dict_session.specs.Rows.{shown_line}
 use Rattle.dict_session.proofs.ShowLemmas.{loop_front, loop_more}

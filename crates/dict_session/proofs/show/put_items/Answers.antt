@@ -1,8 +1,8 @@
 use Rattle.std.proofs.Common.{◌++◌, sym, subst, map, length}
 use Rattle.std.specs.List.{flat_map}
 use Rattle.std.proofs.lemmas.List.{length-map}
-use Rattle.dict_io.specs.Streams.{Puts}
-use Rattle.dict_io.proofs.PutLemmas.{puts_after, puts_err, front_after, front_longer}
+use Rattle.dict_proto.specs.Streams.{Puts}
+use Rattle.dict_proto.proofs.PutLemmas.{puts_after, puts_err, front_after, front_longer}
 use Rattle.dict_catalogue.specs.Views.{item_shown}
 use Rattle.dict_proto.specs.Replies.{database_count_octets, list_end_octets, done_octets}
 use Rattle.dict_session.specs.Rows.{shown_line}

@@ -1,8 +1,8 @@
 use Rattle.std.proofs.Common.{List, ℕ, arith, map, subst}
 use Rattle.std.specs.Prelude.{string_bytes}
 use Rattle.std.specs.List.{flat_map}
-use Rattle.dict_io.specs.Streams.{PutsAll, PutsFront}
-use Rattle.dict_io.proofs.PutLemmas.{puts_err}
+use Rattle.dict_proto.specs.Streams.{PutsAll, PutsFront}
+use Rattle.dict_proto.proofs.PutLemmas.{puts_err}
 use Rattle.dict_catalogue.specs.Views.{item_shown}
 use Rattle.dict_session.specs.Rows.{line_if_named}
 use Rattle.dict_session.proofs.ShowLemmas.{loop_front, loop_more}

@@ -1,5 +1,5 @@
 use Rattle.std.proofs.Common.{◌++◌, map}
-use Rattle.dict_io.proofs.PutLemmas.{puts_err, puts_after, front_after, front_longer}
+use Rattle.dict_proto.proofs.PutLemmas.{puts_err, puts_after, front_after, front_longer}
 use Rattle.dict_catalogue.specs.Views.{item_shown, texts_shown}
 use Rattle.dict_proto.specs.Replies.{info_heading_octets, list_end_octets, done_octets}
 use Rattle.dict_session.specs.Rows.{members_octets}

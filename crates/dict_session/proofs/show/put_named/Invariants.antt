@@ -1,7 +1,7 @@
 use Rattle.std.proofs.Common.{take, map}
 use Rattle.std.specs.List.{flat_map}
 use Rattle.dict_catalogue.specs.Views.{item_shown}
-use Rattle.dict_io.specs.Streams.{PutsAll}
+use Rattle.dict_proto.specs.Streams.{PutsAll}
 use Rattle.dict_session.specs.Rows.{line_if_named}
 use Rattle.dict_session.proofs.show.put_named.Given as goal
 

@@ -1,9 +1,9 @@
 use Rattle.std.proofs.Common.{sym, ap, subst, arith}
 use Rattle.std.specs.List.{flat_map}
 use Rattle.std.proofs.lemmas.List.{take_all}
-use Rattle.dict_io.specs.Streams.{Puts, PutsAll}
+use Rattle.dict_proto.specs.Streams.{Puts, PutsAll}
 use Rattle.dict_proto.specs.Replies.{reply_octets}
-use Rattle.dict_io.proofs.PutLemmas.{puts_err, front_after, front_longer, pieces_at}
+use Rattle.dict_proto.proofs.PutLemmas.{puts_err, front_after, front_longer, pieces_at}
 use Rattle.dict_session.proofs.show.put_replies.Goals as goal
 
 pub returns-in_err-write_reply : goal.returns-in_err-write_reply

@@ -1,7 +1,7 @@
 use Rattle.std.proofs.Common.{take}
 use Rattle.std.specs.List.{flat_map}
 use Rattle.dict_proto.specs.Replies.{reply_octets}
-use Rattle.dict_io.specs.Streams.{PutsAll}
+use Rattle.dict_proto.specs.Streams.{PutsAll}
 use Rattle.dict_session.proofs.show.put_replies.Given as goal
 
 abbrev pub invariant-loop-reply : goal.invariant-loop-reply

@@ -1,8 +1,8 @@
 use Rattle.std.proofs.Common.{List, ℕ, true, false, ◌++◌, sym, ap, ◌∙◌, subst, inl, Ok}
 use Rattle.std.specs.Prelude.{◌||◌}
 use Rattle.std.specs.List.{flat_map}
-use Rattle.dict_io.specs.Streams.{PutsFront}
-use Rattle.dict_io.proofs.PutLemmas.{front_longer}
+use Rattle.dict_proto.specs.Streams.{PutsFront}
+use Rattle.dict_proto.proofs.PutLemmas.{front_longer}
 use Rattle.dict_desk.specs.Shown.{info_rows}
 use Rattle.dict_proto.specs.Replies.{info_heading_octets, info_text_octets, done_octets}
 use Rattle.dict_session.specs.Answers.{no_rows, one_row}

@@ -1,5 +1,5 @@
 use Rattle.std.proofs.Common.{subst, sym}
-use Rattle.dict_io.specs.Streams.{Puts}
+use Rattle.dict_proto.specs.Streams.{Puts}
 use Rattle.dict_session.specs.Answers.{no_rows}
 use Rattle.dict_session.specs.Ending.{PutsAnswer}
 use Rattle.dict_session.specs.Shows.{server_answer}

@@ -1,6 +1,6 @@
 use Rattle.std.proofs.Common.{◌++◌, length}
 use Rattle.std.specs.List.{flat_map}
-use Rattle.dict_io.proofs.PutLemmas.{puts_err, puts_after, front_after, front_longer}
+use Rattle.dict_proto.proofs.PutLemmas.{puts_err, puts_after, front_after, front_longer}
 use Rattle.dict_match.specs.StrategyText.{strategies}
 use Rattle.dict_proto.specs.Replies.{strategy_count_octets, list_end_octets, done_octets}
 use Rattle.dict_session.specs.Shows.{strategy_line, strategies_answer}

@@ -1,6 +1,6 @@
 use Rattle.std.proofs.Common.{sym, subst, arith}
-use Rattle.dict_io.specs.Streams.{Puts, PutsFront}
-use Rattle.dict_io.proofs.PutLemmas.{puts_err, front_after, front_longer, pieces_at}
+use Rattle.dict_proto.specs.Streams.{Puts, PutsFront}
+use Rattle.dict_proto.proofs.PutLemmas.{puts_err, front_after, front_longer, pieces_at}
 use Rattle.dict_match.specs.StrategyText.{strategies}
 use Rattle.dict_session.specs.Shows.{strategy_line}
 use Rattle.dict_session.proofs.show.put_strategy_lines.Goals as goal

@@ -1,6 +1,6 @@
 use Rattle.std.proofs.Common.{take}
 use Rattle.std.specs.List.{flat_map}
-use Rattle.dict_io.specs.Streams.{PutsAll}
+use Rattle.dict_proto.specs.Streams.{PutsAll}
 use Rattle.dict_match.specs.StrategyText.{strategies}
 use Rattle.dict_session.specs.Shows.{strategy_line}
 use Rattle.dict_session.proofs.show.put_strategy_lines.Given as goal

@@ -2,7 +2,7 @@ use Rattle.std.proofs.Common.{arith, codes}
 use Rattle.sqlite.specs.State.{HasCleanDisk}
 use Rattle.sqlite.specs.Held.{state}
 use Rattle.dict_sql.proofs.Callers.{still_has, apart_added}
-use Rattle.dict_header_sql.specs.Table.{header}
+use Rattle.dict_edition_sql.specs.HeaderTable.{header}
 use Rattle.dict_sql_tests.proofs.headers.put.Goals as goal
 
 pub returns : goal.returns

@@ -2,7 +2,7 @@ use Rattle.std.proofs.Common.{arith}
 use Rattle.sqlite.specs.State.{HasCleanDisk}
 use Rattle.sqlite.specs.Held.{state}
 use Rattle.dict_sql_tests.proofs.CommitLemmas.{after_commit, apart_made}
-use Rattle.dict_part_sql.specs.Table.{part}
+use Rattle.dict_edition_sql.specs.PartTable.{part}
 use Rattle.dict_sql_tests.proofs.parts.make.Goals as goal
 
 pub returns : goal.returns

@@ -2,7 +2,7 @@ use Rattle.std.proofs.Common.{arith, codes}
 use Rattle.sqlite.specs.State.{HasCleanDisk}
 use Rattle.sqlite.specs.Held.{state}
 use Rattle.dict_sql.proofs.Callers.{still_has, apart_added}
-use Rattle.dict_part_sql.specs.Table.{part}
+use Rattle.dict_edition_sql.specs.PartTable.{part}
 use Rattle.dict_sql_tests.proofs.parts.put.Goals as goal
 
 pub returns : goal.returns

@@ -2,7 +2,7 @@ use Rattle.std.proofs.Common.{◌≡◌, ℕ, List, subst}
 use Rattle.std.specs.Prelude.{Some}
 use Rattle.dict_index.specs.Edition.{Edition}
 use Rattle.dict_desk.specs.Shown.{count_of}
-use Rattle.dict_indexes.specs.Indexes.{entries_under}
+use Rattle.dict_lookup.specs.Indexes.{entries_under}
 use Rattle.dict_lookup.specs.Texts.{IsIndexOf}
 use Rattle.dict_search.specs.Entries.{Indexed}
 use Rattle.dict_store.proofs.StandingLemmas.{if_ok_with, no_index, not_none, the_index}

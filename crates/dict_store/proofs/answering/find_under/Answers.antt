@@ -1,5 +1,5 @@
 use Rattle.std.proofs.Common.{List, subst}
-use Rattle.dict_indexes.specs.Indexes.{entries_under}
+use Rattle.dict_lookup.specs.Indexes.{entries_under}
 use Rattle.dict_lookup.specs.Texts.{Cuts}
 use Rattle.dict_search.specs.Entries.{Indexed}
 use Rattle.dict_store.proofs.StandingLemmas.{no_index, not_none, the_index}

@@ -1,7 +1,7 @@
 use Rattle.std.proofs.Common.{◌≡◌, ◌<◌, ◌≤◌, ◌+◌, ◌-◌, pos, length, slice_index_or, [], arith, sym, subst, ◌∙◌}
-use Rattle.dict_files.specs.Files.{part_at, parts_under}
+use Rattle.dict_holdings.specs.Files.{part_at, parts_under}
 use Rattle.dict_parts.specs.Parts.{parts_of}
-use Rattle.dict_part_sql.specs.Records.{lent_part}
+use Rattle.dict_edition_sql.specs.PartRecords.{lent_part}
 use Rattle.dict_commands.proofs.PlaceLemmas.{both_length, first_at, second_at}
 use Rattle.dict_commands.proofs.files.EditionFiles.part.Goals as goal
 

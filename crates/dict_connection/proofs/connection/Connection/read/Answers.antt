@@ -5,8 +5,8 @@ use Rattle.dict_connection.specs.Causes.{IsRefused}
 use Rattle.dict_connection.proofs.CauseLemmas.{caused_from, caused_still}
 use Rattle.dict_connection.proofs.BackLemmas.{back_never, none_back, over_closed, told_as}
 use Rattle.dict_connection.specs.Turns.{ReadsOnce}
-use Rattle.dict_outlet.specs.declared.calls.Received.TheVariants as receiveds
-use Rattle.dict_outlet.proofs.CallLemmas.{makes_none}
+use Rattle.dict_connection.specs.declared.calls.Received.TheVariants as receiveds
+use Rattle.dict_connection.proofs.CallLemmas.{makes_none}
 use Rattle.dict_connection.proofs.LeadLemmas.{led_as, led_still}
 use Rattle.dict_connection.proofs.HoldLemmas.{led_behind, led_quiet, reads_octets, refused_over}
 use Rattle.dict_hub.specs.Events.{is_of_editor}

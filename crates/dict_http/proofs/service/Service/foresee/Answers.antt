@@ -1,6 +1,6 @@
 use Rattle.std.proofs.Common.{◌≡◌, ◌∙◌, sym, ap, subst}
 use Rattle.std.specs.Prelude.{Some}
-use Rattle.dict_route.specs.Paths.{IsPath}
+use Rattle.dict_head.specs.Paths.{IsPath}
 use Rattle.dict_http.specs.Actions.{action_of}
 use Rattle.dict_http.specs.Foreseeing.{AsksAnewBy, AsksBy}
 use Rattle.dict_http.specs.declared.actions.Action.TheVariants.{Install}

@@ -1,7 +1,7 @@
 use Rattle.std.proofs.Common.{◌≡◌, ◌∙◌, inl, inr, refl, sym, ap, subst}
 use Rattle.std.specs.Prelude.{Some, None}
 use Rattle.dict_head.specs.declared.statuses.Status.TheVariants as statuses
-use Rattle.dict_route.specs.Paths.{IsPath}
+use Rattle.dict_head.specs.Paths.{IsPath}
 use Rattle.dict_http.specs.Answers.{plain, not_allowed}
 use Rattle.dict_http.specs.Actions.{action_of}
 use Rattle.dict_http.specs.Settling.{stays}

@@ -1,6 +1,6 @@
 use Rattle.std.proofs.Common.{◌≡◌, ◌∙◌, ap, sym, subst, refl}
 use Rattle.std.specs.Prelude.{IfErr, IfOk, true, false}
-use Rattle.dict_io.specs.Streams.{change}
+use Rattle.dict_proto.specs.Streams.{change}
 use Rattle.dict_hub.specs.Books.{IsRefusal, opening}
 use Rattle.dict_hub.specs.Hubs.{Has, count_of, greatest_of}
 use Rattle.dict_hub.specs.Events.{happening, asks_desk, opened, came, ended, id_of, count_after, held_after}

@@ -1,6 +1,6 @@
 use Rattle.std.proofs.Common.{◌≡◌, ◌<◌, ◌++◌, ℕ, List, length, refl, sym, ap, ◌∙◌, subst, arith, append_assoc, inl, inr}
 use Rattle.std.specs.Prelude.{◌⊎◌, Result, Ok, Err}
-use Rattle.dict_io.specs.Streams.{Stream, Puts, PutsAll, PutsFront}
+use Rattle.dict_proto.specs.Streams.{Stream, Puts, PutsAll, PutsFront}
 use Rattle.dict_http.specs.Answers.{octets_of}
 use Rattle.dict_http.specs.Responding.{Responds}
 use Rattle.dict_http.specs.Settling.{Settles}

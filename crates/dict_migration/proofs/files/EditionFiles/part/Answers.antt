@@ -2,9 +2,9 @@ use Rattle.std.proofs.Common.{◌≡◌, ◌<◌, ◌≤◌, ◌+◌, ◌-◌, p
 use Rattle.std.proofs.lemmas.Int.{to_z-of_z}
 use mir.Syntax.{w64}
 use mir.Val.{SFits}
-use Rattle.dict_files.specs.Files.{part_at, parts_under}
+use Rattle.dict_holdings.specs.Files.{part_at, parts_under}
 use Rattle.dict_parts.specs.Parts.{parts_of}
-use Rattle.dict_part_sql.specs.Records.{lent_part}
+use Rattle.dict_edition_sql.specs.PartRecords.{lent_part}
 use Rattle.dict_migration.proofs.FileLemmas.{both_length, first_at, second_at}
 use Rattle.dict_migration.proofs.files.EditionFiles.part.Goals as goal
 

@@ -1,6 +1,6 @@
 use Rattle.std.proofs.Common.{◌≡◌, ◌∙◌, ap, false, subst}
 use Rattle.std.specs.Prelude.{Result, Ok, Err, OnErr, is_ok}
-use Rattle.dict_io.specs.Streams.{PutsAll}
+use Rattle.dict_proto.specs.Streams.{PutsAll}
 use Rattle.dict_proto.proofs.GatheringLemmas.{gathers_through}
 use Rattle.dict_proto.proofs.gathered.Gathered.add.Goals as goal
 

@@ -3,7 +3,7 @@ use Rattle.std.specs.Prelude.{map, IsUtf8}
 use Rattle.std.specs.List.{list_any}
 use Rattle.std.proofs.lemmas.Bool.{false≢true}
 use Rattle.std.proofs.lemmas.Result.{err_from_is_err_and}
-use Rattle.dict_name.specs.Names.{is_title}
+use Rattle.dict_text.specs.Names.{is_title}
 use Rattle.dict_records.specs.Typed.{owned_edition}
 use Rattle.dict_catalogue.specs.Views.{item_shown}
 use Rattle.dict_rows.specs.Titles.{awaits, item_titled}

@@ -3,7 +3,7 @@ use Rattle.std.proofs.lemmas.Int.{to_z-of_z}
 use mir.Syntax.{w64}
 use mir.Val.{to_z, of_z, SFits}
 use Rattle.sqlite.specs.declared.types.Value.TheVariants.{Int}
-use Rattle.dict_part_sql.specs.Records.{stored_part}
+use Rattle.dict_edition_sql.specs.PartRecords.{stored_part}
 use Rattle.dict_scans.specs.Census.{is_in_file}
 use Rattle.dict_scans.proofs.CensusLemmas.{census_next, census_refused, part_next, part_in_no_file}
 use Rattle.dict_scans.proofs.TakerLemmas.{if_err_then, ok_both}

@@ -1,6 +1,6 @@
 use Rattle.std.proofs.Common.{◌≡◌, [], ◌∷◌}
 use Rattle.std.proofs.lemmas.Result.{on_ok_weaker}
-use Rattle.dict_index_lines.specs.Views.{line_of}
+use Rattle.dict_parts.specs.Views.{line_of}
 use Rattle.dict_rows.specs.declared.fault.RowsFault.{RowsFault}
 use Rattle.dict_rows.specs.declared.fault.RowsFault.TheVariants.{Damaged}
 use Rattle.dict_sql.proofs.StreamLemmas.{passed_on}

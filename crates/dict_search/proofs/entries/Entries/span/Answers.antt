@@ -1,6 +1,6 @@
 use Rattle.std.proofs.Common.{ap, ◌∙◌}
 use Rattle.dict_search.specs.Entries.{Indexed, entry_at}
-use Rattle.dict_runs.specs.declared.spans.Span.{Span}
+use Rattle.dict_derived.specs.declared.spans.Span.{Span}
 use Rattle.dict_search.proofs.StoredLemmas.{any_span_at}
 use Rattle.dict_search.proofs.entries.Entries.span.Goals as goal
 

@@ -2,7 +2,7 @@ use Rattle.std.proofs.Common.{◌≡◌, All, false, ℕ, ◌<◌, ◌+◌, List
 use Rattle.std.proofs.lemmas.List.{take_more, take_all}
 use Rattle.dict_session.specs.Session.{IsSameSession, host_of}
 use Rattle.dict_session.specs.Through.{LeavesThrough, looks_up}
-use Rattle.dict_line.specs.Meaning.{meaning}
+use Rattle.dict_proto.specs.Meaning.{meaning}
 use Rattle.dict_session.specs.Answers.{answer_to}
 use Rattle.dict_session.specs.Lines.{Cut, cut}
 use Rattle.dict_session.specs.declared.session.Session.{Session}

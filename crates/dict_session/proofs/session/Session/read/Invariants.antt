@@ -4,7 +4,7 @@ use Rattle.dict_session.specs.Desks.{condition, Stays}
 use Rattle.dict_session.specs.Session.{HasUnfinished, IsSameSession, host_of}
 use Rattle.dict_session.specs.Through.{LeavesThrough, looks_up}
 use Rattle.dict_session.specs.Lines.{cut}
-use Rattle.dict_line.specs.Meaning.{meaning}
+use Rattle.dict_proto.specs.Meaning.{meaning}
 use Rattle.dict_session.specs.Answers.{answer_to}
 use Rattle.dict_session.specs.declared.step.Course.TheVariants.{More}
 use Rattle.dict_session.proofs.session.Session.read.Given as goal

@@ -1,7 +1,7 @@
 use Rattle.std.proofs.Common.{◌≡◌, ◌<◌, ◌-◌, length, sym, subst, arith}
 use Rattle.std.proofs.lemmas.List.{length-take-le}
 use Rattle.std.specs.Prelude.{MatchBool}
-use Rattle.dict_line.proofs.MeaningLemmas.{meaning-overlong}
+use Rattle.dict_proto.proofs.MeaningLemmas.{meaning-overlong}
 use Rattle.dict_session.proofs.session.Session.request.Goals as goal
 
 pub returns-then-self : goal.returns-then-self

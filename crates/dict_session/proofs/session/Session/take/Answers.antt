@@ -3,7 +3,7 @@ use Rattle.std.specs.Prelude.{slice_index}
 use Rattle.std.proofs.lemmas.List.Elements.{All-head}
 use Rattle.dict_session.specs.Session.{host_of}
 use Rattle.dict_session.specs.Through.{LeavesThrough, looks_up}
-use Rattle.dict_line.specs.Meaning.{meaning}
+use Rattle.dict_proto.specs.Meaning.{meaning}
 use Rattle.dict_session.specs.Answers.{answer_to}
 use Rattle.dict_session.specs.Lines.{Cut, HasNoLineEnd, cut}
 use Rattle.dict_session.proofs.LineLemmas.{cut_is, ends_at, goes_on}

@@ -2,8 +2,8 @@ use Rattle.std.proofs.Common.{◌≡◌, ◌⊎◌, ℕ, ◌≤◌, List, [], �
 use Rattle.std.proofs.lemmas.List.{length-take-le}
 use Rattle.std.specs.Io.KnownBytes.{Consumes}
 use Rattle.std.proofs.KnownBytes.{Consumes-kept, Consumes-nil, Consumes-trans}
-use Rattle.dict_io.specs.Streams.{Stream, HasFailed, GivesAll, PutsAll, PutsFront}
-use Rattle.dict_io.proofs.PutLemmas.{puts_none, given_after}
+use Rattle.dict_proto.specs.Streams.{Stream, HasFailed, GivesAll, PutsAll, PutsFront}
+use Rattle.dict_proto.proofs.PutLemmas.{puts_none, given_after}
 use Rattle.dict_proto.specs.Replies.{banner_octets}
 use Rattle.dict_session.specs.Lines.{cut}
 use Rattle.dict_session.specs.Answers.{answer_to}

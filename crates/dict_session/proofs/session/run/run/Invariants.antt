@@ -1,5 +1,5 @@
 use Rattle.std.proofs.Common.{◌≡◌, ℕ, ◌≤◌, List, length}
-use Rattle.dict_io.specs.Streams.{Stream, PutsAll, GivesAll}
+use Rattle.dict_proto.specs.Streams.{Stream, PutsAll, GivesAll}
 use Rattle.dict_catalogue.specs.Steps.{Catalogue}
 use Rattle.dict_proto.specs.Replies.{banner_octets}
 use Rattle.dict_session.specs.Answers.{answer_to}

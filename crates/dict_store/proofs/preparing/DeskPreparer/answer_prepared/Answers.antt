@@ -5,8 +5,8 @@ use Rattle.sqlite.specs.Held.{state}
 use Rattle.sqlite.specs.State.{HasCleanDisk}
 use Rattle.dict_desk.specs.Faults.{has_closed_by, is_disk}
 use Rattle.dict_desk.specs.declared.fault.Fault.TheVariants.{Closed as Shut}
-use Rattle.dict_preparing.specs.declared.answered.Answered.{Answered}
-use Rattle.dict_preparing.specs.declared.answered.Answered.TheVariants.{Done, Refused}
+use Rattle.dict_desk.specs.declared.answered.Answered.{Answered}
+use Rattle.dict_desk.specs.declared.answered.Answered.TheVariants.{Done, Refused}
 use Rattle.dict_store.specs.Desk.{is_closed, has_failed}
 use Rattle.dict_store.specs.declared.last.LastCall.{LastCall}
 use Rattle.dict_store.proofs.DeskLemmas.{clean_behind, leaves_on}

@@ -1,6 +1,6 @@
 use Rattle.std.proofs.Common.{Err, refl}
 use Rattle.std.specs.Prelude.{Some}
-use Rattle.dict_io.specs.Streams.{change}
+use Rattle.dict_proto.specs.Streams.{change}
 use Rattle.dictcat_lib.proofs.FileLemmas.{spared_all, spoken_spared}
 use Rattle.dictcat_lib.proofs.files.CatalogueFilesCataloguesDeskFileStoreFile.session.Goals as goal
 

@@ -1,4 +1,0 @@
-pub mod Changing
-pub mod Files
-pub mod Installing
-pub mod Listed

@@ -1,0 +1,13 @@
+pub mod ConditionLemmas
+pub mod ValueLemmas
+pub mod PartTexts
+pub mod PartReadTexts
+pub mod DeleteTexts
+pub mod PartScanLemmas
+pub mod PartDefinitionLemmas
+pub mod HeaderTexts
+pub mod HeaderReadTexts
+pub mod InfoTexts
+pub mod InfoLemmas
+pub mod HeaderScanLemmas
+pub mod HeaderDefinitionLemmas

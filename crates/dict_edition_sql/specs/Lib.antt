@@ -1,0 +1,10 @@
+pub mod PartTable
+pub mod PartRecords
+pub mod PartTexts
+pub mod Chosen
+pub mod PartScans
+pub mod HeaderTable
+pub mod HeaderRecords
+pub mod HeaderTexts
+pub mod Infos
+pub mod HeaderScans

@@ -1,4 +1,0 @@
-pub mod Files
-pub mod AllTables
-pub mod Told
-pub mod Worked

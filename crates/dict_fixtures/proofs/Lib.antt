@@ -1,0 +1,2 @@
+-- none
+pub mod TurnLemmas

@@ -1,5 +1,0 @@
-pub mod Table
-pub mod Records
-pub mod Texts
-pub mod Infos
-pub mod Scans

@@ -1,4 +1,0 @@
-use Rattle.dict_hub_fixtures.proofs.parts.PartsDeskPreparer.answer_prepared.Goals as goal
-
-pub returns-in-Ok-clause-done : goal.returns-in-Ok-clause-done
-returns-in-Ok-clause-done c = (c.in-Ok.edition, c.in-Ok.ensures.edition, tt)

@@ -1,5 +1,0 @@
-pub mod OctetLemmas
-pub mod SpellingLemmas
-pub mod ColumnLemmas
-pub mod StoredLemmas
-pub mod IndexLemmas

@@ -1,4 +1,0 @@
-pub mod Spelling
-pub mod Stored
-pub mod Views
-pub mod Appended

@@ -1,8 +1,0 @@
--- What contracts see of the columns of a line.
-use Rattle.dict_index.specs.Line.{Line}
-use Rattle.dict_index_lines.specs.Stored.{saying}
-use Rattle.dict_index_lines.specs.declared.reading.Columns.{Columns}
-
--- what the line says that the columns were read from
-abbrev pub line_of : Columns → Line
-line_of columns = saying columns.headword.now columns.offset columns.size columns.shown.now

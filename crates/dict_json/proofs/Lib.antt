@@ -1,3 +1,0 @@
-pub mod BodyLemmas
-pub mod EscapeLemmas
-pub mod TextLemmas

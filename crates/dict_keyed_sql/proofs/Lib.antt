@@ -1,9 +1,0 @@
-pub mod DefinitionLemmas
-pub mod DropTexts
-pub mod ListingLemmas
-pub mod NamedLemmas
-pub mod OldTexts
-pub mod ReadTexts
-pub mod RowidTexts
-pub mod ScanLemmas
-pub mod TableLemmas

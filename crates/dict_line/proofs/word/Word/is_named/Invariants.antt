@@ -1,9 +1,0 @@
-use Rattle.std.proofs.Common.{◌≡◌, drop}
-use Rattle.dict_line.specs.LineWords.{within}
-use Rattle.dict_line.specs.Meaning.{is_named}
-use Rattle.dict_line.specs.Places.{place_of}
-use Rattle.dict_line.specs.Content.{content_from}
-use Rattle.dict_line.proofs.word.Word.is_named.Given as goal
-
-abbrev pub invariant-loop-octet : goal.invariant-loop-octet
-invariant-loop-octet l = is_named (content_from within l.self.spelling.now) l.fn.name ≡ is_named (content_from (place_of l.place) (drop l.octet-index l.self.spelling.now)) l.left

@@ -1,6 +1,0 @@
-pub mod Meaning
-pub mod Places
-pub mod LineWords
-pub mod Content
-pub mod Told
-pub mod Words

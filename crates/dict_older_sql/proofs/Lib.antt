@@ -1,0 +1,14 @@
+pub mod KeyedDefinitionLemmas
+pub mod DropTexts
+pub mod ListingLemmas
+pub mod NamedLemmas
+pub mod OldTexts
+pub mod ReadTexts
+pub mod RowidTexts
+pub mod ScanLemmas
+pub mod TableLemmas
+pub mod EntryTexts
+pub mod ApartLemmas
+pub mod FreedLemmas
+pub mod CopyLemmas
+pub mod MigrationDefinitionLemmas

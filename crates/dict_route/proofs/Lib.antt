@@ -1,3 +1,0 @@
-pub mod SeekLemmas
-pub mod PathLemmas
-pub mod LawLemmas

@@ -1,3 +1,0 @@
-pub mod SizeLemmas
-pub mod ViewLemmas
-pub mod KeptLemmas
