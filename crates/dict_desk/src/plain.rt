@@ -31,7 +31,6 @@ use std::marker::Model;
 /// A catalogue in memory: its summary, the editions that the summary names, and the kept replies in order, with their
 /// places by their ids; and the question that was counted last. Contracts see it as the catalogue, and as whether its
 /// last call failed. A stop leaves nothing of it.
-#[derive(Drop)]
 pub struct PlainDesk {
     alloc: Global,
     summary: Summary,
@@ -40,6 +39,21 @@ pub struct PlainDesk {
     places: BTreeMap<String, usize>,
     counted: Option<Counted>,
     has_failed: bool,
+}
+
+// It is written out, so that what owns one doesn't prove again how each part is dropped.
+impl Drop for PlainDesk {
+    fn drop(self) {
+        let PlainDesk {
+            alloc: _,
+            summary: _,
+            editions: _,
+            replies: _,
+            places: _,
+            counted: _,
+            has_failed: _,
+        } = self;
+    }
 }
 
 impl Model for PlainDesk {

@@ -11,6 +11,7 @@ ghost use Rattle.dict_desk.specs.declared.fault.Fault.{Fault as Failure};
 ghost use Rattle.dict_desk.specs.Expected.{Expected, of_command, of_files};
 ghost use Rattle.dict_desk.specs.Answering.{IfDone, IfLetGo, IfRefused};
 
+use crate::answered::Answered;
 use crate::fault::Fault;
 use crate::keeper::Keeper;
 use crate::plain::PlainDesk;

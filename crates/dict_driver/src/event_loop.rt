@@ -19,7 +19,6 @@ use std::time::Duration;
 const MAX_ACCEPTED: usize = 16;
 
 /// Sockets, the connections that came by them, and the hub that they are told to.
-#[derive(Drop)]
 pub struct EventLoop<'h, T: Transport, S: Sockets<T>> {
     sockets: S,
     dict_listening: Listening,
@@ -30,6 +29,21 @@ pub struct EventLoop<'h, T: Transport, S: Sockets<T>> {
     rounds: u64,
     // The kind of the error by which the sockets couldn't be looked at, where the last look failed.
     failure: Option<ErrorKind>,
+}
+
+// It is written out, so that what owns one doesn't prove again how each part is dropped.
+impl<'h, T: Transport, S: Sockets<T>> Drop for EventLoop<'h, T, S> {
+    fn drop(self) {
+        let EventLoop {
+            sockets: _,
+            dict_listening: _,
+            http_listening: _,
+            connections: _,
+            hub: _,
+            rounds: _,
+            failure: _,
+        } = self;
+    }
 }
 
 impl<'h, T: Transport, S: Sockets<T>> EventLoop<'h, T, S> {

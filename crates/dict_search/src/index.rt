@@ -29,7 +29,6 @@ const FEW: usize = 64;
 
 /// What lookups ask of an edition: its entries, in their order, and the places of their keys in several orders. Contracts
 /// see it as the list of its entries.
-#[derive(Drop)]
 pub struct Index {
     entries: Entries,
     by_key: Vec<u32>,
@@ -39,6 +38,20 @@ pub struct Index {
     words: Pieces,
     /// Runs of three octets, but for those that `is_kept` leaves out.
     grams: Pieces,
+}
+
+// It is written out, so that what owns one doesn't prove again how each part is dropped.
+impl Drop for Index {
+    fn drop(self) {
+        let Index {
+            entries: _,
+            by_key: _,
+            key_heads: _,
+            by_reversed_key: _,
+            words: _,
+            grams: _,
+        } = self;
+    }
 }
 
 impl Model for Index {

@@ -30,7 +30,6 @@ const STEPS: u32 = 65_536;
 
 /// An index that is made part by part, so that what else waits has its turn between two of them. Contracts see the list of its
 /// entries, whatever is made of it, and how many steps are left at most.
-#[derive(Drop)]
 pub struct IndexMaking {
     alloc: Global,
     entries: Entries,
@@ -41,6 +40,22 @@ pub struct IndexMaking {
     by_reversed_key: Option<Places>,
     words: Option<Wording>,
     grams: Option<Listing>,
+}
+
+// It is written out, so that what owns one doesn't prove again how each part is dropped.
+impl Drop for IndexMaking {
+    fn drop(self) {
+        let IndexMaking {
+            alloc: _,
+            entries: _,
+            left: _,
+            by_key: _,
+            turned: _,
+            by_reversed_key: _,
+            words: _,
+            grams: _,
+        } = self;
+    }
 }
 
 impl Model for IndexMaking {

@@ -68,6 +68,5 @@ fn one_text_more_takes_the_place_of_the_last(rt: HostRuntime) -> Result<(), Fail
     same(&rt, &mut texts, (1, 1), None)?;
     same(&rt, &mut texts, (1, 0), Some(b"o"))?;
     same(&rt, &mut texts, (1, 2), Some(b"o"))?;
-    assert_eq!(rt; texts.octets, MAX_TEXTS + 1);
     Ok(())
 }

@@ -29,27 +29,6 @@ fn fault_of_copy(error: &Error) -> Fault
     }
 }
 
-// The connection of a desk, of which nothing else is left.
-pub(crate) fn connection_of<S: Alter + Drop>(desk: Desk<S>) -> Connection<S>
-    ensures { result ≡ desk.conn }
-{
-    let Desk {
-        conn,
-        summary,
-        indexes,
-        texts,
-        draft,
-        filing,
-        ..
-    } = desk;
-    drop(summary);
-    drop(indexes);
-    drop(texts);
-    drop(draft);
-    drop(filing);
-    conn
-}
-
 // The connection of a desk, and whether the desk is closed. Of one that isn't, what is committed holds what was shown.
 pub(crate) fn let_go<S: Alter + Drop>(desk: Desk<S>) -> (Connection<S>, bool)
     ensures same { result.0 ≡ desk.conn }
@@ -59,7 +38,7 @@ pub(crate) fn let_go<S: Alter + Drop>(desk: Desk<S>) -> (Connection<S>, bool)
 {
     let is_closed = desk.last == LastCall::Closed;
     is_whole(&desk.conn);
-    (connection_of(desk), is_closed)
+    (desk.only_connection(), is_closed)
 }
 
 // The same of a desk over two files.

@@ -32,10 +32,19 @@ use std::alloc::Global;
 use std::marker::Model;
 
 /// An install of whose edition all is read, and the index in memory of that, as far as it is made. Contracts see what is filed.
-#[derive(Drop)]
 pub(crate) struct Coming {
     install: ReadInstall,
     index: IndexPart,
+}
+
+// It is written out, so that what owns one doesn't prove again how each part is dropped.
+impl Drop for Coming {
+    fn drop(self) {
+        let Coming {
+            install: _,
+            index: _,
+        } = self;
+    }
 }
 
 impl Model for Coming {

@@ -18,7 +18,6 @@ ghost use Rattle.dict_store.specs.Indexed.{AreHeldCut};
 ghost use Rattle.dict_store.specs.Prepared.{Undoes};
 ghost use Rattle.dict_rows.specs.Versions.{known};
 
-use crate::closing::connection_of;
 use crate::coming::Coming;
 use crate::last::LastCall;
 use crate::withdrawing::undo;
@@ -35,7 +34,6 @@ use std::marker::Model;
 /// current and former, which counts and finds. The texts of editions from which entries were handed out last are kept in memory, up to
 /// `dict_lookup::MAX_OCTETS`. Between two calls a transaction may be open, in which rows of a
 /// change that may come are filed: none of them is shown before that change is applied.
-#[derive(Drop)]
 pub struct Desk<S: Alter + Drop> {
     pub(crate) alloc: Global,
     pub(crate) conn: Connection<S>,
@@ -53,6 +51,24 @@ pub struct Desk<S: Alter + Drop> {
     pub(crate) filing: Option<Coming>,
     // How many times it may begin yet. Nothing rests on it.
     pub(crate) begins: u8,
+}
+
+// It is written out, so that what owns one doesn't prove again how each part is dropped.
+impl<S: Alter + Drop> Drop for Desk<S> {
+    fn drop(self) {
+        let Desk {
+            alloc: _,
+            conn: _,
+            summary: _,
+            last: _,
+            indexes: _,
+            texts: _,
+            rows_taken: _,
+            draft: _,
+            filing: _,
+            begins: _,
+        } = self;
+    }
 }
 
 impl<S: Alter + Drop> Model for Desk<S> {
@@ -145,6 +161,25 @@ impl<S: Alter + Drop> Desk<S> {
         self.rows_taken
     }
 
+    // The connection of a desk, of which nothing else is left.
+    pub(crate) fn only_connection(self) -> Connection<S>
+        ensures { result ≡ self.conn }
+    {
+        let Desk {
+            alloc: _,
+            conn,
+            summary: _,
+            last: _,
+            indexes: _,
+            texts: _,
+            rows_taken: _,
+            draft: _,
+            filing: _,
+            begins: _,
+        } = self;
+        conn
+    }
+
     /// The connection, as the desk left it, in no transaction: what is prepared is undone first. Where it couldn't be undone, which is
     /// only where the disk has given other octets than were written, the connection is handed back as an error, in its transaction.
     pub fn into_connection(self) -> Result<Connection<S>, Connection<S>>
@@ -156,7 +191,7 @@ impl<S: Alter + Drop> Desk<S> {
             (λ conn. Survives (state S.Store self.conn) (state S.Store conn) (λ _. ⊥))
             (λ conn. Survives (state S.Store self.conn) (state S.Store conn) (λ _. ⊥)) }
     {
-        let mut conn = connection_of(self);
+        let mut conn = self.only_connection();
         if undo(&mut conn) { Ok(conn) } else { Err(conn) }
     }
 }
