@@ -3,18 +3,19 @@
 
   meanings.py TREE [--unformatted] [--table]   TREE is a clean clone of the repository; nothing is committed. It takes a minute
 
-`PLAN` (in plan_of_meanings.py) says of each crate which of its names become which others, by module; `MODULES` the same of modules; `SAME` which definitions go, since a lower crate has the
-same word for word; `ALIKE` which stand twice with one meaning, and stay; `TEXTS` what a hand has to change in texts. A name is written
-anew where it means that thing: in the file that declares it, and in each that imports it from there, whatever it is called behind
-`as`; in paths; in edits, which are read as the files that they change; in a crate's README.md, where its own files leave no doubt. It
-stops, and has written nothing, where a thing of the plan isn't there, a new name is taken, a name is a variable's as well, or a page
-could mean two things. `--table` prints the plan alone.
+The plan stands in plan_of_meanings.py: `PLAN`, which names of a crate become which others, by module; `MODULES`, the same of modules;
+`SAME`, which definitions go, since a lower crate has them word for word; `ALIKE`, which stand twice with one meaning, and stay;
+`OTHERS`, what a name of a page means; `TEXTS`, what a hand changes in texts. A name is written anew where it means that thing: in the
+file that declares it, and in each that imports it from there, whatever it is called behind `as`; in paths; in edits, which are read as
+the files that they change; in a crate's README.md, where its own files leave no doubt. It stops, and has written nothing, where a
+thing of the plan isn't there, a new name is taken, a name is a variable's as well, or a page could mean two things. `--table` prints
+the plan alone.
 
 It ends by `rattle fmt` (with --unformatted that is still to come), and by what resolve.py tells.
 """
 import collections
-import pathlib
 import re
+import subprocess
 import sys
 
 from moving import Group, Mover, Tree
@@ -33,12 +34,19 @@ class Names:
     """What gets which name: things as resolve.py tells them."""
 
     def __init__(self, library):
-        self.library, self.new, self.wrong, self.places = library, {}, [], {}
+        self.library, self.new, self.wrong = library, {}, []
         for crate, modules in PLAN.items():
             for place, names in modules.items():
                 for old, new in names.items():
                     self.plan(crate, place, old, new)
         self.check_taken()
+        for (crate, module, name), (lower, there, other) in SAME.items():
+            for of, at, it in ((crate, module, name), (lower, there, other)):
+                if (of, "specs", at) not in library.antt or it not in library.antt[of, "specs", at][1].definitions:
+                    self.wrong.append(f"{of} specs/{at}: {it} isn't defined")
+            other = self.new.get(("def", lower, f"specs.{there}", other), other)
+            if other != name:
+                self.new["def", crate, f"specs.{module}", name] = other
         self.folders = self.renamed_folders()
         # (a trait's members are cited behind its name, as g.E.Trait.member)
         self.traits = {key[3]: (key[1], new) for key, new in self.new.items() if key[0] == "type" and library.rust[key[1], key[2]][1].items[key[3]][0] == "trait"}
@@ -57,7 +65,6 @@ class Names:
                 self.wrong.append(f"{crate} {place}: there is no {old}")
             key = ("type", crate, module, old)
         self.new[key] = new
-        self.places[key] = place
 
     def of(self, thing):
         return self.new.get(thing) if thing else None
@@ -306,7 +313,7 @@ class Renamer:
     def __init__(self, library):
         self.library, self.names = library, Names(library)
         self.wrong = self.names.wrong
-        self.done, self.counts = {}, collections.Counter()
+        self.done = {}
         self.edits_of = {}
         self.bare_of = collections.defaultdict(lambda: collections.defaultdict(set))
 
@@ -333,14 +340,19 @@ class Renamer:
 
     def without(self, crate, path, text, uses, edits, own=None):
         """Takes out imports of definitions that go, and the definition itself in the file that has it; the lower one is imported."""
-        for (of, module, name), (lower, there) in SAME.items():
-            gone = ("def", of, f"specs.{module}", name)
+        for (of, module, name), (lower, there, other) in SAME.items():
+            gone, stays = ("def", of, f"specs.{module}", name), ("def", lower, f"specs.{there}", other)
+            final = self.names.of(stays) or other
             leaves = [it for it in uses if not it.is_module and self.library.is_ours(it.module) and self.library.entity([*it.module, *it.path]) == gone]
             here = own and own[:2] == (of, module)
             if not leaves and not here:
                 continue
             if lower != crate and lower not in self.library.tree.below[crate]:
                 self.wrong.append(f"{self.told(path)}: {crate} doesn't stand on {lower}, which has {name}")
+            caught = [it for it in uses if it.name() == other and not it.is_module and self.library.is_ours(it.module)
+                      and self.library.entity([*it.module, *it.path]) not in (gone, stays)]
+            if caught or other != name and own and other in own[2].definitions:
+                self.wrong.append(f"{self.told(path)}: {other} is something else here")
             for leaf in leaves:
                 self.take_out(text, leaf, [it for it in uses if it.span == leaf.span], edits)
             if here:
@@ -355,9 +367,9 @@ class Renamer:
                 edits[start, end] = ""
                 if not any(token.text == name for token in file.tokens[file.body:] if not start <= token.start < end):
                     continue
-            what = leaves[0].path[0] + (f" as {leaves[0].alias}" if leaves and leaves[0].alias else "") if leaves else name
+            what = final + (f" as {leaves[0].alias}" if leaves and leaves[0].alias and leaves[0].alias != final else "")
             before = [it for it in uses if it.module == ["Rattle", lower, "specs", there] and not it.is_module]
-            if any(it.path == [name] for it in before):
+            if any(it.path == [other] for it in before):
                 continue
             if before:
                 place = before[-1].alias_token or before[-1].tokens[-1]
@@ -390,7 +402,6 @@ class Renamer:
                 self.done[path] = applied(text, edits)
             except Stop as fault:
                 self.wrong.append(f"{self.told(path)}: {fault}")
-            self.counts.update(edits.values())
 
     # -- definitions and proofs --
 
@@ -565,15 +576,12 @@ class Renamer:
                 out.append(line)
         if out != lines:
             self.done[path] = "\n".join(out)
-            self.counts["(edits)"] += 1
 
     # -- pages --
 
     def page(self, crate, path):
         text, edits, place = path.read_text(), {}, 0
-        planned = collections.defaultdict(set)
-        for key in self.names.new:
-            planned[key[3]].add(key)
+        planned = {key[3] for key in self.names.new}
         for line in text.split("\n"):
             cells = line.split("|") if line.startswith("|") else None
             for match in re.finditer(r"`([^`]+)`", line):
@@ -584,7 +592,6 @@ class Renamer:
                         continue
                     things = {it for it in self.bare_of[crate][name] if it}
                     news = {self.names.of(it) for it in things}
-                    own = {it for it in planned[name] if it[1] == crate}
                     where = f"{self.told(path)}:{text.count(chr(10), 0, place) + 1}"
                     start = place + match.start(1) + word.start()
                     if (self.told(path), name) in OTHERS:
@@ -593,9 +600,7 @@ class Renamer:
                             edits[start, start + len(name)] = new
                     elif column is None and name[:1].islower() and news and news != {None}:
                         self.wrong.append(f"{where}: {name} may be a word or a function: say in OTHERS what it means")
-                    elif own and (len(news) == 1 or news == {None}) and None not in news:
-                        edits[start, start + len(name)] = news.pop()
-                    elif not own and len(news) == 1 and None not in news:
+                    elif len(news) == 1 and None not in news:
                         edits[start, start + len(name)] = news.pop()
                     elif news and news != {None}:
                         self.wrong.append(f"{where}: {name} may mean {' or '.join(sorted(str(it) for it in things))}")
@@ -676,8 +681,8 @@ def show():
         for part, names in (("src", code), ("specs", definitions)):
             for old, new in names.items():
                 print(f"{crate} {part}: module {old} -> {new}")
-    for (crate, module, name), (lower, there) in SAME.items():
-        print(f"{crate} specs/{module}: {name} goes: that of {lower} specs/{there}")
+    for (crate, module, name), (lower, there, other) in SAME.items():
+        print(f"{crate} specs/{module}: {name} goes: it is {other} of {lower} specs/{there}")
 
 
 def moved(top, is_formatted):
@@ -701,11 +706,13 @@ def main(words):
     if len(words) != 1 or flags - {"--unformatted"}:
         print(__doc__.strip())
         return 0 if flags & {"-h", "--help"} else 2
+    changed = subprocess.run(["git", "-C", words[0], "status", "--porcelain", "--", "crates", "docs", "bench", "tools"], capture_output=True, text=True)
+    if changed.returncode or changed.stdout:
+        print(f"{words[0]} isn't a clean clone: {(changed.stderr or changed.stdout).strip()[:200]}", file=sys.stderr)
+        return 1
     library = Library(words[0])
     renamer = Renamer(library)
     renamer.run()
-    for text in getattr(renamer, "asides", []):
-        print(text)
     if renamer.wrong:
         print("\n".join(dict.fromkeys(renamer.wrong)), file=sys.stderr)
         print(f"{len(set(renamer.wrong))} faults: nothing was written", file=sys.stderr)

@@ -243,10 +243,12 @@ MODULES = {
     "dict_store": ({}, {"Kept": "KeptParts"}),
 }
 
-# Definitions that a lower crate has word for word: (crate, module, name) to (crate, module).
+# Definitions that a lower crate has word for word: (crate, module, name) to (crate, module, name).
 SAME = {
-    ("dict_catalogue", "Refusals", "RefusalText"): ("dict_index", "Refusals"),
-    ("dict_http", "Answers", "crlf"): ("dict_proto", "Text"),
+    ("dict_catalogue", "Refusals", "RefusalText"): ("dict_index", "Refusals", "RefusalText"),
+    ("dict_http", "Answers", "crlf"): ("dict_proto", "Text", "crlf"),
+    ("dict_migration", "Moved", "IsOfMigration"): ("dict_holdings", "Faults", "IsOfStore"),
+    ("dict_store", "Closed", "fault_of_copy"): ("dict_holdings", "Faults", "fault_of"),
 }
 
 # Names that stand in two crates and mean one thing, and stay, since neither crate stands on the other (or one is what the other's

@@ -13,8 +13,6 @@ alone are known by name; a name with a dash is made by the prover, and passes.
 What the texts say is read by marks and indents, not by a grammar: for meanings.py too.
 """
 import collections
-import functools
-import pathlib
 import re
 import sys
 

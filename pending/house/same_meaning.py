@@ -28,9 +28,9 @@ class Side:
         """A thing, under its new name."""
         if not self.names or not isinstance(it, tuple):
             return it
-        for (crate, module, name), (lower, there) in SAME.items():
+        for (crate, module, name), (lower, there, other) in SAME.items():
             if it == ("def", crate, f"specs.{module}", name):
-                it = ("def", lower, f"specs.{there}", name)
+                it = ("def", lower, f"specs.{there}", other)
         it = self.moved(it)
         kind = "def" if it[0] == "constructor" else "type" if it[0] in ("variant", "variants") else it[0]
         new = self.new.get((kind, *it[1:4])) if len(it) > 3 else None
@@ -156,7 +156,7 @@ def differing(before, after):
         yield from unlike(path, before.antt(crate, part, module, file), after.antt(crate, part, place, other))
         old = collections.Counter((before.imported(it), it.is_module) for it in file.uses)
         new = collections.Counter((after.imported(it), it.is_module) for it in other.uses)
-        own = {(("def", lower, f"specs.{there}", name), False) for (of, at, name), (lower, there) in SAME.items() if (of, at) == (crate, module)}
+        own = {(("def", lower, f"specs.{there}", name), False) for (of, at, _), (lower, there, name) in SAME.items() if (of, at) == (crate, module)}
         wrong = [it for it in (old - new) + (new - old) if it not in own and old[it] + new[it] != 2]
         if wrong:
             yield path, f"imports {wrong[:3]}"
