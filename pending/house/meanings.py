@@ -340,61 +340,76 @@ class Renamer:
 
     def without(self, crate, path, text, uses, edits, own=None):
         """Takes out imports of definitions that go, and the definition itself in the file that has it; the lower one is imported."""
+        gone, more = set(), []
         for (of, module, name), (lower, there, other) in SAME.items():
-            gone, stays = ("def", of, f"specs.{module}", name), ("def", lower, f"specs.{there}", other)
-            final = self.names.of(stays) or other
-            leaves = [it for it in uses if not it.is_module and self.library.is_ours(it.module) and self.library.entity([*it.module, *it.path]) == gone]
+            old, stays = ("def", of, f"specs.{module}", name), ("def", lower, f"specs.{there}", other)
+            leaves = [it for it in uses if not it.is_module and self.library.is_ours(it.module) and self.library.entity([*it.module, *it.path]) == old]
             here = own and own[:2] == (of, module)
             if not leaves and not here:
                 continue
             if lower != crate and lower not in self.library.tree.below[crate]:
                 self.wrong.append(f"{self.told(path)}: {crate} doesn't stand on {lower}, which has {name}")
-            caught = [it for it in uses if it.name() == other and not it.is_module and self.library.is_ours(it.module)
-                      and self.library.entity([*it.module, *it.path]) not in (gone, stays)]
+            caught = [it for it in uses if it.name() == other and not it.is_module
+                      and (not self.library.is_ours(it.module) or self.library.entity([*it.module, *it.path]) not in (old, stays))]
             if caught or other != name and own and other in own[2].definitions:
                 self.wrong.append(f"{self.told(path)}: {other} is something else here")
-            for leaf in leaves:
-                self.take_out(text, leaf, [it for it in uses if it.span == leaf.span], edits)
-            if here:
-                file = own[2]
-                it = file.definitions[name]
-                start = text.rfind("\n", 0, it.start) + 1
-                while re.search(r"(?:^|\n)[ \t]*--[^\n]*\n$", text[:start]):
-                    start = text.rfind("\n", 0, start - 1) + 1
-                end = it.end + len(re.match(r"\n*", text[it.end:]).group())
-                for span in [span for span in edits if start <= span[0] < end]:
-                    del edits[span]
-                edits[start, end] = ""
-                if not any(token.text == name for token in file.tokens[file.body:] if not start <= token.start < end):
-                    continue
-            what = final + (f" as {leaves[0].alias}" if leaves and leaves[0].alias and leaves[0].alias != final else "")
-            before = [it for it in uses if it.module == ["Rattle", lower, "specs", there] and not it.is_module]
-            if any(it.path == [other] for it in before):
+            gone.update(leaves)
+            if here and not self.taken_out(text, own[2], name, uses, gone, edits):
                 continue
-            if before:
-                place = before[-1].alias_token or before[-1].tokens[-1]
-                edits[place.end, place.end] = f", {what}"
-            else:
-                at = (leaves or uses)[-1].span
-                is_code = text[at[0]:].lstrip().startswith("ghost")
-                line = f"{'ghost ' if is_code else ''}use Rattle.{lower}.specs.{there}.{{{what}}}{';' if is_code else ''}"
-                gone = [it for it in edits if it[0] <= at[0] and at[1] < it[1]]
-                if gone:
-                    edits[gone[0]] = line + "\n"
-                else:
-                    edits[at[1], at[1]] = "\n" + line
+            final = self.names.of(stays) or other
+            alias = leaves[0].alias if leaves and leaves[0].alias != final else None
+            if not any(it.path == [other] and it.module == ["Rattle", lower, "specs", there] for it in uses):
+                more.append((["Rattle", lower, "specs", there], f"{final} as {alias}" if alias else final))
+        self.rewrite(text, uses, gone, more, edits)
 
-    def take_out(self, text, leaf, beside, edits):
-        start, end = leaf.tokens[-1].start, (leaf.alias_token or leaf.tokens[-1]).end
-        if len(beside) == 1:
-            start, end = text.rfind("\n", 0, leaf.span[0]) + 1, leaf.span[1] + 1
-        elif beside[-1] is leaf:
-            start = text.rindex(",", 0, start)
-        else:
-            end += len(re.match(r",\s*", text[end:]).group())
+    def taken_out(self, text, file, name, uses, gone, edits):
+        """Takes a definition out, with its comment and what only it needs. Returns whether the file names it elsewhere."""
+        it = file.definitions[name]
+        start = text.rfind("\n", 0, it.start) + 1
+        while re.search(r"(?:^|\n)[ \t]*--[^\n]*\n$", text[:start]):
+            start = text.rfind("\n", 0, start - 1) + 1
+        end = it.end + len(re.match(r"\n*", text[it.end:]).group())
         for span in [span for span in edits if start <= span[0] < end]:
             del edits[span]
         edits[start, end] = ""
+        body = file.tokens[file.body:]
+        within = {token.text for token in body if start <= token.start < end}
+        others = {token.text for token in body if not start <= token.start < end}
+        gone.update(leaf for leaf in uses if not leaf.seen and leaf.name() in within - others)
+        return name in others
+
+    def rewrite(self, text, uses, gone, more, edits):
+        """Writes the imports anew of which some go, and those to which some come."""
+        due = {}
+        for leaf in uses:
+            due.setdefault(leaf.span, []).append(leaf)
+        for module, what in list(more):
+            for span, leaves in due.items():
+                if leaves[0].module == module and not leaves[0].is_module:
+                    leaves.append(what)
+                    more.remove((module, what))
+                    break
+        is_code = bool(uses) and text[uses[0].span[0]:].lstrip().startswith("ghost")
+        fresh = "".join(f"\n{'ghost ' if is_code else ''}use {'.'.join(module)}.{{{what}}}{';' if is_code else ''}" for module, what in more)
+        for span, leaves in due.items():
+            last = span == max(due)
+            if not any(it in gone or isinstance(it, str) for it in leaves):
+                if last and fresh:
+                    edits[span[1], span[1]] = fresh
+                continue
+            kept = [it for it in leaves if it not in gone]
+            pieces = [it if isinstance(it, str) else self.piece(text, it.tokens[len(it.module)].start, (it.alias_token or it.tokens[-1]).end, edits) for it in kept]
+            head = "" if not kept else self.piece(text, span[0], leaves[0].tokens[len(leaves[0].module) - 1].end, edits)
+            start, end = (span if kept else (text.rfind("\n", 0, span[0]) + 1, span[1] + 1))
+            line = f"{head}.{{{', '.join(pieces)}}}{';' if is_code else ''}" if kept else ""
+            if last and fresh:
+                line += fresh if kept else fresh.lstrip("\n") + "\n"
+            for it in [it for it in edits if start <= it[0] < end]:
+                del edits[it]
+            edits[start, end] = line
+
+    def piece(self, text, start, end, edits):
+        return applied(text[start:end], {(a - start, b - start): new for (a, b), new in edits.items() if start <= a and b <= end})
 
     def note(self, path, text, edits):
         if edits:

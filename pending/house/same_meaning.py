@@ -157,7 +157,8 @@ def differing(before, after):
         old = collections.Counter((before.imported(it), it.is_module) for it in file.uses)
         new = collections.Counter((after.imported(it), it.is_module) for it in other.uses)
         own = {(("def", lower, f"specs.{there}", name), False) for (of, at, _), (lower, there, name) in SAME.items() if (of, at) == (crate, module)}
-        wrong = [it for it in (old - new) + (new - old) if it not in own and old[it] + new[it] != 2]
+        # (what only a definition that went needed goes with it)
+        wrong = [it for it in (new - old if own else (old - new) + (new - old)) if it not in own and old[it] + new[it] != 2]
         if wrong:
             yield path, f"imports {wrong[:3]}"
     for (crate, module), (path, file) in before.library.rust.items():
