@@ -708,6 +708,10 @@ def moved(top, is_formatted):
     for crate, (_, definitions) in MODULES.items():
         mover.names.definitions[crate].update(definitions)
     mover.run()
+    for crate in MODULES:
+        for folder in sorted((tree.crates / crate).glob("**/"), reverse=True):
+            if not any(folder.iterdir()):
+                folder.rmdir()
     if is_formatted:
         mover.fmt()
 
