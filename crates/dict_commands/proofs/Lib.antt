@@ -15,3 +15,4 @@ pub mod FaultLemmas
 pub mod FilingLemmas
 pub mod FinishLemmas
 pub mod DraftLemmas
+pub mod MarkingLemmas

@@ -11,3 +11,4 @@ pub mod Installs
 pub mod Parts
 pub mod Finishing
 pub mod Installed
+pub mod Marking

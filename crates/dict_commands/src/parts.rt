@@ -191,8 +191,8 @@ fn is_other_number(summary: &Summary, number: u64) -> bool
     number <= summary.installs || number - summary.installs != 1
 }
 
-// The fault that an error of a part is told as, if it isn't that a statement was refused.
-fn fault_filed(error: Error) -> Option<Fault>
+/// The fault that an error of a part is told as, if it isn't that a statement was refused.
+pub(crate) fn fault_filed(error: Error) -> Option<Fault>
     ensures is { result ≡ fault_filed error }
     ensures kind { IfSome result IsOfStore }
     ensures disk { result ≡ Some Fault.Disk → is_disk_error error ≡ true }
