@@ -11,7 +11,9 @@ use Rattle.dict_holdings.specs.Texts.{HoldsText}
 use Rattle.dict_lookup.specs.Searches.{HoldsOne, IsReadable, column_of}
 pub use Rattle.dict_commands.specs.Filing.{rested}
 use Rattle.dict_commands.specs.declared.filing.Filing.{Filing}
-use Rattle.dict_store.specs.Desk.{last_by}
+use Rattle.dict_commands.specs.Committed.{IsCommitted}
+use Rattle.dict_commands.specs.Marking.{Remains}
+use Rattle.dict_store.specs.Desk.{DeskState, last_by}
 use Rattle.dict_store.specs.declared.last.LastCall.{LastCall}
 
 -- how the last call ended, where something was prepared behind it: that tells nothing unless it failed
@@ -45,3 +47,11 @@ module _ {S : Type 0} (g : Ghosts S) where
   -- What was prepared is undone: the transaction that was open is rolled back, and nothing else is done. Where none was open, nothing is.
   abbrev pub Undoes : Held S → Held S → Type 0
   Undoes old new = (new ≡ old) ⊎ (IsTrue old.in_transaction × IsRolledBack (state g old) (state g new) × Survives (state g old) (state g new) (λ _. ⊥))
+
+  -- The log was copied, by a commit behind which all that was held is held; of the desk the connection alone is another. No transaction
+  -- was open, nor is one.
+  pub record HasCopied (old new : DeskState S) : Type 0 where
+    pub before : old.conn.in_transaction ≡ false
+    pub ended : new.conn.in_transaction ≡ false
+    pub same : new ≡ record old { conn = new.conn }
+    pub done : IsCommitted (Remains old.summary (state g old.conn).committed) (state g new.conn)

@@ -51,6 +51,8 @@ pub struct Desk<S: Alter + Drop> {
     pub(crate) filing: Option<Coming>,
     // How many times it may begin yet. Nothing rests on it.
     pub(crate) begins: u8,
+    // Whether an install may have left a long log. Nothing rests on it.
+    pub(crate) is_log_long: bool,
 }
 
 // It is written out, so that what owns one doesn't prove again how each part is dropped.
@@ -67,6 +69,7 @@ impl<S: Alter + Drop> Drop for Desk<S> {
             draft: _,
             filing: _,
             begins: _,
+            is_log_long: _,
         } = self;
     }
 }
@@ -113,6 +116,7 @@ impl<S: Alter + Drop> Desk<S> {
             draft: None,
             filing: None,
             begins: 0,
+            is_log_long: false,
         }
     }
 
@@ -176,6 +180,7 @@ impl<S: Alter + Drop> Desk<S> {
             draft: _,
             filing: _,
             begins: _,
+            is_log_long: _,
         } = self;
         conn
     }

@@ -20,6 +20,7 @@ ghost use Rattle.dict_store.specs.Indexed.{HasPut};
 ghost use Rattle.dict_store.specs.Prepared.{Undoes};
 
 use crate::coming::{Coming, Request};
+use crate::copying::is_long_behind;
 use crate::desk::Desk;
 use crate::indexing::settle;
 use crate::keeper::take_over;
@@ -121,6 +122,8 @@ impl<S: Alter + Drop> Desk<S> {
         };
         self.last = last_by(&outcome);
         forget_by(&mut self.texts, self.last);
+        let octets = index.len().saturating_add(text.len());
+        self.is_log_long = is_long_behind(self.is_log_long, octets, &outcome);
         let_go_when_ended(&self.conn, &mut self.filing);
         settle(&mut self.indexes, &self.summary.items, number, &outcome);
         Some(take_over(&mut self.summary, outcome))

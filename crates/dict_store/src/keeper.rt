@@ -9,6 +9,7 @@ ghost use Rattle.dict_commands.specs.Installed.{HasInstalled};
 ghost use Rattle.dict_store.specs.Applied.{AppliesOver};
 ghost use Rattle.dict_store.specs.Desk.{HasCommitted, reply_of};
 
+use crate::copying::{is_long_behind, octets_installed};
 use crate::desk::Desk;
 use crate::indexing::{put_coming, settle};
 use crate::kept::forget_by;
@@ -91,6 +92,7 @@ impl<S: Alter + Drop> Keeper for Desk<S> {
         let outcome = apply_over(self.alloc, &mut self.conn, &self.summary, id, command);
         self.last = last_by(&outcome);
         forget_by(&mut self.texts, self.last);
+        self.is_log_long = is_long_behind(self.is_log_long, octets_installed(command), &outcome);
         drop(self.draft.take());
         let_go_when_ended(&self.conn, &mut self.filing);
         settle(&mut self.indexes, &self.summary.items, number, &outcome);

@@ -5,6 +5,7 @@ mod adopting;
 mod answering;
 mod closing;
 mod coming;
+mod copying;
 mod desk;
 mod finishing;
 mod indexing;

@@ -1,17 +1,19 @@
 // What a desk prepares of a change that may come.
-ghost use Rattle.std.specs.Prelude.{◌≡◌, ◌≢◌, ◌⊎◌, true, false, IsTrue, IfErr, IfSome, Ok, Some};
+ghost use Rattle.std.specs.Prelude.{◌≡◌, ◌≢◌, ◌⊎◌, ◌||◌, true, false, IsTrue, IfErr, IfSome, List, Ok, Option, Some};
 ghost use Rattle.sqlite.specs.Disk.{MoreFaults};
 ghost use Rattle.sqlite.specs.State.{HasCleanDisk, KeepsCommit, Survives};
 ghost use Rattle.sqlite.specs.Held.{state};
 ghost use Rattle.dict_sql.specs.Effects.{WhileOpen};
 ghost use Rattle.dict_commands.specs.Committed.{IsOfStore};
+ghost use Rattle.dict_catalogue.specs.Steps.{Catalogue};
 ghost use Rattle.dict_catalogue.specs.Views.{summary_shown};
 ghost use Rattle.dict_commands.specs.Changes.{IsInRange};
 ghost use Rattle.dict_commands.specs.Filing.{IsDrawnUp, rested};
 ghost use Rattle.dict_commands.specs.Kept.{IsUsable};
+ghost use Rattle.dict_desk.specs.Faults.{has_closed_by, has_failed_by};
 ghost use Rattle.dict_store.specs.Causes.{FailsToPrepare};
-ghost use Rattle.dict_store.specs.Desk.{HasFiled, has_failed, is_closed};
-ghost use Rattle.dict_store.specs.Prepared.{LetsGo, last_behind};
+ghost use Rattle.dict_store.specs.Desk.{HasFiled, LeavesOneOf, Shows, has_failed, is_closed};
+ghost use Rattle.dict_store.specs.Prepared.{HasCopied, LetsGo, last_behind};
 
 use crate::coming::Coming;
 use crate::desk::Desk;
@@ -55,7 +57,7 @@ fn goes_on(more: bool, planned: &mut Coming) -> bool
 }
 
 // What is told where a part wasn't filed: the fault, if there was one.
-fn told_of(why: Option<Fault>) -> Result<bool, Fault>
+pub(crate) fn told_of(why: Option<Fault>) -> Result<bool, Fault>
     ensures fault { IfErr result (λ fault. why ≡ Some fault) }
     ensures never { result ≢ Ok true }
 {
@@ -195,7 +197,7 @@ fn prepare_next<S: Alter>(
 }
 
 // How the last call ended, where something was prepared behind it with this outcome.
-fn last_behind<T>(last: LastCall, outcome: &Result<T, Fault>) -> LastCall
+pub(crate) fn last_behind<T>(last: LastCall, outcome: &Result<T, Fault>) -> LastCall
     ensures { result ≡ last_behind last outcome.now }
 {
     match outcome {
@@ -203,6 +205,33 @@ fn last_behind<T>(last: LastCall, outcome: &Result<T, Fault>) -> LastCall
         Err(Fault::Refused(_)) => LastCall::Fine,
         Err(Fault::Disk) => LastCall::Closed,
         Err(_) => LastCall::Failed,
+    }
+}
+
+impl<S: Alter + Drop> Desk<S> {
+    // Prepares a bounded part of what was noted: reads it, or files it. Whether there is more.
+    pub(crate) fn prepare_part(&mut self) -> Result<bool, Fault>
+        requires { is_closed self.old.last ≡ false }
+        ensures prepared { HasCleanDisk (state S.Store self.new.conn) → result ≡ Ok true → (self.new.conn.in_transaction ≡ true) ⊎ (self.new ≡ self.old) }
+        ensures trust { HasCleanDisk (state S.Store self.new.conn) → HasCleanDisk (state S.Store self.old.conn) }
+        ensures shows { HasCleanDisk (state S.Store self.new.conn) → (M : Catalogue) → Shows S.Store self.old M → Shows S.Store self.new M }
+        ensures leaves { (ms : List (Option Catalogue)) → LeavesOneOf S.Store self.old ms → LeavesOneOf S.Store self.new ms }
+        ensures kinds { IfErr result IsOfStore }
+        ensures caused { HasCleanDisk (state S.Store self.new.conn) → IfErr result (FailsToPrepare S.Store self.old self.new) }
+        ensures failed { has_failed self.new.last ≡ (has_failed self.old.last || has_failed_by result) }
+        ensures closes { is_closed self.new.last ≡ (is_closed self.old.last || has_closed_by result) }
+    {
+        let outcome = prepare_next(
+            self.alloc,
+            &mut self.conn,
+            &self.summary,
+            &mut self.draft,
+            &mut self.filing,
+            &mut self.begins,
+        );
+        forget_behind(&mut self.texts, &outcome);
+        self.last = last_behind(self.last, &outcome);
+        outcome
     }
 }
 
@@ -214,8 +243,8 @@ impl<S: Alter + Drop> Preparer for Desk<S> {
     ghost expects = { λ _ _ desk. (has_failed desk.last ≡ true) ⊎ (desk.conn.in_transaction ≡ false) };
 
     // Where there is more to prepare, a transaction is open, in which rows of it are filed; or the files are being read, and all that is
-    // seen of the desk is as it was.
-    ghost prepares = { λ old result desk. HasCleanDisk (state S.Store desk.conn) → result ≡ Ok true → (desk.conn.in_transaction ≡ true) ⊎ (desk ≡ old) };
+    // seen of the desk is as it was; or what an install left in the log was copied, by a commit that changes nothing that is held.
+    ghost prepares = { λ old result desk. HasCleanDisk (state S.Store desk.conn) → result ≡ Ok true → (desk.conn.in_transaction ≡ true) ⊎ ((desk ≡ old) ⊎ HasCopied S.Store old desk) };
 
     ghost fails_to_prepare = { FailsToPrepare S.Store };
 
@@ -240,20 +269,14 @@ impl<S: Alter + Drop> Preparer for Desk<S> {
     }
 
     fn prepare(&mut self) -> Result<bool, Fault> {
-        if self.last == LastCall::Closed {
+        let closed = self.is_closed();
+        if closed {
             return Err(Fault::Closed);
         }
-        let outcome = prepare_next(
-            self.alloc,
-            &mut self.conn,
-            &self.summary,
-            &mut self.draft,
-            &mut self.filing,
-            &mut self.begins,
-        );
-        forget_behind(&mut self.texts, &outcome);
-        self.last = last_behind(self.last, &outcome);
-        outcome
+        if self.may_copy() {
+            return self.copy_log();
+        }
+        self.prepare_part()
     }
 
     fn answer_prepared(

@@ -33,7 +33,7 @@ const UNTITLED_INDEX: &[u8] = b"opal\tE\tC\n";
 
 const NAME: &str = "gem";
 
-const LONG_OCTETS: usize = 2_500_000;
+const LONG_OCTETS: usize = 4_300_000;
 
 fn long_text(alloc: Global) -> Result<Vec<u8>, AllocError> {
     Vec::from_elem(alloc, b'x', LONG_OCTETS)
@@ -497,6 +497,39 @@ static OTHERS: [&[&[Act]]; 1] = [&[&[
 #[test]
 fn nothing_is_prepared_of_other_commands(rt: HostRuntime) -> Result<(), Fail> {
     over_a_long_text(&rt, rt.alloc(), &OTHERS)
+}
+
+// What an install left in the log is copied first, in a part of its own, behind which all is as it was: once, whatever comes next.
+static COPIED: [&[&[Act]]; 2] = [
+    &[&[
+        EXPECT,
+        WHOLE,
+        PREPARED_ONE,
+        Act::Expect(Asked::Rollback("gem")),
+        Act::Part(true),
+        Act::All(true),
+        Act::Audit,
+        Act::Part(false),
+        Act::Apply("e", Some(Asked::Rollback("gem")), "5 Rollback gem Some(3)"),
+        Act::Shows("gem Gems 3; ore Ores 2; opal=0!/opal=6!/iron=iron\n  ore\n/"),
+        Act::Audit,
+    ]],
+    &[&[
+        NEXT,
+        Act::Expect(Asked::Retire("ore")),
+        Act::Part(true),
+        EXPECT,
+        Act::Part(true),
+        Act::All(true),
+        Act::Expect(Asked::Retire("ore")),
+        Act::Part(false),
+        Act::Audit,
+    ]],
+];
+
+#[test]
+fn the_log_is_copied_before_the_next_command(rt: HostRuntime) -> Result<(), Fail> {
+    over_a_long_text(&rt, rt.alloc(), &COPIED)
 }
 
 // Files of which one differs in an octet, or which come under another name, aren't answered by what was prepared.
