@@ -2,7 +2,7 @@
 use Rattle.std.specs.Prelude.{◌≡◌, ℕ, Bool, true, false, List, Option, Ok, Result}
 use Rattle.dict_desk.specs.declared.fault.Fault.{Fault}
 use Rattle.dict_desk.specs.Expected.{Expected}
-use Rattle.dict_http.specs.Foreseeing.{AsksForInstall}
+use Rattle.dict_http.specs.Foreseeing.{AsksForChange}
 use Rattle.dict_hub.specs.Foreseen.{AreForeseen}
 use Rattle.dict_hub.specs.Holding.{Holding}
 use Rattle.dict_hub.specs.Hubs.{Has}
@@ -13,7 +13,7 @@ use Rattle.dict_connection.specs.declared.connection.Connection.{Connection}
 
 -- behind what the hub has of the connection of this id, these octets make an install whole, and this desk was told of it last
 abbrev pub AreToldOf : {K : Type 0} → (K → Expected → K → Type 0) → Hub → ℕ → List ℕ → K → Type 0
-AreToldOf expects hub id octets desk = (held : Option Holding) → Has hub id held → AreForeseen expects AsksForInstall held octets desk
+AreToldOf expects hub id octets desk = (held : Option Holding) → Has hub id held → AreForeseen expects AsksForChange held octets desk
 
 module _ {K : Type 0} (expects : K → Expected → K → Type 0) (prepares : K → Result Bool Fault → K → Type 0) where
   -- octets are held back in a turn over this desk, which left that one: they were before, and then all that the desk was asked is to

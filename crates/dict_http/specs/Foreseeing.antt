@@ -1,43 +1,55 @@
--- An install that a request asks for, before it is answered.
+-- A change that a request asks for, before it is answered.
 use Rattle.std.specs.Prelude.{◌≡◌, ℕ, List, None, Some, true}
 use Rattle.dict_text.specs.Names.{is_request_id}
+use Rattle.dict_catalogue.specs.Commands.{retire, rollback}
 use Rattle.dict_catalogue.specs.Steps.{Catalogue, kept_under}
 use Rattle.dict_head.specs.Requests.{Request, IsRequest}
 use Rattle.dict_head.specs.Paths.{IsPath}
 use Rattle.dict_head.specs.declared.route_kinds.Route.{Route}
-use Rattle.dict_desk.specs.Expected.{Expected, of_files}
+use Rattle.dict_desk.specs.Expected.{Expected, of_command, of_files}
 use Rattle.dict_http.specs.Actions.{action_of, AreParts, IsId}
-use Rattle.dict_http.specs.declared.actions.Action.TheVariants.{Install}
+use Rattle.dict_http.specs.declared.actions.Action.{Action}
+use Rattle.dict_http.specs.declared.actions.Action.TheVariants.{List as Listing, Install, Retire, Rollback, Place, PutVirtual}
 
 -- the body of an install has these two files, about the name
 abbrev pub SaysInstall : List ℕ → List ℕ → Expected → Type 0
 SaysInstall name body asked = (index : List ℕ) × (text : List ℕ) × AreParts body index text × (asked ≡ of_files name index text)
 
--- an install asks for this, under one lawful id
-pub record AsksBy (ids : List (List ℕ)) (name body : List ℕ) (asked : Expected) : Type 0 where
+-- this action asks for it, about the name: an install by the files of its body, a retire and a rollback whatever the body; no other does
+abbrev pub SaysChange : Action → List ℕ → List ℕ → Expected → Type 0
+SaysChange Listing name body asked = ⊥
+SaysChange Install name body asked = SaysInstall name body asked
+SaysChange Retire name body asked = asked ≡ of_command (retire name)
+SaysChange Rollback name body asked = asked ≡ of_command (rollback name)
+SaysChange Place name body asked = ⊥
+SaysChange PutVirtual name body asked = ⊥
+
+-- so it is, under one lawful id
+pub record AsksBy (action : Action) (ids : List (List ℕ)) (name body : List ℕ) (asked : Expected) : Type 0 where
   pub id : List ℕ
   pub one : IsId ids id
   pub lawful : is_request_id id ≡ true
-  pub says : SaysInstall name body asked
+  pub says : SaysChange action name body asked
 
 -- and under that id no reply is kept
-pub record AsksAnewBy (before : Catalogue) (ids : List (List ℕ)) (name body : List ℕ) (asked : Expected) : Type 0 where
-  pub asks : AsksBy ids name body asked
+pub record AsksAnewBy (before : Catalogue) (action : Action) (ids : List (List ℕ)) (name body : List ℕ) (asked : Expected) : Type 0 where
+  pub asks : AsksBy action ids name body asked
   pub anew : kept_under before.kept asks.id ≡ None
 
--- a whole request stands at the front of the octets, whose route and method install, and it asks for this
-pub record AsksForInstall (octets : List ℕ) (asked : Expected) : Type 0 where
+-- a whole request stands at the front of the octets, and what its route and its method do asks for this
+pub record AsksForChange (octets : List ℕ) (asked : Expected) : Type 0 where
   pub request : Request
   pub is : IsRequest octets request
   pub route : Route
   pub name : List ℕ
   pub path : IsPath request.target route name
-  pub installs : action_of route request.method ≡ Some Install
-  pub asks : AsksBy request.ids name request.body asked
+  pub action : Action
+  pub acts : action_of route request.method ≡ Some action
+  pub asks : AsksBy action request.ids name request.body asked
 
 -- and under the one id of that request no reply is kept
-pub record AsksAnewForInstall (before : Catalogue) (octets : List ℕ) (asked : Expected) : Type 0 where
-  pub asks : AsksForInstall octets asked
+pub record AsksAnewForChange (before : Catalogue) (octets : List ℕ) (asked : Expected) : Type 0 where
+  pub asks : AsksForChange octets asked
   pub anew : kept_under before.kept asks.asks.id ≡ None
 
 -- the last that a keeper was told of is what is asked for

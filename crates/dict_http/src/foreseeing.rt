@@ -1,12 +1,15 @@
-// Installs that a request asks for, before it is answered.
+// Changes that a request asks for, before it is answered.
 ghost use Rattle.std.specs.Prelude.{◌≡◌, ℕ, List, Option, None, true};
 ghost use Rattle.dict_text.specs.Names.{is_request_id};
 ghost use Rattle.dict_catalogue.specs.Steps.{Catalogue, kept_under};
+ghost use Rattle.dict_catalogue.specs.Views.{command_meant};
+ghost use Rattle.dict_desk.specs.Expected.{of_command};
 ghost use Rattle.dict_head.specs.Fields.{AreValues};
-ghost use Rattle.dict_http.specs.Foreseeing.{HasForeseen, AsksAnewBy, AsksBy, SaysInstall};
+ghost use Rattle.dict_http.specs.Foreseeing.{HasForeseen, AsksAnewBy, AsksBy, SaysChange, SaysInstall};
 
-use crate::actions::one_id;
+use crate::actions::{Action, one_id};
 use crate::parts::parts_of;
+use dict_catalogue::Command;
 use dict_desk::{Keeper, Preparer};
 use dict_head::Values;
 use dict_text::is_request_id;
@@ -43,10 +46,43 @@ fn expect_files<K: Preparer>(desk: &mut K, name: &str, body: &[u8]) -> bool
     }
 }
 
-// Tells the desk of an install by its parts, where it may act. The body is looked at only then, and its files aren't read.
-pub fn foresee_install<K: Preparer>(desk: &mut K, ids: Values<'_>, name: &str, body: &[u8]) -> bool
-    ensures foreseen { result ≡ true → (values : List (List ℕ)) → AreValues ids.entry values → HasForeseen K.expects (AsksBy values name.now body.now) desk.new }
-    ensures anew { result ≡ true → K.is_trusted desk.new → (M : Catalogue) → K.shows desk.old M → (values : List (List ℕ)) → AreValues ids.entry values → HasForeseen K.expects (AsksAnewBy M values name.now body.now) desk.new }
+// Tells the desk of a command. Whether it took note.
+fn expect_command<K: Preparer>(desk: &mut K, command: &Command) -> bool
+    ensures foreseen { result ≡ true → HasForeseen K.expects (λ asked. asked ≡ of_command (command_meant command.now)) desk.new }
+    ensures trust { K.is_trusted desk.new → K.is_trusted desk.old }
+    ensures closed { K.is_closed desk.old ≡ true → K.is_closed desk.new ≡ true }
+    ensures shows { K.is_trusted desk.new → (M : Catalogue) → K.shows desk.old M → K.shows desk.new M }
+    ensures leaves { (ms : List (Option Catalogue)) → K.leaves_one_of desk.old ms → K.leaves_one_of desk.new ms }
+{
+    desk.expect(command).is_ok()
+}
+
+// Tells the desk of what an action asks for. Whether it took note.
+fn expect_change<K: Preparer>(desk: &mut K, action: Action, name: &str, body: &[u8]) -> bool
+    ensures foreseen { result ≡ true → HasForeseen K.expects (SaysChange action name.now body.now) desk.new }
+    ensures trust { K.is_trusted desk.new → K.is_trusted desk.old }
+    ensures closed { K.is_closed desk.old ≡ true → K.is_closed desk.new ≡ true }
+    ensures shows { K.is_trusted desk.new → (M : Catalogue) → K.shows desk.old M → K.shows desk.new M }
+    ensures leaves { (ms : List (Option Catalogue)) → K.leaves_one_of desk.old ms → K.leaves_one_of desk.new ms }
+{
+    match action {
+        Action::Install => expect_files(desk, name, body),
+        Action::Retire => expect_command(desk, &Command::Retire { name }),
+        Action::Rollback => expect_command(desk, &Command::Rollback { name }),
+        Action::List | Action::Place | Action::PutVirtual => false,
+    }
+}
+
+// Tells the desk of what an action asks for, where it may act. The body is looked at only then, and its files aren't read.
+pub fn foresee_change<K: Preparer>(
+    desk: &mut K,
+    action: Action,
+    ids: Values<'_>,
+    name: &str,
+    body: &[u8],
+) -> bool
+    ensures foreseen { result ≡ true → (values : List (List ℕ)) → AreValues ids.entry values → HasForeseen K.expects (AsksBy action values name.now body.now) desk.new }
+    ensures anew { result ≡ true → K.is_trusted desk.new → (M : Catalogue) → K.shows desk.old M → (values : List (List ℕ)) → AreValues ids.entry values → HasForeseen K.expects (AsksAnewBy M action values name.now body.now) desk.new }
     ensures trust { K.is_trusted desk.new → K.is_trusted desk.old }
     ensures closed { K.is_closed desk.old ≡ true → K.is_closed desk.new ≡ true }
     ensures shows { K.is_trusted desk.new → (M : Catalogue) → K.shows desk.old M → K.shows desk.new M }
@@ -58,5 +94,17 @@ pub fn foresee_install<K: Preparer>(desk: &mut K, ids: Values<'_>, name: &str, b
     if !may_act(desk, id) {
         return false;
     }
-    expect_files(desk, name, body)
+    expect_change(desk, action, name, body)
+}
+
+// The least octets of a request for an install that is foreseen. A smaller one is answered sooner than it is prepared.
+const MIN_INSTALL: usize = 65_536;
+
+// Whether a request of so many octets that asks for this is foreseen.
+pub fn is_foreseen(action: Action, octets: usize) -> bool {
+    match action {
+        Action::Install => octets >= MIN_INSTALL,
+        Action::Retire | Action::Rollback => true,
+        Action::Place | Action::PutVirtual | Action::List => false,
+    }
 }

@@ -8,14 +8,14 @@ ghost use Rattle.dict_head.specs.declared.kinds.Need.TheVariants as needs;
 ghost use Rattle.dict_head.specs.declared.statuses.Status.TheVariants as statuses;
 ghost use Rattle.dict_http.specs.Texts.{list_text};
 ghost use Rattle.dict_http.specs.Answers.{octets_of, plain, with_body, response_text};
-ghost use Rattle.dict_http.specs.Foreseeing.{HasForeseen, AsksAnewForInstall, AsksForInstall};
+ghost use Rattle.dict_http.specs.Foreseeing.{HasForeseen, AsksAnewForChange, AsksForChange};
 ghost use Rattle.dict_http.specs.Settling.{Settles, SettlesRequest, SettlesAction};
 ghost use Rattle.dict_http.specs.Responding.{IsAnswer, Responds};
 
 use crate::actions::{Action, action_of, one_id};
 use crate::answers::{Answer, bad_request, method_not_allowed, not_found, too_large, unavailable};
 use crate::changing::{change, with_text};
-use crate::foreseeing::foresee_install;
+use crate::foreseeing::{foresee_change, is_foreseen};
 use crate::items::list_json;
 use dict_desk::{Keeper, Preparer};
 use dict_head::{Reading, Request, Routes, Status, Values, read_request};
@@ -114,15 +114,16 @@ impl Service {
         }
     }
 
-    /// Tells the desk of the install that a whole request at the front of the octets asks for, so that it may prepare it before the
+    /// Tells the desk of the change that a whole request at the front of the octets asks for, so that it may prepare it before the
     /// request is answered. Nothing that is shown changes.
     ///
-    /// It is told only of one that may act, under one lawful id that isn't kept, by its name and its two files, of which none is read;
-    /// and it lets go of what it noted before. Whether it was told of one, and took note. Where memory is wanting, or the desk fails,
-    /// it didn't, and the request may be answered as ever.
+    /// It is told of an install by its name and its two files, of which none is read, and of a retire and a rollback; only of one that
+    /// may act, under one lawful id that isn't kept, and of no install of fewer than 65,536 octets. It lets go of what it noted before.
+    /// Whether it was told of one, and took note. Where memory is wanting, or the desk fails, it didn't, and the request may be answered as
+    /// ever.
     pub fn foresee<K: Preparer>(&self, octets: &[u8], desk: &mut K) -> bool
-        ensures foreseen { result ≡ true → HasForeseen K.expects (AsksForInstall octets.now) desk.new }
-        ensures anew { result ≡ true → K.is_trusted desk.new → (M : Catalogue) → K.shows desk.old M → HasForeseen K.expects (AsksAnewForInstall M octets.now) desk.new }
+        ensures foreseen { result ≡ true → HasForeseen K.expects (AsksForChange octets.now) desk.new }
+        ensures anew { result ≡ true → K.is_trusted desk.new → (M : Catalogue) → K.shows desk.old M → HasForeseen K.expects (AsksAnewForChange M octets.now) desk.new }
         ensures trust { K.is_trusted desk.new → K.is_trusted desk.old }
         ensures closed { K.is_closed desk.old ≡ true → K.is_closed desk.new ≡ true }
         ensures shows { K.is_trusted desk.new → (M : Catalogue) → K.shows desk.old M → K.shows desk.new M }
@@ -134,11 +135,12 @@ impl Service {
         let Some(found) = self.routes.find(request.target) else {
             return false;
         };
-        match action_of(found.route, request.method) {
-            Some(Action::Install) => {
-                foresee_install(desk, request.ids, found.name, request.body)
-            }
-            _ => false,
+        let Some(action) = action_of(found.route, request.method) else {
+            return false;
+        };
+        if !is_foreseen(action, octets.len()) {
+            return false;
         }
+        foresee_change(desk, action, request.ids, found.name, request.body)
     }
 }

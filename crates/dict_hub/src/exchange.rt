@@ -3,7 +3,7 @@ ghost use Rattle.std.specs.Prelude.{◌≡◌, ◌++◌, ℕ, true, List, Option
 ghost use Rattle.dict_catalogue.specs.Steps.{Catalogue};
 ghost use Rattle.dict_session.specs.Desks.{condition};
 ghost use Rattle.dict_hub.specs.Holding.{Holding, just_opened, left_by};
-ghost use Rattle.dict_http.specs.Foreseeing.{AsksAnewForInstall, AsksForInstall};
+ghost use Rattle.dict_http.specs.Foreseeing.{AsksAnewForChange, AsksForChange};
 ghost use Rattle.dict_hub.specs.Foreseen.{IsForeseen};
 ghost use Rattle.dict_hub.specs.Given.{Greets, Gets, GetsThrough, LookNothingUp};
 ghost use Rattle.dict_hub.specs.declared.kind.Kind.TheVariants.{Http};
@@ -98,12 +98,12 @@ impl<'h> Exchange<'h> {
         }
     }
 
-    /// Whether this piece makes an editor's request whole that installs an edition, and the desk was told of it. Nothing of
+    /// Whether this piece makes an editor's request whole that changes, and the desk was told of it. Nothing of
     /// what is held changes.
     pub fn foresee<K: Preparer>(&mut self, service: &Service, piece: &[u8], desk: &mut K) -> bool
         ensures holds { (host : List ℕ) (id : ℕ) (held : Holding) → Holds host id self.old held → Holds host id self.new held }
-        ensures foreseen { result ≡ true → (host : List ℕ) (id : ℕ) (held : Holding) → Holds host id self.old held → IsForeseen K.expects AsksForInstall held piece.now desk.new }
-        ensures anew { result ≡ true → K.is_trusted desk.new → (M : Catalogue) → K.shows desk.old M → (host : List ℕ) (id : ℕ) (held : Holding) → Holds host id self.old held → IsForeseen K.expects (AsksAnewForInstall M) held piece.now desk.new }
+        ensures foreseen { result ≡ true → (host : List ℕ) (id : ℕ) (held : Holding) → Holds host id self.old held → IsForeseen K.expects AsksForChange held piece.now desk.new }
+        ensures anew { result ≡ true → K.is_trusted desk.new → (M : Catalogue) → K.shows desk.old M → (host : List ℕ) (id : ℕ) (held : Holding) → Holds host id self.old held → IsForeseen K.expects (AsksAnewForChange M) held piece.now desk.new }
         ensures trust { K.is_trusted desk.new → K.is_trusted desk.old }
         ensures closed { K.is_closed desk.old ≡ true → K.is_closed desk.new ≡ true }
         ensures shows { K.is_trusted desk.new → (M : Catalogue) → K.shows desk.old M → K.shows desk.new M }

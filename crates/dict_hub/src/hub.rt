@@ -4,7 +4,7 @@ ghost use Rattle.dict_catalogue.specs.Steps.{Catalogue};
 ghost use Rattle.dict_session.specs.Desks.{condition};
 ghost use Rattle.dict_hub.specs.Books.{IsRefusal, opening, place_of};
 ghost use Rattle.dict_hub.specs.Holding.{Holding, left_by};
-ghost use Rattle.dict_http.specs.Foreseeing.{AsksAnewForInstall, AsksForInstall};
+ghost use Rattle.dict_http.specs.Foreseeing.{AsksAnewForChange, AsksForChange};
 ghost use Rattle.dict_hub.specs.Foreseen.{AreForeseen};
 ghost use Rattle.dict_hub.specs.Given.{Greets, Gets, GetsThrough, LookNothingUp};
 ghost use Rattle.dict_hub.specs.declared.kind.Kind.{Kind};
@@ -127,15 +127,15 @@ impl<'h> Hub<'h> {
         }
     }
 
-    /// Whether these octets, the next that come on a connection, make a request whole that installs an edition, and the desk
-    /// was told of it and took note, so that it may prepare it before the event.
+    /// Whether these octets, the next that come on a connection, make a request whole that changes, and the desk was told of
+    /// it and took note, so that it may prepare it before the event.
     ///
     /// It is no event: nothing of the hub changes, nor what the desk shows, and nothing is put. Whatever is answered here,
-    /// the event of these octets gives what it would have given. Of a request with fewer than 65,536 octets the desk is told
-    /// nothing.
+    /// the event of these octets gives what it would have given. The desk is told of installs of 65,536 octets and more, of
+    /// retires and rollbacks.
     pub fn foresee<K: Preparer>(&mut self, desk: &mut K, id: u64, piece: &[u8]) -> bool
-        ensures foreseen { result ≡ true → (held : Option Holding) → Has self.old id held → AreForeseen K.expects AsksForInstall held piece.now desk.new }
-        ensures anew { result ≡ true → K.is_trusted desk.new → (M : Catalogue) → K.shows desk.old M → (held : Option Holding) → Has self.old id held → AreForeseen K.expects (AsksAnewForInstall M) held piece.now desk.new }
+        ensures foreseen { result ≡ true → (held : Option Holding) → Has self.old id held → AreForeseen K.expects AsksForChange held piece.now desk.new }
+        ensures anew { result ≡ true → K.is_trusted desk.new → (M : Catalogue) → K.shows desk.old M → (held : Option Holding) → Has self.old id held → AreForeseen K.expects (AsksAnewForChange M) held piece.now desk.new }
         ensures kept { (other : ℕ) (held : Option Holding) → Has self.old other held → Has self.new other held }
         ensures state { (state : State) → IsAt self.old state → IsAt self.new state }
         ensures given { greatest_of self.new ≡ greatest_of self.old }

@@ -1,7 +1,7 @@
 // The editors' half of a hub: one request a connection.
 ghost use Rattle.std.specs.Prelude.{◌≡◌, ◌++◌, [], true, List, Option, IfErr, OnErr};
 ghost use Rattle.dict_catalogue.specs.Steps.{Catalogue};
-ghost use Rattle.dict_http.specs.Foreseeing.{HasForeseen, AsksAnewForInstall, AsksForInstall};
+ghost use Rattle.dict_http.specs.Foreseeing.{HasForeseen, AsksAnewForChange, AsksForChange};
 ghost use Rattle.dict_hub.specs.Asking.{Awaits, Answers, IsAwaitedIn};
 ghost use Rattle.dict_hub.specs.declared.incoming.Out.TheVariants as outs;
 ghost use Rattle.std.specs.Prelude.{Ok};
@@ -13,9 +13,6 @@ use dict_head::{Reading, read_request};
 use dict_http::Service;
 use dict_proto::Sink;
 use std::alloc::Global;
-
-/// The least octets of a request that is foreseen. A smaller one is answered sooner than it is prepared.
-const MIN_FORESEEN: usize = 65_536;
 
 /// What becomes of a connection after an event.
 #[derive(Clone, Copy, Debug, PartialEq, Eq)]
@@ -87,13 +84,13 @@ impl Incoming {
         Ok(Out::Close)
     }
 
-    /// Whether this piece, behind the octets that have come, makes a request whole that installs an edition, and the desk was
+    /// Whether this piece, behind the octets that have come, makes a request whole that changes, and the desk was
     /// told of it and took note. The piece isn't held. Where memory is wanting the desk is told nothing.
     pub fn foresee<K: Preparer>(&mut self, service: &Service, piece: &[u8], desk: &mut K) -> bool
         ensures octets { self.new.octets.items ≡ self.old.octets.items }
         ensures awaited { self.new.awaited ≡ self.old.awaited }
-        ensures foreseen { result ≡ true → HasForeseen K.expects (AsksForInstall (self.old.octets.items ++ piece.now)) desk.new }
-        ensures anew { result ≡ true → K.is_trusted desk.new → (M : Catalogue) → K.shows desk.old M → HasForeseen K.expects (AsksAnewForInstall M (self.old.octets.items ++ piece.now)) desk.new }
+        ensures foreseen { result ≡ true → HasForeseen K.expects (AsksForChange (self.old.octets.items ++ piece.now)) desk.new }
+        ensures anew { result ≡ true → K.is_trusted desk.new → (M : Catalogue) → K.shows desk.old M → HasForeseen K.expects (AsksAnewForChange M (self.old.octets.items ++ piece.now)) desk.new }
         ensures trust { K.is_trusted desk.new → K.is_trusted desk.old }
         ensures closed { K.is_closed desk.old ≡ true → K.is_closed desk.new ≡ true }
         ensures shows { K.is_trusted desk.new → (M : Catalogue) → K.shows desk.old M → K.shows desk.new M }
@@ -101,7 +98,7 @@ impl Incoming {
     {
         let held = self.octets.len();
         let count = held.saturating_add(piece.len());
-        if count < MIN_FORESEEN || count < self.awaited {
+        if count < self.awaited {
             return false;
         }
         let grown = self.octets.extend_from_slice(piece);

@@ -14,9 +14,14 @@ const FRONT: &[u8] =
 const INSTALL: &str =
     "PUT /databases/gem HTTP/1.1\r\nRequest-Id: r1\r\nContent-Length: 70101\r\n\r\n";
 
+// A small request that changes, and the same under an id that is kept.
+const RETIRE: &[u8] = b"DELETE /databases/gem HTTP/1.1\r\nRequest-Id: r9\r\n\r\n";
+
+const KEPT: &[u8] = b"DELETE /databases/gem HTTP/1.1\r\nRequest-Id: r1\r\n\r\n";
+
 // What stands before `FRONT`, whether it is foreseen with its first piece and with its second, and what the desk notes. In the
 // last two the body has no form, or an edition that is refused, which isn't known before it is read.
-static CASES: [(&str, &str, &str); 10] = [
+static CASES: [(&str, &str, &str); 12] = [
     (INSTALL, "false true ", "gem 53 70045"),
     (
         "PUT /databases/ore HTTP/1.1\r\nContent-Length: 70101\r\nRequest-Id: a-1\r\n\r\n",
@@ -40,6 +45,16 @@ static CASES: [(&str, &str, &str); 10] = [
     ),
     (
         "DELETE /databases/gem HTTP/1.1\r\nRequest-Id: r1\r\nContent-Length: 70101\r\n\r\n",
+        "false true ",
+        "",
+    ),
+    (
+        "POST /databases/gem/rollback HTTP/1.1\r\nRequest-Id: r1\r\nContent-Length: 70101\r\n\r\n",
+        "false true ",
+        "",
+    ),
+    (
+        "POST /databases/gem/place HTTP/1.1\r\nRequest-Id: r1\r\nContent-Length: 70101\r\n\r\n",
         "false false ",
         "",
     ),
@@ -128,7 +143,7 @@ impl Run {
         Ok(())
     }
 
-    // A kept id, a reader's octets, those of no connection, and a small request.
+    // A kept id, a reader's octets, those of no connection, and small requests.
     fn foresee_others(
         &mut self,
         rt: &impl Abort,
@@ -139,6 +154,8 @@ impl Run {
         self.take(alloc, Event::Opened(3, Kind::Dict))?;
         same(rt, &self.foresee(2, octets), &false);
         same(rt, &self.foresee(2, PUT), &false);
+        same(rt, &self.foresee(2, KEPT), &false);
+        same(rt, &self.foresee(2, RETIRE), &true);
         same(rt, &self.foresee(3, octets), &false);
         same(rt, &self.foresee(4, octets), &false);
         Ok(())
@@ -229,7 +246,7 @@ fn check(rt: &impl Abort, alloc: Global, octets: &[u8], wanted: Wanted<'_>) -> R
 }
 
 #[test]
-fn installs_are_foreseen(rt: HostRuntime) -> Result<(), Fail> {
+fn changes_are_foreseen(rt: HostRuntime) -> Result<(), Fail> {
     for (head, foreseen, noted) in &CASES {
         let octets = request(rt.alloc(), *head)?;
         let wanted = Wanted {

@@ -1,8 +1,8 @@
-use Rattle.dict_http.proofs.foreseeing.foresee_install.Goals as goal
+use Rattle.dict_http.proofs.foreseeing.foresee_change.Goals as goal
 
 pub returns-clause-foreseen : goal.returns-clause-foreseen
 returns-clause-foreseen g c = λ taken values are.
-    let told = c.expect_files.ensures.foreseen taken in
+    let told = c.expect_change.ensures.foreseen taken in
     record {
       asked = told.asked;
       asks = record { id = c.in-Some.id.now; one = c.in-Some.ensures values are; lawful = c.may_act.ensures.lawful c.if-not-may_act.false; says = told.asks };
@@ -12,8 +12,8 @@ returns-clause-foreseen g c = λ taken values are.
 
 pub returns-clause-anew : goal.returns-clause-anew
 returns-clause-anew g c = λ taken trusted M shown values are.
-    let told = c.expect_files.ensures.foreseen taken in
-    let noted = c.expect_files.ensures.trust trusted in
+    let told = c.expect_change.ensures.foreseen taken in
+    let noted = c.expect_change.ensures.trust trusted in
     record {
       asked = told.asked;
       asks = record {

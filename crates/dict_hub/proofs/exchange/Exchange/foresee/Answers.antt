@@ -1,5 +1,5 @@
 use Rattle.std.proofs.Common.{◌++◌, ℕ, List, subst}
-use Rattle.dict_http.specs.Foreseeing.{HasForeseen, AsksAnewForInstall, AsksForInstall}
+use Rattle.dict_http.specs.Foreseeing.{HasForeseen, AsksAnewForChange, AsksForChange}
 use Rattle.dict_hub.specs.Lines.{Holds, IsEditor}
 use Rattle.dict_hub.proofs.ExchangeLemmas.{editor_same}
 use Rattle.dict_hub.proofs.exchange.Exchange.foresee.Goals as goal
@@ -14,7 +14,7 @@ returns-in-Editor-clause-foreseen g c = λ taken host id held holds.
     let h : IsEditor c.in-Editor.incoming held = subst (λ line. Holds host id line held) c.in-Editor.is holds in
     record {
       kind = h.kind;
-      told = subst (λ (o : List ℕ). HasForeseen g.K.Preparer.expects (AsksForInstall (o ++ c.args.piece.now)) c.foresee.new.desk) h.octets_held (c.foresee.ensures.foreseen taken);
+      told = subst (λ (o : List ℕ). HasForeseen g.K.Preparer.expects (AsksForChange (o ++ c.args.piece.now)) c.foresee.new.desk) h.octets_held (c.foresee.ensures.foreseen taken);
     }
 
 pub returns-in-Editor-clause-anew : goal.returns-in-Editor-clause-anew
@@ -22,5 +22,5 @@ returns-in-Editor-clause-anew g c = λ taken trusted M shown host id held holds.
     let h : IsEditor c.in-Editor.incoming held = subst (λ line. Holds host id line held) c.in-Editor.is holds in
     record {
       kind = h.kind;
-      told = subst (λ (o : List ℕ). HasForeseen g.K.Preparer.expects (AsksAnewForInstall M (o ++ c.args.piece.now)) c.foresee.new.desk) h.octets_held (c.foresee.ensures.anew taken trusted M shown);
+      told = subst (λ (o : List ℕ). HasForeseen g.K.Preparer.expects (AsksAnewForChange M (o ++ c.args.piece.now)) c.foresee.new.desk) h.octets_held (c.foresee.ensures.anew taken trusted M shown);
     }
