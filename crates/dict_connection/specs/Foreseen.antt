@@ -11,7 +11,7 @@ use Rattle.dict_connection.specs.Handing.{held_in, is_held_back}
 use Rattle.dict_connection.specs.Stages.{is_open}
 use Rattle.dict_connection.specs.declared.connection.Connection.{Connection}
 
--- behind what the hub has of the connection of this id, these octets make an install whole, and this desk was told of it last
+-- behind what the hub has of the connection of this id, these octets make a change whole, and this desk was told of it last
 abbrev pub AreToldOf : {K : Type 0} → (K → Expected → K → Type 0) → Hub → ℕ → List ℕ → K → Type 0
 AreToldOf expects hub id octets desk = (held : Option Holding) → Has hub id held → AreForeseen expects AsksForChange held octets desk
 

@@ -1,13 +1,14 @@
 -- A change that a request asks for, before it is answered.
 use Rattle.std.specs.Prelude.{◌≡◌, ℕ, List, None, Some, true}
 use Rattle.dict_text.specs.Names.{is_request_id}
-use Rattle.dict_catalogue.specs.Commands.{retire, rollback}
+use Rattle.dict_catalogue.specs.Commands.{place, put_virtual, retire, rollback}
 use Rattle.dict_catalogue.specs.Steps.{Catalogue, kept_under}
 use Rattle.dict_head.specs.Requests.{Request, IsRequest}
 use Rattle.dict_head.specs.Paths.{IsPath}
 use Rattle.dict_head.specs.declared.route_kinds.Route.{Route}
 use Rattle.dict_desk.specs.Expected.{Expected, of_command, of_files}
 use Rattle.dict_http.specs.Actions.{action_of, AreParts, IsId}
+use Rattle.dict_http.specs.Bodies.{IsPlace, IsVirtual}
 use Rattle.dict_http.specs.declared.actions.Action.{Action}
 use Rattle.dict_http.specs.declared.actions.Action.TheVariants.{List as Listing, Install, Retire, Rollback, Place, PutVirtual}
 
@@ -15,14 +16,14 @@ use Rattle.dict_http.specs.declared.actions.Action.TheVariants.{List as Listing,
 abbrev pub SaysInstall : List ℕ → List ℕ → Expected → Type 0
 SaysInstall name body asked = (index : List ℕ) × (text : List ℕ) × AreParts body index text × (asked ≡ of_files name index text)
 
--- this action asks for it, about the name: an install by the files of its body, a retire and a rollback whatever the body; no other does
+-- this action asks for it, about the name: an install by the files of its body, another change by its command; a list asks for none
 abbrev pub SaysChange : Action → List ℕ → List ℕ → Expected → Type 0
 SaysChange Listing name body asked = ⊥
 SaysChange Install name body asked = SaysInstall name body asked
 SaysChange Retire name body asked = asked ≡ of_command (retire name)
 SaysChange Rollback name body asked = asked ≡ of_command (rollback name)
-SaysChange Place name body asked = ⊥
-SaysChange PutVirtual name body asked = ⊥
+SaysChange Place name body asked = (n : ℕ) × IsPlace body n × (asked ≡ of_command (place name n))
+SaysChange PutVirtual name body asked = (title : List ℕ) × (members : List (List ℕ)) × IsVirtual body title members × (asked ≡ of_command (put_virtual name title members))
 
 -- so it is, under one lawful id
 pub record AsksBy (action : Action) (ids : List (List ℕ)) (name body : List ℕ) (asked : Expected) : Type 0 where

@@ -5,14 +5,17 @@ ghost use Rattle.dict_catalogue.specs.Steps.{Catalogue, kept_under};
 ghost use Rattle.dict_catalogue.specs.Views.{command_meant};
 ghost use Rattle.dict_desk.specs.Expected.{of_command};
 ghost use Rattle.dict_head.specs.Fields.{AreValues};
+ghost use Rattle.dict_http.specs.declared.actions.Action.TheVariants as actions;
 ghost use Rattle.dict_http.specs.Foreseeing.{HasForeseen, AsksAnewBy, AsksBy, SaysChange, SaysInstall};
 
 use crate::actions::{Action, one_id};
+use crate::bodies::{read_json, read_place, read_virtual};
 use crate::parts::parts_of;
 use dict_catalogue::Command;
 use dict_desk::{Keeper, Preparer};
 use dict_head::Values;
 use dict_text::is_request_id;
+use std::alloc::Global;
 
 // Whether a command under this id may act: the id is lawful, and no reply is kept under it.
 fn may_act<K: Keeper>(desk: &mut K, id: &str) -> bool
@@ -57,8 +60,58 @@ fn expect_command<K: Preparer>(desk: &mut K, command: &Command) -> bool
     desk.expect(command).is_ok()
 }
 
+// Tells the desk that an item is put at the place that a body says. Whether it took note.
+fn expect_place<K: Preparer>(alloc: Global, desk: &mut K, name: &str, body: &[u8]) -> bool
+    ensures foreseen { result ≡ true → HasForeseen K.expects (SaysChange actions.Place name.now body.now) desk.new }
+    ensures trust { K.is_trusted desk.new → K.is_trusted desk.old }
+    ensures closed { K.is_closed desk.old ≡ true → K.is_closed desk.new ≡ true }
+    ensures shows { K.is_trusted desk.new → (M : Catalogue) → K.shows desk.old M → K.shows desk.new M }
+    ensures leaves { (ms : List (Option Catalogue)) → K.leaves_one_of desk.old ms → K.leaves_one_of desk.new ms }
+{
+    match read_place(alloc, body) {
+        Ok(Some(place)) => expect_command(
+            desk,
+            &Command::Place {
+                name,
+                place: u64::from(place),
+            },
+        ),
+        Ok(None) | Err(_) => false,
+    }
+}
+
+// Tells the desk that the virtual item that a body says is put. Whether it took note.
+fn expect_virtual<K: Preparer>(alloc: Global, desk: &mut K, name: &str, body: &[u8]) -> bool
+    ensures foreseen { result ≡ true → HasForeseen K.expects (SaysChange actions.PutVirtual name.now body.now) desk.new }
+    ensures trust { K.is_trusted desk.new → K.is_trusted desk.old }
+    ensures closed { K.is_closed desk.old ≡ true → K.is_closed desk.new ≡ true }
+    ensures shows { K.is_trusted desk.new → (M : Catalogue) → K.shows desk.old M → K.shows desk.new M }
+    ensures leaves { (ms : List (Option Catalogue)) → K.leaves_one_of desk.old ms → K.leaves_one_of desk.new ms }
+{
+    let Ok(Some(value)) = read_json(alloc, body) else {
+        return false;
+    };
+    match read_virtual(alloc, &value) {
+        Ok(Some(form)) => expect_command(
+            desk,
+            &Command::PutVirtual {
+                name,
+                title: form.title,
+                members: form.members.as_slice(),
+            },
+        ),
+        Ok(None) | Err(_) => false,
+    }
+}
+
 // Tells the desk of what an action asks for. Whether it took note.
-fn expect_change<K: Preparer>(desk: &mut K, action: Action, name: &str, body: &[u8]) -> bool
+fn expect_change<K: Preparer>(
+    alloc: Global,
+    desk: &mut K,
+    action: Action,
+    name: &str,
+    body: &[u8],
+) -> bool
     ensures foreseen { result ≡ true → HasForeseen K.expects (SaysChange action name.now body.now) desk.new }
     ensures trust { K.is_trusted desk.new → K.is_trusted desk.old }
     ensures closed { K.is_closed desk.old ≡ true → K.is_closed desk.new ≡ true }
@@ -69,12 +122,15 @@ fn expect_change<K: Preparer>(desk: &mut K, action: Action, name: &str, body: &[
         Action::Install => expect_files(desk, name, body),
         Action::Retire => expect_command(desk, &Command::Retire { name }),
         Action::Rollback => expect_command(desk, &Command::Rollback { name }),
-        Action::List | Action::Place | Action::PutVirtual => false,
+        Action::Place => expect_place(alloc, desk, name, body),
+        Action::PutVirtual => expect_virtual(alloc, desk, name, body),
+        Action::List => false,
     }
 }
 
 // Tells the desk of what an action asks for, where it may act. The body is looked at only then, and its files aren't read.
 pub fn foresee_change<K: Preparer>(
+    alloc: Global,
     desk: &mut K,
     action: Action,
     ids: Values<'_>,
@@ -94,17 +150,19 @@ pub fn foresee_change<K: Preparer>(
     if !may_act(desk, id) {
         return false;
     }
-    expect_change(desk, action, name, body)
+    expect_change(alloc, desk, action, name, body)
 }
 
-// The least octets of a request for an install that is foreseen. A smaller one is answered sooner than it is prepared.
-const MIN_INSTALL: usize = 65_536;
+// Of so many octets a request for an install is foreseen: a smaller one is answered sooner than it is prepared. A larger one whose body
+// is JSON isn't, since that is read once more.
+const SOME: usize = 65_536;
 
 // Whether a request of so many octets that asks for this is foreseen.
 pub fn is_foreseen(action: Action, octets: usize) -> bool {
     match action {
-        Action::Install => octets >= MIN_INSTALL,
+        Action::Install => octets >= SOME,
         Action::Retire | Action::Rollback => true,
-        Action::Place | Action::PutVirtual | Action::List => false,
+        Action::Place | Action::PutVirtual => octets < SOME,
+        Action::List => false,
     }
 }

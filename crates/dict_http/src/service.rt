@@ -117,11 +117,12 @@ impl Service {
     /// Tells the desk of the change that a whole request at the front of the octets asks for, so that it may prepare it before the
     /// request is answered. Nothing that is shown changes.
     ///
-    /// It is told of an install by its name and its two files, of which none is read, and of a retire and a rollback; only of one that
-    /// may act, under one lawful id that isn't kept, and of no install of fewer than 65,536 octets. It lets go of what it noted before.
+    /// It is told of an install by its name and its two files, of which none is read, and of another change by its command; only of one
+    /// that may act, under one lawful id that isn't kept; of no install of fewer than 65,536 octets, and of no larger request whose body
+    /// is JSON. It lets go of what it noted before.
     /// Whether it was told of one, and took note. Where memory is wanting, or the desk fails, it didn't, and the request may be answered as
     /// ever.
-    pub fn foresee<K: Preparer>(&self, octets: &[u8], desk: &mut K) -> bool
+    pub fn foresee<K: Preparer>(&self, alloc: Global, octets: &[u8], desk: &mut K) -> bool
         ensures foreseen { result ≡ true → HasForeseen K.expects (AsksForChange octets.now) desk.new }
         ensures anew { result ≡ true → K.is_trusted desk.new → (M : Catalogue) → K.shows desk.old M → HasForeseen K.expects (AsksAnewForChange M octets.now) desk.new }
         ensures trust { K.is_trusted desk.new → K.is_trusted desk.old }
@@ -141,6 +142,6 @@ impl Service {
         if !is_foreseen(action, octets.len()) {
             return false;
         }
-        foresee_change(desk, action, request.ids, found.name, request.body)
+        foresee_change(alloc, desk, action, request.ids, found.name, request.body)
     }
 }

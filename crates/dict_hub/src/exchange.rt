@@ -100,7 +100,13 @@ impl<'h> Exchange<'h> {
 
     /// Whether this piece makes an editor's request whole that changes, and the desk was told of it. Nothing of
     /// what is held changes.
-    pub fn foresee<K: Preparer>(&mut self, service: &Service, piece: &[u8], desk: &mut K) -> bool
+    pub fn foresee<K: Preparer>(
+        &mut self,
+        service: &Service,
+        alloc: Global,
+        piece: &[u8],
+        desk: &mut K,
+    ) -> bool
         ensures holds { (host : List ℕ) (id : ℕ) (held : Holding) → Holds host id self.old held → Holds host id self.new held }
         ensures foreseen { result ≡ true → (host : List ℕ) (id : ℕ) (held : Holding) → Holds host id self.old held → IsForeseen K.expects AsksForChange held piece.now desk.new }
         ensures anew { result ≡ true → K.is_trusted desk.new → (M : Catalogue) → K.shows desk.old M → (host : List ℕ) (id : ℕ) (held : Holding) → Holds host id self.old held → IsForeseen K.expects (AsksAnewForChange M) held piece.now desk.new }
@@ -111,7 +117,7 @@ impl<'h> Exchange<'h> {
     {
         match self {
             Exchange::Reader(_) => false,
-            Exchange::Editor(incoming) => incoming.foresee(service, piece, desk),
+            Exchange::Editor(incoming) => incoming.foresee(service, alloc, piece, desk),
         }
     }
 }

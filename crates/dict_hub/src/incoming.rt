@@ -86,7 +86,13 @@ impl Incoming {
 
     /// Whether this piece, behind the octets that have come, makes a request whole that changes, and the desk was
     /// told of it and took note. The piece isn't held. Where memory is wanting the desk is told nothing.
-    pub fn foresee<K: Preparer>(&mut self, service: &Service, piece: &[u8], desk: &mut K) -> bool
+    pub fn foresee<K: Preparer>(
+        &mut self,
+        service: &Service,
+        alloc: Global,
+        piece: &[u8],
+        desk: &mut K,
+    ) -> bool
         ensures octets { self.new.octets.items ≡ self.old.octets.items }
         ensures awaited { self.new.awaited ≡ self.old.awaited }
         ensures foreseen { result ≡ true → HasForeseen K.expects (AsksForChange (self.old.octets.items ++ piece.now)) desk.new }
@@ -105,7 +111,7 @@ impl Incoming {
         if grown.is_err() {
             return false;
         }
-        let is_foreseen = service.foresee(&self.octets, desk);
+        let is_foreseen = service.foresee(alloc, &self.octets, desk);
         self.octets.truncate(held);
         is_foreseen
     }

@@ -19,6 +19,12 @@ const RETIRE: &[u8] = b"DELETE /databases/gem HTTP/1.1\r\nRequest-Id: r9\r\n\r\n
 
 const KEPT: &[u8] = b"DELETE /databases/gem HTTP/1.1\r\nRequest-Id: r1\r\n\r\n";
 
+const PLACE: &[u8] =
+    b"POST /databases/gem/place HTTP/1.1\r\nRequest-Id: r9\r\nContent-Length: 11\r\n\r\n{\"place\":0}";
+
+const VIRTUAL: &[u8] =
+    b"PUT /virtual/all HTTP/1.1\r\nRequest-Id: r9\r\nContent-Length: 31\r\n\r\n{\"title\":\"t\",\"members\":[\"gem\"]}";
+
 // What stands before `FRONT`, whether it is foreseen with its first piece and with its second, and what the desk notes. In the
 // last two the body has no form, or an edition that is refused, which isn't known before it is read.
 static CASES: [(&str, &str, &str); 12] = [
@@ -156,6 +162,8 @@ impl Run {
         same(rt, &self.foresee(2, PUT), &false);
         same(rt, &self.foresee(2, KEPT), &false);
         same(rt, &self.foresee(2, RETIRE), &true);
+        same(rt, &self.foresee(2, PLACE), &true);
+        same(rt, &self.foresee(2, VIRTUAL), &true);
         same(rt, &self.foresee(3, octets), &false);
         same(rt, &self.foresee(4, octets), &false);
         Ok(())
