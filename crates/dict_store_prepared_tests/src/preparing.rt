@@ -511,7 +511,7 @@ static COPIED: [&[&[Act]]; 2] = [
         Act::Audit,
         Act::Part(false),
         Act::Apply("e", Some(Asked::Rollback("gem")), "5 Rollback gem Some(3)"),
-        Act::Shows("gem Gems 3; ore Ores 2; opal=0!/opal=6!/iron=iron\n  ore\n/"),
+        Act::Shows("gem Gems 3/4; ore Ores 2; opal=0!/opal=6!/iron=iron\n  ore\n/"),
         Act::Audit,
     ]],
     &[&[
