@@ -1,7 +1,6 @@
--- Octets that are held back, and turns in which nothing is read.
-use Rattle.std.proofs.Common.{◌≡◌, ◌≢◌, ◌≤◌, ◌<◌, ℕ, Bool, true, false, List, [], ◌∷◌, ◌++◌, refl, sym, ap, ◌∙◌, subst, append-nil, length, inl, inr, arith}
-use Rattle.std.proofs.lemmas.List.Elements.{All-nil}
-use Rattle.std.specs.Prelude.{Option, ◌&&◌, if◌then◌else◌}
+-- Octets that are held back, or handed behind what a desk is asked.
+use Rattle.std.proofs.Common.{◌≡◌, ℕ, true, List, [], ◌∷◌, ◌++◌, refl, sym, ap, ◌∙◌, subst, append-nil, length, inl, inr}
+use Rattle.std.specs.Prelude.{Option}
 use Rattle.std.specs.Io.KnownBytes.{Consumes, Keeps}
 use Rattle.dict_catalogue.specs.Steps.{Catalogue}
 use Rattle.dict_hub.specs.Events.{is_of_editor}
@@ -10,27 +9,22 @@ use Rattle.dict_hub.specs.declared.fault.HubFault.{HubFault}
 use Rattle.dict_hub.specs.declared.hub.Hub.{Hub}
 use Rattle.dict_hub.specs.declared.kind.Kind.{Kind}
 use Rattle.dict_connection.specs.OutletCalls.{Call, Makes, receives}
-use Rattle.dict_connection.specs.Outlets.{FailsOnlyStuck, Passes, is_sending}
-use Rattle.dict_connection.specs.Queues.{waiting, is_clear}
+use Rattle.dict_connection.specs.Outlets.{FailsOnlyStuck, Passes}
+use Rattle.dict_connection.specs.Queues.{waiting}
 use Rattle.dict_connection.specs.declared.calls.Received.TheVariants as receiveds
-use Rattle.dict_connection.specs.declared.calls.Sent.{Sent}
-use Rattle.dict_connection.specs.declared.calls.Sent.TheVariants as sents
 use Rattle.dict_connection.proofs.OutletLemmas.{passes_none}
-use Rattle.dict_connection.proofs.CallLemmas.{makes_none}
-use Rattle.dict_connection.specs.Calls.{calls_of_turn, has_turned}
 use Rattle.dict_connection.specs.Events.{AreOf}
-use Rattle.dict_connection.specs.Handing.{held_in, is_handed}
+use Rattle.dict_connection.specs.Handing.{held_in}
 use Rattle.dict_connection.specs.Leading.{HasLedOn}
 use Rattle.dict_connection.specs.Pieces.{next_piece}
 use Rattle.dict_connection.specs.Stages.{is_open}
 use Rattle.dict_connection.specs.Causes.{IsRefused}
 use Rattle.dict_connection.specs.Telling.{KeepsEach}
-use Rattle.dict_connection.specs.Turns.{BringAllOrNone, HandsOver, LeadsByAnswer, LeadsByPiece, LeadsFurther, ReadsOnce, SendsOnce, Turns, is_deferred, may_read}
+use Rattle.dict_connection.specs.Turns.{BringAllOrNone, HandsOver, LeadsByAnswer, LeadsByPiece, ReadsOnce}
 use Rattle.dict_connection.specs.declared.connection.Connection.{Connection}
-use Rattle.dict_connection.specs.declared.held.Held.{Held}
 use Rattle.dict_connection.proofs.LeadLemmas.{led_joined}
 use Rattle.dict_connection.proofs.StuckLemmas.{stuck_from, stuck_none}
-use Rattle.dict_connection.proofs.TurnLemmas.{answer_from, calls_of_both, kept_consumes, leads_by_turn, reads_handed}
+use Rattle.dict_connection.proofs.TurnLemmas.{answer_from, piece_from, reads_handed}
 
 -- what a desk prepares leads no event
 pub led_quiet : {T : Type 0} {S0 S1 : Catalogue → Type 0} {L0 L1 : List (Option Catalogue) → Type 0} {a b : Hub} {P : List Accepted → Type 0}
@@ -77,9 +71,9 @@ hands_none taken coming made a b octets same kind held = record {
 }
 
 -- octets that are held back for one turn more
-pub back_once : {T : Type 0} (refused : ℕ → Kind → Type 0) (a b : Connection T) → b ≡ record a { held = b.held } → held_in b.held ≡ held_in a.held → (is_of_editor a.held.kind ≡ true) × (b.held.turns_left < a.held.turns_left)
-    → LeadsByPiece refused (held_in a.held) a.held.turns_left a b []
-back_once refused a b same held (editor, fewer) = inr (editor, refl, held, ap (λ it. it.stage) same, fewer)
+pub back_once : {T : Type 0} (refused : ℕ → Kind → Type 0) (a b : Connection T) → b ≡ record a { held = b.held } → held_in b.held ≡ held_in a.held → is_of_editor a.held.kind ≡ true
+    → LeadsByPiece refused (held_in a.held) a b []
+back_once refused a b same held editor = inr (editor, refl, held, ap (λ it. it.stage) same)
 
 -- a piece is handed of a connection that was as this one, but for the turns that were left
 pub hands_from : {T : Type 0} (taken coming : T → Option (List ℕ)) (made : T → Option (List Call)) (a b c : Connection T) (octets : List ℕ) (events : List Accepted) → b ≡ record a { held = b.held } → b.held.kind ≡ a.held.kind
@@ -104,7 +98,7 @@ hands_from taken coming made a b c octets events same kind hands = record {
 -- and so it is answered
 pub handed_from : {T : Type 0} (taken coming : T → Option (List ℕ)) (made : T → Option (List Call)) (refused : ℕ → Kind → Type 0) (a b c : Connection T) (events : List Accepted) → b ≡ record a { held = b.held } → b.held.kind ≡ a.held.kind
     → held_in b.held ≡ held_in a.held → HandsOver taken coming made (held_in b.held) b c events × LeadsByAnswer refused (held_in b.held) b c events
-    → HandsOver taken coming made (held_in a.held) a c events × LeadsByPiece refused (held_in a.held) a.held.turns_left a c events
+    → HandsOver taken coming made (held_in a.held) a c events × LeadsByPiece refused (held_in a.held) a c events
 handed_from taken coming made refused a b c events same kind held (hands, leads) = (
   subst (λ (l : List ℕ). HandsOver taken coming made l a c events) held (hands_from taken coming made a b c (held_in b.held) events same kind hands),
   inl (answer_from refused a b c (held_in a.held) events (ap (λ it. it.id) same) (ap (λ it. it.stage) same) kind (subst (λ (l : List ℕ). LeadsByAnswer refused l b c events) held leads)),
@@ -115,23 +109,32 @@ pub refused_over : (refuses : Hub → ℕ → Kind → Option HubFault → Type 
 refused_over refuses hub after keeps id kind (at, same, why) = (at, (λ held has. same held (keeps id held has)), why)
 
 -- an answer where the one may be refused is one where the other may
-answer_over : {T : Type 0} (refused since : ℕ → Kind → Type 0) (octets : List ℕ) (b c : Connection T) (events : List Accepted) → ((id : ℕ) (kind : Kind) → since id kind → refused id kind)
+pub answer_over : {T : Type 0} (refused since : ℕ → Kind → Type 0) (octets : List ℕ) (b c : Connection T) (events : List Accepted) → ((id : ℕ) (kind : Kind) → since id kind → refused id kind)
     → LeadsByAnswer since octets b c events → LeadsByAnswer refused octets b c events
 answer_over refused since octets b c events over (inl told) = inl told
 answer_over refused since octets b c events over (inr (may, ends, is)) = inr (over b.id b.held.kind may, ends, is)
 
--- where a piece leads that was read into a connection which was as this one, but for what is held
-piece_read : {T : Type 0} (refused since : ℕ → Kind → Type 0) (a b c : Connection T) (octets : List ℕ) (events : List Accepted) → ((id : ℕ) (kind : Kind) → since id kind → refused id kind) → b.id ≡ a.id → b.stage ≡ a.stage
-    → b.held.kind ≡ a.held.kind → b.held.turns_left ≤ 1_000_000 → LeadsByPiece since octets b.held.turns_left b c events → LeadsByPiece refused octets 1_000_000 a c events
-piece_read refused since a b c octets events over id stage kind few (inl answer) = inl (answer_from refused a b c octets events id stage kind (answer_over refused since octets b c events over answer))
-piece_read refused since a b c octets events over id stage kind few (inr (editor, none, held, same, fewer)) = inr (ap is_of_editor (sym kind) ∙ editor, none, held, same ∙ stage, omega (arith, few, fewer))
+-- where a piece leads of one that was as this one, but for what is held, and by a hub that had of each connection what another has
+piece_over : {T : Type 0} (refused since : ℕ → Kind → Type 0) (a b c : Connection T) (octets : List ℕ) (events : List Accepted) → ((id : ℕ) (kind : Kind) → since id kind → refused id kind) → b.id ≡ a.id → b.stage ≡ a.stage
+    → b.held.kind ≡ a.held.kind → LeadsByPiece since octets b c events → LeadsByPiece refused octets a c events
+piece_over refused since a b c octets events over id stage kind (inl answer) = inl (answer_from refused a b c octets events id stage kind (answer_over refused since octets b c events over answer))
+piece_over refused since a b c octets events over id stage kind (inr (editor, none, held, same)) = inr (ap is_of_editor (sym kind) ∙ editor, none, held, same ∙ stage)
+
+-- a piece is handed of a connection that was as this one, but for what else is held of it, and over such a hub
+pub handed_over : {T : Type 0} (taken coming : T → Option (List ℕ)) (made : T → Option (List Call)) (refused since : ℕ → Kind → Type 0) (a b c : Connection T) (events : List Accepted) → b ≡ record a { held = b.held } → b.held.kind ≡ a.held.kind
+    → held_in b.held ≡ held_in a.held → ((id : ℕ) (kind : Kind) → since id kind → refused id kind) → HandsOver taken coming made (held_in b.held) b c events × LeadsByPiece since (held_in b.held) b c events
+    → HandsOver taken coming made (held_in a.held) a c events × LeadsByPiece refused (held_in a.held) a c events
+handed_over taken coming made refused since a b c events same kind held over (hands, leads) = (
+  subst (λ (l : List ℕ). HandsOver taken coming made l a c events) held (hands_from taken coming made a b c (held_in b.held) events same kind hands),
+  piece_over refused since a b c (held_in a.held) events over (ap (λ it. it.id) same) (ap (λ it. it.stage) same) kind (subst (λ (l : List ℕ). LeadsByPiece since l b c events) held leads),
+)
 
 -- octets came, which are held then, and the hub was told the first piece of them, or they are held back
-pub reads_octets : {T : Type 0} {refused : ℕ → Kind → Type 0} (taken coming : T → Option (List ℕ)) (made : T → Option (List Call)) (since : ℕ → Kind → Type 0) (a b s c : Connection T) (count : ℕ) (octets : List ℕ) (events : List Accepted)
-    → b ≡ record a { transport = b.transport } → s ≡ record b { held = s.held } → a.may_receive ≡ true → s.held.kind ≡ b.held.kind → held_in s.held ≡ octets → s.held.turns_left ≤ 1_000_000 → ((id : ℕ) (kind : Kind) → since id kind → refused id kind)
+pub reads_octets : {T : Type 0} {refused : ℕ → Kind → Type 0} (taken coming : T → Option (List ℕ)) (made : T → Option (List Call)) (a b s c : Connection T) (count : ℕ) (octets : List ℕ) (events : List Accepted)
+    → b ≡ record a { transport = b.transport } → s ≡ record b { held = s.held } → a.may_receive ≡ true → s.held.kind ≡ b.held.kind → held_in s.held ≡ octets
     → Keeps (taken a.transport) (taken b.transport) → Consumes (coming a.transport) (coming b.transport) octets → Makes (made a.transport) (made b.transport) (receives 4096 (receiveds.Octets count) ∷ [])
-    → HandsOver taken coming made (held_in s.held) s c events × LeadsByPiece since (held_in s.held) s.held.turns_left s c events → ReadsOnce taken coming made refused a c (receiveds.Octets count) events
-reads_octets {refused = refused} taken coming made since a b s c count octets events same filled marked kind is few over took comes calls (hands, leads) =
+    → HandsOver taken coming made (held_in s.held) s c events × LeadsByPiece refused (held_in s.held) s c events → ReadsOnce taken coming made refused a c (receiveds.Octets count) events
+reads_octets {refused = refused} taken coming made a b s c count octets events same filled marked kind is took comes calls (hands, leads) =
     let id : s.id ≡ a.id = ap (λ it. it.id) filled ∙ ap (λ it. it.id) same in
     let stage : s.stage ≡ a.stage = ap (λ it. it.stage) filled ∙ ap (λ it. it.stage) same in
     let marks : s.may_receive ≡ a.may_receive = ap (λ it. it.may_receive) filled ∙ ap (λ it. it.may_receive) same in
@@ -143,45 +146,6 @@ reads_octets {refused = refused} taken coming made since a b s c count octets ev
     (subst (λ t. Consumes (coming a.transport) (coming t) octets) back comes)
     (subst (λ t. Makes (made a.transport) (made t) (receives 4096 (receiveds.Octets count) ∷ [])) back calls)
     (subst (λ (l : List ℕ). HandsOver taken coming made l s c events) is hands) (
-      piece_read refused since a s c octets events over id stage kinds few (subst (λ (l : List ℕ). LeadsByPiece since l s.held.turns_left s c events) is leads),
+      piece_from refused a s c octets events id stage kinds (subst (λ (l : List ℕ). LeadsByPiece refused l s c events) is leads),
       hands.may_receive ∙ marks,
     )
-
--- a sending, and no reading, since that is deferred
-pub turns_deferred : {T : Type 0} {refused : ℕ → Kind → Type 0} (taken coming : T → Option (List ℕ)) (made : T → Option (List Call)) (preparing : Bool) (a b : Connection T) (sending : Sent) → sending ≢ sents.Failed
-    → is_handed b.held ≡ true → is_deferred preparing b ≡ true → SendsOnce taken coming made a b sending → Turns taken coming made preparing refused a b true []
-turns_deferred {refused = refused} taken coming made preparing a b sending well all later first =
-    let empty : is_handed a.held ≡ true = ap is_handed (sym first.held) ∙ all in
-    let late : is_deferred preparing a ≡ true = ap (λ (h : Held). preparing && is_of_editor h.kind) (sym first.held) ∙ later in
-    let may : may_read preparing a ≡ false
-    = ap (λ (e : Bool). e && (if is_deferred preparing a then false else a.may_receive)) empty ∙ ap (λ (d : Bool). if d then false else a.may_receive) late in
-    let still : held_in b.held ≡ held_in a.held = ap held_in first.held in
-    record {
-      has_moved = ap (λ (d : Bool). has_turned true d sending receiveds.Nothing) (sym late) ∙ ap (λ (e : Bool). has_turned e (is_deferred preparing a) sending receiveds.Nothing) (sym empty);
-      id = first.id;
-      kind = ap (λ (h : Held). h.kind) first.held;
-      was_open = λ open_now. ap is_open (sym first.stage) ∙ open_now;
-      own = tt;
-      are_turns = tt;
-      sent = first.sent;
-      takes = first.takes;
-      put = [];
-      are_put = refl;
-      order = first.order ∙ sym (append-nil (waiting a.queue));
-      received = [];
-      gives = kept_consumes _ _ first.comes;
-      pieces = inr refl;
-      handed = λ open_now. still ∙ sym (append-nil (held_in a.held));
-      sending = sending;
-      reading = receiveds.Nothing;
-      within = [];
-      sendings = All-nil (λ call. is_sending call ≡ true);
-      calls = subst (λ (m : Bool). Makes (made a.transport) (made b.transport) (calls_of_turn (is_clear a.queue) m sending receiveds.Nothing ++ [])) (sym may)
-          (calls_of_both _ _ _ (is_clear a.queue) false sending receiveds.Nothing [] well first.calls (makes_none (made b.transport)));
-      stuck = stuck_none _ _ a.queue b.queue first.failures;
-      lazy = λ few. refl;
-      idle = first.idle;
-      unmarked = λ isnt. refl;
-      leads = leads_by_turn preparing refused a b sending receiveds.Nothing [] [] well (subst (λ (e : Bool). LeadsFurther e (is_deferred preparing a) refused receiveds.Nothing [] a b []) (sym empty)
-          (subst (λ (d : Bool). LeadsFurther true d refused receiveds.Nothing [] a b []) (sym late) ((refl, first.stage, still), refl, first.may_receive)));
-    }

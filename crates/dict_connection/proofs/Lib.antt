@@ -11,3 +11,4 @@ pub mod HoldLemmas
 pub mod BackLemmas
 pub mod CauseLemmas
 pub mod QuietLemmas
+pub mod CommandLemmas

@@ -25,7 +25,7 @@ use Rattle.dict_connection.specs.declared.held.Held.{Held}
 use Rattle.dict_hub.specs.declared.kind.Kind.{Kind}
 use Rattle.dict_connection.specs.Outlets.{FailsOnlyStuck, Passes, is_sending}
 use Rattle.dict_connection.specs.Telling.{IsAnswered, IsTold, IsToldThrough}
-use Rattle.dict_connection.specs.Turns.{BringAllOrNone, Hands, HandsOver, LeadsByAnswer, LeadsByEnd, LeadsByPiece, LeadsByReading, LeadsByTurn, LeadsFurther, is_deferred, may_read, SendsOnce, ReadsOnce, Turns, Finishes, Drains, LeadsOut, LeadsAway, Departs, stage_between, stage_drained, dropped_after, marked_after}
+use Rattle.dict_connection.specs.Turns.{BringAllOrNone, Hands, HandsOver, LeadsByAnswer, LeadsByEnd, LeadsByPiece, LeadsByReading, LeadsByTurn, LeadsFurther, may_read, SendsOnce, ReadsOnce, Turns, Finishes, Drains, LeadsOut, LeadsAway, Departs, stage_between, stage_drained, dropped_after, marked_after}
 use Rattle.dict_connection.specs.declared.connection.Connection.{Connection}
 use Rattle.dict_connection.specs.declared.calls.Sent.{Sent}
 use Rattle.dict_connection.specs.declared.calls.Sent.TheVariants as sents
@@ -309,10 +309,10 @@ answer_from refused a b c octets events id stage kind (inr (refuses, only, over)
     inr (subst (λ (i : ℕ). refused i a.held.kind) id (subst (λ (k : Kind). refused b.id k) kind refuses), subst (λ (i : ℕ). IsOnly (ended i) events) id only, over)
 
 -- and so is where a piece leads that may be held back
-piece_from : {T : Type 0} (refused : ℕ → Kind → Type 0) (a b c : Connection T) (octets : List ℕ) (most : ℕ) (events : List Accepted) → b.id ≡ a.id → b.stage ≡ a.stage → b.held.kind ≡ a.held.kind
-    → LeadsByPiece refused octets most b c events → LeadsByPiece refused octets most a c events
-piece_from refused a b c octets most events id stage kind (inl answer) = inl (answer_from refused a b c octets events id stage kind answer)
-piece_from refused a b c octets most events id stage kind (inr (editor, none, held, same, fewer)) = inr (ap is_of_editor (sym kind) ∙ editor, none, held, same ∙ stage, fewer)
+pub piece_from : {T : Type 0} (refused : ℕ → Kind → Type 0) (a b c : Connection T) (octets : List ℕ) (events : List Accepted) → b.id ≡ a.id → b.stage ≡ a.stage → b.held.kind ≡ a.held.kind
+    → LeadsByPiece refused octets b c events → LeadsByPiece refused octets a c events
+piece_from refused a b c octets events id stage kind (inl answer) = inl (answer_from refused a b c octets events id stage kind answer)
+piece_from refused a b c octets events id stage kind (inr (editor, none, held, same)) = inr (ap is_of_editor (sym kind) ∙ editor, none, held, same ∙ stage)
 
 -- and so is where a reading leads
 leads_from : {T : Type 0} (refused : ℕ → Kind → Type 0) (a b c : Connection T) (reading : Received) (octets : List ℕ) (events : List Accepted) → b.id ≡ a.id → b.stage ≡ a.stage → b.may_receive ≡ a.may_receive → b.held ≡ a.held
@@ -320,7 +320,7 @@ leads_from : {T : Type 0} (refused : ℕ → Kind → Type 0) (a b c : Connectio
 leads_from refused a b c receiveds.Nothing octets events id stage marks held ((none, same, kept), still) = ((none, same ∙ stage, kept ∙ ap held_in held), still)
 leads_from refused a b c receiveds.Interrupted octets events id stage marks held ((none, same, kept), still) = ((none, same ∙ stage, kept ∙ ap held_in held), still ∙ marks)
 leads_from refused a b c (receiveds.Octets count) octets events id stage marks held (answer, marked) =
-    (piece_from refused a b c octets 1_000_000 events id stage (ap (λ (h : Held). h.kind) held) answer, marked ∙ marks)
+    (piece_from refused a b c octets events id stage (ap (λ (h : Held). h.kind) held) answer, marked ∙ marks)
 leads_from refused a b c receiveds.End octets events id stage marks held leads = (subst (λ (i : ℕ). IsOnly (ended i) events) id leads.0, leads.1)
 leads_from refused a b c receiveds.Failed octets events id stage marks held leads = (subst (λ (i : ℕ). IsOnly (ended i) events) id leads.0, leads.1)
 
@@ -394,12 +394,12 @@ reads_none taken coming made a b reading id stage queue held none took comes cal
   leads = leads;
 }
 
-pub leads_by_turn : {T : Type 0} (preparing : Bool) (refused : ℕ → Kind → Type 0) (a c : Connection T) (sending : Sent) (reading : Received) (octets : List ℕ) (events : List Accepted) → sending ≢ sents.Failed
-    → LeadsFurther (is_handed a.held) (is_deferred preparing a) refused reading octets a c events → LeadsByTurn preparing refused sending reading octets a c events
-leads_by_turn preparing refused a c sents.Nothing reading octets events well leads = leads
-leads_by_turn preparing refused a c sents.Interrupted reading octets events well leads = leads
-leads_by_turn preparing refused a c sents.Some reading octets events well leads = leads
-leads_by_turn preparing refused a c sents.Failed reading octets events well leads = absurd (well refl)
+pub leads_by_turn : {T : Type 0} (refused : ℕ → Kind → Type 0) (a c : Connection T) (sending : Sent) (reading : Received) (octets : List ℕ) (events : List Accepted) → sending ≢ sents.Failed
+    → LeadsFurther (is_handed a.held) refused reading octets a c events → LeadsByTurn refused sending reading octets a c events
+leads_by_turn refused a c sents.Nothing reading octets events well leads = leads
+leads_by_turn refused a c sents.Interrupted reading octets events well leads = leads
+leads_by_turn refused a c sents.Some reading octets events well leads = leads
+leads_by_turn refused a c sents.Failed reading octets events well leads = absurd (well refl)
 
 pub calls_of_both : (a b c : Option (List Call)) (clear may : Bool) (sending : Sent) (reading : Received) (within : List Call) → sending ≢ sents.Failed → Makes a b (sendings clear sending) → Makes b c (readings may reading ++ within)
     → Makes a c (calls_of_turn clear may sending reading ++ within)
@@ -411,20 +411,18 @@ calls_of_both a b c clear may sents.Some reading within well first later =
     subst (λ (l : List Call). Makes a c l) (sym (append_assoc (sendings clear sents.Some) (readings may reading) within)) (makes_joined a b c (sendings clear sents.Some) (readings may reading ++ within) first later)
 calls_of_both a b c clear may sents.Failed reading within well first later = absurd (well refl)
 
--- a sending, and then a reading, where nothing was held and it isn't deferred
-pub turns_read : {T : Type 0} {refused : ℕ → Kind → Type 0} (taken coming : T → Option (List ℕ)) (made : T → Option (List Call)) (preparing : Bool) (a b c : Connection T) (sending : Sent) (reading : Received) (events : List Accepted) → sending ≢ sents.Failed
-    → is_handed b.held ≡ true → is_deferred preparing b ≡ false → SendsOnce taken coming made a b sending → ReadsOnce taken coming made refused b c reading events → (moved : Bool) → moved ≡ has_moved sending reading
-    → Turns taken coming made preparing refused a c moved events
-turns_read {refused = refused} taken coming made preparing a b c sending reading events well all soon first later moved is =
+-- a sending, and then a reading, where nothing was held
+pub turns_read : {T : Type 0} {refused : ℕ → Kind → Type 0} (taken coming : T → Option (List ℕ)) (made : T → Option (List Call)) (a b c : Connection T) (sending : Sent) (reading : Received) (events : List Accepted) → sending ≢ sents.Failed
+    → is_handed b.held ≡ true → SendsOnce taken coming made a b sending → ReadsOnce taken coming made refused b c reading events → (moved : Bool) → moved ≡ has_moved sending reading
+    → Turns taken coming made refused a c moved events
+turns_read {refused = refused} taken coming made a b c sending reading events well all first later moved is =
     let empty : is_handed a.held ≡ true = ap is_handed (sym first.held) ∙ all in
-    let now : is_deferred preparing a ≡ false = ap (λ (h : Held). preparing && is_of_editor h.kind) (sym first.held) ∙ soon in
     let none : held_in a.held ≡ [] = none_held a.held empty in
-    let may : may_read preparing a ≡ a.may_receive
-    = ap (λ (e : Bool). e && (if is_deferred preparing a then false else a.may_receive)) empty ∙ ap (λ (d : Bool). if d then false else a.may_receive) now in
+    let may : may_read a ≡ a.may_receive = ap (λ (e : Bool). e && a.may_receive) empty in
     let kind : b.held.kind ≡ a.held.kind = ap (λ (h : Held). h.kind) first.held in
     let whole : later.received ≡ held_in a.held ++ later.received = ap (λ (l : List ℕ). l ++ later.received) (sym none) in
     record {
-      has_moved = is ∙ ap (λ (d : Bool). has_turned true d sending reading) (sym now) ∙ ap (λ (e : Bool). has_turned e (is_deferred preparing a) sending reading) (sym empty);
+      has_moved = is ∙ ap (λ (e : Bool). has_turned e sending reading) (sym empty);
       id = later.id ∙ first.id;
       kind = later.kind ∙ kind;
       was_open = λ still. ap is_open (sym first.stage) ∙ later.was_open still;
@@ -453,22 +451,21 @@ turns_read {refused = refused} taken coming made preparing a b c sending reading
       lazy = λ few. (later.lazy (omega (arith, few, ap length first.order, length-append first.sent (waiting b.queue)))).1;
       idle = first.idle;
       unmarked = λ isnt. later.unmarked (first.may_receive ∙ sym may ∙ isnt);
-      leads = leads_by_turn preparing refused a c sending reading later.received events well (subst (λ (e : Bool). LeadsFurther e (is_deferred preparing a) refused reading later.received a c events) (sym empty)
-          (subst (λ (d : Bool). LeadsFurther true d refused reading later.received a c events) (sym now)
-          (leads_from refused a b c reading later.received events first.id first.stage first.may_receive first.held later.leads)));
+      leads = leads_by_turn refused a c sending reading later.received events well (subst (λ (e : Bool). LeadsFurther e refused reading later.received a c events) (sym empty)
+          (leads_from refused a b c reading later.received events first.id first.stage first.may_receive first.held later.leads));
     }
 
 -- a sending, and then the next piece of what was held
-pub turns_handed : {T : Type 0} {refused : ℕ → Kind → Type 0} (taken coming : T → Option (List ℕ)) (made : T → Option (List Call)) (preparing : Bool) (a b c : Connection T) (sending : Sent) (events : List Accepted) → sending ≢ sents.Failed
-    → is_handed b.held ≡ false → SendsOnce taken coming made a b sending → HandsOver taken coming made (held_in b.held) b c events × LeadsByPiece refused (held_in b.held) b.held.turns_left b c events
-    → Turns taken coming made preparing refused a c true events
-turns_handed {refused = refused} taken coming made preparing a b c sending events well some first (hands, leads) =
+pub turns_handed : {T : Type 0} {refused : ℕ → Kind → Type 0} (taken coming : T → Option (List ℕ)) (made : T → Option (List Call)) (a b c : Connection T) (sending : Sent) (events : List Accepted) → sending ≢ sents.Failed
+    → is_handed b.held ≡ false → SendsOnce taken coming made a b sending → HandsOver taken coming made (held_in b.held) b c events × LeadsByPiece refused (held_in b.held) b c events
+    → Turns taken coming made refused a c true events
+turns_handed {refused = refused} taken coming made a b c sending events well some first (hands, leads) =
     let left : is_handed a.held ≡ false = ap is_handed (sym first.held) ∙ some in
-    let may : may_read preparing a ≡ false = ap (λ (e : Bool). e && (if is_deferred preparing a then false else a.may_receive)) left in
+    let may : may_read a ≡ false = ap (λ (e : Bool). e && a.may_receive) left in
     let kind : b.held.kind ≡ a.held.kind = ap (λ (h : Held). h.kind) first.held in
     let whole : held_in b.held ≡ held_in a.held ++ [] = ap held_in first.held ∙ sym (append-nil (held_in a.held)) in
     record {
-      has_moved = ap (λ (e : Bool). has_turned e (is_deferred preparing a) sending receiveds.Nothing) (sym left);
+      has_moved = ap (λ (e : Bool). has_turned e sending receiveds.Nothing) (sym left);
       id = hands.id ∙ first.id;
       kind = hands.kind ∙ kind;
       was_open = λ still. ap is_open (sym first.stage) ∙ hands.was_open still;
@@ -497,23 +494,22 @@ turns_handed {refused = refused} taken coming made preparing a b c sending event
       lazy = λ few. (hands.passes.lazy (omega (arith, few, ap length first.order, length-append first.sent (waiting b.queue)))).1;
       idle = first.idle;
       unmarked = λ isnt. refl;
-      leads = leads_by_turn preparing refused a c sending receiveds.Nothing [] events well (subst (λ (e : Bool). LeadsFurther e (is_deferred preparing a) refused receiveds.Nothing [] a c events) (sym left) (
-        piece_from refused a b c (held_in a.held) a.held.turns_left events first.id first.stage kind (subst (λ (h : Held). LeadsByPiece refused (held_in h) h.turns_left b c events) first.held leads),
+      leads = leads_by_turn refused a c sending receiveds.Nothing [] events well (subst (λ (e : Bool). LeadsFurther e refused receiveds.Nothing [] a c events) (sym left) (
+        piece_from refused a b c (held_in a.held) events first.id first.stage kind (subst (λ (h : Held). LeadsByPiece refused (held_in h) b c events) first.held leads),
         refl,
         hands.may_receive ∙ first.may_receive,
       ));
     }
 
-turned_failed : (e d : Bool) → true ≡ has_turned e d sents.Failed receiveds.Nothing
-turned_failed true true = refl
-turned_failed true false = refl
-turned_failed false d = refl
+turned_failed : (e : Bool) → true ≡ has_turned e sents.Failed receiveds.Nothing
+turned_failed true = refl
+turned_failed false = refl
 
 -- a sending that failed, and then the hub was told the end
-pub turns_failed : {T : Type 0} {refused : ℕ → Kind → Type 0} (taken coming : T → Option (List ℕ)) (made : T → Option (List Call)) (preparing : Bool) (a b c : Connection T) (sending : Sent) (events : List Accepted) → sending ≡ sents.Failed
-    → SendsOnce taken coming made a b sending → c.stage ≡ stages.Over → Hands [] b c events × IsOnly (ended b.id) events → Turns taken coming made preparing refused a c true events
-turns_failed taken coming made preparing a b c sending events failed first over (hands, only) = record {
-  has_moved = turned_failed (is_handed a.held) (is_deferred preparing a);
+pub turns_failed : {T : Type 0} {refused : ℕ → Kind → Type 0} (taken coming : T → Option (List ℕ)) (made : T → Option (List Call)) (a b c : Connection T) (sending : Sent) (events : List Accepted) → sending ≡ sents.Failed
+    → SendsOnce taken coming made a b sending → c.stage ≡ stages.Over → Hands [] b c events × IsOnly (ended b.id) events → Turns taken coming made refused a c true events
+turns_failed taken coming made a b c sending events failed first over (hands, only) = record {
+  has_moved = turned_failed (is_handed a.held);
   id = hands.id ∙ first.id;
   kind = ap (λ (h : Held). h.kind) (hands.held ∙ first.held);
   was_open = λ still. ap is_open (sym first.stage) ∙ hands.was_open still;

@@ -29,12 +29,10 @@ calls_of_turn is_clear may_read sents.Nothing received = sendings is_clear sents
 calls_of_turn is_clear may_read sents.Interrupted received = sendings is_clear sents.Interrupted ++ readings may_read received
 calls_of_turn is_clear may_read sents.Some received = sendings is_clear sents.Some ++ readings may_read received
 
--- a turn did something, or is to be had again at once: where something was held before, or its reading is deferred; or else the sending or
--- the reading tells so
-abbrev pub has_turned : Bool → Bool → Sent → Received → Bool
-has_turned false deferred sent received = true
-has_turned true true sent received = true
-has_turned true false sent received = has_moved sent received
+-- a turn did something, or is to be had again at once: where something was held before; or else the sending or the reading tells so
+abbrev pub has_turned : Bool → Sent → Received → Bool
+has_turned false sent received = true
+has_turned true sent received = has_moved sent received
 
 -- a turn of one that is no longer open did something, or is to be had again at once: octets were taken or a sending failed or was
 -- interrupted, or one of these is so

@@ -31,13 +31,9 @@ use Rattle.dict_connection.specs.declared.stage.Stage.TheVariants as stages
 abbrev pub BringAllOrNone : List ℕ → List Accepted → Type 0
 BringAllOrNone octets events = (pieces_of events ≡ octets) ⊎ (pieces_of events ≡ [])
 
--- its reading is deferred: it is an editor's, and what one of these sent is being prepared
-abbrev pub is_deferred : {T : Type 0} → Bool → Connection T → Bool
-is_deferred preparing one = preparing && is_of_editor one.held.kind
-
--- a reading is made: all that was read is handed, and a reading may give something and isn't deferred
-abbrev pub may_read : {T : Type 0} → Bool → Connection T → Bool
-may_read preparing one = is_handed one.held && (if is_deferred preparing one then false else one.may_receive)
+-- a reading is made: all that was read is handed, and a reading may give something
+abbrev pub may_read : {T : Type 0} → Connection T → Bool
+may_read one = is_handed one.held && one.may_receive
 
 -- nothing is to be done: all that was read is handed, and a reading gave nothing
 abbrev pub IsAtRest : {T : Type 0} → Connection T → Type 0
@@ -86,14 +82,13 @@ LeadsByAnswer refused octets old new events =
     × (new.stage ≡ answered one.out old.stage))
     ⊎ (refused old.id old.held.kind × IsOnly (ended old.id) events × (new.stage ≡ stages.Over))
 
--- the hub was told nothing, and these octets of an editor are held back still, as they may be for fewer than so many turns more
-abbrev pub AreHeldBack : {T : Type 0} → List ℕ → ℕ → Connection T → Connection T → List Accepted → Type 0
-AreHeldBack octets most old new events =
-    (is_of_editor old.held.kind ≡ true) × (events ≡ []) × (held_in new.held ≡ octets) × (new.stage ≡ old.stage) × (new.held.turns_left < most)
+-- the hub was told nothing, and these octets of an editor are held back
+abbrev pub AreHeldBack : {T : Type 0} → List ℕ → Connection T → Connection T → List Accepted → Type 0
+AreHeldBack octets old new events = (is_of_editor old.held.kind ≡ true) × (events ≡ []) × (held_in new.held ≡ octets) × (new.stage ≡ old.stage)
 
 -- one or the other
-abbrev pub LeadsByPiece : {T : Type 0} → (ℕ → Kind → Type 0) → List ℕ → ℕ → Connection T → Connection T → List Accepted → Type 0
-LeadsByPiece refused octets most old new events = LeadsByAnswer refused octets old new events ⊎ AreHeldBack octets most old new events
+abbrev pub LeadsByPiece : {T : Type 0} → (ℕ → Kind → Type 0) → List ℕ → Connection T → Connection T → List Accepted → Type 0
+LeadsByPiece refused octets old new events = LeadsByAnswer refused octets old new events ⊎ AreHeldBack octets old new events
 
 -- the hub was told the end and nothing else, and this is the stage
 abbrev pub LeadsByEnd : {T : Type 0} → Stage → Connection T → Connection T → List Accepted → Type 0
@@ -108,24 +103,23 @@ LeadsNowhere old new events = (events ≡ []) × (new.stage ≡ old.stage) × (h
 abbrev pub LeadsByReading : {T : Type 0} → (ℕ → Kind → Type 0) → Received → List ℕ → Connection T → Connection T → List Accepted → Type 0
 LeadsByReading refused receiveds.Nothing octets old new events = LeadsNowhere old new events × (new.may_receive ≡ false)
 LeadsByReading refused receiveds.Interrupted octets old new events = LeadsNowhere old new events × (new.may_receive ≡ old.may_receive)
-LeadsByReading refused (receiveds.Octets count) octets old new events = LeadsByPiece refused octets 1_000_000 old new events × (new.may_receive ≡ old.may_receive)
+LeadsByReading refused (receiveds.Octets count) octets old new events = LeadsByPiece refused octets old new events × (new.may_receive ≡ old.may_receive)
 LeadsByReading refused receiveds.End octets old new events = LeadsByEnd (parted (is_clear new.queue)) old new events
 LeadsByReading refused receiveds.Failed octets old new events = LeadsByEnd stages.Over old new events
 
 -- where what was read leads: where something of it was held before, the answer to the next piece of that, unless it is held back, and
--- nothing is read; and where all was handed, a reading, or nothing where that is deferred
-abbrev pub LeadsFurther : {T : Type 0} → Bool → Bool → (ℕ → Kind → Type 0) → Received → List ℕ → Connection T → Connection T → List Accepted → Type 0
-LeadsFurther false deferred refused received octets old new events =
-    LeadsByPiece refused (held_in old.held) old.held.turns_left old new events × (octets ≡ []) × (new.may_receive ≡ old.may_receive)
-LeadsFurther true true refused received octets old new events = LeadsNowhere old new events × (octets ≡ []) × (new.may_receive ≡ old.may_receive)
-LeadsFurther true false refused received octets old new events = LeadsByReading refused received octets old new events
+-- nothing is read; and where all was handed, a reading
+abbrev pub LeadsFurther : {T : Type 0} → Bool → (ℕ → Kind → Type 0) → Received → List ℕ → Connection T → Connection T → List Accepted → Type 0
+LeadsFurther false refused received octets old new events =
+    LeadsByPiece refused (held_in old.held) old new events × (octets ≡ []) × (new.may_receive ≡ old.may_receive)
+LeadsFurther true refused received octets old new events = LeadsByReading refused received octets old new events
 
 -- where a turn leads: a sending that failed to a connection that is over, and each other where what was read does
-abbrev pub LeadsByTurn : {T : Type 0} → Bool → (ℕ → Kind → Type 0) → Sent → Received → List ℕ → Connection T → Connection T → List Accepted → Type 0
-LeadsByTurn preparing refused sents.Failed received octets old new events = LeadsByEnd stages.Over old new events
-LeadsByTurn preparing refused sents.Nothing received octets old new events = LeadsFurther (is_handed old.held) (is_deferred preparing old) refused received octets old new events
-LeadsByTurn preparing refused sents.Interrupted received octets old new events = LeadsFurther (is_handed old.held) (is_deferred preparing old) refused received octets old new events
-LeadsByTurn preparing refused sents.Some received octets old new events = LeadsFurther (is_handed old.held) (is_deferred preparing old) refused received octets old new events
+abbrev pub LeadsByTurn : {T : Type 0} → (ℕ → Kind → Type 0) → Sent → Received → List ℕ → Connection T → Connection T → List Accepted → Type 0
+LeadsByTurn refused sents.Failed received octets old new events = LeadsByEnd stages.Over old new events
+LeadsByTurn refused sents.Nothing received octets old new events = LeadsFurther (is_handed old.held) refused received octets old new events
+LeadsByTurn refused sents.Interrupted received octets old new events = LeadsFurther (is_handed old.held) refused received octets old new events
+LeadsByTurn refused sents.Some received octets old new events = LeadsFurther (is_handed old.held) refused received octets old new events
 
 -- A front of what waits was sent, which the transport took, by one call where something waits; nothing was read
 pub record SendsOnce {T : Type 0} (taken coming : T → Option (List ℕ)) (made : T → Option (List Call)) (old new : Connection T) (sending : Sent) : Type 0 where
@@ -173,12 +167,11 @@ pub record ReadsOnce {T : Type 0} (taken coming : T → Option (List ℕ)) (made
 -- A turn of an open connection. The events are of this connection alone. What waited and what they put: a front of it is sent, which
 -- the transport took, and the rest waits. What was held and what came: its first piece was handed to the hub while the connection is
 -- open, unless it is held back, and else that or none; and the rest is held while it is open. The calls are a sending, where something
--- waits, then a reading, where one may give something, nothing was held and it isn't deferred since what an editor sent is being
--- prepared, and within the event sendings again, once 1,048,576 octets are there; and what the first two came to, and the hub's answer,
--- tells the stage. Where more calls of the sink have failed than before, as many octets wait as may and the last of those within the event
--- took none, or octets found no room since memory was short. Something happened, or a turn is to be had again at once, where something was
--- held or the reading is deferred, and else as it is told by what the two came to
-pub record Turns {T : Type 0} (taken coming : T → Option (List ℕ)) (made : T → Option (List Call)) (preparing : Bool) (refused : ℕ → Kind → Type 0) (old new : Connection T) (moved : Bool) (events : List Accepted) : Type 0 where
+-- waits, then a reading, where one may give something and nothing was held, and within the event sendings again, once 1,048,576 octets
+-- are there; and what the first two came to, and the hub's answer, tells the stage. Where more calls of the sink have failed than before,
+-- as many octets wait as may and the last of those within the event took none, or octets found no room since memory was short. Something
+-- happened, or a turn is to be had again at once, where something was held, and else as it is told by what the two came to
+pub record Turns {T : Type 0} (taken coming : T → Option (List ℕ)) (made : T → Option (List Call)) (refused : ℕ → Kind → Type 0) (old new : Connection T) (moved : Bool) (events : List Accepted) : Type 0 where
   pub id : new.id ≡ old.id
   pub kind : new.held.kind ≡ old.held.kind
   pub was_open : is_open new.stage ≡ true → is_open old.stage ≡ true
@@ -197,13 +190,13 @@ pub record Turns {T : Type 0} (taken coming : T → Option (List ℕ)) (made : T
   pub reading : Received
   pub within : List Call
   pub sendings : All (λ call. is_sending call ≡ true) within
-  pub calls : Makes (made old.transport) (made new.transport) (calls_of_turn (is_clear old.queue) (may_read preparing old) sending reading ++ within)
-  pub stuck : FailsOnlyStuck (behind (made old.transport) (calls_of_turn (is_clear old.queue) (may_read preparing old) sending reading)) (made new.transport) old.queue new.queue
+  pub calls : Makes (made old.transport) (made new.transport) (calls_of_turn (is_clear old.queue) (may_read old) sending reading ++ within)
+  pub stuck : FailsOnlyStuck (behind (made old.transport) (calls_of_turn (is_clear old.queue) (may_read old) sending reading)) (made new.transport) old.queue new.queue
   pub lazy : length (waiting old.queue) + length put < 1048576 → within ≡ []
   pub idle : is_clear old.queue ≡ true → sending ≡ sents.Nothing
-  pub unmarked : may_read preparing old ≡ false → reading ≡ receiveds.Nothing
-  pub leads : LeadsByTurn preparing refused sending reading received old new events
-  pub has_moved : moved ≡ has_turned (is_handed old.held) (is_deferred preparing old) sending reading
+  pub unmarked : may_read old ≡ false → reading ≡ receiveds.Nothing
+  pub leads : LeadsByTurn refused sending reading received old new events
+  pub has_moved : moved ≡ has_turned (is_handed old.held) sending reading
 
 -- A connection was opened under this id: its stage is that of the hub's answer, the hub has it then as one of which nothing came,
 -- unless it is closed; what the event put waits, and the failures that it tells are those that its queue counts

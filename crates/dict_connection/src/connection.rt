@@ -3,7 +3,7 @@ ghost use Rattle.std.specs.Prelude.{◌≡◌, ◌≤◌, ◌<◌, ◌==◌, ◌
 ghost use Rattle.std.specs.Io.KnownBytes.{Consumes, Keeps};
 ghost use Rattle.dict_session.specs.Desks.{condition};
 ghost use Rattle.dict_connection.specs.Leading.{HasLedOn};
-ghost use Rattle.dict_hub.specs.Events.{opened, ended, is_of_editor};
+ghost use Rattle.dict_hub.specs.Events.{opened, came, ended, is_of_editor};
 ghost use Rattle.dict_hub.specs.Runs.{Accepted, IsAt, State};
 ghost use Rattle.dict_catalogue.specs.Steps.{Catalogue};
 ghost use Rattle.dict_connection.specs.OutletCalls.{Makes, receives, count_received};
@@ -40,14 +40,15 @@ pub struct Connection<T: Transport> {
 
 impl<T: Transport> Connection<T> {
     ghost use Rattle.dict_connection.specs.Queues.{waiting, is_clear};
-    ghost use Rattle.dict_connection.specs.Handing.{held_in, is_held_back};
+    ghost use Rattle.std.specs.Prelude.{◌+◌, ◌-◌, ◌^◌, min};
+    ghost use Rattle.dict_connection.specs.Handing.{held_for, held_in, is_held_back};
     ghost use Rattle.dict_connection.specs.Causes.{AreCausedBy, IsRefused};
-    ghost use Rattle.dict_connection.specs.Foreseen.{AreToldOf, HoldsBack, HoldsBy};
+    ghost use Rattle.dict_connection.specs.Foreseen.{AreCommand, AreToldOf, HoldsBack, HoldsStill, IsNoCommand, KeepsOrder};
     ghost use Rattle.dict_connection.specs.Opening.{IsUnopened};
     ghost use Rattle.dict_connection.specs.Pieces.{behind_piece};
     ghost use Rattle.dict_connection.specs.Quiet.{StaysForReader};
     ghost use Rattle.dict_connection.specs.Telling.{KeepsEach, KeepsOthers};
-    ghost use Rattle.dict_connection.specs.Turns.{Departs, Drains, Finishes, Hands, HandsOver, IsAtRest, IsOpened, LeadsByAnswer, LeadsByEnd, LeadsByPiece, ReadsOnce, SendsOnce, Turns, is_deferred, marked};
+    ghost use Rattle.dict_connection.specs.Turns.{Departs, Drains, Finishes, Hands, HandsOver, IsAtRest, IsOpened, LeadsByAnswer, LeadsByEnd, LeadsByPiece, ReadsOnce, SendsOnce, Turns, marked};
     ghost use Rattle.dict_connection.specs.Ordering.{IsOnly};
 
     /// Tells the hub of a new connection. `None` where the hub refused it, or there is no memory for what is read.
@@ -136,30 +137,36 @@ impl<T: Transport> Connection<T> {
         }
     }
 
-    /// Whether octets are held back that it sent as an editor's.
-    pub fn is_held_back(&self) -> bool
-        ensures { result ≡ is_held_back self.now.held }
+    /// For how many turns octets are held back by now that it sent as an editor's: 0 where none are, or it isn't open.
+    pub fn turns_held(&self) -> u64
+        ensures { result ≡ held_for self.now }
     {
-        self.held.is_held_back()
+        if self.stage.is_open() {
+            self.held.turns_held()
+        } else {
+            0
+        }
     }
 
     /// A turn of an open connection: sends what waits, and hands the next piece of what was read to the hub, of a reader a
     /// line. Where all of it was handed, it reads once into the room first; and where nothing more comes, the hub is told
     /// so. Whether anything happened, or a turn is to be had again at once.
     ///
-    /// Where an editor's piece completes an install, the desk prepares that first, a part in each turn, and the piece is held back
-    /// meanwhile, for 1,000,000 turns at most. Nothing is read of an editor's connection while octets of one are held back.
+    /// An editor's piece is held back where it makes a command whole and another connection's comes first (`is_behind`). Where none
+    /// does, and it completes an install, the desk prepares that first, a part in each turn, and the piece is held back meanwhile, for
+    /// 1,000,000 such turns at most.
     pub fn turn<K: Preparer, O: Opening>(
         &mut self,
         opening: &O,
         hub: &mut Hub,
         desk: &mut K,
         room: &mut [u8; PIECE],
-        is_preparing: bool,
+        is_behind: bool,
     ) -> bool
         ensures led { HasLedOn (K.is_trusted desk.new) (K.shows desk.old) (K.leaves_one_of desk.old) (K.shows desk.new) (K.leaves_one_of desk.new) hub.old hub.new
-            (λ events. Turns T.taken T.coming T.made is_preparing (IsRefused O.refuses hub.old) self.old self.new result events × AreCausedBy (condition K.has_failed K.is_closed desk.new) self.old self.new events × StaysForReader self.old.held.kind hub.old desk.old desk.new events) }
-        ensures prepared { HoldsBack K.expects K.prepares hub.old desk.old desk.new self.old self.new }
+            (λ events. Turns T.taken T.coming T.made (IsRefused O.refuses hub.old) self.old self.new result events × AreCausedBy (condition K.has_failed K.is_closed desk.new) self.old self.new events × StaysForReader self.old.held.kind hub.old desk.old desk.new events
+            × KeepsOrder is_behind self.old.held.kind hub.old events) }
+        ensures prepared { HoldsBack K.expects K.prepares is_behind hub.old desk.old desk.new self.old self.new }
         ensures trust { K.is_trusted desk.new → K.is_trusted desk.old }
         ensures closed { K.is_closed desk.old ≡ true → K.is_closed desk.new ≡ true }
         ensures others { KeepsOthers self.old.id hub.old hub.new }
@@ -172,13 +179,10 @@ impl<T: Transport> Connection<T> {
             return true;
         }
         if !self.held.is_empty() {
-            self.hand_prepared(opening, hub, desk);
+            self.hand_on(opening, hub, desk, is_behind);
             return true;
         }
-        if self.is_deferred(is_preparing) {
-            return true;
-        }
-        let received = self.read(opening, hub, desk, room);
+        let received = self.read(opening, hub, desk, room, is_behind);
         has_moved(sent, received)
     }
 
@@ -219,13 +223,6 @@ impl<T: Transport> Connection<T> {
         received_by(&self.transport.receive(room))
     }
 
-    // Whether nothing is to be read of it, since it is an editor's, and what one of these sent is being prepared.
-    fn is_deferred(&self, is_preparing: bool) -> bool
-        ensures { result ≡ is_deferred is_preparing self.now }
-    {
-        is_preparing && self.held.is_of_editor()
-    }
-
     // Reads once where that may give something, and hands the first piece of what came to the hub, unless it is held back, or
     // that nothing more comes.
     fn read<K: Preparer, O: Opening>(
@@ -234,11 +231,13 @@ impl<T: Transport> Connection<T> {
         hub: &mut Hub,
         desk: &mut K,
         room: &mut [u8; PIECE],
+        is_behind: bool,
     ) -> Received
         requires { held_in self.old.held ≡ [] }
         ensures led { HasLedOn (K.is_trusted desk.new) (K.shows desk.old) (K.leaves_one_of desk.old) (K.shows desk.new) (K.leaves_one_of desk.new) hub.old hub.new
-            (λ events. ReadsOnce T.taken T.coming T.made (IsRefused O.refuses hub.old) self.old self.new result events × AreCausedBy (condition K.has_failed K.is_closed desk.new) self.old self.new events × StaysForReader self.old.held.kind hub.old desk.old desk.new events) }
-        ensures prepared { is_open self.new.stage ≡ true → is_held_back self.new.held ≡ true → HoldsBy K.expects K.prepares false hub.old desk.old desk.new self.old.id (held_in self.new.held) }
+            (λ events. ReadsOnce T.taken T.coming T.made (IsRefused O.refuses hub.old) self.old self.new result events × AreCausedBy (condition K.has_failed K.is_closed desk.new) self.old self.new events × StaysForReader self.old.held.kind hub.old desk.old desk.new events
+            × KeepsOrder is_behind self.old.held.kind hub.old events) }
+        ensures prepared { is_open self.new.stage ≡ true → is_held_back self.new.held ≡ true → HoldsStill K.expects K.prepares is_behind false 0 0 hub.old desk.old desk.new self.old.id self.new.held }
         ensures trust { K.is_trusted desk.new → K.is_trusted desk.old }
         ensures closed { K.is_closed desk.old ≡ true → K.is_closed desk.new ≡ true }
         ensures others { KeepsOthers self.old.id hub.old hub.new }
@@ -252,8 +251,7 @@ impl<T: Transport> Connection<T> {
         match received {
             Received::Octets(count) => {
                 self.held.fill(&room[..count]);
-                self.foresee(hub, desk);
-                self.hand_prepared(opening, hub, desk);
+                self.hand_on(opening, hub, desk, is_behind);
                 received
             }
             Received::End => {
@@ -272,7 +270,53 @@ impl<T: Transport> Connection<T> {
         }
     }
 
-    // Where the hub foresees that the octets of an editor complete an install, they may be held back.
+    // Hands the next piece to the hub, unless it is held back: an editor's, where it makes a command whole and another connection's
+    // comes first, or where what it completes is prepared.
+    fn hand_on<K: Preparer, O: Opening>(
+        &mut self,
+        opening: &O,
+        hub: &mut Hub,
+        desk: &mut K,
+        is_behind: bool,
+    )
+        ensures led { HasLedOn (K.is_trusted desk.new) (K.shows desk.old) (K.leaves_one_of desk.old) (K.shows desk.new) (K.leaves_one_of desk.new) hub.old hub.new
+            (λ events. HandsOver T.taken T.coming T.made (held_in self.old.held) self.old self.new events
+            × LeadsByPiece (IsRefused O.refuses hub.old) (held_in self.old.held) self.old self.new events
+            × AreCausedBy (condition K.has_failed K.is_closed desk.new) self.old self.new events × StaysForReader self.old.held.kind hub.old desk.old desk.new events
+            × KeepsOrder is_behind self.old.held.kind hub.old events) }
+        ensures kind { self.new.held.kind ≡ self.old.held.kind }
+        ensures back { is_open self.new.stage ≡ true → is_held_back self.new.held ≡ true → HoldsStill K.expects K.prepares is_behind self.old.held.is_foreseen self.old.held.turns_left self.old.held.waited hub.old desk.old desk.new self.old.id self.new.held }
+        ensures trust { K.is_trusted desk.new → K.is_trusted desk.old }
+        ensures closed { K.is_closed desk.old ≡ true → K.is_closed desk.new ≡ true }
+        ensures others { KeepsOthers self.old.id hub.old hub.new }
+        ensures id { self.new.id ≡ self.old.id }
+    {
+        if !is_behind {
+            self.foresee(hub, desk);
+            self.hand_prepared(opening, hub, desk);
+            return;
+        }
+        if self.asks_change(hub) {
+            self.held.wait();
+            return;
+        }
+        self.hand(opening, hub, desk);
+    }
+
+    // Whether an editor's octets make a command whole.
+    fn asks_change(&self, hub: &mut Hub) -> bool
+        ensures yes { result ≡ true → (is_of_editor self.now.held.kind ≡ true) × AreCommand hub.old self.now.id (held_in self.now.held) }
+        ensures no { result ≡ false → is_of_editor self.now.held.kind ≡ true → IsNoCommand hub.old (came self.now.id (held_in self.now.held)) }
+        ensures state { (state : State) → IsAt hub.old state → IsAt hub.new state }
+        ensures kept { KeepsEach hub.old hub.new }
+    {
+        if !self.held.is_of_editor() {
+            return false;
+        }
+        hub.asks_change(self.id, self.held.next_piece())
+    }
+
+    // Where the hub foresees that the octets of an editor complete an install, they may be held back. It is asked once.
     fn foresee<K: Preparer>(&mut self, hub: &mut Hub, desk: &mut K)
         ensures trust { K.is_trusted desk.new → K.is_trusted desk.old }
         ensures closed { K.is_closed desk.old ≡ true → K.is_closed desk.new ≡ true }
@@ -284,10 +328,11 @@ impl<T: Transport> Connection<T> {
         ensures same { self.new ≡ record self.old { held = self.new.held } }
         ensures octets { held_in self.new.held ≡ held_in self.old.held }
         ensures kind { self.new.held.kind ≡ self.old.held.kind }
-        ensures turns { self.old.held.turns_left ≤ 1_000_000 → self.new.held.turns_left ≤ 1_000_000 }
-        ensures told { self.old.held.turns_left ≡ 0 → 0 < self.new.held.turns_left → AreToldOf K.expects hub.old self.old.id (held_in self.new.held) desk.new }
+        ensures waited { self.new.held.waited ≡ self.old.held.waited }
+        ensures before { self.old.held.is_foreseen ≡ true → (self.new.held ≡ self.old.held) × (desk.new ≡ desk.old) }
+        ensures told { self.old.held.is_foreseen ≡ false → self.new.held.is_foreseen ≡ true → (self.new.held.turns_left ≡ 1_000_000) × AreToldOf K.expects hub.old self.old.id (held_in self.new.held) desk.new }
     {
-        if !self.held.is_of_editor() {
+        if !self.held.is_of_editor() || self.held.is_foreseen() {
             return;
         }
         if hub.foresee(desk, self.id, self.held.next_piece()) {
@@ -300,10 +345,11 @@ impl<T: Transport> Connection<T> {
     fn hand_prepared<K: Preparer, O: Opening>(&mut self, opening: &O, hub: &mut Hub, desk: &mut K)
         ensures led { HasLedOn (K.is_trusted desk.new) (K.shows desk.old) (K.leaves_one_of desk.old) (K.shows desk.new) (K.leaves_one_of desk.new) hub.old hub.new
             (λ events. HandsOver T.taken T.coming T.made (held_in self.old.held) self.old self.new events
-            × LeadsByPiece (IsRefused O.refuses hub.old) (held_in self.old.held) self.old.held.turns_left self.old self.new events
+            × LeadsByPiece (IsRefused O.refuses hub.old) (held_in self.old.held) self.old self.new events
             × AreCausedBy (condition K.has_failed K.is_closed desk.new) self.old self.new events × StaysForReader self.old.held.kind hub.old desk.old desk.new events) }
         ensures kind { self.new.held.kind ≡ self.old.held.kind }
-        ensures back { is_open self.new.stage ≡ true → is_held_back self.new.held ≡ true → (0 < self.old.held.turns_left) × (held_in self.new.held ≡ held_in self.old.held) × K.prepares desk.old (Ok true) desk.new }
+        ensures back { is_open self.new.stage ≡ true → is_held_back self.new.held ≡ true → (self.old.held.is_foreseen ≡ true) × (self.new.held.is_foreseen ≡ true) × (self.new.held.turns_left < self.old.held.turns_left)
+            × (self.new.held.waited ≡ min (self.old.held.waited + 1) (2 ^ 64 - 1)) × (held_in self.new.held ≡ held_in self.old.held) × K.prepares desk.old (Ok true) desk.new }
         ensures trust { K.is_trusted desk.new → K.is_trusted desk.old }
         ensures closed { K.is_closed desk.old ≡ true → K.is_closed desk.new ≡ true }
         ensures others { KeepsOthers self.old.id hub.old hub.new }
@@ -327,7 +373,8 @@ impl<T: Transport> Connection<T> {
         ensures same { self.new ≡ record self.old { held = self.new.held } }
         ensures octets { held_in self.new.held ≡ held_in self.old.held }
         ensures kind { self.new.held.kind ≡ self.old.held.kind }
-        ensures fewer { result ≡ true → (is_of_editor self.old.held.kind ≡ true) × (self.new.held.turns_left < self.old.held.turns_left) }
+        ensures fewer { result ≡ true → (is_of_editor self.old.held.kind ≡ true) × (self.old.held.is_foreseen ≡ true) × (self.new.held.is_foreseen ≡ true) × (self.new.held.turns_left < self.old.held.turns_left) }
+        ensures waited { result ≡ true → self.new.held.waited ≡ min (self.old.held.waited + 1) (2 ^ 64 - 1) }
         ensures prepared { result ≡ true → K.prepares desk.old (Ok true) desk.new }
     {
         if !self.held.begin_turn() {

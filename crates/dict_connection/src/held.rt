@@ -1,5 +1,5 @@
 // What was read of a connection and isn't handed to the hub yet.
-ghost use Rattle.std.specs.Prelude.{◌≡◌, ◌≤◌, vec_len, vec_capacity};
+ghost use Rattle.std.specs.Prelude.{◌≡◌, ◌≤◌, false, vec_len, vec_capacity};
 ghost use Rattle.dict_connection.specs.Pieces.{first_line, next_piece};
 
 use dict_hub::Kind;
@@ -23,14 +23,18 @@ pub struct Held {
     turns_left: u32,
     // Whether the desk was told of what they complete.
     is_foreseen: bool,
+    // For how many turns they were held back.
+    waited: u64,
     ghost in_front: { handed ≤ vec_len octets },
+    ghost few: { vec_len octets ≤ 4096 },
+    ghost unforeseen: { is_foreseen ≡ false → turns_left ≡ 0 },
     ghost room: { 4096 ≤ vec_capacity octets },
 }
 
 impl Held {
     ghost use Rattle.std.specs.Prelude.{[], drop, length};
-    ghost use Rattle.std.specs.Prelude.{◌<◌, true, false};
-    ghost use Rattle.dict_connection.specs.Handing.{held_in, is_handed, is_held_back};
+    ghost use Rattle.std.specs.Prelude.{◌<◌, ◌+◌, ◌-◌, ◌^◌, min, true};
+    ghost use Rattle.dict_connection.specs.Handing.{held_in, is_handed, turns_held};
     ghost use Rattle.dict_hub.specs.Events.{is_of_editor};
 
     /// Nothing was read yet of a connection of this kind. This is the room for it.
@@ -46,6 +50,7 @@ impl Held {
             handed: 0,
             turns_left: 0,
             is_foreseen: false,
+            waited: 0,
         }
     }
 
@@ -73,13 +78,14 @@ impl Held {
         }
     }
 
-    /// Whether octets of an editor's connection are held back.
-    pub fn is_held_back(&self) -> bool
-        ensures { result ≡ is_held_back self.now }
+    /// For how many turns they were held back, where they are of an editor's connection and some are.
+    pub fn turns_held(&self) -> u64
+        ensures { result ≡ turns_held self.now }
     {
-        match self.kind {
-            Kind::Dict => false,
-            Kind::Http => !self.is_empty(),
+        if self.is_of_editor() && !self.is_empty() {
+            self.waited
+        } else {
+            0
         }
     }
 
@@ -88,20 +94,22 @@ impl Held {
         requires { length octets.now ≤ 4096 }
         ensures octets { held_in self.new ≡ octets.now }
         ensures kind { self.new.kind ≡ self.old.kind }
-        ensures turns { self.new.turns_left ≡ 0 }
         ensures foreseen { self.new.is_foreseen ≡ false }
+        ensures waited { self.new.waited ≡ 0 }
     {
         self.octets.clear();
         self.handed = 0;
         self.turns_left = 0;
         self.is_foreseen = false;
+        self.waited = 0;
         let _ = self.octets.extend_from_slice(octets);
     }
 
     /// What is handed next: of a reader's octets those up to and with the first LF, and all where there is none; of an
     /// editor's all.
     pub fn next_piece(&self) -> &[u8]
-        ensures { result.now ≡ next_piece self.now.kind (held_in self.now) }
+        ensures value { result.now ≡ next_piece self.now.kind (held_in self.now) }
+        ensures few { length result.now ≤ 4096 }
     {
         let octets = self.octets.as_slice().split_at(self.handed).1;
         match self.kind {
@@ -125,6 +133,7 @@ impl Held {
         ensures kind { self.new.kind ≡ self.old.kind }
         ensures turns { self.new.turns_left ≡ 1_000_000 }
         ensures foreseen { self.new.is_foreseen ≡ true }
+        ensures waited { self.new.waited ≡ self.old.waited }
     {
         self.turns_left = MAX_TURNS;
         self.is_foreseen = true;
@@ -137,11 +146,12 @@ impl Held {
         self.is_foreseen
     }
 
-    /// Begins a turn in which an editor's octets may be held back. Whether one was left.
+    /// Begins a turn in which an editor's octets may be held back while what they complete is prepared. Whether one was left.
     pub fn begin_turn(&mut self) -> bool
         ensures octets { held_in self.new ≡ held_in self.old }
         ensures kind { self.new.kind ≡ self.old.kind }
-        ensures fewer { result ≡ true → (is_of_editor self.old.kind ≡ true) × (self.new.turns_left < self.old.turns_left) }
+        ensures fewer { result ≡ true → (is_of_editor self.old.kind ≡ true) × (self.old.is_foreseen ≡ true) × (self.new.is_foreseen ≡ true) × (self.new.turns_left < self.old.turns_left) }
+        ensures waited { result ≡ true → self.new.waited ≡ min (self.old.waited + 1) (2 ^ 64 - 1) }
     {
         if !self.is_of_editor() {
             return false;
@@ -150,7 +160,19 @@ impl Held {
             return false;
         }
         self.turns_left -= 1;
+        self.wait();
         true
+    }
+
+    /// One turn more in which they are held back.
+    pub fn wait(&mut self)
+        ensures octets { held_in self.new ≡ held_in self.old }
+        ensures kind { self.new.kind ≡ self.old.kind }
+        ensures turns { self.new.turns_left ≡ self.old.turns_left }
+        ensures foreseen { self.new.is_foreseen ≡ self.old.is_foreseen }
+        ensures waited { self.new.waited ≡ min (self.old.waited + 1) (2 ^ 64 - 1) }
+    {
+        self.waited = self.waited.saturating_add(1);
     }
 }
 

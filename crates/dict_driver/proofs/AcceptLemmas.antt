@@ -10,12 +10,11 @@ use Rattle.dict_hub.specs.declared.hub.Hub.{Hub}
 use Rattle.dict_hub.specs.declared.kind.Kind.{Kind}
 use Rattle.dict_hub.specs.declared.kind.Kind.TheVariants.{Dict, Http}
 use Rattle.dict_connection.specs.declared.transport.Transport as transport
-use Rattle.dict_driver.specs.Accepting.{Accepts, AcceptsOne, AcceptsUnless, AcceptsUpTo, HasAccepted, HasAsked, HasLetIn, Takes}
+use Rattle.dict_driver.specs.Accepting.{Accepts, AcceptsOne, AcceptsUpTo, HasAccepted, HasAsked, Takes}
 use Rattle.dict_driver.specs.Asking.{Asking, Asks, accepts, watches}
 use Rattle.dict_driver.specs.Listening.{is_ready, listening_by, may_accept}
 use Rattle.dict_driver.specs.Looking.{listening_of}
 use Rattle.dict_driver.specs.Rounds.{Admits, IsFull}
-use Rattle.dict_driver.specs.Turning.{any_held_back}
 use Rattle.dict_driver.specs.declared.connections.Connections.{Connections}
 use Rattle.dict_driver.specs.declared.event_loop.EventLoop.{EventLoop}
 use Rattle.dict_driver.specs.declared.listening.Listening.{Listening}
@@ -55,16 +54,6 @@ module _ {T : Type 0} {G : transport.Ghosts T} (refuses : Hub → ℕ → Kind �
   accepts_not kind Ready hub all isnt = absurd (let never : true ≡ false = isnt in cc)
   accepts_not kind Quiet hub all isnt = (refl, refl, refl, refl, λ other held has. has)
   accepts_not kind Failed hub all isnt = absurd (let never : true ≡ false = isnt in cc)
-
-  -- the socket for editors, while octets are held back, and while none are
-  pub unless_held : (back : Bool) (before : Listening) (hub : Hub) (all : Connections T G) → back ≡ true → AcceptsUnless refuses back before before hub hub all all [] []
-  unless_held true before hub all is = (refl, refl, refl, refl, λ other held has. has)
-  unless_held false before hub all is = absurd (let never : true ≡ false = sym is in cc)
-
-  unless_none : (back : Bool) (before after : Listening) (from to : Hub) (old new : Connections T G) (calls : List (Asking T)) (events : List Accepted) → back ≡ false
-      → Accepts refuses Http before after from to old new calls events → AcceptsUnless refuses back before after from to old new calls events
-  unless_none true before after from to old new calls events isnt taken = absurd (let never : true ≡ false = isnt in cc)
-  unless_none false before after from to old new calls events isnt taken = taken
 
   -- no call more, since the last one didn't leave it ready, or none is left
   pub accepts_no_more : (most : ℕ) (kind : Kind) (before : Listening) (hub : Hub) (all : Connections T G) → (is_ready before ≡ true → most ≡ 0) → AcceptsUpTo refuses most kind before before hub hub all all [] []
@@ -138,15 +127,6 @@ module _ {T S : Type 0} {G : transport.Ghosts T} where
   pub same_listening : (kind : Kind) (a b : EventLoop T S G) → b.dict_listening ≡ a.dict_listening → b.http_listening ≡ a.http_listening → listening_of kind b ≡ listening_of kind a
   same_listening Dict a b dict http = dict
   same_listening Http a b dict http = http
-
-  -- the socket for editors was asked as it is while no octets are held back
-  pub let_in : (refuses : Hub → ℕ → Kind → Option HubFault → Type 0) (asked : S → Option (List (Asking T))) (a b : EventLoop T S G) (events : List Accepted) → any_held_back a.connections.opened.items ≡ false
-      → HasAccepted refuses asked Http a b events → HasLetIn refuses asked a b events
-  let_in refuses asked a b events isnt (calls, so, taken) = (
-    calls,
-    so,
-    unless_none refuses (any_held_back a.connections.opened.items) a.http_listening b.http_listening a.hub b.hub a.connections b.connections calls events isnt taken,
-  )
 
 module _ {T S : Type 0} {G : transport.Ghosts T} (refuses : Hub → ℕ → Kind → Option HubFault → Type 0) (asked : S → Option (List (Asking T))) where
   -- Some of the calls were made, of which the last left the socket so: whatever comes of those that are left, at most so many, comes of all

@@ -9,3 +9,4 @@ pub mod LookLemmas
 pub mod AcceptLemmas
 pub mod LoopLemmas
 pub mod ServedLemmas
+pub mod FirstLemmas

@@ -9,10 +9,10 @@ use Rattle.dict_hub.specs.Runs.{Accepted}
 use Rattle.dict_hub.specs.declared.fault.HubFault.{HubFault}
 use Rattle.dict_hub.specs.declared.hub.Hub.{Hub}
 use Rattle.dict_hub.specs.declared.kind.Kind.{Kind}
-use Rattle.dict_hub.specs.declared.kind.Kind.TheVariants.{Dict}
+use Rattle.dict_hub.specs.declared.kind.Kind.TheVariants.{Dict, Http}
 use Rattle.dict_connection.specs.OutletCalls.{Call}
 use Rattle.dict_connection.specs.declared.transport.Transport as transport
-use Rattle.dict_driver.specs.Accepting.{Accepts, AcceptsUnless, HasAccepted, HasLetIn}
+use Rattle.dict_driver.specs.Accepting.{Accepts, HasAccepted}
 use Rattle.dict_driver.specs.Asking.{Asking, Asks, looks}
 use Rattle.dict_driver.specs.EventLoops.{HasRound}
 use Rattle.dict_driver.specs.Listening.{is_ready, listening_told}
@@ -20,11 +20,11 @@ use Rattle.dict_driver.specs.Looking.{Looks, tells}
 use Rattle.dict_connection.specs.Ordering.{AreOfTurns}
 use Rattle.dict_driver.specs.Ordering.{AreOfRound, ComeById}
 use Rattle.dict_driver.specs.Rounds.{TurnEach}
-use Rattle.dict_driver.specs.Turning.{KeepsAllBut, any_held_back}
+use Rattle.dict_driver.specs.Turning.{KeepsAllBut}
 use Rattle.dict_driver.specs.declared.event_loop.EventLoop.{EventLoop}
 use Rattle.dict_driver.specs.declared.listening.Listening.{Listening}
 use Rattle.dict_driver.proofs.AcceptLemmas.{asks_joined}
-use Rattle.dict_driver.proofs.OpeningLemmas.{by_accepting, by_letting_in}
+use Rattle.dict_driver.proofs.OpeningLemmas.{by_accepting}
 use Rattle.dict_driver.proofs.OrderLemmas.{round_whole}
 
 module _ {T S : Type 0} {G : transport.Ghosts T} (refuses : Hub → ℕ → Kind → Option HubFault → Type 0) (asked : S → Option (List (Asking T))) where
@@ -34,13 +34,13 @@ module _ {T S : Type 0} {G : transport.Ghosts T} (refuses : Hub → ℕ → Kind
     pub editors : List Accepted
     pub whole : events ≡ readers ++ editors
     pub by_dict : HasAccepted refuses asked Dict looked with_readers readers
-    pub by_http : HasLetIn refuses asked with_readers with_editors editors
+    pub by_http : HasAccepted refuses asked Http with_readers with_editors editors
 
   -- the order of what came of them, and of the turns behind
   pub taken_round : (b c d : EventLoop T S G) (es fs : List Accepted) → AreTaken b c d es → AreOfTurns fs → ComeById fs → AreOfRound (es ++ fs)
   taken_round b c d es fs two are by_id =
       let readers = by_accepting refuses Dict b.dict_listening c.dict_listening b.hub c.hub b.connections c.connections two.by_dict.0 two.readers two.by_dict.2 in
-      let editors = by_letting_in refuses (any_held_back c.connections.opened.items) c.http_listening d.http_listening c.hub d.hub c.connections d.connections two.by_http.0 two.editors two.by_http.2 in
+      let editors = by_accepting refuses Http c.http_listening d.http_listening c.hub d.hub c.connections d.connections two.by_http.0 two.editors two.by_http.2 in
       subst (λ (l : List Accepted). AreOfRound (l ++ fs)) (sym two.whole) (round_whole b.connections.last c.connections.last d.connections.last two.readers two.editors fs readers editors are by_id)
 
   -- what a look, two listening sockets and the turns come to
@@ -68,8 +68,8 @@ module _ {T S : Type 0} {G : transport.Ghosts T} (refuses : Hub → ℕ → Kind
         by_http = calls_http;
         editors = taken_two.editors;
         hub_with_editors = d.hub;
-        http = subst (λ (l : Listening). AcceptsUnless refuses (any_held_back c.connections.opened.items) l e.http_listening c.hub d.hub c.connections d.connections calls_http taken_two.editors) (other ∙ looked.http)
-            (subst (λ (l : Listening). AcceptsUnless refuses (any_held_back c.connections.opened.items) c.http_listening l c.hub d.hub c.connections d.connections calls_http taken_two.editors) (sym http) taken_two.by_http.2);
+        http = subst (λ (l : Listening). Accepts refuses Http l e.http_listening c.hub d.hub c.connections d.connections calls_http taken_two.editors) (other ∙ looked.http)
+            (subst (λ (l : Listening). Accepts refuses Http c.http_listening l c.hub d.hub c.connections d.connections calls_http taken_two.editors) (sym http) taken_two.by_http.2);
         turned = turned;
         turns = fs;
         turn = turn;

@@ -1,14 +1,13 @@
 -- By which ids connections are opened in a round.
-use Rattle.std.proofs.Common.{ℕ, zero, suc, Bool, true, false, List, ◌++◌, sym, ap, subst, inl, inr, arith}
+use Rattle.std.proofs.Common.{ℕ, zero, suc, List, ◌++◌, sym, ap, subst, inl, inr, arith}
 use Rattle.std.specs.Prelude.{Option, Result, Ok, Err}
 use Rattle.std.specs.declared.io.Error.{Error}
 use Rattle.dict_hub.specs.Runs.{Accepted}
 use Rattle.dict_hub.specs.declared.fault.HubFault.{HubFault}
 use Rattle.dict_hub.specs.declared.hub.Hub.{Hub}
 use Rattle.dict_hub.specs.declared.kind.Kind.{Kind}
-use Rattle.dict_hub.specs.declared.kind.Kind.TheVariants.{Http}
 use Rattle.dict_connection.specs.declared.transport.Transport as transport
-use Rattle.dict_driver.specs.Accepting.{Accepts, AcceptsNone, AcceptsOne, AcceptsUnless, AcceptsUpTo, Takes, TakesBy}
+use Rattle.dict_driver.specs.Accepting.{Accepts, AcceptsNone, AcceptsOne, AcceptsUpTo, Takes, TakesBy}
 use Rattle.dict_driver.specs.Asking.{Asking}
 use Rattle.dict_driver.specs.Rounds.{Admits}
 use Rattle.dict_driver.specs.declared.connections.Connections.{Connections}
@@ -58,9 +57,3 @@ module _ {T : Type 0} {G : transport.Ghosts T} (refuses : Hub → ℕ → Kind �
   by_accepting kind Ready after from to old new calls events taken = by_calls 16 kind Ready after from to old new calls events taken
   by_accepting kind Failed after from to old new calls events taken = by_calls 16 kind Ready after from to old new calls events taken
   by_accepting kind Quiet after from to old new calls events none = by_none 16 kind Quiet after from to old new calls events none
-
-  -- and of that for editors, unless it wasn't asked
-  pub by_letting_in : (back : Bool) (before after : Listening) (from to : Hub) (old new : Connections T G) (calls : List (Asking T)) (events : List Accepted)
-      → AcceptsUnless refuses back before after from to old new calls events → Openings Http old.last new.last 16 events
-  by_letting_in false before after from to old new calls events taken = by_accepting Http before after from to old new calls events taken
-  by_letting_in true before after from to old new calls events none = by_none 16 Http before after from to old new calls events none

@@ -2,7 +2,7 @@
 use Rattle.std.proofs.Common.{◌≡◌, ◌≢◌, ◌<◌, ◌≤◌, ◌+◌, ℕ, Bool, true, false, ◌-◌, All, List, [], ◌∷◌, ◌++◌, length, length-set, length-append, get_or, set, take, ◌||◌, refl, sym, ap, ◌∙◌, subst, inl, inr, arith, append_assoc, append-nil}
 use Rattle.dict_desk.specs.declared.fault.Fault.{Fault}
 use Rattle.dict_desk.specs.Expected.{Expected}
-use Rattle.std.specs.Prelude.{Option, Result}
+use Rattle.std.specs.Prelude.{None, Option, Result, Some, nat_lt}
 use Rattle.std.specs.List.{AllPairs, filter}
 use Rattle.std.proofs.lemmas.Bool.{ne_eqb}
 use Rattle.std.proofs.lemmas.Bool.Decides.{eqb_tells}
@@ -25,11 +25,11 @@ use Rattle.dict_hub.specs.declared.kind.Kind.{Kind}
 use Rattle.dict_session.specs.Desks.{Condition}
 use Rattle.dict_hub.specs.declared.fault.HubFault.{HubFault}
 use Rattle.dict_connection.specs.Causes.{AreCausedBy, IsRefused}
-use Rattle.dict_connection.specs.Foreseen.{HoldsBack, HoldsBy}
-use Rattle.dict_connection.specs.Handing.{held_in, is_handed, is_held_back}
+use Rattle.dict_connection.specs.Foreseen.{HoldsBack, HoldsBy, KeepsOrder}
+use Rattle.dict_connection.specs.Handing.{are_told, held_for, held_in, is_handed}
 use Rattle.dict_connection.specs.Telling.{KeepsOthers}
-use Rattle.dict_connection.specs.Turns.{Departs, IsOpened, LeadsByAnswer, LeadsByPiece, LeadsByReading, LeadsByTurn, LeadsFurther, Turns, is_deferred}
-use Rattle.dict_driver.specs.Turning.{DepartAll, KeepsAllBut, MarkAll, TurnAll, any, any_held_back, is_preparing}
+use Rattle.dict_connection.specs.Turns.{Departs, IsOpened, LeadsByAnswer, LeadsByPiece, LeadsByReading, LeadsByTurn, LeadsFurther, Turns}
+use Rattle.dict_driver.specs.Turning.{DepartAll, KeepsAllBut, MarkAll, TurnAll, any, first_at, first_of, first_since, is_other}
 use Rattle.dict_connection.specs.declared.calls.Received.{Received}
 use Rattle.dict_connection.specs.declared.calls.Received.TheVariants as receiveds
 use Rattle.dict_connection.specs.declared.calls.Sent.{Sent}
@@ -39,7 +39,8 @@ use Rattle.dict_connection.specs.declared.connection.Connection.{Connection}
 use Rattle.dict_driver.specs.declared.connections.Connections.{Connections}
 use Rattle.dict_connection.specs.declared.transport.Transport.{Ghosts}
 use Rattle.dict_connection.proofs.EventLemmas.{put_joined, events_joined, own_all, own_none}
-use Rattle.dict_driver.proofs.BoolLemmas.{any_more, front_move, last_move, or_assoc, or_false}
+use Rattle.dict_driver.proofs.BoolLemmas.{any_more, front_move, last_move}
+use Rattle.dict_connection.proofs.CommandLemmas.{no_commands_over}
 use Rattle.dict_connection.proofs.OrderLemmas.{turns_of_joined}
 use Rattle.dict_connection.proofs.QuietLemmas.{stays_over}
 use Rattle.dict_driver.proofs.OrderLemmas.{AreBelow, below_joined, by_id_joined}
@@ -57,7 +58,7 @@ flows_joined before es between fs after first then = record {
       ∙ ap (λ (l : List ℕ). l ++ then.put) first.order ∙ append_assoc before first.put then.put;
 }
 
-pub flows_turn : {T : Type 0} {refused : ℕ → Kind → Type 0} {preparing moved : Bool} (taken coming : T → Option (List ℕ)) (made : T → Option (List Call)) (a b : Connection T) (events : List Accepted) → Turns taken coming made preparing refused a b moved events
+pub flows_turn : {T : Type 0} {refused : ℕ → Kind → Type 0} {moved : Bool} (taken coming : T → Option (List ℕ)) (made : T → Option (List Call)) (a b : Connection T) (events : List Accepted) → Turns taken coming made refused a b moved events
     → Flows (waiting a.queue) events (waiting b.queue)
 flows_turn taken coming made a b events turns = record { sent = turns.sent; put = turns.put; are_put = turns.are_put; order = turns.order }
 
@@ -92,35 +93,34 @@ answer_kept : {T : Type 0} (from to : ℕ → Kind → Type 0) (octets : List �
 answer_kept from to octets old new events keeps (inl told) = inl told
 answer_kept from to octets old new events keeps (inr (may, ends, over)) = inr (keeps may, ends, over)
 
-piece_kept : {T : Type 0} (from to : ℕ → Kind → Type 0) (octets : List ℕ) (most : ℕ) (old new : Connection T) (events : List Accepted) → (from old.id old.held.kind → to old.id old.held.kind)
-    → LeadsByPiece from octets most old new events → LeadsByPiece to octets most old new events
-piece_kept from to octets most old new events keeps (inl answer) = inl (answer_kept from to octets old new events keeps answer)
-piece_kept from to octets most old new events keeps (inr back) = inr back
+piece_kept : {T : Type 0} (from to : ℕ → Kind → Type 0) (octets : List ℕ) (old new : Connection T) (events : List Accepted) → (from old.id old.held.kind → to old.id old.held.kind)
+    → LeadsByPiece from octets old new events → LeadsByPiece to octets old new events
+piece_kept from to octets old new events keeps (inl answer) = inl (answer_kept from to octets old new events keeps answer)
+piece_kept from to octets old new events keeps (inr back) = inr back
 
 reading_kept : {T : Type 0} (from to : ℕ → Kind → Type 0) (reading : Received) (octets : List ℕ) (old new : Connection T) (events : List Accepted) → (from old.id old.held.kind → to old.id old.held.kind)
     → LeadsByReading from reading octets old new events → LeadsByReading to reading octets old new events
 reading_kept from to receiveds.Nothing octets old new events keeps leads = leads
 reading_kept from to receiveds.Interrupted octets old new events keeps leads = leads
-reading_kept from to (receiveds.Octets count) octets old new events keeps (leads, same) = (piece_kept from to octets 1_000_000 old new events keeps leads, same)
+reading_kept from to (receiveds.Octets count) octets old new events keeps (leads, same) = (piece_kept from to octets old new events keeps leads, same)
 reading_kept from to receiveds.End octets old new events keeps leads = leads
 reading_kept from to receiveds.Failed octets old new events keeps leads = leads
 
-further_kept : {T : Type 0} (whole deferred : Bool) (from to : ℕ → Kind → Type 0) (reading : Received) (octets : List ℕ) (old new : Connection T) (events : List Accepted) → (from old.id old.held.kind → to old.id old.held.kind)
-    → LeadsFurther whole deferred from reading octets old new events → LeadsFurther whole deferred to reading octets old new events
-further_kept true true from to reading octets old new events keeps leads = leads
-further_kept true false from to reading octets old new events keeps leads = reading_kept from to reading octets old new events keeps leads
-further_kept false deferred from to reading octets old new events keeps (leads, none, same) = (piece_kept from to (held_in old.held) old.held.turns_left old new events keeps leads, none, same)
+further_kept : {T : Type 0} (whole : Bool) (from to : ℕ → Kind → Type 0) (reading : Received) (octets : List ℕ) (old new : Connection T) (events : List Accepted) → (from old.id old.held.kind → to old.id old.held.kind)
+    → LeadsFurther whole from reading octets old new events → LeadsFurther whole to reading octets old new events
+further_kept true from to reading octets old new events keeps leads = reading_kept from to reading octets old new events keeps leads
+further_kept false from to reading octets old new events keeps (leads, none, same) = (piece_kept from to (held_in old.held) old new events keeps leads, none, same)
 
-leads_kept : {T : Type 0} (preparing : Bool) (from to : ℕ → Kind → Type 0) (sending : Sent) (reading : Received) (octets : List ℕ) (old new : Connection T) (events : List Accepted) → (from old.id old.held.kind → to old.id old.held.kind)
-    → LeadsByTurn preparing from sending reading octets old new events → LeadsByTurn preparing to sending reading octets old new events
-leads_kept preparing from to sents.Failed reading octets old new events keeps leads = leads
-leads_kept preparing from to sents.Nothing reading octets old new events keeps leads = further_kept (is_handed old.held) (is_deferred preparing old) from to reading octets old new events keeps leads
-leads_kept preparing from to sents.Interrupted reading octets old new events keeps leads = further_kept (is_handed old.held) (is_deferred preparing old) from to reading octets old new events keeps leads
-leads_kept preparing from to sents.Some reading octets old new events keeps leads = further_kept (is_handed old.held) (is_deferred preparing old) from to reading octets old new events keeps leads
+leads_kept : {T : Type 0} (from to : ℕ → Kind → Type 0) (sending : Sent) (reading : Received) (octets : List ℕ) (old new : Connection T) (events : List Accepted) → (from old.id old.held.kind → to old.id old.held.kind)
+    → LeadsByTurn from sending reading octets old new events → LeadsByTurn to sending reading octets old new events
+leads_kept from to sents.Failed reading octets old new events keeps leads = leads
+leads_kept from to sents.Nothing reading octets old new events keeps leads = further_kept (is_handed old.held) from to reading octets old new events keeps leads
+leads_kept from to sents.Interrupted reading octets old new events keeps leads = further_kept (is_handed old.held) from to reading octets old new events keeps leads
+leads_kept from to sents.Some reading octets old new events keeps leads = further_kept (is_handed old.held) from to reading octets old new events keeps leads
 
-turn_kept : {T : Type 0} (taken coming : T → Option (List ℕ)) (made : T → Option (List Call)) (preparing : Bool) (from to : ℕ → Kind → Type 0) (old new : Connection T) (moved : Bool) (events : List Accepted) → (from old.id old.held.kind → to old.id old.held.kind)
-    → Turns taken coming made preparing from old new moved events → Turns taken coming made preparing to old new moved events
-turn_kept taken coming made preparing from to old new moved events keeps turns = record {
+turn_kept : {T : Type 0} (taken coming : T → Option (List ℕ)) (made : T → Option (List Call)) (from to : ℕ → Kind → Type 0) (old new : Connection T) (moved : Bool) (events : List Accepted) → (from old.id old.held.kind → to old.id old.held.kind)
+    → Turns taken coming made from old new moved events → Turns taken coming made to old new moved events
+turn_kept taken coming made from to old new moved events keeps turns = record {
   id = turns.id;
   kind = turns.kind;
   was_open = turns.was_open;
@@ -144,19 +144,26 @@ turn_kept taken coming made preparing from to old new moved events keeps turns =
   lazy = turns.lazy;
   idle = turns.idle;
   unmarked = turns.unmarked;
-  leads = leads_kept preparing from to turns.sending turns.reading turns.received old new events keeps turns.leads;
+  leads = leads_kept from to turns.sending turns.reading turns.received old new events keeps turns.leads;
   has_moved = turns.has_moved;
 }
 
 -- and so is why octets are held back, where one hub has all of the connection that another has
-holds_by_kept : {K : Type 0} (expects : K → Expected → K → Type 0) (prepares : K → Result Bool Fault → K → Type 0) (was : Bool) (between hub : Hub) (from to : K) (id : ℕ) (octets : List ℕ) → ((held : Option Holding) → Has hub id held → Has between id held)
-    → HoldsBy expects prepares was between from to id octets → HoldsBy expects prepares was hub from to id octets
-holds_by_kept expects prepares true between hub from to id octets keeps by = by
-holds_by_kept expects prepares false between hub from to id octets keeps (told, are, prepared) = (told, (λ held has. are held (keeps held has)), prepared)
+holds_by_kept : {K : Type 0} (expects : K → Expected → K → Type 0) (prepares : K → Result Bool Fault → K → Type 0) (behind told : Bool) (between hub : Hub) (from to : K) (id : ℕ) (octets : List ℕ) → ((held : Option Holding) → Has hub id held → Has between id held)
+    → HoldsBy expects prepares behind told between from to id octets → HoldsBy expects prepares behind told hub from to id octets
+holds_by_kept expects prepares true told between hub from to id octets keeps (same, makes) = (same, (λ held has. makes held (keeps held has)))
+holds_by_kept expects prepares false true between hub from to id octets keeps by = by
+holds_by_kept expects prepares false false between hub from to id octets keeps (told, are, prepared) = (told, (λ held has. are held (keeps held has)), prepared)
 
-holds_kept : {K T : Type 0} (expects : K → Expected → K → Type 0) (prepares : K → Result Bool Fault → K → Type 0) (between hub : Hub) (from to : K) (old new : Connection T) → ((held : Option Holding) → Has hub old.id held → Has between old.id held)
-    → HoldsBack expects prepares between from to old new → HoldsBack expects prepares hub from to old new
-holds_kept expects prepares between hub from to old new keeps back still is = holds_by_kept expects prepares (is_held_back old.held) between hub from to old.id (held_in new.held) keeps (back still is)
+holds_kept : {K T : Type 0} (expects : K → Expected → K → Type 0) (prepares : K → Result Bool Fault → K → Type 0) (behind : Bool) (between hub : Hub) (from to : K) (old new : Connection T) → ((held : Option Holding) → Has hub old.id held → Has between old.id held)
+    → HoldsBack expects prepares behind between from to old new → HoldsBack expects prepares behind hub from to old new
+holds_kept expects prepares behind between hub from to old new keeps back still is =
+    let holds = back still is in
+    record {
+      by = holds_by_kept expects prepares behind (are_told old.held) between hub from to old.id (held_in new.held) keeps holds.by;
+      left_over = holds.left_over;
+      counted = holds.counted;
+    }
 
 -- what a hub has of each connection but those before this place another has
 abbrev pub KeepsFrom : {T : Type 0} → List (Connection T) → ℕ → Hub → Hub → Type 0
@@ -176,20 +183,28 @@ keeps_own : {T : Type 0} (all : List (Connection T)) (i own : ℕ) (a b : Hub) �
 keeps_own all i own a b rising within is keeps held has =
     keeps own held (λ k d under below same. (let lt = rising k i d under within in let e = is d in absurd (omega (arith, lt, e, same)))) has
 
--- one more connection, of which octets are held back or not
-held_back_more : {T : Type 0} (all : List (Connection T)) (one : Connection T) → any_held_back (all ++ one ∷ []) ≡ any_held_back all || is_held_back one.held
-held_back_more [] one = or_false (is_held_back one.held)
-held_back_more (first ∷ all) one = ap (λ b. is_held_back first.held || b) (held_back_more all one) ∙ or_assoc (is_held_back first.held) (any_held_back all) (is_held_back one.held)
+-- whose command comes first, one connection on
+since_more : {T : Type 0} (first : Option ℕ) (all : List (Connection T)) (one : Connection T) → first_since first (all ++ one ∷ []) ≡ first_since (first_since first all) (one ∷ [])
+since_more (Some id) all one = refl
+since_more None [] one = refl
+since_more None (other ∷ all) one = by (since_more None all one) (nat_lt 0 (held_for other)) refl
+  where
+    by : first_since None (all ++ one ∷ []) ≡ first_since (first_since None all) (one ∷ []) → (b : Bool) → nat_lt 0 (held_for other) ≡ b → first_since None ((other ∷ all) ++ one ∷ []) ≡ first_since (first_since None (other ∷ all)) (one ∷ [])
+    by rest true is = rw is refl
+    by rest false is = rw is rest
 
--- whether octets are held back, one turn on
-preparing_more : {T : Type 0} (old now : List (Connection T)) (i : ℕ) (after : Connection T) (before both : Bool) → i < length now → before ≡ is_preparing old now i → both ≡ before || is_held_back after.held
-    → both ≡ is_preparing old (set now i after) (i + 1)
-preparing_more old now i after before both in_now is more =
-    more ∙ ap (λ b. b || is_held_back after.held) is ∙ sym (or_assoc (any_held_back old) (any_held_back (take i now)) (is_held_back after.held))
-    ∙ ap (λ b. any_held_back old || b) (sym (held_back_more (take i now) after) ∙ ap any_held_back (sym (take_more_set now i after in_now)))
+since_none : (T : Type 0) (first : Option ℕ) → first_since {T = T} first [] ≡ first
+since_none T (Some id) = refl
+since_none T None = refl
 
--- the connections before this place had their turns, and the others are as they were; octets are held back or not
-pub record TurnUpTo {K T : Type 0} (stands : K → Condition) (expects : K → Expected → K → Type 0) (prepares : K → Result Bool Fault → K → Type 0) (taken coming : T → Option (List ℕ)) (made : T → Option (List Call)) (refuses : Hub → ℕ → Kind → Option HubFault → Type 0) (hub : Hub) (from to : K) (old now : List (Connection T)) (i : ℕ) (preparing moved : Bool) (events : List Accepted) : Type 0 where
+-- and one turn on
+first_more : {T : Type 0} (old now : List (Connection T)) (i : ℕ) (after : Connection T) (first later : Option ℕ) → i < length now → first ≡ first_at old now i → later ≡ first_since first (after ∷ [])
+    → later ≡ first_at old (set now i after) (i + 1)
+first_more old now i after first later in_now is more =
+    more ∙ ap (λ f. first_since f (after ∷ [])) is ∙ sym (since_more (first_of old) (take i now) after) ∙ ap (λ l. first_since (first_of old) l) (sym (take_more_set now i after in_now))
+
+-- the connections before this place had their turns, and the others are as they were; the command of one comes first
+pub record TurnUpTo {K T : Type 0} (stands : K → Condition) (expects : K → Expected → K → Type 0) (prepares : K → Result Bool Fault → K → Type 0) (taken coming : T → Option (List ℕ)) (made : T → Option (List Call)) (refuses : Hub → ℕ → Kind → Option HubFault → Type 0) (hub : Hub) (from to : K) (old now : List (Connection T)) (i : ℕ) (first : Option ℕ) (moved : Bool) (events : List Accepted) : Type 0 where
   pub len : length now ≡ length old
   pub moves : List Bool
   pub count : length moves ≡ i
@@ -199,21 +214,22 @@ pub record TurnUpTo {K T : Type 0} (stands : K → Condition) (expects : K → E
   pub closed : (k : ℕ) → k < i → (stands (get_or (from ∷ left) k from)).closed ≡ true → (stands (get_or left k from)).closed ≡ true
   pub within : i ≤ length old
   pub has_moved : moved ≡ any moves
-  pub is_now : preparing ≡ is_preparing old now i
+  pub is_now : first ≡ first_at old now i
   pub turns : (k : ℕ) (d : Connection T) → k < i → k < length old
-      → Turns taken coming made (is_preparing old now k) (IsRefused refuses hub) (get_or old k d) (get_or now k d) (get_or moves k false) (events_of (get_or old k d).id events)
+      → Turns taken coming made (IsRefused refuses hub) (get_or old k d) (get_or now k d) (get_or moves k false) (events_of (get_or old k d).id events)
   pub caused : (k : ℕ) (d : Connection T) → k < i → k < length old → AreCausedBy (stands (get_or left k from)) (get_or old k d) (get_or now k d) (events_of (get_or old k d).id events)
   pub stays : (k : ℕ) (d : Connection T) → k < i → k < length old → StaysForReader (get_or old k d).held.kind hub (get_or (from ∷ left) k from) (get_or left k from) (events_of (get_or old k d).id events)
-  pub prepared : (k : ℕ) (d : Connection T) → k < i → k < length old → HoldsBack expects prepares hub (get_or (from ∷ left) k from) (get_or left k from) (get_or old k d) (get_or now k d)
+  pub prepared : (k : ℕ) (d : Connection T) → k < i → k < length old → HoldsBack expects prepares (is_other (first_at old now k) (get_or old k d).id) hub (get_or (from ∷ left) k from) (get_or left k from) (get_or old k d) (get_or now k d)
+  pub orders : (k : ℕ) (d : Connection T) → k < i → k < length old → KeepsOrder (is_other (first_at old now k) (get_or old k d).id) (get_or old k d).held.kind hub (events_of (get_or old k d).id events)
   pub rest : (k : ℕ) (d : Connection T) → i ≤ k → k < length old → get_or now k d ≡ get_or old k d
   pub below : AreBelowFrom old i events
   pub no_other : (id : ℕ) → ((k : ℕ) (d : Connection T) → k < length old → (get_or old k d).id ≢ id) → events_of id events ≡ []
   pub are_turns : AreOfTurns events
   pub by_id : ComeById events
 
-pub turn_none : {K T : Type 0} (stands : K → Condition) (expects : K → Expected → K → Type 0) (prepares : K → Result Bool Fault → K → Type 0) (taken coming : T → Option (List ℕ)) (made : T → Option (List Call)) (refuses : Hub → ℕ → Kind → Option HubFault → Type 0) (hub : Hub) (from : K) (all : List (Connection T)) (preparing : Bool) → preparing ≡ any_held_back all → TurnUpTo stands expects prepares taken coming made refuses hub from from all all 0 preparing false []
-turn_none stands expects prepares taken coming made refuses hub from all preparing is = record {
-  is_now = is ∙ sym (or_false (any_held_back all));
+pub turn_none : {K T : Type 0} (stands : K → Condition) (expects : K → Expected → K → Type 0) (prepares : K → Result Bool Fault → K → Type 0) (taken coming : T → Option (List ℕ)) (made : T → Option (List Call)) (refuses : Hub → ℕ → Kind → Option HubFault → Type 0) (hub : Hub) (from : K) (all : List (Connection T)) (first : Option ℕ) → first ≡ first_of all → TurnUpTo stands expects prepares taken coming made refuses hub from from all all 0 first false []
+turn_none stands expects prepares taken coming made refuses hub from all first is = record {
+  is_now = is ∙ sym (since_none _ (first_of all));
   len = refl;
   moves = [];
   count = refl;
@@ -227,6 +243,7 @@ turn_none stands expects prepares taken coming made refuses hub from all prepari
   caused = λ k d before within. absurd (omega (arith, before));
   stays = λ k d before within. absurd (omega (arith, before));
   prepared = λ k d before within. absurd (omega (arith, before));
+  orders = λ k d before within. absurd (omega (arith, before));
   rest = λ k d from within. refl;
   below = λ k d from within. tt;
   no_other = λ id apart. refl;
@@ -242,25 +259,29 @@ front_desk : {K : Type 0} (left : List K) (to : K) (k : ℕ) (d : K) → k < len
 front_desk left to k d under = get_or_append_left left (to ∷ []) d k under
 
 -- one more connection had its turn
-pub turn_more : {K T : Type 0} (stands : K → Condition) (expects : K → Expected → K → Type 0) (prepares : K → Result Bool Fault → K → Type 0) (taken coming : T → Option (List ℕ)) (made : T → Option (List Call)) (refuses : Hub → ℕ → Kind → Option HubFault → Type 0) (hub between : Hub) (from mid to : K) (old now : List (Connection T)) (i : ℕ) (one after : Connection T) (preparing later before here both : Bool) (es fs : List Accepted)
-    → AllPairs (λ a b. a.id < b.id) old → i < length old → get_or now i one ≡ one → later ≡ preparing || is_held_back after.held → both ≡ before || here → KeepsFrom old i hub between
-    → Turns taken coming made preparing (IsRefused refuses between) one after here fs → AreCausedBy (stands to) one after fs → StaysForReader one.held.kind between mid to fs → HoldsBack expects prepares between mid to one after → ((stands mid).closed ≡ true → (stands to).closed ≡ true)
-    → TurnUpTo stands expects prepares taken coming made refuses hub from mid old now i preparing before es → TurnUpTo stands expects prepares taken coming made refuses hub from to old (set now i after) (i + 1) later both (es ++ fs)
-turn_more {K} {T} stands expects prepares taken coming made refuses hub between from mid to old now i one after preparing later before here both es fs rising within is holds moved keeps over cause same_desk back shuts all =
+pub turn_more : {K T : Type 0} (stands : K → Condition) (expects : K → Expected → K → Type 0) (prepares : K → Result Bool Fault → K → Type 0) (taken coming : T → Option (List ℕ)) (made : T → Option (List Call)) (refuses : Hub → ℕ → Kind → Option HubFault → Type 0) (hub between : Hub) (from mid to : K) (old now : List (Connection T)) (i : ℕ) (one after : Connection T) (first later : Option ℕ) (before here both : Bool) (es fs : List Accepted)
+    → AllPairs (λ a b. a.id < b.id) old → i < length old → get_or now i one ≡ one → later ≡ first_since first (after ∷ []) → both ≡ before || here → KeepsFrom old i hub between
+    → Turns taken coming made (IsRefused refuses between) one after here fs → AreCausedBy (stands to) one after fs → StaysForReader one.held.kind between mid to fs → KeepsOrder (is_other first one.id) one.held.kind between fs
+    → HoldsBack expects prepares (is_other first one.id) between mid to one after → ((stands mid).closed ≡ true → (stands to).closed ≡ true)
+    → TurnUpTo stands expects prepares taken coming made refuses hub from mid old now i first before es → TurnUpTo stands expects prepares taken coming made refuses hub from to old (set now i after) (i + 1) later both (es ++ fs)
+turn_more {K} {T} stands expects prepares taken coming made refuses hub between from mid to old now i one after first later before here both es fs rising within is holds moved keeps over cause same_desk ordered back shuts all =
     let len = all.len in
     let count = all.count in
     let in_now : i < length now = omega arith in
     let was : (d : Connection T) → get_or old i d ≡ one = λ d. sym (all.rest i d (omega arith) within) ∙ default_free now i d one in_now ∙ is in
     let own_id : (d : Connection T) → (get_or old i d).id ≡ one.id = λ d. ap (λ it. it.id) (was d) in
     let own = keeps_own old i one.id hub between rising within own_id keeps in
-    let turns : Turns taken coming made preparing (IsRefused refuses hub) one after here fs
-    = turn_kept taken coming made preparing (IsRefused refuses between) (IsRefused refuses hub) one after here fs (λ (at, same, why). (at, (λ held has. same held (own held has)), why)) over in
-    let backs : HoldsBack expects prepares hub mid to one after = holds_kept expects prepares between hub mid to one after own back in
+    let turns : Turns taken coming made (IsRefused refuses hub) one after here fs
+    = turn_kept taken coming made (IsRefused refuses between) (IsRefused refuses hub) one after here fs (λ (at, same, why). (at, (λ held has. same held (own held has)), why)) over in
+    let backs : HoldsBack expects prepares (is_other first one.id) hub mid to one after = holds_kept expects prepares (is_other first one.id) between hub mid to one after own back in
+    let orders : KeepsOrder (is_other first one.id) one.held.kind hub fs = λ behind editor. no_commands_over hub between one.id own fs turns.own (ordered behind editor) in
     let same_still = stays_over one.held.kind one.id hub between mid to fs turns.own own same_desk in
     let desks = all.desks in
     let left = all.left ++ to ∷ [] in
     let at_now : get_or left i from ≡ to = last_desk all.left i to from (sym desks) in
     let at_mid : get_or (from ∷ left) i from ≡ mid = front_desk (from ∷ all.left) to i from (omega (arith, desks)) ∙ sym all.last in
+    let as_before : (k : ℕ) → k ≤ i → first_at old (set now i after) k ≡ first_at old now k = λ k under. ap (λ l. first_since (first_of old) l) (take-set-le k now i after under) in
+    let at_first : (k : ℕ) → k ≡ i → first_at old (set now i after) k ≡ first = λ k same. as_before k (omega (arith, same)) ∙ ap (λ (j : ℕ). first_at old now j) same ∙ sym all.is_now in
     let front : (k : ℕ) → k < i → get_or left k from ≡ get_or all.left k from = λ k under. front_desk all.left to k from (omega (arith, desks, under)) in
     let front_from : (k : ℕ) → k < i → get_or (from ∷ left) k from ≡ get_or (from ∷ all.left) k from = λ k under. front_desk (from ∷ all.left) to k from (omega (arith, desks, under)) in
     record {
@@ -269,7 +290,7 @@ turn_more {K} {T} stands expects prepares taken coming made refuses hub between 
       count = length-append all.moves (here ∷ []) ∙ ap (λ n. n + 1) count;
       within = omega (arith, within);
       has_moved = moved ∙ ap (λ b. b || here) all.has_moved ∙ sym (any_more all.moves here);
-      is_now = preparing_more old now i after preparing later in_now all.is_now holds;
+      is_now = first_more old now i after first later in_now all.is_now holds;
       turns = λ k d under below. elim (eqb_tells k i) [
         | inl same ↦
             let at : get_or old k d ≡ one = ap (λ (j : ℕ). get_or old j d) same.1 ∙ was d in
@@ -277,17 +298,14 @@ turn_more {K} {T} stands expects prepares taken coming made refuses hub between 
             let events : events_of one.id (es ++ fs) ≡ fs
             = events_joined one.id es fs ∙ ap (λ l. l ++ events_of one.id fs) (below_none one.id es less) ∙ own_all one.id fs turns.own in
             let last : get_or (all.moves ++ here ∷ []) k false ≡ here = last_move all.moves k here (same.1 ∙ sym count) in
-            let front : take k (set now i after) ≡ take k now = take-set-le k now i after (omega (arith, same.1)) in
-            let were : preparing ≡ is_preparing old now k = all.is_now ∙ ap (λ (j : ℕ). is_preparing old now j) (sym same.1) in
-            rw (front, get_or-set_at now i k after d same.1 in_now, at, events, last) (subst (λ (b : Bool). Turns taken coming made b (IsRefused refuses hub) one after here fs) were turns)
+            rw (get_or-set_at now i k after d same.1 in_now, at, events, last) turns
         | inr other ↦
             let earlier : k < i = omega (arith, under, other.1) in
             let moves : get_or (all.moves ++ here ∷ []) k false ≡ get_or all.moves k false = front_move all.moves here k (omega (arith, earlier, count)) in
-            let front : take k (set now i after) ≡ take k now = take-set-le k now i after (omega (arith, earlier)) in
             let apart : one.id ≢ (get_or old k d).id = λ same. (let lt = rising k i d earlier within in let e = own_id d in absurd (omega (arith, lt, e, same))) in
             let events : events_of (get_or old k d).id (es ++ fs) ≡ events_of (get_or old k d).id es
             = events_joined (get_or old k d).id es fs ∙ ap (λ l. events_of (get_or old k d).id es ++ l) (own_none one.id (get_or old k d).id fs turns.own apart) ∙ append-nil (events_of (get_or old k d).id es) in
-            rw (front, get_or-set_other now i k after d other.1, events, moves) (all.turns k d earlier below)
+            rw (get_or-set_other now i k after d other.1, events, moves) (all.turns k d earlier below)
       ];
       left = left;
       desks = length-append all.left (to ∷ []) ∙ ap (λ n. n + 1) desks;
@@ -332,10 +350,24 @@ turn_more {K} {T} stands expects prepares taken coming made refuses hub between 
             let at : get_or old k d ≡ one = ap (λ (j : ℕ). get_or old j d) same.1 ∙ was d in
             let before_it : get_or (from ∷ left) k from ≡ mid = ap (λ (j : ℕ). get_or (from ∷ left) j from) same.1 ∙ at_mid in
             let behind_it : get_or left k from ≡ to = ap (λ (j : ℕ). get_or left j from) same.1 ∙ at_now in
-            rw (get_or-set_at now i k after d same.1 in_now, at, before_it, behind_it) backs
+            rw (at_first k same.1, get_or-set_at now i k after d same.1 in_now, at, before_it, behind_it) backs
         | inr other ↦
             let earlier : k < i = omega (arith, under, other.1) in
-            rw (get_or-set_other now i k after d other.1, front k earlier, front_from k earlier) (all.prepared k d earlier below)
+            rw (as_before k (omega (arith, earlier)), get_or-set_other now i k after d other.1, front k earlier, front_from k earlier) (all.prepared k d earlier below)
+      ];
+      orders = λ k d under below. elim (eqb_tells k i) [
+        | inl same ↦
+            let at : get_or old k d ≡ one = ap (λ (j : ℕ). get_or old j d) same.1 ∙ was d in
+            let less : AreBelow one.id es = subst (λ it. AreBelow it.id es) (was d) (all.below i d (omega arith) within) in
+            let events : events_of one.id (es ++ fs) ≡ fs
+            = events_joined one.id es fs ∙ ap (λ l. l ++ events_of one.id fs) (below_none one.id es less) ∙ own_all one.id fs turns.own in
+            rw (at_first k same.1, at, events) orders
+        | inr other ↦
+            let earlier : k < i = omega (arith, under, other.1) in
+            let apart : one.id ≢ (get_or old k d).id = λ same. (let lt = rising k i d earlier within in let e = own_id d in absurd (omega (arith, lt, e, same))) in
+            let events : events_of (get_or old k d).id (es ++ fs) ≡ events_of (get_or old k d).id es
+            = events_joined (get_or old k d).id es fs ∙ ap (λ l. events_of (get_or old k d).id es ++ l) (own_none one.id (get_or old k d).id fs turns.own apart) ∙ append-nil (events_of (get_or old k d).id es) in
+            rw (as_before k (omega (arith, earlier)), events) (all.orders k d earlier below)
       ];
       rest = λ k d from below. rw (get_or-set_other now i k after d (λ same. absurd (omega (arith, from, same)))) (all.rest k d (omega (arith, from)) below);
       below = below_from_more old i one.id es fs rising within own_id all.below turns.own;
@@ -347,9 +379,9 @@ turn_more {K} {T} stands expects prepares taken coming made refuses hub between 
     }
 
 -- each had its turn
-pub turn_whole : {K T : Type 0} (stands : K → Condition) (expects : K → Expected → K → Type 0) (prepares : K → Result Bool Fault → K → Type 0) (taken coming : T → Option (List ℕ)) (made : T → Option (List Call)) (refuses : Hub → ℕ → Kind → Option HubFault → Type 0) (hub : Hub) (from to : K) (old now : List (Connection T)) (i : ℕ) (preparing moved : Bool) (events : List Accepted) → length old ≤ i
-    → TurnUpTo stands expects prepares taken coming made refuses hub from to old now i preparing moved events → TurnAll stands expects prepares taken coming made refuses hub from to old now moved events
-turn_whole stands expects prepares taken coming made refuses hub from to old now i preparing moved events whole all =
+pub turn_whole : {K T : Type 0} (stands : K → Condition) (expects : K → Expected → K → Type 0) (prepares : K → Result Bool Fault → K → Type 0) (taken coming : T → Option (List ℕ)) (made : T → Option (List Call)) (refuses : Hub → ℕ → Kind → Option HubFault → Type 0) (hub : Hub) (from to : K) (old now : List (Connection T)) (i : ℕ) (first : Option ℕ) (moved : Bool) (events : List Accepted) → length old ≤ i
+    → TurnUpTo stands expects prepares taken coming made refuses hub from to old now i first moved events → TurnAll stands expects prepares taken coming made refuses hub from to old now moved events
+turn_whole stands expects prepares taken coming made refuses hub from to old now i first moved events whole all =
     let at : i ≡ length old = let in_all = all.within in omega (arith, whole, in_all) in
     record {
       len = all.len;
@@ -364,6 +396,7 @@ turn_whole stands expects prepares taken coming made refuses hub from to old now
       caused = λ k d within. all.caused k d (omega (arith, within, at)) within;
       stays = λ k d within. all.stays k d (omega (arith, within, at)) within;
       prepared = λ k d within. all.prepared k d (omega (arith, within, at)) within;
+      orders = λ k d within. all.orders k d (omega (arith, within, at)) within;
       no_other = all.no_other;
       are_turns = all.are_turns;
       by_id = all.by_id;

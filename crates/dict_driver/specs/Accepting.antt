@@ -1,19 +1,17 @@
 -- What comes of a listening socket in a round.
-use Rattle.std.specs.Prelude.{◌≡◌, ◌⊎◌, ◌+◌, ◌<◌, ℕ, suc, Bool, true, false, List, [], ◌∷◌, ◌++◌, Option, Result, Ok, Err, vec_len}
+use Rattle.std.specs.Prelude.{◌≡◌, ◌⊎◌, ◌+◌, ◌<◌, ℕ, suc, true, false, List, [], ◌∷◌, ◌++◌, Option, Result, Ok, Err, vec_len}
 use Rattle.std.specs.IoError.{error_kind}
 use Rattle.std.specs.declared.io.Error.{Error}
 use Rattle.dict_hub.specs.Runs.{Accepted}
 use Rattle.dict_hub.specs.declared.fault.HubFault.{HubFault}
 use Rattle.dict_hub.specs.declared.hub.Hub.{Hub}
 use Rattle.dict_hub.specs.declared.kind.Kind.{Kind}
-use Rattle.dict_hub.specs.declared.kind.Kind.TheVariants.{Http}
 use Rattle.dict_connection.specs.declared.transport.Transport as transport
 use Rattle.dict_driver.specs.Asking.{Asking, Asks, accepts, watches}
 use Rattle.dict_driver.specs.Listening.{listening_by}
 use Rattle.dict_driver.specs.Looking.{listening_of}
 use Rattle.dict_driver.specs.Rounds.{Admits, IsFull}
 use Rattle.dict_connection.specs.Telling.{KeepsEach}
-use Rattle.dict_driver.specs.Turning.{any_held_back}
 use Rattle.dict_driver.specs.declared.connections.Connections.{Connections}
 use Rattle.dict_driver.specs.declared.event_loop.EventLoop.{EventLoop}
 use Rattle.dict_driver.specs.declared.listening.Listening.{Listening}
@@ -59,12 +57,6 @@ module _ {T : Type 0} {G : transport.Ghosts T} (refuses : Hub → ℕ → Kind �
   Accepts kind Failed after from to old new calls events = AcceptsUpTo 16 kind Ready after from to old new calls events
   Accepts kind Quiet after from to old new calls events = AcceptsNone Quiet after from to old new calls events
 
-  -- The socket for editors is asked so where no octets of one are held back. Where some are it isn't asked, and all stays, whether a
-  -- connection may wait there too
-  abbrev pub AcceptsUnless : Bool → Listening → Listening → Hub → Hub → Connections T G → Connections T G → List (Asking T) → List Accepted → Type 0
-  AcceptsUnless false before after from to old new calls events = Accepts Http before after from to old new calls events
-  AcceptsUnless true before after from to old new calls events = AcceptsNone before after from to old new calls events
-
 module _ {T S : Type 0} {G : transport.Ghosts T} (refuses : Hub → ℕ → Kind → Option HubFault → Type 0) (asked : S → Option (List (Asking T))) where
   -- this was asked of the sockets
   abbrev pub HasTaken : T → Kind → EventLoop T S G → EventLoop T S G → List Accepted → Type 0
@@ -81,8 +73,3 @@ module _ {T S : Type 0} {G : transport.Ghosts T} (refuses : Hub → ℕ → Kind
   HasAccepted kind old new events =
       (calls : List (Asking T)) × Asks (asked old.sockets) (asked new.sockets) calls
       × Accepts refuses kind (listening_of kind old) (listening_of kind new) old.hub new.hub old.connections new.connections calls events
-
-  abbrev pub HasLetIn : EventLoop T S G → EventLoop T S G → List Accepted → Type 0
-  HasLetIn old new events =
-      (calls : List (Asking T)) × Asks (asked old.sockets) (asked new.sockets) calls
-      × AcceptsUnless refuses (any_held_back old.connections.opened.items) old.http_listening new.http_listening old.hub new.hub old.connections new.connections calls events

@@ -8,22 +8,22 @@ use Rattle.dict_hub.specs.Runs.{Accepted}
 use Rattle.dict_hub.specs.declared.fault.HubFault.{HubFault}
 use Rattle.dict_hub.specs.declared.hub.Hub.{Hub}
 use Rattle.dict_hub.specs.declared.kind.Kind.{Kind}
-use Rattle.dict_hub.specs.declared.kind.Kind.TheVariants.{Dict}
+use Rattle.dict_hub.specs.declared.kind.Kind.TheVariants.{Dict, Http}
 use Rattle.dict_connection.specs.OutletCalls.{Call}
 use Rattle.dict_connection.specs.declared.transport.Transport as transport
-use Rattle.dict_driver.specs.Accepting.{Accepts, AcceptsUnless}
+use Rattle.dict_driver.specs.Accepting.{Accepts}
 use Rattle.dict_driver.specs.Asking.{Asking, Asks, looks}
 use Rattle.dict_driver.specs.Listening.{is_ready, listening_told}
 use Rattle.dict_driver.specs.Looking.{Looks, tells}
 use Rattle.dict_driver.specs.Rounds.{TurnEach}
-use Rattle.dict_driver.specs.Turning.{KeepsAllBut, MarkAll, any_held_back}
+use Rattle.dict_driver.specs.Turning.{KeepsAllBut, MarkAll}
 use Rattle.dict_driver.specs.declared.connections.Connections.{Connections}
 use Rattle.dict_driver.specs.declared.event_loop.EventLoop.{EventLoop}
 
 module _ {K T S : Type 0} {G : transport.Ghosts T} (stands : K → Condition) (expects : K → Expected → K → Type 0) (prepares : K → Result Bool Fault → K → Type 0) (taken coming : T → Option (List ℕ)) (made : T → Option (List Call))
     (refuses : Hub → ℕ → Kind → Option HubFault → Type 0) (asked : S → Option (List (Asking T))) where
   -- The sockets are looked at without a wait, and those connections are marked of which the look told. Then the connections that wait at
-  -- the socket for readers are taken, and then those at that for editors, unless octets of one are held back, by at most 16 calls each;
+  -- the socket for readers are taken, and then those at that for editors, by at most 16 calls each;
   -- neither asks the desk anything. And then each connection has its turn, over what the hub has of it by then, which has of each that
   -- isn't open what it had. The events are those of these, in this order, and nothing else was asked of the sockets. Something happened
   -- where a connection was opened, one may wait at a socket still, or something happened in a turn
@@ -42,7 +42,7 @@ module _ {K T S : Type 0} {G : transport.Ghosts T} (stands : K → Condition) (e
     pub by_http : List (Asking T)
     pub editors : List Accepted
     pub hub_with_editors : Hub
-    pub http : AcceptsUnless refuses (any_held_back with_readers.opened.items) (listening_told (tells told 0) old.http_listening) new.http_listening hub_with_readers hub_with_editors with_readers with_editors by_http editors
+    pub http : Accepts refuses Http (listening_told (tells told 0) old.http_listening) new.http_listening hub_with_readers hub_with_editors with_readers with_editors by_http editors
     pub turned : Bool
     pub turns : List Accepted
     pub turn : TurnEach stands expects prepares taken coming made refuses hub_with_editors from to with_editors new.connections turned turns

@@ -3,7 +3,7 @@ ghost use Rattle.std.specs.Prelude.{◌≡◌, ◌≢◌, ◌⊎◌, ◌≤◌, 
 ghost use Rattle.std.specs.List.{AllPairs};
 ghost use Rattle.dict_connection.specs.Stages.{is_open};
 
-use crate::turning::{depart_all, have_bounded_room, is_any_held_back, mark_one, turn_all};
+use crate::turning::{depart_all, have_bounded_room, mark_one, turn_all};
 use dict_connection::{Connection, Opening, Transport};
 use dict_desk::Preparer;
 use dict_hub::{Hub, Kind, MAX_OPEN};
@@ -55,7 +55,7 @@ impl<T: Transport> Connections<T> {
     ghost use Rattle.dict_connection.specs.Telling.{KeepsOthers};
     ghost use Rattle.dict_connection.specs.Stages.{is_departing};
     ghost use Rattle.dict_connection.specs.Turns.{IsAtRest};
-    ghost use Rattle.dict_driver.specs.Turning.{KeepsAllBut, MarkAll, any_held_back};
+    ghost use Rattle.dict_driver.specs.Turning.{KeepsAllBut, MarkAll};
     ghost use Rattle.dict_connection.specs.Ordering.{AreOfTurns};
     ghost use Rattle.dict_driver.specs.Ordering.{ComeById};
 
@@ -87,13 +87,6 @@ impl<T: Transport> Connections<T> {
         ensures most { result ≤ 128 }
     {
         self.departing.len()
-    }
-
-    /// Whether octets of an open one are held back, which it sent as an editor's.
-    pub fn is_any_held_back(&self) -> bool
-        ensures { result ≡ any_held_back self.now.opened.items }
-    {
-        is_any_held_back(self.opened.as_slice())
     }
 
     /// The last id that was given, 0 where none was.

@@ -56,7 +56,7 @@ impl<'h, T: Transport, S: Sockets<T>> EventLoop<'h, T, S> {
     ghost use Rattle.dict_driver.specs.Serving.{IsCounted};
     ghost use Rattle.dict_driver.specs.Listening.{is_ready};
     ghost use Rattle.dict_driver.specs.Looking.{IsIdle, IsKept, Looks, listening_of, other_kind};
-    ghost use Rattle.dict_driver.specs.Accepting.{HasAccepted, HasAsked, HasLetIn, HasTaken};
+    ghost use Rattle.dict_driver.specs.Accepting.{HasAccepted, HasAsked, HasTaken};
     ghost use Rattle.dict_connection.specs.Telling.{KeepsOthers};
     ghost use Rattle.dict_driver.specs.EventLoops.{GoesRound};
 
@@ -107,8 +107,8 @@ impl<'h, T: Transport, S: Sockets<T>> EventLoop<'h, T, S> {
     /// that for editors, at most 16, and then each connection has a turn, the open ones in the order of their ids: what waits is
     /// sent, and the next piece of what was read goes to the hub, of a reader one line; where none is left, one read of at most
     /// 4,096 octets is made before. A piece that completes an install is held back while the desk prepares that, by a part in each
-    /// round; no editor's connection is read meanwhile, and none is taken. Whether anything happened; where nothing did, `wait` may
-    /// come before the next round.
+    /// round, and a piece that makes another command whole until it comes first: they come in the order in which they were whole.
+    /// Whether anything happened; where nothing did, `wait` may come before the next round.
     pub fn round<K: Preparer>(&mut self, desk: &mut K) -> io::Result<bool>
         ensures led { HasLedOn (K.is_trusted desk.new) (K.shows desk.old) (K.leaves_one_of desk.old) (K.shows desk.new) (K.leaves_one_of desk.new) self.old.hub self.new.hub
             (λ events. Moves self.old.connections self.new.connections events × AreOfRound events × GoesRound (condition K.has_failed K.is_closed) K.expects K.prepares T.taken T.coming T.made S.refuses S.asked S.told result desk.old desk.new self.old self.new events) }
@@ -125,7 +125,7 @@ impl<'h, T: Transport, S: Sockets<T>> EventLoop<'h, T, S> {
         }
         let last = self.connections.last_id();
         let by_dict = self.accept_all(Kind::Dict, desk);
-        let by_http = self.accept_editors(desk);
+        let by_http = self.accept_all(Kind::Http, desk);
         let turned = self.connections.turn(&self.sockets, &mut self.hub, desk);
         self.rounds = self.rounds.saturating_add(1);
         let is_more = self.connections.has_given(last);
@@ -198,23 +198,6 @@ impl<'h, T: Transport, S: Sockets<T>> EventLoop<'h, T, S> {
                 listening == Listening::Ready
             }
         }
-    }
-
-    // Takes the editors' connections that wait, at most 16, unless octets of one are held back: then the socket isn't asked.
-    // Whether one may wait there still.
-    fn accept_editors<K: Preparer>(&mut self, desk: &mut K) -> bool
-        ensures led { HasLedOn (K.is_trusted desk.new) (K.shows desk.old) (K.leaves_one_of desk.old) (K.shows desk.new) (K.leaves_one_of desk.new) self.old.hub self.new.hub
-            (λ events. Moves self.old.connections self.new.connections events × HasLetIn S.refuses S.asked self.old self.new events) }
-        ensures trust { K.is_trusted desk.new → K.is_trusted desk.old }
-        ensures unasked { desk.new ≡ desk.old }
-        ensures kept { IsKept self.old self.new }
-        ensures asked { result ≡ is_ready self.new.http_listening }
-        ensures dict { self.new.dict_listening ≡ self.old.dict_listening }
-    {
-        if self.connections.is_any_held_back() {
-            return self.http_listening == Listening::Ready;
-        }
-        self.accept_all(Kind::Http, desk)
     }
 
     // Whether a connection waits at a listening socket.

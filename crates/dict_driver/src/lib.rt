@@ -17,6 +17,6 @@ pub use binding::{Network, System, bind_both};
 pub use driver::Driver;
 pub use event_loop::EventLoop;
 pub use fault::{AddressFault, BindFault};
-pub use laws::accepting_laws;
+pub use laws::{accepting_laws, first_laws};
 pub use serving::{Served, pace, serve};
 pub use sockets::{Sockets, SystemSockets};

@@ -1,9 +1,10 @@
 // What is done to each connection of a list.
-ghost use Rattle.std.specs.Prelude.{◌≡◌, ◌<◌, ◌==◌, ℕ, false, All, nat_le, slice_index_or, vec_len, vec_capacity, true};
+ghost use Rattle.std.specs.Prelude.{◌≡◌, ◌<◌, ◌==◌, ◌&&◌, ◌∷◌, ℕ, [], Some, false, All, max, nat_le, nat_lt, slice_index_or, vec_len, vec_capacity, true, if◌then◌else◌};
 ghost use Rattle.std.specs.List.{AllPairs};
 ghost use Rattle.dict_session.specs.Desks.{condition};
 ghost use Rattle.dict_connection.specs.Leading.{HasLedOn};
-ghost use Rattle.dict_driver.specs.Turning.{DepartAll, KeepsAllBut, MarkAll, TurnAll, any_held_back};
+ghost use Rattle.dict_driver.specs.Turning.{DepartAll, KeepsAllBut, MarkAll, TurnAll, first_of, first_since, is_other};
+ghost use Rattle.dict_connection.specs.Handing.{held_for};
 ghost use Rattle.dict_connection.specs.Turns.{IsAtRest};
 ghost use Rattle.dict_driver.specs.Rounds.{room_of};
 
@@ -11,7 +12,9 @@ use dict_connection::{Connection, Opening, PIECE, Transport};
 use dict_desk::Preparer;
 use dict_hub::Hub;
 
-/// A turn of each open connection, in order. Whether anything happened, or a turn is to be had again at once.
+/// A turn of each open connection, in order. A command of an editor's waits behind the one that comes first: of those that are held back
+/// as the turns begin the one that has been so for the most turns, and where there is none the first that is since. Whether anything
+/// happened, or a turn is to be had again at once.
 pub fn turn_all<T: Transport, K: Preparer, O: Opening>(
     opening: &O,
     all: &mut Vec<Connection<T>>,
@@ -31,28 +34,68 @@ pub fn turn_all<T: Transport, K: Preparer, O: Opening>(
 {
     let mut room = [0u8; PIECE];
     let mut has_moved = false;
-    let mut is_preparing = is_any_held_back(all.as_slice());
+    let mut first = first_of(all.as_slice());
     for one in all.iter_mut() {
-        if one.turn(opening, hub, desk, &mut room, is_preparing) {
+        let is_behind = is_other(first, one.id());
+        if one.turn(opening, hub, desk, &mut room, is_behind) {
             has_moved = true;
         }
-        if one.is_held_back() {
-            is_preparing = true;
-        }
+        first = first_since(first, one);
     }
     has_moved
 }
 
-/// Whether octets of one of these are held back.
-pub fn is_any_held_back<T: Transport>(all: &[Connection<T>]) -> bool
-    ensures { result ≡ any_held_back all.now }
+// The id of the connection whose command comes first: octets of it are held back, for no fewer turns than of another, and it stands
+// before those of which they are for as many.
+fn first_of<T: Transport>(all: &[Connection<T>]) -> Option<u64>
+    ensures { result ≡ first_of all.now }
 {
-    for one in all {
-        if one.is_held_back() {
-            return true;
+    let mut first = (None, 0);
+    for place in 0..all.len() {
+        first = before(&all[all.len() - place - 1], first);
+    }
+    first.0
+}
+
+// The same where this one stands before those of which that is the first, and for how many turns octets are held back at most.
+fn before<T: Transport>(one: &Connection<T>, first: (Option<u64>, u64)) -> (Option<u64>, u64)
+    ensures first { result.0 ≡ (if nat_lt 0 (held_for one.now) && nat_le first.1 (held_for one.now) then Some one.now.id else first.0) }
+    ensures longest { result.1 ≡ max (held_for one.now) first.1 }
+{
+    let turns = one.turns_held();
+    if turns < first.1 {
+        return first;
+    }
+    if turns == 0 {
+        return first;
+    }
+    (Some(one.id()), turns)
+}
+
+// The id of the connection whose command comes first since the turn of this one.
+fn first_since<T: Transport>(first: Option<u64>, one: &Connection<T>) -> Option<u64>
+    ensures { result ≡ first_since first (one.now ∷ []) }
+{
+    match first {
+        Some(id) => Some(id),
+        None => {
+            if one.turns_held() > 0 {
+                Some(one.id())
+            } else {
+                None
+            }
         }
     }
-    false
+}
+
+// Whether it is another than this one.
+fn is_other(first: Option<u64>, id: u64) -> bool
+    ensures { result ≡ is_other first id }
+{
+    match first {
+        Some(first) => first != id,
+        None => false,
+    }
 }
 
 /// A turn of each connection that is no longer open, in order. Whether anything happened.

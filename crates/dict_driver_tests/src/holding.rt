@@ -1,4 +1,5 @@
-// For how many turns an editor's octets are held back while the desk prepares what they complete.
+// For how many turns an editor's octets are held back: while the desk prepares what they complete, and while another editor's command
+// comes first.
 use crate::peer::{Behind, SILENT, Script};
 use crate::turns::{READER, Step, Talk, make_turns};
 use dict_connection::Stage;
@@ -60,12 +61,28 @@ const AT_MOST: &[Step] = &[
     Step::Read(17),
 ];
 
-// While what another one sent is prepared, a reader's is read, and an editor's isn't.
-const IS_NOT_READ: &[Step] = &[
+// While another one's command comes first, a piece that makes no request whole is handed on, a list is answered, and a command waits: it
+// is handed on, once, as it comes first.
+const IS_READ_ON: &[Step] = &[
+    Step::Meanwhile,
     Step::Meanwhile,
     Step::Is(Stage::Open),
     Step::Taken(0),
-    Step::Read(0),
+    Step::Read(2),
+];
+
+const IS_ANSWERED: &[Step] = &[Step::Meanwhile, Step::Is(Stage::Closing), Step::Read(1)];
+
+const WAITS: &[Step] = &[
+    Step::Meanwhile,
+    Step::Meanwhile,
+    Step::Meanwhile,
+    Step::Is(Stage::Open),
+    Step::Taken(0),
+    Step::Read(1),
+    Step::Turns(1),
+    Step::Is(Stage::Closing),
+    Step::Read(1),
 ];
 
 const IS_READ: &[Step] = &[
@@ -75,7 +92,28 @@ const IS_READ: &[Step] = &[
     Step::Read(1),
 ];
 
-static HELD_BACK: [Talk; 6] = [
+// An install that waits for another command is prepared behind that, and read no further meanwhile.
+const WAITS_AND_IS_PREPARED: &[Step] = &[
+    Step::Turns(16),
+    Step::Meanwhile,
+    Step::Meanwhile,
+    Step::Read(17),
+    Step::HeldBack(3, 10),
+    Step::Is(Stage::Closing),
+    Step::Read(17),
+];
+
+const LIST: Script = Script {
+    pieces: &[b"GET /databases HTTP/1.1\r\n\r\n"],
+    ..SILENT
+};
+
+const RETIRE: Script = Script {
+    pieces: &[b"DELETE /databases/gem HTTP/1.1\r\nRequest-Id: r1\r\n\r\n"],
+    ..SILENT
+};
+
+static HELD_BACK: [Talk; 9] = [
     Talk {
         name: "what is let go of",
         parts: 3,
@@ -103,7 +141,25 @@ static HELD_BACK: [Talk; 6] = [
     Talk {
         name: "an editor meanwhile",
         parts: 3,
-        steps: IS_NOT_READ,
+        steps: IS_READ_ON,
+        ..SENDER
+    },
+    Talk {
+        name: "a list meanwhile",
+        script: LIST,
+        steps: IS_ANSWERED,
+        ..SENDER
+    },
+    Talk {
+        name: "a command meanwhile",
+        script: RETIRE,
+        steps: WAITS,
+        ..SENDER
+    },
+    Talk {
+        name: "an install meanwhile",
+        parts: 3,
+        steps: WAITS_AND_IS_PREPARED,
         ..SENDER
     },
     Talk {

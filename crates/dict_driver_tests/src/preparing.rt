@@ -1,4 +1,4 @@
-// An install that is prepared between rounds: the octets that complete it are held back meanwhile.
+// An install that is prepared between rounds: the octets that complete it are held back meanwhile, and commands of others.
 use crate::serving::{FILLER, Part, Play, Step, start};
 use dict_fixtures::{HEAD, PartsDesk};
 use std::test::Fail;
@@ -14,6 +14,8 @@ pub(crate) enum Progress {
     Prepared,
     /// It was told of one, and it was applied.
     Applied,
+    /// It was told of two, and they were applied as they were prepared.
+    BothApplied,
 }
 
 /// Whether it has come so far.
@@ -23,6 +25,7 @@ pub(crate) fn is_at(desk: &PartsDesk, progress: Progress) -> bool {
         Progress::Left => desk.left > 0,
         Progress::Prepared => desk.expected > 0 && desk.left == 0,
         Progress::Applied => desk.expected == 1 && desk.applied == 1,
+        Progress::BothApplied => { desk.expected == 2 && desk.applied == 2 && desk.answered == 2 }
     }
 }
 
@@ -47,6 +50,28 @@ const ONE: &[u8] = b"210 1 databases\r\n";
 
 const INSTALLED: &[u8] =
     b"HTTP/1.1 200 OK\r\nContent-Type: application/json\r\nContent-Length: 54\r\nConnection: close\r\n\r\n{\"edition\":1,\"name\":\"gem\",\"number\":1,\"verb\":\"install\"}";
+
+const NO_ITEM: &[u8] =
+    b"HTTP/1.1 200 OK\r\nContent-Type: application/json\r\nContent-Length: 2\r\nConnection: close\r\n\r\n[]";
+
+// An install of another name, without the last 65,536 octets of its text.
+const ORE: &[u8] =
+    b"PUT /databases/ore HTTP/1.1\r\nRequest-Id: r2\r\nContent-Length: 65637\r\n\r\n53\n00-database-short\tA\tZ\nopal\tZ\tP\nFire Opal\tZ\tP\ndot\to\tF\n00-database-short\n  Gems\nopal\n  a stone\n.dot\n";
+
+const ORE_INSTALLED: &[u8] =
+    b"HTTP/1.1 200 OK\r\nContent-Type: application/json\r\nContent-Length: 54\r\nConnection: close\r\n\r\n{\"edition\":2,\"name\":\"ore\",\"number\":2,\"verb\":\"install\"}";
+
+const FIRST_VIRTUAL: &[u8] =
+    b"PUT /virtual/one HTTP/1.1\r\nRequest-Id: v1\r\nContent-Length: 33\r\n\r\n{\"members\":[\"gem\"],\"title\":\"One\"}";
+
+const SECOND_VIRTUAL: &[u8] =
+    b"PUT /virtual/two HTTP/1.1\r\nRequest-Id: v2\r\nContent-Length: 33\r\n\r\n{\"members\":[\"gem\"],\"title\":\"Two\"}";
+
+const FIRST_IS_TWO: &[u8] =
+    b"HTTP/1.1 200 OK\r\nContent-Type: application/json\r\nContent-Length: 57\r\nConnection: close\r\n\r\n{\"edition\":null,\"name\":\"one\",\"number\":2,\"verb\":\"virtual\"}";
+
+const SECOND_IS_THREE: &[u8] =
+    b"HTTP/1.1 200 OK\r\nContent-Type: application/json\r\nContent-Length: 57\r\nConnection: close\r\n\r\n{\"edition\":null,\"name\":\"two\",\"number\":3,\"verb\":\"virtual\"}";
 
 // A reader has come, an editor whose request wants 4,096 octets to be whole, and another editor.
 const TWO_CLIENTS: Part = Part::Settled(
@@ -85,7 +110,7 @@ const ONE_IS_INSTALLED: Part = Part::Bare(
     ],
 );
 
-// The reader is answered before the install, and both editors behind it.
+// The reader and the other editor are answered before the install.
 const BETWEEN: &[Part] = &[
     TWO_CLIENTS,
     PIECES,
@@ -96,13 +121,13 @@ const BETWEEN: &[Part] = &[
         &[
             Step::Got(0, EMPTY),
             Step::Got(1, b""),
-            Step::Got(2, b""),
+            Step::Got(2, NO_ITEM),
+            Step::HasEnded(2),
             Step::Settle,
             Step::Got(1, INSTALLED),
         ],
     ),
     ONE_IS_INSTALLED,
-    Part::Bare(1, &[Step::GotSome(2)]),
 ];
 
 // The other editor and then the one whose install is prepared are gone before it is done.
@@ -118,8 +143,7 @@ const LEAVING: &[Part] = &[
     ONE_IS_INSTALLED,
 ];
 
-// Two editors and then a reader come while an install is prepared: the reader alone is greeted and let in, so four are open
-// meanwhile. Both editors are answered behind the install.
+// Two editors and then a reader come while an install is prepared: all are let in, and answered before the install.
 const COMING: &[Part] = &[
     TWO_CLIENTS,
     PIECES,
@@ -141,21 +165,86 @@ const COMING: &[Part] = &[
         1,
         &[
             Step::Got(5, b"220 localhost dictcat ready <4@localhost>\r\n"),
-            Step::Got(3, b""),
-            Step::Got(4, b""),
-            Step::Held(4, 0),
+            Step::Got(3, NO_ITEM),
+            Step::Got(4, NO_ITEM),
+            Step::Held(4, 2),
             Step::IsAt(Progress::Left),
             Step::Settle,
             Step::Got(1, INSTALLED),
-            Step::GotSome(3),
-            Step::GotSome(4),
             Step::IsAt(Progress::Applied),
         ],
     ),
 ];
 
+// Commands of two editors wait for the install. The one that was whole first comes first, though its connection came last.
+const WAITING: &[Part] = &[
+    TWO_CLIENTS,
+    PIECES,
+    ANOTHER_EDITOR,
+    Part::Bare(
+        1,
+        &[
+            Step::Send(1, FILLER),
+            Step::Until(Progress::Told),
+            Step::Editor,
+            Step::Send(3, FIRST_VIRTUAL),
+        ],
+    ),
+    Part::Bare(20, &[Step::Round]),
+    Part::Bare(1, &[Step::Send(2, SECOND_VIRTUAL)]),
+    Part::Bare(20, &[Step::Round]),
+    Part::Bare(
+        1,
+        &[
+            Step::IsAt(Progress::Left),
+            Step::Got(1, b""),
+            Step::Got(2, b""),
+            Step::Got(3, b""),
+            Step::Settle,
+            Step::Got(1, INSTALLED),
+            Step::Got(3, FIRST_IS_TWO),
+            Step::Got(2, SECOND_IS_THREE),
+        ],
+    ),
+];
+
+// The install of another editor is read while the first is prepared, waits for it, and is prepared then.
+const TWO_INSTALLS: &[Part] = &[
+    TWO_CLIENTS,
+    PIECES,
+    ANOTHER_EDITOR,
+    Part::Bare(
+        1,
+        &[
+            Step::Send(1, FILLER),
+            Step::Until(Progress::Told),
+            Step::Send(2, ORE),
+        ],
+    ),
+    Part::Bare(16, &[Step::Round, Step::Send(2, FILLER)]),
+    Part::Bare(20, &[Step::Round]),
+    Part::Bare(
+        1,
+        &[
+            Step::IsAt(Progress::Left),
+            Step::Got(1, b""),
+            Step::Got(2, b""),
+            Step::Settle,
+            Step::Got(1, INSTALLED),
+            Step::Got(2, ORE_INSTALLED),
+            Step::IsAt(Progress::BothApplied),
+        ],
+    ),
+];
+
 // By how many parts the desk prepares the install.
-static PREPARED: [(u32, &[Part]); 3] = [(3, BETWEEN), (3, LEAVING), (300, COMING)];
+static PREPARED: [(u32, &[Part]); 5] = [
+    (3, BETWEEN),
+    (3, LEAVING),
+    (300, COMING),
+    (300, WAITING),
+    (300, TWO_INSTALLS),
+];
 
 #[test]
 fn others_while_an_install_is_prepared(rt: HostRuntime) -> Result<(), Fail> {

@@ -38,7 +38,7 @@ pub(crate) const READER: Talk = Talk {
 pub(crate) enum Step {
     /// So many turns.
     Turns(u32),
-    /// One turn while what another connection's editor sent is prepared.
+    /// One turn while the command of another connection's editor comes first.
     Meanwhile,
     /// So many turns, no more than this, in which it is held back, and one more.
     HeldBack(u32, u32),
@@ -62,17 +62,17 @@ pub(crate) enum Step {
     Forgotten(u32),
 }
 
-// One turn, while what an editor sent is prepared or not.
+// One turn, while another editor's command comes first or not.
 fn turn(
     rooms: &Crowd,
     hub: &mut Hub,
     desk: &mut PartsDesk,
     one: &mut Connection<Peer>,
-    is_preparing: bool,
+    is_behind: bool,
 ) {
     let mut room = [0u8; 4_096];
     if one.stage().is_open() {
-        one.turn(rooms, hub, desk, &mut room, is_preparing);
+        one.turn(rooms, hub, desk, &mut room, is_behind);
     } else {
         one.linger(&mut room);
     }
@@ -99,9 +99,8 @@ fn count_held(
     most: u32,
 ) -> u32 {
     for held in 0..most {
-        let is_preparing = one.is_held_back();
-        turn(rooms, hub, desk, one, is_preparing);
-        if !one.is_held_back() {
+        turn(rooms, hub, desk, one, false);
+        if one.turns_held() == 0 {
             return held;
         }
     }

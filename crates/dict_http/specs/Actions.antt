@@ -1,5 +1,5 @@
 -- What a request asks for: by its route and its method, and by its body.
-use Rattle.std.specs.Prelude.{◌≡◌, ◌<◌, ◌⊎◌, ◌++◌, ◌^◌, ℕ, List, [], ◌∷◌, length, codes, decimal, if◌then◌else◌, Option, Some, None, IsUtf8}
+use Rattle.std.specs.Prelude.{◌≡◌, ◌<◌, ◌⊎◌, ◌++◌, ◌^◌, ℕ, Bool, true, false, List, [], ◌∷◌, length, codes, decimal, if◌then◌else◌, Option, Some, None, IsUtf8}
 use Rattle.std.specs.Str.{bytes_eq}
 use Rattle.dict_index.specs.Edition.{Edition}
 use Rattle.dict_index.specs.Meaning.{IsEdition, IsFault}
@@ -19,6 +19,16 @@ action_of Database method =
 action_of RollbackPath method = if bytes_eq method (codes "POST") then Some Rollback else None
 action_of PlacePath method = if bytes_eq method (codes "POST") then Some Place else None
 action_of Virtual method = if bytes_eq method (codes "PUT") then Some PutVirtual else None
+
+-- it changes the catalogue: each does but the list, where there is one
+abbrev pub changes : Option Action → Bool
+changes None = false
+changes (Some Listing) = false
+changes (Some Install) = true
+changes (Some Retire) = true
+changes (Some Rollback) = true
+changes (Some Place) = true
+changes (Some PutVirtual) = true
 
 -- the body of an install is the length of its index in decimal, LF, the index and the text. The length has at most
 -- eight digits

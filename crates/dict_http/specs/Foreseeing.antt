@@ -1,4 +1,4 @@
--- A change that a request asks for, before it is answered.
+-- What a request asks for, before it is answered.
 use Rattle.std.specs.Prelude.{◌≡◌, ℕ, List, None, Some, true}
 use Rattle.dict_text.specs.Names.{is_request_id}
 use Rattle.dict_catalogue.specs.Commands.{place, put_virtual, retire, rollback}
@@ -7,10 +7,19 @@ use Rattle.dict_head.specs.Requests.{Request, IsRequest}
 use Rattle.dict_head.specs.Paths.{IsPath}
 use Rattle.dict_head.specs.declared.route_kinds.Route.{Route}
 use Rattle.dict_desk.specs.Expected.{Expected, of_command, of_files}
-use Rattle.dict_http.specs.Actions.{action_of, AreParts, IsId}
+use Rattle.dict_http.specs.Actions.{action_of, changes, AreParts, IsId}
 use Rattle.dict_http.specs.Bodies.{IsPlace, IsVirtual}
 use Rattle.dict_http.specs.declared.actions.Action.{Action}
 use Rattle.dict_http.specs.declared.actions.Action.TheVariants.{List as Listing, Install, Retire, Rollback, Place, PutVirtual}
+
+-- a whole request stands at the front of the octets, whose route and method change the catalogue
+pub record AsksForCommand (octets : List ℕ) : Type 0 where
+  pub request : Request
+  pub is : IsRequest octets request
+  pub route : Route
+  pub name : List ℕ
+  pub path : IsPath request.target route name
+  pub change : changes (action_of route request.method) ≡ true
 
 -- the body of an install has these two files, about the name
 abbrev pub SaysInstall : List ℕ → List ℕ → Expected → Type 0

@@ -2,7 +2,7 @@
 ghost use Rattle.std.specs.Prelude.{◌≡◌, ℕ, List, MatchOption, Some, None, if◌then◌else◌};
 ghost use Rattle.std.specs.Str.{bytes_eq};
 ghost use Rattle.dict_head.specs.Fields.{AreValues};
-ghost use Rattle.dict_http.specs.Actions.{action_of, IsId};
+ghost use Rattle.dict_http.specs.Actions.{action_of, changes, IsId};
 
 use dict_head::{Route, Values};
 use std::str;
@@ -42,6 +42,22 @@ fn only(method: &[u8], name: &[u8], action: Action) -> Option<Action>
     ensures { result ≡ (if bytes_eq method.now name.now then Some action else None) }
 {
     if method == name { Some(action) } else { None }
+}
+
+// Whether it changes the catalogue: each does but the list, where there is one.
+pub fn changes(action: Option<Action>) -> bool
+    ensures { result ≡ changes action }
+{
+    match action {
+        None | Some(Action::List) => false,
+        Some(
+            Action::Install
+            | Action::Retire
+            | Action::Rollback
+            | Action::Place
+            | Action::PutVirtual,
+        ) => true,
+    }
 }
 
 // The one id, where it is a text.

@@ -1,5 +1,5 @@
 // The service of editors' requests.
-ghost use Rattle.std.specs.Prelude.{◌≡◌, ◌⊎◌, List, Option, true};
+ghost use Rattle.std.specs.Prelude.{◌≡◌, ◌⊎◌, List, Option, false, true};
 ghost use Rattle.dict_catalogue.specs.Steps.{Catalogue, summary_of};
 ghost use Rattle.dict_head.specs.Fields.{AreValues};
 ghost use Rattle.dict_head.specs.Heads.{Needs};
@@ -8,11 +8,11 @@ ghost use Rattle.dict_head.specs.declared.kinds.Need.TheVariants as needs;
 ghost use Rattle.dict_head.specs.declared.statuses.Status.TheVariants as statuses;
 ghost use Rattle.dict_http.specs.Texts.{list_text};
 ghost use Rattle.dict_http.specs.Answers.{octets_of, plain, with_body, response_text};
-ghost use Rattle.dict_http.specs.Foreseeing.{HasForeseen, AsksAnewForChange, AsksForChange};
+ghost use Rattle.dict_http.specs.Foreseeing.{HasForeseen, AsksAnewForChange, AsksForChange, AsksForCommand};
 ghost use Rattle.dict_http.specs.Settling.{Settles, SettlesRequest, SettlesAction};
 ghost use Rattle.dict_http.specs.Responding.{IsAnswer, Responds};
 
-use crate::actions::{Action, action_of, one_id};
+use crate::actions::{Action, action_of, changes, one_id};
 use crate::answers::{Answer, bad_request, method_not_allowed, not_found, too_large, unavailable};
 use crate::changing::{change, with_text};
 use crate::foreseeing::{foresee_change, is_foreseen};
@@ -112,6 +112,21 @@ impl Service {
             Reading::Whole(request) => self.respond_to(alloc, request, desk),
             Reading::Refused(status) => refused(status),
         }
+    }
+
+    /// Whether a whole request stands at the front of the octets whose route and method change the catalogue, whatever is answered. It
+    /// takes no memory.
+    pub fn asks_change(&self, octets: &[u8]) -> bool
+        ensures yes { result ≡ true → AsksForCommand octets.now }
+        ensures no { result ≡ false → ¬ AsksForCommand octets.now }
+    {
+        let Reading::Whole(request) = read_request(octets) else {
+            return false;
+        };
+        let Some(found) = self.routes.find(request.target) else {
+            return false;
+        };
+        changes(action_of(found.route, request.method))
     }
 
     /// Tells the desk of the change that a whole request at the front of the octets asks for, so that it may prepare it before the

@@ -11,7 +11,7 @@ use Rattle.std.proofs.lemmas.List.Edits.{get_or-remove_below, get_or-remove_abov
 use Rattle.std.proofs.lemmas.List.Quantifiers.{position-Some}
 use Rattle.dict_desk.specs.Expected.{Expected}
 use Rattle.dict_hub.specs.Books.{place_of, opening, is_given}
-use Rattle.dict_hub.specs.Foreseen.{IsForeseen, AreForeseen}
+use Rattle.dict_hub.specs.Foreseen.{IsForeseen, AreForeseen, MakesCommand, MakeCommand}
 use Rattle.dict_hub.specs.Holding.{Holding}
 use Rattle.dict_hub.specs.Lines.{Holds}
 use Rattle.dict_hub.specs.Hubs.{HoldsAt, IsAbsent, StandsAt}
@@ -198,3 +198,21 @@ pub foreseen_there : {K : Type 0} (expects : K → Expected → K → Type 0) (A
 foreseen_there expects Asks host ids lines p id was piece desk rising in_p at_p is there None absent = absent p in_p at_p
 foreseen_there expects Asks host ids lines p id was piece desk rising in_p at_p is there (Some held) at =
     there held (subst (λ one. Holds host id one held) (sym is) (holds_there host ids lines id held p rising in_p at_p at was))
+
+-- so is whether octets make a command whole
+pub command_there : (host ids : List ℕ) (lines : List Exchange) (p id : ℕ) (was : Exchange) (piece : List ℕ) → AllPairs (λ a b. a < b) ids → p < length ids → get_or ids p 0 ≡ id → was ≡ get_or lines p was
+    → ((held : Holding) → Holds host id was held → MakesCommand held piece) → (held : Option Holding) → StandsAt host ids lines id held → MakeCommand held piece
+command_there host ids lines p id was piece rising in_p at_p is there None absent = absent p in_p at_p
+command_there host ids lines p id was piece rising in_p at_p is there (Some held) at =
+    there held (subst (λ one. Holds host id one held) (sym is) (holds_there host ids lines id held p rising in_p at_p at was))
+
+pub no_command_there : (host ids : List ℕ) (lines : List Exchange) (p id : ℕ) (was : Exchange) (piece : List ℕ) → AllPairs (λ a b. a < b) ids → p < length ids → get_or ids p 0 ≡ id → was ≡ get_or lines p was
+    → ((held : Holding) → Holds host id was held → MakesCommand held piece → ⊥) → (held : Option Holding) → StandsAt host ids lines id held → MakeCommand held piece → ⊥
+no_command_there host ids lines p id was piece rising in_p at_p is there None absent makes = makes
+no_command_there host ids lines p id was piece rising in_p at_p is there (Some held) at makes =
+    there held (subst (λ one. Holds host id one held) (sym is) (holds_there host ids lines id held p rising in_p at_p at was)) makes
+
+-- of an id that isn't found nothing is held
+pub none_there : (host ids : List ℕ) (lines : List Exchange) (id : ℕ) (piece : List ℕ) → place_of id ids ≡ None → (held : Option Holding) → StandsAt host ids lines id held → MakeCommand held piece → ⊥
+none_there host ids lines id piece none None at makes = makes
+none_there host ids lines id piece none (Some held) at makes = not_found ids id none at.place at.within at.is

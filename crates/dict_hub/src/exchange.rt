@@ -1,10 +1,10 @@
 // What the hub keeps of one connection.
-ghost use Rattle.std.specs.Prelude.{◌≡◌, ◌++◌, ℕ, true, List, Option, Ok, IfOk, IfErr, OnErr};
+ghost use Rattle.std.specs.Prelude.{◌≡◌, ◌++◌, ◌≤◌, ℕ, false, true, length, List, Option, Ok, IfOk, IfErr, OnErr};
 ghost use Rattle.dict_catalogue.specs.Steps.{Catalogue};
 ghost use Rattle.dict_session.specs.Desks.{condition};
 ghost use Rattle.dict_hub.specs.Holding.{Holding, just_opened, left_by};
 ghost use Rattle.dict_http.specs.Foreseeing.{AsksAnewForChange, AsksForChange};
-ghost use Rattle.dict_hub.specs.Foreseen.{IsForeseen};
+ghost use Rattle.dict_hub.specs.Foreseen.{IsForeseen, MakesCommand};
 ghost use Rattle.dict_hub.specs.Given.{Greets, Gets, GetsThrough, LookNothingUp};
 ghost use Rattle.dict_hub.specs.declared.kind.Kind.TheVariants.{Http};
 ghost use Rattle.dict_hub.specs.declared.incoming.Out.TheVariants as outs;
@@ -51,7 +51,7 @@ impl<'h> Exchange<'h> {
     {
         match kind {
             Kind::Dict => Ok(Exchange::Reader(Session::new(alloc, host, id)?)),
-            Kind::Http => Ok(Exchange::Editor(Incoming::new(alloc))),
+            Kind::Http => Ok(Exchange::Editor(Incoming::new(alloc)?)),
         }
     }
 
@@ -118,6 +118,19 @@ impl<'h> Exchange<'h> {
         match self {
             Exchange::Reader(_) => false,
             Exchange::Editor(incoming) => incoming.foresee(service, alloc, piece, desk),
+        }
+    }
+
+    /// Whether this piece makes an editor's request whole that changes the catalogue. Nothing of what is held changes.
+    pub fn asks_change(&mut self, service: &Service, piece: &[u8]) -> bool
+        requires { length piece.now ≤ 4096 }
+        ensures holds { (host : List ℕ) (id : ℕ) (held : Holding) → Holds host id self.old held → Holds host id self.new held }
+        ensures yes { result ≡ true → (host : List ℕ) (id : ℕ) (held : Holding) → Holds host id self.old held → MakesCommand held piece.now }
+        ensures no { result ≡ false → (host : List ℕ) (id : ℕ) (held : Holding) → Holds host id self.old held → ¬ MakesCommand held piece.now }
+    {
+        match self {
+            Exchange::Reader(..) => false,
+            Exchange::Editor(incoming) => incoming.asks_change(service, piece),
         }
     }
 }

@@ -1,11 +1,11 @@
 // The open connections of readers and editors.
-ghost use Rattle.std.specs.Prelude.{◌≡◌, ◌≢◌, ◌-◌, ◌++◌, ◌<◌, ℕ, List, Option, [], ◌∷◌, true, false, None, Some, Ok, Err, IfOk, IfErr, OnOk, OnErr, vec_len, vec_capacity, remove};
+ghost use Rattle.std.specs.Prelude.{◌≡◌, ◌≢◌, ◌-◌, ◌++◌, ◌<◌, ◌≤◌, ℕ, length, List, Option, [], ◌∷◌, true, false, None, Some, Ok, Err, IfOk, IfErr, OnOk, OnErr, vec_len, vec_capacity, remove};
 ghost use Rattle.dict_catalogue.specs.Steps.{Catalogue};
 ghost use Rattle.dict_session.specs.Desks.{condition};
 ghost use Rattle.dict_hub.specs.Books.{IsRefusal, opening, place_of};
 ghost use Rattle.dict_hub.specs.Holding.{Holding, left_by};
 ghost use Rattle.dict_http.specs.Foreseeing.{AsksAnewForChange, AsksForChange};
-ghost use Rattle.dict_hub.specs.Foreseen.{AreForeseen};
+ghost use Rattle.dict_hub.specs.Foreseen.{AreForeseen, MakeCommand};
 ghost use Rattle.dict_hub.specs.Given.{Greets, Gets, GetsThrough, LookNothingUp};
 ghost use Rattle.dict_hub.specs.declared.kind.Kind.{Kind};
 ghost use Rattle.dict_hub.specs.declared.kind.Kind.TheVariants.{Http};
@@ -150,6 +150,24 @@ impl<'h> Hub<'h> {
             return false;
         };
         self.lines[place].foresee(&self.service, self.alloc, piece, desk)
+    }
+
+    /// Whether these octets, the next that come on a connection, make a command whole: a request that changes the catalogue, whatever
+    /// is answered. It is no event: nothing of the hub changes. At most 4,096 octets are asked about.
+    pub fn asks_change(&mut self, id: u64, piece: &[u8]) -> bool
+        requires { length piece.now ≤ 4096 }
+        ensures yes { result ≡ true → (held : Option Holding) → Has self.old id held → MakeCommand held piece.now }
+        ensures no { result ≡ false → (held : Option Holding) → Has self.old id held → ¬ MakeCommand held piece.now }
+        ensures kept { (other : ℕ) (held : Option Holding) → Has self.old other held → Has self.new other held }
+        ensures state { (state : State) → IsAt self.old state → IsAt self.new state }
+        ensures given { greatest_of self.new ≡ greatest_of self.old }
+        ensures count { count_of self.new ≡ count_of self.old }
+        ensures host { host_of self.new ≡ host_of self.old }
+    {
+        let Some(place) = self.book.place_of(id) else {
+            return false;
+        };
+        self.lines[place].asks_change(&self.service, piece)
     }
 
     // Opens a connection, and greets a reader.

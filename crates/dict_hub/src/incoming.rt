@@ -1,7 +1,7 @@
 // The editors' half of a hub: one request a connection.
-ghost use Rattle.std.specs.Prelude.{◌≡◌, ◌++◌, [], true, List, Option, IfErr, OnErr};
+ghost use Rattle.std.specs.Prelude.{◌≡◌, ◌+◌, ◌++◌, ◌≤◌, [], false, true, length, List, Option, IfErr, IfOk, OnErr, vec_len, vec_capacity};
 ghost use Rattle.dict_catalogue.specs.Steps.{Catalogue};
-ghost use Rattle.dict_http.specs.Foreseeing.{HasForeseen, AsksAnewForChange, AsksForChange};
+ghost use Rattle.dict_http.specs.Foreseeing.{HasForeseen, AsksAnewForChange, AsksForChange, AsksForCommand};
 ghost use Rattle.dict_hub.specs.Asking.{Awaits, Answers, IsAwaitedIn};
 ghost use Rattle.dict_hub.specs.declared.incoming.Out.TheVariants as outs;
 ghost use Rattle.std.specs.Prelude.{Ok};
@@ -12,7 +12,10 @@ use dict_desk::Preparer;
 use dict_head::{Reading, read_request};
 use dict_http::Service;
 use dict_proto::Sink;
-use std::alloc::Global;
+use std::alloc::{AllocError, Global};
+
+/// The most octets of a piece of which it is told whether it makes a command whole. Room for so many is kept.
+pub const MAX_ASKED: usize = 4_096;
 
 /// What becomes of a connection after an event.
 #[derive(Clone, Copy, Debug, PartialEq, Eq)]
@@ -23,24 +26,26 @@ pub enum Out {
     Close,
 }
 
-/// The octets of an editor's request that have come. Once its head is whole it is known how many are awaited.
+/// The octets of an editor's request that have come. Once its head is whole it is known how many are awaited. There is room for 4,096
+/// more.
 #[derive(Drop)]
 pub struct Incoming {
     octets: Vec<u8>,
     // How many octets head and body have, where the head was seen to be whole, and 0 before.
     awaited: usize,
+    ghost room: { vec_len octets + 4096 ≤ vec_capacity octets },
 }
 
 impl Incoming {
-    /// Nothing has come.
-    pub fn new(alloc: Global) -> Self
-        ensures octets { result.octets.items ≡ [] }
-        ensures awaited { IsAwaitedIn result.octets.items result.awaited }
+    /// Nothing has come. Want of memory is the only error.
+    pub fn new(alloc: Global) -> Result<Self, AllocError>
+        ensures octets { IfOk result (λ incoming. incoming.octets.items ≡ []) }
+        ensures awaited { IfOk result (λ incoming. IsAwaitedIn incoming.octets.items incoming.awaited) }
     {
-        Incoming {
-            octets: Vec::new(alloc),
+        Ok(Incoming {
+            octets: Vec::with_capacity(alloc, MAX_ASKED)?,
             awaited: 0,
-        }
+        })
     }
 
     /// Takes the next piece of a request that an editor sends. While more octets are needed they are held; else the request,
@@ -66,7 +71,11 @@ impl Incoming {
         ensures desk { OnErr result (desk.new ≡ desk.old) }
         ensures sink { OnErr result (sink.new ≡ sink.old) }
     {
-        if self.octets.reserve(piece.len()).is_err() {
+        if self
+            .octets
+            .reserve(piece.len().saturating_add(MAX_ASKED))
+            .is_err()
+        {
             return Err(HubFault::Memory);
         }
         if self.octets.extend_from_slice(piece).is_err() {
@@ -114,5 +123,20 @@ impl Incoming {
         let is_foreseen = service.foresee(alloc, &self.octets, desk);
         self.octets.truncate(held);
         is_foreseen
+    }
+
+    /// Whether this piece, behind the octets that have come, makes a request whole that changes the catalogue. The piece isn't held.
+    pub fn asks_change(&mut self, service: &Service, piece: &[u8]) -> bool
+        requires { length piece.now ≤ 4096 }
+        ensures octets { self.new.octets.items ≡ self.old.octets.items }
+        ensures awaited { self.new.awaited ≡ self.old.awaited }
+        ensures yes { result ≡ true → AsksForCommand (self.old.octets.items ++ piece.now) }
+        ensures no { result ≡ false → ¬ AsksForCommand (self.old.octets.items ++ piece.now) }
+    {
+        let held = self.octets.len();
+        let _ = self.octets.extend_from_slice(piece);
+        let asks_change = service.asks_change(&self.octets);
+        self.octets.truncate(held);
+        asks_change
     }
 }

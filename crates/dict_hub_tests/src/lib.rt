@@ -7,6 +7,8 @@ mod changes;
 #[cfg(test)]
 mod checks;
 #[cfg(test)]
+mod commands;
+#[cfg(test)]
 mod failing;
 #[cfg(test)]
 mod files;

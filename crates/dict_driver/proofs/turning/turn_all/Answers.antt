@@ -1,12 +1,12 @@
-use Rattle.std.proofs.Common.{◌≡◌, ◌<◌, ◌≤◌, true, false, rules, length, get_or, arith, sym, ap, ◌∙◌}
+use Rattle.std.proofs.Common.{◌≡◌, ◌<◌, ◌≤◌, ℕ, true, false, rules, length, get_or, arith, sym, ap, subst, ◌∙◌}
 use Rattle.dict_session.specs.Desks.{condition}
-use Rattle.dict_connection.specs.Handing.{is_held_back}
-use Rattle.dict_driver.specs.Turning.{any_held_back}
+use Rattle.dict_connection.specs.Foreseen.{HoldsBack, KeepsOrder}
+use Rattle.dict_driver.specs.Turning.{first_of, is_other}
 use Rattle.dict_driver.proofs.BoolLemmas.{so_still, so_then}
 use Rattle.dict_connection.proofs.LeadLemmas.{led_as, led_joined, led_still}
 use Rattle.dict_driver.proofs.ListLemmas.{default_free, idle_more, ids_more, ids_same, taken_whole}
 use Rattle.dict_driver.proofs.RoundLemmas.{keeps_more, keeps_whole, turn_none, turn_more, turn_whole}
-use Rattle.dict_driver.proofs.turning.turn_all.Goals.{then-turn, else-turn, then-is_held_back, else-is_held_back}
+use Rattle.dict_driver.proofs.turning.turn_all.Goals.{then-turn, else-turn}
 use Rattle.dict_driver.proofs.turning.turn_all.Goals as goal
 
 pub loop-one-init : goal.loop-one-init
@@ -17,8 +17,8 @@ loop-one-init g c =
       trust = λ trusted. trusted;
       closed = λ is. is;
       others = λ other held apart has. has;
-      led = led_still (turn_none (condition g.K.Lookup.has_failed g.K.Lookup.is_closed) g.K.Preparer.expects g.K.Preparer.prepares g.T.Transport.taken g.T.Transport.coming g.T.Transport.made g.O.Opening.refuses c.args.hub.now c.args.desk.now c.args.all.now.items c.is_any_held_back-is_preparing.result
-          (c.is_any_held_back-is_preparing.ensures ∙ ap (λ all. any_held_back all) c.as_slice.ensures.value));
+      led = led_still (turn_none (condition g.K.Lookup.has_failed g.K.Lookup.is_closed) g.K.Preparer.expects g.K.Preparer.prepares g.T.Transport.taken g.T.Transport.coming g.T.Transport.made g.O.Opening.refuses c.args.hub.now c.args.desk.now c.args.all.now.items c.first_of-first.result
+          (c.first_of-first.ensures ∙ ap (λ all. first_of all) c.as_slice.ensures.value));
     })
 
 pub loop-one-preserved : goal.loop-one-preserved
@@ -30,6 +30,7 @@ loop-one-preserved g c =
     let len : length now ≡ length c.args.all.now.items = ids.len in
     let in_now : i < length now = search rules in
     let within : i < length c.args.all.now.items = omega arith in
+    let same : c.is_other-is_behind.result ≡ is_other c.loop-one.first one.id = c.is_other-is_behind.ensures ∙ ap (λ (i : ℕ). is_other c.loop-one.first i) c.id.ensures in
     let was : (d : _) → (get_or c.args.all.now.items i d).id ≡ one.id = λ d. sym (ids.same i d within) ∙ ap (λ it. it.id) (default_free now i d c.one-item.result in_now) in
     record {
       ids = ids_more c.args.all.now.items now i c.turn.new.self c.one-item.result ids in_now c.turn.ensures.id;
@@ -41,17 +42,16 @@ loop-one-preserved g c =
       closed = λ is. c.turn.ensures.closed (c.loop-one.invariant.closed is);
       others = keeps_more c.args.all.now.items i one c.args.hub.now c.loop-one.hub c.turn.new.hub within was c.loop-one.invariant.others c.turn.ensures.others;
       led = led_joined c.loop-one.invariant.led c.turn.ensures.led c.turn.ensures.trust
-          (λ es fs all turns. turn_more (condition g.K.Lookup.has_failed g.K.Lookup.is_closed) g.K.Preparer.expects g.K.Preparer.prepares g.T.Transport.taken g.T.Transport.coming g.T.Transport.made g.O.Opening.refuses c.args.hub.now c.loop-one.hub c.args.desk.now c.loop-one.desk c.turn.new.desk c.args.all.now.items now i one c.turn.new.self c.loop-one.is_preparing _ c.loop-one.has_moved c.turn.result _ es fs c.requires within
+          (λ es fs all turns. turn_more (condition g.K.Lookup.has_failed g.K.Lookup.is_closed) g.K.Preparer.expects g.K.Preparer.prepares g.T.Transport.taken g.T.Transport.coming g.T.Transport.made g.O.Opening.refuses c.args.hub.now c.loop-one.hub c.args.desk.now c.loop-one.desk c.turn.new.desk c.args.all.now.items now i one c.turn.new.self c.loop-one.first _ c.loop-one.has_moved c.turn.result _ es fs c.requires within
           (default_free now i one c.one-item.result in_now)
-          (elim c.if-is_held_back.branch [
-            | then-is_held_back w ↦ so_then _ c.loop-one.is_preparing (is_held_back c.turn.new.self.held) w.is_preparing-is (sym c.is_held_back.ensures ∙ w.if-is_held_back.true)
-            | else-is_held_back w ↦ so_still _ c.loop-one.is_preparing (is_held_back c.turn.new.self.held) w.is_preparing-is (sym c.is_held_back.ensures ∙ w.if-is_held_back.false)
-          ])
+          c.first_since-first.ensures
           (elim c.if-turn.branch [
             | then-turn w ↦ so_then _ c.loop-one.has_moved c.turn.result w.has_moved-is w.if-turn.true
             | else-turn w ↦ so_still _ c.loop-one.has_moved c.turn.result w.has_moved-is w.if-turn.false
           ])
-          c.loop-one.invariant.others turns.0 turns.1 turns.2 c.turn.ensures.prepared c.turn.ensures.closed all);
+          c.loop-one.invariant.others turns.0 turns.1 turns.2
+          (subst (λ b. KeepsOrder b one.held.kind c.loop-one.hub fs) same turns.3) (subst (λ b. HoldsBack g.K.Preparer.expects g.K.Preparer.prepares b c.loop-one.hub c.loop-one.desk c.turn.new.desk one c.turn.new.self) same c.turn.ensures.prepared)
+          c.turn.ensures.closed all);
     }
 
 pub returns-clause-led : goal.returns-clause-led
@@ -61,7 +61,7 @@ returns-clause-led g c =
     let done : length c.args.all.now.items ≤ c.loop-one.one-index = omega (arith, all, c.loop-one-test.false) in
     rw taken_whole
     (led_as c.loop-one.invariant.led
-    (λ events up_to. turn_whole (condition g.K.Lookup.has_failed g.K.Lookup.is_closed) g.K.Preparer.expects g.K.Preparer.prepares g.T.Transport.taken g.T.Transport.coming g.T.Transport.made g.O.Opening.refuses c.args.hub.now c.args.desk.now _ c.args.all.now.items c.loop-one.one-items c.loop-one.one-index c.loop-one.is_preparing c.loop-one.has_moved events done up_to))
+    (λ events up_to. turn_whole (condition g.K.Lookup.has_failed g.K.Lookup.is_closed) g.K.Preparer.expects g.K.Preparer.prepares g.T.Transport.taken g.T.Transport.coming g.T.Transport.made g.O.Opening.refuses c.args.hub.now c.args.desk.now _ c.args.all.now.items c.loop-one.one-items c.loop-one.one-index c.loop-one.first c.loop-one.has_moved events done up_to))
 
 pub returns-clause-others : goal.returns-clause-others
 returns-clause-others g c =

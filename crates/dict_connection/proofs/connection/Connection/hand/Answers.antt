@@ -16,7 +16,7 @@ use Rattle.dict_connection.proofs.TurnLemmas.{answered_open, hands_refused, hand
 use Rattle.dict_connection.proofs.connection.Connection.hand.Goals as goal
 
 pub pass-requires : goal.pass-requires
-pass-requires g c = rw c.next_piece-piece.ensures (piece_within c.args.self.now.held.kind (held_in c.args.self.now.held))
+pass-requires g c = rw c.next_piece-piece.ensures.value (piece_within c.args.self.now.held.kind (held_in c.args.self.now.held))
 
 pub returns-in-Ok-clause-led : goal.returns-in-Ok-clause-led
 returns-in-Ok-clause-led g c =
@@ -24,7 +24,7 @@ returns-in-Ok-clause-led g c =
     let old = c.args.self.now in
     let octets = held_in old.held in
     let piece = c.next_piece-piece.result.now in
-    let first : piece ≡ next_piece old.held.kind octets = c.next_piece-piece.ensures in
+    let first : piece ≡ next_piece old.held.kind octets = c.next_piece-piece.ensures.value in
     let rest : held_in c.pass.new.self ≡ behind_piece old.held.kind octets = c.pass.ensures.octets ∙ ap (λ l. drop (length l) octets) first ∙ piece_dropped old.held.kind octets in
     let new = record old { stage = c.answered-self.result; held = c.pass.new.self; queue = c.deliver_through.new.queue; transport = c.deliver_through.new.transport } in
     let answer = subst (λ a. IsToldThrough g.T.Transport.taken g.T.Transport.coming g.T.Transport.made (came old.id piece) (answer_of a) old.queue c.deliver_through.new.queue old.transport c.deliver_through.new.transport events) c.in-Ok.is told.0 in (
@@ -60,7 +60,7 @@ pub returns-in-Ok-clause-whole : goal.returns-in-Ok-clause-whole
 returns-in-Ok-clause-whole g c = λ still.
     let old = c.args.self.now in
     let octets = held_in old.held in
-    c.pass.ensures.octets ∙ ap (λ l. drop (length l) octets) c.next_piece-piece.ensures ∙ piece_dropped old.held.kind octets
+    c.pass.ensures.octets ∙ ap (λ l. drop (length l) octets) c.next_piece-piece.ensures.value ∙ piece_dropped old.held.kind octets
 
 pub returns-in-Err-clause-whole : goal.returns-in-Err-clause-whole
 returns-in-Err-clause-whole g c = λ still. over_closed _ c.end.ensures.over still

@@ -1,4 +1,4 @@
-use Rattle.std.proofs.Common.{refl, ap, ◌∙◌, arith}
+use Rattle.std.proofs.Common.{refl, ap, ◌∙◌}
 use Rattle.dict_session.specs.Desks.{condition}
 use Rattle.dict_hub.specs.Events.{is_of_editor}
 use Rattle.dict_connection.specs.Causes.{IsRefused}
@@ -14,7 +14,7 @@ returns-then-prepare-clause-led g c =
     let kept = c.prepare.ensures in
     led_quiet kept.shows kept.leaves (λ state at. at) (
       hands_none g.T.Transport.taken g.T.Transport.coming g.T.Transport.made old c.prepare.new.self (held_in old.held) kept.same kept.kind kept.octets,
-      back_once (IsRefused g.O.Opening.refuses c.args.hub.now) old c.prepare.new.self kept.same kept.octets (kept.fewer c.if-prepare.true),
+      back_once (IsRefused g.O.Opening.refuses c.args.hub.now) old c.prepare.new.self kept.same kept.octets (kept.fewer c.if-prepare.true).0,
       caused_still _ old c.prepare.new.self (ap (λ it. it.queue.failures) kept.same),
       λ reader quiet. kept.reader reader,
     )
@@ -45,8 +45,8 @@ returns-clause-others g c = λ other held apart has. c.hand.ensures.others other
 
 pub returns-then-prepare-clause-back : goal.returns-then-prepare-clause-back
 returns-then-prepare-clause-back g c = λ still back.
-    let fewer = (c.prepare.ensures.fewer c.if-prepare.true).1 in
-    (omega (arith, fewer), c.prepare.ensures.octets, c.prepare.ensures.prepared c.if-prepare.true)
+    let fewer = c.prepare.ensures.fewer c.if-prepare.true in
+    (fewer.1, fewer.2, fewer.3, c.prepare.ensures.waited c.if-prepare.true, c.prepare.ensures.octets, c.prepare.ensures.prepared c.if-prepare.true)
 
 pub returns-clause-back : goal.returns-clause-back
 returns-clause-back g c = λ still back. back_never _ (rest_back c.hand.new.self.held _ _ c.hand.ensures.kind (c.hand.ensures.whole still)) back
