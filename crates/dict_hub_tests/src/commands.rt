@@ -32,7 +32,7 @@ static CASES: [(&[u8], usize, &str); 12] = [
     (b"DELETE /databases/gem\r\n\r\n", 4_096, "false "),
 ];
 
-// Whether each piece does, before it comes.
+// Whether each piece of so many octets does, before it comes.
 fn asked(
     alloc: Global,
     hub: &mut Hub,
@@ -41,7 +41,7 @@ fn asked(
     size: usize,
 ) -> Result<String, Fail> {
     let mut words = String::new(alloc);
-    for piece in octets.chunks(size) {
+    for piece in octets.chunks(size.min(4_096).max(1)) {
         let word = if hub.asks_change(1, piece) {
             "true "
         } else {
