@@ -2,14 +2,11 @@
 #![tactic(auto)]
 
 use dict_desk::PlainDesk;
-use dict_driver::System;
 use dict_messages::OverFiles;
-use dict_program::{Catalogues, command, refuse_words};
-use dict_proto::{OverRead, OverWrite, Sink, Source};
-use dict_store::Desk;
-use dictcat_lib::CatalogueFiles;
-use sqlite::FileStore;
-use sqlite_disk::Disk;
+use dict_program::refuse_words;
+use dict_proto::{OverRead, OverWrite};
+use dictcat_lib::{CatalogueFiles, SystemFiles, run_over};
+use sqlite::Unknown;
 use std::process::ExitCode;
 use std::rt::Env;
 use std::{env, io};
@@ -17,29 +14,6 @@ use std::{env, io};
 // The words that the program was given, its name first.
 fn words<R: Env + AllocGlobal>(rt: &R) -> io::Result<Vec<String>> {
     Ok(env::args(rt)?.collect(rt.alloc())?)
-}
-
-// Does what the words ask for, over catalogues in files on any disk. Over one that is named the bounds of `command` are too much for the
-// prover to compare.
-fn run_over<D: Disk + Drop, C: Catalogues<Desk<FileStore<D>>>, S: Source, W: Sink, F: Sink>(
-    rt: &HostRuntime,
-    words: &[String],
-    desks: &mut C,
-    reader: &mut S,
-    writer: &mut W,
-    faults: &mut F,
-) -> u8 {
-    command(
-        rt,
-        &System,
-        words,
-        desks,
-        &mut PlainDesk::new(rt.alloc()),
-        &OverFiles::new(rt),
-        reader,
-        writer,
-        faults,
-    )
 }
 
 fn main(rt: HostRuntime) -> ExitCode {
@@ -50,7 +24,9 @@ fn main(rt: HostRuntime) -> ExitCode {
         Ok(words) => run_over(
             &rt,
             words.as_slice(),
-            &mut CatalogueFiles::new(&rt),
+            &mut CatalogueFiles::new(&rt, SystemFiles { start: Unknown }),
+            &mut PlainDesk::new(rt.alloc()),
+            &OverFiles::new(&rt),
             &mut reader,
             &mut writer,
             &mut faults,

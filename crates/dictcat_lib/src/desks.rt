@@ -1,7 +1,6 @@
 // The desk of a file's catalogue.
 ghost use Rattle.std.specs.Prelude.{◌≡◌, false, List, Option, Some, None, IfOk, IfErr, MatchResult};
 ghost use Rattle.sqlite.specs.Files.{over_files};
-ghost use Rattle.sqlite.specs.WalFiles.{image_at};
 ghost use Rattle.dict_catalogue.specs.Steps.{Catalogue};
 ghost use Rattle.dict_store.specs.Desk.{Shows, LeavesOneOf, is_closed};
 ghost use Rattle.dict_store.specs.Reopened.{IsReopened};
@@ -12,22 +11,23 @@ ghost use Rattle.dictcat_lib.specs.Files.{StillLeaves};
 
 use crate::cached::options;
 use crate::left::{Left, connection_of, hold};
+use crate::opener::FileOpener;
 use crate::stores::{close_file, make_file, open_file, told_unopened};
 use dict_messages::ProgramFault;
 use dict_store::Desk;
-use sqlite::{FileFrom, FileStore, Start};
+use sqlite::FileStore;
 use sqlite_disk::Disk;
 
 // The desk of an empty catalogue that is made in the file with this path. Where none is made, `held` is what is left of the file.
-pub(crate) fn make_desk<'w, S: Start>(
+pub(crate) fn make_desk<'w, D: Disk + Drop, O: FileOpener<D>>(
     rt: &HostRuntime,
     file: &'w str,
-    start: &mut Option<S>,
-    held: &mut Option<Left<FileFrom<S>>>,
-) -> Result<Desk<FileStore<FileFrom<S>>>, ProgramFault<'w>>
+    start: &mut Option<O>,
+    held: &mut Option<Left<D>>,
+) -> Result<Desk<FileStore<D>>, ProgramFault<'w>>
     ensures { MatchResult result
-        (IsMade (Shows over_files) (LeavesOneOf over_files) (IsMadeDesk (image_at S.Start)))
-        (IsUnmade (image_at S.Start) file.entry.now start.old start.new held.old held.new) }
+        (IsMade (Shows over_files) (LeavesOneOf over_files) (IsMadeDesk O.image))
+        (IsUnmade O.image file.entry.now start.old start.new held.old held.new) }
 {
     let conn = make_file(rt, file, start, held)?;
     match Desk::create(rt.alloc(), conn) {
@@ -40,15 +40,15 @@ pub(crate) fn make_desk<'w, S: Start>(
 }
 
 // The desk of the catalogue in the file with this path. Where there is none, `held` is what is left of the file.
-pub(crate) fn open_desk<'w, S: Start>(
+pub(crate) fn open_desk<'w, D: Disk + Drop, O: FileOpener<D>>(
     rt: &HostRuntime,
     file: &'w str,
-    start: &mut Option<S>,
-    held: &mut Option<Left<FileFrom<S>>>,
-) -> Result<Desk<FileStore<FileFrom<S>>>, ProgramFault<'w>>
+    start: &mut Option<O>,
+    held: &mut Option<Left<D>>,
+) -> Result<Desk<FileStore<D>>, ProgramFault<'w>>
     ensures opened { MatchResult result
-        (IsNew (Shows over_files) (LeavesOneOf over_files) IsTrusted (IsDesk (image_at S.Start) None))
-        (IsNone (IsNoDesk (image_at S.Start) file.entry.now start.old start.new held.old held.new)) }
+        (IsNew (Shows over_files) (LeavesOneOf over_files) IsTrusted (IsDesk O.image None))
+        (IsNone (IsNoDesk O.image file.entry.now start.old start.new held.old held.new)) }
     ensures answers { IfOk result (λ desk. is_closed desk.last ≡ false) }
 {
     let conn = open_file(rt, file, start, held)?;

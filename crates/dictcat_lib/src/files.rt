@@ -1,49 +1,64 @@
-// The catalogues in files of the machine.
+// The catalogues in files.
+ghost use Rattle.std.specs.Prelude.{◌≡◌, Some, None};
+
 use crate::desks::{make_desk, open_desk, reopen_desk};
 use crate::left::Left;
+use crate::opener::FileOpener;
 use crate::session::{run_session, told_over};
 use dict_messages::ProgramFault;
 use dict_program::Catalogues;
 use dict_proto::{Sink, Source};
 use dict_serving::DeskOpener;
 use dict_store::Desk;
-use sqlite::{File, FileStore, Start, Unknown};
+use sqlite::FileStore;
+use sqlite_disk::Disk;
 
-/// The catalogue in a file of the machine, by its path. One file is opened, once. What it and its log hold then is whatever `Unknown`
-/// stands for: no clause ties that to the path. Nothing is known of what was done to a file.
+/// The catalogue in a file, by its path. One file is opened, once. What it and its log hold then is whatever the opener says: no clause
+/// ties that to the path. Nothing is known of what was done to a file.
 ///
 /// What is left of the file where it is closed, or isn't opened, is held until another is, or this is dropped.
-#[derive(Drop)]
-pub struct CatalogueFiles<'r> {
+pub struct CatalogueFiles<'r, D: Disk + Drop, O: FileOpener<D>> {
     rt: &'r HostRuntime,
-    // What the file holds, until it is opened.
-    start: Option<Unknown>,
+    // What opens the file, until it is opened.
+    start: Option<O>,
     // What is left of the file that was closed last, or that wasn't opened.
-    left: Option<Left<File>>,
+    left: Option<Left<D>>,
 }
 
-impl<'r> CatalogueFiles<'r> {
-    /// Of files whose octets aren't known.
-    pub fn new(rt: &'r HostRuntime) -> Self {
+// It is written out, so that what owns one doesn't prove again how each part is dropped.
+impl<D: Disk + Drop, O: FileOpener<D>> Drop for CatalogueFiles<'_, D, O> {
+    fn drop(self) {
+        let CatalogueFiles {
+            rt: _,
+            start: _,
+            left: _,
+        } = self;
+    }
+}
+
+impl<'r, D: Disk + Drop, O: FileOpener<D>> CatalogueFiles<'r, D, O> {
+    /// Of a file that this opens.
+    pub fn new(rt: &'r HostRuntime, opener: O) -> Self
+        ensures start { result.start ≡ Some opener }
+        ensures left { result.left ≡ None }
+    {
         CatalogueFiles {
             rt,
-            start: Some(Unknown),
+            start: Some(opener),
             left: None,
         }
     }
 }
 
-impl DeskOpener<Desk<FileStore<File>>> for CatalogueFiles<'_> {
-    ghost use Rattle.std.specs.Prelude.{None};
-    ghost use Rattle.sqlite.specs.WalFiles.{image_at};
+impl<D: Disk + Drop, O: FileOpener<D>> DeskOpener<Desk<FileStore<D>>> for CatalogueFiles<'_, D, O> {
     ghost use Rattle.dictcat_lib.specs.DeskOpener.{IsDesk, IsNoDesk, IsNoDeskAgain};
     ghost use Rattle.dictcat_lib.specs.Files.{IsAloneIn, IsSafe, IsToldUncopied, StillLeaves};
 
     ghost history = { λ _. None };
 
-    ghost is_opened = { λ former desk. IsDesk (image_at ⟦<Unknown as Start>⟧) former desk };
+    ghost is_opened = { λ former desk. IsDesk O.image former desk };
 
-    ghost is_unopened = { λ path old new fault. IsNoDesk (image_at ⟦<Unknown as Start>⟧) path old.start new.start old.left new.left fault };
+    ghost is_unopened = { λ path old new fault. IsNoDesk O.image path old.start new.start old.left new.left fault };
 
     ghost is_unreopened = { λ path desk one fault. IsNoDeskAgain path desk one.left fault };
 
@@ -55,19 +70,19 @@ impl DeskOpener<Desk<FileStore<File>>> for CatalogueFiles<'_> {
 
     ghost is_uncopied = { λ desk one fault. IsToldUncopied desk one.left fault };
 
-    fn open<'w>(&mut self, path: &'w str) -> Result<Desk<FileStore<File>>, ProgramFault<'w>> {
+    fn open<'w>(&mut self, path: &'w str) -> Result<Desk<FileStore<D>>, ProgramFault<'w>> {
         open_desk(self.rt, path, &mut self.start, &mut self.left)
     }
 
     fn reopen<'w>(
         &mut self,
         path: &'w str,
-        desk: Desk<FileStore<File>>,
-    ) -> Result<Desk<FileStore<File>>, ProgramFault<'w>> {
+        desk: Desk<FileStore<D>>,
+    ) -> Result<Desk<FileStore<D>>, ProgramFault<'w>> {
         reopen_desk(self.rt, path, desk, &mut self.left)
     }
 
-    fn close(&mut self, desk: Desk<FileStore<File>>) -> Result<(), ProgramFault<'static>> {
+    fn close(&mut self, desk: Desk<FileStore<D>>) -> Result<(), ProgramFault<'static>> {
         match desk.close() {
             Ok(files) => {
                 self.left = Some(Left::Closed(files));
@@ -81,27 +96,26 @@ impl DeskOpener<Desk<FileStore<File>>> for CatalogueFiles<'_> {
     }
 }
 
-impl Catalogues<Desk<FileStore<File>>> for CatalogueFiles<'_> {
+impl<D: Disk + Drop, O: FileOpener<D>> Catalogues<Desk<FileStore<D>>> for CatalogueFiles<'_, D, O> {
     ghost use Rattle.sqlite.specs.Files.{over_files};
-    ghost use Rattle.sqlite.specs.WalFiles.{image_at};
     ghost use Rattle.dictcat_lib.specs.DeskOpener.{HasSpokenOver, IsMadeDesk, IsUnmade};
     ghost use Rattle.dictcat_lib.specs.Opening.{IsSound, IsUnsound};
 
-    ghost is_made = { λ desk. IsMadeDesk (image_at ⟦<Unknown as Start>⟧) desk };
+    ghost is_made = { λ desk. IsMadeDesk O.image desk };
 
-    ghost is_unmade = { λ path old new fault. IsUnmade (image_at ⟦<Unknown as Start>⟧) path old.start new.start old.left new.left fault };
+    ghost is_unmade = { λ path old new fault. IsUnmade O.image path old.start new.start old.left new.left fault };
 
     ghost is_sound = { λ old new. IsSound over_files new };
 
     ghost is_unsound = { λ old new fault. IsUnsound over_files old new fault };
 
-    ghost has_spoken = { λ path left old new result reader writer. HasSpokenOver (image_at ⟦<Unknown as Start>⟧) path left old.start new.start old.left new.left result reader writer };
+    ghost has_spoken = { λ path left old new result reader writer. HasSpokenOver O.image path left old.start new.start old.left new.left result reader writer };
 
-    fn make<'w>(&mut self, path: &'w str) -> Result<Desk<FileStore<File>>, ProgramFault<'w>> {
+    fn make<'w>(&mut self, path: &'w str) -> Result<Desk<FileStore<D>>, ProgramFault<'w>> {
         make_desk(self.rt, path, &mut self.start, &mut self.left)
     }
 
-    fn audit(&mut self, desk: &mut Desk<FileStore<File>>) -> Result<(), ProgramFault<'static>> {
+    fn audit(&mut self, desk: &mut Desk<FileStore<D>>) -> Result<(), ProgramFault<'static>> {
         match desk.audit() {
             Ok(()) => Ok(()),
             Err(fault) => Err(ProgramFault::from(fault)),

@@ -2,7 +2,6 @@
 ghost use Rattle.std.specs.Prelude.{◌≡◌, Err, IfOk, MatchResult};
 ghost use Rattle.sqlite.specs.Files.{over_files};
 ghost use Rattle.sqlite.specs.Held.{Held};
-ghost use Rattle.sqlite.specs.WalFiles.{image_at};
 ghost use Rattle.dict_proto.specs.Streams.{change};
 ghost use Rattle.dict_messages.specs.Writing.{IsUntouched};
 ghost use Rattle.dictcat_lib.specs.DeskOpener.{IsNoDesk};
@@ -10,33 +9,32 @@ ghost use Rattle.dictcat_lib.specs.Files.{IsOpenedFrom};
 ghost use Rattle.dictcat_lib.specs.Opening.{HasSpoken, over_told};
 
 use crate::left::{Left, hold};
+use crate::opener::FileOpener;
 use crate::stores::{close_file, open_file};
 use dict_messages::ProgramFault;
 use dict_proto::{Sink, Source};
 use dict_serving::HOST;
 use dict_session::{SessionEnd, SessionFault};
 use dict_store::{Desk, session_over};
-use sqlite::{FileFrom, FileStore, Start};
+use sqlite::FileStore;
+use sqlite_disk::Disk;
 
 // A session's desk, and how it ended.
-type Spoken<S> = (
-    Desk<FileStore<FileFrom<S>>>,
-    Result<SessionEnd, SessionFault>,
-);
+type Spoken<D> = (Desk<FileStore<D>>, Result<SessionEnd, SessionFault>);
 
 // Runs a session over the catalogue in the file with this path, with host `localhost` and as connection 1. Where there is none, `held`
 // is what is left of the file.
-pub(crate) fn run_session<'w, S: Start, R: Source, W: Sink>(
+pub(crate) fn run_session<'w, D: Disk + Drop, O: FileOpener<D>, R: Source, W: Sink>(
     rt: &HostRuntime,
     file: &'w str,
-    start: &mut Option<S>,
-    held: &mut Option<Left<FileFrom<S>>>,
+    start: &mut Option<O>,
+    held: &mut Option<Left<D>>,
     reader: &mut R,
     writer: &mut W,
-) -> Result<Spoken<S>, ProgramFault<'w>>
+) -> Result<Spoken<D>, ProgramFault<'w>>
     ensures spoken { MatchResult result
-        (λ ran. (conn : Held _) × IsOpenedFrom (image_at S.Start) conn × HasSpoken over_files conn ran.0 ran.1 (change R.stream reader.old reader.new) (change W.stream writer.old writer.new))
-        (λ fault. IsNoDesk (image_at S.Start) file.entry.now start.old start.new held.old held.new fault × IsUntouched (change R.stream reader.old reader.new) × IsUntouched (change W.stream writer.old writer.new)) }
+        (λ ran. (conn : Held _) × IsOpenedFrom O.image conn × HasSpoken over_files conn ran.0 ran.1 (change R.stream reader.old reader.new) (change W.stream writer.old writer.new))
+        (λ fault. IsNoDesk O.image file.entry.now start.old start.new held.old held.new fault × IsUntouched (change R.stream reader.old reader.new) × IsUntouched (change W.stream writer.old writer.new)) }
     ensures memory { IfOk result (λ ran. ran.1 ≡ Err SessionFault.Memory → IsUntouched (change R.stream reader.old reader.new) × IsUntouched (change W.stream writer.old writer.new)) }
 {
     let conn = open_file(rt, file, start, held)?;

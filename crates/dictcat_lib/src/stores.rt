@@ -1,29 +1,28 @@
 // The databases of files.
 ghost use Rattle.std.specs.Prelude.{◌≡◌, false, IfOk, IfErr};
-ghost use Rattle.sqlite.specs.WalFiles.{image_at};
 ghost use Rattle.dictcat_lib.specs.DeskOpener.{IsNotOpened, TellsUnopened};
 ghost use Rattle.dictcat_lib.specs.Files.{IsOpenedFrom, IsPutAway};
 
-use crate::cached::open_cached;
 use crate::left::{Left, hold};
+use crate::opener::FileOpener;
 use dict_desk::Fault as DeskFault;
 use dict_messages::ProgramFault;
-use dict_store::{Unopened, fault_of_files};
-use sqlite::{Connection, FileFrom, FileStore, Start};
+use dict_store::Unopened;
+use sqlite::{Connection, FileStore};
 use sqlite_disk::Disk;
 use std::fs;
 use std::io::ErrorKind;
 
 // Opens the file with this path, once. It has to be there. Where it isn't opened, `held` is what `sqlite` left of it, if that was asked.
-pub(crate) fn open_file<'w, S: Start>(
+pub(crate) fn open_file<'w, D: Disk + Drop, O: FileOpener<D>>(
     rt: &HostRuntime,
     path: &'w str,
-    start: &mut Option<S>,
-    held: &mut Option<Left<FileFrom<S>>>,
-) -> Result<Connection<FileStore<FileFrom<S>>>, ProgramFault<'w>>
-    ensures opened { IfOk result (IsOpenedFrom (image_at S.Start)) }
+    start: &mut Option<O>,
+    held: &mut Option<Left<D>>,
+) -> Result<Connection<FileStore<D>>, ProgramFault<'w>>
+    ensures opened { IfOk result (IsOpenedFrom O.image) }
     ensures autocommit { IfOk result (λ conn. conn.in_transaction ≡ false) }
-    ensures unopened { IfErr result (IsNotOpened (image_at S.Start) path.entry.now start.old start.new held.old held.new) }
+    ensures unopened { IfErr result (IsNotOpened O.image path.entry.now start.old start.new held.old held.new) }
 {
     match fs::exists(rt, path) {
         Ok(true) => make_file(rt, path, start, held),
@@ -35,24 +34,24 @@ pub(crate) fn open_file<'w, S: Start>(
 
 // Opens the file with this path, or makes it where none is there: then each of its pages ends in a sum. It is done once: `start` is
 // taken for it.
-pub(crate) fn make_file<'w, S: Start>(
+pub(crate) fn make_file<'w, D: Disk + Drop, O: FileOpener<D>>(
     rt: &HostRuntime,
     path: &'w str,
-    start: &mut Option<S>,
-    held: &mut Option<Left<FileFrom<S>>>,
-) -> Result<Connection<FileStore<FileFrom<S>>>, ProgramFault<'w>>
-    ensures opened { IfOk result (IsOpenedFrom (image_at S.Start)) }
+    start: &mut Option<O>,
+    held: &mut Option<Left<D>>,
+) -> Result<Connection<FileStore<D>>, ProgramFault<'w>>
+    ensures opened { IfOk result (IsOpenedFrom O.image) }
     ensures autocommit { IfOk result (λ conn. conn.in_transaction ≡ false) }
-    ensures unopened { IfErr result (IsNotOpened (image_at S.Start) path.entry.now start.old start.new held.old held.new) }
+    ensures unopened { IfErr result (IsNotOpened O.image path.entry.now start.old start.new held.old held.new) }
 {
     let Some(first) = start.take() else {
         return Err(ProgramFault::CannotRead(path));
     };
-    match open_cached(rt, path, first) {
+    match first.open(rt, path) {
         Ok(conn) => Ok(conn),
-        Err((error, rest)) => {
+        Err((fault, rest)) => {
             let left = Unopened::Files(rest);
-            let told = told_unopened(path, &left, fault_of_files(&error));
+            let told = told_unopened(path, &left, fault);
             hold(held, Left::Unopened(left));
             Err(told)
         }

@@ -2,15 +2,11 @@
 ghost use Rattle.std.specs.Prelude.{None, ⊤};
 
 use dict_desk::PlainDesk;
-use dict_driver::System;
 use dict_fixtures::{GEM_INDEX, GEM_TEXT, ORE_INDEX, ORE_TEXT};
 use dict_messages::{InputFiles, ReadFault};
-use dict_program::{Catalogues, command};
-use dict_proto::{LimitedSink, OverRead, Sink};
-use dict_store::Desk;
-use dictcat_lib::CatalogueFiles;
-use sqlite::FileStore;
-use sqlite_disk::Disk;
+use dict_proto::{LimitedSink, OverRead};
+use dictcat_lib::{CatalogueFiles, SystemFiles, run_over};
+use sqlite::Unknown;
 use std::alloc::Global;
 use std::fs;
 use std::test::Fail;
@@ -61,30 +57,6 @@ pub(crate) type Row = (
 /// More octets than any command prints here.
 pub(crate) const ROOM: usize = 4000;
 
-// The status of these words, over catalogues in files on any disk: over one that is named the bounds of `command` are too much for the
-// prover to compare.
-fn status_over<D: Disk + Drop, C: Catalogues<Desk<FileStore<D>>>, I: InputFiles, W: Sink, F: Sink>(
-    rt: &HostRuntime,
-    words: &[&str],
-    desks: &mut C,
-    files: &I,
-    input: &str,
-    writer: &mut W,
-    faults: &mut F,
-) -> u8 {
-    command(
-        rt,
-        &System,
-        words,
-        desks,
-        &mut PlainDesk::new(rt.alloc()),
-        files,
-        &mut OverRead::new(input.as_bytes()),
-        writer,
-        faults,
-    )
-}
-
 /// What comes of these words with this input over any files, where standard output takes so many octets.
 pub(crate) fn outcome<I: InputFiles>(
     rt: &HostRuntime,
@@ -95,12 +67,13 @@ pub(crate) fn outcome<I: InputFiles>(
 ) -> Result<Outcome, Fail> {
     let mut writer = LimitedSink::new(rt.alloc(), room)?;
     let mut faults = LimitedSink::new(rt.alloc(), 1000)?;
-    let status = status_over(
+    let status = run_over(
         rt,
         words,
-        &mut CatalogueFiles::new(rt),
+        &mut CatalogueFiles::new(rt, SystemFiles { start: Unknown }),
+        &mut PlainDesk::new(rt.alloc()),
         files,
-        input,
+        &mut OverRead::new(input.as_bytes()),
         &mut writer,
         &mut faults,
     );

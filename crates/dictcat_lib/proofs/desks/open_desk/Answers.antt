@@ -1,8 +1,7 @@
-use Rattle.std.proofs.Common.{inl, inr, refl, ap, subst, sym, arith}
+use Rattle.std.proofs.Common.{inl, inr, ap, subst, sym, arith}
 use Rattle.std.proofs.lemmas.Result.{err_from_is_err_and}
 use Rattle.sqlite.specs.State.{HasCleanDisk}
 use Rattle.sqlite.specs.Files.{file_state, over_files}
-use Rattle.sqlite.specs.WalFiles.{image_at}
 use Rattle.dict_holdings.specs.Holds.{IsLeft}
 use Rattle.dict_serving.specs.Serving.{IsOfFile}
 use Rattle.dict_store.specs.Adopted.{IsNotAdopted}
@@ -15,7 +14,7 @@ pub returns-in_err-conn-clause-opened : goal.returns-in_err-conn-clause-opened
 returns-in_err-conn-clause-opened g c =
     let error = err_from_is_err_and c.from_residual.result c.from_residual.ensures.1 in
     let none = c.in_err-conn.ensures.unopened in
-    rw (error.1, error.2) (inl none, not_opened_of_file (image_at g.S.Start) _ _ _ _ _ _ none)
+    rw (error.1, error.2) (inl none, not_opened_of_file g.O.FileOpener.image _ _ _ _ _ _ none)
 
 pub returns-in-Ok-clause-opened : goal.returns-in-Ok-clause-opened
 returns-in-Ok-clause-opened g c = record {
@@ -37,7 +36,7 @@ returns-in-Err-clause-opened g c =
       inr (
         c.in-Err.conn,
         c.in-Err.fault,
-        rejected_from (λ _. inl refl) (image_at g.S.Start) c.in_ok-conn.conn c.in-Err.conn c.in-Err.fault c.in_ok-conn.ensures.opened adopted c.in-Err.ensures.failed c.in-Err.ensures.handed c.in-Err.ensures.not_left,
+        rejected_from g.met.O.FileOpener.stays g.O.FileOpener.image c.in_ok-conn.conn c.in-Err.conn c.in-Err.fault c.in_ok-conn.ensures.opened adopted c.in-Err.ensures.failed c.in-Err.ensures.handed c.in-Err.ensures.not_left,
         c.from.ensures,
         rw c.hold.ensures c.close_file.ensures,
       ),

@@ -1,6 +1,5 @@
 use Rattle.std.proofs.Common.{refl, inl, inr}
 use Rattle.std.proofs.lemmas.Result.{err_from_is_err_and}
-use Rattle.sqlite.specs.WalFiles.{image_at}
 use Rattle.dictcat_lib.proofs.FileLemmas.{rejected_from}
 use Rattle.dictcat_lib.proofs.session.run_session.Goals as goal
 
@@ -17,7 +16,7 @@ returns-in-Err-clause-spoken g c = (
   inr (
     c.in-Err.conn,
     c.in-Err.fault,
-    rejected_from (λ _. inl refl) (image_at g.S.Start) c.in_ok-conn.conn c.in-Err.conn c.in-Err.fault c.in_ok-conn.ensures.opened c.in-Err.ensures.unopened c.in-Err.ensures.failed c.in-Err.ensures.autocommit c.in-Err.ensures.not_left,
+    rejected_from g.met.O.FileOpener.stays g.O.FileOpener.image c.in_ok-conn.conn c.in-Err.conn c.in-Err.fault c.in_ok-conn.ensures.opened c.in-Err.ensures.unopened c.in-Err.ensures.failed c.in-Err.ensures.autocommit c.in-Err.ensures.not_left,
     c.from.ensures,
     rw c.hold.ensures c.close_file.ensures,
   ),

@@ -1,28 +1,5 @@
-use Rattle.std.proofs.Common.{refl, inl, inr}
-use Rattle.std.proofs.lemmas.Option.{IfSome_then}
-use Rattle.sqlite.specs.WalFiles.{image_at}
-use Rattle.dict_store.proofs.FreshLemmas.{seen_is, left_is, honest_is, octets_by, unopened_from}
+use Rattle.std.proofs.Common.{inr}
 use Rattle.dictcat_lib.proofs.stores.make_file.Goals as goal
 
 pub returns-in-Err-clause-unopened : goal.returns-in-Err-clause-unopened
-returns-in-Err-clause-unopened g c =
-    let start = g.S.Start in
-    inr (
-      c.in-Err.rest,
-      c.fault_of_files.result,
-      c.hold.ensures,
-      unopened_from (image_at start) (λ _. inl refl) c.in-Err.error _ c.fault_of_files.ensures.value c.fault_of_files.ensures.kind c.in-Err.ensures.named c.in-Err.rest c.in-Err.ensures.unopened
-          (IfSome_then c.in-Err.rest c.in-Err.ensures.cause (λ now it.
-          let log = it.1 in
-          let db = it.2 in (
-            it.0,
-            octets_by it.0 (image_at start) (seen_is start.log start.db _ _ _ _ log.0 log.1) (seen_is start.log start.db _ _ _ _ db.0 db.1)
-                (left_is start.log start.db _ _ _ _ log.0 log.1 _) (left_is start.log start.db _ _ _ _ db.0 db.1 _)
-                (honest_is start.log start.db _ _ _ _ log.0 log.1) (honest_is start.log start.db _ _ _ _ db.0 db.1),
-            it.3,
-          ))),
-      c.told_unopened-told.ensures,
-    )
-
-pub returns-in-Ok-clause-opened : goal.returns-in-Ok-clause-opened
-returns-in-Ok-clause-opened g c = record { live = λ clean. (c.in-Ok.ensures.opened clean, c.in-Ok.ensures.found clean); sums = λ clean. c.in-Ok.ensures.sums clean; new = c.in-Ok.ensures.fresh }
+returns-in-Err-clause-unopened g c = inr (c.in-Err.rest, c.in-Err.fault, c.hold.ensures, c.in-Err.ensures.unopened, c.told_unopened-told.ensures)

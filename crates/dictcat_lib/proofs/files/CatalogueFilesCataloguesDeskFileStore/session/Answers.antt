@@ -2,7 +2,7 @@ use Rattle.std.proofs.Common.{Err, refl}
 use Rattle.std.specs.Prelude.{Some}
 use Rattle.dict_proto.specs.Streams.{change}
 use Rattle.dictcat_lib.proofs.FileLemmas.{spared_all, spoken_spared}
-use Rattle.dictcat_lib.proofs.files.CatalogueFilesCataloguesDeskFileStoreFile.session.Goals as goal
+use Rattle.dictcat_lib.proofs.files.CatalogueFilesCataloguesDeskFileStore.session.Goals as goal
 
 pub returns-in-Ok-clause-spoken : goal.returns-in-Ok-clause-spoken
 returns-in-Ok-clause-spoken g c = (

@@ -1,0 +1,76 @@
+// The program over desks of files.
+ghost use Rattle.std.specs.Prelude.{map};
+ghost use Rattle.dict_proto.specs.Streams.{change};
+ghost use Rattle.dict_program.specs.Order.{TellsInOrder};
+ghost use Rattle.dict_program.specs.Program.{CommandEnds};
+
+use crate::files::CatalogueFiles;
+use crate::opener::FileOpener;
+use dict_desk::{Lookup, PlainDesk, Preparer};
+use dict_driver::{Network, System, SystemSockets};
+use dict_messages::InputFiles;
+use dict_program::{Catalogues, command};
+use dict_proto::{Sink, Source};
+use dict_serving::DeskOpener;
+use dict_store::Desk;
+use mio::net::TcpListener;
+use sqlite::FileStore;
+use sqlite_disk::Disk;
+use std::convert::AsStr;
+
+// The same over any catalogues in files. Over those of a type the prover compares the bounds of `command` for minutes.
+fn run_any<
+    A: AsStr,
+    D: Disk + Drop,
+    C: Catalogues<Desk<FileStore<D>>>,
+    I: InputFiles,
+    S: Source,
+    W: Sink,
+    F: Sink,
+>(
+    rt: &HostRuntime,
+    words: &[A],
+    desks: &mut C,
+    plain: &mut PlainDesk,
+    files: &I,
+    reader: &mut S,
+    writer: &mut W,
+    faults: &mut F,
+) -> u8
+    ensures ends { CommandEnds ⟦<Desk<FileStore<D>> as Lookup>⟧ C.DeskOpener C.Catalogues.own ⟦<System as Network<TcpListener, SystemSockets>>⟧
+        ⟦<Desk<FileStore<D>> as Preparer>⟧.expects ⟦<Desk<FileStore<D>> as Preparer>⟧.prepares (I.octets files.now) plain.new desks.old desks.new (map A.text words.now) result
+        (change S.stream reader.old reader.new) (change W.stream writer.old writer.new) (change F.stream faults.old faults.new) }
+    ensures order { TellsInOrder C.DeskOpener desks.old desks.new (I.reads files.now) (I.refuses files.now) (map A.text words.now) result (change F.stream faults.old faults.new) }
+{
+    command(
+        rt, &System, words, desks, plain, files, reader, writer, faults,
+    )
+}
+
+/// `command` of `dict_program` over the catalogue in a file, by the system's sockets.
+pub fn run_over<
+    'r,
+    A: AsStr,
+    D: Disk + Drop,
+    O: FileOpener<D>,
+    I: InputFiles,
+    S: Source,
+    W: Sink,
+    F: Sink,
+>(
+    rt: &HostRuntime,
+    words: &[A],
+    desks: &mut CatalogueFiles<'r, D, O>,
+    plain: &mut PlainDesk,
+    files: &I,
+    reader: &mut S,
+    writer: &mut W,
+    faults: &mut F,
+) -> u8
+    ensures ends { CommandEnds ⟦<Desk<FileStore<D>> as Lookup>⟧ ⟦<CatalogueFiles<'r, D, O> as DeskOpener<Desk<FileStore<D>>>>⟧ (let q = ⟦<CatalogueFiles<'r, D, O> as Catalogues<Desk<FileStore<D>>>>⟧ in record { is_made = q.is_made; is_unmade = q.is_unmade; is_sound = q.is_sound; is_unsound = q.is_unsound; has_spoken = q.has_spoken }) ⟦<System as Network<TcpListener, SystemSockets>>⟧
+        ⟦<Desk<FileStore<D>> as Preparer>⟧.expects ⟦<Desk<FileStore<D>> as Preparer>⟧.prepares (I.octets files.now) plain.new desks.old desks.new (map A.text words.now) result
+        (change S.stream reader.old reader.new) (change W.stream writer.old writer.new) (change F.stream faults.old faults.new) }
+    ensures order { TellsInOrder ⟦<CatalogueFiles<'r, D, O> as DeskOpener<Desk<FileStore<D>>>>⟧ desks.old desks.new (I.reads files.now) (I.refuses files.now) (map A.text words.now) result (change F.stream faults.old faults.new) }
+{
+    run_any(rt, words, desks, plain, files, reader, writer, faults)
+}
