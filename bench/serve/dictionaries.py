@@ -21,7 +21,7 @@ sys.path.append(str(pathlib.Path(__file__).resolve().parent.parent))
 from dictd import spelled
 from lists import KINDS, write
 from serve import idle_all
-from servers import install, opened, serve, started
+from servers import install, opened, request, serve, started
 
 HERE = pathlib.Path(__file__).resolve().parent
 TOP = HERE.parent.parent
@@ -287,49 +287,71 @@ def memory(client, servers, lists):
         tell(f"and `{name}` was asked")
 
 
-def replaced_while_asked(server, client, path, name, pair):
-    """One install by HTTP while 32 readers ask: what the readers saw, and how long the editor waited."""
-    took, answer = {}, []
+def changed_while_asked(server, client, path, change):
+    """One change by HTTP while 32 readers ask, and a monitor asks for the list: what the readers saw, how long the editor waited, and the
+    monitor at most."""
+    took, answer, lists, done = {}, [], [], threading.Event()
 
-    def put():
+    def edit():
         start, before = time.monotonic(), server.times()
-        answer.append(install(server.http_address, name.encode(), b"r%d" % time.time_ns(), *(it.read_bytes() for it in pair)))
+        answer.append(change(server.http_address, b"r%d" % time.time_ns()))
         took.update(clock=time.monotonic() - start, processor=server.spent_since(before))
+        done.set()
 
-    readers, editor = Client(client, server, 32, 1, path, 1e6, 0), threading.Thread(target=put)
+    def watch():
+        while not done.is_set():
+            start = time.monotonic()
+            assert request(server.http_address, b"GET", b"/databases", b"g")[0] == 200
+            lists.append(time.monotonic() - start)
+            time.sleep(0.02)
+
+    readers, threads = Client(client, server, 32, 1, path, 1e6, 0), [threading.Thread(target=it) for it in (edit, watch)]
     readers.begin()
     time.sleep(1)
-    editor.start()
-    editor.join()
+    for it in threads:
+        it.start()
+    for it in threads:
+        it.join()
     time.sleep(1)
     readers.process.send_signal(signal.SIGINT)
     it = readers.end()
     assert answer[0][0] == 200, answer
+    took["list"] = max(lists)
     return it, took
 
 
 def installs_while_asked(program, client, work, chosen, lists):
-    """How long 32 readers wait while editions are installed by HTTP, and the third of a name, by which the first goes."""
+    """How long 32 readers wait while editions are installed by HTTP, the third of a name, by which the first goes, and while the last is
+    taken back, and both are retired."""
     small, largest = [work / "in" / f"small.{end}" for end in ("index", "dict")], [work / "in" / f"largest.{end}" for end in ("index", "dict")]
     if not small[1].exists():
         subprocess.run([sys.executable, TOP / "bench/make_words.py", "65536", "5242880", *small], check=True)
     if not largest[1].exists():
         subprocess.run([sys.executable, TOP / "bench/make_words.py", *map(str, LARGEST), *largest, "shown"], check=True)
     editions = {"65,536 lines, 5 MB": small, "WordNet, 147,309 lines, 31 MB": chosen["wn"][0], "262,144 lines, 67 MB": largest}
-    path = lists["foldoc"]["hits"]
+    path, others = lists["foldoc"]["hits"], []
     print("\n| 32 readers ask FOLDOC, while by HTTP is installed | the editor waits, s (of the processor, with the readers' answers) | a reader waits at most, s | "
           "99.9 % at most, ms | the median, µs | answers in a second before, meanwhile, after |\n|---|---|---|---|---|---|")
     for what, pair in editions.items():
         server = dictcat(program, work, {"foldoc": chosen["foldoc"]}, f"asked-{len(what)}-{os.getpid()}.db")
+        files = [it.read_bytes() for it in pair]
         try:
+            watched = 0
             for turn in ("first", "second", "third, by which the first goes"):
                 before = asked(client, server, 32, 1, path, 2)
-                it, took = replaced_while_asked(server, client, path, "new", pair)
+                it, took = changed_while_asked(server, client, path, lambda address, name: install(address, b"new", name, *files))
                 after = asked(client, server, 32, 1, path, 2)
                 rates = ", ".join(f"{one.answers / one.seconds:,.0f}" for one in (before, it, after))
+                watched = max(watched, took["list"])
                 print(f"| {what}: the {turn} | {took['clock']:.1f} ({took['processor']:.1f}) | {it.most / 1e6:.2f} | {it.rare / 1e3:.1f} | {it.median:.0f} | {rates} |", flush=True)
+            others.append(f"| {what}: `GET /databases` beside an install | {watched:.3f} |  |  |")
+            for verb, method, rest in (("rollback", b"POST", b"/rollback"), ("retire", b"DELETE", b"")):
+                it, took = changed_while_asked(server, client, path, lambda address, name: request(address, method, b"/databases/new" + rest, name))
+                others.append(f"| {what}: a `{verb}` | {took['clock']:.3f} | {it.most / 1e6:.3f} | {it.rare / 1e3:.1f} |")
         finally:
             server.kill()
+    print("\n| The same readers, by HTTP | it waits, s, at most | a reader at most, s | 99.9 % at most, ms |\n|---|---|---|---|")
+    print("\n".join(others), flush=True)
 
 
 def growth(program, client, work):
