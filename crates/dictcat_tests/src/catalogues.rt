@@ -16,17 +16,16 @@ fn play(test: &impl Abort, rt: &HostRuntime, file: &str, rows: &[Row]) -> Result
     remove(rt, file)
 }
 
-#[test]
-fn commands_one_after_another(rt: HostRuntime) -> Result<(), Fail> {
-    play(&rt, &rt, "dictcat_made.db", &rows::MADE)?;
-    play(&rt, &rt, "dictcat_editions.db", &rows::EDITIONS)?;
-    play(&rt, &rt, "dictcat_kept.db", &rows::KEPT)?;
-    play(&rt, &rt, "dictcat_first.db", &rows::FIRST_FAULTS)?;
-    play(&rt, &rt, "dictcat_order.db", &rows::ORDER)?;
-    play(&rt, &rt, "dictcat_words.db", &rows::WORDS)?;
-    play(&rt, &rt, "dictcat_retired.db", &rows::RETIRED)?;
-    play(&rt, &rt, "dictcat_unserved.db", &rows::UNSERVED)?;
-    same_text(&rt, differing(&rt, "", &rows::PLAIN)?.as_str(), "");
+pub(crate) fn commands_one_after_another(test: &impl Abort, rt: &HostRuntime) -> Result<(), Fail> {
+    play(test, rt, "dictcat_made.db", &rows::MADE)?;
+    play(test, rt, "dictcat_editions.db", &rows::EDITIONS)?;
+    play(test, rt, "dictcat_kept.db", &rows::KEPT)?;
+    play(test, rt, "dictcat_first.db", &rows::FIRST_FAULTS)?;
+    play(test, rt, "dictcat_order.db", &rows::ORDER)?;
+    play(test, rt, "dictcat_words.db", &rows::WORDS)?;
+    play(test, rt, "dictcat_retired.db", &rows::RETIRED)?;
+    play(test, rt, "dictcat_unserved.db", &rows::UNSERVED)?;
+    same_text(test, differing(rt, "", &rows::PLAIN)?.as_str(), "");
     Ok(())
 }
 
@@ -79,13 +78,12 @@ fn is_cut(rt: &HostRuntime, file: &str, cut: &Cut) -> Result<bool, Fail> {
     Ok(is_so(&found, *status, printed, told))
 }
 
-#[test]
-fn outputs_that_are_full(rt: HostRuntime) -> Result<(), Fail> {
+pub(crate) fn outputs_that_are_full(test: &impl Abort, rt: &HostRuntime) -> Result<(), Fail> {
     let file = "dictcat_cut.db";
     for cut in &CUT {
-        holds(&rt, is_cut(&rt, file, cut)?, cut.4);
+        holds(test, is_cut(rt, file, cut)?, cut.4);
     }
-    remove(&rt, file)
+    remove(rt, file)
 }
 
 // Words over files of the machine; what standard input has, the status and what is printed.
@@ -134,14 +132,16 @@ fn is_answered(rt: &HostRuntime, asked: &Asked) -> Result<bool, Fail> {
     Ok(is_so(&found, *status, printed, ""))
 }
 
-#[test]
-fn files_of_the_machine_are_read(rt: HostRuntime) -> Result<(), Fail> {
-    fs::write(&rt, "dictcat_asked.index", GEM_INDEX)?;
-    fs::write(&rt, "dictcat_asked.dict", GEM_TEXT)?;
+pub(crate) fn files_of_the_machine_are_read(
+    test: &impl Abort,
+    rt: &HostRuntime,
+) -> Result<(), Fail> {
+    fs::write(rt, "dictcat_asked.index", GEM_INDEX)?;
+    fs::write(rt, "dictcat_asked.dict", GEM_TEXT)?;
     for asked in &OVER_FILES {
-        holds(&rt, is_answered(&rt, asked)?, asked.3);
+        holds(test, is_answered(rt, asked)?, asked.3);
     }
-    fs::remove_file(&rt, "dictcat_asked.index")?;
-    fs::remove_file(&rt, "dictcat_asked.dict")?;
-    remove(&rt, "dictcat_asked.db")
+    fs::remove_file(rt, "dictcat_asked.index")?;
+    fs::remove_file(rt, "dictcat_asked.dict")?;
+    remove(rt, "dictcat_asked.db")
 }

@@ -117,8 +117,8 @@ pub(crate) fn differing(rt: &HostRuntime, file: &str, rows: &[Row]) -> Result<St
     Ok(String::new(rt.alloc()))
 }
 
-// What a sink took, as text.
-fn taken(alloc: Global, sink: &LimitedSink) -> Result<String, Fail> {
+/// What a sink took, as text.
+pub(crate) fn taken(alloc: Global, sink: &LimitedSink) -> Result<String, Fail> {
     String::from_utf8(sink.taken().to_vec(alloc)?).map_err(|_| Fail::from("no text"))
 }
 

@@ -1,4 +1,4 @@
-//! Tries what the program does with words, over any catalogues and over files, and its servers.
+//! Tries what the program does with words, over files, its servers, and sessions over databases that were read.
 #![tactic(auto)]
 
 #[cfg(test)]
@@ -8,18 +8,14 @@ mod checks;
 #[cfg(test)]
 mod fixtures;
 #[cfg(test)]
-mod no_files;
-#[cfg(test)]
 mod paths;
-#[cfg(test)]
-mod program_checks;
-#[cfg(test)]
-mod program_fixtures;
 #[cfg(test)]
 mod rows;
 #[cfg(test)]
 mod serving;
 #[cfg(test)]
 mod sessions;
+#[cfg(test)]
+mod tests;
 #[cfg(test)]
 mod usage;

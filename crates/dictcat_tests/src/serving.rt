@@ -2,6 +2,7 @@
 use super::fixtures::{Outcome, ROOM, remove, run};
 use crate::checks::{holds, same};
 use std::net::TcpListener;
+use std::process::Abort;
 use std::test::Fail;
 
 const FREE: &str = "127.0.0.1:0";
@@ -40,10 +41,12 @@ fn a_held_is_in_use(rt: &HostRuntime) -> Result<bool, Fail> {
     Ok(is_in_use(rt, used, "none", used)? && is_in_use(rt, FREE, used, used)?)
 }
 
-#[test]
-fn a_server_ends_after_its_rounds(rt: HostRuntime) -> Result<(), Fail> {
-    same(&rt, &run(&rt, FILE, &["create", "FILE"], "", ROOM)?.0, &0);
-    holds(&rt, is_served(&served(&rt, FREE, FREE)?), "served");
-    holds(&rt, a_held_is_in_use(&rt)?, "in use");
-    remove(&rt, FILE)
+pub(crate) fn a_server_ends_after_its_rounds(
+    test: &impl Abort,
+    rt: &HostRuntime,
+) -> Result<(), Fail> {
+    same(test, &run(rt, FILE, &["create", "FILE"], "", ROOM)?.0, &0);
+    holds(test, is_served(&served(rt, FREE, FREE)?), "served");
+    holds(test, a_held_is_in_use(rt)?, "in use");
+    remove(rt, FILE)
 }

@@ -1,6 +1,6 @@
 //! Sessions over databases that were read, cut in any way.
-use super::program_fixtures::taken;
-use crate::program_checks::{holds, same_text};
+use super::fixtures::taken;
+use crate::checks::{holds, same_text};
 use dict_desk::PlainDesk;
 use dict_fixtures::{GEM_INDEX, GEM_TEXT};
 use dict_messages::ProgramFault;
@@ -8,6 +8,7 @@ use dict_program::run_plain;
 use dict_proto::{LimitedSink, OverRead};
 use std::alloc::Global;
 use std::io::{Error, ErrorKind, Read, Result as IoResult};
+use std::process::Abort;
 use std::test::Fail;
 
 /// A database's name, its index and its text.
@@ -253,11 +254,10 @@ static ANSWERS: [(Database, &str, &str); 37] = [
     (PLUS, "DEFINE gem2 -\r\n", NO_MATCH),
 ];
 
-#[test]
-fn answers_in_any_pieces(rt: HostRuntime) -> Result<(), Fail> {
+pub(crate) fn answers_in_any_pieces(test: &impl Abort, rt: &HostRuntime) -> Result<(), Fail> {
     for (database, input, answer) in &ANSWERS {
         let found = cut_anywhere(rt.alloc(), *database, *input, *answer)?;
-        holds(&rt, found.is_none(), input);
+        holds(test, found.is_none(), input);
     }
     Ok(())
 }
@@ -274,8 +274,10 @@ static FAILING: [(&str, &str); 2] = [
     ),
 ];
 
-#[test]
-fn a_line_is_answered_before_the_next_piece_is_read(rt: HostRuntime) -> Result<(), Fail> {
+pub(crate) fn a_line_is_answered_before_the_next_piece_is_read(
+    test: &impl Abort,
+    rt: &HostRuntime,
+) -> Result<(), Fail> {
     for (input, answer) in &FAILING {
         let pieces = Pieces {
             rest: input.as_bytes(),
@@ -283,7 +285,7 @@ fn a_line_is_answered_before_the_next_piece_is_read(rt: HostRuntime) -> Result<(
             next_size: 6,
             fails: true,
         };
-        holds(&rt, is_answered(rt.alloc(), GEM, pieces, *answer)?, input);
+        holds(test, is_answered(rt.alloc(), GEM, pieces, *answer)?, input);
     }
     Ok(())
 }
@@ -302,17 +304,19 @@ fn into_room(alloc: Global, room: usize) -> Result<String, Fail> {
     session(alloc, GEM, pieces, room)
 }
 
-#[test]
-fn a_full_sink_ends_the_session(rt: HostRuntime) -> Result<(), Fail> {
+pub(crate) fn a_full_sink_ends_the_session(
+    test: &impl Abort,
+    rt: &HostRuntime,
+) -> Result<(), Fail> {
     for room in 0..WHOLE.len() {
         let written = into_room(rt.alloc(), room)?;
         let begun = written.as_str().strip_suffix("!session ended by a fault");
         holds(
-            &rt,
+            test,
             begun.is_some() && begun == WHOLE.get(..room),
             "a front",
         );
     }
-    same_text(&rt, into_room(rt.alloc(), WHOLE.len())?.as_str(), WHOLE);
+    same_text(test, into_room(rt.alloc(), WHOLE.len())?.as_str(), WHOLE);
     Ok(())
 }

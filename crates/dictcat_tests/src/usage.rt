@@ -1,6 +1,6 @@
 //! Words that ask for help or the version, and words that aren't well.
-use super::program_fixtures::{run, taken};
-use crate::program_checks::{holds, same_text};
+use super::fixtures::{ROOM, Row, differing, run, taken};
+use crate::checks::{holds, same_text};
 use clap::Command;
 use clap::error::ErrorKind;
 use dict_messages::VERSION;
@@ -8,6 +8,7 @@ use dict_program::refuse_words;
 use dict_proto::LimitedSink;
 use std::alloc::{AllocError, Global};
 use std::io;
+use std::process::Abort;
 use std::test::Fail;
 
 const HELP: &str = "A DICT server (RFC 2229) whose answers are proved
@@ -99,60 +100,53 @@ Statuses:
   4  memory ran out
 ";
 
-/// Words behind the program's name; the status, what is printed, and what is told.
-type Row = (&'static [&'static str], u8, &'static str, &'static str);
-
 static WORDS: [Row; 9] = [
-    (&["--help"], 0, HELP, ""),
-    (&["help"], 0, HELP, ""),
-    (&["help", "place"], 0, PLACE_HELP, ""),
-    (&["serve", "--help"], 0, SERVE_HELP, ""),
+    (&["--help"], "", 0, HELP, ""),
+    (&["help"], "", 0, HELP, ""),
+    (&["help", "place"], "", 0, PLACE_HELP, ""),
+    (&["serve", "--help"], "", 0, SERVE_HELP, ""),
     (
         &[],
+        "",
         2,
         "",
         "error: 'dictcat' requires a subcommand but one was not provided\n  [subcommands: plain, create, list, audit, session, install, rollback, retire, virtual, place, serve, help]\n\nUsage: dictcat <COMMAND>\n\nFor more information, try '--help'.\n",
     ),
     (
         &["nosuch"],
+        "",
         2,
         "",
         "error: unrecognized subcommand 'nosuch'\n\nUsage: dictcat <COMMAND>\n\nFor more information, try '--help'.\n",
     ),
     (
         &["plain", "gem"],
+        "",
         2,
         "",
         "error: the following required arguments were not provided:\n  <INDEX>\n  <DICT>\n\nUsage: dictcat plain <NAME> <INDEX> <DICT>\n\nFor more information, try '--help'.\n",
     ),
     (
         &["plain", "gem", "a", "b", "c"],
+        "",
         2,
         "",
         "error: unexpected argument 'c' found\n\nUsage: dictcat plain <NAME> <INDEX> <DICT>\n\nFor more information, try '--help'.\n",
     ),
     (
         &["plain", "-x", "a", "b"],
+        "",
         2,
         "",
         "error: unexpected argument '-x' found\n\n  tip: to pass '-x' as a value, use '-- -x'\n\nUsage: dictcat plain <NAME> <INDEX> <DICT>\n\nFor more information, try '--help'.\n",
     ),
 ];
 
-// The first row that comes out otherwise, and how; nothing where each is as it says.
-fn differing(rt: &HostRuntime, rows: &[Row]) -> Result<String, Fail> {
-    for (words, status, printed, told) in rows {
-        let found = run(rt, *words)?;
-        if found.0 != *status || found.1.as_str() != *printed || found.2.as_str() != *told {
-            return Ok(format!(in rt.alloc(); "{words:?} gave {found:?}")?);
-        }
-    }
-    Ok(String::new(rt.alloc()))
-}
-
-#[test]
-fn shows_help_and_tells_mistakes(rt: HostRuntime) -> Result<(), Fail> {
-    same_text(&rt, differing(&rt, &WORDS)?.as_str(), "");
+pub(crate) fn shows_help_and_tells_mistakes(
+    test: &impl Abort,
+    rt: &HostRuntime,
+) -> Result<(), Fail> {
+    same_text(test, differing(rt, "", &WORDS)?.as_str(), "");
     Ok(())
 }
 
@@ -161,13 +155,12 @@ static NAMES: [&str; 11] = [
     "place", "serve",
 ];
 
-#[test]
-fn tells_the_version(rt: HostRuntime) -> Result<(), Fail> {
+pub(crate) fn tells_the_version(test: &impl Abort, rt: &HostRuntime) -> Result<(), Fail> {
     let due = format!(in rt.alloc(); "dictcat {VERSION}\n")?;
-    let (status, shown, told) = run(&rt, &["--version"])?;
-    same_text(&rt, shown.as_str(), due.as_str());
+    let (status, shown, told) = run(rt, "", &["--version"], "", ROOM)?;
+    same_text(test, shown.as_str(), due.as_str());
     holds(
-        &rt,
+        test,
         status == 0 && told.is_empty(),
         "status 0, and nothing on standard error",
     );
@@ -177,7 +170,7 @@ fn tells_the_version(rt: HostRuntime) -> Result<(), Fail> {
 // Whether the help of a subcommand has an example and the statuses.
 fn has_example(rt: &HostRuntime, name: &str) -> Result<bool, Fail> {
     let example = format!(in rt.alloc(); "dictcat {name} ")?;
-    let (status, shown, _) = run(rt, &[name, "--help"])?;
+    let (status, shown, _) = run(rt, "", &[name, "--help"], "", ROOM)?;
     let (_, below) = shown
         .as_str()
         .split_once("\nExample:\n")
@@ -185,10 +178,12 @@ fn has_example(rt: &HostRuntime, name: &str) -> Result<bool, Fail> {
     Ok(status == 0 && below.contains(example.as_str()) && below.contains("\n  4  memory ran out\n"))
 }
 
-#[test]
-fn each_help_has_an_example_and_the_statuses(rt: HostRuntime) -> Result<(), Fail> {
+pub(crate) fn each_help_has_an_example_and_the_statuses(
+    test: &impl Abort,
+    rt: &HostRuntime,
+) -> Result<(), Fail> {
     for name in &NAMES {
-        holds(&rt, has_example(&rt, name)?, name);
+        holds(test, has_example(rt, name)?, name);
     }
     Ok(())
 }
@@ -217,18 +212,20 @@ fn said_by_clap(alloc: Global) -> Result<String, Fail> {
     Ok(error.to_string(alloc)?)
 }
 
-#[test]
-fn refuses_words_that_are_no_texts(rt: HostRuntime) -> Result<(), Fail> {
+pub(crate) fn refuses_words_that_are_no_texts(
+    test: &impl Abort,
+    rt: &HostRuntime,
+) -> Result<(), Fail> {
     holds(
-        &rt,
-        is_refused(&rt, io::ErrorKind::OutOfMemory, 4, "fault 40 Memory\n")?,
+        test,
+        is_refused(rt, io::ErrorKind::OutOfMemory, 4, "fault 40 Memory\n")?,
         "memory",
     );
     holds(
-        &rt,
-        is_refused(&rt, io::ErrorKind::InvalidData, 2, NOT_TEXT)?,
+        test,
+        is_refused(rt, io::ErrorKind::InvalidData, 2, NOT_TEXT)?,
         NOT_TEXT,
     );
-    same_text(&rt, said_by_clap(rt.alloc())?.as_str(), NOT_TEXT);
+    same_text(test, said_by_clap(rt.alloc())?.as_str(), NOT_TEXT);
     Ok(())
 }
