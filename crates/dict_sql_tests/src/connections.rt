@@ -59,39 +59,23 @@ fn over_memory(rt: &impl Abort, alloc: Global, runs: &[Run]) -> Result<(), Fail>
     end
 }
 
+// What is run in turn over one connection, each over one of its own.
+static IN_MEMORY: [&[Run]; 7] = [
+    &[Run::Fill, Run::DropAndLook],
+    &[Run::Inside],
+    &[Run::Older],
+    &[Run::Keyed],
+    &[Run::Old],
+    &[Run::Headers],
+    &[Run::Parts],
+];
+
 #[test]
 fn statements_in_memory(rt: HostRuntime) -> Result<(), Fail> {
-    over_memory(&rt, rt.alloc(), &[Run::Fill, Run::DropAndLook])
-}
-
-#[test]
-fn entries_inside_in_memory(rt: HostRuntime) -> Result<(), Fail> {
-    over_memory(&rt, rt.alloc(), &[Run::Inside])
-}
-
-#[test]
-fn older_tables_in_memory(rt: HostRuntime) -> Result<(), Fail> {
-    over_memory(&rt, rt.alloc(), &[Run::Older])
-}
-
-#[test]
-fn keyed_tables_in_memory(rt: HostRuntime) -> Result<(), Fail> {
-    over_memory(&rt, rt.alloc(), &[Run::Keyed])
-}
-
-#[test]
-fn old_entries_in_memory(rt: HostRuntime) -> Result<(), Fail> {
-    over_memory(&rt, rt.alloc(), &[Run::Old])
-}
-
-#[test]
-fn headers_in_memory(rt: HostRuntime) -> Result<(), Fail> {
-    over_memory(&rt, rt.alloc(), &[Run::Headers])
-}
-
-#[test]
-fn parts_in_memory(rt: HostRuntime) -> Result<(), Fail> {
-    over_memory(&rt, rt.alloc(), &[Run::Parts])
+    for runs in &IN_MEMORY {
+        over_memory(&rt, rt.alloc(), *runs)?;
+    }
+    Ok(())
 }
 
 // Over two files, of which the second is left.
