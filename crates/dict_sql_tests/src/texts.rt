@@ -5,8 +5,8 @@ use sqlite_disk::Disk;
 use std::alloc::Global;
 use std::fmt::Debug;
 
-/// Runs a text of a test's own.
-pub fn raw<S: Alter>(conn: &mut Connection<S>, text: &str) -> Result<(), Error> {
+// Runs a text of a test's own.
+pub(crate) fn raw<S: Alter>(conn: &mut Connection<S>, text: &str) -> Result<(), Error> {
     conn.execute_batch(text)
 }
 
@@ -16,8 +16,8 @@ fn number<S: Alter>(conn: &mut Connection<S>, text: &str) -> Result<i64, Error> 
     Ok(found)
 }
 
-/// Each text of a test's own answers its number. An error is the first that doesn't.
-pub fn compare_numbers<S: Alter>(
+// Each text of a test's own answers its number. An error is the first that doesn't.
+pub(crate) fn compare_numbers<S: Alter>(
     conn: &mut Connection<S>,
     rows: &[(&'static str, i64)],
 ) -> Result<(), &'static str> {
@@ -30,8 +30,8 @@ pub fn compare_numbers<S: Alter>(
     Ok(())
 }
 
-/// Records that were read, as text.
-pub fn told<R: Debug + Drop>(
+// Records that were read, as text.
+pub(crate) fn told<R: Debug + Drop>(
     alloc: Global,
     found: Result<Vec<R>, ReadError>,
 ) -> Result<String, ReadError> {
@@ -40,8 +40,8 @@ pub fn told<R: Debug + Drop>(
     Ok(format!(in alloc; "{records:?}")?)
 }
 
-/// Opens two files, or tells why they are not opened.
-pub fn open<D: Disk + Drop>(
+// Opens two files, or tells why they are not opened.
+pub(crate) fn open<D: Disk + Drop>(
     alloc: Global,
     files: Files<D>,
 ) -> Result<Connection<FileStore<D>>, &'static str> {
@@ -54,8 +54,8 @@ pub fn open<D: Disk + Drop>(
     }
 }
 
-/// Closes them, and leaves the second, which has all that was committed; or tells that they are not closed.
-pub fn close<D: Disk + Drop>(conn: Connection<FileStore<D>>) -> Result<D, &'static str> {
+// Closes them, and leaves the second, which has all that was committed; or tells that they are not closed.
+pub(crate) fn close<D: Disk + Drop>(conn: Connection<FileStore<D>>) -> Result<D, &'static str> {
     match conn.close_files().ok() {
         Some(Files { log: _, db }) => Ok(db),
         None => Err("not closed"),
