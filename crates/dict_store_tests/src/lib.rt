@@ -1,4 +1,4 @@
-//! Runs of the store over memory: commands, lookups, sessions, migrations and files that are refused. A library with tests alone.
+//! Runs of the store over memory: commands, lookups, sessions, migrations, files that are refused, installs that are prepared part by part. A library with tests alone.
 #![tactic(auto)]
 
 #[cfg(test)]
@@ -19,6 +19,8 @@ mod looking;
 mod many;
 #[cfg(test)]
 mod migrations;
+#[cfg(test)]
+mod preparing;
 #[cfg(test)]
 mod referred;
 #[cfg(test)]
