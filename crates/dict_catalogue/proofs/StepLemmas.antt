@@ -7,7 +7,7 @@ use Rattle.dict_text.specs.Names.{is_request_id}
 use Rattle.dict_catalogue.specs.Commands.{Command}
 use Rattle.dict_catalogue.specs.Tests.{Test, wants, tests_of, first_failing, refusal_of}
 use Rattle.dict_catalogue.specs.Effects.{KeptReply}
-use Rattle.dict_catalogue.specs.Steps.{KeptFor, Catalogue, holdings, kept_under, refused, Outcome, with_effect, decided, answered, step, AllHold, FailsFirst, IsStep, id_unlawful, id_kept, test_failed, none_failed, Request, after, acts, acts_unless_kept, is_none_refused, acting}
+use Rattle.dict_catalogue.specs.Steps.{KeptFor, Catalogue, holdings, kept_under, refused, Outcome, with_effect, decided, answered, step, AllHold, FailsFirst, IsStep, id_unlawful, id_kept, test_failed, none_failed, CommandRequest, after, acts, acts_unless_kept, is_none_refused, acting}
 use Rattle.dict_catalogue.specs.declared.fault.CommandRefusal.{CommandRefusal}
 use Rattle.dict_catalogue.specs.declared.fault.CommandRefusal.TheVariants.{BadRequestId}
 
@@ -119,27 +119,27 @@ idle_leaves M id command e = subst (λ (b : Bool). Leaves M id command b (step M
 
 -- lists of commands
 
-after_cons : (M : Catalogue) (request : Request) (requests : List Request) (b : Bool) → acts M request.id request.command ≡ b →
+after_cons : (M : Catalogue) (request : CommandRequest) (requests : List CommandRequest) (b : Bool) → acts M request.id request.command ≡ b →
     after (step M request.id request.command).catalogue (acting (step M request.id request.command).catalogue requests) ≡ after (step M request.id request.command).catalogue requests →
     after M (acting M requests) ≡ after M requests →
     after M (cond b (request ∷ acting (step M request.id request.command).catalogue requests) (acting M requests)) ≡ after (step M request.id request.command).catalogue requests
 after_cons M request requests true e h g = h
 after_cons M request requests false e h g = g ∙ ap (λ (left : Catalogue). after left requests) (sym (idle_leaves M request.id request.command e))
 
-pub after_acting : (M : Catalogue) (requests : List Request) → after M (acting M requests) ≡ after M requests
+pub after_acting : (M : Catalogue) (requests : List CommandRequest) → after M (acting M requests) ≡ after M requests
 after_acting M [] = refl
 after_acting M (request ∷ requests) =
     after_cons M request requests (acts M request.id request.command) refl
     (after_acting (step M request.id request.command).catalogue requests) (after_acting M requests)
 
-again_cons : (M : Catalogue) (request : Request) (requests : List Request) (b : Bool) → acts M request.id request.command ≡ b →
+again_cons : (M : Catalogue) (request : CommandRequest) (requests : List CommandRequest) (b : Bool) → acts M request.id request.command ≡ b →
     acting (step M request.id request.command).catalogue (acting (step M request.id request.command).catalogue requests) ≡ acting (step M request.id request.command).catalogue requests →
     acting M (acting M requests) ≡ acting M requests →
     acting M (cond b (request ∷ acting (step M request.id request.command).catalogue requests) (acting M requests)) ≡ cond b (request ∷ acting (step M request.id request.command).catalogue requests) (acting M requests)
-again_cons M request requests true e h g = rw e (ap (λ (rest : List Request). request ∷ rest) h)
+again_cons M request requests true e h g = rw e (ap (λ (rest : List CommandRequest). request ∷ rest) h)
 again_cons M request requests false e h g = g
 
-pub acting_again : (M : Catalogue) (requests : List Request) → acting M (acting M requests) ≡ acting M requests
+pub acting_again : (M : Catalogue) (requests : List CommandRequest) → acting M (acting M requests) ≡ acting M requests
 acting_again M [] = refl
 acting_again M (request ∷ requests) =
     again_cons M request requests (acts M request.id request.command) refl
@@ -148,10 +148,10 @@ acting_again M (request ∷ requests) =
 abbrev ids_of : List KeptFor → List (List ℕ)
 ids_of kept = map (λ one. one.id) kept
 
-abbrev request_ids : List Request → List (List ℕ)
+abbrev request_ids : List CommandRequest → List (List ℕ)
 request_ids requests = map (λ request. request.id) requests
 
-once_cons : (M : Catalogue) (request : Request) (requests : List Request) (b : Bool) → acts M request.id request.command ≡ b →
+once_cons : (M : Catalogue) (request : CommandRequest) (requests : List CommandRequest) (b : Bool) → acts M request.id request.command ≡ b →
     ids_of (after (step M request.id request.command).catalogue requests).kept ≡ ids_of (step M request.id request.command).catalogue.kept ++ request_ids (acting (step M request.id request.command).catalogue requests) →
     ids_of (after M requests).kept ≡ ids_of M.kept ++ request_ids (acting M requests) →
     ids_of (after (step M request.id request.command).catalogue requests).kept ≡ ids_of M.kept ++ request_ids (cond b (request ∷ acting (step M request.id request.command).catalogue requests) (acting M requests))
@@ -161,7 +161,7 @@ once_cons M request requests true e h g =
     ∙ simp (map-append, append_assoc)
 once_cons M request requests false e h g = ap (λ (left : Catalogue). ids_of (after left requests).kept) (idle_leaves M request.id request.command e) ∙ g
 
-pub after_keeps : (M : Catalogue) (requests : List Request) → ids_of (after M requests).kept ≡ ids_of M.kept ++ request_ids (acting M requests)
+pub after_keeps : (M : Catalogue) (requests : List CommandRequest) → ids_of (after M requests).kept ≡ ids_of M.kept ++ request_ids (acting M requests)
 after_keeps M [] = sym (append-nil (ids_of M.kept))
 after_keeps M (request ∷ requests) =
     once_cons M request requests (acts M request.id request.command) refl

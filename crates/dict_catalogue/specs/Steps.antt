@@ -40,13 +40,13 @@ abbrev pub kept_under : List KeptFor → List ℕ → Option KeptReply
 kept_under [] id = None
 kept_under (one ∷ kept) id = if bytes_eq one.id id then Some one.reply else kept_under kept id
 
-pub data Reply : Type 0 where
-  accepted : KeptReply → Reply
-  refused : CommandRefusal → Reply
+pub data CommandReply : Type 0 where
+  accepted : KeptReply → CommandReply
+  refused : CommandRefusal → CommandReply
 
 -- a reply, and the catalogue after it
 pub record Outcome : Type 0 where
-  pub reply : Reply
+  pub reply : CommandReply
   pub catalogue : Catalogue
 
 -- the catalogue after the command's effect, with its reply kept
@@ -100,12 +100,12 @@ pub data IsStep (before : Catalogue) (id : List ℕ) (command : Command Edition)
       IsStep before id command outcome
 
 -- a command with the id of its request
-pub record Request : Type 0 where
+pub record CommandRequest : Type 0 where
   pub id : List ℕ
   pub command : Command Edition
 
 -- a list of commands, one after another
-abbrev pub after : Catalogue → List Request → Catalogue
+abbrev pub after : Catalogue → List CommandRequest → Catalogue
 after before [] = before
 after before (request ∷ requests) = after (step before request.id request.command).catalogue requests
 
@@ -122,7 +122,7 @@ abbrev pub acts : Catalogue → List ℕ → Command Edition → Bool
 acts before id command = if is_request_id id then acts_unless_kept before command (kept_under before.kept id) else false
 
 -- the commands of the list that act, in their order
-abbrev pub acting : Catalogue → List Request → List Request
+abbrev pub acting : Catalogue → List CommandRequest → List CommandRequest
 acting before [] = []
 acting before (request ∷ requests) =
     if acts before request.id request.command

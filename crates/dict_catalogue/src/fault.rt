@@ -1,6 +1,6 @@
 // Why a command is refused.
 ghost use Rattle.std.specs.Prelude.{◌≡◌};
-ghost use Rattle.dict_catalogue.specs.Refusals.{refusal_number, refusal_name, text_of};
+ghost use Rattle.dict_catalogue.specs.Refusals.{command_refusal_number, command_refusal_name, command_refusal_text};
 
 use std::alloc::AllocError;
 use thiserror::Error;
@@ -39,8 +39,8 @@ pub enum CommandRefusal {
 impl CommandRefusal {
     // What users see of the refusal: its number, 20 to 32, and its name.
     fn text(self) -> (u8, &'static str)
-        ensures number { result.0 ≡ (text_of self).number }
-        ensures name { result.1.now ≡ (text_of self).name }
+        ensures number { result.0 ≡ (command_refusal_text self).number }
+        ensures name { result.1.now ≡ (command_refusal_text self).name }
     {
         match self {
             CommandRefusal::BadName => (20, "BadName"),
@@ -61,14 +61,14 @@ impl CommandRefusal {
 
     /// The refusal's number, as users see it: 20 to 32.
     pub fn number(self) -> u8
-        ensures { result ≡ refusal_number self }
+        ensures { result ≡ command_refusal_number self }
     {
         self.text().0
     }
 
     /// The refusal's name, as users see it.
     pub fn name(self) -> &'static str
-        ensures { result.now ≡ refusal_name self }
+        ensures { result.now ≡ command_refusal_name self }
     {
         self.text().1
     }

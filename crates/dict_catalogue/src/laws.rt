@@ -4,7 +4,7 @@ ghost use Rattle.dict_index.specs.Edition.{Edition};
 ghost use Rattle.dict_catalogue.specs.Commands.{Command};
 ghost use Rattle.dict_catalogue.specs.Tests.{refusal_of};
 ghost use Rattle.dict_catalogue.specs.Effects.{effect, reply_to, editions_gone};
-ghost use Rattle.dict_catalogue.specs.Steps.{Catalogue, holdings, Outcome, Request, summary_of, command_summary, with_effect, empty_catalogue, step, IsStep, after, acting};
+ghost use Rattle.dict_catalogue.specs.Steps.{Catalogue, holdings, Outcome, CommandRequest, summary_of, command_summary, with_effect, empty_catalogue, step, IsStep, after, acting};
 ghost use Rattle.dict_catalogue.specs.WellFormed.{IsLawfulCommand, IsWellFormed};
 
 /// A command over a catalogue's summary does what it does over the catalogue: it is refused for the same test, the
@@ -25,9 +25,9 @@ pub fn step_law()
 /// A list of commands leaves what those of them leave that act, alone; each of these acts then too, once: the replies
 /// kept for them are the new ones, one for each.
 pub fn after_laws()
-    ensures same { (M : Catalogue) (requests : List Request) → after M (acting M requests) ≡ after M requests }
-    ensures again { (M : Catalogue) (requests : List Request) → acting M (acting M requests) ≡ acting M requests }
-    ensures once { (M : Catalogue) (requests : List Request) → map (λ one. one.id) (after M requests).kept ≡ map (λ one. one.id) M.kept ++ map (λ request. request.id) (acting M requests) }
+    ensures same { (M : Catalogue) (requests : List CommandRequest) → after M (acting M requests) ≡ after M requests }
+    ensures again { (M : Catalogue) (requests : List CommandRequest) → acting M (acting M requests) ≡ acting M requests }
+    ensures once { (M : Catalogue) (requests : List CommandRequest) → map (λ one. one.id) (after M requests).kept ≡ map (λ one. one.id) M.kept ++ map (λ request. request.id) (acting M requests) }
 {}
 
 /// The empty catalogue is well formed, and a well formed catalogue stays so under every command whose edition, where

@@ -21,10 +21,10 @@ use Rattle.dict_desk.specs.declared.fault.Fault.TheVariants.{Refused, Memory, Di
 use Rattle.dict_rows.specs.After.{Installed, is_gone}
 use Rattle.dict_rows.specs.Versions.{known}
 use Rattle.dict_rows.proofs.TakenLemmas.{nat_same, same_itself}
-use Rattle.dict_holdings.specs.AllTables.{AllTables, IsNew, with_derived, all_after}
+use Rattle.dict_holdings.specs.AllTables.{AllTables, HasNewNumber, with_derived, all_after}
 use Rattle.dict_holdings.proofs.FileLemmas.{is_new}
 use Rattle.dict_holdings.specs.Texts.{text_rows}
-use Rattle.dict_commands.specs.Kept.{HasRecords, KeepsTexts, Turns}
+use Rattle.dict_commands.specs.KeptRecords.{HasRecords, KeepsTextRows, TurnsRecords}
 use Rattle.dict_commands.specs.Changes.{change_by, installed_by, IsWritable}
 use Rattle.dict_commands.specs.Committed.{IsCommitted, IsOfStore}
 use Rattle.dict_commands.specs.Decided.{LiesWithin}
@@ -104,7 +104,7 @@ planned_stay summary command planned change =
 
 -- what was committed of it
 pub above_committed : (summary : Holdings (List ℕ)) (id : List ℕ) (command : Command) (planned : Planned) → IsChange summary (command_shown command) planned → (old new : State) → HoldsBy summary old → HasCleanDisk old → IsTrue old.is_open
-    → IsCommitted (Turns (all_after known (change_by id command planned)) old.now) new → KeepsTexts summary.installs (edition_numbers (summary_shown planned.summary).items) old.now new.now
+    → IsCommitted (TurnsRecords (all_after known (change_by id command planned)) old.now) new → KeepsTextRows summary.installs (edition_numbers (summary_shown planned.summary).items) old.now new.now
 above_committed summary id command planned change old new holds clean live done =
     let it = holds clean live in
     let held = holds_now old it.0 it.1 in
@@ -120,14 +120,14 @@ above_committed summary id command planned change old new holds clean live done 
 -- the text of the edition that a command installs stands under its number
 pub installed_there : (summary : Holdings (List ℕ)) (id : List ℕ) (command : Command) (planned : Planned) → IsChange summary (command_shown command) planned → IsWritable planned → LiesWithin command
     → (old new : State) → HoldsBy summary old → HasCleanDisk old → IsTrue old.is_open
-    → IsCommitted (Turns (all_after known (change_by id command planned)) old.now) new → HasTextOf command planned.summary.installs new.now
+    → IsCommitted (TurnsRecords (all_after known (change_by id command planned)) old.now) new → HasTextOf command planned.summary.installs new.now
 installed_there summary id (Install name edition) planned change writable lies old new holds clean live done =
     let command : Command = Install name edition in
     let it = holds clean live in
     let held = holds_now old it.0 it.1 in
     let all : AllTables = with_derived held.tables in
     let here : IsChange (summary_of it.0) (command_shown command) planned = subst (λ (b : Holdings (List ℕ)). IsChange b (command_shown command) planned) (sym it.2) change in
-    let fresh : IsNew (installed_by planned.summary.installs command) held.tables = is_new known held.tables it.0 id (command_meant command) (change_by id command planned) held.stands (change_is it.0 id command planned here.1 lies) in
+    let fresh : HasNewNumber (installed_by planned.summary.installs command) held.tables = is_new known held.tables it.0 id (command_meant command) (change_by id command planned) held.stands (change_is it.0 id command planned here.1 lies) in
     let after : HasRecords new.now (all_after known (change_by id command planned) all) = subst (λ (db : Database). HasRecords db (all_after known (change_by id command planned) all)) (sym done.settled)
     (done.holds all (record { own = held.own; keeps = held.keeps })).0 in
     text_there planned.summary.installs new.now held.tables planned.gone.items (record { owner = name.now; number = planned.summary.installs; reading = edition.now }) refl fresh writable.installs
@@ -138,10 +138,10 @@ installed_there summary id (PutVirtual name title members) planned change writab
 installed_there summary id (Place name at) planned change writable lies old new holds clean live done = tt
 
 -- nothing has changed
-pub above_same : (installs : ℕ) (numbers : List ℕ) (old new : Database) → new ≡ old → KeepsTexts installs numbers old new
-above_same installs numbers old new same = subst (λ (db : Database). KeepsTexts installs numbers old db) (sym same) (each numbers)
+pub above_same : (installs : ℕ) (numbers : List ℕ) (old new : Database) → new ≡ old → KeepsTextRows installs numbers old new
+above_same installs numbers old new same = subst (λ (db : Database). KeepsTextRows installs numbers old db) (sym same) (each numbers)
   where
-    each : (ns : List ℕ) → KeepsTexts installs ns old old
+    each : (ns : List ℕ) → KeepsTextRows installs ns old old
     each [] = tt
     each (n ∷ ns) = (λ low. IsPermutation-refl (text_rows n old), each ns)
 

@@ -9,16 +9,16 @@ use Rattle.sqlite.specs.declared.error.Error.{Error}
 use Rattle.sqlite_trees.specs.declared.store.Store.{Ghosts}
 use Rattle.dict_sql.specs.Inserts.{Inserts, FailsToInsert}
 use Rattle.dict_edition_sql.specs.HeaderRecords.{header_row}
-use Rattle.dict_records.specs.Records.{Edition, Header, header_of}
+use Rattle.dict_records.specs.Records.{EditionRecord, HeaderRecord, header_of}
 use Rattle.dict_rows.specs.After.{Installed, installed_entries}
 use Rattle.dict_rows.specs.Written.{edition_record}
 use Rattle.dict_parts.specs.Stored.{stored_index}
 use Rattle.dict_holdings.specs.Files.{parts_under, installed_parts}
 use Rattle.dict_holdings.specs.AllTables.{AllTables}
-use Rattle.dict_commands.specs.Kept.{HasRecords}
+use Rattle.dict_commands.specs.KeptRecords.{HasRecords}
 use Rattle.dict_commands.specs.Changes.{with_more_editions, with_more_parts, with_installed}
 use Rattle.dict_commands.specs.Statements.{adding_edition, installing}
-use Rattle.dict_commands.specs.Writes.{Wrote, FailsToWrite}
+use Rattle.dict_commands.specs.Writes.{WroteStatements, FailsToWrite}
 use Rattle.dict_commands.proofs.LoopLemmas.{Grows}
 use Rattle.dict_commands.proofs.TableLemmas.{edition_row, editions_added, other_entries}
 use Rattle.dict_commands.proofs.WriteLemmas.{wrote_none, wrote_as, wrote_added, failed_one}
@@ -26,15 +26,15 @@ use Rattle.dict_sql.specs.Statements.{add}
 
 -- ---- its record
 
-module _ {S : Type 0} (g : Ghosts S) (given : Header) (wanted : Edition) (is : given ≡ header_of wanted) (old new : Held S) (survives : Survives (state g old) (state g new) (λ _. ⊥)) where
-  pub wrote_header : (HasCleanDisk (state g new) → Inserts (codes "edition") (header_row given) (state g old) (state g new)) → Wrote g (adding_edition wanted ∷ []) (with_more_editions (wanted ∷ [])) old new
+module _ {S : Type 0} (g : Ghosts S) (given : HeaderRecord) (wanted : EditionRecord) (is : given ≡ header_of wanted) (old new : Held S) (survives : Survives (state g old) (state g new) (λ _. ⊥)) where
+  pub wrote_header : (HasCleanDisk (state g new) → Inserts (codes "edition") (header_row given) (state g old) (state g new)) → WroteStatements g (adding_edition wanted ∷ []) (with_more_editions (wanted ∷ [])) old new
   wrote_header did =
       wrote_added g (codes "edition") (edition_row wanted) old new survives (with_more_editions (wanted ∷ [])) (editions_added wanted)
-      (λ clean. subst (λ (h : Header). Inserts (codes "edition") (header_row h) (state g old) (state g new)) is (did clean))
+      (λ clean. subst (λ (h : HeaderRecord). Inserts (codes "edition") (header_row h) (state g old) (state g new)) is (did clean))
 
   pub failed_header : (e : Error) → (HasCleanDisk (state g new) → FailsToInsert (codes "edition") (header_row given) (state g old) (state g new) e) → FailsToWrite g (adding_edition wanted ∷ []) old new e
   failed_header e h =
-      failed_one g (add (codes "edition") (edition_row wanted)) old new survives e (λ clean. subst (λ (k : Header). FailsToInsert (codes "edition") (header_row k) (state g old) (state g new) e) is (h clean))
+      failed_one g (add (codes "edition") (edition_row wanted)) old new survives e (λ clean. subst (λ (k : HeaderRecord). FailsToInsert (codes "edition") (header_row k) (state g old) (state g new) e) is (h clean))
 
 -- ---- its parts
 
@@ -78,5 +78,5 @@ none_installed db all it = subst (λ (t : AllTables). HasRecords db t) (λ i. re
   parts = sym (append-nil all.parts) i;
 }) it
 
-pub wrote_no_edition : {S : Type 0} (g : Ghosts S) (edition : Option Installed) → edition ≡ None → (a : Held S) → Wrote g (installing edition) (with_installed edition) a a
-wrote_no_edition g edition is a = subst (λ e. Wrote g (installing e) (with_installed e) a a) (sym is) (wrote_as g [] (λ all. all) (with_installed None) a a none_installed (wrote_none g a))
+pub wrote_no_edition : {S : Type 0} (g : Ghosts S) (edition : Option Installed) → edition ≡ None → (a : Held S) → WroteStatements g (installing edition) (with_installed edition) a a
+wrote_no_edition g edition is a = subst (λ e. WroteStatements g (installing e) (with_installed e) a a) (sym is) (wrote_as g [] (λ all. all) (with_installed None) a a none_installed (wrote_none g a))

@@ -21,19 +21,19 @@ use Rattle.dict_catalogue.specs.declared.fault.CommandRefusal.{CommandRefusal}
 use Rattle.dict_catalogue.proofs.SummaryLemmas.{refusal_of_as, effect_with, reply_to_as}
 use Rattle.dict_desk.specs.declared.fault.Fault.{Fault}
 use Rattle.dict_desk.specs.declared.fault.Fault.TheVariants.{Refused, Memory, Disk, Closed, NotACatalogue, Damaged, NewerSchema}
-use Rattle.dict_rows.specs.After.{TableChange, IsChange as IsAChange, tables_after}
+use Rattle.dict_rows.specs.After.{TableChange, IsTableChange as IsAChange, tables_after}
 use Rattle.dict_rows.proofs.ChangeLemmas.{after_stands}
 use Rattle.dict_rows.specs.Versions.{known, layout_of}
 use Rattle.dict_holdings.specs.AllTables.{AllTables, with_derived, all_after}
 use Rattle.dict_holdings.proofs.FileLemmas.{after_is, is_new}
 use Rattle.dict_holdings.specs.Readings.{KeepsAll}
-use Rattle.dict_holdings.specs.Faults.{IsUnread}
+use Rattle.dict_holdings.specs.Faults.{IsUnreadCatalogue}
 use Rattle.dict_holdings.specs.Holds.{Holds, Rests, IsLeftAs}
 use Rattle.dict_holdings.specs.Writing.{FailsToEnd}
-use Rattle.dict_commands.specs.Kept.{SparesOthers, Turns}
+use Rattle.dict_commands.specs.KeptRecords.{SparesTablesOfOthers, TurnsRecords}
 use Rattle.dict_commands.specs.Changes.{change_by}
 use Rattle.dict_commands.specs.Decided.{IsDeclined, LiesWithin}
-use Rattle.dict_commands.specs.Committed.{IsCommitted, IsTreesOf, Stays, IsOfStore, FailsToCommit}
+use Rattle.dict_commands.specs.Committed.{IsCommitted, IsTreesOf, StaysCommitted, IsOfStore, FailsToCommit}
 use Rattle.dict_commands.specs.Answers.{Answers, HoldsBy, summary_after, IsOfShut, HoldsAfter, IsPlanned, FailsToAct, FailsToApply}
 use Rattle.dict_commands.specs.Statements.{statements_of}
 use Rattle.dict_sql.specs.Statements.{Statement}
@@ -43,7 +43,7 @@ use Rattle.dict_commands.proofs.DecideLemmas.{change_is}
 
 -- ---- what a command makes of all records
 
-pub command_applied : (change : TableChange) (M : Catalogue) (id : List ℕ) (command : Command Edition) (old new : Database) → Turns (all_after known change) old new → Holds known old M → IsLawfulCommand command
+pub command_applied : (change : TableChange) (M : Catalogue) (id : List ℕ) (command : Command Edition) (old new : Database) → TurnsRecords (all_after known change) old new → Holds known old M → IsLawfulCommand command
     → IsTrue (is_request_id id) → kept_under M.kept id ≡ None → refusal_of (holdings M) command ≡ None
     → IsAChange M id command change → Holds known new (with_effect M id command)
 command_applied change M id command old new turns h lawful named free allowed is =
@@ -74,7 +74,7 @@ same_refusal M command = sym (refusal_of_as (λ (edition : Edition). edition.tit
 
 -- ---- a store that stays holds what it held
 
-pub rests_still : (old new : State) (M : Catalogue) → Stays old new → IsTrue new.is_open → Rests known old M → Rests known new M
+pub rests_still : (old new : State) (M : Catalogue) → StaysCommitted old new → IsTrue new.is_open → Rests known old M → Rests known new M
 rests_still old new M stays lives rests = record {
   is_open = lives;
   settled = stays.settled lives rests.settled;
@@ -102,7 +102,7 @@ declined_answers s M id command summary NotACatalogue lawful new is h rests = ab
 declined_answers s M id command summary Damaged lawful new is h rests = absurd h
 declined_answers s M id command summary NewerSchema lawful new is h rests = absurd h
 
-pub failed_answers : (old new : State) (M : Catalogue) (id : List ℕ) (outcome : Outcome) (fault : Fault) → IsOfStore fault → Stays old new → Rests known old M → Answers new M id outcome (Err fault)
+pub failed_answers : (old new : State) (M : Catalogue) (id : List ℕ) (outcome : Outcome) (fault : Fault) → IsOfStore fault → StaysCommitted old new → Rests known old M → Answers new M id outcome (Err fault)
 failed_answers old new M id outcome (Refused refusal) h stays rests = absurd h
 failed_answers old new M id outcome Memory h stays rests = λ lives. rests_still old new M stays lives rests
 failed_answers old new M id outcome Disk h stays rests = λ lives. rests_still old new M stays lives rests
@@ -138,15 +138,15 @@ module _ (M : Catalogue) (id : List ℕ) (command : typed.Command) (planned : Pl
   acted : step M id (command_meant command) ≡ record { reply = accepted (reply_to (command_meant command) (effect (command_meant command) (holdings M))); catalogue = with_effect M id (command_meant command) }
   acted = accepted_step M id (command_meant command) lawful new none_refused
 
-  pub holds_after : (old db : Database) → Holds known old M → Turns (all_after known (change_by id command planned)) old db → Holds known db (step M id (command_meant command)).catalogue
+  pub holds_after : (old db : Database) → Holds known old M → TurnsRecords (all_after known (change_by id command planned)) old db → Holds known db (step M id (command_meant command)).catalogue
   holds_after old db h turns =
       subst (λ (o : Outcome). Holds known db o.catalogue) (sym acted)
       (command_applied (change_by id command planned) M id (command_meant command) old db turns h allowed lawful new none_refused (change_is M id command planned planned_here.1 lies))
 
-  pub left_after : (old : State) (trees : Trees) → Rests known old M → IsTreesOf (Turns (all_after known (change_by id command planned)) old.now) trees → IsLeftAs known (step M id (command_meant command)).catalogue trees
+  pub left_after : (old : State) (trees : Trees) → Rests known old M → IsTreesOf (TurnsRecords (all_after known (change_by id command planned)) old.now) trees → IsLeftAs known (step M id (command_meant command)).catalogue trees
   left_after old trees rests it = (it.0, it.1, it.2, holds_after old.now it.0 (holds_now old M rests) it.3)
 
-  pub acted_answers : (old now : State) → Rests known old M → IsCommitted (Turns (all_after known (change_by id command planned)) old.now) now
+  pub acted_answers : (old now : State) → Rests known old M → IsCommitted (TurnsRecords (all_after known (change_by id command planned)) old.now) now
       → Answers now M id (step M id (command_meant command)) (Rattle.std.proofs.Common.Ok (Done planned.kept planned.summary))
   acted_answers old now rests done = (
     new,
@@ -158,14 +158,14 @@ module _ (M : Catalogue) (id : List ℕ) (command : typed.Command) (planned : Pl
 
 -- ---- tables that are none of the product's
 
-pub others_spared : (summary : Holdings (List ℕ)) (old : State) (f : AllTables → AllTables) → HoldsBy summary old → HasCleanDisk old → IsTrue old.is_open → (db : Database) → Turns f old.now db → SparesOthers old.now db
+pub others_spared : (summary : Holdings (List ℕ)) (old : State) (f : AllTables → AllTables) → HoldsBy summary old → HasCleanDisk old → IsTrue old.is_open → (db : Database) → TurnsRecords f old.now db → SparesTablesOfOthers old.now db
 others_spared summary old f holds clean live db turns =
     let it = holds clean live in
     let held = holds_now old it.0 it.1 in
     (turns (with_derived held.tables) (record { own = held.own; keeps = held.keeps })).1
 
-pub others_committed : (summary : Holdings (List ℕ)) (old new : State) (f : AllTables → AllTables) → HoldsBy summary old → HasCleanDisk old → IsTrue old.is_open → IsCommitted (Turns f old.now) new → SparesOthers old.now new.now
-others_committed summary old new f holds clean live done = subst (λ db. SparesOthers old.now db) (sym done.settled) (others_spared summary old f holds clean live new.committed done.holds)
+pub others_committed : (summary : Holdings (List ℕ)) (old new : State) (f : AllTables → AllTables) → HoldsBy summary old → HasCleanDisk old → IsTrue old.is_open → IsCommitted (TurnsRecords f old.now) new → SparesTablesOfOthers old.now new.now
+others_committed summary old new f holds clean live done = subst (λ db. SparesTablesOfOthers old.now db) (sym done.settled) (others_spared summary old f holds clean live new.committed done.holds)
 
 -- ---- what the next command needs
 
@@ -217,7 +217,7 @@ module _ {S : Type 0} (g : Ghosts S) where
       (state g old) (state g mid) (λ _. ⊥)
       → ((db : Database) → P db → HoldsAfter summary (state g old) id command db) → (fault : Fault) → ((fault ≡ Memory) × (new ≡ mid) × none) ⊎ FailsToAct g summary id command P mid new fault → FailsToApply g summary id
       command old new fault
-  new_fails none summary id command P old mid new same survives wider fault (inl h) = inl (inl (subst (λ k. IsUnchanged (state g old) (state g k)) (sym h.1) same, subst (IsUnread (state g old)) (sym h.0) tt))
+  new_fails none summary id command P old mid new same survives wider fault (inl h) = inl (inl (subst (λ k. IsUnchanged (state g old) (state g k)) (sym h.1) same, subst (IsUnreadCatalogue (state g old)) (sym h.0) tt))
   new_fails none summary id command P old mid new same survives wider fault (inr h) =
       inr (mid, same, survives, (h.0, h.1, ends_weaker (statements_of known h.0) P (HoldsAfter summary (state g old) id command) mid new fault wider h.2))
 

@@ -26,7 +26,7 @@ use Rattle.dict_catalogue.proofs.ListLemmas.{by_test}
 use Rattle.dict_catalogue.proofs.SummaryLemmas.{effect_with, editions_gone_as, reply_to_as}
 use Rattle.dict_catalogue.proofs.WellFormedLemmas.{EachEdition, IfInstalled, each_after}
 use Rattle.dict_rows.specs.After as after
-use Rattle.dict_commands.specs.Kept.{IsStorable, AreStorable}
+use Rattle.dict_commands.specs.KeptRecords.{FitsColumn, AreStorable}
 use Rattle.dict_commands.specs.Changes.{IsWritable, IsInRange, installed_by, change_by}
 use Rattle.dict_commands.specs.Decided.{LiesWithin}
 
@@ -139,7 +139,7 @@ module _ (before : Holdings (List ℕ)) (command : Command (List ℕ)) (planned 
   pub in_range : IsInRange (summary_shown planned.summary)
   in_range = subst IsInRange (sym is.1.after) (each_stays before command range)
 
-  installs_few : IsStorable planned.summary.installs
+  installs_few : FitsColumn planned.summary.installs
   installs_few =
       let within : planned.summary.installs ≤ planned.summary.accepted = planned.summary.installs_within in
       let accepted : planned.summary.accepted ≡ before.accepted + 1 = ap (λ (h : Holdings (List ℕ)). h.accepted) is.1.after in
@@ -147,22 +147,22 @@ module _ (before : Holdings (List ℕ)) (command : Command (List ℕ)) (planned 
       omega (arith, within, accepted, f)
 
   storable : (most : ℕ) → most ≤ 9223372036854775807 → (numbers : List ℕ) → AllByRecursion (λ number. number ≤ most) numbers → AreStorable numbers
-  storable most low numbers h = all_weaker (λ number. number ≤ most) IsStorable (λ number p. omega (arith, p, low)) numbers h
+  storable most low numbers h = all_weaker (λ number. number ≤ most) FitsColumn (λ number p. omega (arith, p, low)) numbers h
 
   all_few : AllByRecursion (λ item. AreStorable (numbers_of item)) (map item_shown planned.summary.items.items)
-  all_few = all_flat_map_parts IsStorable numbers_of (map item_shown planned.summary.items.items) (storable planned.summary.installs installs_few (edition_numbers (map item_shown planned.summary.items.items)) in_range)
+  all_few = all_flat_map_parts FitsColumn numbers_of (map item_shown planned.summary.items.items) (storable planned.summary.installs installs_few (edition_numbers (map item_shown planned.summary.items.items)) in_range)
 
   pub writable : IsWritable planned
   writable = record {
     installs = installs_few;
     items = from_shown (λ item. AreStorable (numbers_of item)) item_shown planned.summary.items.items all_few;
-    gone = subst AreStorable (sym is.1.gone) (all_filter IsStorable _ (edition_numbers before.items) (storable before.installs
+    gone = subst AreStorable (sym is.1.gone) (all_filter FitsColumn _ (edition_numbers before.items) (storable before.installs
         (let g : before.installs ≤ installs_after command before.installs = grown command before.installs in
         let same : planned.summary.installs ≡ installs_after command before.installs = ap (λ (h : Holdings (List ℕ)). h.installs) is.1.after in
         let low = installs_few in omega (arith, g, same, low)) (edition_numbers before.items) range));
     number = let e : planned.kept.number ≡ before.accepted + 1 = ap (λ (r : Rattle.dict_catalogue.specs.Effects.KeptReply). r.number) is.1.kept in let f = few in omega (arith, e, f);
-    edition = subst (λ n. IfSome n IsStorable) (sym (ap (λ (r : Rattle.dict_catalogue.specs.Effects.KeptReply). r.edition) is.1.kept))
-        (told_among IsStorable command (effect command before).items
+    edition = subst (λ n. IfSome n FitsColumn) (sym (ap (λ (r : Rattle.dict_catalogue.specs.Effects.KeptReply). r.edition) is.1.kept))
+        (told_among FitsColumn command (effect command before).items
         (subst (λ (items : List (Item (List ℕ))). AllByRecursion (λ item. AreStorable (numbers_of item)) items) (ap (λ (h : Holdings (List ℕ)). h.items) is.1.after) all_few));
   }
 
@@ -176,7 +176,7 @@ installed_as installs number (PutVirtual name title members) e lies = refl
 installed_as installs number (Place name at) e lies = refl
 
 pub change_is : (M : Catalogue) (id : List ℕ) (command : typed.Command) (planned : Planned) → IsEffect (summary_of M) (command_shown command) planned → LiesWithin command
-    → after.IsChange M id (command_meant command) (change_by id command planned)
+    → after.IsTableChange M id (command_meant command) (change_by id command planned)
 change_is M id command planned is lies = record {
   summary = is.after ∙ effect_with M id (command_meant command);
   gone = is.gone ∙ editions_gone_as (λ (edition : Edition). edition.title) (command_meant command) (holdings M);

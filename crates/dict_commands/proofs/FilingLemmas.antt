@@ -14,7 +14,7 @@ use Rattle.sqlite.specs.State.{HasCleanDisk, KeepsCommit}
 use Rattle.sqlite.specs.Held.{Held, state}
 use Rattle.sqlite_trees.specs.declared.store.Store.{Ghosts}
 use Rattle.sqlite.specs.Order.{Row}
-use Rattle.dict_records.specs.Records.{Edition, Entry, Part}
+use Rattle.dict_records.specs.Records.{EditionRecord, EntryRecord, Part}
 use Rattle.dict_sql.specs.Effects.{WhileOpen, equals_number, rows_of}
 use Rattle.dict_sql.specs.Encodings.{kept_row}
 use Rattle.dict_edition_sql.specs.PartRecords.{part_row}
@@ -29,13 +29,13 @@ use Rattle.dict_rows.proofs.TakenLemmas.{same_number_is}
 use Rattle.dict_holdings.specs.Files.{parts_under, installed_parts}
 use Rattle.dict_holdings.specs.AllTables.{AllTables, all_after}
 use Rattle.dict_holdings.specs.Holds.{Keeps}
-use Rattle.dict_commands.specs.Kept.{HasRecords, IsUsable, HoldsReplies, Turns}
+use Rattle.dict_commands.specs.KeptRecords.{HasRecords, IsUsable, HoldsReplies, TurnsRecords}
 use Rattle.dict_commands.specs.Changes.{with_more_editions, with_more_parts, without_parts}
-use Rattle.dict_commands.specs.Filing.{parts_of_filing, IsDrawnUp, IsWhole, IsOfEdition, HasNoneFiled, filed_by, IsAhead, rows_under, HasSameUnder, HasSameRows, ShowsStill, rested, IsUnderway}
+use Rattle.dict_commands.specs.Filing.{parts_of_filing, IsDrawnUp, AreAllPartsFiled, IsOfEdition, HasNoneFiled, filed_by, IsAhead, rows_under, HasSameUnder, HasSameRows, ShowsStill, rested, IsUnderway}
 use Rattle.dict_commands.specs.Finishing.{finished, IsOfChange, AwaitsRest}
-use Rattle.dict_commands.specs.Parts.{Files, Trims}
+use Rattle.dict_commands.specs.FiledParts.{Files, Trims}
 use Rattle.dict_commands.specs.Statements.{adding_edition, adding_part}
-use Rattle.dict_commands.specs.Writes.{Wrote}
+use Rattle.dict_commands.specs.Writes.{WroteStatements}
 use Rattle.dict_commands.specs.declared.filing.Filing.{Filing}
 use Rattle.dict_commands.proofs.GoneLemmas.{tested}
 use Rattle.dict_commands.proofs.LoopLemmas.{adding_none}
@@ -111,7 +111,7 @@ module _ (number : ℕ) where
   pub rest_aside : (all : AllTables) → without_parts (number ∷ []) (with_parts_that (λ r. not (equals_number 0 (pos number) (part_row r))) all) ≡ without_parts (number ∷ []) all
   rest_aside all = aside (λ r. not (equals_number 0 (pos number) (part_row r))) (λ r. rest_stays (equals_number 0 (pos number) (part_row r)) (is_gone (number ∷ []) r.edition) (its r)) all
 
-ahead_trimmed : (f : Filing) (number : ℕ) (effect : AllTables → AllTables) (committed old new : Database) → AreAmong (number ∷ []) f.gone.items → Turns effect old new
+ahead_trimmed : (f : Filing) (number : ℕ) (effect : AllTables → AllTables) (committed old new : Database) → AreAmong (number ∷ []) f.gone.items → TurnsRecords effect old new
     → ((all : AllTables) → without_parts (number ∷ []) (effect all) ≡ without_parts (number ∷ []) all) → IsAhead f committed old → IsAhead f committed new
 ahead_trimmed f number effect committed old new among turns others ahead = λ all it.
     let seen = ahead all it in
@@ -129,7 +129,7 @@ grown : {R : Type 0} (k : R → Bool) (seen all part rows whole : List R) → fi
 grown k seen all part rows whole same next =
     filter-append k seen rows ∙ ap (λ l. l ++ filter k rows) same ∙ sym (filter-append k (all ++ part) rows) ∙ ap (filter k) (append_assoc all part rows ∙ ap (λ l. all ++ l) next)
 
-ahead_parts : (f : Filing) (to : ℕ) (committed old new : Database) → IsAhead f committed old → (rows : List Part) → take f.parts_filed (parts_of_filing f) ++ rows ≡ take to (parts_of_filing f) → Turns
+ahead_parts : (f : Filing) (to : ℕ) (committed old new : Database) → IsAhead f committed old → (rows : List Part) → take f.parts_filed (parts_of_filing f) ++ rows ≡ take to (parts_of_filing f) → TurnsRecords
     (with_more_parts rows) old new → IsAhead (record f { parts_filed = to }) committed new
 ahead_parts f to committed old new ahead rows next turns = λ all it.
     let seen = ahead all it in
@@ -239,7 +239,7 @@ parts_are : (f : Filing) (edition : Option Installed) → IsOfEdition f edition 
 parts_are f None h = absurd h
 parts_are f (Some new) h = λ i. parts_under (pos (h.0 i)) (h.1 i) (h.2 i)
 
-module _ (f : Filing) (change : TableChange) (whole : IsWhole f) (of_it : IsOfChange f change.edition change.gone) (all seen : AllTables) (same : without_parts f.gone.items seen ≡ without_parts f.gone.items (filed_by f all)) where
+module _ (f : Filing) (change : TableChange) (whole : AreAllPartsFiled f) (of_it : IsOfChange f change.edition change.gone) (all seen : AllTables) (same : without_parts f.gone.items seen ≡ without_parts f.gone.items (filed_by f all)) where
   same_gone : without_parts change.gone seen ≡ without_parts change.gone (filed_by f all)
   same_gone = subst (λ l. without_parts l seen ≡ without_parts l (filed_by f all)) of_it.gone_is same
 
@@ -253,12 +253,12 @@ module _ (f : Filing) (change : TableChange) (whole : IsWhole f) (of_it : IsOfCh
 
   -- but for the entries, which no table keeps
   abbrev but_entries : AllTables
-  but_entries = record (all_after known change all) { entries = filter (stays (λ (r : Entry). r.edition) change.gone) all.entries }
+  but_entries = record (all_after known change all) { entries = filter (stays (λ (r : EntryRecord). r.edition) change.gone) all.entries }
 
   finished_is : finished change seen ≡ but_entries
   finished_is = λ i. record but_entries {
-    editions = filter (stays (λ (r : Edition). r.number) change.gone) (ap (λ (a : AllTables). a.editions) same_gone i) ++ installed_editions change.edition;
-    entries = filter (stays (λ (r : Entry). r.edition) change.gone) (ap (λ (a : AllTables). a.entries) same_gone i);
+    editions = filter (stays (λ (r : EditionRecord). r.number) change.gone) (ap (λ (a : AllTables). a.editions) same_gone i) ++ installed_editions change.edition;
+    entries = filter (stays (λ (r : EntryRecord). r.edition) change.gone) (ap (λ (a : AllTables). a.entries) same_gone i);
     parts = parts_behind i;
     kept = ap (λ (a : AllTables). a.kept) same_gone i ++ kept_record change.kept ∷ [];
   }
@@ -266,7 +266,7 @@ module _ (f : Filing) (change : TableChange) (whole : IsWhole f) (of_it : IsOfCh
   rest_turned : (db : Database) → HasRecords db (finished change seen) → HasRecords db (all_after known change all)
   rest_turned db it = other_entries db but_entries (subst (HasRecords db) finished_is it) (all_after known change all).entries
 
-pub awaits_rest : (f : Filing) (change : TableChange) (committed now : Database) → IsWhole f → IsOfChange f change.edition change.gone → IsAhead f committed now → AwaitsRest change committed now
+pub awaits_rest : (f : Filing) (change : TableChange) (committed now : Database) → AreAllPartsFiled f → IsOfChange f change.edition change.gone → IsAhead f committed now → AwaitsRest change committed now
 awaits_rest f change committed now whole of_it ahead = λ all it.
     let seen = ahead all it in
     (seen.0, seen.1, seen.3, rest_turned f change whole of_it all seen.0 seen.2)
@@ -274,7 +274,7 @@ awaits_rest f change committed now whole of_it ahead = λ all it.
 -- ---- what the parts do
 
 module _ {S : Type 0} (g : Ghosts S) (f : Filing) (old new : Held S) where
-  pub files_parts : (to : ℕ) (rows : List Part) → rows ≡ slice_range (parts_of_filing f) f.parts_filed to → f.parts_filed ≤ to → Wrote g (map adding_part rows) (with_more_parts rows) old new → Files g f
+  pub files_parts : (to : ℕ) (rows : List Part) → rows ≡ slice_range (parts_of_filing f) f.parts_filed to → f.parts_filed ≤ to → WroteStatements g (map adding_part rows) (with_more_parts rows) old new → Files g f
       (record f { parts_filed = to }) old new
   files_parts to rows are le wrote = record {
     ahead = λ clean committed ahead. ahead_parts f to committed (state g old).now (state g new).now ahead rows (ap (λ l. take f.parts_filed (parts_of_filing f) ++ l) are ∙ so_far (parts_of_filing f) f.parts_filed to le) (wrote.turns clean);
@@ -327,7 +327,7 @@ underway_more g f after old new early keeps inside underway files = λ clean liv
 
 -- ---- no record is added where no edition is installed
 
-pub wrote_no_record : {S : Type 0} (g : Ghosts S) (edition : Option Installed) → edition ≡ None → (h : Held S) → Wrote g (map adding_edition (installed_editions edition)) (with_more_editions (installed_editions edition)) h h
+pub wrote_no_record : {S : Type 0} (g : Ghosts S) (edition : Option Installed) → edition ≡ None → (h : Held S) → WroteStatements g (map adding_edition (installed_editions edition)) (with_more_editions (installed_editions edition)) h h
 wrote_no_record g edition is h =
-    subst (λ e. Wrote g (map adding_edition (installed_editions e)) (with_more_editions (installed_editions e)) h h) (sym is)
-    (adding_none g adding_edition with_more_editions (λ all. ap (λ (l : List Edition). record all { editions = l }) (append-nil all.editions)) h)
+    subst (λ e. WroteStatements g (map adding_edition (installed_editions e)) (with_more_editions (installed_editions e)) h h) (sym is)
+    (adding_none g adding_edition with_more_editions (λ all. ap (λ (l : List EditionRecord). record all { editions = l }) (append-nil all.editions)) h)

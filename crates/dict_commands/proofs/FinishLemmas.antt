@@ -9,7 +9,7 @@ use Rattle.sqlite.specs.Held.{Held, state}
 use Rattle.sqlite.proofs.StateLemmas.{survives_then, survives_weaker}
 use Rattle.sqlite_trees.specs.declared.store.Store.{Ghosts}
 use Rattle.dict_desk.specs.Faults.{is_disk, is_failure}
-use Rattle.dict_holdings.specs.Faults.{fault_of, FailsToLookUp}
+use Rattle.dict_holdings.specs.Faults.{fault_of, FailsToReadCatalogue}
 use Rattle.dict_desk.specs.declared.fault.Fault.{Fault}
 use Rattle.dict_desk.specs.declared.fault.Fault.TheVariants.{Refused, Memory, Disk, Closed, NotACatalogue, Damaged, NewerSchema}
 use Rattle.dict_index.specs.Edition.{Edition}
@@ -28,12 +28,12 @@ use Rattle.dict_rows.specs.Versions.{known}
 use Rattle.dict_holdings.specs.AllTables.{AllTables, with_derived, all_after}
 use Rattle.dict_holdings.specs.Holds.{Holds, Rests, IsLeftAs}
 use Rattle.dict_holdings.specs.Writing.{FailsAtLast}
-use Rattle.dict_commands.specs.Kept.{IsUsable, SparesOthers, KeepsTexts, Turns, HoldsReplies}
+use Rattle.dict_commands.specs.KeptRecords.{IsUsable, SparesTablesOfOthers, KeepsTextRows, TurnsRecords, HoldsReplies}
 use Rattle.dict_commands.specs.Changes.{change_by, IsInRange}
 use Rattle.dict_commands.specs.Decided.{LiesWithin}
 use Rattle.dict_commands.specs.Committed.{IsCommitted, IsTreesOf, IsOfStore}
 use Rattle.dict_commands.specs.Answers.{HoldsBy, HoldsAfter, Answers, has_written, summary_after, numbers_after, IsOfApply, IsOfShut}
-use Rattle.dict_commands.specs.Filing.{rested, FailsInside, IsAhead, IsUnderway, IsWhole}
+use Rattle.dict_commands.specs.Filing.{rested, FailsInside, IsAhead, IsUnderway, AreAllPartsFiled}
 use Rattle.dict_commands.specs.Finishing.{finishing, finished, AwaitsRest, IsOfChange, IsAppliedOver, IsUndone, LooksOnly, FailsToFinish}
 use Rattle.dict_commands.specs.declared.filing.Filing.{Filing}
 use Rattle.dict_commands.specs.declared.applied.Applied.{Applied}
@@ -201,7 +201,7 @@ undone_later g old mid new (inr looked) undone = inr (by looked.1 undone)
 
 -- a lookup in an open transaction changed nothing, or it failed
 pub looked_only : {S X : Type 0} (g : Ghosts S) (old mid : Held S) (result : Result X Fault) → old.in_transaction ≡ true → OnOk result (IsUnchanged (state g old) (state g mid))
-    → IfErr result (FailsToLookUp (state g old) (state g mid)) → LooksOnly g old mid
+    → IfErr result (FailsToReadCatalogue (state g old) (state g mid)) → LooksOnly g old mid
 looked_only g old mid (Ok x) inside same failed = inr (inside, inl same)
 looked_only g old mid (Err fault) inside same (inl h) = inr (inside, inl h.0)
 looked_only g old mid (Err fault) inside same (inr h) = inr (inside, inr h.2.3)
@@ -230,14 +230,14 @@ module _ (summary : Holdings (List ℕ)) (id : List ℕ) (command : Command Edit
       let returned = back (mid_clean clean) in
       (returned.keeps.was_open left.0, λ M held is. left.1 M (rests_there old mid M returned left.0 (λ _. held)) is)) one crash
 
-  anew_beside : Survives mid new (IsTreesOf (SparesOthers mid.now)) → Survives old new (λ trees. IsTrue old.is_open × IsTreesOf (SparesOthers old.committed) trees)
+  anew_beside : Survives mid new (IsTreesOf (SparesTablesOfOthers mid.now)) → Survives old new (λ trees. IsTrue old.is_open × IsTreesOf (SparesTablesOfOthers old.committed) trees)
   anew_beside beside = survives_then old mid new (λ _. ⊥) (λ trees. (IsTrue mid.is_open × ((M : Catalogue) → Rests known mid M → summary_of M ≡ summary → IsLeftAs known (step M id command).catalogue trees)) ×
-      IsTreesOf (SparesOthers mid.now) trees)
-      (λ trees. IsTrue old.is_open × IsTreesOf (SparesOthers old.committed) trees) (λ clean trees none. absurd none)
+      IsTreesOf (SparesTablesOfOthers mid.now) trees)
+      (λ trees. IsTrue old.is_open × IsTreesOf (SparesTablesOfOthers old.committed) trees) (λ clean trees none. absurd none)
       (λ clean trees left.
       let returned = back (mid_clean clean) in
-      (returned.keeps.was_open left.0.0, subst (λ (a : Database). IsTreesOf (SparesOthers a) trees) (now_was old mid returned left.0.0) left.1)) one
-      (both_left mid new (λ trees. IsTrue mid.is_open × ((M : Catalogue) → Rests known mid M → summary_of M ≡ summary → IsLeftAs known (step M id command).catalogue trees)) (IsTreesOf (SparesOthers mid.now)) crash beside)
+      (returned.keeps.was_open left.0.0, subst (λ (a : Database). IsTreesOf (SparesTablesOfOthers a) trees) (now_was old mid returned left.0.0) left.1)) one
+      (both_left mid new (λ trees. IsTrue mid.is_open × ((M : Catalogue) → Rests known mid M → summary_of M ≡ summary → IsLeftAs known (step M id command).catalogue trees)) (IsTreesOf (SparesTablesOfOthers mid.now)) crash beside)
 
   -- what is answered over the catalogue that was committed
   answered : (clean : HasCleanDisk new) (live : IsTrue mid.is_open) → (M : Catalogue) × Answers new M id (step M id command) result
@@ -272,8 +272,8 @@ module _ (summary : Holdings (List ℕ)) (id : List ℕ) (command : Command Edit
     | inr gone ↦ shut clean gone
   ]
 
-  pub anew_applied : (has_written result ≡ false → Survives mid new (λ _. ⊥)) → Survives mid new (IsTreesOf (SparesOthers mid.now)) → (HasCleanDisk new → OnOk result (SparesOthers mid.now new.now))
-      → (HasCleanDisk new → OnOk result (KeepsTexts summary.installs (numbers_after summary result) mid.now new.now))
+  pub anew_applied : (has_written result ≡ false → Survives mid new (λ _. ⊥)) → Survives mid new (IsTreesOf (SparesTablesOfOthers mid.now)) → (HasCleanDisk new → OnOk result (SparesTablesOfOthers mid.now new.now))
+      → (HasCleanDisk new → OnOk result (KeepsTextRows summary.installs (numbers_after summary result) mid.now new.now))
       → (HasCleanDisk new → IfErr result (λ fault. is_failure fault ≡ false → new.now ≡ mid.now)) → summary.installs ≤ (summary_after summary result).installs → IfErr result IsOfApply → IsInRange
       (summary_after summary result) → (HasCleanDisk new → new.in_transaction ≡ false)
       → IsAppliedOver summary id command old new result
@@ -284,8 +284,8 @@ module _ (summary : Holdings (List ℕ)) (id : List ℕ) (command : Command Edit
     beside = anew_beside beside;
     lives = λ clean live. (back (mid_clean clean)).keeps.was_open (lives clean live);
     shut = anew_shut;
-    others = anew_ok SparesOthers others;
-    above = anew_ok (KeepsTexts summary.installs (numbers_after summary result)) above;
+    others = anew_ok SparesTablesOfOthers others;
+    above = anew_ok (KeepsTextRows summary.installs (numbers_after summary result)) above;
     refused = anew_refused refused;
     grows = grows;
     kinds = kinds;
@@ -327,12 +327,12 @@ module _ (summary : Holdings (List ℕ)) (id : List ℕ) (command : Command Edit
     crash = survives_then old mid new (λ _. ⊥) (λ trees. IsTrue mid.is_open × ((M : Catalogue) → Holds known mid.committed M → summary_of M ≡ summary → IsLeftAs known (step M id command).catalogue trees))
         (λ trees. IsTrue old.is_open × ((M : Catalogue) → Holds known old.committed M → summary_of M ≡ summary → IsLeftAs known (step M id command).catalogue trees)) (λ clean trees none. absurd none)
         (λ clean trees left. ((kept_so clean).was_open left.0, λ M held is. left.1 M (subst (λ (db : Database). Holds known db M) (sym ((kept_so clean).committed left.0)) held) is)) one applied.crash;
-    beside = survives_then old mid new (λ _. ⊥) (λ trees. IsTrue mid.is_open × IsTreesOf (SparesOthers mid.committed) trees) (λ trees. IsTrue old.is_open × IsTreesOf (SparesOthers old.committed) trees) (λ clean trees none. absurd none)
-        (λ clean trees left. ((kept_so clean).was_open left.0, subst (λ (a : Database). IsTreesOf (SparesOthers a) trees) ((kept_so clean).committed left.0) left.1)) one applied.beside;
+    beside = survives_then old mid new (λ _. ⊥) (λ trees. IsTrue mid.is_open × IsTreesOf (SparesTablesOfOthers mid.committed) trees) (λ trees. IsTrue old.is_open × IsTreesOf (SparesTablesOfOthers old.committed) trees) (λ clean trees none. absurd none)
+        (λ clean trees left. ((kept_so clean).was_open left.0, subst (λ (a : Database). IsTreesOf (SparesTablesOfOthers a) trees) ((kept_so clean).committed left.0) left.1)) one applied.beside;
     lives = λ clean live. (kept_so clean).was_open (applied.lives clean live);
     shut = later_shut;
-    others = later_ok SparesOthers applied.others;
-    above = later_ok (KeepsTexts summary.installs (numbers_after summary result)) applied.above;
+    others = later_ok SparesTablesOfOthers applied.others;
+    above = later_ok (KeepsTextRows summary.installs (numbers_after summary result)) applied.above;
     refused = later_refused;
     grows = applied.grows;
     kinds = applied.kinds;
@@ -342,7 +342,7 @@ module _ (summary : Holdings (List ℕ)) (id : List ℕ) (command : Command Edit
 
 -- ---- the rest of a command
 
-pub rest_turns : (change : TableChange) (committed a b : Database) → AwaitsRest change committed a → Turns (finished change) a b → Turns (all_after known change) committed b
+pub rest_turns : (change : TableChange) (committed a b : Database) → AwaitsRest change committed a → TurnsRecords (finished change) a b → TurnsRecords (all_after known change) committed b
 rest_turns change committed a b awaits turns = λ all it.
     let seen = awaits all it in
     let more = turns seen.0 seen.1 in
@@ -388,7 +388,7 @@ kept_answers old new M id outcome NewerSchema h keeps held = absurd h
 module _ (summary : Holdings (List ℕ)) (id : List ℕ) (command : typed.Command) (planned : Planned) (old new : State) (lawful : is_request_id id ≡ true) (change : IsChange summary (command_shown command) planned)
     (allowed : IsLawfulCommand (command_meant command)) (lies : LiesWithin command)
     (free : HasCleanDisk old → (M : Catalogue) → Rests known (rested old) M → kept_under M.kept id ≡ None) (holds : HoldsBy summary (rested old))
-    (crash : Survives old new (λ trees. IsTrue old.is_open × IsTreesOf (Turns (all_after known (change_by id command planned)) old.committed) trees))
+    (crash : Survives old new (λ trees. IsTrue old.is_open × IsTreesOf (TurnsRecords (all_after known (change_by id command planned)) old.committed) trees))
     (ended : HasCleanDisk new → new.in_transaction ≡ false) where
   abbrev effect : AllTables → AllTables
   effect = all_after known (change_by id command planned)
@@ -403,24 +403,24 @@ module _ (summary : Holdings (List ℕ)) (id : List ℕ) (command : typed.Comman
   rest_crash = survives_weaker old new _ _
       (λ clean trees left. (left.0, λ M held is. let rests = rest_there M left.0 held in left_after M id command planned summary lawful (free (old_clean clean) M rests) is change allowed lies (rested old) trees rests left.1)) crash
 
-  rest_beside : Survives old new (λ trees. IsTrue old.is_open × IsTreesOf (SparesOthers old.committed) trees)
+  rest_beside : Survives old new (λ trees. IsTrue old.is_open × IsTreesOf (SparesTablesOfOthers old.committed) trees)
   rest_beside = survives_weaker old new _ _ (λ clean trees left. (left.0, (left.1.0, left.1.1, left.1.2, others_spared summary (rested old) effect holds (old_clean clean) left.0 left.1.0 left.1.3))) crash
 
-  module _ (made : HasCleanDisk new → IsCommitted (Turns effect old.committed) new) (lives : HasCleanDisk new → IsTrue new.is_open → IsTrue old.is_open) (range : IsInRange (summary_shown planned.summary)) where
+  module _ (made : HasCleanDisk new → IsCommitted (TurnsRecords effect old.committed) new) (lives : HasCleanDisk new → IsTrue new.is_open → IsTrue old.is_open) (range : IsInRange (summary_shown planned.summary)) where
     live_then : HasCleanDisk new → IsTrue old.is_open
     live_then clean = lives clean (made clean).is_open
 
     pub rest_done : IsAppliedOver summary id (command_meant command) old new (Ok (Done planned.kept planned.summary))
     rest_done = record {
       value = λ clean M held is. let rests = rest_there M (live_then clean) (held (live_then clean)) in
-          acted_answers M id command planned summary lawful (free (old_clean clean) M rests) is change allowed lies (rested old) (rested new) rests (committed_so (Turns effect old.committed) new (made clean));
+          acted_answers M id command planned summary lawful (free (old_clean clean) M rests) is change allowed lies (rested old) (rested new) rests (committed_so (TurnsRecords effect old.committed) new (made clean));
       spares = λ no. absurd (false≢true (sym no));
       crash = rest_crash;
       beside = rest_beside;
       lives = lives;
       shut = λ clean dead. absurd (no_longer old.is_open dead (live_then clean));
-      others = λ clean. others_committed summary (rested old) (rested new) effect holds (old_clean clean) (live_then clean) (committed_so (Turns effect old.committed) new (made clean));
-      above = λ clean. above_committed summary id command planned change (rested old) (rested new) holds (old_clean clean) (live_then clean) (committed_so (Turns effect old.committed) new (made clean));
+      others = λ clean. others_committed summary (rested old) (rested new) effect holds (old_clean clean) (live_then clean) (committed_so (TurnsRecords effect old.committed) new (made clean));
+      above = λ clean. above_committed summary id command planned change (rested old) (rested new) holds (old_clean clean) (live_then clean) (committed_so (TurnsRecords effect old.committed) new (made clean));
       refused = λ clean. tt;
       grows = grows_by summary command planned change;
       kinds = tt;
@@ -450,11 +450,11 @@ module _ (summary : Holdings (List ℕ)) (id : List ℕ) (command : typed.Comman
 module _ {S : Type 0} (g : Ghosts S) (summary : Holdings (List ℕ)) (id : List ℕ) (command : typed.Command) (planned : Planned) (old new : Held S) (lawful : is_request_id id ≡ true)
     (change : IsChange summary (command_shown command) planned) (allowed : IsLawfulCommand (command_meant command)) (lies : LiesWithin command)
     (free : (M : Catalogue) → Rests known (rested (state g old)) M → kept_under M.kept id ≡ None) where
-  held_then : (db : Database) → Turns (all_after known (change_by id command planned)) (state g old).committed db → HoldsAfter summary (rested (state g old)) id (command_meant command) db
+  held_then : (db : Database) → TurnsRecords (all_after known (change_by id command planned)) (state g old).committed db → HoldsAfter summary (rested (state g old)) id (command_meant command) db
   held_then db turns = λ M rests is. holds_after M id command planned summary lawful (free M rests) is change allowed lies (state g old).committed db rests.holds turns
 
   pub rest_fails : (fault : Fault) → FailsInside g fault_of (finishing known (change_by id command planned)) old new fault ⊎ FailsAtLast g (finishing known (change_by id command planned))
-      (Turns (all_after known (change_by id command planned)) (state g old).committed) old new fault
+      (TurnsRecords (all_after known (change_by id command planned)) (state g old).committed) old new fault
       → FailsToFinish g summary id (command_meant command) old new fault
   rest_fails fault (inl h) = (change_by id command planned, is_planned id command planned summary change lies (rested (state g old)), inl h)
   rest_fails fault (inr h) = (
@@ -473,7 +473,7 @@ module _ {S : Type 0} (g : Ghosts S) (f : Filing) (old mid : Held S) (underway :
   ahead_there : (clean : HasCleanDisk (state g mid)) → IsAhead f (state g old).committed (state g old).now
   ahead_there clean = underway (clean_before (state g old) (state g mid) one clean) (same clean).0.was_open inside
 
-  pub change_awaits : (change : TableChange) → IsWhole f → IsOfChange f change.edition change.gone → HasCleanDisk (state g mid) → IsTrue (state g mid).is_open → AwaitsRest change (state g mid).committed (state g mid).now
+  pub change_awaits : (change : TableChange) → AreAllPartsFiled f → IsOfChange f change.edition change.gone → HasCleanDisk (state g mid) → IsTrue (state g mid).is_open → AwaitsRest change (state g mid).committed (state g mid).now
   change_awaits change whole of_it clean live =
       subst (λ (db : Database). AwaitsRest change db (state g mid).now) (sym (same clean).0.committed_is)
       (subst (λ (db : Database). AwaitsRest change (state g old).committed db) (sym (same clean).0.now_is) (awaits_rest f change (state g old).committed (state g old).now whole of_it (ahead_there clean)))

@@ -12,13 +12,13 @@ use Rattle.sqlite.specs.Order.{Row, column}
 use Rattle.sqlite.specs.declared.types.Value.{Value}
 use Rattle.sqlite.specs.declared.types.Value.TheVariants.{Int}
 use Rattle.dict_sql.specs.Effects.{IsRemoved, equals_number, same_value}
-use Rattle.dict_records.specs.Records.{Edition, Entry, Part}
+use Rattle.dict_records.specs.Records.{EditionRecord, EntryRecord, Part}
 use Rattle.dict_rows.specs.Tables.{same_number}
 use Rattle.dict_rows.specs.After.{is_gone}
 use Rattle.dict_rows.proofs.PartLemmas.{filter_filter, filter_alike}
 use Rattle.dict_holdings.specs.AllTables.{AllTables}
 use Rattle.dict_holdings.specs.Holds.{Keeps}
-use Rattle.dict_commands.specs.Kept.{HasRecords, IsStorable, Turns}
+use Rattle.dict_commands.specs.KeptRecords.{HasRecords, FitsColumn, TurnsRecords}
 use Rattle.dict_commands.specs.Changes.{without_editions}
 use Rattle.dict_commands.specs.Statements.{taking}
 use Rattle.dict_commands.proofs.LoopLemmas.{Grows}
@@ -26,7 +26,7 @@ use Rattle.dict_commands.proofs.RowLemmas.{keeps_removed, next_column, compared_
 use Rattle.dict_commands.proofs.TableLemmas.{edition_row, editions_turned, editions_kept, other_entries}
 
 -- a number that can be held is handed on as it is
-pub handed : (n : ℕ) → IsStorable n → to_z w64 n ≡ pos n
+pub handed : (n : ℕ) → FitsColumn n → to_z w64 n ≡ pos n
 handed n h = to_z_pos w64 n (let b : n < 9223372036854775808 = omega (arith, h) in b)
 
 or_none : (b : Bool) → (b || false) ≡ b
@@ -55,10 +55,10 @@ module _ {R : Type 0} (name : List ℕ) (encode : R → Row) (number : R → ℤ
 abbrev pub without_record : ℕ → AllTables → AllTables
 without_record n all = record all { editions = filter (λ row. not (is_gone (n ∷ []) row.number)) all.editions; entries = filter (λ row. not (is_gone (n ∷ []) row.edition)) all.entries }
 
-pub record_gone : (n : ℕ) (old new : Database) → IsRemoved (codes "edition") (equals_number 1 (pos n)) old new → Turns (without_record n) old new
+pub record_gone : (n : ℕ) (old new : Database) → IsRemoved (codes "edition") (equals_number 1 (pos n)) old new → TurnsRecords (without_record n) old new
 record_gone n old new gone = λ all it.
-    let rest : List Edition = filter (λ row. not (is_gone (n ∷ []) row.number)) all.editions in
-    let both = editions_turned old new all it gone.schema rest gone.others (keeps_gone (codes "edition") edition_row (λ (r : Edition). r.number) (λ r. refl) old new n all.editions gone (editions_kept old all it)) in
+    let rest : List EditionRecord = filter (λ row. not (is_gone (n ∷ []) row.number)) all.editions in
+    let both = editions_turned old new all it gone.schema rest gone.others (keeps_gone (codes "edition") edition_row (λ (r : EditionRecord). r.number) (λ r. refl) old new n all.editions gone (editions_kept old all it)) in
     (other_entries new (record all { editions = rest }) both.0 (filter (λ row. not (is_gone (n ∷ []) row.edition)) all.entries), both.1)
 
 -- ---- one number after another
@@ -87,8 +87,8 @@ next_gone db gone i lt all it =
     let n : ℕ = get_or gone i 0 in
     let some : List ℕ = take i gone in
     let more : HasRecords db (without_editions (some ++ n ∷ []) all) = subst (λ (t : AllTables). HasRecords db t) (λ k. record all {
-      editions = both_gone some n (λ (row : Edition). row.number) all.editions k;
-      entries = both_gone some n (λ (row : Entry). row.edition) all.entries k;
+      editions = both_gone some n (λ (row : EditionRecord). row.number) all.editions k;
+      entries = both_gone some n (λ (row : EntryRecord). row.edition) all.entries k;
       parts = both_gone some n (λ (row : Part). row.edition) all.parts k;
     }) it in
     subst (λ l. HasRecords db (without_editions l all)) (sym (take_more gone i 0 lt)) more

@@ -15,10 +15,10 @@ use Rattle.sqlite.specs.declared.types.Value.TheVariants.{Int, Text}
 use Rattle.dict_sql.specs.Effects.{equals_text, rows_of}
 use Rattle.dict_sql.specs.Encodings.{kept_row, number_or_null, stored_kept}
 use Rattle.dict_sql.specs.Reads.{IsSelection}
-use Rattle.dict_records.specs.Records.{Kept}
+use Rattle.dict_records.specs.Records.{KeptRecord}
 use Rattle.dict_records.specs.Typed.{owned_kept}
-use Rattle.dict_records.specs.declared.records.Stored.{Stored}
-use Rattle.dict_records.specs.declared.records.Kept as typed
+use Rattle.dict_records.specs.declared.records.StoredRow.{StoredRow}
+use Rattle.dict_records.specs.declared.records.KeptRecord as typed
 use Rattle.dict_catalogue.specs.Steps.{KeptFor, Catalogue, kept_under}
 use Rattle.dict_catalogue.specs.WellFormed.{IsEachOnce, how_many}
 use Rattle.dict_catalogue.specs.declared.reply.Verb.{Verb}
@@ -26,7 +26,7 @@ use Rattle.dict_rows.specs.Written.{kept_record, verb_name}
 use Rattle.dict_rows.proofs.OrderLemmas.{IsIn, Same, same_from}
 use Rattle.dict_rows.proofs.OnceLemmas.{kept_same}
 use Rattle.dict_holdings.specs.Holds.{Holds, Keeps}
-use Rattle.dict_commands.specs.Kept.{HoldsReplies}
+use Rattle.dict_commands.specs.KeptRecords.{HoldsReplies}
 use Rattle.dict_commands.proofs.RowLemmas.{filter_map}
 use Rattle.dict_holdings.proofs.ReadingLemmas.{replies_kept}
 use Rattle.dict_rows.specs.Versions.{known, layout_of}
@@ -39,10 +39,10 @@ use Rattle.dict_sql.specs.declared.records.ReadError.{ReadError}
 use Rattle.dict_holdings.specs.Faults.{fault_of_read}
 use Rattle.dict_holdings.proofs.FailLemmas.{list_fails}
 use Rattle.dict_holdings.proofs.ReadableLemmas.{held_replies}
-use Rattle.dict_holdings.specs.Faults.{FailsToLookUp}
+use Rattle.dict_holdings.specs.Faults.{FailsToReadCatalogue}
 
 abbrev ReadKept : Type 0
-ReadKept = Stored (typed.Kept (String Global))
+ReadKept = StoredRow (typed.KeptRecord (String Global))
 
 -- ---- a row tells its record
 
@@ -58,7 +58,7 @@ abbrev whole_in : Value → ℤ
 whole_in (Int n) = n
 whole_in _ = Rattle.std.specs.Prelude.pos 0
 
-abbrev decoded : Row → Kept
+abbrev decoded : Row → KeptRecord
 decoded row = record {
   id = words_in (Rattle.sqlite.specs.Order.column row 0);
   number = whole_in (Rattle.sqlite.specs.Order.column row 1);
@@ -71,10 +71,10 @@ number_back : (n : Option ℤ) → number_in (number_or_null n) ≡ n
 number_back None = refl
 number_back (Some n) = refl
 
-decoded_back : (r : Kept) → decoded (kept_row r) ≡ r
+decoded_back : (r : KeptRecord) → decoded (kept_row r) ≡ r
 decoded_back r = ap (λ e. record { id = r.id; number = r.number; verb = r.verb; name = r.name; edition = e }) (number_back r.edition)
 
-row_same : (r s : Kept) → kept_row r ≡ kept_row s → r ≡ s
+row_same : (r s : KeptRecord) → kept_row r ≡ kept_row s → r ≡ s
 row_same r s e = sym (decoded_back r) ∙ ap decoded e ∙ decoded_back s
 
 -- ---- lists
@@ -144,7 +144,7 @@ module _ (id : List ℕ) where
   dropped [] = refl
   dropped (x ∷ all) = ap (λ l. read_row x ∷ l) (dropped all)
 
-  same_rows : (db : Database) (records : List Kept) (kept : List KeptFor) (all : List ReadKept) → records ≡ map kept_record kept → Keeps (codes "kept") kept_row db records → IsSelection (codes "kept")
+  same_rows : (db : Database) (records : List KeptRecord) (kept : List KeptFor) (all : List ReadKept) → records ≡ map kept_record kept → Keeps (codes "kept") kept_row db records → IsSelection (codes "kept")
       (equals_text 1 id) (2 ∷ []) db (map stored_kept all)
       → IsPermutation (map as_row (filter by_id kept)) (map read_row all)
   same_rows db records kept all are k selection =
@@ -186,27 +186,27 @@ module _ (id : List ℕ) where
   first_told kept (y ∷ all) x some is h = (h.0, ap (λ (z : ReadKept). owned_kept z.value) is ∙ h.1, h.2)
 
   -- the reply that was read is the one that is kept
-  pub reply_told : (kept : List KeptFor) (row : typed.Kept (String Global)) (one read : KeptFor) → owned_kept row ≡ kept_record read → owned_kept row ≡ kept_record one → kept_under kept id ≡ Some one.reply → Some
+  pub reply_told : (kept : List KeptFor) (row : typed.KeptRecord (String Global)) (one read : KeptFor) → owned_kept row ≡ kept_record read → owned_kept row ≡ kept_record one → kept_under kept id ≡ Some one.reply → Some
       read.reply ≡ kept_under kept id
   reply_told kept row one read is told there = ap (λ (k : KeptFor). Some k.reply) (kept_same read one (sym is ∙ told)) ∙ sym there
 
 -- a database that holds a catalogue has its replies
 pub holds_replies : (version : ℕ) (db : Database) (M : Catalogue) → Holds version db M → HoldsReplies db M.kept
 holds_replies version db M h = record {
-  keeps = subst (λ (l : List Kept). Keeps (codes "kept") kept_row db l) h.stands.kept (replies_kept (layout_of version) db h.tables h.keeps);
+  keeps = subst (λ (l : List KeptRecord). Keeps (codes "kept") kept_row db l) h.stands.kept (replies_kept (layout_of version) db h.tables h.keeps);
   once = h.stands.well_formed.ids;
 }
 
 -- the record of a reply has the parts of one
-pub none_of : {X : Type 0} (parts : Option X) (row : typed.Kept (String Global)) → ((x : X) → parts ≡ Some x → ⊥)
+pub none_of : {X : Type 0} (parts : Option X) (row : typed.KeptRecord (String Global)) → ((x : X) → parts ≡ Some x → ⊥)
     → IfNone parts ((number : ℕ) (verb : Verb) (edition : Option ℕ) → row.number ≡ pos number → string_bytes row.verb ≡ verb_name verb → row.edition ≡ option_map pos edition → ⊥)
     → (one : KeptFor) → owned_kept row ≡ kept_record one → ⊥
 none_of (Some x) row apart none one e = apart x refl
 none_of None row apart none one e =
-    none one.reply.number one.reply.verb one.reply.edition (ap (λ (k : Kept). k.number) e) (ap (λ (k : Kept). k.verb) e) (ap (λ (k : Kept). k.edition) e)
+    none one.reply.number one.reply.verb one.reply.edition (ap (λ (k : KeptRecord). k.number) e) (ap (λ (k : KeptRecord). k.verb) e) (ap (λ (k : KeptRecord). k.edition) e)
 
 -- ---- why it isn't read
 
 -- in a catalogue each row of a reply stands for a record
-pub replies_fail : (test : Row → Bool) (old new : State) (e : ReadError) → FailsToList kept_columns (filter test (rows_of (codes "kept") old.now)) old new e → FailsToLookUp old new (fault_of_read e)
+pub replies_fail : (test : Row → Bool) (old new : State) (e : ReadError) → FailsToList kept_columns (filter test (rows_of (codes "kept") old.now)) old new e → FailsToReadCatalogue old new (fault_of_read e)
 replies_fail test old new e h = list_fails (codes "kept") test kept_columns old new (λ M holds. held_replies known old.now M holds) e h

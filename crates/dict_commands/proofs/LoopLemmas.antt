@@ -11,10 +11,10 @@ use Rattle.dict_sql.specs.Statements.{Statement}
 use Rattle.dict_holdings.specs.AllTables.{AllTables}
 use Rattle.dict_rows.specs.Written.{numbered}
 use Rattle.dict_rows.proofs.ListLemmas.{numbered_append, numbered_push, map_next}
-use Rattle.dict_commands.specs.Kept.{HasRecords}
-use Rattle.dict_records.specs.Records.{Item, Member, Part}
+use Rattle.dict_commands.specs.KeptRecords.{HasRecords}
+use Rattle.dict_records.specs.Records.{ItemRecord, Member, Part}
 use Rattle.dict_commands.specs.Changes.{with_more_items, with_more_members, with_more_parts}
-use Rattle.dict_commands.specs.Writes.{Wrote, FailsToWrite, Spares}
+use Rattle.dict_commands.specs.Writes.{WroteStatements, FailsToWrite, CommitsNothing}
 use Rattle.dict_commands.proofs.WriteLemmas.{wrote_none, wrote_then, wrote_as, failed_before, failed_after}
 
 pub each_err : {X E : Type 0} (result : Result X E) (P Q : E → Type 0) → ((e : E) → P e → Q e) → IfErr result P → IfErr result Q
@@ -67,11 +67,11 @@ module _ {X Y : Type 0} (g : X → Y) (xs : List X) (i : ℕ) (x : X) (lt : i < 
 
 module _ {S : Type 0} (g : Ghosts S) {X : Type 0} (F : List X → List Statement) (T : List X → AllTables → AllTables) (xs : List X) (i : ℕ) (some : List Statement) (f : AllTables → AllTables)
     (next : F (take i xs) ++ some ≡ F (take (i + 1) xs))
-    (old mid new : Held S) (so_far : Wrote g (F (take i xs)) (T (take i xs)) old mid) (spares : Spares g mid new) where
-  pub loop_wrote : ((db : Database) (all : AllTables) → HasRecords db (f (T (take i xs) all)) → HasRecords db (T (take (i + 1) xs) all)) → Wrote g some f mid new → Wrote g (F (take (i + 1) xs)) (T (take (i + 1) xs)) old new
+    (old mid new : Held S) (so_far : WroteStatements g (F (take i xs)) (T (take i xs)) old mid) (spares : CommitsNothing g mid new) where
+  pub loop_wrote : ((db : Database) (all : AllTables) → HasRecords db (f (T (take i xs) all)) → HasRecords db (T (take (i + 1) xs) all)) → WroteStatements g some f mid new → WroteStatements g (F (take (i + 1) xs)) (T (take (i + 1) xs)) old new
   loop_wrote turn h =
       wrote_as g (F (take (i + 1) xs)) (λ all. f (T (take i xs) all)) (T (take (i + 1) xs)) old new turn
-      (subst (λ l. Wrote g l (λ all. f (T (take i xs) all)) old new) next (wrote_then g (F (take i xs)) some (T (take i xs)) f old mid new so_far h spares))
+      (subst (λ l. WroteStatements g l (λ all. f (T (take i xs) all)) old new) next (wrote_then g (F (take i xs)) some (T (take i xs)) f old mid new so_far h spares))
 
   pub loop_failed : Grows F → (e : Error) → FailsToWrite g some mid new e → FailsToWrite g (F xs) old new e
   loop_failed grows e h =
@@ -88,15 +88,15 @@ ComesLast {R} put = (front back : List R) (all : AllTables) → put back (put fr
 
 module _ {S : Type 0} (g : Ghosts S) {R : Type 0} (add : R → Statement) (put : List R → AllTables → AllTables) where
   -- nothing yet
-  pub adding_none : ((all : AllTables) → put [] all ≡ all) → (a : Held S) → Wrote g (map add []) (put []) a a
+  pub adding_none : ((all : AllTables) → put [] all ≡ all) → (a : Held S) → WroteStatements g (map add []) (put []) a a
   adding_none none a = wrote_as g [] (λ all. all) (put []) a a (λ db all it. subst (λ (t : AllTables). HasRecords db t) (sym (none all)) it) (wrote_none g a)
 
 module _ {S : Type 0} (g : Ghosts S) {X R : Type 0} (add : R → Statement) (put : List R → AllTables → AllTables) (last : ComesLast put) (rows : List X → List R) (xs : List X) (i : ℕ) (some : List R)
-    (next : rows (take i xs) ++ some ≡ rows (take (i + 1) xs)) (old mid new : Held S) (so_far : Wrote g (map add (rows (take i xs))) (put (rows (take i xs))) old mid) (spares : Spares g mid new) where
+    (next : rows (take i xs) ++ some ≡ rows (take (i + 1) xs)) (old mid new : Held S) (so_far : WroteStatements g (map add (rows (take i xs))) (put (rows (take i xs))) old mid) (spares : CommitsNothing g mid new) where
   added_next : map add (rows (take i xs)) ++ map add some ≡ map add (rows (take (i + 1) xs))
   added_next = sym (map-append add (rows (take i xs)) some) ∙ ap (map add) next
 
-  pub adding_wrote : Wrote g (map add some) (put some) mid new → Wrote g (map add (rows (take (i + 1) xs))) (put (rows (take (i + 1) xs))) old new
+  pub adding_wrote : WroteStatements g (map add some) (put some) mid new → WroteStatements g (map add (rows (take (i + 1) xs))) (put (rows (take (i + 1) xs))) old new
   adding_wrote h =
       loop_wrote g (λ (l : List X). map add (rows l)) (λ (l : List X). put (rows l)) xs i (map add some) (put some) added_next old mid new so_far spares
       (λ db all it. subst (λ l. HasRecords db (put l all)) next (subst (λ (t : AllTables). HasRecords db t) (last (rows (take i xs)) some all) it)) h
@@ -107,7 +107,7 @@ module _ {S : Type 0} (g : Ghosts S) {X R : Type 0} (add : R → Statement) (put
 
 -- the tables' lists grow so
 pub items_last : ComesLast with_more_items
-items_last front back all = ap (λ (l : List Item). record all { items = l }) (append_assoc all.items front back)
+items_last front back all = ap (λ (l : List ItemRecord). record all { items = l }) (append_assoc all.items front back)
 
 pub members_last : ComesLast with_more_members
 members_last front back all = ap (λ (l : List Member). record all { members = l }) (append_assoc all.members front back)
@@ -116,7 +116,7 @@ pub parts_last : ComesLast with_more_parts
 parts_last front back all = ap (λ (l : List Part). record all { parts = l }) (append_assoc all.parts front back)
 
 pub items_none : (all : AllTables) → with_more_items [] all ≡ all
-items_none all = ap (λ (l : List Item). record all { items = l }) (append-nil all.items)
+items_none all = ap (λ (l : List ItemRecord). record all { items = l }) (append-nil all.items)
 
 pub members_none : (all : AllTables) → with_more_members [] all ≡ all
 members_none all = ap (λ (l : List Member). record all { members = l }) (append-nil all.members)

@@ -13,7 +13,7 @@ use Rattle.dict_holdings.specs.AllTables.{with_derived}
 use Rattle.dict_holdings.specs.Files.{file_parts}
 use Rattle.dict_holdings.specs.Holds.{Holds}
 use Rattle.dict_holdings.specs.Texts.{HoldsText, text_rows}
-use Rattle.dict_commands.specs.Kept.{HasRecords, Turns}
+use Rattle.dict_commands.specs.KeptRecords.{HasRecords, TurnsRecords}
 use Rattle.dict_commands.specs.Changes.{with_mark}
 use Rattle.dict_commands.specs.Committed.{IsCommitted}
 use Rattle.dict_commands.specs.Answers.{HoldsBy}
@@ -25,7 +25,7 @@ use Rattle.dict_commands.proofs.TextLemmas.{of_text, text_under}
 same_marked : (M : Catalogue) (db : Database) (h : Holds known db M) → with_mark M.installs (with_derived h.tables) ≡ with_derived h.tables
 same_marked M db h = ap (λ (marks : List Mark). record (with_derived h.tables) { marks = marks }) (sym h.stands.marks)
 
-module _ (M : Catalogue) (old new : Database) (h : Holds known old M) (turns : Turns (with_mark M.installs) old new) where
+module _ (M : Catalogue) (old new : Database) (h : Holds known old M) (turns : TurnsRecords (with_mark M.installs) old new) where
   before : HasRecords old (with_derived h.tables)
   before = record { own = h.own; keeps = h.keeps }
 
@@ -48,12 +48,12 @@ module _ (M : Catalogue) (old new : Database) (h : Holds known old M) (turns : T
       }
 
 -- what is committed of it holds what was held
-pub remains_by : (summary : Holdings (List ℕ)) (old : State) → HoldsBy summary old → HasCleanDisk old → IsTrue old.is_open → (db : Database) → Turns (with_mark summary.installs) old.now db → Remains summary old.committed db
+pub remains_by : (summary : Holdings (List ℕ)) (old : State) → HoldsBy summary old → HasCleanDisk old → IsTrue old.is_open → (db : Database) → TurnsRecords (with_mark summary.installs) old.now db → Remains summary old.committed db
 remains_by summary old holds clean live db turns =
     let it = holds clean live in
-    let from : Turns (with_mark summary.installs) old.committed db = subst (λ (d : Database). Turns (with_mark summary.installs) d db) it.1.settled turns in
-    let by : (M : Catalogue) → summary_of M ≡ summary → Turns (with_mark M.installs) old.committed db =
-    λ M is. subst (λ (n : ℕ). Turns (with_mark n) old.committed db) (sym (ap (λ (b : Holdings (List ℕ)). b.installs) is)) from in
+    let from : TurnsRecords (with_mark summary.installs) old.committed db = subst (λ (d : Database). TurnsRecords (with_mark summary.installs) d db) it.1.settled turns in
+    let by : (M : Catalogue) → summary_of M ≡ summary → TurnsRecords (with_mark M.installs) old.committed db =
+    λ M is. subst (λ (n : ℕ). TurnsRecords (with_mark n) old.committed db) (sym (ap (λ (b : Holdings (List ℕ)). b.installs) is)) from in
     record {
       holds = λ M held is. held_again M old.committed db held (by M is);
       texts = λ number text held. text_again it.0 old.committed db it.1.holds (by it.0 it.2) number text held;

@@ -14,15 +14,15 @@ use Rattle.dict_sql.specs.Deletes.{Removes, FailsToRemove}
 use Rattle.dict_sql.specs.Effects.{IsRemoved, equals_number}
 use Rattle.dict_sql.specs.Statements.{Statement}
 use Rattle.dict_edition_sql.specs.PartRecords.{part_row}
-use Rattle.dict_edition_sql.specs.Chosen.{is_from}
+use Rattle.dict_edition_sql.specs.Chosen.{is_part_from}
 use Rattle.dict_records.specs.Records.{Part}
 use Rattle.dict_rows.specs.After.{is_gone}
 use Rattle.dict_rows.proofs.PartLemmas.{filter_filter}
 use Rattle.dict_holdings.specs.AllTables.{AllTables}
-use Rattle.dict_commands.specs.Kept.{HasRecords, Turns}
+use Rattle.dict_commands.specs.KeptRecords.{HasRecords, TurnsRecords}
 use Rattle.dict_commands.specs.Changes.{without_parts}
 use Rattle.dict_commands.specs.Statements.{taking_of, taking_from, taking_parts}
-use Rattle.dict_commands.specs.Writes.{Wrote, FailsToWrite, Spares}
+use Rattle.dict_commands.specs.Writes.{WroteStatements, FailsToWrite, CommitsNothing}
 use Rattle.dict_commands.proofs.GoneLemmas.{all_stay, neither, tested}
 use Rattle.dict_commands.proofs.LoopLemmas.{loop_wrote, loop_failed, mapped_at, mapped_grows}
 use Rattle.dict_commands.proofs.RowLemmas.{keeps_removed, next_column}
@@ -34,7 +34,7 @@ use Rattle.dict_commands.proofs.WriteLemmas.{wrote_none, wrote_as, wrote_then, w
 abbrev pub with_parts_that : (Part → Bool) → AllTables → AllTables
 with_parts_that stays all = record all { parts = filter stays all.parts }
 
-cut_turned : (old new : Database) (test gone : Row → Bool) → ((row : Row) → test row ≡ gone (drop 1 row)) → IsRemoved (codes "dictcat_part") test old new → Turns (with_parts_that (λ r. not (gone (part_row r)))) old new
+cut_turned : (old new : Database) (test gone : Row → Bool) → ((row : Row) → test row ≡ gone (drop 1 row)) → IsRemoved (codes "dictcat_part") test old new → TurnsRecords (with_parts_that (λ r. not (gone (part_row r)))) old new
 cut_turned old new test gone same removed = λ all it.
     parts_turned old new all it removed.schema (filter (λ r. not (gone (part_row r))) all.parts) removed.others
     (keeps_removed (codes "dictcat_part") part_row old new all.parts test gone same removed (parts_kept old all it))
@@ -51,7 +51,7 @@ cut_none all = ap (λ (l : List Part). record all { parts = l }) (all_stay all.p
 abbrev pub is_late : ℕ → ℤ → Row → Bool
 is_late number from row = (equals_number 0 (pos number) row && equals_number 1 (pos 1) row) && not (is_lt (value_cmp (column row 2) (Int from)))
 
-late_is : (number : ℕ) (from : ℤ) (row : Row) → is_from (pos number) (pos 1) from row ≡ is_late number from (drop 1 row)
+late_is : (number : ℕ) (from : ℤ) (row : Row) → is_part_from (pos number) (pos 1) from row ≡ is_late number from (drop 1 row)
 late_is number from [] = refl
 late_is number from (v ∷ row) = refl
 
@@ -82,22 +82,22 @@ module _ {S : Type 0} (g : Ghosts S) (number : ℕ) where
   abbrev pub without_rest : AllTables → AllTables
   without_rest = with_parts_that (λ r. not (equals_number 0 (pos number) (part_row r)))
 
-  pub parts_none : (a : Held S) → Wrote g [] (behind []) a a
+  pub parts_none : (a : Held S) → WroteStatements g [] (behind []) a a
   parts_none a = wrote_as g [] (λ all. all) (behind []) a a (λ db all it. subst (λ (t : AllTables). HasRecords db t) (sym (cut_none all)) it) (wrote_none g a)
 
   -- one statement
   module _ (from : ℤ) (given : ℤ) (is : given ≡ pos number) (old new : Held S) (survives : Survives (state g old) (state g new) (λ _. ⊥)) where
-    pub late_wrote : (HasCleanDisk (state g new) → Removes (codes "dictcat_part") (is_from given (pos 1) from) (state g old) (state g new)) → Wrote g (taking_from number from ∷ []) (without_late from) old new
+    pub late_wrote : (HasCleanDisk (state g new) → Removes (codes "dictcat_part") (is_part_from given (pos 1) from) (state g old) (state g new)) → WroteStatements g (taking_from number from ∷ []) (without_late from) old new
     late_wrote did =
-        wrote_taken g (codes "dictcat_part") (λ (n : ℤ). is_from n (pos 1) from) given (pos number) is old new survives (without_late from)
-        (λ a b gone. cut_turned a b (is_from (pos number) (pos 1) from) (is_late number from) (late_is number from) gone) did
+        wrote_taken g (codes "dictcat_part") (λ (n : ℤ). is_part_from n (pos 1) from) given (pos number) is old new survives (without_late from)
+        (λ a b gone. cut_turned a b (is_part_from (pos number) (pos 1) from) (is_late number from) (late_is number from) gone) did
 
-    pub late_failed : (e : Error) → (HasCleanDisk (state g new) → FailsToRemove (codes "dictcat_part") (is_from given (pos 1) from) (state g old) (state g new) e) → FailsToWrite g (taking_from number from ∷ []) old new e
-    late_failed e h = failed_taken g (codes "dictcat_part") (λ (n : ℤ). is_from n (pos 1) from) given (pos number) is old new survives e h
+    pub late_failed : (e : Error) → (HasCleanDisk (state g new) → FailsToRemove (codes "dictcat_part") (is_part_from given (pos 1) from) (state g old) (state g new) e) → FailsToWrite g (taking_from number from ∷ []) old new e
+    late_failed e h = failed_taken g (codes "dictcat_part") (λ (n : ℤ). is_part_from n (pos 1) from) given (pos number) is old new survives e h
 
   -- all that are left
   module _ (given : ℤ) (is : given ≡ pos number) (old new : Held S) (survives : Survives (state g old) (state g new) (λ _. ⊥)) where
-    pub rest_wrote : (HasCleanDisk (state g new) → Removes (codes "dictcat_part") (equals_number 1 given) (state g old) (state g new)) → Wrote g (taking_of (codes "dictcat_part") number ∷ []) without_rest old new
+    pub rest_wrote : (HasCleanDisk (state g new) → Removes (codes "dictcat_part") (equals_number 1 given) (state g old) (state g new)) → WroteStatements g (taking_of (codes "dictcat_part") number ∷ []) without_rest old new
     rest_wrote did =
         wrote_taken g (codes "dictcat_part") (equals_number 1) given (pos number) is old new survives without_rest
         (λ a b gone. cut_turned a b (equals_number 1 (pos number)) (equals_number 0 (pos number)) (next_column 0 (pos number)) gone) did
@@ -112,8 +112,8 @@ module _ {S : Type 0} (g : Ghosts S) (number : ℕ) where
       (cut_both (λ r. not (list_any (λ from. is_late number from (part_row r)) (take i xs))) (λ r. not (is_late number (get_or xs i d) (part_row r))) (λ r. not (list_any (λ from. is_late number from (part_row r)) (take (i + 1) xs)))
       (λ r. neither (list_any (λ from. is_late number from (part_row r)) (take i xs)) (is_late number (get_or xs i d) (part_row r)) ∙ ap not (sym (list_any_more (λ from. is_late number from (part_row r)) xs i d lt))) all) it
 
-  module _ (xs : List ℤ) (i : ℕ) (d : ℤ) (lt : i < length xs) (old mid new : Held S) (so_far : Wrote g (last_ones (take i xs)) (behind (take i xs)) old mid) (spares : Spares g mid new) where
-    pub parts_wrote : Wrote g (taking_from number (get_or xs i d) ∷ []) (without_late (get_or xs i d)) mid new → Wrote g (last_ones (take (i + 1) xs)) (behind (take (i + 1) xs)) old new
+  module _ (xs : List ℤ) (i : ℕ) (d : ℤ) (lt : i < length xs) (old mid new : Held S) (so_far : WroteStatements g (last_ones (take i xs)) (behind (take i xs)) old mid) (spares : CommitsNothing g mid new) where
+    pub parts_wrote : WroteStatements g (taking_from number (get_or xs i d) ∷ []) (without_late (get_or xs i d)) mid new → WroteStatements g (last_ones (take (i + 1) xs)) (behind (take (i + 1) xs)) old new
     parts_wrote h =
         loop_wrote g last_ones behind xs i (taking_from number (get_or xs i d) ∷ []) (without_late (get_or xs i d)) (mapped_at (taking_from number) xs i d lt) old mid new so_far spares
         (λ db all it. next_late db xs i d lt all it) h
@@ -124,7 +124,7 @@ module _ {S : Type 0} (g : Ghosts S) (number : ℕ) where
         (loop_failed g last_ones behind xs i (taking_from number (get_or xs i d) ∷ []) (without_late (get_or xs i d)) (mapped_at (taking_from number) xs i d lt) old mid new so_far spares (mapped_grows (taking_from number)) e h)
 
   -- the rest after all of them
-  module _ (xs : List ℤ) (given : ℤ) (is : given ≡ pos number) (old mid new : Held S) (so_far : Wrote g (last_ones xs) (behind xs) old mid) (survives : Survives (state g mid) (state g new) (λ _. ⊥)) (spares : Spares g mid new) where
+  module _ (xs : List ℤ) (given : ℤ) (is : given ≡ pos number) (old mid new : Held S) (so_far : WroteStatements g (last_ones xs) (behind xs) old mid) (survives : Survives (state g mid) (state g new) (λ _. ⊥)) (spares : CommitsNothing g mid new) where
     all_taken : (db : Database) (all : AllTables) → HasRecords db (without_rest (behind xs all)) → HasRecords db (without_parts (number ∷ []) all)
     all_taken db all it =
         subst (λ (t : AllTables). HasRecords db t)
@@ -132,7 +132,7 @@ module _ {S : Type 0} (g : Ghosts S) (number : ℕ) where
         (λ r. none_left (equals_number 0 (pos number) (part_row r)) (equals_number 1 (pos 1) (part_row r)) (λ from. not (is_lt (value_cmp (column (part_row r) 2) (Int from)))) xs
         ∙ tested (codes "dictcat_part") part_row (λ (p : Part). p.edition) (λ p. refl) number r) all) it
 
-    pub all_wrote : (HasCleanDisk (state g new) → Removes (codes "dictcat_part") (equals_number 1 given) (state g mid) (state g new)) → Wrote g (taking_parts number xs) (without_parts (number ∷ [])) old new
+    pub all_wrote : (HasCleanDisk (state g new) → Removes (codes "dictcat_part") (equals_number 1 given) (state g mid) (state g new)) → WroteStatements g (taking_parts number xs) (without_parts (number ∷ [])) old new
     all_wrote did =
         wrote_as g (taking_parts number xs) (λ all. without_rest (behind xs all)) (without_parts (number ∷ [])) old new all_taken
         (wrote_then g (last_ones xs) (taking_of (codes "dictcat_part") number ∷ []) (behind xs) without_rest old mid new so_far (rest_wrote given is mid new survives did) spares)

@@ -20,18 +20,18 @@ use Rattle.dict_edition_sql.specs.HeaderTable.{header}
 use Rattle.dict_edition_sql.specs.HeaderRecords.{header_row}
 use Rattle.dict_edition_sql.specs.PartTable.{part}
 use Rattle.dict_edition_sql.specs.PartRecords.{part_row}
-use Rattle.dict_records.specs.Records.{Mark, Item, Member, Edition, Entry, Part, Kept, header_of}
+use Rattle.dict_records.specs.Records.{Mark, ItemRecord, Member, EditionRecord, EntryRecord, Part, KeptRecord, header_of}
 use Rattle.dict_rows.specs.Versions.{Parted}
 use Rattle.dict_holdings.specs.AllTables.{AllTables}
-use Rattle.dict_holdings.specs.Readings.{Reading, name_of, readings, KeepsRows}
+use Rattle.dict_holdings.specs.Readings.{TableReading, table_name_of, readings, KeepsRows}
 use Rattle.dict_holdings.specs.Holds.{Keeps, HasLayout}
 use Rattle.dict_holdings.proofs.KeepLemmas.{unmoved, keeps_added}
-use Rattle.dict_commands.specs.Kept.{HasRecords, IsUsable, IsOther, SparesOthers, Turns}
+use Rattle.dict_commands.specs.KeptRecords.{HasRecords, IsUsable, IsOther, SparesTablesOfOthers, TurnsRecords}
 use Rattle.dict_commands.specs.Changes.{without_items, without_members, with_more_items, with_more_members, with_more_editions, with_more_parts}
 use Rattle.dict_commands.proofs.RowLemmas.{keeps_cleared}
 
 -- the row of the record of an edition, which has no text
-abbrev pub edition_row : Edition → Row
+abbrev pub edition_row : EditionRecord → Row
 edition_row e = header_row (header_of e)
 
 abbrev AreOwn : Schema → Type 0
@@ -43,28 +43,28 @@ names_apart a b apart same = false≢true (sym apart ∙ (bytes_eq-Decides a b).
 -- ---- one table has changed, and the others stay
 
 -- the reading is of another table than the one of this name, which is to have what it had
-record IsAnother (name : List ℕ) (all turned : AllTables) (q : Reading) : Type 0 where
-  apart : bytes_eq name (name_of q) ≡ false
-  named : (tree : ℕ) → (q.table tree).name ≡ name_of q
+record IsAnother (name : List ℕ) (all turned : AllTables) (q : TableReading) : Type 0 where
+  apart : bytes_eq name (table_name_of q) ≡ false
+  named : (tree : ℕ) → (q.table tree).name ≡ table_name_of q
   same : q.rows turned ≡ q.rows all
 
 module _ (a : ℕ → Table) (name : List ℕ) (old new : Database) (all turned : AllTables) (names : (t : ℕ) → (a t).name ≡ name) (trees : (t : ℕ) → (a t).tree ≡ t) (own : HasOwn old.schema a)
     (schema : new.schema ≡ old.schema) (rest : SameOthers name old new) where
   -- of each reading: it is of another table, or what it reads was told
-  abbrev IsTurned : Reading → Type 0
+  abbrev IsTurned : TableReading → Type 0
   IsTurned q = IsAnother name all turned q ⊎ KeepsRows q new turned
 
-  one_turned : (q : Reading) → HasOwn old.schema q.table → IsTurned q → KeepsRows q old all → KeepsRows q new turned
+  one_turned : (q : TableReading) → HasOwn old.schema q.table → IsTurned q → KeepsRows q old all → KeepsRows q new turned
   one_turned q has (inr done) k = done
   one_turned q has (inl is) k =
-      let same : rows_of (name_of q) new ≡ rows_of (name_of q) old = unmoved name (name_of q) a q.table old new names is.named trees (names_apart name (name_of q) is.apart) own has schema rest in
+      let same : rows_of (table_name_of q) new ≡ rows_of (table_name_of q) old = unmoved name (table_name_of q) a q.table old new names is.named trees (names_apart name (table_name_of q) is.apart) own has schema rest in
       record {
-        rows = subst (λ l. IsPermutation l (map (λ row. drop 1 (q.looked row)) (rows_of (name_of q) new))) (sym is.same)
+        rows = subst (λ l. IsPermutation l (map (λ row. drop 1 (q.looked row)) (rows_of (table_name_of q) new))) (sym is.same)
             (subst (λ l. IsPermutation (q.rows all) (map (λ row. drop 1 (q.looked row)) l)) (sym same) k.rows);
         apart = subst HasApartRowids (sym same) k.apart;
       }
 
-  all_turned : (qs : List Reading) → AllByRecursion (λ q. HasOwn old.schema q.table) qs → AllByRecursion IsTurned qs → AllByRecursion (λ q. KeepsRows q old all) qs → AllByRecursion (λ q. KeepsRows q new turned) qs
+  all_turned : (qs : List TableReading) → AllByRecursion (λ q. HasOwn old.schema q.table) qs → AllByRecursion IsTurned qs → AllByRecursion (λ q. KeepsRows q old all) qs → AllByRecursion (λ q. KeepsRows q new turned) qs
   all_turned [] has are k = tt
   all_turned (q ∷ qs) has are k = (one_turned q has.0 are.0 k.0, all_turned qs has.1 are.1 k.1)
 
@@ -73,7 +73,7 @@ module _ (a : ℕ → Table) (name : List ℕ) (old new : Database) (all turned 
       let named : table_named old.schema name ≡ Some own.at = subst (λ n. table_named old.schema n ≡ Some own.at) (names own.tree) own.has.named in
       rw (named) own.has.is
 
-  spared : ((t : Table) → IsOther old.schema t → (found : Table) → found_table old.schema name ≡ Some found → t.tree ≢ found.tree) → SparesOthers old new
+  spared : ((t : Table) → IsOther old.schema t → (found : Table) → found_table old.schema name ≡ Some found → t.tree ≢ found.tree) → SparesTablesOfOthers old new
   spared pick = record {
     schema = schema;
     others = all_weaker (λ (t : Table). t.tree ≢ (a own.tree).tree → new.trees t.tree ≡ old.trees t.tree) (λ (t : Table). IsOther old.schema t → new.trees t.tree ≡ old.trees t.tree)
@@ -84,7 +84,7 @@ module _ (old new : Database) (all : AllTables) (it : HasRecords old all) (schem
   owns : AreOwn new.schema
   owns = subst AreOwn (sym schema) it.own
 
-  pub marks_turned : (records : List Mark) → SameOthers (codes "mark") old new → Keeps (codes "mark") mark_row new records → HasRecords new (record all { marks = records }) × SparesOthers old new
+  pub marks_turned : (records : List Mark) → SameOthers (codes "mark") old new → Keeps (codes "mark") mark_row new records → HasRecords new (record all { marks = records }) × SparesTablesOfOthers old new
   marks_turned records rest k = (
     record {
       own = owns;
@@ -108,7 +108,7 @@ module _ (old new : Database) (all : AllTables) (it : HasRecords old all) (schem
     spared mark (codes "mark") old new all all (λ t. refl) (λ t. refl) it.own.tables.0 schema rest (λ t other. other.0),
   )
 
-  pub items_turned : (records : List Item) → SameOthers (codes "item") old new → Keeps (codes "item") item_row new records → HasRecords new (record all { items = records }) × SparesOthers old new
+  pub items_turned : (records : List ItemRecord) → SameOthers (codes "item") old new → Keeps (codes "item") item_row new records → HasRecords new (record all { items = records }) × SparesTablesOfOthers old new
   items_turned records rest k = (
     record {
       own = owns;
@@ -132,7 +132,7 @@ module _ (old new : Database) (all : AllTables) (it : HasRecords old all) (schem
     spared item (codes "item") old new all all (λ t. refl) (λ t. refl) it.own.tables.1.0 schema rest (λ t other. other.1.0),
   )
 
-  pub members_turned : (records : List Member) → SameOthers (codes "member") old new → Keeps (codes "member") member_row new records → HasRecords new (record all { members = records }) × SparesOthers old new
+  pub members_turned : (records : List Member) → SameOthers (codes "member") old new → Keeps (codes "member") member_row new records → HasRecords new (record all { members = records }) × SparesTablesOfOthers old new
   members_turned records rest k = (
     record {
       own = owns;
@@ -156,7 +156,7 @@ module _ (old new : Database) (all : AllTables) (it : HasRecords old all) (schem
     spared member (codes "member") old new all all (λ t. refl) (λ t. refl) it.own.tables.1.1.0 schema rest (λ t other. other.1.1.0),
   )
 
-  pub kept_turned : (records : List Kept) → SameOthers (codes "kept") old new → Keeps (codes "kept") kept_row new records → HasRecords new (record all { kept = records }) × SparesOthers old new
+  pub kept_turned : (records : List KeptRecord) → SameOthers (codes "kept") old new → Keeps (codes "kept") kept_row new records → HasRecords new (record all { kept = records }) × SparesTablesOfOthers old new
   kept_turned records rest k = (
     record {
       own = owns;
@@ -180,7 +180,7 @@ module _ (old new : Database) (all : AllTables) (it : HasRecords old all) (schem
     spared kept (codes "kept") old new all all (λ t. refl) (λ t. refl) it.own.tables.1.1.1.0 schema rest (λ t other. other.1.1.1.0),
   )
 
-  pub editions_turned : (records : List Edition) → SameOthers (codes "edition") old new → Keeps (codes "edition") edition_row new records → HasRecords new (record all { editions = records }) × SparesOthers old new
+  pub editions_turned : (records : List EditionRecord) → SameOthers (codes "edition") old new → Keeps (codes "edition") edition_row new records → HasRecords new (record all { editions = records }) × SparesTablesOfOthers old new
   editions_turned records rest k = (
     record {
       own = owns;
@@ -204,7 +204,7 @@ module _ (old new : Database) (all : AllTables) (it : HasRecords old all) (schem
     spared header (codes "edition") old new all all (λ t. refl) (λ t. refl) it.own.tables.1.1.1.1.0 schema rest (λ t other. other.1.1.1.1.0),
   )
 
-  pub parts_turned : (records : List Part) → SameOthers (codes "dictcat_part") old new → Keeps (codes "dictcat_part") part_row new records → HasRecords new (record all { parts = records }) × SparesOthers old new
+  pub parts_turned : (records : List Part) → SameOthers (codes "dictcat_part") old new → Keeps (codes "dictcat_part") part_row new records → HasRecords new (record all { parts = records }) × SparesTablesOfOthers old new
   parts_turned records rest k = (
     record {
       own = owns;
@@ -250,7 +250,7 @@ module _ (db : Database) (all : AllTables) (it : HasRecords db all) where
   parts_kept = record { rows = it.keeps.1.1.1.1.1.0.rows; apart = it.keeps.1.1.1.1.1.0.apart }
 
   -- none of them keeps an entry
-  pub other_entries : (entries : List Entry) → HasRecords db (record all { entries = entries })
+  pub other_entries : (entries : List EntryRecord) → HasRecords db (record all { entries = entries })
   other_entries entries = record {
     own = it.own;
     keeps = (
@@ -308,31 +308,31 @@ parts_to_remove db it = record { has = has_parts db it; apart = (parts_kept db i
 
 -- ---- a table is cleared
 
-pub marks_cleared : (old new : Database) → IsRemoved (codes "mark") (λ _. true) old new → Turns (λ all. record all { marks = [] }) old new
+pub marks_cleared : (old new : Database) → IsRemoved (codes "mark") (λ _. true) old new → TurnsRecords (λ all. record all { marks = [] }) old new
 marks_cleared old new gone = λ all it. marks_turned old new all it gone.schema [] gone.others (keeps_cleared (codes "mark") mark_row old new gone)
 
-pub items_cleared : (old new : Database) → IsRemoved (codes "item") (λ _. true) old new → Turns (without_items) old new
+pub items_cleared : (old new : Database) → IsRemoved (codes "item") (λ _. true) old new → TurnsRecords (without_items) old new
 items_cleared old new gone = λ all it. items_turned old new all it gone.schema [] gone.others (keeps_cleared (codes "item") item_row old new gone)
 
-pub members_cleared : (old new : Database) → IsRemoved (codes "member") (λ _. true) old new → Turns (without_members) old new
+pub members_cleared : (old new : Database) → IsRemoved (codes "member") (λ _. true) old new → TurnsRecords (without_members) old new
 members_cleared old new gone = λ all it. members_turned old new all it gone.schema [] gone.others (keeps_cleared (codes "member") member_row old new gone)
 
 -- ---- a record more
 
-pub marks_added : (r : Mark) (old new : Database) → IsAdded (codes "mark") (mark_row r) old new → Turns (λ all. record all { marks = all.marks ++ r ∷ [] }) old new
+pub marks_added : (r : Mark) (old new : Database) → IsAdded (codes "mark") (mark_row r) old new → TurnsRecords (λ all. record all { marks = all.marks ++ r ∷ [] }) old new
 marks_added r old new one = λ all it. marks_turned old new all it one.schema (all.marks ++ r ∷ []) one.others (keeps_added (codes "mark") mark_row old new all.marks r one (marks_kept old all it))
 
-pub items_added : (r : Item) (old new : Database) → IsAdded (codes "item") (item_row r) old new → Turns (with_more_items (r ∷ [])) old new
+pub items_added : (r : ItemRecord) (old new : Database) → IsAdded (codes "item") (item_row r) old new → TurnsRecords (with_more_items (r ∷ [])) old new
 items_added r old new one = λ all it. items_turned old new all it one.schema (all.items ++ r ∷ []) one.others (keeps_added (codes "item") item_row old new all.items r one (items_kept old all it))
 
-pub members_added : (r : Member) (old new : Database) → IsAdded (codes "member") (member_row r) old new → Turns (with_more_members (r ∷ [])) old new
+pub members_added : (r : Member) (old new : Database) → IsAdded (codes "member") (member_row r) old new → TurnsRecords (with_more_members (r ∷ [])) old new
 members_added r old new one = λ all it. members_turned old new all it one.schema (all.members ++ r ∷ []) one.others (keeps_added (codes "member") member_row old new all.members r one (members_kept old all it))
 
-pub kept_added : (r : Kept) (old new : Database) → IsAdded (codes "kept") (kept_row r) old new → Turns (λ all. record all { kept = all.kept ++ r ∷ [] }) old new
+pub kept_added : (r : KeptRecord) (old new : Database) → IsAdded (codes "kept") (kept_row r) old new → TurnsRecords (λ all. record all { kept = all.kept ++ r ∷ [] }) old new
 kept_added r old new one = λ all it. kept_turned old new all it one.schema (all.kept ++ r ∷ []) one.others (keeps_added (codes "kept") kept_row old new all.kept r one (kept_kept old all it))
 
-pub editions_added : (r : Edition) (old new : Database) → IsAdded (codes "edition") (edition_row r) old new → Turns (with_more_editions (r ∷ [])) old new
+pub editions_added : (r : EditionRecord) (old new : Database) → IsAdded (codes "edition") (edition_row r) old new → TurnsRecords (with_more_editions (r ∷ [])) old new
 editions_added r old new one = λ all it. editions_turned old new all it one.schema (all.editions ++ r ∷ []) one.others (keeps_added (codes "edition") edition_row old new all.editions r one (editions_kept old all it))
 
-pub parts_added : (r : Part) (old new : Database) → IsAdded (codes "dictcat_part") (part_row r) old new → Turns (with_more_parts (r ∷ [])) old new
+pub parts_added : (r : Part) (old new : Database) → IsAdded (codes "dictcat_part") (part_row r) old new → TurnsRecords (with_more_parts (r ∷ [])) old new
 parts_added r old new one = λ all it. parts_turned old new all it one.schema (all.parts ++ r ∷ []) one.others (keeps_added (codes "dictcat_part") part_row old new all.parts r one (parts_kept old all it))

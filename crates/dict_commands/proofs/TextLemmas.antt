@@ -26,7 +26,7 @@ use Rattle.dict_holdings.specs.AllTables.{HasNoneOf}
 use Rattle.dict_holdings.proofs.FileLemmas.{part_once}
 use Rattle.dict_holdings.specs.Holds.{Keeps}
 use Rattle.dict_holdings.specs.Texts.{text_rows, HoldsText}
-use Rattle.dict_commands.specs.Kept.{IsStorable}
+use Rattle.dict_commands.specs.KeptRecords.{FitsColumn}
 use Rattle.dict_commands.proofs.RowLemmas.{compared_values, filter_map}
 
 -- ---- the parts of an edition have its number
@@ -153,7 +153,7 @@ module _ (number : ℕ) where
       (λ p. kept_test (same_number p.edition (pos number)) (of_text p) (λ its. ap (λ n. same_number n (pos number)) (text_asks p its) ∙ same_itself (pos number))) (all_parts t))
       ∙ ap (filter of_text) others
 
-  pub text_there : (db : Database) (t : Tables) (gone : List ℕ) (new : Installed) → new.number ≡ number → HasNoneOf (pos number) t → IsStorable number
+  pub text_there : (db : Database) (t : Tables) (gone : List ℕ) (new : Installed) → new.number ≡ number → HasNoneOf (pos number) t → FitsColumn number
       → Keeps (codes "dictcat_part") part_row db (filter (λ (p : Part). not (is_gone gone p.edition)) (all_parts t) ++ installed_parts (Some new)) → HoldsText db number new.reading.text
   text_there db t gone new is none few k =
       let rest : List Part = filter (λ (p : Part). not (is_gone gone p.edition)) (all_parts t) in

@@ -18,8 +18,8 @@ use Rattle.dict_sql.specs.Deletes.{Removes, FailsToRemove}
 use Rattle.dict_sql.specs.Statements.{Statement, add, remove, Succeeds, FailsTo}
 use Rattle.dict_sql.proofs.TurnLemmas.{run_one, run_then, fails_one, fails_before, fails_after}
 use Rattle.dict_holdings.specs.AllTables.{AllTables}
-use Rattle.dict_commands.specs.Kept.{HasRecords, IsUsable, IsOther, SparesOthers, Turns}
-use Rattle.dict_commands.specs.Writes.{Wrote, FailsToWrite, Spares}
+use Rattle.dict_commands.specs.KeptRecords.{HasRecords, IsUsable, IsOther, SparesTablesOfOthers, TurnsRecords}
+use Rattle.dict_commands.specs.Writes.{WroteStatements, FailsToWrite, CommitsNothing}
 
 -- ---- states
 
@@ -44,7 +44,7 @@ same_all : (tables : List Table) → (trees : Trees) (P : Table → Type 0) → 
 same_all [] trees P = tt
 same_all (t ∷ tables) trees P = (λ other. refl, same_all tables trees P)
 
-pub others_none : (a : Database) → SparesOthers a a
+pub others_none : (a : Database) → SparesTablesOfOthers a a
 others_none a = record { schema = refl; others = same_all a.schema.tables a.trees (IsOther a.schema) }
 
 both_same : (P : Table → Type 0) (a b c : Trees) (tables : List Table) → AllByRecursion (λ t. P t → b t.tree ≡ a t.tree) tables → AllByRecursion (λ t. P t → c t.tree ≡ b t.tree) tables → AllByRecursion
@@ -52,7 +52,7 @@ both_same : (P : Table → Type 0) (a b c : Trees) (tables : List Table) → All
 both_same P a b c [] one two = tt
 both_same P a b c (t ∷ tables) one two = (λ other. two.0 other ∙ one.0 other, both_same P a b c tables one.1 two.1)
 
-pub others_then : (a b c : Database) → SparesOthers a b → SparesOthers b c → SparesOthers a c
+pub others_then : (a b c : Database) → SparesTablesOfOthers a b → SparesTablesOfOthers b c → SparesTablesOfOthers a c
 others_then a b c one two = record {
   schema = two.schema ∙ one.schema;
   others = both_same (IsOther a.schema) a.trees b.trees c.trees a.schema.tables one.others (subst (λ (s : Schema). AllByRecursion (λ t. IsOther s t → c.trees t.tree ≡ b.trees t.tree) s.tables) one.schema two.others);
@@ -61,28 +61,28 @@ others_then a b c one two = record {
 -- ---- calls
 
 module _ {S : Type 0} (g : Ghosts S) where
-  pub spares_none : (a : Held S) → Spares g a a
+  pub spares_none : (a : Held S) → CommitsNothing g a a
   spares_none a = record { keeps = λ clean. record { was_open = λ h. h; committed = λ h. refl }; survives = none_more (state g a) }
 
-  pub spares_then : (a b c : Held S) → Spares g a b → Spares g b c → Spares g a c
+  pub spares_then : (a b c : Held S) → CommitsNothing g a b → CommitsNothing g b c → CommitsNothing g a c
   spares_then a b c one two = record {
     keeps = λ clean. keeps_then (state g a) (state g b) (state g c) (one.keeps (clean_before (state g b) (state g c) two.survives clean)) (two.keeps clean);
     survives = survives_then (state g a) (state g b) (state g c) (λ _. ⊥) (λ _. ⊥) (λ _. ⊥) (λ _ db none. none) (λ _ db none. none) one.survives two.survives;
   }
 
   -- tables that keep records keep some after what was written
-  pub usable_then : (statements : List Statement) (f : AllTables → AllTables) (old new : Held S) → WhileOpen (state g old) IsUsable → Wrote g statements f old new → Spares g old new → WhileOpen (state g new) IsUsable
+  pub usable_then : (statements : List Statement) (f : AllTables → AllTables) (old new : Held S) → WhileOpen (state g old) IsUsable → WroteStatements g statements f old new → CommitsNothing g old new → WhileOpen (state g new) IsUsable
   usable_then statements f old new ready wrote spares = λ clean lives.
       let some = ready (clean_before (state g old) (state g new) spares.survives clean) ((spares.keeps clean).was_open lives) in
       (f some.0, (wrote.turns clean some.0 some.1).0)
 
   -- ---- nothing, and one statement
 
-  pub wrote_none : (a : Held S) → Wrote g [] (λ all. all) a a
+  pub wrote_none : (a : Held S) → WroteStatements g [] (λ all. all) a a
   wrote_none a = record { turns = λ clean all it. (it, others_none (state g a).now); ran = λ clean. refl; inside = λ clean begun. begun }
 
   module _ (one : Statement) (old new : Held S) (survives : Survives (state g old) (state g new) (λ _. ⊥)) where
-    wrote_one : (f : AllTables → AllTables) → (HasCleanDisk (state g new) → Succeeds one (state g old) (state g new) × GoesOn (state g old) (state g new) × Turns f (state g old).now (state g new).now) → Wrote g (one ∷ []) f old new
+    wrote_one : (f : AllTables → AllTables) → (HasCleanDisk (state g new) → Succeeds one (state g old) (state g new) × GoesOn (state g old) (state g new) × TurnsRecords f (state g old).now (state g new).now) → WroteStatements g (one ∷ []) f old new
     wrote_one f did = record {
       turns = λ clean. (did clean).2;
       ran = λ clean. run_one g one old new (did clean).0 survives;
@@ -93,7 +93,7 @@ module _ {S : Type 0} (g : Ghosts S) where
     failed_one e h = λ clean. fails_one g one old new e (h clean) survives
 
   module _ (name : List ℕ) (row : Row) (old new : Held S) (survives : Survives (state g old) (state g new) (λ _. ⊥)) where
-    pub wrote_added : (f : AllTables → AllTables) → ((a b : Database) → IsAdded name row a b → Turns f a b) → (HasCleanDisk (state g new) → Inserts name row (state g old) (state g new)) → Wrote g (add name row ∷ []) f old new
+    pub wrote_added : (f : AllTables → AllTables) → ((a b : Database) → IsAdded name row a b → TurnsRecords f a b) → (HasCleanDisk (state g new) → Inserts name row (state g old) (state g new)) → WroteStatements g (add name row ∷ []) f old new
     wrote_added f turns did = wrote_one (add name row) old new survives f (λ clean. (did clean, (did clean).1, turns (state g old).now (state g new).now (did clean).0))
 
     spared_added : {X : Type 0} (result : Result X Error) → OnOk result (Inserts name row (state g old) (state g new)) → IfErr result (FailsToInsert name row (state g old) (state g new)) → KeepsCommit (state g old) (state g new)
@@ -101,11 +101,11 @@ module _ {S : Type 0} (g : Ghosts S) where
     spared_added (Err e) on off = off.keeps
 
     pub spares_added : {X : Type 0} (result : Result X Error) → (HasCleanDisk (state g new) → OnOk result (Inserts name row (state g old) (state g new)))
-        → (HasCleanDisk (state g new) → IfErr result (FailsToInsert name row (state g old) (state g new))) → Spares g old new
+        → (HasCleanDisk (state g new) → IfErr result (FailsToInsert name row (state g old) (state g new))) → CommitsNothing g old new
     spares_added result on off = record { keeps = λ clean. spared_added result (on clean) (off clean); survives = survives }
 
   module _ (name : List ℕ) (test : Row → Bool) (old new : Held S) (survives : Survives (state g old) (state g new) (λ _. ⊥)) where
-    pub wrote_removed : (f : AllTables → AllTables) → ((a b : Database) → IsRemoved name test a b → Turns f a b) → (HasCleanDisk (state g new) → Removes name test (state g old) (state g new)) → Wrote g (remove name test ∷ []) f old new
+    pub wrote_removed : (f : AllTables → AllTables) → ((a b : Database) → IsRemoved name test a b → TurnsRecords f a b) → (HasCleanDisk (state g new) → Removes name test (state g old) (state g new)) → WroteStatements g (remove name test ∷ []) f old new
     wrote_removed f turns did = wrote_one (remove name test) old new survives f (λ clean. (did clean, (did clean).1, turns (state g old).now (state g new).now (did clean).0))
 
     spared_removed : {X : Type 0} (result : Result X Error) → OnOk result (Removes name test (state g old) (state g new)) → IfErr result (FailsToRemove name test (state g old) (state g new)) → KeepsCommit (state g old) (state g new)
@@ -113,22 +113,22 @@ module _ {S : Type 0} (g : Ghosts S) where
     spared_removed (Err e) on off = off.keeps
 
     pub spares_removed : {X : Type 0} (result : Result X Error) → (HasCleanDisk (state g new) → OnOk result (Removes name test (state g old) (state g new)))
-        → (HasCleanDisk (state g new) → IfErr result (FailsToRemove name test (state g old) (state g new))) → Spares g old new
+        → (HasCleanDisk (state g new) → IfErr result (FailsToRemove name test (state g old) (state g new))) → CommitsNothing g old new
     spares_removed result on off = record { keeps = λ clean. spared_removed result (on clean) (off clean); survives = survives }
 
   -- ---- a record that was added, as what it is
 
   module _ {R : Type 0} (name : List ℕ) (encode : R → Row) (f : R → AllTables → AllTables) (given wanted : R) (is : given ≡ wanted) (old new : Held S) (survives : Survives (state g old) (state g new) (λ _. ⊥)) where
-    pub wrote_record : ((r : R) (a b : Database) → IsAdded name (encode r) a b → Turns (f r) a b) → (HasCleanDisk (state g new) → Inserts name (encode given) (state g old) (state g new)) → Wrote g
+    pub wrote_record : ((r : R) (a b : Database) → IsAdded name (encode r) a b → TurnsRecords (f r) a b) → (HasCleanDisk (state g new) → Inserts name (encode given) (state g old) (state g new)) → WroteStatements g
         (add name (encode wanted) ∷ []) (f wanted) old new
-    wrote_record turns did = subst (λ r. Wrote g (add name (encode r) ∷ []) (f r) old new) is (wrote_added name (encode given) old new survives (f given) (turns given) did)
+    wrote_record turns did = subst (λ r. WroteStatements g (add name (encode r) ∷ []) (f r) old new) is (wrote_added name (encode given) old new survives (f given) (turns given) did)
 
     pub failed_record : (e : Error) → (HasCleanDisk (state g new) → FailsToInsert name (encode given) (state g old) (state g new) e) → FailsToWrite g (add name (encode wanted) ∷ []) old new e
     failed_record e h = subst (λ r. FailsToWrite g (add name (encode r) ∷ []) old new e) is (failed_one (add name (encode given)) old new survives e h)
 
   -- rows that were taken out by a number, as it is
   module _ (name : List ℕ) (test : ℤ → Row → Bool) (given wanted : ℤ) (is : given ≡ wanted) (old new : Held S) (survives : Survives (state g old) (state g new) (λ _. ⊥)) where
-    pub wrote_taken : (f : AllTables → AllTables) → ((a b : Database) → IsRemoved name (test wanted) a b → Turns f a b) → (HasCleanDisk (state g new) → Removes name (test given) (state g old) (state g new)) → Wrote g
+    pub wrote_taken : (f : AllTables → AllTables) → ((a b : Database) → IsRemoved name (test wanted) a b → TurnsRecords f a b) → (HasCleanDisk (state g new) → Removes name (test given) (state g old) (state g new)) → WroteStatements g
         (remove name (test wanted) ∷ []) f old new
     wrote_taken f turns did = wrote_removed name (test wanted) old new survives f turns (λ clean. subst (λ n. Removes name (test n) (state g old) (state g new)) is (did clean))
 
@@ -137,7 +137,7 @@ module _ {S : Type 0} (g : Ghosts S) where
 
   -- ---- one call after another
 
-  pub wrote_then : (front back : List Statement) (f h : AllTables → AllTables) (old mid new : Held S) → Wrote g front f old mid → Wrote g back h mid new → Spares g mid new → Wrote g (front ++ back) (λ all. h (f all)) old new
+  pub wrote_then : (front back : List Statement) (f h : AllTables → AllTables) (old mid new : Held S) → WroteStatements g front f old mid → WroteStatements g back h mid new → CommitsNothing g mid new → WroteStatements g (front ++ back) (λ all. h (f all)) old new
   wrote_then front back f h old mid new one two spares = record {
     turns = λ clean all it.
         let first = one.turns (clean_before (state g mid) (state g new) spares.survives clean) all it in
@@ -148,8 +148,8 @@ module _ {S : Type 0} (g : Ghosts S) where
   }
 
   -- the same records, told otherwise
-  pub wrote_as : (statements : List Statement) (f h : AllTables → AllTables) (old new : Held S) → ((db : Database) (all : AllTables) → HasRecords db (f all) → HasRecords db (h all)) → Wrote g statements f old new
-      → Wrote g statements h old new
+  pub wrote_as : (statements : List Statement) (f h : AllTables → AllTables) (old new : Held S) → ((db : Database) (all : AllTables) → HasRecords db (f all) → HasRecords db (h all)) → WroteStatements g statements f old new
+      → WroteStatements g statements h old new
   wrote_as statements f h old new same wrote = record { turns = λ clean all it. (same (state g new).now all (wrote.turns clean all it).0, (wrote.turns clean all it).1); ran = wrote.ran; inside = wrote.inside }
 
   -- more would have come after what failed
@@ -157,5 +157,5 @@ module _ {S : Type 0} (g : Ghosts S) where
   failed_before front back old new e h = λ clean. fails_before g front back old new e (h clean)
 
   -- others ran before it
-  pub failed_after : (front back : List Statement) (f : AllTables → AllTables) (old mid new : Held S) (e : Error) → Wrote g front f old mid → Spares g mid new → FailsToWrite g back mid new e → FailsToWrite g (front ++ back) old new e
+  pub failed_after : (front back : List Statement) (f : AllTables → AllTables) (old mid new : Held S) (e : Error) → WroteStatements g front f old mid → CommitsNothing g mid new → FailsToWrite g back mid new e → FailsToWrite g (front ++ back) old new e
   failed_after front back f old mid new e one spares h = λ clean. fails_after g front back old mid new e (one.ran (clean_before (state g mid) (state g new) spares.survives clean)) (h clean)

@@ -16,10 +16,10 @@ use Rattle.dict_catalogue.specs.declared.fault.CommandRefusal.TheVariants.{BadRe
 use Rattle.dict_desk.specs.declared.fault.Fault.{Fault}
 use Rattle.dict_desk.specs.declared.fault.Fault.TheVariants.{Refused, Memory, Disk, Closed, NotACatalogue, Damaged, NewerSchema}
 use Rattle.dict_desk.specs.Faults.{is_disk}
-use Rattle.dict_holdings.specs.Faults.{FailsToLookUp}
+use Rattle.dict_holdings.specs.Faults.{FailsToReadCatalogue}
 use Rattle.dict_holdings.specs.Holds.{Holds, Rests, IsLeftAs}
 use Rattle.dict_holdings.specs.Writing.{FailsToEnd}
-use Rattle.dict_rows.specs.After.{TableChange, IsChange}
+use Rattle.dict_rows.specs.After.{TableChange, IsTableChange}
 use Rattle.dict_commands.specs.Statements.{statements_of}
 use Rattle.dict_commands.specs.declared.applied.Applied.{Applied}
 use Rattle.dict_commands.specs.declared.applied.Applied.TheVariants.{Repeated, Done}
@@ -89,7 +89,7 @@ HoldsAfter summary old id command db = (M : Catalogue) → Rests known old M →
 
 -- Over each catalogue with the summary that the store held, the command passes its tests, and this is what is written of it.
 abbrev pub IsPlanned : Holdings (List ℕ) → State → List ℕ → Command Edition → TableChange → Type 0
-IsPlanned summary old id command change = (M : Catalogue) → Rests known old M → summary_of M ≡ summary → (refusal_of (holdings M) command ≡ None) × IsChange M id command change
+IsPlanned summary old id command change = (M : Catalogue) → Rests known old M → summary_of M ≡ summary → (refusal_of (holdings M) command ≡ None) × IsTableChange M id command change
 
 -- A command that was planned is not made: one of its statements failed behind those before it, or its commit did.
 abbrev pub FailsToAct : {S : Type 0} → Ghosts S → Holdings (List ℕ) → List ℕ → Command Edition → (Database → Type 0) → Held S → Held S → Fault → Type 0
@@ -101,5 +101,5 @@ FailsToAct {S} g summary id command P old new fault =
 -- made.
 abbrev pub FailsToApply : {S : Type 0} → Ghosts S → Holdings (List ℕ) → List ℕ → Command Edition → Held S → Held S → Fault → Type 0
 FailsToApply {S} g summary id command old new fault =
-    FailsToLookUp (state g old) (state g new) fault
+    FailsToReadCatalogue (state g old) (state g new) fault
     ⊎ ((mid : Held S) × IsUnchanged (state g old) (state g mid) × Survives (state g old) (state g mid) (λ _. ⊥) × FailsToAct g summary id command (HoldsAfter summary (state g old) id command) mid new fault)

@@ -8,14 +8,14 @@ use Rattle.dict_catalogue.specs.Views.{item_shown, summary_shown, kept_shown}
 use Rattle.dict_catalogue.specs.declared.commands.Command.{Command}
 use Rattle.dict_catalogue.specs.declared.commands.Command.TheVariants.{Install, Rollback, Retire, PutVirtual, Place}
 use Rattle.dict_catalogue.specs.declared.planning.PlannedChange.{PlannedChange as Planned}
-use Rattle.dict_records.specs.Records.{Item as ItemRecord, Member, Edition, Part}
+use Rattle.dict_records.specs.Records.{ItemRecord, Member, EditionRecord, Part}
 use Rattle.dict_parts.specs.Stored.{stored_index}
 use Rattle.dict_holdings.specs.Files.{installed_parts}
 use Rattle.dict_holdings.specs.AllTables.{AllTables}
 use Rattle.dict_rows.specs.Written.{numbered, mark_record, item_record, kept_record}
 use Rattle.dict_rows.specs.After.{Installed, TableChange, all_members, is_gone, installed_editions, installed_entries}
 use Rattle.dict_rows.specs.Versions.{known}
-use Rattle.dict_commands.specs.Kept.{IsStorable, AreStorable}
+use Rattle.dict_commands.specs.KeptRecords.{FitsColumn, AreStorable}
 
 -- a table is empty
 abbrev pub without_items : AllTables → AllTables
@@ -31,7 +31,7 @@ with_more_items more all = record all { items = all.items ++ more }
 abbrev pub with_more_members : List Member → AllTables → AllTables
 with_more_members more all = record all { members = all.members ++ more }
 
-abbrev pub with_more_editions : List Edition → AllTables → AllTables
+abbrev pub with_more_editions : List EditionRecord → AllTables → AllTables
 with_more_editions more all = record all { editions = all.editions ++ more }
 
 abbrev pub with_more_parts : List Part → AllTables → AllTables
@@ -97,11 +97,11 @@ change_by id command planned = record {
 
 -- the numbers of what was planned can be held by the tables
 pub record IsWritable (planned : Planned) : Type 0 where
-  pub installs : IsStorable planned.summary.installs
+  pub installs : FitsColumn planned.summary.installs
   pub items : AllByRecursion (λ item. AreStorable (numbers_of (item_shown item))) planned.summary.items.items
   pub gone : AreStorable planned.gone.items
-  pub number : IsStorable planned.kept.number
-  pub edition : IfSome planned.kept.edition IsStorable
+  pub number : FitsColumn planned.kept.number
+  pub edition : IfSome planned.kept.edition FitsColumn
 
 -- each edition of a summary has a number that an install made
 abbrev pub IsInRange : Holdings (List ℕ) → Type 0

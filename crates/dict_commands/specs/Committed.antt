@@ -5,7 +5,7 @@ use Rattle.sqlite.specs.Tree.{Trees}
 use Rattle.sqlite.specs.State.{State}
 use Rattle.dict_desk.specs.declared.fault.Fault.{Fault}
 pub use Rattle.dict_holdings.specs.Faults.{IsOfStore}
-pub use Rattle.dict_holdings.specs.Writing.{Stays}
+pub use Rattle.dict_holdings.specs.Writing.{StaysCommitted}
 use Rattle.dict_holdings.specs.Writing.{FailsToEnd}
 use Rattle.sqlite.specs.Held.{Held}
 use Rattle.sqlite_trees.specs.declared.store.Store.{Ghosts}

@@ -18,7 +18,7 @@ use Rattle.dict_desk.specs.declared.fault.Fault.TheVariants.{Memory, Disk}
 use Rattle.dict_rows.specs.After.{Installed, is_gone}
 use Rattle.dict_holdings.specs.Files.{parts_under}
 use Rattle.dict_holdings.specs.AllTables.{AllTables}
-use Rattle.dict_commands.specs.Kept.{HasRecords, IsUsable, SparesOthers, HoldsReplies, IsStorable, AreStorable}
+use Rattle.dict_commands.specs.KeptRecords.{HasRecords, IsUsable, SparesTablesOfOthers, HoldsReplies, FitsColumn, AreStorable}
 use Rattle.dict_commands.specs.Changes.{without_parts}
 use Rattle.dict_commands.specs.declared.files.EditionFiles.{EditionFiles}
 use Rattle.dict_commands.specs.declared.filing.Filing.{Filing}
@@ -34,12 +34,12 @@ parts_of_filing f = parts_under (pos f.number) f.index.items f.text.items
 
 -- the tables can hold the numbers
 pub record IsDrawnUp (f : Filing) : Type 0 where
-  pub number : IsStorable f.number
+  pub number : FitsColumn f.number
   pub gone : AreStorable f.gone.items
 
 -- all parts are filed
-abbrev pub IsWhole : Filing → Type 0
-IsWhole f = length (parts_of_filing f) ≤ f.parts_filed
+abbrev pub AreAllPartsFiled : Filing → Type 0
+AreAllPartsFiled f = length (parts_of_filing f) ≤ f.parts_filed
 
 -- none is filed, and none of an edition that goes is taken out
 pub record HasNoneFiled (f : Filing) : Type 0 where
@@ -66,7 +66,7 @@ filed_by f all = record all { parts = all.parts ++ take f.parts_filed (parts_of_
 abbrev pub IsAhead : Filing → Database → Database → Type 0
 IsAhead f committed now =
     (all : AllTables) → HasRecords committed all
-    → (seen : AllTables) × HasRecords now seen × (without_parts f.gone.items seen ≡ without_parts f.gone.items (filed_by f all)) × SparesOthers committed now
+    → (seen : AllTables) × HasRecords now seen × (without_parts f.gone.items seen ≡ without_parts f.gone.items (filed_by f all)) × SparesTablesOfOthers committed now
 
 -- a store as a rollback would leave it: what it shows is what was committed
 abbrev pub rested : State → State

@@ -18,7 +18,7 @@ use Rattle.dict_rows.specs.After.{Installed, TableChange, is_gone, installed_edi
 use Rattle.dict_holdings.specs.AllTables.{AllTables, all_after}
 use Rattle.dict_holdings.specs.Holds.{Holds, IsLeftAs}
 use Rattle.dict_holdings.specs.Writing.{FailsAtLast}
-use Rattle.dict_commands.specs.Kept.{HasRecords, SparesOthers, KeepsTexts}
+use Rattle.dict_commands.specs.KeptRecords.{HasRecords, SparesTablesOfOthers, KeepsTextRows}
 use Rattle.dict_commands.specs.Changes.{IsInRange, with_mark, with_items, with_members, with_more_editions, without_editions, with_reply}
 use Rattle.dict_commands.specs.Statements.{summary_anew, taking, adding_edition, replying}
 use Rattle.dict_commands.specs.Committed.{IsTreesOf}
@@ -52,7 +52,7 @@ pub record IsOfChange (f : Filing) (edition : Option Installed) (gone : List ℕ
 abbrev pub AwaitsRest : TableChange → Database → Database → Type 0
 AwaitsRest change committed now =
     (all : AllTables) → HasRecords committed all
-    → (seen : AllTables) × HasRecords now seen × SparesOthers committed now × ((db : Database) → HasRecords db (finished change seen) → HasRecords db (all_after known change all))
+    → (seen : AllTables) × HasRecords now seen × SparesTablesOfOthers committed now × ((db : Database) → HasRecords db (finished change seen) → HasRecords db (all_after known change all))
 
 -- What a command under a lawful id does to a store, whatever an open transaction shows: over each catalogue with this summary that
 -- was committed, what `Answers` says of what is committed then. What is committed alone tells which tables and numbers stay.
@@ -60,11 +60,11 @@ pub record IsAppliedOver (summary : Holdings (List ℕ)) (id : List ℕ) (comman
   pub value : HasCleanDisk new → (M : Catalogue) → (IsTrue old.is_open → Holds known old.committed M) → summary_of M ≡ summary → Answers (rested new) M id (step M id command) result
   pub spares : has_written result ≡ false → Survives old new (λ _. ⊥)
   pub crash : Survives old new (λ trees. IsTrue old.is_open × ((M : Catalogue) → Holds known old.committed M → summary_of M ≡ summary → IsLeftAs known (step M id command).catalogue trees))
-  pub beside : Survives old new (λ trees. IsTrue old.is_open × IsTreesOf (SparesOthers old.committed) trees)
+  pub beside : Survives old new (λ trees. IsTrue old.is_open × IsTreesOf (SparesTablesOfOthers old.committed) trees)
   pub lives : HasCleanDisk new → IsTrue new.is_open → IsTrue old.is_open
   pub shut : HasCleanDisk new → old.is_open ≡ false → IsOfShut id result
-  pub others : HasCleanDisk new → OnOk result (SparesOthers old.committed new.committed)
-  pub above : HasCleanDisk new → OnOk result (KeepsTexts summary.installs (numbers_after summary result) old.committed new.committed)
+  pub others : HasCleanDisk new → OnOk result (SparesTablesOfOthers old.committed new.committed)
+  pub above : HasCleanDisk new → OnOk result (KeepsTextRows summary.installs (numbers_after summary result) old.committed new.committed)
   pub refused : HasCleanDisk new → IfErr result (λ fault. is_failure fault ≡ false → new.committed ≡ old.committed)
   pub grows : summary.installs ≤ (summary_after summary result).installs
   pub kinds : IfErr result IsOfApply

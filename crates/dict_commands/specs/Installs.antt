@@ -103,9 +103,9 @@ pub record IsInstallOf (name index text : List ℕ) (r : ReadInstall) : Type 0 w
 
 -- ---- the command
 
-abbrev lent : {X : Type 0} → X → Bor X
-lent x = record { ref_ptr = (0, 0); now = x }
+abbrev as_lent : {X : Type 0} → X → Bor X
+as_lent x = record { ref_ptr = (0, 0); now = x }
 
 -- the install of what was read, under a name
 abbrev pub install_read : List ℕ → ReadEdition → Command
-install_read name reading = Install (lent name) (lent reading)
+install_read name reading = Install (as_lent name) (as_lent reading)

@@ -1,4 +1,4 @@
-pub mod Kept
+pub mod KeptRecords
 pub mod Changes
 pub mod Statements
 pub mod Writes
@@ -8,7 +8,7 @@ pub mod Answers
 pub mod Drafts
 pub mod Filing
 pub mod Installs
-pub mod Parts
+pub mod FiledParts
 pub mod Finishing
 pub mod Installed
 pub mod Marking

@@ -12,7 +12,7 @@ use Rattle.dict_desk.specs.declared.fault.Fault.{Fault}
 use Rattle.dict_rows.specs.Versions.{known}
 use Rattle.dict_holdings.specs.Holds.{Holds}
 use Rattle.dict_holdings.specs.Texts.{HoldsText}
-use Rattle.dict_commands.specs.Kept.{SparesOthers}
+use Rattle.dict_commands.specs.KeptRecords.{SparesTablesOfOthers}
 use Rattle.dict_commands.specs.Statements.{mark_anew}
 use Rattle.dict_commands.specs.Filing.{fault_filed}
 
@@ -20,7 +20,7 @@ use Rattle.dict_commands.specs.Filing.{fault_filed}
 pub record Remains (summary : Holdings (List ℕ)) (old new : Database) : Type 0 where
   pub holds : (M : Catalogue) → Holds known old M → summary_of M ≡ summary → Holds known new M
   pub texts : (number : ℕ) (text : List ℕ) → HoldsText old number text → HoldsText new number text
-  pub others : SparesOthers old new
+  pub others : SparesTablesOfOthers old new
 
 module _ {S : Type 0} (g : Ghosts S) where
   -- One of the statements failed, where those before it had done what they say, and they were undone; or the commit failed behind them.

@@ -8,8 +8,8 @@ use Rattle.dict_sql.specs.Encodings.{mark_row, item_row, member_row, kept_row}
 use Rattle.dict_sql.specs.Statements.{Statement, add, remove}
 use Rattle.dict_edition_sql.specs.HeaderRecords.{header_row}
 use Rattle.dict_edition_sql.specs.PartRecords.{part_row}
-use Rattle.dict_edition_sql.specs.Chosen.{is_from}
-use Rattle.dict_records.specs.Records.{Mark, Item as ItemRecord, Member, Edition, Part, Kept, header_of}
+use Rattle.dict_edition_sql.specs.Chosen.{is_part_from}
+use Rattle.dict_records.specs.Records.{Mark, ItemRecord, Member, EditionRecord, Part, KeptRecord, header_of}
 use Rattle.dict_holdings.specs.Files.{installed_parts}
 use Rattle.dict_catalogue.specs.Items.{Item}
 use Rattle.dict_catalogue.specs.Steps.{KeptFor}
@@ -31,13 +31,13 @@ abbrev pub adding_member : Member → Statement
 adding_member it = add (codes "member") (member_row it)
 
 -- an edition's has no text: that stands in parts
-abbrev pub adding_edition : Edition → Statement
+abbrev pub adding_edition : EditionRecord → Statement
 adding_edition it = add (codes "edition") (header_row (header_of it))
 
 abbrev pub adding_part : Part → Statement
 adding_part it = add (codes "dictcat_part") (part_row it)
 
-abbrev pub adding_kept : Kept → Statement
+abbrev pub adding_kept : KeptRecord → Statement
 adding_kept it = add (codes "kept") (kept_row it)
 
 -- the mark, the items and the members are written anew
@@ -58,7 +58,7 @@ abbrev pub taking_of : List ℕ → ℕ → Statement
 taking_of name number = remove name (equals_number 1 (pos number))
 
 abbrev pub taking_from : ℕ → ℤ → Statement
-taking_from number from = remove (codes "dictcat_part") (is_from (pos number) (pos 1) from)
+taking_from number from = remove (codes "dictcat_part") (is_part_from (pos number) (pos 1) from)
 
 -- its parts go some at a time: those of its text from each of these on, one after the other, and then the rest
 abbrev pub taking_parts : ℕ → List ℤ → List Statement

@@ -6,12 +6,12 @@ use Rattle.sqlite.specs.declared.error.Error.{Error}
 use Rattle.sqlite_trees.specs.declared.store.Store.{Ghosts}
 use Rattle.dict_sql.specs.Statements.{Statement, RunInTurn, FailsInTurn}
 use Rattle.dict_holdings.specs.AllTables.{AllTables}
-use Rattle.dict_commands.specs.Kept.{Turns}
+use Rattle.dict_commands.specs.KeptRecords.{TurnsRecords}
 
 module _ {S : Type 0} (g : Ghosts S) where
   -- These statements ran, one after the other, within the transaction, and made this of the records.
-  pub record Wrote (statements : List Statement) (f : AllTables → AllTables) (old new : Held S) : Type 0 where
-    pub turns : HasCleanDisk (state g new) → Turns f (state g old).now (state g new).now
+  pub record WroteStatements (statements : List Statement) (f : AllTables → AllTables) (old new : Held S) : Type 0 where
+    pub turns : HasCleanDisk (state g new) → TurnsRecords f (state g old).now (state g new).now
     pub ran : HasCleanDisk (state g new) → RunInTurn g statements old new
     pub inside : HasCleanDisk (state g new) → (state g old).in_transaction ≡ true → (state g new).in_transaction ≡ true
 
@@ -20,6 +20,6 @@ module _ {S : Type 0} (g : Ghosts S) where
   FailsToWrite statements old new e = HasCleanDisk (state g new) → FailsInTurn g statements old new e
 
   -- Nothing was committed, and nothing is added to what a stop may leave.
-  pub record Spares (old new : Held S) : Type 0 where
+  pub record CommitsNothing (old new : Held S) : Type 0 where
     pub keeps : HasCleanDisk (state g new) → KeepsCommit (state g old) (state g new)
     pub survives : Survives (state g old) (state g new) (λ _. ⊥)

@@ -8,7 +8,7 @@ ghost use Rattle.dict_catalogue.specs.Tests.{refusal_of};
 ghost use Rattle.dict_catalogue.specs.Views.{summary_shown, command_meant, command_shown};
 ghost use Rattle.dict_desk.specs.Faults.{is_failure};
 ghost use Rattle.dict_holdings.specs.Holds.{Holds, Rests, IsLeftAs};
-ghost use Rattle.dict_commands.specs.Kept.{SparesOthers, KeepsTexts};
+ghost use Rattle.dict_commands.specs.KeptRecords.{SparesTablesOfOthers, KeepsTextRows};
 ghost use Rattle.dict_commands.specs.Changes.{IsInRange};
 ghost use Rattle.dict_commands.specs.Committed.{IsTreesOf};
 ghost use Rattle.dict_commands.specs.Answers.{HoldsBy, Answers, has_written, summary_after, numbers_after, IsOfApply, IsOfShut, FailsToAct, FailsToApply};
@@ -44,9 +44,9 @@ fn apply_new<S: Alter>(
         → IsLeftAs known (step M id.now (command_meant command.now)).catalogue trees) }
     ensures lives { HasCleanDisk (state S.Store conn.new) → IsTrue (state S.Store conn.new).is_open → IsTrue (state S.Store conn.old).is_open }
     ensures failed { HasCleanDisk (state S.Store conn.new) → IfErr result (λ fault. is_failure fault ≡ true → ((fault ≡ Fault.Memory) × (conn.new ≡ conn.old) × (refusal_of (summary_shown summary.now) (command_shown command.now) ≡ None)) ⊎ FailsToAct S.Store (summary_shown summary.now) id.now (command_meant command.now) (λ db. (M : Catalogue) → Rests known (state S.Store conn.old) M → summary_of M ≡ summary_shown summary.now → kept_under M.kept id.now ≡ None → Holds known db (step M id.now (command_meant command.now)).catalogue) conn.old conn.new fault) }
-    ensures others { HasCleanDisk (state S.Store conn.new) → OnOk result (SparesOthers (state S.Store conn.old).now (state S.Store conn.new).now) }
-    ensures beside { Survives (state S.Store conn.old) (state S.Store conn.new) (λ trees. IsTrue (state S.Store conn.old).is_open → IsTreesOf (SparesOthers (state S.Store conn.old).now) trees) }
-    ensures above { HasCleanDisk (state S.Store conn.new) → OnOk result (KeepsTexts summary.now.installs (numbers_after (summary_shown summary.now) result) (state S.Store conn.old).now (state S.Store conn.new).now) }
+    ensures others { HasCleanDisk (state S.Store conn.new) → OnOk result (SparesTablesOfOthers (state S.Store conn.old).now (state S.Store conn.new).now) }
+    ensures beside { Survives (state S.Store conn.old) (state S.Store conn.new) (λ trees. IsTrue (state S.Store conn.old).is_open → IsTreesOf (SparesTablesOfOthers (state S.Store conn.old).now) trees) }
+    ensures above { HasCleanDisk (state S.Store conn.new) → OnOk result (KeepsTextRows summary.now.installs (numbers_after (summary_shown summary.now) result) (state S.Store conn.old).now (state S.Store conn.new).now) }
     ensures installed { HasCleanDisk (state S.Store conn.new) → HasInstalled command.now result (state S.Store conn.new).now }
     ensures stays { HasCleanDisk (state S.Store conn.new) → IsTrue (state S.Store conn.new).is_open → OnErr result ((state S.Store conn.new).committed ≡ (state S.Store conn.old).committed) }
     ensures refused { IfErr result (λ fault. is_failure fault ≡ false → (state S.Store conn.new).now ≡ (state S.Store conn.old).now) }
@@ -101,9 +101,9 @@ pub fn apply<S: Alter>(
     ensures shut { HasCleanDisk (state S.Store conn.new) → (state S.Store conn.old).is_open ≡ false → IsOfShut id.now result }
     ensures lives { HasCleanDisk (state S.Store conn.new) → IsTrue (state S.Store conn.new).is_open → IsTrue (state S.Store conn.old).is_open }
     ensures failed { HasCleanDisk (state S.Store conn.new) → IfErr result (λ fault. is_failure fault ≡ true → FailsToApply S.Store (summary_shown summary.now) id.now (command_meant command.now) conn.old conn.new fault) }
-    ensures others { HasCleanDisk (state S.Store conn.new) → OnOk result (SparesOthers (state S.Store conn.old).now (state S.Store conn.new).now) }
-    ensures beside { Survives (state S.Store conn.old) (state S.Store conn.new) (IsTreesOf (SparesOthers (state S.Store conn.old).now)) }
-    ensures above { HasCleanDisk (state S.Store conn.new) → OnOk result (KeepsTexts summary.now.installs (numbers_after (summary_shown summary.now) result) (state S.Store conn.old).now (state S.Store conn.new).now) }
+    ensures others { HasCleanDisk (state S.Store conn.new) → OnOk result (SparesTablesOfOthers (state S.Store conn.old).now (state S.Store conn.new).now) }
+    ensures beside { Survives (state S.Store conn.old) (state S.Store conn.new) (IsTreesOf (SparesTablesOfOthers (state S.Store conn.old).now)) }
+    ensures above { HasCleanDisk (state S.Store conn.new) → OnOk result (KeepsTextRows summary.now.installs (numbers_after (summary_shown summary.now) result) (state S.Store conn.old).now (state S.Store conn.new).now) }
     ensures installed { HasCleanDisk (state S.Store conn.new) → HasInstalled command.now result (state S.Store conn.new).now }
     ensures stays { HasCleanDisk (state S.Store conn.new) → IsTrue (state S.Store conn.new).is_open → OnErr result ((state S.Store conn.new).committed ≡ (state S.Store conn.old).committed) }
     ensures refused { HasCleanDisk (state S.Store conn.new) → IfErr result (λ fault. is_failure fault ≡ false → (state S.Store conn.new).now ≡ (state S.Store conn.old).now) }

@@ -7,10 +7,10 @@ ghost use Rattle.dict_desk.specs.Faults.{is_disk};
 ghost use Rattle.dict_rows.specs.Versions.{known};
 ghost use Rattle.dict_holdings.specs.AllTables.{all_after};
 ghost use Rattle.dict_holdings.specs.Writing.{FailsToEnd};
-ghost use Rattle.dict_commands.specs.Kept.{Turns, IsUsable};
+ghost use Rattle.dict_commands.specs.KeptRecords.{TurnsRecords, IsUsable};
 ghost use Rattle.dict_commands.specs.Changes.{change_by, index_by, IsWritable};
 ghost use Rattle.dict_commands.specs.Statements.{statements_of};
-ghost use Rattle.dict_commands.specs.Committed.{IsCommitted, IsTreesOf, Stays, IsOfStore, FailsToCommit};
+ghost use Rattle.dict_commands.specs.Committed.{IsCommitted, IsTreesOf, StaysCommitted, IsOfStore, FailsToCommit};
 
 use crate::files::installed_index;
 use crate::writing::write_all;
@@ -33,14 +33,14 @@ fn commit_files<S: Alter>(
     requires usable { WhileOpen (state S.Store conn.old) IsUsable }
     requires writable { IsWritable change.now }
     requires index { index.now ≡ index_by command.now }
-    ensures made { HasCleanDisk (state S.Store conn.new) → OnOk result (IsCommitted (Turns (all_after known (change_by id.now command.now change.now)) (state S.Store conn.old).now) (state S.Store conn.new)) }
+    ensures made { HasCleanDisk (state S.Store conn.new) → OnOk result (IsCommitted (TurnsRecords (all_after known (change_by id.now command.now change.now)) (state S.Store conn.old).now) (state S.Store conn.new)) }
     ensures lives { HasCleanDisk (state S.Store conn.new) → IsTrue (state S.Store conn.new).is_open → IsTrue (state S.Store conn.old).is_open }
-    ensures stays { HasCleanDisk (state S.Store conn.new) → OnErr result (Stays (state S.Store conn.old) (state S.Store conn.new)) }
+    ensures stays { HasCleanDisk (state S.Store conn.new) → OnErr result (StaysCommitted (state S.Store conn.old) (state S.Store conn.new)) }
     ensures adds_none { IfErr result (λ fault. is_disk fault ≡ false → Survives (state S.Store conn.old) (state S.Store conn.new) (λ _. ⊥)) }
-    ensures failed { HasCleanDisk (state S.Store conn.new) → IfErr result (FailsToEnd S.Store (statements_of known (change_by id.now command.now change.now)) (Turns (all_after known (change_by id.now command.now change.now)) (state S.Store conn.old).now) conn.old conn.new) }
+    ensures failed { HasCleanDisk (state S.Store conn.new) → IfErr result (FailsToEnd S.Store (statements_of known (change_by id.now command.now change.now)) (TurnsRecords (all_after known (change_by id.now command.now change.now)) (state S.Store conn.old).now) conn.old conn.new) }
     ensures kinds { IfErr result IsOfStore }
     ensures autocommit { (state S.Store conn.new).in_transaction ≡ false }
-    ensures crash { Survives (state S.Store conn.old) (state S.Store conn.new) (IsTreesOf (Turns (all_after known (change_by id.now command.now change.now)) (state S.Store conn.old).now)) }
+    ensures crash { Survives (state S.Store conn.old) (state S.Store conn.new) (IsTreesOf (TurnsRecords (all_after known (change_by id.now command.now change.now)) (state S.Store conn.old).now)) }
 {
     let mut tx = conn.transaction();
     if let Err(error) = write_all(&mut tx, id, command, change, index) {
@@ -67,14 +67,14 @@ pub(crate) fn commit_change<S: Alter>(
     requires autocommit { conn.old.in_transaction ≡ false }
     requires usable { WhileOpen (state S.Store conn.old) IsUsable }
     requires writable { IsWritable change.now }
-    ensures made { HasCleanDisk (state S.Store conn.new) → OnOk result (IsCommitted (Turns (all_after known (change_by id.now command.now change.now)) (state S.Store conn.old).now) (state S.Store conn.new)) }
+    ensures made { HasCleanDisk (state S.Store conn.new) → OnOk result (IsCommitted (TurnsRecords (all_after known (change_by id.now command.now change.now)) (state S.Store conn.old).now) (state S.Store conn.new)) }
     ensures lives { HasCleanDisk (state S.Store conn.new) → IsTrue (state S.Store conn.new).is_open → IsTrue (state S.Store conn.old).is_open }
-    ensures stays { HasCleanDisk (state S.Store conn.new) → OnErr result (Stays (state S.Store conn.old) (state S.Store conn.new)) }
+    ensures stays { HasCleanDisk (state S.Store conn.new) → OnErr result (StaysCommitted (state S.Store conn.old) (state S.Store conn.new)) }
     ensures adds_none { IfErr result (λ fault. is_disk fault ≡ false → Survives (state S.Store conn.old) (state S.Store conn.new) (λ _. ⊥)) }
-    ensures failed { HasCleanDisk (state S.Store conn.new) → IfErr result (FailsToCommit S.Store (change_by id.now command.now change.now) (Turns (all_after known (change_by id.now command.now change.now)) (state S.Store conn.old).now) conn.old conn.new) }
+    ensures failed { HasCleanDisk (state S.Store conn.new) → IfErr result (FailsToCommit S.Store (change_by id.now command.now change.now) (TurnsRecords (all_after known (change_by id.now command.now change.now)) (state S.Store conn.old).now) conn.old conn.new) }
     ensures kinds { IfErr result IsOfStore }
     ensures autocommit { (state S.Store conn.new).in_transaction ≡ false }
-    ensures crash { Survives (state S.Store conn.old) (state S.Store conn.new) (IsTreesOf (Turns (all_after known (change_by id.now command.now change.now)) (state S.Store conn.old).now)) }
+    ensures crash { Survives (state S.Store conn.old) (state S.Store conn.new) (IsTreesOf (TurnsRecords (all_after known (change_by id.now command.now change.now)) (state S.Store conn.old).now)) }
 {
     let index = installed_index(alloc, command)?;
     commit_files(conn, id, command, change, &index)

@@ -7,16 +7,16 @@ ghost use Rattle.dict_records.specs.Typed.{lent_header};
 ghost use Rattle.dict_index.specs.Edition.{ReadEdition};
 ghost use Rattle.dict_parts.specs.Stored.{stored_index};
 ghost use Rattle.dict_rows.specs.Written.{edition_record};
-ghost use Rattle.dict_commands.specs.Kept.{IsUsable, IsStorable, AreStorable};
+ghost use Rattle.dict_commands.specs.KeptRecords.{IsUsable, FitsColumn, AreStorable};
 ghost use Rattle.dict_commands.specs.Statements.{taking, taking_parts, adding_edition, installing};
 ghost use Rattle.dict_commands.specs.Changes.{without_parts, without_editions, with_more_editions, with_installed, installed_by, index_by};
-ghost use Rattle.dict_commands.specs.Writes.{Wrote, FailsToWrite, Spares};
+ghost use Rattle.dict_commands.specs.Writes.{WroteStatements, FailsToWrite, CommitsNothing};
 
 use crate::files::{EditionFiles, add_parts};
 use dict_catalogue::Command;
 use dict_edition_sql::{delete_header, delete_parts, delete_parts_from, insert_header};
 use dict_index::Edition;
-use dict_records::Header;
+use dict_records::HeaderRecord;
 use dict_sql::transaction::OpenTransaction;
 use sqlite::{Alter, Error};
 
@@ -32,13 +32,13 @@ fn take_parts<S: Alter, T: OpenTransaction<S>>(
     number: u64,
     parts: &[i64],
 ) -> Result<(), Error>
-    requires number { IsStorable number }
+    requires number { FitsColumn number }
     requires usable { WhileOpen (state S.Store (T.held tx.old)) IsUsable }
     ensures same_reference { T.reference tx.new ≡ T.reference tx.old }
-    ensures wrote { OnOk result (Wrote S.Store (taking_parts number parts.now) (without_parts (number ∷ [])) (T.held tx.old) (T.held tx.new)) }
+    ensures wrote { OnOk result (WroteStatements S.Store (taking_parts number parts.now) (without_parts (number ∷ [])) (T.held tx.old) (T.held tx.new)) }
     ensures usable { OnOk result (WhileOpen (state S.Store (T.held tx.new)) IsUsable) }
     ensures failed { IfErr result (FailsToWrite S.Store (taking_parts number parts.now) (T.held tx.old) (T.held tx.new)) }
-    ensures spares { Spares S.Store (T.held tx.old) (T.held tx.new) }
+    ensures spares { CommitsNothing S.Store (T.held tx.old) (T.held tx.new) }
 {
     'each: for from in parts {
         delete_parts_from(tx, number as i64, 1, *from)?;
@@ -49,13 +49,13 @@ fn take_parts<S: Alter, T: OpenTransaction<S>>(
 
 // Takes out the edition of this number, with its parts.
 fn take_edition<S: Alter, T: OpenTransaction<S>>(tx: &mut T, number: u64) -> Result<(), Error>
-    requires number { IsStorable number }
+    requires number { FitsColumn number }
     requires usable { WhileOpen (state S.Store (T.held tx.old)) IsUsable }
     ensures same_reference { T.reference tx.new ≡ T.reference tx.old }
-    ensures wrote { OnOk result (Wrote S.Store (taking number) (without_editions (number ∷ [])) (T.held tx.old) (T.held tx.new)) }
+    ensures wrote { OnOk result (WroteStatements S.Store (taking number) (without_editions (number ∷ [])) (T.held tx.old) (T.held tx.new)) }
     ensures usable { OnOk result (WhileOpen (state S.Store (T.held tx.new)) IsUsable) }
     ensures failed { IfErr result (FailsToWrite S.Store (taking number) (T.held tx.old) (T.held tx.new)) }
-    ensures spares { Spares S.Store (T.held tx.old) (T.held tx.new) }
+    ensures spares { CommitsNothing S.Store (T.held tx.old) (T.held tx.new) }
 {
     take_parts(tx, number, LAST_PARTS)?;
     delete_header(tx, number as i64)?;
@@ -70,10 +70,10 @@ pub(crate) fn take_editions<S: Alter, T: OpenTransaction<S>>(
     requires numbers { AreStorable gone.now }
     requires usable { WhileOpen (state S.Store (T.held tx.old)) IsUsable }
     ensures same_reference { T.reference tx.new ≡ T.reference tx.old }
-    ensures wrote { OnOk result (Wrote S.Store (flat_map taking gone.now) (without_editions gone.now) (T.held tx.old) (T.held tx.new)) }
+    ensures wrote { OnOk result (WroteStatements S.Store (flat_map taking gone.now) (without_editions gone.now) (T.held tx.old) (T.held tx.new)) }
     ensures usable { OnOk result (WhileOpen (state S.Store (T.held tx.new)) IsUsable) }
     ensures failed { IfErr result (FailsToWrite S.Store (flat_map taking gone.now) (T.held tx.old) (T.held tx.new)) }
-    ensures spares { Spares S.Store (T.held tx.old) (T.held tx.new) }
+    ensures spares { CommitsNothing S.Store (T.held tx.old) (T.held tx.new) }
 {
     'each: for number in gone {
         take_edition(tx, *number)?;
@@ -82,11 +82,16 @@ pub(crate) fn take_editions<S: Alter, T: OpenTransaction<S>>(
 }
 
 // The header of an edition of this owner, with its number.
-fn header_row<'a>(owner: &'a str, number: u64, title: &'a str, info: &'a str) -> Header<&'a str>
-    requires { IsStorable number }
+fn header_row<'a>(
+    owner: &'a str,
+    number: u64,
+    title: &'a str,
+    info: &'a str,
+) -> HeaderRecord<&'a str>
+    requires { FitsColumn number }
     ensures { (reading : ReadEdition) → reading.title ≡ title.now → reading.info ≡ info.now → lent_header result ≡ header_of (edition_record owner.now number reading) }
 {
-    Header {
+    HeaderRecord {
         number: number as i64,
         owner,
         title,
@@ -102,13 +107,13 @@ pub(crate) fn add_record<S: Alter, T: OpenTransaction<S>>(
     title: &str,
     info: &str,
 ) -> Result<(), Error>
-    requires number { IsStorable number }
+    requires number { FitsColumn number }
     requires usable { WhileOpen (state S.Store (T.held tx.old)) IsUsable }
     ensures same_reference { T.reference tx.new ≡ T.reference tx.old }
-    ensures wrote { OnOk result ((reading : ReadEdition) → reading.title ≡ title.now → reading.info ≡ info.now → Wrote S.Store (adding_edition (edition_record owner.now number reading) ∷ []) (with_more_editions (edition_record owner.now number reading ∷ [])) (T.held tx.old) (T.held tx.new)) }
+    ensures wrote { OnOk result ((reading : ReadEdition) → reading.title ≡ title.now → reading.info ≡ info.now → WroteStatements S.Store (adding_edition (edition_record owner.now number reading) ∷ []) (with_more_editions (edition_record owner.now number reading ∷ [])) (T.held tx.old) (T.held tx.new)) }
     ensures usable { OnOk result (WhileOpen (state S.Store (T.held tx.new)) IsUsable) }
     ensures failed { IfErr result (λ e. (reading : ReadEdition) → reading.title ≡ title.now → reading.info ≡ info.now → FailsToWrite S.Store (adding_edition (edition_record owner.now number reading) ∷ []) (T.held tx.old) (T.held tx.new) e) }
-    ensures spares { Spares S.Store (T.held tx.old) (T.held tx.new) }
+    ensures spares { CommitsNothing S.Store (T.held tx.old) (T.held tx.new) }
 {
     let row = header_row(owner, number, title, info);
     insert_header(tx, &row)?;
@@ -123,14 +128,14 @@ fn add_edition<S: Alter, T: OpenTransaction<S>>(
     edition: &Edition,
     index: &[u8],
 ) -> Result<(), Error>
-    requires number { IsStorable number }
+    requires number { FitsColumn number }
     requires index { index.now ≡ stored_index edition.now.lines }
     requires usable { WhileOpen (state S.Store (T.held tx.old)) IsUsable }
     ensures same_reference { T.reference tx.new ≡ T.reference tx.old }
-    ensures wrote { OnOk result (Wrote S.Store (installing (Some (record { owner = owner.now; number = number; reading = edition.now }))) (with_installed (Some (record { owner = owner.now; number = number; reading = edition.now }))) (T.held tx.old) (T.held tx.new)) }
+    ensures wrote { OnOk result (WroteStatements S.Store (installing (Some (record { owner = owner.now; number = number; reading = edition.now }))) (with_installed (Some (record { owner = owner.now; number = number; reading = edition.now }))) (T.held tx.old) (T.held tx.new)) }
     ensures usable { OnOk result (WhileOpen (state S.Store (T.held tx.new)) IsUsable) }
     ensures failed { IfErr result (FailsToWrite S.Store (installing (Some (record { owner = owner.now; number = number; reading = edition.now }))) (T.held tx.old) (T.held tx.new)) }
-    ensures spares { Spares S.Store (T.held tx.old) (T.held tx.new) }
+    ensures spares { CommitsNothing S.Store (T.held tx.old) (T.held tx.new) }
 {
     let files = EditionFiles {
         number,
@@ -149,14 +154,14 @@ pub(crate) fn add_installed<S: Alter, T: OpenTransaction<S>>(
     command: &Command,
     index: &[u8],
 ) -> Result<(), Error>
-    requires number { IsStorable number }
+    requires number { FitsColumn number }
     requires index { index.now ≡ index_by command.now }
     requires usable { WhileOpen (state S.Store (T.held tx.old)) IsUsable }
     ensures same_reference { T.reference tx.new ≡ T.reference tx.old }
-    ensures wrote { OnOk result (Wrote S.Store (installing (installed_by number command.now)) (with_installed (installed_by number command.now)) (T.held tx.old) (T.held tx.new)) }
+    ensures wrote { OnOk result (WroteStatements S.Store (installing (installed_by number command.now)) (with_installed (installed_by number command.now)) (T.held tx.old) (T.held tx.new)) }
     ensures usable { OnOk result (WhileOpen (state S.Store (T.held tx.new)) IsUsable) }
     ensures failed { IfErr result (FailsToWrite S.Store (installing (installed_by number command.now)) (T.held tx.old) (T.held tx.new)) }
-    ensures spares { Spares S.Store (T.held tx.old) (T.held tx.new) }
+    ensures spares { CommitsNothing S.Store (T.held tx.old) (T.held tx.new) }
 {
     match command {
         Command::Install { name, edition } => add_edition(tx, name, number, edition, index),

@@ -17,13 +17,13 @@ ghost use Rattle.dict_rows.specs.Versions.{known};
 ghost use Rattle.dict_holdings.specs.AllTables.{all_after};
 ghost use Rattle.dict_holdings.specs.Holds.{Rests};
 ghost use Rattle.dict_holdings.specs.Writing.{FailsAtLast};
-ghost use Rattle.dict_commands.specs.Kept.{IsUsable, Turns};
+ghost use Rattle.dict_commands.specs.KeptRecords.{IsUsable, TurnsRecords};
 ghost use Rattle.dict_commands.specs.Changes.{change_by, installed_by, IsInRange, IsWritable};
 ghost use Rattle.dict_commands.specs.Committed.{IsCommitted, IsOfStore, IsTreesOf};
 ghost use Rattle.dict_commands.specs.Answers.{HoldsBy, Answers};
 ghost use Rattle.dict_commands.specs.Installs.{IsReadInstall, install_read};
 ghost use Rattle.dict_commands.specs.Installed.{HasInstalled};
-ghost use Rattle.dict_commands.specs.Writes.{Wrote, FailsToWrite, Spares};
+ghost use Rattle.dict_commands.specs.Writes.{WroteStatements, FailsToWrite, CommitsNothing};
 ghost use Rattle.dict_commands.specs.Filing.{IsUnderway, rested, FailsInside};
 ghost use Rattle.dict_commands.specs.Finishing.{finishing, finished, AwaitsRest, IsOfChange, IsFinished, IsAppliedOver, IsUndone, LooksOnly, FailsToFinish};
 
@@ -106,11 +106,11 @@ fn write_read<S: Alter, T: OpenTransaction<S>>(
     requires writable { IsWritable change.now }
     requires usable { WhileOpen (state S.Store (T.held tx.old)) IsUsable }
     ensures same_reference { T.reference tx.new ≡ T.reference tx.old }
-    ensures wrote { OnOk result (Wrote S.Store (finishing known (change_by id.now (install_read name.now reading.now) change.now)) (finished (change_by id.now (install_read name.now reading.now) change.now)) (T.held tx.old) (T.held tx.new)) }
+    ensures wrote { OnOk result (WroteStatements S.Store (finishing known (change_by id.now (install_read name.now reading.now) change.now)) (finished (change_by id.now (install_read name.now reading.now) change.now)) (T.held tx.old) (T.held tx.new)) }
     ensures sound { HasCleanDisk (state S.Store (T.held tx.new)) → OnOk result (IsDatabase (state S.Store (T.held tx.new)).now) }
     ensures inside { HasCleanDisk (state S.Store (T.held tx.new)) → OnOk result ((state S.Store (T.held tx.new)).in_transaction ≡ true) }
     ensures failed { IfErr result (FailsToWrite S.Store (finishing known (change_by id.now (install_read name.now reading.now) change.now)) (T.held tx.old) (T.held tx.new)) }
-    ensures spares { Spares S.Store (T.held tx.old) (T.held tx.new) }
+    ensures spares { CommitsNothing S.Store (T.held tx.old) (T.held tx.new) }
 {
     write_summary(tx, &change.summary)?;
     take_editions(tx, &change.gone)?;
@@ -137,14 +137,14 @@ fn commit_read<S: Alter>(
     requires inside { HasCleanDisk (state S.Store conn.old) → conn.old.in_transaction ≡ true }
     requires awaits { HasCleanDisk (state S.Store conn.old) → IsTrue (state S.Store conn.old).is_open → AwaitsRest (change_by id.now (install_read name.now reading.now) change.now) (state S.Store conn.old).committed (state S.Store conn.old).now }
     requires usable { WhileOpen (rested (state S.Store conn.old)) IsUsable }
-    ensures made { HasCleanDisk (state S.Store conn.new) → OnOk result (IsCommitted (Turns (all_after known (change_by id.now (install_read name.now reading.now) change.now)) (state S.Store conn.old).committed) (state S.Store conn.new)) }
+    ensures made { HasCleanDisk (state S.Store conn.new) → OnOk result (IsCommitted (TurnsRecords (all_after known (change_by id.now (install_read name.now reading.now) change.now)) (state S.Store conn.old).committed) (state S.Store conn.new)) }
     ensures keeps { HasCleanDisk (state S.Store conn.new) → OnErr result (KeepsCommit (state S.Store conn.old) (state S.Store conn.new)) }
     ensures lives { HasCleanDisk (state S.Store conn.new) → IsTrue (state S.Store conn.new).is_open → IsTrue (state S.Store conn.old).is_open }
     ensures adds_none { IfErr result (λ fault. is_disk fault ≡ false → Survives (state S.Store conn.old) (state S.Store conn.new) (λ _. ⊥)) }
-    ensures failed { HasCleanDisk (state S.Store conn.new) → IfErr result (λ fault. FailsInside S.Store fault_of (finishing known (change_by id.now (install_read name.now reading.now) change.now)) conn.old conn.new fault ⊎ FailsAtLast S.Store (finishing known (change_by id.now (install_read name.now reading.now) change.now)) (Turns (all_after known (change_by id.now (install_read name.now reading.now) change.now)) (state S.Store conn.old).committed) conn.old conn.new fault) }
+    ensures failed { HasCleanDisk (state S.Store conn.new) → IfErr result (λ fault. FailsInside S.Store fault_of (finishing known (change_by id.now (install_read name.now reading.now) change.now)) conn.old conn.new fault ⊎ FailsAtLast S.Store (finishing known (change_by id.now (install_read name.now reading.now) change.now)) (TurnsRecords (all_after known (change_by id.now (install_read name.now reading.now) change.now)) (state S.Store conn.old).committed) conn.old conn.new fault) }
     ensures kinds { IfErr result IsOfStore }
     ensures ended { HasCleanDisk (state S.Store conn.new) → conn.new.in_transaction ≡ false }
-    ensures crash { Survives (state S.Store conn.old) (state S.Store conn.new) (λ trees. IsTrue (state S.Store conn.old).is_open × IsTreesOf (Turns (all_after known (change_by id.now (install_read name.now reading.now) change.now)) (state S.Store conn.old).committed) trees) }
+    ensures crash { Survives (state S.Store conn.old) (state S.Store conn.new) (λ trees. IsTrue (state S.Store conn.old).is_open × IsTreesOf (TurnsRecords (all_after known (change_by id.now (install_read name.now reading.now) change.now)) (state S.Store conn.old).committed) trees) }
 {
     if let Err(error) = write_read(conn, id, name, reading, change) {
         roll_back(conn);

@@ -8,11 +8,11 @@ ghost use Rattle.dict_parts.specs.Stored.{stored_index, IsStorable as IsStorable
 ghost use Rattle.dict_parts.specs.Parts.{parts_of};
 ghost use Rattle.dict_edition_sql.specs.PartRecords.{lent_part};
 ghost use Rattle.dict_holdings.specs.Files.{part_at};
-ghost use Rattle.dict_commands.specs.Kept.{IsUsable, IsStorable};
+ghost use Rattle.dict_commands.specs.KeptRecords.{IsUsable, FitsColumn};
 ghost use Rattle.dict_commands.specs.Statements.{adding_part};
 ghost use Rattle.dict_commands.specs.Changes.{with_more_parts, index_by};
 ghost use Rattle.dict_commands.specs.Filing.{parts_of_files};
-ghost use Rattle.dict_commands.specs.Writes.{Wrote, FailsToWrite, Spares};
+ghost use Rattle.dict_commands.specs.Writes.{WroteStatements, FailsToWrite, CommitsNothing};
 
 use dict_catalogue::Command;
 use dict_edition_sql::{Part, insert_part};
@@ -77,7 +77,7 @@ fn part_count(octets: &[u8]) -> usize
 
 // The part of this number of a file of an edition.
 fn part_of(edition: u64, file: i64, octets: &[u8], number: usize) -> Part<&[u8]>
-    requires edition { IsStorable edition }
+    requires edition { FitsColumn edition }
     requires number { number < length (parts_of octets.now) }
     ensures { lent_part result ≡ part_at (pos edition) file number (slice_index_or (parts_of octets.now) number []) }
 {
@@ -111,7 +111,7 @@ impl<'a> EditionFiles<'a> {
 
     /// The part at a place: those of the index come first.
     fn part(&self, place: usize) -> Part<&'a [u8]>
-        requires number { IsStorable self.now.number }
+        requires number { FitsColumn self.now.number }
         requires place { place < length (parts_of_files self.now) }
         ensures { lent_part result ≡ slice_index_or (parts_of_files self.now) place (lent_part result) }
     {
@@ -132,15 +132,15 @@ pub(crate) fn add_parts<S: Alter, T: OpenTransaction<S>>(
     from: usize,
     to: usize,
 ) -> Result<(), Error>
-    requires number { IsStorable files.now.number }
+    requires number { FitsColumn files.now.number }
     requires ordered { from ≤ to }
     requires within { to ≤ length (parts_of_files files.now) }
     requires usable { WhileOpen (state S.Store (T.held tx.old)) IsUsable }
     ensures same_reference { T.reference tx.new ≡ T.reference tx.old }
-    ensures wrote { OnOk result (Wrote S.Store (map adding_part (slice_range (parts_of_files files.now) from to)) (with_more_parts (slice_range (parts_of_files files.now) from to)) (T.held tx.old) (T.held tx.new)) }
+    ensures wrote { OnOk result (WroteStatements S.Store (map adding_part (slice_range (parts_of_files files.now) from to)) (with_more_parts (slice_range (parts_of_files files.now) from to)) (T.held tx.old) (T.held tx.new)) }
     ensures usable { OnOk result (WhileOpen (state S.Store (T.held tx.new)) IsUsable) }
     ensures failed { IfErr result (FailsToWrite S.Store (map adding_part (slice_range (parts_of_files files.now) from to)) (T.held tx.old) (T.held tx.new)) }
-    ensures spares { Spares S.Store (T.held tx.old) (T.held tx.new) }
+    ensures spares { CommitsNothing S.Store (T.held tx.old) (T.held tx.new) }
 {
     for done in 0..to - from {
         let given = files.part(from + done);

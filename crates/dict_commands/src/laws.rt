@@ -8,11 +8,11 @@ ghost use Rattle.dict_index.specs.Edition.{Edition};
 ghost use Rattle.dict_catalogue.specs.Commands.{Command};
 ghost use Rattle.dict_catalogue.specs.Tests.{refusal_of};
 ghost use Rattle.dict_catalogue.specs.WellFormed.{IsLawfulCommand};
-ghost use Rattle.dict_rows.specs.After.{TableChange, IsChange};
+ghost use Rattle.dict_rows.specs.After.{TableChange, IsTableChange};
 ghost use Rattle.dict_rows.specs.Versions.{known};
 ghost use Rattle.dict_holdings.specs.AllTables.{all_after};
 ghost use Rattle.dict_holdings.specs.Holds.{Holds};
-ghost use Rattle.dict_commands.specs.Kept.{IsUsable, Turns};
+ghost use Rattle.dict_commands.specs.KeptRecords.{IsUsable, TurnsRecords};
 ghost use Rattle.dict_commands.specs.Changes.{IsInRange};
 ghost use Rattle.dict_commands.specs.Filing.{IsAhead, ShowsStill};
 ghost use Rattle.dict_commands.specs.declared.filing.Filing.{Filing};
@@ -29,8 +29,8 @@ pub fn summaries_in_range()
 ///
 /// It does nothing. Its clause is the law.
 pub fn command_holds()
-    ensures { (change : TableChange) (M : Catalogue) (id : List ℕ) (command : Command Edition) (old new : Database) → Turns (all_after known change) old new → Holds known old M → IsLawfulCommand command → IsTrue (is_request_id id) → kept_under M.kept id ≡ None → refusal_of (holdings M) command ≡ None
-        → IsChange M id command change → Holds known new (with_effect M id command) }
+    ensures { (change : TableChange) (M : Catalogue) (id : List ℕ) (command : Command Edition) (old new : Database) → TurnsRecords (all_after known change) old new → Holds known old M → IsLawfulCommand command → IsTrue (is_request_id id) → kept_under M.kept id ≡ None → refusal_of (holdings M) command ≡ None
+        → IsTableChange M id command change → Holds known new (with_effect M id command) }
 {}
 
 /// While an edition is filed, each edition that neither goes nor comes has the record and the parts that it had, and the same replies

@@ -5,9 +5,9 @@ ghost use Rattle.sqlite.specs.State.{HasCleanDisk, Survives};
 ghost use Rattle.sqlite.specs.Held.{state};
 ghost use Rattle.dict_sql.specs.Effects.{WhileOpen};
 ghost use Rattle.dict_catalogue.specs.Views.{summary_shown};
-ghost use Rattle.dict_commands.specs.Kept.{Turns, IsUsable, IsStorable};
+ghost use Rattle.dict_commands.specs.KeptRecords.{TurnsRecords, IsUsable, FitsColumn};
 ghost use Rattle.dict_commands.specs.Changes.{with_mark};
-ghost use Rattle.dict_commands.specs.Committed.{IsCommitted, IsTreesOf, IsOfStore, Stays};
+ghost use Rattle.dict_commands.specs.Committed.{IsCommitted, IsTreesOf, IsOfStore, StaysCommitted};
 ghost use Rattle.dict_commands.specs.Answers.{HoldsBy};
 ghost use Rattle.dict_commands.specs.Marking.{Remains, FailsToCommitMark, FailsToMark};
 
@@ -21,16 +21,16 @@ use sqlite::{Alter, Connection};
 // Writes the mark with this count of installs by one commit.
 fn commit_mark<S: Alter>(conn: &mut Connection<S>, installs: u64) -> Result<(), Option<Fault>>
     requires autocommit { conn.old.in_transaction ≡ false }
-    requires storable { IsStorable installs }
+    requires storable { FitsColumn installs }
     requires usable { WhileOpen (state S.Store conn.old) IsUsable }
-    ensures made { HasCleanDisk (state S.Store conn.new) → OnOk result (IsCommitted (λ db. IsTrue (state S.Store conn.old).is_open × Turns (with_mark installs) (state S.Store conn.old).now db) (state S.Store conn.new)) }
-    ensures stays { HasCleanDisk (state S.Store conn.new) → OnErr result (Stays (state S.Store conn.old) (state S.Store conn.new)) }
+    ensures made { HasCleanDisk (state S.Store conn.new) → OnOk result (IsCommitted (λ db. IsTrue (state S.Store conn.old).is_open × TurnsRecords (with_mark installs) (state S.Store conn.old).now db) (state S.Store conn.new)) }
+    ensures stays { HasCleanDisk (state S.Store conn.new) → OnErr result (StaysCommitted (state S.Store conn.old) (state S.Store conn.new)) }
     ensures lives { HasCleanDisk (state S.Store conn.new) → IsTrue (state S.Store conn.new).is_open → IsTrue (state S.Store conn.old).is_open }
     ensures failed { HasCleanDisk (state S.Store conn.new) → IfErr result (FailsToCommitMark S.Store installs conn.old conn.new) }
     ensures faulted { HasCleanDisk (state S.Store conn.new) → IfErr result (λ why. why ≡ Some Fault.Disk → MoreFaults (state S.Store conn.old).faults (state S.Store conn.new).faults) }
     ensures kinds { IfErr result (λ why. IfSome why IsOfStore) }
     ensures autocommit { (state S.Store conn.new).in_transaction ≡ false }
-    ensures crash { Survives (state S.Store conn.old) (state S.Store conn.new) (IsTreesOf (λ db. IsTrue (state S.Store conn.old).is_open × Turns (with_mark installs) (state S.Store conn.old).now db)) }
+    ensures crash { Survives (state S.Store conn.old) (state S.Store conn.new) (IsTreesOf (λ db. IsTrue (state S.Store conn.old).is_open × TurnsRecords (with_mark installs) (state S.Store conn.old).now db)) }
 {
     let mut tx = conn.transaction();
     if let Err(error) = write_mark(&mut tx, installs) {
@@ -57,7 +57,7 @@ pub fn write_mark_again<S: Alter>(
     requires autocommit { conn.old.in_transaction ≡ false }
     requires holds { HoldsBy (summary_shown summary.now) (state S.Store conn.old) }
     ensures made { HasCleanDisk (state S.Store conn.new) → OnOk result (IsCommitted (Remains (summary_shown summary.now) (state S.Store conn.old).committed) (state S.Store conn.new)) }
-    ensures stays { HasCleanDisk (state S.Store conn.new) → OnErr result (Stays (state S.Store conn.old) (state S.Store conn.new)) }
+    ensures stays { HasCleanDisk (state S.Store conn.new) → OnErr result (StaysCommitted (state S.Store conn.old) (state S.Store conn.new)) }
     ensures lives { HasCleanDisk (state S.Store conn.new) → IsTrue (state S.Store conn.new).is_open → IsTrue (state S.Store conn.old).is_open }
     ensures failed { HasCleanDisk (state S.Store conn.new) → IfErr result (FailsToMark S.Store (summary_shown summary.now).installs conn.old conn.new) }
     ensures faulted { HasCleanDisk (state S.Store conn.new) → IfErr result (λ why. why ≡ Some Fault.Disk → MoreFaults (state S.Store conn.old).faults (state S.Store conn.new).faults) }

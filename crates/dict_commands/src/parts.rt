@@ -6,11 +6,11 @@ ghost use Rattle.sqlite.specs.Held.{state};
 ghost use Rattle.dict_sql.specs.Effects.{WhileOpen};
 ghost use Rattle.dict_catalogue.specs.Views.{summary_shown};
 ghost use Rattle.dict_rows.specs.After.{is_gone};
-ghost use Rattle.dict_commands.specs.Kept.{IsUsable, IsStorable, AreStorable};
+ghost use Rattle.dict_commands.specs.KeptRecords.{IsUsable, FitsColumn, AreStorable};
 ghost use Rattle.dict_commands.specs.Committed.{IsOfStore};
-ghost use Rattle.dict_commands.specs.Writes.{Spares};
-ghost use Rattle.dict_commands.specs.Filing.{parts_of_files, parts_of_filing, IsDrawnUp, IsWhole, HasNoneFiled, HasSameRows, rested, IsUnderway, fault_filed, FailsToFile};
-ghost use Rattle.dict_commands.specs.Parts.{Files, Trims, FailsSomewhere};
+ghost use Rattle.dict_commands.specs.Writes.{CommitsNothing};
+ghost use Rattle.dict_commands.specs.Filing.{parts_of_files, parts_of_filing, IsDrawnUp, AreAllPartsFiled, HasNoneFiled, HasSameRows, rested, IsUnderway, fault_filed, FailsToFile};
+ghost use Rattle.dict_commands.specs.FiledParts.{Files, Trims, FailsSomewhere};
 
 use crate::editions::LAST_PARTS;
 use crate::files::{EditionFiles, add_parts};
@@ -36,12 +36,12 @@ fn take_from<S: Alter, T: OpenTransaction<S>>(
     number: u64,
     from: i64,
 ) -> Result<(), Error>
-    requires number { IsStorable number }
+    requires number { FitsColumn number }
     requires usable { WhileOpen (state S.Store (T.held tx.old)) IsUsable }
     ensures same_reference { T.reference tx.new ≡ T.reference tx.old }
     ensures trims { OnOk result (Trims S.Store number (T.held tx.old) (T.held tx.new)) }
     ensures failed { IfErr result (FailsSomewhere S.Store (T.held tx.old) (T.held tx.new)) }
-    ensures spares { Spares S.Store (T.held tx.old) (T.held tx.new) }
+    ensures spares { CommitsNothing S.Store (T.held tx.old) (T.held tx.new) }
 {
     delete_parts_from(tx, number as i64, 1, from)?;
     Ok(())
@@ -49,12 +49,12 @@ fn take_from<S: Alter, T: OpenTransaction<S>>(
 
 // Takes out what is left of its parts.
 fn take_rest<S: Alter, T: OpenTransaction<S>>(tx: &mut T, number: u64) -> Result<(), Error>
-    requires number { IsStorable number }
+    requires number { FitsColumn number }
     requires usable { WhileOpen (state S.Store (T.held tx.old)) IsUsable }
     ensures same_reference { T.reference tx.new ≡ T.reference tx.old }
     ensures trims { OnOk result (Trims S.Store number (T.held tx.old) (T.held tx.new)) }
     ensures failed { IfErr result (FailsSomewhere S.Store (T.held tx.old) (T.held tx.new)) }
-    ensures spares { Spares S.Store (T.held tx.old) (T.held tx.new) }
+    ensures spares { CommitsNothing S.Store (T.held tx.old) (T.held tx.new) }
 {
     delete_parts(tx, number as i64)?;
     Ok(())
@@ -66,12 +66,12 @@ fn take_bound<S: Alter, T: OpenTransaction<S>>(
     number: u64,
     bound: usize,
 ) -> Result<(), Error>
-    requires number { IsStorable number }
+    requires number { FitsColumn number }
     requires usable { WhileOpen (state S.Store (T.held tx.old)) IsUsable }
     ensures same_reference { T.reference tx.new ≡ T.reference tx.old }
     ensures trims { OnOk result (Trims S.Store number (T.held tx.old) (T.held tx.new)) }
     ensures failed { IfErr result (FailsSomewhere S.Store (T.held tx.old) (T.held tx.new)) }
-    ensures spares { Spares S.Store (T.held tx.old) (T.held tx.new) }
+    ensures spares { CommitsNothing S.Store (T.held tx.old) (T.held tx.new) }
 {
     match LAST_PARTS.get(bound) {
         Some(from) => take_from(tx, number, *from),
@@ -92,13 +92,13 @@ fn part_end(filed: usize, all: usize) -> usize
 
 // Files the next parts. It answers how many are filed then.
 fn file_parts<S: Alter, T: OpenTransaction<S>>(tx: &mut T, filing: &Filing) -> Result<usize, Error>
-    requires number { IsStorable filing.now.number }
+    requires number { FitsColumn filing.now.number }
     requires some { filing.now.parts_filed < length (parts_of_filing filing.now) }
     requires usable { WhileOpen (state S.Store (T.held tx.old)) IsUsable }
     ensures same_reference { T.reference tx.new ≡ T.reference tx.old }
     ensures files { IfOk result (λ to. Files S.Store filing.now (record filing.now { parts_filed = to }) (T.held tx.old) (T.held tx.new)) }
     ensures failed { IfErr result (FailsSomewhere S.Store (T.held tx.old) (T.held tx.new)) }
-    ensures spares { Spares S.Store (T.held tx.old) (T.held tx.new) }
+    ensures spares { CommitsNothing S.Store (T.held tx.old) (T.held tx.new) }
 {
     let files = filing.files();
     let to = part_end(filing.parts_filed, files.part_count());
@@ -109,7 +109,7 @@ fn file_parts<S: Alter, T: OpenTransaction<S>>(tx: &mut T, filing: &Filing) -> R
 // The edition that goes of which the next bound is taken out, where they go so.
 fn next_gone(filing: &Filing) -> Option<u64>
     requires { AreStorable filing.now.gone.items }
-    ensures { IfSome result (λ number. IsStorable number × (is_gone filing.now.gone.items (pos number) ≡ true)) }
+    ensures { IfSome result (λ number. FitsColumn number × (is_gone filing.now.gone.items (pos number) ≡ true)) }
 {
     if filing.text.len() < FEW {
         return None;
@@ -125,7 +125,7 @@ fn next_part<S: Alter, T: OpenTransaction<S>>(tx: &mut T, filing: &mut Filing) -
     ensures rows { HasSameRows filing.old filing.new }
     ensures files { OnOk result (Files S.Store filing.old filing.new (T.held tx.old) (T.held tx.new)) }
     ensures failed { IfErr result (FailsSomewhere S.Store (T.held tx.old) (T.held tx.new)) }
-    ensures spares { Spares S.Store (T.held tx.old) (T.held tx.new) }
+    ensures spares { CommitsNothing S.Store (T.held tx.old) (T.held tx.new) }
 {
     if let Some(number) = next_gone(filing) {
         take_bound(tx, number, filing.parts_taken % BOUNDS)?;
@@ -153,7 +153,7 @@ impl Filing {
 
     /// Whether all parts are filed.
     pub(crate) fn is_whole(&self) -> bool
-        ensures whole { IsTrue result → IsWhole self.now }
+        ensures whole { IsTrue result → AreAllPartsFiled self.now }
         ensures some { result ≡ false → self.now.parts_filed < length (parts_of_filing self.now) }
     {
         self.files().part_count() <= self.parts_filed
@@ -225,7 +225,7 @@ pub fn file_part<S: Alter>(
     ensures drawn { IsDrawnUp filing.new }
     ensures next { OnOk result (filing.new.number ≡ (summary_shown summary.now).installs + 1) }
     ensures underway { IsUnderway S.Store filing.new conn.new }
-    ensures whole { IfOk result (λ more. more ≡ false → IsWhole filing.new) }
+    ensures whole { IfOk result (λ more. more ≡ false → AreAllPartsFiled filing.new) }
     ensures inside { HasCleanDisk (state S.Store conn.new) → OnOk result (conn.new.in_transaction ≡ true) }
     ensures undone { HasCleanDisk (state S.Store conn.new) → OnErr result (conn.new.in_transaction ≡ false) }
     ensures settled { HasCleanDisk (state S.Store conn.new) → OnErr result (IsTrue (state S.Store conn.new).is_open → (state S.Store conn.new).now ≡ (state S.Store conn.new).committed) }

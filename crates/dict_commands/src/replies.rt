@@ -10,15 +10,15 @@ ghost use Rattle.dict_catalogue.specs.Views.{kept_shown};
 ghost use Rattle.dict_catalogue.specs.declared.reply.Verb.{Verb as AVerb};
 ghost use Rattle.dict_rows.specs.Written.{kept_record, verb_name};
 ghost use Rattle.dict_holdings.specs.Faults.{fault_of_read};
-ghost use Rattle.dict_holdings.specs.Faults.{FailsToLookUp};
+ghost use Rattle.dict_holdings.specs.Faults.{FailsToReadCatalogue};
 ghost use Rattle.dict_holdings.specs.Holds.{Holds};
-ghost use Rattle.dict_commands.specs.Kept.{HoldsReplies};
-ghost use Rattle.dict_commands.specs.Committed.{IsOfStore, Stays};
+ghost use Rattle.dict_commands.specs.KeptRecords.{HoldsReplies};
+ghost use Rattle.dict_commands.specs.Committed.{IsOfStore, StaysCommitted};
 
 use dict_catalogue::{Kept, Verb};
 use dict_desk::Fault;
 use dict_holdings::fault_of_read;
-use dict_records::Kept as KeptRow;
+use dict_records::KeptRecord as KeptRow;
 use dict_rows::{number_in, verb_in};
 use dict_sql::read::kept_replies_of;
 use dict_sql::records::ReadError;
@@ -77,8 +77,8 @@ pub fn kept_reply<S: Alter>(
     ensures alone { HasCleanDisk (state S.Store conn.new) → IfOk result (λ reply. (kept : List KeptFor) → HoldsReplies (state S.Store conn.old).now kept → option_map kept_shown reply ≡ kept_under kept id.now) }
     ensures value { HasCleanDisk (state S.Store conn.new) → IfOk result (λ reply. (version : _) (M : Catalogue) → Holds version (state S.Store conn.old).now M → option_map kept_shown reply ≡ kept_under M.kept id.now) }
     ensures same { HasCleanDisk (state S.Store conn.new) → OnOk result (IsUnchanged (state S.Store conn.old) (state S.Store conn.new)) }
-    ensures failed { HasCleanDisk (state S.Store conn.new) → IfErr result (FailsToLookUp (state S.Store conn.old) (state S.Store conn.new)) }
-    ensures stays { HasCleanDisk (state S.Store conn.new) → OnErr result (Stays (state S.Store conn.old) (state S.Store conn.new)) }
+    ensures failed { HasCleanDisk (state S.Store conn.new) → IfErr result (FailsToReadCatalogue (state S.Store conn.old) (state S.Store conn.new)) }
+    ensures stays { HasCleanDisk (state S.Store conn.new) → OnErr result (StaysCommitted (state S.Store conn.old) (state S.Store conn.new)) }
     ensures kinds { IfErr result IsOfStore }
     ensures mode { conn.old.in_transaction ≡ false → conn.new.in_transaction ≡ false }
     ensures survives { Survives (state S.Store conn.old) (state S.Store conn.new) (λ _. ⊥) }

@@ -10,10 +10,10 @@ ghost use Rattle.dict_catalogue.specs.Views.{item_shown, texts_shown};
 ghost use Rattle.dict_rows.specs.Written.{numbered, item_record, member_record};
 ghost use Rattle.dict_rows.specs.After.{all_members};
 ghost use Rattle.dict_rows.specs.Versions.{known};
-ghost use Rattle.dict_commands.specs.Kept.{IsUsable, IsStorable, AreStorable};
+ghost use Rattle.dict_commands.specs.KeptRecords.{IsUsable, FitsColumn, AreStorable};
 ghost use Rattle.dict_commands.specs.Statements.{adding_item, adding_member, mark_anew, items_anew, members_anew};
 ghost use Rattle.dict_commands.specs.Changes.{with_mark, with_items, with_members, with_more_items, with_more_members};
-ghost use Rattle.dict_commands.specs.Writes.{Wrote, FailsToWrite, Spares};
+ghost use Rattle.dict_commands.specs.Writes.{WroteStatements, FailsToWrite, CommitsNothing};
 
 use dict_catalogue::Item;
 use dict_rows::{KNOWN_VERSION, item_row, mark_row, member_row};
@@ -28,15 +28,15 @@ pub(crate) fn write_mark<S: Alter, T: OpenTransaction<S>>(
     tx: &mut T,
     installs: u64,
 ) -> Result<(), Error>
-    requires storable { IsStorable installs }
+    requires storable { FitsColumn installs }
     requires usable { WhileOpen (state S.Store (T.held tx.old)) IsUsable }
     ensures same_reference { T.reference tx.new ≡ T.reference tx.old }
-    ensures wrote { OnOk result (Wrote S.Store (mark_anew known installs) (with_mark installs) (T.held tx.old) (T.held tx.new)) }
+    ensures wrote { OnOk result (WroteStatements S.Store (mark_anew known installs) (with_mark installs) (T.held tx.old) (T.held tx.new)) }
     ensures sound { HasCleanDisk (state S.Store (T.held tx.new)) → OnOk result (IsDatabase (state S.Store (T.held tx.new)).now) }
     ensures inside { HasCleanDisk (state S.Store (T.held tx.new)) → OnOk result ((state S.Store (T.held tx.new)).in_transaction ≡ true) }
     ensures usable { OnOk result (WhileOpen (state S.Store (T.held tx.new)) IsUsable) }
     ensures failed { IfErr result (FailsToWrite S.Store (mark_anew known installs) (T.held tx.old) (T.held tx.new)) }
-    ensures spares { Spares S.Store (T.held tx.old) (T.held tx.new) }
+    ensures spares { CommitsNothing S.Store (T.held tx.old) (T.held tx.new) }
 {
     clear_table(tx, StoreTable::Mark)?;
     let mark = mark_row(KNOWN_VERSION, installs);
@@ -49,10 +49,10 @@ fn add_items<S: Alter, T: OpenTransaction<S>>(tx: &mut T, items: &[Item]) -> Res
     requires numbers { AllByRecursion (λ item. AreStorable (numbers_of (item_shown item))) items.now }
     requires usable { WhileOpen (state S.Store (T.held tx.old)) IsUsable }
     ensures same_reference { T.reference tx.new ≡ T.reference tx.old }
-    ensures wrote { OnOk result (Wrote S.Store (map adding_item (numbered item_record 0 (map item_shown items.now))) (with_more_items (numbered item_record 0 (map item_shown items.now))) (T.held tx.old) (T.held tx.new)) }
+    ensures wrote { OnOk result (WroteStatements S.Store (map adding_item (numbered item_record 0 (map item_shown items.now))) (with_more_items (numbered item_record 0 (map item_shown items.now))) (T.held tx.old) (T.held tx.new)) }
     ensures usable { OnOk result (WhileOpen (state S.Store (T.held tx.new)) IsUsable) }
     ensures failed { IfErr result (FailsToWrite S.Store (map adding_item (numbered item_record 0 (map item_shown items.now))) (T.held tx.old) (T.held tx.new)) }
-    ensures spares { Spares S.Store (T.held tx.old) (T.held tx.new) }
+    ensures spares { CommitsNothing S.Store (T.held tx.old) (T.held tx.new) }
 {
     for (place, item) in items.iter().enumerate() {
         let row = item_row(place as u64, item);
@@ -69,10 +69,10 @@ pub(crate) fn write_items<S: Alter, T: OpenTransaction<S>>(
     requires numbers { AllByRecursion (λ item. AreStorable (numbers_of (item_shown item))) items.now }
     requires usable { WhileOpen (state S.Store (T.held tx.old)) IsUsable }
     ensures same_reference { T.reference tx.new ≡ T.reference tx.old }
-    ensures wrote { OnOk result (Wrote S.Store (items_anew (map item_shown items.now)) (with_items (map item_shown items.now)) (T.held tx.old) (T.held tx.new)) }
+    ensures wrote { OnOk result (WroteStatements S.Store (items_anew (map item_shown items.now)) (with_items (map item_shown items.now)) (T.held tx.old) (T.held tx.new)) }
     ensures usable { OnOk result (WhileOpen (state S.Store (T.held tx.new)) IsUsable) }
     ensures failed { IfErr result (FailsToWrite S.Store (items_anew (map item_shown items.now)) (T.held tx.old) (T.held tx.new)) }
-    ensures spares { Spares S.Store (T.held tx.old) (T.held tx.new) }
+    ensures spares { CommitsNothing S.Store (T.held tx.old) (T.held tx.new) }
 {
     clear_table(tx, StoreTable::Item)?;
     add_items(tx, items)?;
@@ -87,10 +87,10 @@ fn add_members<S: Alter, T: OpenTransaction<S>>(
 ) -> Result<(), Error>
     requires usable { WhileOpen (state S.Store (T.held tx.old)) IsUsable }
     ensures same_reference { T.reference tx.new ≡ T.reference tx.old }
-    ensures wrote { OnOk result (Wrote S.Store (map adding_member (numbered (member_record owner.now) 0 (texts_shown members.now))) (with_more_members (numbered (member_record owner.now) 0 (texts_shown members.now))) (T.held tx.old) (T.held tx.new)) }
+    ensures wrote { OnOk result (WroteStatements S.Store (map adding_member (numbered (member_record owner.now) 0 (texts_shown members.now))) (with_more_members (numbered (member_record owner.now) 0 (texts_shown members.now))) (T.held tx.old) (T.held tx.new)) }
     ensures usable { OnOk result (WhileOpen (state S.Store (T.held tx.new)) IsUsable) }
     ensures failed { IfErr result (FailsToWrite S.Store (map adding_member (numbered (member_record owner.now) 0 (texts_shown members.now))) (T.held tx.old) (T.held tx.new)) }
-    ensures spares { Spares S.Store (T.held tx.old) (T.held tx.new) }
+    ensures spares { CommitsNothing S.Store (T.held tx.old) (T.held tx.new) }
 {
     for (ord, name) in members.iter().enumerate() {
         let row = member_row(owner, ord as u64, name);
@@ -103,10 +103,10 @@ fn add_members<S: Alter, T: OpenTransaction<S>>(
 fn add_members_of<S: Alter, T: OpenTransaction<S>>(tx: &mut T, item: &Item) -> Result<(), Error>
     requires usable { WhileOpen (state S.Store (T.held tx.old)) IsUsable }
     ensures same_reference { T.reference tx.new ≡ T.reference tx.old }
-    ensures wrote { OnOk result (Wrote S.Store (map adding_member (numbered (member_record (name_of (item_shown item.now))) 0 (members_of (item_shown item.now)))) (with_more_members (numbered (member_record (name_of (item_shown item.now))) 0 (members_of (item_shown item.now)))) (T.held tx.old) (T.held tx.new)) }
+    ensures wrote { OnOk result (WroteStatements S.Store (map adding_member (numbered (member_record (name_of (item_shown item.now))) 0 (members_of (item_shown item.now)))) (with_more_members (numbered (member_record (name_of (item_shown item.now))) 0 (members_of (item_shown item.now)))) (T.held tx.old) (T.held tx.new)) }
     ensures usable { OnOk result (WhileOpen (state S.Store (T.held tx.new)) IsUsable) }
     ensures failed { IfErr result (FailsToWrite S.Store (map adding_member (numbered (member_record (name_of (item_shown item.now))) 0 (members_of (item_shown item.now)))) (T.held tx.old) (T.held tx.new)) }
-    ensures spares { Spares S.Store (T.held tx.old) (T.held tx.new) }
+    ensures spares { CommitsNothing S.Store (T.held tx.old) (T.held tx.new) }
 {
     match item {
         Item::Regular { .. } => Ok(()),
@@ -118,10 +118,10 @@ fn add_members_of<S: Alter, T: OpenTransaction<S>>(tx: &mut T, item: &Item) -> R
 fn add_all_members<S: Alter, T: OpenTransaction<S>>(tx: &mut T, items: &[Item]) -> Result<(), Error>
     requires usable { WhileOpen (state S.Store (T.held tx.old)) IsUsable }
     ensures same_reference { T.reference tx.new ≡ T.reference tx.old }
-    ensures wrote { OnOk result (Wrote S.Store (map adding_member (all_members (map item_shown items.now))) (with_more_members (all_members (map item_shown items.now))) (T.held tx.old) (T.held tx.new)) }
+    ensures wrote { OnOk result (WroteStatements S.Store (map adding_member (all_members (map item_shown items.now))) (with_more_members (all_members (map item_shown items.now))) (T.held tx.old) (T.held tx.new)) }
     ensures usable { OnOk result (WhileOpen (state S.Store (T.held tx.new)) IsUsable) }
     ensures failed { IfErr result (FailsToWrite S.Store (map adding_member (all_members (map item_shown items.now))) (T.held tx.old) (T.held tx.new)) }
-    ensures spares { Spares S.Store (T.held tx.old) (T.held tx.new) }
+    ensures spares { CommitsNothing S.Store (T.held tx.old) (T.held tx.new) }
 {
     'each: for item in items {
         add_members_of(tx, item)?;
@@ -136,10 +136,10 @@ pub(crate) fn write_members<S: Alter, T: OpenTransaction<S>>(
 ) -> Result<(), Error>
     requires usable { WhileOpen (state S.Store (T.held tx.old)) IsUsable }
     ensures same_reference { T.reference tx.new ≡ T.reference tx.old }
-    ensures wrote { OnOk result (Wrote S.Store (members_anew (map item_shown items.now)) (with_members (map item_shown items.now)) (T.held tx.old) (T.held tx.new)) }
+    ensures wrote { OnOk result (WroteStatements S.Store (members_anew (map item_shown items.now)) (with_members (map item_shown items.now)) (T.held tx.old) (T.held tx.new)) }
     ensures usable { OnOk result (WhileOpen (state S.Store (T.held tx.new)) IsUsable) }
     ensures failed { IfErr result (FailsToWrite S.Store (members_anew (map item_shown items.now)) (T.held tx.old) (T.held tx.new)) }
-    ensures spares { Spares S.Store (T.held tx.old) (T.held tx.new) }
+    ensures spares { CommitsNothing S.Store (T.held tx.old) (T.held tx.new) }
 {
     clear_table(tx, StoreTable::Member)?;
     add_all_members(tx, items)?;

@@ -9,10 +9,10 @@ ghost use Rattle.dict_catalogue.specs.Items.{numbers_of};
 ghost use Rattle.dict_catalogue.specs.Views.{item_shown, kept_shown};
 ghost use Rattle.dict_rows.specs.Versions.{known};
 ghost use Rattle.dict_holdings.specs.AllTables.{all_after};
-ghost use Rattle.dict_commands.specs.Kept.{IsUsable, IsStorable, AreStorable};
+ghost use Rattle.dict_commands.specs.KeptRecords.{IsUsable, FitsColumn, AreStorable};
 ghost use Rattle.dict_commands.specs.Statements.{summary_anew, exchanging, replying, statements_of};
 ghost use Rattle.dict_commands.specs.Changes.{with_mark, with_items, with_members, with_reply, without_editions, with_installed, installed_by, index_by, change_by, IsWritable};
-ghost use Rattle.dict_commands.specs.Writes.{Wrote, FailsToWrite, Spares};
+ghost use Rattle.dict_commands.specs.Writes.{WroteStatements, FailsToWrite, CommitsNothing};
 
 use crate::editions::{add_installed, take_editions};
 use crate::small::{write_items, write_mark, write_members};
@@ -27,14 +27,14 @@ pub(crate) fn write_summary<S: Alter, T: OpenTransaction<S>>(
     tx: &mut T,
     summary: &Summary,
 ) -> Result<(), Error>
-    requires installs { IsStorable summary.now.installs }
+    requires installs { FitsColumn summary.now.installs }
     requires numbers { AllByRecursion (λ item. AreStorable (numbers_of (item_shown item))) summary.now.items.items }
     requires usable { WhileOpen (state S.Store (T.held tx.old)) IsUsable }
     ensures same_reference { T.reference tx.new ≡ T.reference tx.old }
-    ensures wrote { OnOk result (Wrote S.Store (summary_anew known summary.now.installs (map item_shown summary.now.items.items)) (λ all. with_members (map item_shown summary.now.items.items) (with_items (map item_shown summary.now.items.items) (with_mark summary.now.installs all))) (T.held tx.old) (T.held tx.new)) }
+    ensures wrote { OnOk result (WroteStatements S.Store (summary_anew known summary.now.installs (map item_shown summary.now.items.items)) (λ all. with_members (map item_shown summary.now.items.items) (with_items (map item_shown summary.now.items.items) (with_mark summary.now.installs all))) (T.held tx.old) (T.held tx.new)) }
     ensures usable { OnOk result (WhileOpen (state S.Store (T.held tx.new)) IsUsable) }
     ensures failed { IfErr result (FailsToWrite S.Store (summary_anew known summary.now.installs (map item_shown summary.now.items.items)) (T.held tx.old) (T.held tx.new)) }
-    ensures spares { Spares S.Store (T.held tx.old) (T.held tx.new) }
+    ensures spares { CommitsNothing S.Store (T.held tx.old) (T.held tx.new) }
 {
     if let Err(error) = write_mark(tx, summary.installs) {
         return Err(error);
@@ -54,14 +54,14 @@ fn write_editions<S: Alter, T: OpenTransaction<S>>(
     index: &[u8],
 ) -> Result<(), Error>
     requires gone { AreStorable gone.now }
-    requires installs { IsStorable installs }
+    requires installs { FitsColumn installs }
     requires index { index.now ≡ index_by command.now }
     requires usable { WhileOpen (state S.Store (T.held tx.old)) IsUsable }
     ensures same_reference { T.reference tx.new ≡ T.reference tx.old }
-    ensures wrote { OnOk result (Wrote S.Store (exchanging gone.now (installed_by installs command.now)) (λ all. with_installed (installed_by installs command.now) (without_editions gone.now all)) (T.held tx.old) (T.held tx.new)) }
+    ensures wrote { OnOk result (WroteStatements S.Store (exchanging gone.now (installed_by installs command.now)) (λ all. with_installed (installed_by installs command.now) (without_editions gone.now all)) (T.held tx.old) (T.held tx.new)) }
     ensures usable { OnOk result (WhileOpen (state S.Store (T.held tx.new)) IsUsable) }
     ensures failed { IfErr result (FailsToWrite S.Store (exchanging gone.now (installed_by installs command.now)) (T.held tx.old) (T.held tx.new)) }
-    ensures spares { Spares S.Store (T.held tx.old) (T.held tx.new) }
+    ensures spares { CommitsNothing S.Store (T.held tx.old) (T.held tx.new) }
 {
     if let Err(error) = take_editions(tx, gone) {
         return Err(error);
@@ -75,15 +75,15 @@ pub(crate) fn add_reply<S: Alter, T: OpenTransaction<S>>(
     id: &str,
     reply: &Kept,
 ) -> Result<(), Error>
-    requires number { IsStorable reply.now.number }
-    requires edition { IfSome reply.now.edition IsStorable }
+    requires number { FitsColumn reply.now.number }
+    requires edition { IfSome reply.now.edition FitsColumn }
     requires usable { WhileOpen (state S.Store (T.held tx.old)) IsUsable }
     ensures same_reference { T.reference tx.new ≡ T.reference tx.old }
-    ensures wrote { OnOk result (Wrote S.Store (replying (record { id = id.now; reply = kept_shown reply.now })) (with_reply (record { id = id.now; reply = kept_shown reply.now })) (T.held tx.old) (T.held tx.new)) }
+    ensures wrote { OnOk result (WroteStatements S.Store (replying (record { id = id.now; reply = kept_shown reply.now })) (with_reply (record { id = id.now; reply = kept_shown reply.now })) (T.held tx.old) (T.held tx.new)) }
     ensures sound { HasCleanDisk (state S.Store (T.held tx.new)) → OnOk result (IsDatabase (state S.Store (T.held tx.new)).now) }
     ensures inside { HasCleanDisk (state S.Store (T.held tx.new)) → OnOk result ((state S.Store (T.held tx.new)).in_transaction ≡ true) }
     ensures failed { IfErr result (FailsToWrite S.Store (replying (record { id = id.now; reply = kept_shown reply.now })) (T.held tx.old) (T.held tx.new)) }
-    ensures spares { Spares S.Store (T.held tx.old) (T.held tx.new) }
+    ensures spares { CommitsNothing S.Store (T.held tx.old) (T.held tx.new) }
 {
     let row = kept_row(id, reply);
     insert_kept(tx, &row)?;
@@ -103,11 +103,11 @@ pub(crate) fn write_all<S: Alter, T: OpenTransaction<S>>(
     requires index { index.now ≡ index_by command.now }
     requires usable { WhileOpen (state S.Store (T.held tx.old)) IsUsable }
     ensures same_reference { T.reference tx.new ≡ T.reference tx.old }
-    ensures wrote { OnOk result (Wrote S.Store (statements_of known (change_by id.now command.now change.now)) (all_after known (change_by id.now command.now change.now)) (T.held tx.old) (T.held tx.new)) }
+    ensures wrote { OnOk result (WroteStatements S.Store (statements_of known (change_by id.now command.now change.now)) (all_after known (change_by id.now command.now change.now)) (T.held tx.old) (T.held tx.new)) }
     ensures sound { HasCleanDisk (state S.Store (T.held tx.new)) → OnOk result (IsDatabase (state S.Store (T.held tx.new)).now) }
     ensures inside { HasCleanDisk (state S.Store (T.held tx.new)) → OnOk result ((state S.Store (T.held tx.new)).in_transaction ≡ true) }
     ensures failed { IfErr result (FailsToWrite S.Store (statements_of known (change_by id.now command.now change.now)) (T.held tx.old) (T.held tx.new)) }
-    ensures spares { Spares S.Store (T.held tx.old) (T.held tx.new) }
+    ensures spares { CommitsNothing S.Store (T.held tx.old) (T.held tx.new) }
 {
     if let Err(error) = write_summary(tx, &change.summary) {
         return Err(error);

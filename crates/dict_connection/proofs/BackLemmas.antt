@@ -7,7 +7,7 @@ use Rattle.dict_hub.specs.Events.{is_of_editor}
 use Rattle.dict_hub.specs.declared.hub.Hub.{Hub}
 use Rattle.dict_hub.specs.declared.kind.Kind.{Kind}
 use Rattle.dict_hub.specs.declared.kind.Kind.TheVariants.{Dict, Http}
-use Rattle.dict_connection.specs.Foreseen.{AreCommand, AreToldOf, HoldsBy, HoldsStill}
+use Rattle.dict_connection.specs.Foreseen.{AreCommand, AreToldOf, HoldsBackBy, HoldsStill}
 use Rattle.dict_connection.specs.Handing.{are_told, held_in, is_handed, is_held_back, turns_for, turns_held}
 use Rattle.dict_connection.specs.Pieces.{behind_piece, next_piece}
 use Rattle.dict_connection.specs.Stages.{is_open}
@@ -84,9 +84,9 @@ prepares_on {K} expects prepares behind hub old told new id before between after
     last : turns_for (are_told after) after.turns_left ≡ after.turns_left
     last = ap (λ (b : Bool). turns_for (b && after.is_foreseen) after.turns_left) back ∙ ap (λ (b : Bool). turns_for b after.turns_left) still
 
-    by : (b : Bool) → before.is_foreseen ≡ b → HoldsBy expects prepares false before.is_foreseen hub old new id (held_in after)
-    by true is = subst (λ (b : Bool). HoldsBy expects prepares false b hub old new id (held_in after)) (sym is) (subst (λ (k : K). prepares k (Ok true) new) (was is).1 prepared)
-    by false is = subst (λ (b : Bool). HoldsBy expects prepares false b hub old new id (held_in after)) (sym is)
+    by : (b : Bool) → before.is_foreseen ≡ b → HoldsBackBy expects prepares false before.is_foreseen hub old new id (held_in after)
+    by true is = subst (λ (b : Bool). HoldsBackBy expects prepares false b hub old new id (held_in after)) (sym is) (subst (λ (k : K). prepares k (Ok true) new) (was is).1 prepared)
+    by false is = subst (λ (b : Bool). HoldsBackBy expects prepares false b hub old new id (held_in after)) (sym is)
         (told, subst (λ (l : List ℕ). AreToldOf expects hub id l told) (sym held) (now is foreseen).1, prepared)
 
     left : (b : Bool) → before.is_foreseen ≡ b → after.turns_left < turns_for before.is_foreseen before.turns_left

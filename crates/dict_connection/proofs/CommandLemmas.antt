@@ -3,11 +3,11 @@ use Rattle.std.proofs.Common.{◌≡◌, ◌∙◌, ℕ, true, List, [], ◌∷�
 use Rattle.std.specs.Prelude.{Option}
 use Rattle.dict_hub.specs.Events.{Happening, opened, came, ended, id_of, is_of_editor}
 use Rattle.dict_hub.specs.Holding.{Holding}
-use Rattle.dict_hub.specs.Hubs.{Has}
+use Rattle.dict_hub.specs.Hubs.{HasHolding}
 use Rattle.dict_hub.specs.Runs.{Accepted}
 use Rattle.dict_hub.specs.declared.hub.Hub.{Hub}
 use Rattle.dict_hub.specs.declared.kind.Kind.{Kind}
-use Rattle.dict_connection.specs.Events.{AreOf}
+use Rattle.dict_connection.specs.Events.{AreEventsOf}
 use Rattle.dict_connection.specs.Foreseen.{AreNoCommands, IsNoCommand, KeepsOrder}
 use Rattle.dict_connection.specs.Handing.{held_in}
 use Rattle.dict_connection.specs.Ordering.{IsOnly}
@@ -30,12 +30,12 @@ answered_no_command refused hub a c events editor isnt (inl (one, is, same, rest
     subst (λ (l : List Accepted). AreNoCommands hub l) (sym is) (subst (λ (w : Happening). IsNoCommand hub w) what isnt, tt)
 answered_no_command refused hub a c events editor isnt (inr (may, only, over)) = only_no_command hub (ended a.id) events tt only
 
-no_command_over : (a b : Hub) (id : ℕ) → ((held : Option Holding) → Has a id held → Has b id held) → (what : Happening) → id_of what ≡ id → IsNoCommand b what → IsNoCommand a what
+no_command_over : (a b : Hub) (id : ℕ) → ((held : Option Holding) → HasHolding a id held → HasHolding b id held) → (what : Happening) → id_of what ≡ id → IsNoCommand b what → IsNoCommand a what
 no_command_over a b id keeps (opened own kind) is isnt = tt
-no_command_over a b id keeps (came own octets) is isnt = λ held has. isnt held (subst (λ (i : ℕ). Has b i held) (sym is) (keeps held (subst (λ (i : ℕ). Has a i held) is has)))
+no_command_over a b id keeps (came own octets) is isnt = λ held has. isnt held (subst (λ (i : ℕ). HasHolding b i held) (sym is) (keeps held (subst (λ (i : ℕ). HasHolding a i held) is has)))
 no_command_over a b id keeps (ended own) is isnt = tt
 
 -- by a hub that has of the connection all that another has
-pub no_commands_over : (a b : Hub) (id : ℕ) → ((held : Option Holding) → Has a id held → Has b id held) → (events : List Accepted) → AreOf id events → AreNoCommands b events → AreNoCommands a events
+pub no_commands_over : (a b : Hub) (id : ℕ) → ((held : Option Holding) → HasHolding a id held → HasHolding b id held) → (events : List Accepted) → AreEventsOf id events → AreNoCommands b events → AreNoCommands a events
 no_commands_over a b id keeps [] own isnt = tt
 no_commands_over a b id keeps (one ∷ events) (is, own) (isnt, rest) = (no_command_over a b id keeps one.what is isnt, no_commands_over a b id keeps events own rest)

@@ -8,12 +8,12 @@ use Rattle.dict_hub.specs.Runs.{Accepted, State, IsAt}
 use Rattle.dict_hub.specs.declared.fault.HubFault.{HubFault}
 use Rattle.dict_hub.specs.declared.hub.Hub.{Hub}
 use Rattle.dict_hub.specs.declared.kind.Kind.{Kind}
-use Rattle.dict_connection.specs.OutletCalls.{Call, Makes, receives}
-use Rattle.dict_connection.specs.Outlets.{FailsOnlyStuck, Passes}
+use Rattle.dict_connection.specs.OutletCalls.{Call, MakesCalls, receives}
+use Rattle.dict_connection.specs.Outlets.{FailsOnlyStuck, PassesOctets}
 use Rattle.dict_connection.specs.Queues.{waiting}
 use Rattle.dict_connection.specs.declared.calls.Received.TheVariants as receiveds
 use Rattle.dict_connection.proofs.OutletLemmas.{passes_none}
-use Rattle.dict_connection.specs.Events.{AreOf}
+use Rattle.dict_connection.specs.Events.{AreEventsOf}
 use Rattle.dict_connection.specs.Handing.{held_in}
 use Rattle.dict_connection.specs.Leading.{HasLedOn}
 use Rattle.dict_connection.specs.Pieces.{next_piece}
@@ -83,12 +83,12 @@ hands_from taken coming made a b c octets events same kind hands = record {
   may_receive = hands.may_receive ∙ ap (λ it. it.may_receive) same;
   kind = hands.kind ∙ kind;
   was_open = λ still. ap (λ it. is_open it.stage) (sym same) ∙ hands.was_open still;
-  own = subst (λ (i : ℕ). AreOf i events) (ap (λ it. it.id) same) hands.own;
+  own = subst (λ (i : ℕ). AreEventsOf i events) (ap (λ it. it.id) same) hands.own;
   are_turns = hands.are_turns;
   put = hands.put;
   are_put = hands.are_put;
-  passes = subst (λ t. Passes taken coming made t c.transport (waiting a.queue) (waiting c.queue) hands.put) (ap (λ it. it.transport) same)
-      (subst (λ q. Passes taken coming made b.transport c.transport (waiting q) (waiting c.queue) hands.put) (ap (λ it. it.queue) same) hands.passes);
+  passes = subst (λ t. PassesOctets taken coming made t c.transport (waiting a.queue) (waiting c.queue) hands.put) (ap (λ it. it.transport) same)
+      (subst (λ q. PassesOctets taken coming made b.transport c.transport (waiting q) (waiting c.queue) hands.put) (ap (λ it. it.queue) same) hands.passes);
   stuck = subst (λ t. FailsOnlyStuck (made t) (made c.transport) a.queue c.queue) (ap (λ it. it.transport) same)
       (stuck_from (made b.transport) (made c.transport) a.queue b.queue c.queue (ap (λ it. it.queue.failures) same) (ap (λ it. length it.queue.refused.octets) same) hands.stuck);
   pieces = subst (λ (k : Kind). BringAllOrNone (next_piece k octets) events) kind hands.pieces;
@@ -132,7 +132,7 @@ handed_over taken coming made refused since a b c events same kind held over (ha
 -- octets came, which are held then, and the hub was told the first piece of them, or they are held back
 pub reads_octets : {T : Type 0} {refused : ℕ → Kind → Type 0} (taken coming : T → Option (List ℕ)) (made : T → Option (List Call)) (a b s c : Connection T) (count : ℕ) (octets : List ℕ) (events : List Accepted)
     → b ≡ record a { transport = b.transport } → s ≡ record b { held = s.held } → a.may_receive ≡ true → s.held.kind ≡ b.held.kind → held_in s.held ≡ octets
-    → Keeps (taken a.transport) (taken b.transport) → Consumes (coming a.transport) (coming b.transport) octets → Makes (made a.transport) (made b.transport) (receives 4096 (receiveds.Octets count) ∷ [])
+    → Keeps (taken a.transport) (taken b.transport) → Consumes (coming a.transport) (coming b.transport) octets → MakesCalls (made a.transport) (made b.transport) (receives 4096 (receiveds.Octets count) ∷ [])
     → HandsOver taken coming made (held_in s.held) s c events × LeadsByPiece refused (held_in s.held) s c events → ReadsOnce taken coming made refused a c (receiveds.Octets count) events
 reads_octets {refused = refused} taken coming made a b s c count octets events same filled marked kind is took comes calls (hands, leads) =
     let id : s.id ≡ a.id = ap (λ it. it.id) filled ∙ ap (λ it. it.id) same in
@@ -144,7 +144,7 @@ reads_octets {refused = refused} taken coming made a b s c count octets events s
     reads_handed taken coming made a s c (receiveds.Octets count) octets events id stage queue kinds marked
     (subst (λ t. Keeps (taken a.transport) (taken t)) back took)
     (subst (λ t. Consumes (coming a.transport) (coming t) octets) back comes)
-    (subst (λ t. Makes (made a.transport) (made t) (receives 4096 (receiveds.Octets count) ∷ [])) back calls)
+    (subst (λ t. MakesCalls (made a.transport) (made t) (receives 4096 (receiveds.Octets count) ∷ [])) back calls)
     (subst (λ (l : List ℕ). HandsOver taken coming made l s c events) is hands) (
       piece_from refused a s c octets events id stage kinds (subst (λ (l : List ℕ). LeadsByPiece refused l s c events) is leads),
       hands.may_receive ∙ marks,

@@ -7,9 +7,9 @@ use Rattle.dict_connection.proofs.CallLemmas.{makes_none}
 use Rattle.std.proofs.lemmas.List.{take-append-le, drop-append-le, take-append-drop, length-drop, length-take}
 use Rattle.std.proofs.Math.Seq.{take-append_seam, take-append-add, take-length, drop-length}
 use Rattle.std.proofs.lemmas.List.Elements.{All-append, All-nil}
-use Rattle.dict_connection.specs.OutletCalls.{Call, Makes, has_failed, is_vain, sends, sent_by}
+use Rattle.dict_connection.specs.OutletCalls.{Call, MakesCalls, sending_failed, is_vain, sends, sent_by}
 use Rattle.std.specs.declared.io.Error.{Error}
-use Rattle.dict_connection.specs.Outlets.{Follow, HasTaken, IsStuck, MakesSendings, are_well, end_in_vain, is_in_vain, is_sending, is_well, PutsSome, Passes}
+use Rattle.dict_connection.specs.Outlets.{Follow, HasTakenOctets, IsStuck, MakesSendings, are_well, end_in_vain, is_in_vain, is_sending, is_well, PutsSome, PassesOctets}
 use Rattle.dict_connection.specs.Queues.{FindNoRoom, waiting}
 use Rattle.dict_connection.specs.declared.queue.Queue.{Queue}
 use Rattle.dict_connection.specs.declared.trail.Trail.{Trail}
@@ -24,18 +24,18 @@ kept : (l : List ℕ) (c : Option (List ℕ)) → Keeps (Some l) c → c ≡ Som
 kept l None never = absurd never
 kept l (Some z) is = ap Some is
 
-pub taken_more : (a b c : Option (List ℕ)) (x y : List ℕ) → HasTaken a b x → Appends b c y → HasTaken a c (x ++ y)
+pub taken_more : (a b c : Option (List ℕ)) (x y : List ℕ) → HasTakenOctets a b x → Appends b c y → HasTakenOctets a c (x ++ y)
 taken_more a b c x y has more = λ before is.
     appended (before ++ x) c y (subst (λ (o : Option (List ℕ)). Appends o c y) (has before is) more) ∙ ap Some (append_assoc before x y)
 
-pub taken_same : (a b c : Option (List ℕ)) (x : List ℕ) → HasTaken a b x → Keeps b c → HasTaken a c x
+pub taken_same : (a b c : Option (List ℕ)) (x : List ℕ) → HasTakenOctets a b x → Keeps b c → HasTakenOctets a c x
 taken_same a b c x has same = λ before is. kept (before ++ x) c (subst (λ (o : Option (List ℕ)). Keeps o c) (has before is) same)
 
 -- nothing was taken yet
-pub taken_none : (a b : Option (List ℕ)) → a ≡ b → HasTaken a b []
+pub taken_none : (a b : Option (List ℕ)) → a ≡ b → HasTakenOctets a b []
 taken_none a b same = λ before is. sym same ∙ is ∙ ap Some (sym (append-nil before))
 
-pub taken_as : (a b : Option (List ℕ)) (x : List ℕ) → HasTaken a b x → Appends a b x
+pub taken_as : (a b : Option (List ℕ)) (x : List ℕ) → HasTakenOctets a b x → Appends a b x
 taken_as None b x has = tt
 taken_as (Some before) b x has = rw (has before refl) refl
 
@@ -61,7 +61,7 @@ more_calls before mid c sent (front, rest) is =
       ),
     )
 
-pub calls_more : (a b c : Option (List Call)) (sent : Sent) → MakesSendings a b → Makes b c (sends sent ∷ []) → MakesSendings a c
+pub calls_more : (a b c : Option (List Call)) (sent : Sent) → MakesSendings a b → MakesCalls b c (sends sent ∷ []) → MakesSendings a c
 calls_more a None c sent has makes = λ before is. absurd ((has before is).0 refl)
 calls_more a (Some mid) c sent has makes = λ before is. more_calls before mid c sent ((has before is).1 mid refl) makes
 
@@ -97,7 +97,7 @@ one_follows first last call before mid c so (front, rest) is =
 
 -- one more call follows
 pub follow_more : (first last : List Call → Bool) (call : Call) (a b c : Option (List Call)) → ((l : List Call) → first l ≡ true → last (l ++ call ∷ []) ≡ true)
-    → Follow first a b → Makes b c (call ∷ []) → Follow last a c
+    → Follow first a b → MakesCalls b c (call ∷ []) → Follow last a c
 follow_more first last call a None c so has makes = λ before is. absurd ((has before is).0 refl)
 follow_more first last call a (Some mid) c so has makes = λ before is. one_follows first last call before mid c so ((has before is).1 mid refl) makes
 
@@ -124,27 +124,27 @@ vain_more call vain (x ∷ y ∷ xs) all =
     and_both (is_well x) (end_in_vain ((y ∷ xs) ++ call ∷ [])) (and_first (is_well x) (are_well (y ∷ xs)) all) (vain_more call vain (y ∷ xs) (and_then (is_well x) (are_well (y ∷ xs)) all))
 
 -- a sending that didn't fail follows, or one that took nothing
-pub well_sent : (sent : Sent) (a b c : Option (List Call)) → has_failed sent ≡ false → Follow are_well a b → Makes b c (sends sent ∷ []) → Follow are_well a c
+pub well_sent : (sent : Sent) (a b c : Option (List Call)) → sending_failed sent ≡ false → Follow are_well a b → MakesCalls b c (sends sent ∷ []) → Follow are_well a c
 well_sent sent a b c well has makes = follow_more are_well are_well (sends sent) a b c (well_more (sends sent) (ap not well)) has makes
 
-pub sent_in_vain : (sent : Sent) (a b c : Option (List Call)) → is_vain sent ≡ true → Follow are_well a b → Makes b c (sends sent ∷ []) → Follow end_in_vain a c
+pub sent_in_vain : (sent : Sent) (a b c : Option (List Call)) → is_vain sent ≡ true → Follow are_well a b → MakesCalls b c (sends sent ∷ []) → Follow end_in_vain a c
 sent_in_vain sent a b c vain has makes = follow_more are_well end_in_vain (sends sent) a b c (vain_more (sends sent) vain) has makes
 
-choice_is_well : (none : Bool) → has_failed (if none then sents.Nothing else sents.Some) ≡ false
+choice_is_well : (none : Bool) → sending_failed (if none then sents.Nothing else sents.Some) ≡ false
 choice_is_well true = refl
 choice_is_well false = refl
 
 -- a call that took octets, or none, didn't fail
-pub ok_is_well : (sent : Sent) (outcome : Result ℕ Error) (count : ℕ) → sent ≡ sent_by outcome → outcome ≡ Ok count → has_failed sent ≡ false
-ok_is_well sent outcome count is ok = ap has_failed (is ∙ ap sent_by ok) ∙ choice_is_well (count == 0)
+pub ok_is_well : (sent : Sent) (outcome : Result ℕ Error) (count : ℕ) → sent ≡ sent_by outcome → outcome ≡ Ok count → sending_failed sent ≡ false
+ok_is_well sent outcome count is ok = ap sending_failed (is ∙ ap sent_by ok) ∙ choice_is_well (count == 0)
 
-pub taken_is_well : (sent : Sent) → is_vain sent ≡ false → has_failed sent ≡ false
+pub taken_is_well : (sent : Sent) → is_vain sent ≡ false → sending_failed sent ≡ false
 taken_is_well sents.Nothing took = cc
 taken_is_well sents.Interrupted took = cc
 taken_is_well sents.Some took = refl
 taken_is_well sents.Failed took = cc
 
-pub failed_in_vain : (sent : Sent) → has_failed sent ≡ true → is_vain sent ≡ true
+pub failed_in_vain : (sent : Sent) → sending_failed sent ≡ true → is_vain sent ≡ true
 failed_in_vain sents.Nothing failed = refl
 failed_in_vain sents.Interrupted failed = refl
 failed_in_vain sents.Some failed = cc
@@ -215,12 +215,12 @@ stuck_short a b n p q octets fits same short well (inr (less, noted)) =
       λ more. (short_memory (length (waiting p)) (length octets) (vec_capacity q.octets) fits short, well),
     )
 
-pub kept_as : (a b : Option (List ℕ)) → HasTaken a b [] → Keeps a b
+pub kept_as : (a b : Option (List ℕ)) → HasTakenOctets a b [] → Keeps a b
 kept_as None b has = tt
 kept_as (Some before) b has = rw (has before refl) (append-nil before)
 
 -- which sendings were made
-pub sendings_of : (a b : Option (List Call)) (few : Bool) → MakesSendings a b → (few ≡ true → b ≡ a) → (within : List Call) × All (λ call. is_sending call ≡ true) within × Makes a b within × (few ≡ true → within ≡ [])
+pub sendings_of : (a b : Option (List Call)) (few : Bool) → MakesSendings a b → (few ≡ true → b ≡ a) → (within : List Call) × All (λ call. is_sending call ≡ true) within × MakesCalls a b within × (few ≡ true → within ≡ [])
 sendings_of None b few has lazy = ([], All-nil (λ call. is_sending call ≡ true), tt, λ is. refl)
 sendings_of (Some before) b true has lazy = ([], All-nil (λ call. is_sending call ≡ true), lazy refl ∙ ap Some (sym (append-nil before)), λ is. refl)
 sendings_of (Some before) None false has lazy = absurd ((has before refl).0 refl)
@@ -233,7 +233,7 @@ sendings_of (Some before) (Some after) false has lazy =
     )
 
 -- nothing was put, and nothing was asked
-pub passes_none : {T : Type 0} (taken coming : T → Option (List ℕ)) (made : T → Option (List Call)) (from to : T) (before after : List ℕ) → to ≡ from → after ≡ before → Passes taken coming made from to before after []
+pub passes_none : {T : Type 0} (taken coming : T → Option (List ℕ)) (made : T → Option (List Call)) (from to : T) (before after : List ℕ) → to ≡ from → after ≡ before → PassesOctets taken coming made from to before after []
 passes_none taken coming made from to before after still same = record {
   sent = [];
   takes = subst (λ t. Appends (taken from) (taken t) []) (sym still) (Appends-nil (taken from));
@@ -241,6 +241,6 @@ passes_none taken coming made from to before after still same = record {
   comes = subst (λ t. Keeps (coming from) (coming t)) (sym still) (Keeps-refl (coming from));
   within = [];
   sendings = All-nil (λ call. is_sending call ≡ true);
-  calls = subst (λ t. Makes (made from) (made t) []) (sym still) (makes_none (made from));
+  calls = subst (λ t. MakesCalls (made from) (made t) []) (sym still) (makes_none (made from));
   lazy = λ few. (refl, refl);
 }

@@ -3,11 +3,11 @@ use Rattle.std.proofs.Common.{◌≡◌, ℕ, List, [], ◌∷◌, sym, subst}
 use Rattle.std.specs.Prelude.{Option}
 use Rattle.dict_hub.specs.Events.{Happening, id_of, IsQuiet}
 use Rattle.dict_hub.specs.Holding.{Holding}
-use Rattle.dict_hub.specs.Hubs.{Has}
+use Rattle.dict_hub.specs.Hubs.{HasHolding}
 use Rattle.dict_hub.specs.Runs.{Accepted}
 use Rattle.dict_hub.specs.declared.hub.Hub.{Hub}
 use Rattle.dict_hub.specs.declared.kind.Kind.{Kind}
-use Rattle.dict_connection.specs.Events.{AreOf}
+use Rattle.dict_connection.specs.Events.{AreEventsOf}
 use Rattle.dict_connection.specs.Quiet.{AreQuiet, StaysForReader, StaysIfQuiet}
 use Rattle.dict_connection.specs.Telling.{KeepsEach}
 
@@ -18,23 +18,23 @@ quiet_kept a b keeps (one ∷ events) ((held, has, is), rest) = ((held, keeps (i
 
 -- of one event
 pub quiet_one : {K : Type 0} (hub : Hub) (old new : K) (what : Happening) (one : Accepted) → one.what ≡ what
-    → ((held : Option Holding) → Has hub (id_of what) held → IsQuiet one.before.catalogue held what → new ≡ old)
+    → ((held : Option Holding) → HasHolding hub (id_of what) held → IsQuiet one.before.catalogue held what → new ≡ old)
     → StaysIfQuiet hub old new (one ∷ [])
 quiet_one hub old new what one same stays ((held, has, is), rest) =
-    stays held (subst (λ (w : Happening). Has hub (id_of w) held) same has) (subst (λ (w : Happening). IsQuiet one.before.catalogue held w) same is)
+    stays held (subst (λ (w : Happening). HasHolding hub (id_of w) held) same has) (subst (λ (w : Happening). IsQuiet one.before.catalogue held w) same is)
 
 -- of none
 pub quiet_none : {K : Type 0} (hub : Hub) (old new : K) (events : List Accepted) → events ≡ [] → StaysIfQuiet hub old new events → new ≡ old
 quiet_none hub old new events none stays = subst (λ (l : List Accepted). StaysIfQuiet hub old new l) none stays tt
 
 -- of one connection, by a hub that has of it what another has
-quiet_own : (id : ℕ) (a b : Hub) → ((held : Option Holding) → Has a id held → Has b id held) → (events : List Accepted) → AreOf id events → AreQuiet a events → AreQuiet b events
+quiet_own : (id : ℕ) (a b : Hub) → ((held : Option Holding) → HasHolding a id held → HasHolding b id held) → (events : List Accepted) → AreEventsOf id events → AreQuiet a events → AreQuiet b events
 quiet_own id a b keeps [] own quiet = tt
 quiet_own id a b keeps (one ∷ events) (is, own) ((held, has, at), rest) = (
-  (held, subst (λ (i : ℕ). Has b i held) (sym is) (keeps held (subst (λ (i : ℕ). Has a i held) is has)), at),
+  (held, subst (λ (i : ℕ). HasHolding b i held) (sym is) (keeps held (subst (λ (i : ℕ). HasHolding a i held) is has)), at),
   quiet_own id a b keeps events own rest,
 )
 
-pub stays_over : {K : Type 0} (kind : Kind) (id : ℕ) (a b : Hub) (old new : K) (events : List Accepted) → AreOf id events → ((held : Option Holding) → Has a id held → Has b id held)
+pub stays_over : {K : Type 0} (kind : Kind) (id : ℕ) (a b : Hub) (old new : K) (events : List Accepted) → AreEventsOf id events → ((held : Option Holding) → HasHolding a id held → HasHolding b id held)
     → StaysForReader kind b old new events → StaysForReader kind a old new events
 stays_over kind id a b old new events own keeps stays reader quiet = stays reader (quiet_own id a b keeps events own quiet)

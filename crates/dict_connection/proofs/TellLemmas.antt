@@ -10,10 +10,10 @@ use Rattle.dict_catalogue.specs.Steps.{Catalogue}
 use Rattle.dict_hub.specs.Holding.{Holding, left_by}
 use Rattle.dict_hub.specs.Given.{Greets, Replies, Gets}
 use Rattle.dict_hub.specs.Events.{Happening, opened, came, ended, id_of, admitted, takes_memory, Serves}
-use Rattle.dict_hub.specs.Hubs.{Has, count_of, greatest_of}
+use Rattle.dict_hub.specs.Hubs.{HasHolding, connection_count, greatest_of}
 use Rattle.dict_hub.specs.declared.fault.HubFault.{HubFault}
 use Rattle.dict_hub.specs.declared.fault.HubFault.TheVariants.{Memory}
-use Rattle.dict_hub.specs.Runs.{State, Standing, Accepted, IsAt, IsStep, Leads, LeadsOn, state_after}
+use Rattle.dict_hub.specs.Runs.{State, Standing, Accepted, IsAt, IsServedEvent, Leads, LeadsOn, state_after}
 use Rattle.dict_hub.specs.declared.kind.Kind.{Kind}
 use Rattle.dict_hub.specs.declared.kind.Kind.TheVariants.{Dict, Http}
 use Rattle.dict_hub.specs.declared.incoming.Out.{Out}
@@ -23,13 +23,13 @@ use Rattle.dict_proto.specs.Meaning.{Meaning}
 use Rattle.dict_session.specs.Answers.{answer_to}
 use Rattle.dict_session.specs.Desks.{Condition}
 use Rattle.dict_session.specs.Lines.{cut}
-use Rattle.dict_connection.specs.Queues.{waiting, stream_of}
-use Rattle.dict_connection.specs.Events.{AreOf, piece_of, pieces_of}
+use Rattle.dict_connection.specs.Queues.{waiting, queue_stream}
+use Rattle.dict_connection.specs.Events.{AreEventsOf, piece_of, pieces_of}
 use Rattle.dict_connection.specs.Ordering.{IsOnly}
 use Rattle.dict_connection.specs.Leading.{HasLedOn}
 use Rattle.dict_connection.specs.Telling.{CountsNone, IsAnswered, IsTold, IsToldThrough, MayRefuse}
 use Rattle.dict_connection.specs.OutletCalls.{Call}
-use Rattle.dict_connection.specs.Outlets.{FailsOnlyStuck, HasTaken, MakesSendings, Passes, carried, stream_through}
+use Rattle.dict_connection.specs.Outlets.{FailsOnlyStuck, HasTakenOctets, MakesSendings, PassesOctets, carried, stream_through}
 use Rattle.dict_connection.specs.declared.trail.Trail.{Trail}
 use Rattle.dict_connection.proofs.OutletLemmas.{kept_as, passes_none, sendings_of, taken_as}
 use Rattle.dict_connection.specs.declared.queue.Queue.{Queue}
@@ -92,7 +92,7 @@ led_accepted T S0 S1 L0 L1 a b what out desk old new P leads holds = record {
   led = λ trusted origin start at shown left.
       let on = leads trusted origin start [] origin start (refl, refl) at shown left in
       let one : Accepted = record { what = what; out = out; desk = desk; put = record { old = old; new = new }; before = start; after = on.after } in
-      let step : IsStep origin one = on.leads.1 in
+      let step : IsServedEvent origin one = on.leads.1 in
       record {
         events = one ∷ [];
         state = state_after origin what out;
@@ -109,15 +109,15 @@ led_accepted T S0 S1 L0 L1 a b what out desk old new P leads holds = record {
 pub led_greeted : (T : Type 0) (S0 S1 : Catalogue → Type 0) (L0 L1 : List (Option Catalogue) → Type 0) (a b : Hub) (id : ℕ) (kind : Kind) (out : Out) (desk : Condition) (old new : Stream) (P : List Accepted → Type 0)
     → (T → (origin : State) (start : Standing) (events : List Accepted) (state : State) (stands : Standing) → Leads origin start events state stands → IsAt a state → S0 stands.catalogue → L0 stands.leaves
     → LeadsOn S1 L1 origin start events state stands (opened id kind) out desk (record { old = old; new = new }) b)
-    → ((one : Accepted) → one.what ≡ opened id kind → one.out ≡ out → one.put ≡ record { old = old; new = new } → one.desk ≡ desk → Grows old.octets new.octets → Has b id (left_by kind [] out) → P (one ∷ []))
+    → ((one : Accepted) → one.what ≡ opened id kind → one.out ≡ out → one.put ≡ record { old = old; new = new } → one.desk ≡ desk → Grows old.octets new.octets → HasHolding b id (left_by kind [] out) → P (one ∷ []))
     → HasLedOn T S0 L0 S1 L1 a b P
 led_greeted T S0 S1 L0 L1 a b id kind out desk old new P leads holds = record {
   led = λ trusted origin start at shown left.
       let on = leads trusted origin start [] origin start (refl, refl) at shown left in
       let one : Accepted = record { what = opened id kind; out = out; desk = desk; put = record { old = old; new = new }; before = start; after = on.after } in
-      let step : IsStep origin one = on.leads.1 in
+      let step : IsServedEvent origin one = on.leads.1 in
       let is_at : IsAt b (state_after origin (opened id kind) out) = on.is_at in
-      let own : Has b id (left_by kind [] out) = subst (λ (t : Bool). Has b id (if t then left_by kind [] out else origin.held id)) (eq-eqb id id refl) (is_at.held id) in
+      let own : HasHolding b id (left_by kind [] out) = subst (λ (t : Bool). HasHolding b id (if t then left_by kind [] out else origin.held id)) (eq-eqb id id refl) (is_at.held id) in
       record {
         events = one ∷ [];
         state = state_after origin (opened id kind) out;
@@ -130,8 +130,8 @@ led_greeted T S0 S1 L0 L1 a b id kind out desk old new P leads holds = record {
       };
 }
 
-pub told_one : (what : Happening) (out : Out) (old new : Queue) (one : Accepted) → one.what ≡ what → one.out ≡ out → one.put ≡ record { old = stream_of old; new = stream_of new }
-    → Grows (stream_of old).octets (stream_of new).octets → CountsNone what old.failures new.failures → IsTold what (Some out) old new (one ∷ [])
+pub told_one : (what : Happening) (out : Out) (old new : Queue) (one : Accepted) → one.what ≡ what → one.out ≡ out → one.put ≡ record { old = queue_stream old; new = queue_stream new }
+    → Grows (queue_stream old).octets (queue_stream new).octets → CountsNone what old.failures new.failures → IsTold what (Some out) old new (one ∷ [])
 told_one what out old new one same answer put (octets, grows) ends = record {
   answered = (one, refl, same, answer);
   put = octets;
@@ -143,9 +143,9 @@ told_one what out old new one same answer put (octets, grows) ends = record {
 -- what facts of an outlet tell of an event that put these octets
 passed : {T : Type 0} (taken coming : T → Option (List ℕ)) (made : T → Option (List Call)) (at_first gives : Option (List ℕ)) (calls : Option (List Call)) (from to : T) (trail before after put : List ℕ)
     → at_first ≡ taken from → gives ≡ coming from → calls ≡ made from
-    → HasTaken at_first (taken to) trail → HasTaken gives (coming to) [] → MakesSendings calls (made to)
+    → HasTakenOctets at_first (taken to) trail → HasTakenOctets gives (coming to) [] → MakesSendings calls (made to)
     → (length trail + length after < 1048576 → (trail ≡ []) × (made to ≡ calls)) → trail ++ after ≡ before ++ put
-    → Passes taken coming made from to before after put
+    → PassesOctets taken coming made from to before after put
 passed taken coming made at_first gives calls from to trail before after put was will did takes keeps makes lazy order =
     let few = ltb (length before + length put) 1048576 in
     let same : length trail + length after ≡ length before + length put = omega (arith, ap length order, length-append trail after, length-append before put) in
@@ -153,9 +153,9 @@ passed taken coming made at_first gives calls from to trail before after put was
     let all = sendings_of (made from) (made to) few (subst (λ (o : Option (List Call)). MakesSendings o (made to)) did makes) (λ is. (lazy (less is)).1 ∙ did) in
     record {
       sent = trail;
-      takes = taken_as (taken from) (taken to) trail (subst (λ (o : Option (List ℕ)). HasTaken o (taken to) trail) was takes);
+      takes = taken_as (taken from) (taken to) trail (subst (λ (o : Option (List ℕ)). HasTakenOctets o (taken to) trail) was takes);
       order = order;
-      comes = kept_as (coming from) (coming to) (subst (λ (o : Option (List ℕ)). HasTaken o (coming to) []) will keeps);
+      comes = kept_as (coming from) (coming to) (subst (λ (o : Option (List ℕ)). HasTakenOctets o (coming to) []) will keeps);
       within = all.0;
       sendings = all.1;
       calls = all.2;
@@ -164,7 +164,7 @@ passed taken coming made at_first gives calls from to trail before after put was
 
 pub told_through : {T : Type 0} (taken coming : T → Option (List ℕ)) (made : T → Option (List Call)) (at_first gives : Option (List ℕ)) (calls : Option (List Call)) (what : Happening) (out : Out) (old new : Queue)
     (from to : T) (trail : Trail) (begun : Stream) (one : Accepted) → at_first ≡ taken from → gives ≡ coming from → calls ≡ made from
-    → HasTaken at_first (taken to) trail.octets → HasTaken gives (coming to) [] → MakesSendings calls (made to)
+    → HasTakenOctets at_first (taken to) trail.octets → HasTakenOctets gives (coming to) [] → MakesSendings calls (made to)
     → (length trail.octets + length (waiting new) < 1048576 → (trail.octets ≡ []) × (made to ≡ calls)) → begun.octets ≡ Some (waiting old)
     → one.what ≡ what → one.out ≡ out → one.put ≡ record { old = begun; new = stream_through trail new }
     → Grows begun.octets (stream_through trail new).octets → FailsOnlyStuck calls (made to) old new → IsToldThrough taken coming made what (Some out) old new from to (one ∷ [])
@@ -197,7 +197,7 @@ told_through_none taken coming made what old new from to same still = record {
 
 -- octets that the hub refused: where it held a reader's of this id, it would have taken them
 pub may_refuse : (hub : Hub) (id : ℕ) (piece : List ℕ) (result : Result Out HubFault)
-    → ((held : Option Holding) → Has hub id held → admitted held (greatest_of hub) (count_of hub) (came id piece) ≡ Ok tt → IfErr result (λ fault. (fault ≡ Memory) × (takes_memory held (came id piece) ≡ true)))
+    → ((held : Option Holding) → HasHolding hub id held → admitted held (greatest_of hub) (connection_count hub) (came id piece) ≡ Ok tt → IfErr result (λ fault. (fault ≡ Memory) × (takes_memory held (came id piece) ≡ true)))
     → IfErr result (MayRefuse hub id)
 may_refuse hub id piece (Ok out) memory = tt
 may_refuse hub id piece (Err fault) memory = λ held has. memory (Some held) has refl
@@ -217,7 +217,7 @@ told_none what old new same = record {
 }
 
 -- the one event is of its connection
-pub answered_own : (what : Happening) (answer : Option Out) (events : List Accepted) → IsAnswered what answer events → AreOf (id_of what) events
+pub answered_own : (what : Happening) (answer : Option Out) (events : List Accepted) → IsAnswered what answer events → AreEventsOf (id_of what) events
 answered_own what None events none = rw none tt
 answered_own what (Some out) events (one, is, same, told) = rw is (ap id_of same, tt)
 

@@ -15,17 +15,17 @@ use Rattle.dict_hub.specs.Runs.{Accepted}
 use Rattle.dict_hub.specs.declared.incoming.Out.{Out}
 use Rattle.dict_hub.specs.declared.incoming.Out.TheVariants as outs
 use Rattle.dict_connection.specs.Queues.{waiting, is_clear, Sends}
-use Rattle.dict_connection.specs.Stages.{is_open, is_finishing, answered, parted}
-use Rattle.dict_connection.specs.OutletCalls.{Call, Makes, sends, receives, sent_by, received_by, received_by_kind, has_come, has_failed, has_moved, count_received}
-use Rattle.dict_connection.specs.Calls.{behind, sendings, readings, endings, is_dropped, calls_of_turn, has_departed, has_turned}
-use Rattle.dict_connection.specs.Events.{ArePut, AreOf, piece_of, pieces_of}
+use Rattle.dict_connection.specs.Stages.{is_open, is_finishing, stage_answered, parted}
+use Rattle.dict_connection.specs.OutletCalls.{Call, MakesCalls, sends, receives, sent_by, received_by, received_by_kind, has_come, sending_failed, has_moved, count_received}
+use Rattle.dict_connection.specs.Calls.{calls_behind, sendings, reading_calls, endings, is_dropped, calls_of_turn, has_departed, has_turned}
+use Rattle.dict_connection.specs.Events.{ArePut, AreEventsOf, piece_of, pieces_of}
 use Rattle.dict_connection.specs.Handing.{held_in, is_handed}
 use Rattle.dict_connection.specs.Pieces.{next_piece, behind_piece}
 use Rattle.dict_connection.specs.declared.held.Held.{Held}
 use Rattle.dict_hub.specs.declared.kind.Kind.{Kind}
-use Rattle.dict_connection.specs.Outlets.{FailsOnlyStuck, Passes, is_sending}
+use Rattle.dict_connection.specs.Outlets.{FailsOnlyStuck, PassesOctets, is_sending}
 use Rattle.dict_connection.specs.Telling.{IsAnswered, IsTold, IsToldThrough}
-use Rattle.dict_connection.specs.Turns.{BringAllOrNone, Hands, HandsOver, LeadsByAnswer, LeadsByEnd, LeadsByPiece, LeadsByReading, LeadsByTurn, LeadsFurther, may_read, SendsOnce, ReadsOnce, Turns, Finishes, Drains, LeadsOut, LeadsAway, Departs, stage_between, stage_drained, dropped_after, marked_after}
+use Rattle.dict_connection.specs.Turns.{BringAllOrNone, HandsToHub, HandsOver, LeadsByAnswer, LeadsByEnd, LeadsByPiece, LeadsByReading, LeadsByTurn, LeadsFurther, may_read, SendsOnce, ReadsOnce, Turns, TellsClosedPeer, Drains, LeadsOut, LeadsAway, Departs, stage_between, stage_drained, dropped_after, marked_after}
 use Rattle.dict_connection.specs.declared.connection.Connection.{Connection}
 use Rattle.dict_connection.specs.declared.calls.Sent.{Sent}
 use Rattle.dict_connection.specs.declared.calls.Sent.TheVariants as sents
@@ -129,7 +129,7 @@ hands_told taken coming made a b octets piece out events id marks kind is rest w
 
 -- an event that brings nothing, after which the connection is closed
 pub hands_ended : {T : Type 0} (a b : Connection T) (answer : Option Out) (events : List Accepted) → b.id ≡ a.id → b.transport ≡ a.transport → b.may_receive ≡ a.may_receive
-    → b.held ≡ a.held → is_open b.stage ≡ false → IsTold (ended a.id) answer a.queue b.queue events → Hands [] a b events × IsOnly (ended a.id) events
+    → b.held ≡ a.held → is_open b.stage ≡ false → IsTold (ended a.id) answer a.queue b.queue events → HandsToHub [] a b events × IsOnly (ended a.id) events
 hands_ended a b answer events id transport marks held closed told = (
   record {
     id = id;
@@ -154,8 +154,8 @@ no_pieces events (inl is) = is
 no_pieces events (inr is) = is
 
 -- octets behind those that were passed on
-passes_more : {T : Type 0} (taken coming : T → Option (List ℕ)) (made : T → Option (List Call)) (from to last : T) (x y z put more : List ℕ) → Passes taken coming made from to x y put → last ≡ to → z ≡ y ++ more
-    → Passes taken coming made from last x z (put ++ more)
+passes_more : {T : Type 0} (taken coming : T → Option (List ℕ)) (made : T → Option (List Call)) (from to last : T) (x y z put more : List ℕ) → PassesOctets taken coming made from to x y put → last ≡ to → z ≡ y ++ more
+    → PassesOctets taken coming made from last x z (put ++ more)
 passes_more taken coming made from to last x y z put more passes still is = record {
   sent = passes.sent;
   takes = subst (λ t. Appends (taken from) (taken t) passes.sent) (sym still) passes.takes;
@@ -163,12 +163,12 @@ passes_more taken coming made from to last x y z put more passes still is = reco
   comes = subst (λ t. Keeps (coming from) (coming t)) (sym still) passes.comes;
   within = passes.within;
   sendings = passes.sendings;
-  calls = subst (λ t. Makes (made from) (made t) passes.within) (sym still) passes.calls;
+  calls = subst (λ t. MakesCalls (made from) (made t) passes.within) (sym still) passes.calls;
   lazy = λ few. passes.lazy (omega (arith, few, length-append put more));
 }
 
 -- an event by which the transport was asked nothing, where nothing is held
-hands_over : {T : Type 0} (taken coming : T → Option (List ℕ)) (made : T → Option (List Call)) (a b : Connection T) (events : List Accepted) → held_in a.held ≡ [] → Hands [] a b events → HandsOver taken coming made [] a b events
+hands_over : {T : Type 0} (taken coming : T → Option (List ℕ)) (made : T → Option (List Call)) (a b : Connection T) (events : List Accepted) → held_in a.held ≡ [] → HandsToHub [] a b events → HandsOver taken coming made [] a b events
 hands_over taken coming made a b events none hands = record {
   id = hands.id;
   may_receive = hands.may_receive;
@@ -187,7 +187,7 @@ hands_over taken coming made a b events none hands = record {
 
 -- an event that was refused, and then the end
 pub hands_refused : {T : Type 0} (refused : ℕ → Kind → Type 0) (taken coming : T → Option (List ℕ)) (made : T → Option (List Call)) (a b c : Connection T) (octets : List ℕ) (what : Happening) (es fs : List Accepted) → b.id ≡ a.id → b.may_receive ≡ a.may_receive
-    → b.held ≡ a.held → b.queue.failures ≡ a.queue.failures → c.stage ≡ stages.Over → IsToldThrough taken coming made what None a.queue b.queue a.transport b.transport es → Hands [] b c fs × IsOnly (ended b.id) fs
+    → b.held ≡ a.held → b.queue.failures ≡ a.queue.failures → c.stage ≡ stages.Over → IsToldThrough taken coming made what None a.queue b.queue a.transport b.transport es → HandsToHub [] b c fs × IsOnly (ended b.id) fs
     → refused a.id a.held.kind → HandsOver taken coming made octets a c (es ++ fs) × LeadsByAnswer refused octets a c (es ++ fs)
 hands_refused refused taken coming made a b c octets what es fs id marks held counted over told (later, only) refuses =
     let closed : is_open c.stage ≡ false = ap is_open over in
@@ -198,7 +198,7 @@ hands_refused refused taken coming made a b c octets what es fs id marks held co
         may_receive = later.may_receive ∙ marks;
         kind = ap (λ (h : Held). h.kind) (later.held ∙ held);
         was_open = λ still. absurd (let never : true ≡ false = sym still ∙ closed in cc);
-        own = subst (λ (i : ℕ). AreOf i fs) id later.own;
+        own = subst (λ (i : ℕ). AreEventsOf i fs) id later.own;
         are_turns = later.are_turns;
         put = told.put ++ later.put;
         are_put = subst (λ (l : List Accepted). ArePut l (told.put ++ later.put)) whole (put_joined es fs told.put later.put told.are_put later.are_put);
@@ -212,18 +212,18 @@ hands_refused refused taken coming made a b c octets what es fs id marks held co
 
 -- octets of which the hub answered the first piece
 pub leads_answered : {T : Type 0} (refused : ℕ → Kind → Type 0) (a b : Connection T) (octets piece : List ℕ) (out : Out) (events : List Accepted) → piece ≡ next_piece a.held.kind octets → held_in b.held ≡ behind_piece a.held.kind octets
-    → b.stage ≡ answered out a.stage → IsAnswered (came a.id piece) (Some out) events → LeadsByAnswer refused octets a b events
+    → b.stage ≡ stage_answered out a.stage → IsAnswered (came a.id piece) (Some out) events → LeadsByAnswer refused octets a b events
 leads_answered refused a b octets piece out events first rest stage (one, is, same, told) =
-    inl (one, is, same ∙ ap (λ (l : List ℕ). came a.id l) first, rest, stage ∙ ap (λ (o : Out). answered o a.stage) (sym told))
+    inl (one, is, same ∙ ap (λ (l : List ℕ). came a.id l) first, rest, stage ∙ ap (λ (o : Out). stage_answered o a.stage) (sym told))
 
 -- only an open connection goes on
-pub answered_open : (out : Out) (before : Stage) → is_open (answered out before) ≡ true → is_open before ≡ true
+pub answered_open : (out : Out) (before : Stage) → is_open (stage_answered out before) ≡ true → is_open before ≡ true
 answered_open outs.More before still = still
 answered_open outs.Close before still = cc
 
 -- nothing has changed but how far the connection has come
 pub hands_closed : {T : Type 0} (a b c : Connection T) (octets : List ℕ) (events : List Accepted) → c.id ≡ b.id → c.transport ≡ b.transport → c.may_receive ≡ b.may_receive → c.held ≡ b.held → c.queue ≡ b.queue → is_open c.stage ≡ false
-    → Hands octets a b events → Hands octets a c events
+    → HandsToHub octets a b events → HandsToHub octets a c events
 hands_closed a b c octets events id transport marks held queue closed hands = record {
   id = id ∙ hands.id;
   transport = transport ∙ hands.transport;
@@ -243,7 +243,7 @@ hands_closed a b c octets events id transport marks held queue closed hands = re
 -- a front of what waited was sent, by one call
 pub sends_once : {T : Type 0} (taken coming : T → Option (List ℕ)) (made : T → Option (List Call)) (a b : Connection T) (outcome : Result ℕ Error)
     → b.id ≡ a.id → b.stage ≡ a.stage → b.may_receive ≡ a.may_receive → b.held ≡ a.held → b.dropped ≡ a.dropped → b.queue.failures ≡ a.queue.failures → b.queue.refused ≡ a.queue.refused → is_clear a.queue ≡ false
-    → Sends outcome a.queue b.queue (taken a.transport) (taken b.transport) → Keeps (coming a.transport) (coming b.transport) → Makes (made a.transport) (made b.transport) (sends (sent_by outcome) ∷ [])
+    → Sends outcome a.queue b.queue (taken a.transport) (taken b.transport) → Keeps (coming a.transport) (coming b.transport) → MakesCalls (made a.transport) (made b.transport) (sends (sent_by outcome) ∷ [])
     → SendsOnce taken coming made a b (sent_by outcome)
 sends_once taken coming made a b (Ok n) id stage marks held dropped failures refused clear took comes calls = record {
   id = id;
@@ -303,7 +303,7 @@ answer_from refused a b c octets events id stage kind (inl (one, is, same, rest,
       is,
       same ∙ ap (λ (i : ℕ). came i (next_piece b.held.kind octets)) id ∙ ap (λ (k : Kind). came a.id (next_piece k octets)) kind,
       rest ∙ ap (λ (k : Kind). behind_piece k octets) kind,
-      led ∙ ap (λ (s : Stage). answered one.out s) stage,
+      led ∙ ap (λ (s : Stage). stage_answered one.out s) stage,
     )
 answer_from refused a b c octets events id stage kind (inr (refuses, only, over)) =
     inr (subst (λ (i : ℕ). refused i a.held.kind) id (subst (λ (k : Kind). refused b.id k) kind refuses), subst (λ (i : ℕ). IsOnly (ended i) events) id only, over)
@@ -327,12 +327,12 @@ leads_from refused a b c receiveds.Failed octets events id stage marks held lead
 -- octets came, or an end, and the hub was told
 pub reads_handed : {T : Type 0} {refused : ℕ → Kind → Type 0} (taken coming : T → Option (List ℕ)) (made : T → Option (List Call)) (a b c : Connection T) (reading : Received) (octets : List ℕ) (events : List Accepted)
     → b.id ≡ a.id → b.stage ≡ a.stage → b.queue ≡ a.queue → b.held.kind ≡ a.held.kind → a.may_receive ≡ true → Keeps (taken a.transport) (taken b.transport) → Consumes (coming a.transport) (coming b.transport) octets
-    → Makes (made a.transport) (made b.transport) (receives 4096 reading ∷ []) → HandsOver taken coming made octets b c events → LeadsByReading refused reading octets a c events → ReadsOnce taken coming made refused a c reading events
+    → MakesCalls (made a.transport) (made b.transport) (receives 4096 reading ∷ []) → HandsOver taken coming made octets b c events → LeadsByReading refused reading octets a c events → ReadsOnce taken coming made refused a c reading events
 reads_handed {refused = refused} taken coming made a b c reading octets events id stage queue kind marked took comes calls hands leads = record {
   id = hands.id ∙ id;
   kind = hands.kind ∙ kind;
   was_open = λ still. ap is_open (sym stage) ∙ hands.was_open still;
-  own = subst (λ (i : ℕ). AreOf i events) id hands.own;
+  own = subst (λ (i : ℕ). AreEventsOf i events) id hands.own;
   are_turns = hands.are_turns;
   sent = hands.passes.sent;
   takes = kept_then_appends _ _ _ hands.passes.sent took hands.passes.takes;
@@ -356,7 +356,7 @@ reads_handed {refused = refused} taken coming made a b c reading octets events i
 -- an end came, or a failure
 pub reads_still : {T : Type 0} {refused : ℕ → Kind → Type 0} (taken coming : T → Option (List ℕ)) (made : T → Option (List Call)) (a b c : Connection T) (reading : Received) (events : List Accepted)
     → b ≡ record a { transport = b.transport } → held_in a.held ≡ [] → a.may_receive ≡ true → Keeps (taken a.transport) (taken b.transport) → Consumes (coming a.transport) (coming b.transport) []
-    → Makes (made a.transport) (made b.transport) (receives 4096 reading ∷ []) → Hands [] b c events → LeadsByReading refused reading [] b c events → ReadsOnce taken coming made refused a c reading events
+    → MakesCalls (made a.transport) (made b.transport) (receives 4096 reading ∷ []) → HandsToHub [] b c events → LeadsByReading refused reading [] b c events → ReadsOnce taken coming made refused a c reading events
 reads_still {refused = refused} taken coming made a b c reading events same none marked took comes calls hands leads =
     let id : b.id ≡ a.id = ap (λ it. it.id) same in
     let stage : b.stage ≡ a.stage = ap (λ it. it.stage) same in
@@ -368,7 +368,7 @@ reads_still {refused = refused} taken coming made a b c reading events same none
 
 -- nothing came
 pub reads_none : {T : Type 0} {refused : ℕ → Kind → Type 0} (taken coming : T → Option (List ℕ)) (made : T → Option (List Call)) (a b : Connection T) (reading : Received) → b.id ≡ a.id → b.stage ≡ a.stage → b.queue ≡ a.queue
-    → b.held ≡ a.held → held_in a.held ≡ [] → Keeps (taken a.transport) (taken b.transport) → Consumes (coming a.transport) (coming b.transport) [] → Makes (made a.transport) (made b.transport) (readings a.may_receive reading)
+    → b.held ≡ a.held → held_in a.held ≡ [] → Keeps (taken a.transport) (taken b.transport) → Consumes (coming a.transport) (coming b.transport) [] → MakesCalls (made a.transport) (made b.transport) (reading_calls a.may_receive reading)
     → (a.may_receive ≡ false → reading ≡ receiveds.Nothing) → LeadsByReading refused reading [] a b [] → ReadsOnce taken coming made refused a b reading []
 reads_none taken coming made a b reading id stage queue held none took comes calls unmarked leads = record {
   id = id;
@@ -387,8 +387,8 @@ reads_none taken coming made a b reading id stage queue held none took comes cal
   handed = λ _. ap held_in held ∙ none;
   within = [];
   sendings = All-nil (λ call. is_sending call ≡ true);
-  calls = subst (λ (l : List Call). Makes (made a.transport) (made b.transport) l) (sym (append-nil (readings a.may_receive reading))) calls;
-  stuck = stuck_none (behind (made a.transport) (readings a.may_receive reading)) (made b.transport) a.queue b.queue (ap (λ q. q.failures) queue);
+  calls = subst (λ (l : List Call). MakesCalls (made a.transport) (made b.transport) l) (sym (append-nil (reading_calls a.may_receive reading))) calls;
+  stuck = stuck_none (calls_behind (made a.transport) (reading_calls a.may_receive reading)) (made b.transport) a.queue b.queue (ap (λ q. q.failures) queue);
   lazy = λ few. (refl, refl);
   unmarked = unmarked;
   leads = leads;
@@ -401,14 +401,14 @@ leads_by_turn refused a c sents.Interrupted reading octets events well leads = l
 leads_by_turn refused a c sents.Some reading octets events well leads = leads
 leads_by_turn refused a c sents.Failed reading octets events well leads = absurd (well refl)
 
-pub calls_of_both : (a b c : Option (List Call)) (clear may : Bool) (sending : Sent) (reading : Received) (within : List Call) → sending ≢ sents.Failed → Makes a b (sendings clear sending) → Makes b c (readings may reading ++ within)
-    → Makes a c (calls_of_turn clear may sending reading ++ within)
+pub calls_of_both : (a b c : Option (List Call)) (clear may : Bool) (sending : Sent) (reading : Received) (within : List Call) → sending ≢ sents.Failed → MakesCalls a b (sendings clear sending) → MakesCalls b c (reading_calls may reading ++ within)
+    → MakesCalls a c (calls_of_turn clear may sending reading ++ within)
 calls_of_both a b c clear may sents.Nothing reading within well first later =
-    subst (λ (l : List Call). Makes a c l) (sym (append_assoc (sendings clear sents.Nothing) (readings may reading) within)) (makes_joined a b c (sendings clear sents.Nothing) (readings may reading ++ within) first later)
+    subst (λ (l : List Call). MakesCalls a c l) (sym (append_assoc (sendings clear sents.Nothing) (reading_calls may reading) within)) (makes_joined a b c (sendings clear sents.Nothing) (reading_calls may reading ++ within) first later)
 calls_of_both a b c clear may sents.Interrupted reading within well first later =
-    subst (λ (l : List Call). Makes a c l) (sym (append_assoc (sendings clear sents.Interrupted) (readings may reading) within)) (makes_joined a b c (sendings clear sents.Interrupted) (readings may reading ++ within) first later)
+    subst (λ (l : List Call). MakesCalls a c l) (sym (append_assoc (sendings clear sents.Interrupted) (reading_calls may reading) within)) (makes_joined a b c (sendings clear sents.Interrupted) (reading_calls may reading ++ within) first later)
 calls_of_both a b c clear may sents.Some reading within well first later =
-    subst (λ (l : List Call). Makes a c l) (sym (append_assoc (sendings clear sents.Some) (readings may reading) within)) (makes_joined a b c (sendings clear sents.Some) (readings may reading ++ within) first later)
+    subst (λ (l : List Call). MakesCalls a c l) (sym (append_assoc (sendings clear sents.Some) (reading_calls may reading) within)) (makes_joined a b c (sendings clear sents.Some) (reading_calls may reading ++ within) first later)
 calls_of_both a b c clear may sents.Failed reading within well first later = absurd (well refl)
 
 -- a sending, and then a reading, where nothing was held
@@ -426,7 +426,7 @@ turns_read {refused = refused} taken coming made a b c sending reading events we
       id = later.id ∙ first.id;
       kind = later.kind ∙ kind;
       was_open = λ still. ap is_open (sym first.stage) ∙ later.was_open still;
-      own = subst (λ (i : ℕ). AreOf i events) first.id later.own;
+      own = subst (λ (i : ℕ). AreEventsOf i events) first.id later.own;
       are_turns = later.are_turns;
       sent = first.sent ++ later.sent;
       takes = appends_joined _ _ _ first.sent later.sent first.takes later.takes;
@@ -442,12 +442,12 @@ turns_read {refused = refused} taken coming made a b c sending reading events we
       reading = reading;
       within = later.within;
       sendings = later.sendings;
-      calls = subst (λ (m : Bool). Makes (made a.transport) (made c.transport) (calls_of_turn (is_clear a.queue) m sending reading ++ later.within)) (sym may)
+      calls = subst (λ (m : Bool). MakesCalls (made a.transport) (made c.transport) (calls_of_turn (is_clear a.queue) m sending reading ++ later.within)) (sym may)
           (calls_of_both _ _ _ (is_clear a.queue) a.may_receive sending reading later.within well first.calls
-          (subst (λ (m : Bool). Makes (made b.transport) (made c.transport) (readings m reading ++ later.within)) first.may_receive later.calls));
-      stuck = subst (λ (m : Bool). FailsOnlyStuck (behind (made a.transport) (calls_of_turn (is_clear a.queue) m sending reading)) (made c.transport) a.queue c.queue) (sym may)
+          (subst (λ (m : Bool). MakesCalls (made b.transport) (made c.transport) (reading_calls m reading ++ later.within)) first.may_receive later.calls));
+      stuck = subst (λ (m : Bool). FailsOnlyStuck (calls_behind (made a.transport) (calls_of_turn (is_clear a.queue) m sending reading)) (made c.transport) a.queue c.queue) (sym may)
           (stuck_turned _ _ _ (is_clear a.queue) a.may_receive sending reading a.queue c.queue well first.calls (stuck_from _ _ a.queue b.queue c.queue first.failures first.refused
-          (subst (λ (m : Bool). FailsOnlyStuck (behind (made b.transport) (readings m reading)) (made c.transport) b.queue c.queue) first.may_receive later.stuck)));
+          (subst (λ (m : Bool). FailsOnlyStuck (calls_behind (made b.transport) (reading_calls m reading)) (made c.transport) b.queue c.queue) first.may_receive later.stuck)));
       lazy = λ few. (later.lazy (omega (arith, few, ap length first.order, length-append first.sent (waiting b.queue)))).1;
       idle = first.idle;
       unmarked = λ isnt. later.unmarked (first.may_receive ∙ sym may ∙ isnt);
@@ -469,7 +469,7 @@ turns_handed {refused = refused} taken coming made a b c sending events well som
       id = hands.id ∙ first.id;
       kind = hands.kind ∙ kind;
       was_open = λ still. ap is_open (sym first.stage) ∙ hands.was_open still;
-      own = subst (λ (i : ℕ). AreOf i events) first.id hands.own;
+      own = subst (λ (i : ℕ). AreEventsOf i events) first.id hands.own;
       are_turns = hands.are_turns;
       sent = first.sent ++ hands.passes.sent;
       takes = appends_joined _ _ _ first.sent hands.passes.sent first.takes hands.passes.takes;
@@ -485,9 +485,9 @@ turns_handed {refused = refused} taken coming made a b c sending events well som
       reading = receiveds.Nothing;
       within = hands.passes.within;
       sendings = hands.passes.sendings;
-      calls = subst (λ (m : Bool). Makes (made a.transport) (made c.transport) (calls_of_turn (is_clear a.queue) m sending receiveds.Nothing ++ hands.passes.within)) (sym may)
+      calls = subst (λ (m : Bool). MakesCalls (made a.transport) (made c.transport) (calls_of_turn (is_clear a.queue) m sending receiveds.Nothing ++ hands.passes.within)) (sym may)
           (calls_of_both _ _ _ (is_clear a.queue) false sending receiveds.Nothing hands.passes.within well first.calls hands.passes.calls);
-      stuck = subst (λ (m : Bool). FailsOnlyStuck (behind (made a.transport) (calls_of_turn (is_clear a.queue) m sending receiveds.Nothing)) (made c.transport) a.queue c.queue) (sym may)
+      stuck = subst (λ (m : Bool). FailsOnlyStuck (calls_behind (made a.transport) (calls_of_turn (is_clear a.queue) m sending receiveds.Nothing)) (made c.transport) a.queue c.queue) (sym may)
           (stuck_turned (made a.transport) (made b.transport) (made c.transport) (is_clear a.queue) false sending receiveds.Nothing a.queue c.queue well first.calls
           (stuck_behind (made b.transport) (made b.transport) (made c.transport) [] a.queue c.queue (makes_none (made b.transport))
           (stuck_from _ _ a.queue b.queue c.queue first.failures first.refused hands.stuck)));
@@ -507,13 +507,13 @@ turned_failed false = refl
 
 -- a sending that failed, and then the hub was told the end
 pub turns_failed : {T : Type 0} {refused : ℕ → Kind → Type 0} (taken coming : T → Option (List ℕ)) (made : T → Option (List Call)) (a b c : Connection T) (sending : Sent) (events : List Accepted) → sending ≡ sents.Failed
-    → SendsOnce taken coming made a b sending → c.stage ≡ stages.Over → Hands [] b c events × IsOnly (ended b.id) events → Turns taken coming made refused a c true events
+    → SendsOnce taken coming made a b sending → c.stage ≡ stages.Over → HandsToHub [] b c events × IsOnly (ended b.id) events → Turns taken coming made refused a c true events
 turns_failed taken coming made a b c sending events failed first over (hands, only) = record {
   has_moved = turned_failed (is_handed a.held);
   id = hands.id ∙ first.id;
   kind = ap (λ (h : Held). h.kind) (hands.held ∙ first.held);
   was_open = λ still. ap is_open (sym first.stage) ∙ hands.was_open still;
-  own = subst (λ (i : ℕ). AreOf i events) first.id hands.own;
+  own = subst (λ (i : ℕ). AreEventsOf i events) first.id hands.own;
   are_turns = hands.are_turns;
   sent = first.sent;
   takes = subst (λ t. Appends (taken a.transport) (taken t) first.sent) (sym hands.transport) first.takes;
@@ -528,9 +528,9 @@ turns_failed taken coming made a b c sending events failed first over (hands, on
   reading = receiveds.Nothing;
   within = [];
   sendings = All-nil (λ call. is_sending call ≡ true);
-  calls = subst (λ (l : List Call). Makes (made a.transport) (made c.transport) l) (sym (append-nil (sendings (is_clear a.queue) sents.Failed)))
-      (subst (λ t. Makes (made a.transport) (made t) (sendings (is_clear a.queue) sents.Failed)) (sym hands.transport)
-      (subst (λ (s : Sent). Makes (made a.transport) (made b.transport) (sendings (is_clear a.queue) s)) failed first.calls));
+  calls = subst (λ (l : List Call). MakesCalls (made a.transport) (made c.transport) l) (sym (append-nil (sendings (is_clear a.queue) sents.Failed)))
+      (subst (λ t. MakesCalls (made a.transport) (made t) (sendings (is_clear a.queue) sents.Failed)) (sym hands.transport)
+      (subst (λ (s : Sent). MakesCalls (made a.transport) (made b.transport) (sendings (is_clear a.queue) s)) failed first.calls));
   stuck = stuck_none _ _ a.queue c.queue (hands.failures ∙ first.failures);
   lazy = λ few. refl;
   idle = λ is. sym failed ∙ first.idle is;
@@ -561,7 +561,7 @@ closed_drained true most receiveds.Failed before closed = refl
 
 -- nothing is told, and the connection is as before but for how far it has come
 pub finishes_still : {T : Type 0} (taken coming : T → Option (List ℕ)) (made : T → Option (List Call)) (a : Connection T) (stage : Stage) (is_told : Bool) → endings (is_clear a.queue) a.stage is_told ≡ []
-    → stage ≡ stage_between (is_clear a.queue) a.stage is_told → (moved : Bool) → moved ≡ (is_clear a.queue && is_finishing a.stage) → Finishes taken coming made a (record a { stage = stage }) moved
+    → stage ≡ stage_between (is_clear a.queue) a.stage is_told → (moved : Bool) → moved ≡ (is_clear a.queue && is_finishing a.stage) → TellsClosedPeer taken coming made a (record a { stage = stage }) moved
 finishes_still taken coming made a stage is_told none is moved so = record {
   has_moved = so;
   id = refl;
@@ -604,16 +604,16 @@ not_both false idle = refl
 
 -- a sending that failed was made
 only_failed : {T : Type 0} {taken coming : T → Option (List ℕ)} (made : T → Option (List Call)) (a b : Connection T) (sending : Sent) → sending ≡ sents.Failed → SendsOnce taken coming made a b sending
-    → Makes (made a.transport) (made b.transport) (sends sents.Failed ∷ [])
+    → MakesCalls (made a.transport) (made b.transport) (sends sents.Failed ∷ [])
 only_failed made a b sending failed first =
     let waits : is_clear a.queue ≡ false = not_both (is_clear a.queue) (λ is. sym failed ∙ first.idle is) in
-    let calls : Makes (made a.transport) (made b.transport) (sendings (is_clear a.queue) sents.Failed)
-    = subst (λ (s : Sent). Makes (made a.transport) (made b.transport) (sendings (is_clear a.queue) s)) failed first.calls in
-    subst (λ (e : Bool). Makes (made a.transport) (made b.transport) (sendings e sents.Failed)) waits calls
+    let calls : MakesCalls (made a.transport) (made b.transport) (sendings (is_clear a.queue) sents.Failed)
+    = subst (λ (s : Sent). MakesCalls (made a.transport) (made b.transport) (sendings (is_clear a.queue) s)) failed first.calls in
+    subst (λ (e : Bool). MakesCalls (made a.transport) (made b.transport) (sendings e sents.Failed)) waits calls
 
 -- a sending that didn't fail, and what comes after it
 pub departs_whole : {T : Type 0} (taken coming : T → Option (List ℕ)) (made : T → Option (List Call)) (a b c d : Connection T) (sending : Sent) (finishing dropping moved : Bool) → sending ≢ sents.Failed
-    → SendsOnce taken coming made a b sending → Finishes taken coming made b c finishing → Drains taken coming made c d dropping → moved ≡ has_departed sending finishing dropping → Departs taken coming made a d moved
+    → SendsOnce taken coming made a b sending → TellsClosedPeer taken coming made b c finishing → Drains taken coming made c d dropping → moved ≡ has_departed sending finishing dropping → Departs taken coming made a d moved
 departs_whole taken coming made a b c d sending finishing dropping moved well first between last is =
     let queue : d.queue ≡ b.queue = last.queue ∙ between.queue in
     let clear : is_clear b.queue ≡ is_clear d.queue = ap is_clear (sym queue) in
@@ -623,11 +623,11 @@ departs_whole taken coming made a b c d sending finishing dropping moved well fi
     let dropped : c.dropped ≡ a.dropped = between.dropped ∙ first.dropped in
     let is_read : is_dropped c.stage c.may_receive ≡ is_dropped (stage_between (is_clear d.queue) a.stage between.is_told) a.may_receive
     = ap (λ (s : Stage). is_dropped s c.may_receive) stage ∙ ap (λ (m : Bool). is_dropped (stage_between (is_clear d.queue) a.stage between.is_told) m) marks in
-    let told : Makes (made b.transport) (made c.transport) (endings (is_clear d.queue) a.stage between.is_told)
-    = subst (λ (e : Bool). Makes (made b.transport) (made c.transport) (endings e a.stage between.is_told)) clear
-    (subst (λ (s : Stage). Makes (made b.transport) (made c.transport) (endings (is_clear b.queue) s between.is_told)) first.stage between.calls) in
-    let read : Makes (made c.transport) (made d.transport) (readings (is_dropped (stage_between (is_clear d.queue) a.stage between.is_told) a.may_receive) last.reading)
-    = subst (λ (e : Bool). Makes (made c.transport) (made d.transport) (readings e last.reading)) is_read last.calls in
+    let told : MakesCalls (made b.transport) (made c.transport) (endings (is_clear d.queue) a.stage between.is_told)
+    = subst (λ (e : Bool). MakesCalls (made b.transport) (made c.transport) (endings e a.stage between.is_told)) clear
+    (subst (λ (s : Stage). MakesCalls (made b.transport) (made c.transport) (endings (is_clear b.queue) s between.is_told)) first.stage between.calls) in
+    let read : MakesCalls (made c.transport) (made d.transport) (reading_calls (is_dropped (stage_between (is_clear d.queue) a.stage between.is_told) a.may_receive) last.reading)
+    = subst (λ (e : Bool). MakesCalls (made c.transport) (made d.transport) (reading_calls e last.reading)) is_read last.calls in
     record {
       has_moved = is ∙ ap (λ (e : Bool). has_departed sending e dropping) (between.has_moved ∙ ap (λ (e : Bool). e && is_finishing b.stage) clear ∙ ap (λ (s : Stage). is_clear d.queue && is_finishing s) first.stage)
           ∙ ap (λ (e : Bool). has_departed sending (is_clear d.queue && is_finishing a.stage) e) (last.has_moved ∙ ap (λ (e : Bool). e && has_come last.reading) is_read);
@@ -679,20 +679,20 @@ parted_closed false = refl
 
 -- the hub was told the end, and what waits is still sent
 pub hands_parted : {T : Type 0} (a b c : Connection T) (events : List Accepted) → c.id ≡ b.id → c.transport ≡ b.transport → c.may_receive ≡ b.may_receive → c.held ≡ b.held → c.queue ≡ b.queue → c.stage ≡ parted (is_clear b.queue)
-    → Hands [] a b events × IsOnly (ended a.id) events → Hands [] a c events × LeadsByEnd (parted (is_clear c.queue)) a c events
+    → HandsToHub [] a b events × IsOnly (ended a.id) events → HandsToHub [] a c events × LeadsByEnd (parted (is_clear c.queue)) a c events
 hands_parted a b c events id transport marks held queue stage (hands, only) = (
   hands_closed a b c [] events id transport marks held queue (ap is_open stage ∙ parted_closed (is_clear b.queue)) hands,
   (only, stage ∙ ap (λ q. parted (is_clear q)) (sym queue)),
 )
 
-pub failed_is : (sending : Sent) → has_failed sending ≡ true → sending ≡ sents.Failed
+pub failed_is : (sending : Sent) → sending_failed sending ≡ true → sending ≡ sents.Failed
 failed_is sents.Nothing failed = cc
 failed_is sents.Interrupted failed = cc
 failed_is sents.Some failed = cc
 failed_is sents.Failed failed = refl
 
-pub well_isnt : (sending : Sent) → has_failed sending ≡ false → sending ≢ sents.Failed
-well_isnt sending well is = let never : true ≡ false = ap has_failed (sym is) ∙ well in cc
+pub well_isnt : (sending : Sent) → sending_failed sending ≡ false → sending ≢ sents.Failed
+well_isnt sending well is = let never : true ≡ false = ap sending_failed (sym is) ∙ well in cc
 
 -- where nothing was done, nothing came
 pub nothing_came : (sending : Sent) (reading : Received) → has_moved sending reading ≡ false → reading ≡ receiveds.Nothing

@@ -8,9 +8,9 @@ use Rattle.dict_connection.specs.declared.stage.Stage.{Stage}
 use Rattle.dict_connection.specs.declared.stage.Stage.TheVariants as stages
 
 -- the calls before, where they are known, and these behind them
-abbrev pub behind : Option (List Call) → List Call → Option (List Call)
-behind None calls = None
-behind (Some before) calls = Some (before ++ calls)
+abbrev pub calls_behind : Option (List Call) → List Call → Option (List Call)
+calls_behind None calls = None
+calls_behind (Some before) calls = Some (before ++ calls)
 
 -- a sending is made where something waits
 abbrev pub sendings : Bool → Sent → List Call
@@ -18,16 +18,16 @@ sendings true sent = []
 sendings false sent = sends sent ∷ []
 
 -- a reading is made where one may give something, into a room of 4,096 octets
-abbrev pub readings : Bool → Received → List Call
-readings false received = []
-readings true received = receives 4096 received ∷ []
+abbrev pub reading_calls : Bool → Received → List Call
+reading_calls false received = []
+reading_calls true received = receives 4096 received ∷ []
 
 -- the calls of a turn: a sending where something waits, and where it didn't fail a reading where one is to be made
 abbrev pub calls_of_turn : Bool → Bool → Sent → Received → List Call
 calls_of_turn is_clear may_read sents.Failed received = sendings is_clear sents.Failed
-calls_of_turn is_clear may_read sents.Nothing received = sendings is_clear sents.Nothing ++ readings may_read received
-calls_of_turn is_clear may_read sents.Interrupted received = sendings is_clear sents.Interrupted ++ readings may_read received
-calls_of_turn is_clear may_read sents.Some received = sendings is_clear sents.Some ++ readings may_read received
+calls_of_turn is_clear may_read sents.Nothing received = sendings is_clear sents.Nothing ++ reading_calls may_read received
+calls_of_turn is_clear may_read sents.Interrupted received = sendings is_clear sents.Interrupted ++ reading_calls may_read received
+calls_of_turn is_clear may_read sents.Some received = sendings is_clear sents.Some ++ reading_calls may_read received
 
 -- a turn did something, or is to be had again at once: where something was held before; or else the sending or the reading tells so
 abbrev pub has_turned : Bool → Sent → Received → Bool

@@ -3,7 +3,7 @@ use Rattle.std.specs.Prelude.{◌≡◌, ℕ, false, List, [], ◌∷◌, Option
 use Rattle.dict_session.specs.Desks.{Condition}
 use Rattle.dict_hub.specs.Events.{is_of_editor}
 use Rattle.dict_hub.specs.Holding.{Holding}
-use Rattle.dict_hub.specs.Hubs.{Has}
+use Rattle.dict_hub.specs.Hubs.{HasHolding}
 use Rattle.dict_hub.specs.Runs.{Accepted}
 use Rattle.dict_hub.specs.declared.fault.HubFault.{HubFault}
 use Rattle.dict_hub.specs.declared.hub.Hub.{Hub}
@@ -36,7 +36,7 @@ pub record AreCausedBy {T : Type 0} (desk : Condition) (old new : Connection T) 
 
 -- a hub has of the connection of this id what another has
 abbrev pub KeepsOne : ℕ → Hub → Hub → Type 0
-KeepsOne id old new = (held : Option Holding) → Has old id held → Has new id held
+KeepsOne id old new = (held : Option Holding) → HasHolding old id held → HasHolding new id held
 
 -- octets of the connection of this id and kind were refused by a hub that had of it what this one has, for a cause of which the hub's
 -- fault is one

@@ -24,6 +24,6 @@ pieces_of [] = []
 pieces_of (one ∷ events) = piece_of one.what ++ pieces_of events
 
 -- each is an event of the connection of this id
-abbrev pub AreOf : ℕ → List Accepted → Type 0
-AreOf id [] = Unit {0}
-AreOf id (one ∷ events) = (id_of one.what ≡ id) × AreOf id events
+abbrev pub AreEventsOf : ℕ → List Accepted → Type 0
+AreEventsOf id [] = Unit {0}
+AreEventsOf id (one ∷ events) = (id_of one.what ≡ id) × AreEventsOf id events

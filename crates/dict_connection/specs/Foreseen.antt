@@ -6,7 +6,7 @@ use Rattle.dict_http.specs.Foreseeing.{AsksForChange}
 use Rattle.dict_hub.specs.Events.{Happening, opened, came, ended, is_of_editor}
 use Rattle.dict_hub.specs.Foreseen.{AreForeseen, MakeCommand}
 use Rattle.dict_hub.specs.Holding.{Holding}
-use Rattle.dict_hub.specs.Hubs.{Has}
+use Rattle.dict_hub.specs.Hubs.{HasHolding}
 use Rattle.dict_hub.specs.Runs.{Accepted}
 use Rattle.dict_hub.specs.declared.hub.Hub.{Hub}
 use Rattle.dict_hub.specs.declared.kind.Kind.{Kind}
@@ -17,11 +17,11 @@ use Rattle.dict_connection.specs.declared.held.Held.{Held}
 
 -- behind what the hub has of the connection of this id, these octets make a change whole, and this desk was told of it last
 abbrev pub AreToldOf : {K : Type 0} → (K → Expected → K → Type 0) → Hub → ℕ → List ℕ → K → Type 0
-AreToldOf expects hub id octets desk = (held : Option Holding) → Has hub id held → AreForeseen expects AsksForChange held octets desk
+AreToldOf expects hub id octets desk = (held : Option Holding) → HasHolding hub id held → AreForeseen expects AsksForChange held octets desk
 
 -- behind that they make a command whole: a request that changes the catalogue
 abbrev pub AreCommand : Hub → ℕ → List ℕ → Type 0
-AreCommand hub id octets = (held : Option Holding) → Has hub id held → MakeCommand held octets
+AreCommand hub id octets = (held : Option Holding) → HasHolding hub id held → MakeCommand held octets
 
 -- for how many turns more they may be held back, once they were for this one: as many where they wait for another connection's command,
 -- and else fewer
@@ -34,14 +34,14 @@ module _ {K : Type 0} (expects : K → Expected → K → Type 0) (prepares : K 
   -- make one whole, and the desk was asked nothing. Else, where it was told of them before (`told`), all that it was asked is to prepare a
   -- part, and there is more to prepare; and where it wasn't, this was asked of it as it was told of what they make whole, behind which
   -- nothing else was
-  abbrev pub HoldsBy : Bool → Bool → Hub → K → K → ℕ → List ℕ → Type 0
-  HoldsBy true told hub old new id octets = (new ≡ old) × AreCommand hub id octets
-  HoldsBy false true hub old new id octets = prepares old (Ok true) new
-  HoldsBy false false hub old new id octets = (told : K) × AreToldOf expects hub id octets told × prepares told (Ok true) new
+  abbrev pub HoldsBackBy : Bool → Bool → Hub → K → K → ℕ → List ℕ → Type 0
+  HoldsBackBy true told hub old new id octets = (new ≡ old) × AreCommand hub id octets
+  HoldsBackBy false true hub old new id octets = prepares old (Ok true) new
+  HoldsBackBy false false hub old new id octets = (told : K) × AreToldOf expects hub id octets told × prepares told (Ok true) new
 
   -- the same of what is held, with how many turns are left for it and for how many it is held back, by what these were before
   pub record HoldsStill (behind told : Bool) (left turns : ℕ) (hub : Hub) (old new : K) (id : ℕ) (held : Held) : Type 0 where
-    pub by : HoldsBy behind told hub old new id (held_in held)
+    pub by : HoldsBackBy behind told hub old new id (held_in held)
     pub left_over : AreLeft behind (turns_for told left) (turns_for (are_told held) held.turns_left)
     pub counted : held.waited ≡ min (turns + 1) (2 ^ 64 - 1)
 
@@ -53,7 +53,7 @@ module _ {K : Type 0} (expects : K → Expected → K → Type 0) (prepares : K 
 -- the event makes no command whole, behind what this hub has of its connection
 abbrev pub IsNoCommand : Hub → Happening → Type 0
 IsNoCommand hub (opened id kind) = ⊤
-IsNoCommand hub (came id octets) = (held : Option Holding) → Has hub id held → ¬ MakeCommand held octets
+IsNoCommand hub (came id octets) = (held : Option Holding) → HasHolding hub id held → ¬ MakeCommand held octets
 IsNoCommand hub (ended id) = ⊤
 
 -- so it is of each

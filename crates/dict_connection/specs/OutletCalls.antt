@@ -48,16 +48,16 @@ pub data Call : Type 0 where
   ends : Bool → Call
 
 -- these calls were made after those before, where the calls are known
-abbrev pub Makes : Option (List Call) → Option (List Call) → List Call → Type 0
-Makes None new calls = ⊤
-Makes (Some before) new calls = new ≡ Some (before ++ calls)
+abbrev pub MakesCalls : Option (List Call) → Option (List Call) → List Call → Type 0
+MakesCalls None new calls = ⊤
+MakesCalls (Some before) new calls = new ≡ Some (before ++ calls)
 
 -- the transport failed
-abbrev pub has_failed : Sent → Bool
-has_failed sents.Nothing = false
-has_failed sents.Interrupted = false
-has_failed sents.Some = false
-has_failed sents.Failed = true
+abbrev pub sending_failed : Sent → Bool
+sending_failed sents.Nothing = false
+sending_failed sents.Interrupted = false
+sending_failed sents.Some = false
+sending_failed sents.Failed = true
 
 -- no octet was taken
 abbrev pub is_vain : Sent → Bool

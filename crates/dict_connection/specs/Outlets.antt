@@ -2,7 +2,7 @@
 use Rattle.std.specs.Prelude.{◌≡◌, ◌≢◌, ◌≤◌, ◌<◌, ◌+◌, ◌⊎◌, ℕ, Bool, true, false, not, ◌&&◌, All, List, [], ◌∷◌, ◌++◌, take, drop, length, Option, None, Some, vec_capacity}
 use Rattle.std.specs.Io.KnownBytes.{Appends, Keeps}
 use Rattle.dict_proto.specs.Streams.{Stream}
-use Rattle.dict_connection.specs.OutletCalls.{Call, Makes, sends, receives, ends, has_failed, is_vain}
+use Rattle.dict_connection.specs.OutletCalls.{Call, MakesCalls, sends, receives, ends, sending_failed, is_vain}
 use Rattle.dict_connection.specs.Queues.{waiting, counts_of}
 use Rattle.dict_connection.specs.declared.queue.Queue.{Queue}
 use Rattle.dict_connection.specs.declared.calls.Sent.{Sent}
@@ -22,8 +22,8 @@ is_sending (receives room received) = false
 is_sending (ends is_told) = false
 
 -- these octets came behind those before, where they are known
-abbrev pub HasTaken : Option (List ℕ) → Option (List ℕ) → List ℕ → Type 0
-HasTaken old new octets = (before : List ℕ) → old ≡ Some before → new ≡ Some (before ++ octets)
+abbrev pub HasTakenOctets : Option (List ℕ) → Option (List ℕ) → List ℕ → Type 0
+HasTakenOctets old new octets = (before : List ℕ) → old ≡ Some before → new ≡ Some (before ++ octets)
 
 -- sendings were made after the calls before, and no other calls, where the calls are known
 abbrev pub MakesSendings : Option (List Call) → Option (List Call) → Type 0
@@ -32,7 +32,7 @@ MakesSendings old new = (before : List Call) → old ≡ Some before
 
 -- a sending that didn't fail
 abbrev pub is_well : Call → Bool
-is_well (sends sent) = not (has_failed sent)
+is_well (sends sent) = not (sending_failed sent)
 is_well (receives room received) = false
 is_well (ends is_told) = false
 
@@ -74,12 +74,12 @@ PutsSome octets taken queue now_taken now = (k : ℕ) × (k ≤ length octets) �
 
 -- What waited before and what was put: a front of it is sent, which the transport took, and the rest waits. Of the transport no more
 -- was asked than to take octets, and not even that while fewer than 1,048,576 of them were there
-pub record Passes {T : Type 0} (taken coming : T → Option (List ℕ)) (made : T → Option (List Call)) (old new : T) (before after put : List ℕ) : Type 0 where
+pub record PassesOctets {T : Type 0} (taken coming : T → Option (List ℕ)) (made : T → Option (List Call)) (old new : T) (before after put : List ℕ) : Type 0 where
   pub sent : List ℕ
   pub takes : Appends (taken old) (taken new) sent
   pub order : sent ++ after ≡ before ++ put
   pub comes : Keeps (coming old) (coming new)
   pub within : List Call
   pub sendings : All (λ call. is_sending call ≡ true) within
-  pub calls : Makes (made old) (made new) within
+  pub calls : MakesCalls (made old) (made new) within
   pub lazy : length before + length put < 1048576 → (sent ≡ []) × (within ≡ [])

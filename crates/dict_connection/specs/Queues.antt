@@ -28,12 +28,12 @@ FindNoRoom old new octets =
     ⊎ ((vec_capacity old.octets < vec_len old.octets + length octets) × (new.refused.octets ≡ old.refused.octets ++ octets))
 
 -- a queue as a sink of octets: these are known, though those of a socket aren't
-abbrev pub stream_of : Queue → Stream
-stream_of queue = record { octets = Some (waiting queue); failures = queue.failures }
+abbrev pub queue_stream : Queue → Stream
+queue_stream queue = record { octets = Some (waiting queue); failures = queue.failures }
 
 -- all of the octets wait behind what waited; or none, and what waits is the same, and one more call has failed
-abbrev pub TakesAll : {E : Type 0} → Result (Unit {0}) E → Queue → Queue → List ℕ → Type 0
-TakesAll result old new octets = MatchResult result
+abbrev pub TakesOctets : {E : Type 0} → Result (Unit {0}) E → Queue → Queue → List ℕ → Type 0
+TakesOctets result old new octets = MatchResult result
     (λ _. (waiting new ≡ waiting old ++ octets) × (new.failures ≡ old.failures))
     (λ _. (waiting new ≡ waiting old) × (old.failures < 2 ^ 64 - 1 → new.failures ≡ old.failures + 1))
 

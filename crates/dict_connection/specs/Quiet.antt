@@ -2,7 +2,7 @@
 use Rattle.std.specs.Prelude.{◌≡◌, false, List, [], ◌∷◌, Option, ⊤}
 use Rattle.dict_hub.specs.Events.{id_of, is_of_editor, IsQuiet}
 use Rattle.dict_hub.specs.Holding.{Holding}
-use Rattle.dict_hub.specs.Hubs.{Has}
+use Rattle.dict_hub.specs.Hubs.{HasHolding}
 use Rattle.dict_hub.specs.Runs.{Accepted}
 use Rattle.dict_hub.specs.declared.hub.Hub.{Hub}
 use Rattle.dict_hub.specs.declared.kind.Kind.{Kind}
@@ -10,7 +10,7 @@ use Rattle.dict_hub.specs.declared.kind.Kind.{Kind}
 -- nothing is looked up for these events, by what this hub has of the connection of each, and at the catalogue before it
 abbrev pub AreQuiet : Hub → List Accepted → Type 0
 AreQuiet hub [] = ⊤
-AreQuiet hub (one ∷ events) = ((held : Option Holding) × Has hub (id_of one.what) held × IsQuiet one.before.catalogue held one.what) × AreQuiet hub events
+AreQuiet hub (one ∷ events) = ((held : Option Holding) × HasHolding hub (id_of one.what) held × IsQuiet one.before.catalogue held one.what) × AreQuiet hub events
 
 -- where nothing is looked up for them, the desk is the same
 abbrev pub StaysIfQuiet : {K : Type 0} → Hub → K → K → List Accepted → Type 0

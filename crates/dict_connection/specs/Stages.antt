@@ -37,9 +37,9 @@ stage_of_new outs.More = Open
 stage_of_new outs.Close = Over
 
 -- the stage by the hub's answer to octets: it goes on, or it is closed once all is sent that was put
-abbrev pub answered : Out → Stage → Stage
-answered outs.More before = before
-answered outs.Close before = Closing
+abbrev pub stage_answered : Out → Stage → Stage
+stage_answered outs.More before = before
+stage_answered outs.Close before = Closing
 
 -- the stage where the peer ended its side: what waits is still sent
 abbrev pub parted : Bool → Stage
@@ -47,12 +47,12 @@ parted is_clear = if is_clear then Over else Parting
 
 -- the stage of a connection that is no longer open, for which nothing waits any more: one that the hub closed is told so, which
 -- succeeds or doesn't; and where the peer ended its side it is over
-abbrev pub finished : Stage → Bool → Stage
-finished Open is_told = Open
-finished Closing is_told = if is_told then Draining else Over
-finished Parting is_told = Over
-finished Draining is_told = Draining
-finished Over is_told = Over
+abbrev pub stage_finished : Stage → Bool → Stage
+stage_finished Open is_told = Open
+stage_finished Closing is_told = if is_told then Draining else Over
+stage_finished Parting is_told = Over
+stage_finished Draining is_told = Draining
+stage_finished Over is_told = Over
 
 -- once nothing waits for it, its stage is another
 abbrev pub is_finishing : Stage → Bool

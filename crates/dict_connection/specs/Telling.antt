@@ -2,14 +2,14 @@
 use Rattle.std.specs.Prelude.{true, ◌≡◌, ◌≢◌, ℕ, List, [], ◌∷◌, ◌++◌, Option, None, Some, Result, Ok, Err, ⊤}
 use Rattle.dict_hub.specs.Events.{Happening, opened, came, ended, is_of_editor}
 use Rattle.dict_hub.specs.Holding.{Holding}
-use Rattle.dict_hub.specs.Hubs.{Has}
+use Rattle.dict_hub.specs.Hubs.{HasHolding}
 use Rattle.dict_hub.specs.declared.fault.HubFault.{HubFault}
 use Rattle.dict_hub.specs.declared.fault.HubFault.TheVariants.{Memory}
 use Rattle.dict_hub.specs.declared.hub.Hub.{Hub}
 use Rattle.dict_hub.specs.Runs.{Accepted}
 use Rattle.dict_hub.specs.declared.incoming.Out.{Out}
 use Rattle.dict_connection.specs.OutletCalls.{Call}
-use Rattle.dict_connection.specs.Outlets.{FailsOnlyStuck, Passes}
+use Rattle.dict_connection.specs.Outlets.{FailsOnlyStuck, PassesOctets}
 use Rattle.dict_connection.specs.Queues.{waiting}
 use Rattle.dict_connection.specs.Events.{ArePut}
 use Rattle.dict_connection.specs.declared.queue.Queue.{Queue}
@@ -17,15 +17,15 @@ use Rattle.dict_connection.specs.declared.queue.Queue.{Queue}
 -- the hub may refuse octets of this connection by this fault: it has none of its id, or an editor's, whose octets take memory, and memory
 -- is wanting
 abbrev pub MayRefuse : Hub → ℕ → HubFault → Type 0
-MayRefuse hub id fault = (held : Holding) → Has hub id (Some held) → (fault ≡ Memory) × (is_of_editor held.kind ≡ true)
+MayRefuse hub id fault = (held : Holding) → HasHolding hub id (Some held) → (fault ≡ Memory) × (is_of_editor held.kind ≡ true)
 
 -- what the hub has of each connection but that of this id it has still
 abbrev pub KeepsOthers : ℕ → Hub → Hub → Type 0
-KeepsOthers id old new = (other : ℕ) (held : Option Holding) → other ≢ id → Has old other held → Has new other held
+KeepsOthers id old new = (other : ℕ) (held : Option Holding) → other ≢ id → HasHolding old other held → HasHolding new other held
 
 -- and of each
 abbrev pub KeepsEach : Hub → Hub → Type 0
-KeepsEach old new = (other : ℕ) (held : Option Holding) → Has old other held → Has new other held
+KeepsEach old new = (other : ℕ) (held : Option Holding) → HasHolding old other held → HasHolding new other held
 
 -- the answer of a hub that didn't refuse an event
 abbrev pub answer_of : Result Out HubFault → Option Out
@@ -57,5 +57,5 @@ pub record IsToldThrough {T : Type 0} (taken coming : T → Option (List ℕ)) (
   pub answered : IsAnswered what answer events
   pub put : List ℕ
   pub are_put : ArePut events put
-  pub passes : Passes taken coming made from to (waiting old) (waiting new) put
+  pub passes : PassesOctets taken coming made from to (waiting old) (waiting new) put
   pub stuck : FailsOnlyStuck (made from) (made to) old new

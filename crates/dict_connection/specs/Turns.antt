@@ -5,15 +5,15 @@ use Rattle.std.specs.Prelude.{◌≡◌, ◌⊎◌, ◌&&◌, ◌||◌, ◌<◌,
 use Rattle.std.specs.Io.KnownBytes.{Appends, Consumes, Keeps}
 use Rattle.dict_hub.specs.Events.{opened, came, ended, is_of_editor}
 use Rattle.dict_hub.specs.Holding.{left_by}
-use Rattle.dict_hub.specs.Hubs.{Has}
+use Rattle.dict_hub.specs.Hubs.{HasHolding}
 use Rattle.dict_hub.specs.Runs.{Accepted}
 use Rattle.dict_hub.specs.declared.kind.Kind.{Kind}
-use Rattle.dict_connection.specs.Outlets.{FailsOnlyStuck, Passes, is_sending}
+use Rattle.dict_connection.specs.Outlets.{FailsOnlyStuck, PassesOctets, is_sending}
 use Rattle.dict_connection.specs.Queues.{waiting, is_clear, counts_of}
-use Rattle.dict_connection.specs.Stages.{is_open, is_finishing, stage_of_new, answered, parted, finished, drained}
-use Rattle.dict_connection.specs.OutletCalls.{Call, sends, Makes, count_received, has_come}
-use Rattle.dict_connection.specs.Calls.{behind, sendings, endings, readings, is_dropped, calls_of_turn, has_departed, has_turned}
-use Rattle.dict_connection.specs.Events.{ArePut, AreOf, pieces_of}
+use Rattle.dict_connection.specs.Stages.{is_open, is_finishing, stage_of_new, stage_answered, parted, stage_finished, drained}
+use Rattle.dict_connection.specs.OutletCalls.{Call, sends, MakesCalls, count_received, has_come}
+use Rattle.dict_connection.specs.Calls.{calls_behind, sendings, endings, reading_calls, is_dropped, calls_of_turn, has_departed, has_turned}
+use Rattle.dict_connection.specs.Events.{ArePut, AreEventsOf, pieces_of}
 use Rattle.dict_connection.specs.Handing.{held_in, is_handed}
 use Rattle.dict_connection.specs.Pieces.{next_piece, behind_piece}
 use Rattle.dict_connection.specs.Ordering.{AreOfTurns, IsOnly}
@@ -36,18 +36,18 @@ abbrev pub may_read : {T : Type 0} → Connection T → Bool
 may_read one = is_handed one.held && one.may_receive
 
 -- nothing is to be done: all that was read is handed, and a reading gave nothing
-abbrev pub IsAtRest : {T : Type 0} → Connection T → Type 0
-IsAtRest one = (one.may_receive ≡ false) × (held_in one.held ≡ [])
+abbrev pub HasNothingToDo : {T : Type 0} → Connection T → Type 0
+HasNothingToDo one = (one.may_receive ≡ false) × (held_in one.held ≡ [])
 
 -- These octets were handed to the hub, or none, in events of this connection alone. What the events put waits behind what waited
 -- before, what is held is as before, no more calls have failed, and the transport was asked nothing
-pub record Hands {T : Type 0} (octets : List ℕ) (old new : Connection T) (events : List Accepted) : Type 0 where
+pub record HandsToHub {T : Type 0} (octets : List ℕ) (old new : Connection T) (events : List Accepted) : Type 0 where
   pub id : new.id ≡ old.id
   pub transport : new.transport ≡ old.transport
   pub may_receive : new.may_receive ≡ old.may_receive
   pub held : new.held ≡ old.held
   pub was_open : is_open new.stage ≡ true → is_open old.stage ≡ true
-  pub own : AreOf old.id events
+  pub own : AreEventsOf old.id events
   pub are_turns : AreOfTurns events
   pub put : List ℕ
   pub are_put : ArePut events put
@@ -65,11 +65,11 @@ pub record HandsOver {T : Type 0} (taken coming : T → Option (List ℕ)) (made
   pub may_receive : new.may_receive ≡ old.may_receive
   pub kind : new.held.kind ≡ old.held.kind
   pub was_open : is_open new.stage ≡ true → is_open old.stage ≡ true
-  pub own : AreOf old.id events
+  pub own : AreEventsOf old.id events
   pub are_turns : AreOfTurns events
   pub put : List ℕ
   pub are_put : ArePut events put
-  pub passes : Passes taken coming made old.transport new.transport (waiting old.queue) (waiting new.queue) put
+  pub passes : PassesOctets taken coming made old.transport new.transport (waiting old.queue) (waiting new.queue) put
   pub stuck : FailsOnlyStuck (made old.transport) (made new.transport) old.queue new.queue
   pub pieces : BringAllOrNone (next_piece old.held.kind octets) events
   pub handed : is_open new.stage ≡ true → pieces_of events ++ held_in new.held ≡ octets
@@ -79,7 +79,7 @@ pub record HandsOver {T : Type 0} (taken coming : T → Option (List ℕ)) (made
 abbrev pub LeadsByAnswer : {T : Type 0} → (ℕ → Kind → Type 0) → List ℕ → Connection T → Connection T → List Accepted → Type 0
 LeadsByAnswer refused octets old new events =
     ((one : Accepted) × (events ≡ one ∷ []) × (one.what ≡ came old.id (next_piece old.held.kind octets)) × (held_in new.held ≡ behind_piece old.held.kind octets)
-    × (new.stage ≡ answered one.out old.stage))
+    × (new.stage ≡ stage_answered one.out old.stage))
     ⊎ (refused old.id old.held.kind × IsOnly (ended old.id) events × (new.stage ≡ stages.Over))
 
 -- the hub was told nothing, and these octets of an editor are held back
@@ -134,7 +134,7 @@ pub record SendsOnce {T : Type 0} (taken coming : T → Option (List ℕ)) (made
   pub takes : Appends (taken old.transport) (taken new.transport) sent
   pub order : sent ++ waiting new.queue ≡ waiting old.queue
   pub comes : Keeps (coming old.transport) (coming new.transport)
-  pub calls : Makes (made old.transport) (made new.transport) (sendings (is_clear old.queue) sending)
+  pub calls : MakesCalls (made old.transport) (made new.transport) (sendings (is_clear old.queue) sending)
   pub idle : is_clear old.queue ≡ true → sending ≡ sents.Nothing
 
 -- Of what came, by one call where a reading may give something, the first piece was handed to the hub, or none, and the rest is held
@@ -145,7 +145,7 @@ pub record ReadsOnce {T : Type 0} (taken coming : T → Option (List ℕ)) (made
   pub id : new.id ≡ old.id
   pub kind : new.held.kind ≡ old.held.kind
   pub was_open : is_open new.stage ≡ true → is_open old.stage ≡ true
-  pub own : AreOf old.id events
+  pub own : AreEventsOf old.id events
   pub are_turns : AreOfTurns events
   pub sent : List ℕ
   pub takes : Appends (taken old.transport) (taken new.transport) sent
@@ -158,8 +158,8 @@ pub record ReadsOnce {T : Type 0} (taken coming : T → Option (List ℕ)) (made
   pub handed : is_open new.stage ≡ true → pieces_of events ++ held_in new.held ≡ received
   pub within : List Call
   pub sendings : All (λ call. is_sending call ≡ true) within
-  pub calls : Makes (made old.transport) (made new.transport) (readings old.may_receive reading ++ within)
-  pub stuck : FailsOnlyStuck (behind (made old.transport) (readings old.may_receive reading)) (made new.transport) old.queue new.queue
+  pub calls : MakesCalls (made old.transport) (made new.transport) (reading_calls old.may_receive reading ++ within)
+  pub stuck : FailsOnlyStuck (calls_behind (made old.transport) (reading_calls old.may_receive reading)) (made new.transport) old.queue new.queue
   pub lazy : length (waiting old.queue) + length put < 1048576 → (sent ≡ []) × (within ≡ [])
   pub unmarked : old.may_receive ≡ false → reading ≡ receiveds.Nothing
   pub leads : LeadsByReading refused reading received old new events
@@ -175,7 +175,7 @@ pub record Turns {T : Type 0} (taken coming : T → Option (List ℕ)) (made : T
   pub id : new.id ≡ old.id
   pub kind : new.held.kind ≡ old.held.kind
   pub was_open : is_open new.stage ≡ true → is_open old.stage ≡ true
-  pub own : AreOf old.id events
+  pub own : AreEventsOf old.id events
   pub are_turns : AreOfTurns events
   pub sent : List ℕ
   pub takes : Appends (taken old.transport) (taken new.transport) sent
@@ -190,8 +190,8 @@ pub record Turns {T : Type 0} (taken coming : T → Option (List ℕ)) (made : T
   pub reading : Received
   pub within : List Call
   pub sendings : All (λ call. is_sending call ≡ true) within
-  pub calls : Makes (made old.transport) (made new.transport) (calls_of_turn (is_clear old.queue) (may_read old) sending reading ++ within)
-  pub stuck : FailsOnlyStuck (behind (made old.transport) (calls_of_turn (is_clear old.queue) (may_read old) sending reading)) (made new.transport) old.queue new.queue
+  pub calls : MakesCalls (made old.transport) (made new.transport) (calls_of_turn (is_clear old.queue) (may_read old) sending reading ++ within)
+  pub stuck : FailsOnlyStuck (calls_behind (made old.transport) (calls_of_turn (is_clear old.queue) (may_read old) sending reading)) (made new.transport) old.queue new.queue
   pub lazy : length (waiting old.queue) + length put < 1048576 → within ≡ []
   pub idle : is_clear old.queue ≡ true → sending ≡ sents.Nothing
   pub unmarked : may_read old ≡ false → reading ≡ receiveds.Nothing
@@ -202,11 +202,11 @@ pub record Turns {T : Type 0} (taken coming : T → Option (List ℕ)) (made : T
 -- unless it is closed; what the event put waits, and the failures that it tells are those that its queue counts
 abbrev pub IsOpened : {T : Type 0} → ℕ → Kind → Hub → Connection T → List Accepted → Type 0
 IsOpened id kind hub one events = (accepted : Accepted) × (events ≡ accepted ∷ []) × (accepted.what ≡ opened id kind) × (one.stage ≡ stage_of_new accepted.out)
-    × Has hub id (left_by kind [] accepted.out) × ArePut events (waiting one.queue) × CountOn 0 one.queue.failures events
+    × HasHolding hub id (left_by kind [] accepted.out) × ArePut events (waiting one.queue) × CountOn 0 one.queue.failures events
 
 -- the stage once nothing waits, and before that the same
 abbrev pub stage_between : Bool → Stage → Bool → Stage
-stage_between is_clear before is_told = if is_clear then finished before is_told else before
+stage_between is_clear before is_told = if is_clear then stage_finished before is_told else before
 
 -- the stage after a reading of what is dropped, where one is made
 abbrev pub stage_drained : Bool → ℕ → Received → Stage → Stage
@@ -226,7 +226,7 @@ marked_after true receiveds.End before = true
 marked_after true receiveds.Failed before = true
 
 -- once nothing waits, the peer of one that the hub closed is told so
-pub record Finishes {T : Type 0} (taken coming : T → Option (List ℕ)) (made : T → Option (List Call)) (old new : Connection T) (moved : Bool) : Type 0 where
+pub record TellsClosedPeer {T : Type 0} (taken coming : T → Option (List ℕ)) (made : T → Option (List Call)) (old new : Connection T) (moved : Bool) : Type 0 where
   pub id : new.id ≡ old.id
   pub queue : new.queue ≡ old.queue
   pub may_receive : new.may_receive ≡ old.may_receive
@@ -234,7 +234,7 @@ pub record Finishes {T : Type 0} (taken coming : T → Option (List ℕ)) (made 
   pub takes : Keeps (taken old.transport) (taken new.transport)
   pub comes : Keeps (coming old.transport) (coming new.transport)
   pub is_told : Bool
-  pub calls : Makes (made old.transport) (made new.transport) (endings (is_clear old.queue) old.stage is_told)
+  pub calls : MakesCalls (made old.transport) (made new.transport) (endings (is_clear old.queue) old.stage is_told)
   pub stage : new.stage ≡ stage_between (is_clear old.queue) old.stage is_told
   pub has_moved : moved ≡ (is_clear old.queue && is_finishing old.stage)
 
@@ -246,7 +246,7 @@ pub record Drains {T : Type 0} (taken coming : T → Option (List ℕ)) (made : 
   pub received : List ℕ
   pub gives : Consumes (coming old.transport) (coming new.transport) received
   pub reading : Received
-  pub calls : Makes (made old.transport) (made new.transport) (readings (is_dropped old.stage old.may_receive) reading)
+  pub calls : MakesCalls (made old.transport) (made new.transport) (reading_calls (is_dropped old.stage old.may_receive) reading)
   pub stage : new.stage ≡ stage_drained (is_dropped old.stage old.may_receive) (84_934_656 - old.dropped) reading old.stage
   pub dropped : new.dropped ≡ dropped_after (is_dropped old.stage old.may_receive) reading old.dropped
   pub may_receive : new.may_receive ≡ marked_after (is_dropped old.stage old.may_receive) reading old.may_receive
@@ -257,13 +257,13 @@ abbrev pub LeadsOut : {T : Type 0} → (T → Option (List Call)) → Sent → B
 LeadsOut made sending is_told reading old new =
     let between = stage_between (is_clear new.queue) old.stage is_told in
     let is_read = is_dropped between old.may_receive in
-    Makes (made old.transport) (made new.transport) (sendings (is_clear old.queue) sending ++ (endings (is_clear new.queue) old.stage is_told ++ readings is_read reading))
+    MakesCalls (made old.transport) (made new.transport) (sendings (is_clear old.queue) sending ++ (endings (is_clear new.queue) old.stage is_told ++ reading_calls is_read reading))
     × (new.stage ≡ stage_drained is_read (84_934_656 - old.dropped) reading between) × (new.dropped ≡ dropped_after is_read reading old.dropped)
     × (new.may_receive ≡ marked_after is_read reading old.may_receive)
 
 -- the same, where the sending may have failed
 abbrev pub LeadsAway : {T : Type 0} → (T → Option (List Call)) → Sent → Bool → Received → Connection T → Connection T → Type 0
-LeadsAway made sents.Failed is_told reading old new = Makes (made old.transport) (made new.transport) (sends sents.Failed ∷ []) × (new.stage ≡ stages.Over)
+LeadsAway made sents.Failed is_told reading old new = MakesCalls (made old.transport) (made new.transport) (sends sents.Failed ∷ []) × (new.stage ≡ stages.Over)
 LeadsAway made sents.Nothing is_told reading old new = LeadsOut made sents.Nothing is_told reading old new
 LeadsAway made sents.Interrupted is_told reading old new = LeadsOut made sents.Interrupted is_told reading old new
 LeadsAway made sents.Some is_told reading old new = LeadsOut made sents.Some is_told reading old new

@@ -33,11 +33,11 @@ pub enum Received {
 }
 
 impl Sent {
-    ghost use Rattle.dict_connection.specs.OutletCalls.{has_failed, is_vain};
+    ghost use Rattle.dict_connection.specs.OutletCalls.{sending_failed, is_vain};
 
     /// Whether the transport failed.
     pub fn has_failed(self) -> bool
-        ensures { result ≡ has_failed self }
+        ensures { result ≡ sending_failed self }
     {
         match self {
             Sent::Nothing | Sent::Interrupted | Sent::Some => false,

@@ -6,7 +6,7 @@ ghost use Rattle.dict_connection.specs.Leading.{HasLedOn};
 ghost use Rattle.dict_hub.specs.Events.{opened, came, ended, is_of_editor};
 ghost use Rattle.dict_hub.specs.Runs.{Accepted, IsAt, State};
 ghost use Rattle.dict_catalogue.specs.Steps.{Catalogue};
-ghost use Rattle.dict_connection.specs.OutletCalls.{Makes, receives, count_received};
+ghost use Rattle.dict_connection.specs.OutletCalls.{MakesCalls, receives, count_received};
 ghost use Rattle.dict_connection.specs.Stages.{is_open, parted, stage_of_new};
 
 use crate::calls::{Received, Sent, has_moved, received_by, sent_by};
@@ -44,11 +44,11 @@ impl<T: Transport> Connection<T> {
     ghost use Rattle.dict_connection.specs.Handing.{held_for, held_in, is_held_back};
     ghost use Rattle.dict_connection.specs.Causes.{AreCausedBy, IsRefused};
     ghost use Rattle.dict_connection.specs.Foreseen.{AreCommand, AreToldOf, HoldsBack, HoldsStill, IsNoCommand, KeepsOrder};
-    ghost use Rattle.dict_connection.specs.Opening.{IsUnopened};
+    ghost use Rattle.dict_connection.specs.Opening.{IsConnectionUnopened};
     ghost use Rattle.dict_connection.specs.Pieces.{behind_piece};
     ghost use Rattle.dict_connection.specs.Quiet.{StaysForReader};
     ghost use Rattle.dict_connection.specs.Telling.{KeepsEach, KeepsOthers};
-    ghost use Rattle.dict_connection.specs.Turns.{Departs, Drains, Finishes, Hands, HandsOver, IsAtRest, IsOpened, LeadsByAnswer, LeadsByEnd, LeadsByPiece, ReadsOnce, SendsOnce, Turns, marked};
+    ghost use Rattle.dict_connection.specs.Turns.{Departs, Drains, TellsClosedPeer, HandsToHub, HandsOver, HasNothingToDo, IsOpened, LeadsByAnswer, LeadsByEnd, LeadsByPiece, ReadsOnce, SendsOnce, Turns, marked};
     ghost use Rattle.dict_connection.specs.Ordering.{IsOnly};
 
     /// Tells the hub of a new connection. `None` where the hub refused it, or there is no memory for what is read.
@@ -66,7 +66,7 @@ impl<T: Transport> Connection<T> {
         ensures trust { K.is_trusted desk.new → K.is_trusted desk.old }
         ensures others { KeepsOthers id hub.old hub.new }
         ensures unasked { desk.new ≡ desk.old }
-        ensures unopened { MatchOption result (IsUnopened O.refuses hub.old id kind × KeepsEach hub.old hub.new) (λ _. ⊤) }
+        ensures unopened { MatchOption result (IsConnectionUnopened O.refuses hub.old id kind × KeepsEach hub.old hub.new) (λ _. ⊤) }
         ensures id { IfSome result (λ one. one.id ≡ id) }
         ensures transport { IfSome result (λ one. one.transport ≡ transport) }
         ensures may_receive { IfSome result (λ one. one.may_receive ≡ true) }
@@ -171,7 +171,7 @@ impl<T: Transport> Connection<T> {
         ensures closed { K.is_closed desk.old ≡ true → K.is_closed desk.new ≡ true }
         ensures others { KeepsOthers self.old.id hub.old hub.new }
         ensures id { self.new.id ≡ self.old.id }
-        ensures idle { result ≡ false → IsAtRest self.new }
+        ensures idle { result ≡ false → HasNothingToDo self.new }
     {
         let sent = self.send();
         if sent.has_failed() {
@@ -218,7 +218,7 @@ impl<T: Transport> Connection<T> {
         ensures gives { Consumes (T.coming self.old.transport) (T.coming self.new.transport) (take (count_received result) room.new) }
         ensures taken { Keeps (T.taken self.old.transport) (T.taken self.new.transport) }
         ensures same { self.new ≡ record self.old { transport = self.new.transport } }
-        ensures made { Makes (T.made self.old.transport) (T.made self.new.transport) (receives 4096 result ∷ []) }
+        ensures made { MakesCalls (T.made self.old.transport) (T.made self.new.transport) (receives 4096 result ∷ []) }
     {
         received_by(&self.transport.receive(room))
     }
@@ -242,7 +242,7 @@ impl<T: Transport> Connection<T> {
         ensures closed { K.is_closed desk.old ≡ true → K.is_closed desk.new ≡ true }
         ensures others { KeepsOthers self.old.id hub.old hub.new }
         ensures id { self.new.id ≡ self.old.id }
-        ensures idle { result ≡ Received.Nothing → IsAtRest self.new }
+        ensures idle { result ≡ Received.Nothing → HasNothingToDo self.new }
     {
         if !self.may_receive {
             return Received::Nothing;
@@ -430,7 +430,7 @@ impl<T: Transport> Connection<T> {
     // The peer ended its side. What waits is still sent.
     fn end_input<K: Preparer>(&mut self, hub: &mut Hub, desk: &mut K)
         ensures led { HasLedOn (K.is_trusted desk.new) (K.shows desk.old) (K.leaves_one_of desk.old) (K.shows desk.new) (K.leaves_one_of desk.new) hub.old hub.new
-            (λ events. Hands [] self.old self.new events × LeadsByEnd (parted (is_clear self.new.queue)) self.old self.new events
+            (λ events. HandsToHub [] self.old self.new events × LeadsByEnd (parted (is_clear self.new.queue)) self.old self.new events
             × AreCausedBy (condition K.has_failed K.is_closed desk.new) self.old self.new events) }
         ensures held { self.new.held ≡ self.old.held }
         ensures trust { K.is_trusted desk.new → K.is_trusted desk.old }
@@ -446,7 +446,7 @@ impl<T: Transport> Connection<T> {
     // Nothing more comes, and nothing more is sent.
     fn end<K: Preparer>(&mut self, hub: &mut Hub, desk: &mut K)
         ensures led { HasLedOn (K.is_trusted desk.new) (K.shows desk.old) (K.leaves_one_of desk.old) (K.shows desk.new) (K.leaves_one_of desk.new) hub.old hub.new
-            (λ events. Hands [] self.old self.new events × IsOnly (ended self.old.id) events × AreCausedBy (condition K.has_failed K.is_closed desk.new) self.old self.new events) }
+            (λ events. HandsToHub [] self.old self.new events × IsOnly (ended self.old.id) events × AreCausedBy (condition K.has_failed K.is_closed desk.new) self.old self.new events) }
         ensures trust { K.is_trusted desk.new → K.is_trusted desk.old }
         ensures closed { K.is_closed desk.old ≡ true → K.is_closed desk.new ≡ true }
         ensures unasked { desk.new ≡ desk.old }
@@ -461,7 +461,7 @@ impl<T: Transport> Connection<T> {
 
     // Once nothing waits: it is over where the peer ended its side, and else the peer is told that nothing more is sent.
     fn finish(&mut self) -> bool
-        ensures { Finishes T.taken T.coming T.made self.old self.new result }
+        ensures { TellsClosedPeer T.taken T.coming T.made self.old self.new result }
     {
         if !self.queue.is_empty() {
             return false;

@@ -5,7 +5,7 @@ ghost use Rattle.dict_session.specs.Desks.{condition};
 ghost use Rattle.dict_proto.specs.Streams.{change};
 ghost use Rattle.dict_hub.specs.Events.{came, IsQuiet};
 ghost use Rattle.dict_hub.specs.Holding.{Holding};
-ghost use Rattle.dict_hub.specs.Hubs.{Has};
+ghost use Rattle.dict_hub.specs.Hubs.{HasHolding};
 ghost use Rattle.dict_hub.specs.Runs.{State, Standing, Accepted, IsAt, Leads, LeadsOn};
 ghost use Rattle.dict_connection.specs.Causes.{AreCaused};
 ghost use Rattle.dict_connection.specs.Leading.{HasLedOn};
@@ -65,7 +65,7 @@ pub trait Opening {
         ensures trust { K.is_trusted desk.new → K.is_trusted desk.old }
         ensures closed { K.is_closed desk.old ≡ true → K.is_closed desk.new ≡ true }
         ensures others { KeepsOthers id hub.old hub.new }
-        ensures quiet { K.is_trusted desk.new → (M : Catalogue) → K.shows desk.old M → (held : Option Holding) → Has hub.old id held → IsQuiet M held (came id piece.now) → desk.new ≡ desk.old }
+        ensures quiet { K.is_trusted desk.new → (M : Catalogue) → K.shows desk.old M → (held : Option Holding) → HasHolding hub.old id held → IsQuiet M held (came id piece.now) → desk.new ≡ desk.old }
         ensures state { OnErr result ((state : State) → IsAt hub.old state → IsAt hub.new state) }
         ensures desk { OnErr result (desk.new ≡ desk.old) }
         ensures sink { OnErr result (sink.new ≡ sink.old) }
@@ -108,7 +108,7 @@ pub fn hand_by_hub<K: Preparer, S: Sink>(
     ensures trust { K.is_trusted desk.new → K.is_trusted desk.old }
     ensures closed { K.is_closed desk.old ≡ true → K.is_closed desk.new ≡ true }
     ensures others { KeepsOthers id hub.old hub.new }
-    ensures quiet { K.is_trusted desk.new → (M : Catalogue) → K.shows desk.old M → (held : Option Holding) → Has hub.old id held → IsQuiet M held (came id piece.now) → desk.new ≡ desk.old }
+    ensures quiet { K.is_trusted desk.new → (M : Catalogue) → K.shows desk.old M → (held : Option Holding) → HasHolding hub.old id held → IsQuiet M held (came id piece.now) → desk.new ≡ desk.old }
     ensures state { OnErr result ((state : State) → IsAt hub.old state → IsAt hub.new state) }
     ensures desk { OnErr result (desk.new ≡ desk.old) }
     ensures sink { OnErr result (sink.new ≡ sink.old) }

@@ -1,7 +1,7 @@
 // What an event puts, and what its connection's transport takes of it at once.
 ghost use Rattle.std.specs.Prelude.{◌≡◌, ◌+◌, ◌<◌, ◌≤◌, ℕ, List, Option, [], None, length, true, false};
 ghost use Rattle.dict_connection.specs.OutletCalls.{Call};
-ghost use Rattle.dict_connection.specs.Outlets.{Follow, HasTaken, IsStuck, MakesSendings, are_well};
+ghost use Rattle.dict_connection.specs.Outlets.{Follow, HasTakenOctets, IsStuck, MakesSendings, are_well};
 ghost use Rattle.dict_connection.specs.Queues.{Counts, counts_of, waiting};
 
 use crate::calls::{Sent, sent_by};
@@ -64,8 +64,8 @@ pub struct Outlet<T: Transport, B: Beginning> {
     // A call of `put` failed since the event began.
     has_failed: bool,
     of: PhantomData<B>,
-    ghost takes: { HasTaken B.taken (T.taken transport) taken.octets },
-    ghost keeps: { HasTaken B.coming (T.coming transport) [] },
+    ghost takes: { HasTakenOctets B.taken (T.taken transport) taken.octets },
+    ghost keeps: { HasTakenOctets B.coming (T.coming transport) [] },
     ghost makes: { MakesSendings B.made (T.made transport) },
     ghost asks: { has_failed ≡ false → Follow are_well B.made (T.made transport) },
     ghost stuck: { has_failed ≡ true → IsStuck B.made (T.made transport) B.counts.refused queue },
@@ -76,7 +76,7 @@ pub struct Outlet<T: Transport, B: Beginning> {
 
 impl<T: Transport, B: Beginning> Outlet<T, B> {
     ghost use Rattle.std.specs.Prelude.{◌++◌, ◌∷◌, ◌⊎◌, ◌^◌, ◌-◌, MatchResult, OnOk, OnErr, vec_len, vec_capacity, not};
-    ghost use Rattle.dict_connection.specs.OutletCalls.{Makes, has_failed, is_vain, sends};
+    ghost use Rattle.dict_connection.specs.OutletCalls.{MakesCalls, sending_failed, is_vain, sends};
     ghost use Rattle.dict_connection.specs.Outlets.{carried, PutsSome};
 
     /// An event begins.
@@ -189,9 +189,9 @@ impl<T: Transport, B: Beginning> Outlet<T, B> {
         ensures carried { carried self.new.taken self.new.queue ≡ carried self.old.taken self.old.queue }
         ensures took { is_vain result ≡ false → length (waiting self.new.queue) < 1048576 }
         ensures none { is_vain result ≡ true → waiting self.new.queue ≡ waiting self.old.queue }
-        ensures failed { self.new.has_failed ≡ has_failed result }
+        ensures failed { self.new.has_failed ≡ sending_failed result }
         ensures refused { self.new.queue.refused ≡ self.old.queue.refused }
-        ensures made { Makes (T.made self.old.transport) (T.made self.new.transport) (sends result ∷ []) }
+        ensures made { MakesCalls (T.made self.old.transport) (T.made self.new.transport) (sends result ∷ []) }
         ensures failures { self.new.queue.failures ≡ self.old.queue.failures }
     {
         let octets = self.queue.as_slice();

@@ -31,7 +31,7 @@ pub struct Queue {
 
 impl Queue {
     ghost use Rattle.std.specs.Prelude.{◌∷◌, ◌<◌, ◌⊎◌, ◌++◌, ◌-◌, ◌^◌, IsErr, MatchResult, drop, OnErr, OnOk, vec_capacity, min};
-    ghost use Rattle.dict_connection.specs.OutletCalls.{Makes, sends, sent_by};
+    ghost use Rattle.dict_connection.specs.OutletCalls.{MakesCalls, sends, sent_by};
     ghost use Rattle.dict_connection.specs.Queues.{waiting, FindNoRoom, Sends};
 
     /// A queue in which nothing waits and no call failed.
@@ -109,7 +109,7 @@ impl Queue {
         ensures failures { self.new.failures ≡ self.old.failures }
         ensures refused { self.new.refused ≡ self.old.refused }
         ensures coming { Keeps (T.coming transport.old) (T.coming transport.new) }
-        ensures made { Makes (T.made transport.old) (T.made transport.new) (sends (sent_by result) ∷ []) }
+        ensures made { MakesCalls (T.made transport.old) (T.made transport.new) (sends (sent_by result) ∷ []) }
     {
         let count = transport.send(self.as_slice())?;
         self.pass(count);
@@ -218,17 +218,17 @@ impl Sink for Queue {
     ghost use Rattle.std.specs.Prelude.{◌<◌, ◌⊎◌, ◌^◌, ◌-◌, IsErr, MatchResult, OnErr, Some, vec_capacity};
     ghost use Rattle.std.specs.Io.KnownBytes.{Appends};
     ghost use Rattle.dict_proto.specs.Streams.{Puts};
-    ghost use Rattle.dict_connection.specs.Queues.{FindNoRoom, TakesAll, stream_of, waiting};
+    ghost use Rattle.dict_connection.specs.Queues.{FindNoRoom, TakesOctets, queue_stream, waiting};
 
-    ghost stream = { stream_of };
+    ghost stream = { queue_stream };
 
     /// All of the octets wait then, or where it fails none of them: more than `MAX_WAITING` would wait, memory is short,
     /// or it failed too often before.
     fn put(&mut self, bytes: &[u8]) -> Result<(), SinkFault>
-        ensures put { Puts result (stream_of self.old) (stream_of self.new) bytes.now }
-        ensures worn_out { (stream_of self.old).failures ≡ 2 ^ 64 - 1
-            → IsErr result × Appends (stream_of self.old).octets (stream_of self.new).octets [] }
-        ensures takes { TakesAll result self.old self.new bytes.now }
+        ensures put { Puts result (queue_stream self.old) (queue_stream self.new) bytes.now }
+        ensures worn_out { (queue_stream self.old).failures ≡ 2 ^ 64 - 1
+            → IsErr result × Appends (queue_stream self.old).octets (queue_stream self.new).octets [] }
+        ensures takes { TakesOctets result self.old self.new bytes.now }
         ensures bound { 1048576 < length (waiting self.old) + length bytes.now → IsErr result }
         ensures refuses { OnErr result ((self.old.failures ≡ 2 ^ 64 - 1) ⊎ ((1048576 < length (waiting self.old) + length bytes.now)
             ⊎ (vec_capacity self.old.octets < vec_len self.old.octets + length bytes.now))) }

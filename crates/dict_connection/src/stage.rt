@@ -1,7 +1,7 @@
 // How far a connection has come.
 ghost use Rattle.std.specs.Prelude.{◌≡◌};
 ghost use Rattle.dict_connection.specs.Calls.{has_departed};
-ghost use Rattle.dict_connection.specs.Stages.{answered, drained, finished, parted, stage_of_new};
+ghost use Rattle.dict_connection.specs.Stages.{stage_answered, drained, stage_finished, parted, stage_of_new};
 
 use crate::calls::{Received, Sent};
 use dict_hub::Out;
@@ -78,7 +78,7 @@ pub fn stage_of_new(out: Out) -> Stage
 
 /// The stage after the hub's answer to octets.
 pub fn answered(out: Out, before: Stage) -> Stage
-    ensures { result ≡ answered out before }
+    ensures { result ≡ stage_answered out before }
 {
     match out {
         Out::More => before,
@@ -99,7 +99,7 @@ pub fn parted(is_clear: bool) -> Stage
 
 /// The stage of a connection that the hub closed and of which all is sent, where the peer was told so, or couldn't be.
 pub fn told(is_told: bool) -> Stage
-    ensures { result ≡ finished Stage.Closing is_told }
+    ensures { result ≡ stage_finished Stage.Closing is_told }
 {
     if is_told {
         Stage::Draining

@@ -2,7 +2,7 @@
 ghost use Rattle.std.specs.Prelude.{◌≡◌, ℕ, List, Option, [], ◌∷◌, None, is_ok, length};
 ghost use Rattle.std.specs.Io.{ReadsAtMost, WritesAtMost};
 ghost use Rattle.std.specs.Io.KnownBytes.{Keeps, ReadConsumes, WriteAppends};
-ghost use Rattle.dict_connection.specs.OutletCalls.{Call, Makes, sends, receives, ends, sent_by, received_by};
+ghost use Rattle.dict_connection.specs.OutletCalls.{Call, MakesCalls, sends, receives, ends, sent_by, received_by};
 
 use mio::net::TcpStream;
 use mio::{Interest, Poll, Token};
@@ -28,20 +28,20 @@ pub trait Transport: Drop {
         ensures bound { WritesAtMost result octets.now }
         ensures taken { WriteAppends (taken self.old) (taken self.new) result octets.now }
         ensures coming { Keeps (coming self.old) (coming self.new) }
-        ensures made { Makes (made self.old) (made self.new) (sends (sent_by result) ∷ []) };
+        ensures made { MakesCalls (made self.old) (made self.new) (sends (sent_by result) ∷ []) };
 
     /// Puts the peer's next octets at the front of the room, and tells how many. Where there is room, 0 means their end.
     fn receive(&mut self, room: &mut [u8]) -> Result<usize>
         ensures bound { ReadsAtMost result room.new }
         ensures taken { Keeps (taken self.old) (taken self.new) }
         ensures coming { ReadConsumes (coming self.old) (coming self.new) result room.new }
-        ensures made { Makes (made self.old) (made self.new) (receives (length room.new) (received_by result) ∷ []) };
+        ensures made { MakesCalls (made self.old) (made self.new) (receives (length room.new) (received_by result) ∷ []) };
 
     /// Tells the peer that nothing more is sent.
     fn end_sending(&mut self) -> Result<()>
         ensures taken { Keeps (taken self.old) (taken self.new) }
         ensures coming { Keeps (coming self.old) (coming self.new) }
-        ensures made { Makes (made self.old) (made self.new) (ends (is_ok result) ∷ []) };
+        ensures made { MakesCalls (made self.old) (made self.new) (ends (is_ok result) ∷ []) };
 }
 
 /// A socket, or none.

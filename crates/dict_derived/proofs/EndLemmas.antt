@@ -1,7 +1,7 @@
 -- The first and the last of runs of three octets, one run after another.
 use Rattle.std.proofs.Common.{◌≡◌, ℕ, ◌+◌, ◌-◌, ◌<◌, ◌≤◌, true, false, cond, List, [], ◌∷◌, ◌++◌, drop, length, get_or, filter, Option, Some, None, refl, ap, sym, ◌∙◌, append_assoc, append-nil}
 use Rattle.std.specs.Option.{option_or}
-use Rattle.dict_derived.specs.Kept.{is_kept, kept_grams}
+use Rattle.dict_derived.specs.KeptGrams.{is_kept_gram, kept_grams}
 use Rattle.dict_derived.specs.Search.{Rows, AllRows, WithGrams, last_gram, by_ends}
 use Rattle.dict_derived.proofs.PieceLemmas.{gram_to_end, no_more}
 
@@ -36,26 +36,26 @@ pub record AreSeen (query : List ℕ) (end : ℕ) (rows : Rows) : Type 0 where
 pub none_seen : (query : List ℕ) → AreSeen query 3 AllRows
 none_seen query = record { seen = []; rows_are = refl; left = refl }
 
-pub kept_seen : (query : List ℕ) (end : ℕ) (rows rows' : Rows) → 3 ≤ end → end < length query + 1 → is_kept (get_or query (end - 3) 0 ∷ get_or query (end - 2) 0 ∷ get_or query (end - 1) 0 ∷ []) ≡ true
+pub kept_seen : (query : List ℕ) (end : ℕ) (rows rows' : Rows) → 3 ≤ end → end < length query + 1 → is_kept_gram (get_or query (end - 3) 0 ∷ get_or query (end - 2) 0 ∷ get_or query (end - 1) 0 ∷ []) ≡ true
     → ((runs : List (List ℕ)) → rows ≡ by_ends runs → rows' ≡ by_ends (runs ++ (get_or query (end - 3) 0 ∷ get_or query (end - 2) 0 ∷ get_or query (end - 1) 0 ∷ []) ∷ [])) → AreSeen query end rows → AreSeen query (end + 1) rows'
 kept_seen query end rows rows' low fits kept grows old =
     let g = get_or query (end - 3) 0 ∷ get_or query (end - 2) 0 ∷ get_or query (end - 1) 0 ∷ [] in
     let rest = kept_grams (drop (end + 1 - 3) query) in
-    let next : kept_grams (drop (end - 3) query) ≡ g ∷ rest = ap (filter is_kept) (gram_to_end query end low fits) ∙ ap (λ b. cond b (g ∷ rest) rest) kept in
+    let next : kept_grams (drop (end - 3) query) ≡ g ∷ rest = ap (filter is_kept_gram) (gram_to_end query end low fits) ∙ ap (λ b. cond b (g ∷ rest) rest) kept in
     record {
       seen = old.seen ++ g ∷ [];
       rows_are = grows old.seen old.rows_are;
       left = append_assoc old.seen (g ∷ []) rest ∙ ap (λ l. old.seen ++ l) (sym next) ∙ old.left;
     }
 
-pub left_out_seen : (query : List ℕ) (end : ℕ) (rows : Rows) → 3 ≤ end → end < length query + 1 → is_kept (get_or query (end - 3) 0 ∷ get_or query (end - 2) 0 ∷ get_or query (end - 1) 0 ∷ []) ≡ false → AreSeen query end rows
+pub left_out_seen : (query : List ℕ) (end : ℕ) (rows : Rows) → 3 ≤ end → end < length query + 1 → is_kept_gram (get_or query (end - 3) 0 ∷ get_or query (end - 2) 0 ∷ get_or query (end - 1) 0 ∷ []) ≡ false → AreSeen query end rows
     → AreSeen query (end + 1) rows
 left_out_seen query end rows low fits out old =
     let g = get_or query (end - 3) 0 ∷ get_or query (end - 2) 0 ∷ get_or query (end - 1) 0 ∷ [] in
     let rest = kept_grams (drop (end + 1 - 3) query) in
-    let next : kept_grams (drop (end - 3) query) ≡ rest = ap (filter is_kept) (gram_to_end query end low fits) ∙ ap (λ b. cond b (g ∷ rest) rest) out in
+    let next : kept_grams (drop (end - 3) query) ≡ rest = ap (filter is_kept_gram) (gram_to_end query end low fits) ∙ ap (λ b. cond b (g ∷ rest) rest) out in
     record { seen = old.seen; rows_are = old.rows_are; left = ap (λ l. old.seen ++ l) (sym next) ∙ old.left }
 
 pub all_seen : (query : List ℕ) (end : ℕ) (rows : Rows) → length query < end - 3 + 3 → AreSeen query end rows → rows ≡ by_ends (kept_grams query)
 all_seen query end rows past old =
-    old.rows_are ∙ ap by_ends (sym (append-nil old.seen) ∙ ap (λ l. old.seen ++ l) (sym (ap (filter is_kept) (no_more query (end - 3) past))) ∙ old.left)
+    old.rows_are ∙ ap by_ends (sym (append-nil old.seen) ∙ ap (λ l. old.seen ++ l) (sym (ap (filter is_kept_gram) (no_more query (end - 3) past))) ∙ old.left)

@@ -9,14 +9,14 @@ use Rattle.dict_match.specs.Matching.{Hits, Fits, StandsIn}
 use Rattle.dict_match.specs.declared.strategy.Strategy.{Strategy}
 use Rattle.dict_match.specs.declared.strategy.Strategy.TheVariants.{Exact, Prefix, Suffix, Substring, Word, First, Last}
 use Rattle.dict_derived.specs.Derived.{grams, IsGramOf}
-use Rattle.dict_derived.specs.Kept.{is_kept, kept_grams}
+use Rattle.dict_derived.specs.KeptGrams.{is_kept_gram, kept_grams}
 use Rattle.dict_derived.proofs.PieceLemmas.{grams_are}
-use Rattle.dict_derived.specs.Search.{Rows, NoRows, Selects, by_first, last_gram, by_ends, by_grams, rows_by, rows_for, is_tested}
+use Rattle.dict_derived.specs.Search.{Rows, NoRows, SelectsKey, by_first, last_gram, by_ends, by_grams, rows_by, rows_for, is_tested}
 use Rattle.dict_derived.proofs.RangeLemmas.{begins, holds, text-low, reverse-low}
 
 -- ---- words
 
-has_first : (words : List (List ℕ)) (q k : List ℕ) → ((word : List ℕ) (rest : List (List ℕ)) → words ≡ word ∷ rest → Contains (words_between_blanks k) word) → Selects (by_first words) k
+has_first : (words : List (List ℕ)) (q k : List ℕ) → ((word : List ℕ) (rest : List (List ℕ)) → words ≡ word ∷ rest → Contains (words_between_blanks k) word) → SelectsKey (by_first words) k
 has_first [] q k h = tt
 has_first (word ∷ rest) q k h = h word rest refl
 
@@ -58,20 +58,20 @@ has_last : (g : List ℕ) (rest : List (List ℕ)) (k : List ℕ) → IsGramOf k
 has_last g [] k is all = is
 has_last g (next ∷ rest) k is all = has_last next rest k (all next (head next rest)) (λ h c. all h (behind next rest h c))
 
-has_ends : (runs : List (List ℕ)) (k : List ℕ) → ((g : List ℕ) → Contains runs g → IsGramOf k g) → Selects (by_ends runs) k
+has_ends : (runs : List (List ℕ)) (k : List ℕ) → ((g : List ℕ) → Contains runs g → IsGramOf k g) → SelectsKey (by_ends runs) k
 has_ends [] k all = tt
 has_ends (g ∷ rest) k all =
     let is : IsGramOf k g = all g (head g rest) in
     (is, has_last g rest k is (λ h c. all h (behind g rest h c)))
 
-has_grams : (q k : List ℕ) → StandsIn q k → Selects (by_grams q) k
+has_grams : (q k : List ℕ) → StandsIn q k → SelectsKey (by_grams q) k
 has_grams q k h = has_ends (kept_grams q) k (λ g c.
-    let of_query : IsGramOf q g = (grams_are q g).0 (kept_in is_kept (grams q) g c) in
+    let of_query : IsGramOf q g = (grams_are q g).0 (kept_in is_kept_gram (grams q) g c) in
     (of_query.0, stands_within g q k of_query.1 h))
 
 -- ---- all strategies
 
-fitting : (strategy : Strategy) (q k : List ℕ) → IsUtf8 k → Fits strategy q k → Selects (rows_by strategy q) k
+fitting : (strategy : Strategy) (q k : List ℕ) → IsUtf8 k → Fits strategy q k → SelectsKey (rows_by strategy q) k
 fitting Exact q k u h = h
 fitting Prefix q k u h = holds q k h.0 (text-low k u) h.1
 fitting Suffix q k u h = holds (reverse q) (reverse k) (reverse h.0) (reverse-low k u) (ap reverse h.1 ∙ reverse-append h.0 q)
@@ -80,7 +80,7 @@ fitting Word q k u h = has_first (words_between_blanks q) q k (λ word rest e. a
 fitting First q k u h = has_first (words_between_blanks q) q k (λ word rest e. among-run _ [] (words_between_blanks q) h.0 word rest h.1 e)
 fitting Last q k u h = has_first (words_between_blanks q) q k (λ word rest e. among-run _ h.0 (words_between_blanks q) [] word rest (h.1 ∙ sym (append-nil _)) e)
 
-fits : (strategy : Strategy) (q k : List ℕ) → is_tested strategy ≡ false → Selects (rows_by strategy q) k → Fits strategy q k
+fits : (strategy : Strategy) (q k : List ℕ) → is_tested strategy ≡ false → SelectsKey (rows_by strategy q) k → Fits strategy q k
 fits Exact q k t h = h
 fits Prefix q k t h = begins q k h
 fits Suffix q k t h =
@@ -95,15 +95,15 @@ pub not_empty : (strategy : Strategy) (q : List ℕ) → q ≢ [] → rows_for s
 not_empty strategy [] h = absurd (h refl)
 not_empty strategy (x ∷ q) h = ap (λ t. cond t NoRows (rows_by strategy (x ∷ q))) (ne_eqb (length (x ∷ q)) 0 (λ e. absurd (omega arith)))
 
-pub among : (strategy : Strategy) (q k : List ℕ) → IsUtf8 k → Hits strategy q k → Selects (rows_for strategy q) k
-among strategy q k u h = let P : Rows → Type 0 = λ rows. Selects rows k in subst P (sym (not_empty strategy q h.0)) (fitting strategy q k u h.1)
+pub among : (strategy : Strategy) (q k : List ℕ) → IsUtf8 k → Hits strategy q k → SelectsKey (rows_for strategy q) k
+among strategy q k u h = let P : Rows → Type 0 = λ rows. SelectsKey rows k in subst P (sym (not_empty strategy q h.0)) (fitting strategy q k u h.1)
 
-pub some_query : (strategy : Strategy) (q k : List ℕ) → Selects (rows_for strategy q) k → q ≢ []
+pub some_query : (strategy : Strategy) (q k : List ℕ) → SelectsKey (rows_for strategy q) k → q ≢ []
 some_query strategy [] k h e = h
 some_query strategy (x ∷ q) k h e = cc
 
-pub only : (strategy : Strategy) (q k : List ℕ) → is_tested strategy ≡ false → IsUtf8 k → Selects (rows_for strategy q) k → Hits strategy q k
+pub only : (strategy : Strategy) (q k : List ℕ) → is_tested strategy ≡ false → IsUtf8 k → SelectsKey (rows_for strategy q) k → Hits strategy q k
 only strategy q k t u h =
-    let P : Rows → Type 0 = λ rows. Selects rows k in
+    let P : Rows → Type 0 = λ rows. SelectsKey rows k in
     let some = some_query strategy q k h in
     (some, fits strategy q k t (subst P (not_empty strategy q some) h))

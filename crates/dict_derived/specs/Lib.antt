@@ -1,5 +1,5 @@
 pub mod Runs
 pub mod Spans
 pub mod Derived
-pub mod Kept
+pub mod KeptGrams
 pub mod Search

@@ -5,7 +5,7 @@ use Rattle.dict_match.specs.declared.strategy.Strategy.{Strategy}
 use Rattle.dict_match.specs.declared.strategy.Strategy.TheVariants.{Exact, Prefix, Suffix, Substring, Word, First, Last}
 use Rattle.dict_match.specs.Words.{words_between_blanks}
 use Rattle.dict_derived.specs.Derived.{IsWordOf, IsGramOf, octets_cmp}
-use Rattle.dict_derived.specs.Kept.{kept_grams}
+use Rattle.dict_derived.specs.KeptGrams.{kept_grams}
 use Rattle.dict_derived.specs.declared.search.Selection.{Selection}
 use Rattle.dict_derived.specs.declared.search.Selection.TheVariants as typed
 
@@ -23,14 +23,14 @@ abbrev pub IsBetween : List ℕ → List ℕ → List ℕ → Type 0
 IsBetween low high k = IsTrue (is_le (octets_cmp low k)) × IsTrue (is_le (octets_cmp k high))
 
 -- the entry with this key is one of them
-abbrev pub Selects : Rows → List ℕ → Type 0
-Selects NoRows k = ⊥
-Selects AllRows k = ⊤
-Selects (WithKey q) k = k ≡ q
-Selects (BetweenKeys low high) k = IsBetween low high k
-Selects (BetweenReversed low high) k = IsBetween low high (reverse k)
-Selects (WithGrams a b) k = IsGramOf k a × IsGramOf k b
-Selects (WithWord w) k = IsWordOf k w
+abbrev pub SelectsKey : Rows → List ℕ → Type 0
+SelectsKey NoRows k = ⊥
+SelectsKey AllRows k = ⊤
+SelectsKey (WithKey q) k = k ≡ q
+SelectsKey (BetweenKeys low high) k = IsBetween low high k
+SelectsKey (BetweenReversed low high) k = IsBetween low high (reverse k)
+SelectsKey (WithGrams a b) k = IsGramOf k a × IsGramOf k b
+SelectsKey (WithWord w) k = IsWordOf k w
 
 -- the list with octet 255 behind it, which stands in no text
 abbrev pub with_last : List ℕ → List ℕ
@@ -78,11 +78,11 @@ is_tested Word = true
 is_tested First = true
 is_tested Last = true
 
-abbrev pub rows_of : Selection → Rows
-rows_of typed.Nothing = NoRows
-rows_of typed.All = AllRows
-rows_of (typed.Key key) = WithKey key.items
-rows_of (typed.Keys low high) = BetweenKeys low.items high.items
-rows_of (typed.ReversedKeys low high) = BetweenReversed low.items high.items
-rows_of (typed.Grams first last) = WithGrams first last
-rows_of (typed.Word word) = WithWord word.items
+abbrev pub rows_selected : Selection → Rows
+rows_selected typed.Nothing = NoRows
+rows_selected typed.All = AllRows
+rows_selected (typed.Key key) = WithKey key.items
+rows_selected (typed.Keys low high) = BetweenKeys low.items high.items
+rows_selected (typed.ReversedKeys low high) = BetweenReversed low.items high.items
+rows_selected (typed.Grams first last) = WithGrams first last
+rows_selected (typed.Word word) = WithWord word.items

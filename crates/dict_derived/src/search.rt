@@ -1,8 +1,8 @@
 //! Which entries a query looks at.
 
 ghost use Rattle.std.specs.Prelude.{◌≡◌, IfOk, reverse};
-ghost use Rattle.dict_derived.specs.Search.{rows_of, rows_for, is_tested, with_last, by_first, by_grams};
-ghost use Rattle.dict_derived.specs.Kept.{is_kept};
+ghost use Rattle.dict_derived.specs.Search.{rows_selected, rows_for, is_tested, with_last, by_first, by_grams};
+ghost use Rattle.dict_derived.specs.KeptGrams.{is_kept_gram};
 ghost use Rattle.dict_match.specs.Words.{words_between_blanks};
 
 use dict_match::{Strategy, words};
@@ -27,7 +27,7 @@ pub enum Selection {
 
 /// Which entries of an edition a query of this key by a strategy looks at: all that it finds are among them. The only error is want of memory.
 pub fn select(alloc: Global, strategy: Strategy, query: &[u8]) -> Result<Selection, AllocError>
-    ensures { IfOk result (λ selection. rows_of selection ≡ rows_for strategy query.now) }
+    ensures { IfOk result (λ selection. rows_selected selection ≡ rows_for strategy query.now) }
 {
     if query.is_empty() {
         return Ok(Selection::Nothing);
@@ -80,7 +80,7 @@ const FIRST_OF_SEVERAL: u8 = 0xC0;
 /// Whether a run of three octets is looked for: not where its last octet begins a character of several octets, since such a
 /// run tells hardly more than its first two.
 pub fn is_kept(gram: &[u8]) -> bool
-    ensures { result ≡ is_kept gram.now }
+    ensures { result ≡ is_kept_gram gram.now }
 {
     match gram.get(2) {
         Some(octet) => *octet < FIRST_OF_SEVERAL,
@@ -90,7 +90,7 @@ pub fn is_kept(gram: &[u8]) -> bool
 
 /// By the first and the last of the query's runs of three octets that are looked for, where there is one.
 fn by_grams(query: &[u8]) -> Selection
-    ensures { rows_of result ≡ by_grams query.now }
+    ensures { rows_selected result ≡ by_grams query.now }
 {
     let mut first = None;
     let mut last = [0; 3];
@@ -109,7 +109,7 @@ fn by_grams(query: &[u8]) -> Selection
 
 /// By the first word, where there is one.
 fn by_first_word(alloc: Global, query: &[u8]) -> Result<Selection, AllocError>
-    ensures { IfOk result (λ selection. rows_of selection ≡ by_first (words_between_blanks query.now)) }
+    ensures { IfOk result (λ selection. rows_selected selection ≡ by_first (words_between_blanks query.now)) }
 {
     match words(query).next() {
         Some(word) => Ok(Selection::Word(Vec::from_slice(alloc, word)?)),

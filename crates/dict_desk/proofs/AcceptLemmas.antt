@@ -20,7 +20,7 @@ use Rattle.dict_text.proofs.AllLemmas.{all_weaker, all_append, all_filter}
 use Rattle.dict_catalogue.proofs.ListLemmas.{any_append_left, any_append_right}
 use Rattle.dict_catalogue.proofs.StepLemmas.{step_is}
 use Rattle.dict_catalogue.proofs.WellFormedLemmas.{EachEdition, IfInstalled, each_after, step_well_formed}
-use Rattle.dict_desk.specs.Plain.{numbered, no_edition, stored_from, item_from, filed_shown, catalogue_from, reply_at, ArePlaces, IsHeld, AreInStep, newly_installed, stays}
+use Rattle.dict_desk.specs.Plain.{edition_by_number, no_edition, stored_from, item_from, filed_shown, catalogue_from, reply_at, ArePlaces, IsFoundByNumber, AreInStep, newly_installed, is_not_gone}
 use Rattle.dict_desk.proofs.ReplyLemmas.{places_more}
 use Rattle.dict_desk.specs.declared.replies.Filed.{Filed}
 
@@ -36,23 +36,23 @@ accepted_step M id command outcome reply (none_failed e k h o) lawful new told =
 
 -- which editions are held
 
-none_early : (most number : ℕ) (editions : List (Stored Edition)) → most < number → AllByRecursion (λ stored. stored.number ≤ most) editions → numbered number editions ≡ None
+none_early : (most number : ℕ) (editions : List (Stored Edition)) → most < number → AllByRecursion (λ stored. stored.number ≤ most) editions → edition_by_number number editions ≡ None
 none_early most number [] above early = refl
 none_early most number (one ∷ editions) above early = by_test (one.number == number) refl (none_early most number editions above early.1)
   where
-    by_test : (b : Bool) → (one.number == number) ≡ b → numbered number editions ≡ None → cond b (Some one) (numbered number editions) ≡ None
+    by_test : (b : Bool) → (one.number == number) ≡ b → edition_by_number number editions ≡ None → cond b (Some one) (edition_by_number number editions) ≡ None
     by_test true e h = let same : one.number ≡ number = eqb-true one.number number e in absurd (omega (arith, early.0))
     by_test false e h = h
 
-held_longer : (editions new : List (Stored Edition)) (one : Stored Edition) → IsHeld editions one → IsHeld (editions ++ new) one
-held_longer editions new one h = find-append (λ (stored : Stored Edition). stored.number == one.number) editions new ∙ ap (λ found. option_or found (numbered one.number new)) h
+held_longer : (editions new : List (Stored Edition)) (one : Stored Edition) → IsFoundByNumber editions one → IsFoundByNumber (editions ++ new) one
+held_longer editions new one h = find-append (λ (stored : Stored Edition). stored.number == one.number) editions new ∙ ap (λ found. option_or found (edition_by_number one.number new)) h
 
 held_new : (installs : ℕ) (command : Command Edition) (editions : List (Stored Edition)) → AllByRecursion (λ stored. stored.number ≤ installs) editions
-    → IfInstalled (IsHeld (editions ++ newly_installed (installs + 1) command)) (installs + 1) command
+    → IfInstalled (IsFoundByNumber (editions ++ newly_installed (installs + 1) command)) (installs + 1) command
 unfolding IfInstalled
 held_new installs (install name content) editions early =
     let one : Stored Edition = record { number = installs + 1; content = content } in
-    find-append (λ (stored : Stored Edition). stored.number == installs + 1) editions (one ∷ []) ∙ (ap (λ found. option_or found (numbered (installs + 1) (one ∷ []))) (none_early installs (installs + 1) editions (omega arith) early)
+    find-append (λ (stored : Stored Edition). stored.number == installs + 1) editions (one ∷ []) ∙ (ap (λ found. option_or found (edition_by_number (installs + 1) (one ∷ []))) (none_early installs (installs + 1) editions (omega arith) early)
     ∙ ap (λ b. cond b (Some one) None) (eq-eqb (installs + 1) (installs + 1) refl))
 held_new installs (rollback name) editions early = tt
 held_new installs (retire name) editions early = tt
@@ -90,20 +90,20 @@ not_gone number (first ∷ before) after h = by_test (list_any (λ one. one == f
     by_test false e false s rest = ap (λ b. b || list_any (λ one. one == number) (filter (λ other. not (list_any (λ one. one == other) after)) before)) s ∙ rest
 
 -- an edition that stays is found where others are taken out
-found_still : (gone : List ℕ) (number : ℕ) (editions : List (Stored Edition)) → not (list_any (λ one. one == number) gone) ≡ true → numbered number (filter (stays gone) editions) ≡ numbered number editions
+found_still : (gone : List ℕ) (number : ℕ) (editions : List (Stored Edition)) → not (list_any (λ one. one == number) gone) ≡ true → edition_by_number number (filter (is_not_gone gone) editions) ≡ edition_by_number number editions
 found_still gone number [] h = refl
-found_still gone number (first ∷ editions) h = by_test (stays gone first) refl (first.number == number) refl (found_still gone number editions h)
+found_still gone number (first ∷ editions) h = by_test (is_not_gone gone first) refl (first.number == number) refl (found_still gone number editions h)
   where
-    by_test : (there : Bool) → stays gone first ≡ there → (same : Bool) → (first.number == number) ≡ same → numbered number (filter (stays gone) editions) ≡ numbered number editions
-        → numbered number (cond there (first ∷ filter (stays gone) editions) (filter (stays gone) editions)) ≡ cond same (Some first) (numbered number editions)
-    by_test true e true s rest = ap (λ b. cond b (Some first) (numbered number (filter (stays gone) editions))) s
-    by_test true e false s rest = ap (λ b. cond b (Some first) (numbered number (filter (stays gone) editions))) s ∙ rest
-    by_test false e true s rest = absurd (both_ways (stays gone first) e (subst (λ n. not (list_any (λ one. one == n) gone) ≡ true) (sym (eqb-true first.number number s)) h))
+    by_test : (there : Bool) → is_not_gone gone first ≡ there → (same : Bool) → (first.number == number) ≡ same → edition_by_number number (filter (is_not_gone gone) editions) ≡ edition_by_number number editions
+        → edition_by_number number (cond there (first ∷ filter (is_not_gone gone) editions) (filter (is_not_gone gone) editions)) ≡ cond same (Some first) (edition_by_number number editions)
+    by_test true e true s rest = ap (λ b. cond b (Some first) (edition_by_number number (filter (is_not_gone gone) editions))) s
+    by_test true e false s rest = ap (λ b. cond b (Some first) (edition_by_number number (filter (is_not_gone gone) editions))) s ∙ rest
+    by_test false e true s rest = absurd (both_ways (is_not_gone gone first) e (subst (λ n. not (list_any (λ one. one == n) gone) ≡ true) (sym (eqb-true first.number number s)) h))
     by_test false e false s rest = rest
 
-held_still : (gone : List ℕ) (editions new : List (Stored Edition)) (one : Stored Edition) → IsHeld (editions ++ new) one × (stays gone one ≡ true) → IsHeld (filter (stays gone) editions ++ new) one
+held_still : (gone : List ℕ) (editions new : List (Stored Edition)) (one : Stored Edition) → IsFoundByNumber (editions ++ new) one × (is_not_gone gone one ≡ true) → IsFoundByNumber (filter (is_not_gone gone) editions ++ new) one
 held_still gone editions new one (h, s) =
-    find-append (λ (stored : Stored Edition). stored.number == one.number) (filter (stays gone) editions) new ∙ (ap (λ found. option_or found (numbered one.number new)) (found_still gone one.number editions s)
+    find-append (λ (stored : Stored Edition). stored.number == one.number) (filter (is_not_gone gone) editions) new ∙ (ap (λ found. option_or found (edition_by_number one.number new)) (found_still gone one.number editions s)
     ∙ (sym (find-append (λ (stored : Stored Edition). stored.number == one.number) editions new) ∙ h))
 
 both_all : {X : Type 0} (P Q : X → Type 0) (xs : List X) → AllByRecursion P xs → AllByRecursion Q xs → AllByRecursion (λ x. P x × Q x) xs
@@ -116,32 +116,32 @@ each_both P Q R w (item ∷ items) h g = (all_weaker (λ one. P one × Q one) R 
 
 -- the items after a command are held by the editions that stay and the new one
 held_after : (M : Catalogue) (id : List ℕ) (command : Command Edition) (editions : List (Stored Edition)) (gone : List ℕ) → gone ≡ editions_gone M.items (with_effect M id command).items
-    → AllByRecursion (EachEdition (IsHeld editions)) M.items → AllByRecursion (λ stored. stored.number ≤ M.installs) editions
-    → AllByRecursion (EachEdition (IsHeld (filter (stays gone) editions ++ newly_installed (M.installs + 1) command))) (with_effect M id command).items
+    → AllByRecursion (EachEdition (IsFoundByNumber editions)) M.items → AllByRecursion (λ stored. stored.number ≤ M.installs) editions
+    → AllByRecursion (EachEdition (IsFoundByNumber (filter (is_not_gone gone) editions ++ newly_installed (M.installs + 1) command))) (with_effect M id command).items
 held_after M id command editions gone is held early =
     let new = newly_installed (M.installs + 1) command in
     let after = items_after (M.installs + 1) command M.items in
-    let longer : AllByRecursion (EachEdition (IsHeld (editions ++ new))) after = each_after (IsHeld editions) (IsHeld (editions ++ new)) (M.installs + 1) command M.items (held_longer editions new) (held_new M.installs command editions early) held in
-    let kept : AllByRecursion (EachEdition (λ stored. stays gone stored ≡ true)) after =
-    all_weaker (EachEdition (λ stored. list_any (λ one. one == stored.number) (edition_numbers after) ≡ true)) (EachEdition (λ stored. stays gone stored ≡ true))
-    (λ item p. all_weaker (λ (stored : Stored Edition). list_any (λ one. one == stored.number) (edition_numbers after) ≡ true) (λ (stored : Stored Edition). stays gone stored ≡ true)
+    let longer : AllByRecursion (EachEdition (IsFoundByNumber (editions ++ new))) after = each_after (IsFoundByNumber editions) (IsFoundByNumber (editions ++ new)) (M.installs + 1) command M.items (held_longer editions new) (held_new M.installs command editions early) held in
+    let kept : AllByRecursion (EachEdition (λ stored. is_not_gone gone stored ≡ true)) after =
+    all_weaker (EachEdition (λ stored. list_any (λ one. one == stored.number) (edition_numbers after) ≡ true)) (EachEdition (λ stored. is_not_gone gone stored ≡ true))
+    (λ item p. all_weaker (λ (stored : Stored Edition). list_any (λ one. one == stored.number) (edition_numbers after) ≡ true) (λ (stored : Stored Edition). is_not_gone gone stored ≡ true)
     (λ stored h. ap not (ap (λ (numbers : List ℕ). list_any (λ one. one == stored.number) numbers) is ∙ not_gone stored.number (edition_numbers M.items) (edition_numbers after) h)) (editions_of item) p) after (own_numbers after) in
-    each_both (IsHeld (editions ++ new)) (λ stored. stays gone stored ≡ true) (IsHeld (filter (stays gone) editions ++ new)) (held_still gone editions new) after longer kept
+    each_both (IsFoundByNumber (editions ++ new)) (λ stored. is_not_gone gone stored ≡ true) (IsFoundByNumber (filter (is_not_gone gone) editions ++ new)) (held_still gone editions new) after longer kept
 
 -- the whole
 
-from_title : (editions : List (Stored Edition)) (one : Stored Edition) → IsHeld editions one → stored_from editions (record { number = one.number; content = one.content.title }) ≡ one
+from_title : (editions : List (Stored Edition)) (one : Stored Edition) → IsFoundByNumber editions one → stored_from editions (record { number = one.number; content = one.content.title }) ≡ one
 from_title editions one h = ap (λ found. titled one.number (unwrap_or (option_map (λ (stored : Stored Edition). stored.content) found) no_edition)) h
   where
     titled : ℕ → Edition → Stored Edition
     titled number content = record { number = number; content = content }
 
-from_titles : (editions : List (Stored Edition)) (item : Item Edition) → EachEdition (IsHeld editions) item → item_from editions (item_as (λ edition. edition.title) item) ≡ item
+from_titles : (editions : List (Stored Edition)) (item : Item Edition) → EachEdition (IsFoundByNumber editions) item → item_from editions (item_as (λ edition. edition.title) item) ≡ item
 from_titles editions (regular name current None) h = ap (λ one. regular name one None) (from_title editions current h.0)
 from_titles editions (regular name current (Some former)) h = ap (λ one. regular name one (Some (stored_from editions (record { number = former.number; content = former.content.title })))) (from_title editions current h.0) ∙ ap (λ one. regular name current (Some one)) (from_title editions former h.1.0)
 from_titles editions (virtual name title members) h = refl
 
-whole_items : (editions : List (Stored Edition)) (items : List (Item Edition)) → AllByRecursion (EachEdition (IsHeld editions)) items → map (item_from editions) (map (item_as (λ edition. edition.title)) items) ≡ items
+whole_items : (editions : List (Stored Edition)) (items : List (Item Edition)) → AllByRecursion (EachEdition (IsFoundByNumber editions)) items → map (item_from editions) (map (item_as (λ edition. edition.title)) items) ≡ items
 whole_items editions [] h = refl
 whole_items editions (item ∷ items) h = ap (λ first. first ∷ map (item_from editions) (map (item_as (λ edition. edition.title)) items)) (from_titles editions item h.0) ∙ ap (λ rest. item ∷ rest) (whole_items editions items h.1)
 
@@ -181,7 +181,7 @@ module _ (summary after : Holdings (List ℕ)) (editions : List (Stored Edition)
   N = (step M id command).catalogue
 
   abbrev left : List (Stored Edition)
-  left = filter (stays gone) editions ++ newly_installed after.installs command
+  left = filter (is_not_gone gone) editions ++ newly_installed after.installs command
 
   effected : (N ≡ with_effect M id command) × (reply ≡ reply_to command (effect command (holdings M)))
   effected = accepted_step M id command (step M id command) reply (step_is M id command (step M id command) refl) id_lawful id_new told
@@ -189,11 +189,11 @@ module _ (summary after : Holdings (List ℕ)) (editions : List (Stored Edition)
   installs_are : after.installs ≡ installs_after command summary.installs
   installs_are = ap (λ (h : Holdings (List ℕ)). h.installs) summed ∙ ap (λ (c : Catalogue). c.installs) effected.0
 
-  left_is : left ≡ filter (stays gone) editions ++ newly_installed (M.installs + 1) command
-  left_is = ap (λ news. filter (stays gone) editions ++ news) (ap (λ n. newly_installed n command) installs_are ∙ new_number command summary.installs)
+  left_is : left ≡ filter (is_not_gone gone) editions ++ newly_installed (M.installs + 1) command
+  left_is = ap (λ news. filter (is_not_gone gone) editions ++ news) (ap (λ n. newly_installed n command) installs_are ∙ new_number command summary.installs)
 
-  held_here : AllByRecursion (EachEdition (IsHeld left)) N.items
-  held_here = subst (λ (c : Catalogue). AllByRecursion (EachEdition (IsHeld left)) c.items) (sym effected.0) (subst (λ es. AllByRecursion (EachEdition (IsHeld es)) (with_effect M id command).items) (sym left_is)
+  held_here : AllByRecursion (EachEdition (IsFoundByNumber left)) N.items
+  held_here = subst (λ (c : Catalogue). AllByRecursion (EachEdition (IsFoundByNumber left)) c.items) (sym effected.0) (subst (λ es. AllByRecursion (EachEdition (IsFoundByNumber es)) (with_effect M id command).items) (sym left_is)
       (held_after M id command editions gone (went ∙ ap (λ (c : Catalogue). editions_gone M.items c.items) effected.0) parts.held parts.early))
 
   kept_here : map filed_shown (replies ++ filed ∷ []) ≡ N.kept
@@ -214,9 +214,9 @@ module _ (summary after : Holdings (List ℕ)) (editions : List (Stored Edition)
   pub parts_after : AreInStep after left (replies ++ filed ∷ []) places_after
   parts_after = record {
     whole = summed ∙ ap summary_of (sym catalogue_is);
-    held = subst (λ (c : Catalogue). AllByRecursion (EachEdition (IsHeld left)) c.items) (sym catalogue_is) held_here;
-    early = all_append (λ (stored : Stored Edition). stored.number ≤ after.installs) (filter (stays gone) editions) (newly_installed after.installs command)
-        (all_filter (λ (stored : Stored Edition). stored.number ≤ after.installs) (stays gone) editions (all_weaker (λ (stored : Stored Edition). stored.number ≤ summary.installs) (λ (stored : Stored Edition). stored.number ≤ after.installs) (λ stored p. grows p) editions parts.early))
+    held = subst (λ (c : Catalogue). AllByRecursion (EachEdition (IsFoundByNumber left)) c.items) (sym catalogue_is) held_here;
+    early = all_append (λ (stored : Stored Edition). stored.number ≤ after.installs) (filter (is_not_gone gone) editions) (newly_installed after.installs command)
+        (all_filter (λ (stored : Stored Edition). stored.number ≤ after.installs) (is_not_gone gone) editions (all_weaker (λ (stored : Stored Edition). stored.number ≤ summary.installs) (λ (stored : Stored Edition). stored.number ≤ after.installs) (λ stored p. grows p) editions parts.early))
         (subst (λ (n : ℕ). AllByRecursion (λ (stored : Stored Edition). stored.number ≤ n) (newly_installed n command)) (sym installs_are) (new_early command summary.installs));
     filed = subst (ArePlaces places_after) (sym (map-append filed_shown replies (filed ∷ []))) (places_more (map filed_shown replies) (filed_shown filed) places places_after parts.filed id_unused placed_so);
     well_formed = subst IsWellFormed (sym catalogue_is) (step_well_formed M id command lawful parts.well_formed);
@@ -239,7 +239,7 @@ module _ (summary after : Holdings (List ℕ)) (editions : List (Stored Edition)
 pub accepted_parts : (summary : Holdings (List ℕ)) (editions left news : List (Stored Edition)) (replies replies_after : List Filed) (places places_after : List ℕ → Option ℕ) (before : Catalogue) (id : List ℕ) (command : Command Edition) (change : PlannedChange) (filed : Filed)
     → catalogue_from summary editions replies ≡ before → AreInStep summary editions replies places → IsLawfulCommand command → is_request_id id ≡ true → kept_under before.kept id ≡ None
     → IsChangeOf before (step before id command) change → filed_shown filed ≡ record { id = id; reply = kept_shown change.kept }
-    → news ≡ newly_installed change.summary.installs command → left ≡ filter (stays change.gone.items) editions ++ news → replies_after ≡ replies ++ filed ∷ []
+    → news ≡ newly_installed change.summary.installs command → left ≡ filter (is_not_gone change.gone.items) editions ++ news → replies_after ≡ replies ++ filed ∷ []
     → ((text : List ℕ) → places_after text ≡ cond (bytes_eq id text) (Some (length replies)) (places text))
     → AreInStep (summary_shown change.summary) left replies_after places_after × (catalogue_from (summary_shown change.summary) left replies_after ≡ (step before id command).catalogue)
 accepted_parts summary editions left news replies replies_after places places_after before id command change filed seen parts lawful id_lawful unused planned filed_is news_are left_is replies_are placed =
@@ -250,11 +250,11 @@ accepted_parts summary editions left news replies replies_after places places_af
     let told_here = subst (λ (c : Catalogue). (step c id command).reply ≡ accepted reply) (sym seen) planned.reply in
     let summed_here = subst (λ (c : Catalogue). after ≡ summary_of (step c id command).catalogue) (sym seen) planned.summary in
     let went_here = subst (λ (c : Catalogue). change.gone.items ≡ editions_gone c.items (step c id command).catalogue.items) (sym seen) planned.gone in
-    let left_all : left ≡ filter (stays change.gone.items) editions ++ newly_installed after.installs command = left_is ∙ ap (λ ns. filter (stays change.gone.items) editions ++ ns) news_are in
+    let left_all : left ≡ filter (is_not_gone change.gone.items) editions ++ newly_installed after.installs command = left_is ∙ ap (λ ns. filter (is_not_gone change.gone.items) editions ++ ns) news_are in
     let parts_then = parts_after summary after editions replies places places_after id command change.gone.items reply filed parts lawful id_lawful unused_here told_here summed_here went_here filed_is placed in
     let catalogue_then = catalogue_is summary after editions replies places places_after id command change.gone.items reply filed parts lawful id_lawful unused_here told_here summed_here went_here filed_is placed in (
-      subst (λ (es : List (Stored Edition)). AreInStep after es replies_after places_after) (sym left_all) (subst (λ (rs : List Filed). AreInStep after (filter (stays change.gone.items) editions ++ newly_installed after.installs command) rs places_after) (sym replies_are) parts_then),
-      ap (λ (es : List (Stored Edition)). catalogue_from after es replies_after) left_all ∙ (ap (λ (rs : List Filed). catalogue_from after (filter (stays change.gone.items) editions ++ newly_installed after.installs command) rs) replies_are
+      subst (λ (es : List (Stored Edition)). AreInStep after es replies_after places_after) (sym left_all) (subst (λ (rs : List Filed). AreInStep after (filter (is_not_gone change.gone.items) editions ++ newly_installed after.installs command) rs places_after) (sym replies_are) parts_then),
+      ap (λ (es : List (Stored Edition)). catalogue_from after es replies_after) left_all ∙ (ap (λ (rs : List Filed). catalogue_from after (filter (is_not_gone change.gone.items) editions ++ newly_installed after.installs command) rs) replies_are
           ∙ (catalogue_then ∙ ap (λ (c : Catalogue). (step c id command).catalogue) seen)),
     )
 

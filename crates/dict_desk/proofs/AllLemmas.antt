@@ -11,7 +11,7 @@ use Rattle.dict_text.specs.Names.{is_request_id}
 use Rattle.dict_catalogue.specs.Commands.{Command}
 use Rattle.dict_catalogue.specs.Tests.{tests_of}
 use Rattle.dict_catalogue.specs.Effects.{KeptReply}
-use Rattle.dict_catalogue.specs.Steps.{Catalogue, holdings, Reply, accepted, refused, Outcome, Request, step, after, acts, acts_unless_kept, kept_under, IsStep, id_unlawful, id_kept, test_failed, none_failed}
+use Rattle.dict_catalogue.specs.Steps.{Catalogue, holdings, CommandReply, accepted, refused, Outcome, CommandRequest, step, after, acts, acts_unless_kept, kept_under, IsStep, id_unlawful, id_kept, test_failed, none_failed}
 use Rattle.dict_catalogue.specs.declared.commands.Command as written
 use Rattle.dict_catalogue.specs.declared.fault.CommandRefusal.{CommandRefusal}
 use Rattle.dict_catalogue.specs.declared.reply.Kept.{Kept}
@@ -25,7 +25,7 @@ use Rattle.dict_desk.specs.declared.fault.Fault.TheVariants.{Refused, Memory, Di
 
 -- which commands act
 
-abbrev told_ok : Reply → Bool
+abbrev told_ok : CommandReply → Bool
 told_ok (accepted reply) = true
 told_ok (refused refusal) = false
 
@@ -55,11 +55,11 @@ none_kept (Some reply) e = absurd (true≢false e)
 
 -- one more command, at the end of the list
 
-pub after_one_more : (M : Catalogue) (requests : List Request) (one : Request) → after M (requests ++ one ∷ []) ≡ (step (after M requests) one.id one.command).catalogue
+pub after_one_more : (M : Catalogue) (requests : List CommandRequest) (one : CommandRequest) → after M (requests ++ one ∷ []) ≡ (step (after M requests) one.id one.command).catalogue
 after_one_more M [] one = refl
 after_one_more M (request ∷ requests) one = after_one_more (step M request.id request.command).catalogue requests one
 
-replies_one_more : (M : Catalogue) (requests : List Request) (one : Request) → replies M (requests ++ one ∷ []) ≡ replies M requests ++ (step (after M requests) one.id one.command).reply ∷ []
+replies_one_more : (M : Catalogue) (requests : List CommandRequest) (one : CommandRequest) → replies M (requests ++ one ∷ []) ≡ replies M requests ++ (step (after M requests) one.id one.command).reply ∷ []
 replies_one_more M [] one = refl
 replies_one_more M (request ∷ requests) one = ap (λ more. (step M request.id request.command).reply ∷ more) (replies_one_more (step M request.id request.command).catalogue requests one)
 
@@ -71,7 +71,7 @@ or_later : (a b c : Bool) → (a || (b || c)) ≡ ((a || b) || c)
 or_later true b c = refl
 or_later false b c = refl
 
-acted_one_more : (M : Catalogue) (requests : List Request) (one : Request) → has_acted M (requests ++ one ∷ []) ≡ (has_acted M requests || acts (after M requests) one.id one.command)
+acted_one_more : (M : Catalogue) (requests : List CommandRequest) (one : CommandRequest) → has_acted M (requests ++ one ∷ []) ≡ (has_acted M requests || acts (after M requests) one.id one.command)
 acted_one_more M [] one = or_none (acts M one.id one.command)
 acted_one_more M (request ∷ requests) one =
     ap (λ b. acts M request.id request.command || b) (acted_one_more (step M request.id request.command).catalogue requests one)
@@ -140,7 +140,7 @@ answered_by Shows Before Mid After at acted id command (Err Damaged) outcome is 
 answered_by Shows Before Mid After at acted id command (Err NewerSchema) outcome is applies leaves = absurd applies
 
 -- so all of one more are answered
-pub all_one_more : (First Shows : Catalogue → Type 0) (Before Mid After : Left) (M : Catalogue) (requests more : List Request) (one : Request) (outcomes : List (Result Kept CommandRefusal)) (answer : Result Kept Fault) (outcome : Result Kept CommandRefusal)
+pub all_one_more : (First Shows : Catalogue → Type 0) (Before Mid After : Left) (M : Catalogue) (requests more : List CommandRequest) (one : CommandRequest) (outcomes : List (Result Kept CommandRefusal)) (answer : Result Kept Fault) (outcome : Result Kept CommandRefusal)
     → more ≡ requests ++ one ∷ [] → settled_answer answer ≡ Ok outcome
     → Applies Shows (after M requests) (step (after M requests) one.id one.command) answer
     → Leaves Mid After (is_some (kept_under (after M requests).kept one.id)) (step (after M requests) one.id one.command).catalogue answer
@@ -158,7 +158,7 @@ all_one_more First Shows Before Mid After M requests more one outcomes answer ou
     })
 
 -- a command failed, and so many stand
-pub halts : (First Shows : Catalogue → Type 0) (Before Mid After : Left) (M : Catalogue) (all : List Request) (stand : ℕ) (one : Request) (outcomes : List (Result Kept CommandRefusal)) (answer : Result Kept Fault) (fault : Fault)
+pub halts : (First Shows : Catalogue → Type 0) (Before Mid After : Left) (M : Catalogue) (all : List CommandRequest) (stand : ℕ) (one : CommandRequest) (outcomes : List (Result Kept CommandRefusal)) (answer : Result Kept Fault) (fault : Fault)
     → take (stand + 1) all ≡ take stand all ++ one ∷ [] → settled_answer answer ≡ Err fault
     → Applies Shows (after M (take stand all)) (step (after M (take stand all)) one.id one.command) answer
     → Leaves Mid After (is_some (kept_under (after M (take stand all)).kept one.id)) (step (after M (take stand all)) one.id one.command).catalogue answer
@@ -261,7 +261,7 @@ fails_by (Err Damaged) fault so = ap (λ r. Err (fault_or fault r)) so
 fails_by (Err NewerSchema) fault so = ap (λ r. Err (fault_or fault r)) so
 
 -- one more command was applied behind the others
-pub applied_one_more : {K : Type 0} (applies : K → Request → Result Kept Fault → K → Type 0) (old between new : K) (front : List Request) (outcomes : List (Result Kept CommandRefusal)) (one : Request) (outcome : Result Kept CommandRefusal)
+pub applied_one_more : {K : Type 0} (applies : K → CommandRequest → Result Kept Fault → K → Type 0) (old between new : K) (front : List CommandRequest) (outcomes : List (Result Kept CommandRefusal)) (one : CommandRequest) (outcome : Result Kept CommandRefusal)
     → AreApplied applies old front outcomes between → applies between one (standing_answer outcome) new → AreApplied applies old (front ++ one ∷ []) (outcomes ++ outcome ∷ []) new
 applied_one_more applies old between new [] [] one outcome all last = (new, subst (λ k. applies k one (standing_answer outcome) new) all last, refl)
 applied_one_more applies old between new [] (other ∷ outcomes) one outcome all last = absurd all

@@ -6,12 +6,12 @@ use Rattle.std.proofs.lemmas.Option.{get_or_from_slice_get, slice_get_within}
 use Rattle.dict_match.specs.declared.strategy.Strategy.{Strategy}
 use Rattle.dict_desk.specs.PlainEntries.{shown_by, is_hit_of, is_shown, texts_listed}
 use Rattle.dict_desk.specs.declared.entries.OwnedEntry.{OwnedEntry}
-use Rattle.dict_desk.specs.declared.entries.Hits.{Hits}
+use Rattle.dict_desk.specs.declared.entries.EntryHits.{EntryHits}
 use Rattle.dict_desk.proofs.SpanLemmas.{behind_same, behind_here}
 use Rattle.dict_desk.proofs.ListedLemmas.{entries_more, hits_same, texts_same, count_more}
 
 -- of the entries before a place this is found
-pub record Counts (strategy : Strategy) (query : List ℕ) (xs : List OwnedEntry) (place : ℕ) (hits : Hits) : Type 0 where
+pub record Counts (strategy : Strategy) (query : List ℕ) (xs : List OwnedEntry) (place : ℕ) (hits : EntryHits) : Type 0 where
   pub entries : hits.entries ≡ length (filter (is_hit_of strategy query) (take place xs))
   pub headwords : hits.headwords ≡ length (texts_listed strategy query (take place xs))
   pub few_entries : hits.entries ≤ place
@@ -21,7 +21,7 @@ pub record Counts (strategy : Strategy) (query : List ℕ) (xs : List OwnedEntry
   pub ordered : hits.span.first ≤ hits.span.end
   pub fits : hits.span.end ≤ place
 
-module _ (strategy : Strategy) (query : List ℕ) (xs : List OwnedEntry) (i : ℕ) (x : OwnedEntry) (at : slice_get xs i ≡ Some x) (hits : Hits) (h : Counts strategy query xs i hits) where
+module _ (strategy : Strategy) (query : List ℕ) (xs : List OwnedEntry) (i : ℕ) (x : OwnedEntry) (at : slice_get xs i ≡ Some x) (hits : EntryHits) (h : Counts strategy query xs i hits) where
   abbrev p : OwnedEntry → Bool
   p entry = is_hit_of strategy query entry
 
@@ -44,7 +44,7 @@ module _ (strategy : Strategy) (query : List ℕ) (xs : List OwnedEntry) (i : �
   }
 
   -- one more entry that is found
-  module _ (hit : is_hit_of strategy query x ≡ true) (repeated : Bool) (is : repeated ≡ is_shown strategy query (shown_by x) (take i xs)) (more : Hits) where
+  module _ (hit : is_hit_of strategy query x ≡ true) (repeated : Bool) (is : repeated ≡ is_shown strategy query (shown_by x) (take i xs)) (more : EntryHits) where
     count_is : more.headwords ≡ (if repeated then hits.headwords else hits.headwords + 1) → more.headwords ≡ length (texts_listed strategy query (take (i + 1) xs))
     count_is e =
         e ∙ (ap (λ n. if repeated then n else n + 1) h.headwords

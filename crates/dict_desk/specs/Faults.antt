@@ -1,11 +1,11 @@
 -- The number and the name of each fault, as users see them, and which faults are failures.
 use Rattle.std.specs.Prelude.{ℕ, Bool, true, false, List, codes, Result, Ok, Err}
-use Rattle.dict_catalogue.specs.Refusals.{refusal_number, refusal_name}
+use Rattle.dict_catalogue.specs.Refusals.{command_refusal_number, command_refusal_name}
 use Rattle.dict_desk.specs.declared.fault.Fault.{Fault}
 use Rattle.dict_desk.specs.declared.fault.Fault.TheVariants.{Refused, Memory, Disk, Closed, NotACatalogue, Damaged, NewerSchema}
 
 abbrev pub fault_number : Fault → ℕ
-fault_number (Refused refusal) = refusal_number refusal
+fault_number (Refused refusal) = command_refusal_number refusal
 fault_number Memory = 40
 fault_number Disk = 41
 fault_number Closed = 42
@@ -14,7 +14,7 @@ fault_number Damaged = 44
 fault_number NewerSchema = 45
 
 abbrev pub fault_name : Fault → List ℕ
-fault_name (Refused refusal) = refusal_name refusal
+fault_name (Refused refusal) = command_refusal_name refusal
 fault_name Memory = codes "Memory"
 fault_name Disk = codes "Disk"
 fault_name Closed = codes "Closed"

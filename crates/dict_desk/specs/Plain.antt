@@ -11,7 +11,7 @@ use Rattle.dict_catalogue.specs.Views.{kept_shown}
 use Rattle.dict_catalogue.specs.WellFormed.{IsWellFormed}
 use Rattle.dict_desk.specs.Found.{is_found}
 use Rattle.dict_desk.specs.PlainEntries.{LieWithin}
-use Rattle.dict_desk.specs.declared.counted.Counted.{Counted}
+use Rattle.dict_desk.specs.declared.counted.CountedQuestion.{CountedQuestion}
 use Rattle.dict_desk.specs.declared.fault.Fault.{Fault}
 use Rattle.dict_desk.specs.declared.fault.Fault.TheVariants.{Refused, Memory, Disk, Closed, NotACatalogue, Damaged, NewerSchema}
 use Rattle.dict_desk.specs.declared.replies.Filed.{Filed}
@@ -32,15 +32,15 @@ WantsMemory old new Damaged = ⊥
 WantsMemory old new NewerSchema = ⊥
 
 -- the edition of this number
-abbrev pub numbered : ℕ → List (Stored Edition) → Option (Stored Edition)
-numbered number editions = find (λ stored. stored.number == number) editions
+abbrev pub edition_by_number : ℕ → List (Stored Edition) → Option (Stored Edition)
+edition_by_number number editions = find (λ stored. stored.number == number) editions
 
 abbrev pub no_edition : Edition
 no_edition = record { title = []; info = []; entries = [] }
 
 -- an edition by its number, in place of its title
 abbrev pub stored_from : List (Stored Edition) → Stored (List ℕ) → Stored Edition
-stored_from editions titled = record { number = titled.number; content = unwrap_or (option_map (λ stored. stored.content) (numbered titled.number editions)) no_edition }
+stored_from editions titled = record { number = titled.number; content = unwrap_or (option_map (λ stored. stored.content) (edition_by_number titled.number editions)) no_edition }
 
 abbrev pub item_from : List (Stored Edition) → Item (List ℕ) → Item Edition
 item_from editions (regular name current former) = regular name (stored_from editions current) (option_map (stored_from editions) former)
@@ -65,21 +65,21 @@ pub record ArePlaces (places : List ℕ → Option ℕ) (kept : List KeptFor) : 
   pub within : (id : List ℕ) → IfSome (places id) (λ n. n < length kept)
 
 -- the edition is found by its number
-abbrev pub IsHeld : List (Stored Edition) → Stored Edition → Type 0
-IsHeld editions stored = numbered stored.number editions ≡ Some stored
+abbrev pub IsFoundByNumber : List (Stored Edition) → Stored Edition → Type 0
+IsFoundByNumber editions stored = edition_by_number stored.number editions ≡ Some stored
 
 -- the parts agree with one another, and the catalogue that they make is well formed
 pub record AreInStep (summary : Holdings (List ℕ)) (editions : List (Stored Edition)) (replies : List Filed) (places : List ℕ → Option ℕ) : Type 0 where
   pub whole : summary ≡ summary_of (catalogue_from summary editions replies)
-  pub held : AllByRecursion (λ item. AllByRecursion (IsHeld editions) (editions_of item)) (catalogue_from summary editions replies).items
+  pub held : AllByRecursion (λ item. AllByRecursion (IsFoundByNumber editions) (editions_of item)) (catalogue_from summary editions replies).items
   pub early : AllByRecursion (λ stored. stored.number ≤ summary.installs) editions
   pub filed : ArePlaces places (map filed_shown replies)
   pub well_formed : IsWellFormed (catalogue_from summary editions replies)
 
 -- in the edition that was counted, all entries that the query finds lie in the span
-abbrev pub HoldsSpan : List (Stored Edition) → Counted → Type 0
+abbrev pub HoldsSpan : List (Stored Edition) → CountedQuestion → Type 0
 HoldsSpan editions counted =
-    (stored : Stored Edition) → numbered counted.number editions ≡ Some stored → LieWithin (is_found counted.strategy counted.query) stored.content.entries counted.span.first counted.span.end
+    (stored : Stored Edition) → edition_by_number counted.number editions ≡ Some stored → LieWithin (is_found counted.strategy counted.query) stored.content.entries counted.span.first counted.span.end
 
 -- the edition that a command installs, under this number
 abbrev pub newly_installed : ℕ → Command Edition → List (Stored Edition)
@@ -90,5 +90,5 @@ newly_installed number (put_virtual name title members) = []
 newly_installed number (place name at) = []
 
 -- the number of the edition is none of these
-abbrev pub stays : List ℕ → Stored Edition → Bool
-stays gone stored = not (list_any (λ one. one == stored.number) gone)
+abbrev pub is_not_gone : List ℕ → Stored Edition → Bool
+is_not_gone gone stored = not (list_any (λ one. one == stored.number) gone)

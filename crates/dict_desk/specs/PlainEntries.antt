@@ -18,16 +18,16 @@ abbrev pub shown_by : OwnedEntry → List ℕ
 shown_by entry = string_bytes entry.said.value.shown
 
 -- the line of the index that made the entry
-abbrev pub line_of : OwnedEntry → Line
-line_of entry = record { headword = headword_of entry; offset = entry.said.value.offset; size = entry.said.value.size; shown = shown_by entry }
+abbrev pub owned_line_of : OwnedEntry → Line
+owned_line_of entry = record { headword = headword_of entry; offset = entry.said.value.offset; size = entry.said.value.size; shown = shown_by entry }
 
 -- the entry, with the text that its interval cuts out
-abbrev pub entry_of : List ℕ → OwnedEntry → Entry
-entry_of text entry = entry_in text (line_of entry)
+abbrev pub entry_cut_from : List ℕ → OwnedEntry → Entry
+entry_cut_from text entry = entry_in text (owned_line_of entry)
 
 -- the key is the headword's
-abbrev pub HasItsKey : OwnedEntry → Type 0
-HasItsKey entry = entry.key ≡ key_of (headword_of entry)
+abbrev pub IsKeyedByHeadword : OwnedEntry → Type 0
+IsKeyedByHeadword entry = entry.key ≡ key_of (headword_of entry)
 
 -- so many entries stand up to a place, or none
 abbrev pub up_to : Option ℕ → ℕ
@@ -53,7 +53,7 @@ is_shown strategy query text entries = list_any (bytes_eq text) (map shown_by (f
 
 -- the rows that are handed out of these entries, as they are gone through
 abbrev pub rows_found : List ℕ → Strategy → List ℕ → List OwnedEntry → List Row
-rows_found text strategy query entries = map (λ entry. row_of (entry_of text entry)) (filter (is_hit_of strategy query) entries)
+rows_found text strategy query entries = map (λ entry. row_of (entry_cut_from text entry)) (filter (is_hit_of strategy query) entries)
 
 -- what is shown of those that a query finds, each text once
 abbrev pub texts_listed : Strategy → List ℕ → List OwnedEntry → List (List ℕ)

@@ -9,14 +9,14 @@ use Rattle.dict_desk.specs.Asked.{Definition, Match}
 abbrev pub iron : Entry
 iron = record { headword = codes "iron"; shown = codes "iron"; body = codes "iron\n  ore\n" }
 
-abbrev pub opal : Entry
-opal = record { headword = codes "opal"; shown = codes "opal"; body = codes "opal\n  a stone\n" }
+abbrev pub opal_entry : Entry
+opal_entry = record { headword = codes "opal"; shown = codes "opal"; body = codes "opal\n  a stone\n" }
 
-abbrev pub fire_opal : Entry
-fire_opal = record { headword = codes "Fire Opal"; shown = codes "Fire Opal"; body = codes "opal\n  a stone\n" }
+abbrev pub fire_opal_entry : Entry
+fire_opal_entry = record { headword = codes "Fire Opal"; shown = codes "Fire Opal"; body = codes "opal\n  a stone\n" }
 
-abbrev pub dot : Entry
-dot = record { headword = codes "dot"; shown = codes "dot"; body = codes ".dot\n" }
+abbrev pub dot_entry : Entry
+dot_entry = record { headword = codes "dot"; shown = codes "dot"; body = codes ".dot\n" }
 
 abbrev pub dot_again : Entry
 dot_again = record { headword = codes "dot"; shown = codes "dot"; body = codes "a dot\n" }
@@ -25,10 +25,10 @@ abbrev pub ores : Edition
 ores = record { title = codes "Ores"; info = []; entries = iron ∷ [] }
 
 abbrev pub gems : Edition
-gems = record { title = codes "Gems"; info = []; entries = opal ∷ fire_opal ∷ dot ∷ [] }
+gems = record { title = codes "Gems"; info = []; entries = opal_entry ∷ fire_opal_entry ∷ dot_entry ∷ [] }
 
 abbrev pub old_gems : Edition
-old_gems = record { title = codes "Old"; info = []; entries = opal ∷ dot ∷ opal ∷ dot_again ∷ [] }
+old_gems = record { title = codes "Old"; info = []; entries = opal_entry ∷ dot_entry ∷ opal_entry ∷ dot_again ∷ [] }
 
 -- `ore`, then `gem` with a former edition, then `all`, which lists both in the other order
 abbrev pub worked_catalogue : Catalogue

@@ -4,25 +4,30 @@ ghost use Rattle.dict_desk.specs.Found.{is_found};
 ghost use Rattle.dict_desk.specs.PlainEntries.{LieWithin};
 
 use crate::edition::PlainEdition;
-use crate::entries::Span;
+use crate::entries::PlaceSpan;
 use dict_match::{Key, Strategy};
 
 /// A question of an edition that was counted, and the span of what it found.
 #[derive(Drop)]
-pub(crate) struct Counted {
+pub(crate) struct CountedQuestion {
     pub number: u64,
     pub strategy: Strategy,
     pub query: Key,
-    pub span: Span,
+    pub span: PlaceSpan,
 }
 
-impl Counted {
+impl CountedQuestion {
     // A note of the question and its span, or none where there is no memory for it.
-    pub(crate) fn note(number: u64, strategy: Strategy, query: &Key, span: Span) -> Option<Self>
+    pub(crate) fn note(
+        number: u64,
+        strategy: Strategy,
+        query: &Key,
+        span: PlaceSpan,
+    ) -> Option<Self>
         ensures { IfSome result (λ counted. (counted.number ≡ number) × (counted.strategy ≡ strategy) × (counted.query ≡ query.now) × (counted.span ≡ span)) }
     {
         let query = query.clone().ok()?;
-        Some(Counted {
+        Some(CountedQuestion {
             number,
             strategy,
             query,
@@ -43,11 +48,11 @@ impl Counted {
 // The span in which all entries of the edition lie that the query finds: that of the question which was counted last,
 // where it is this one, or else the whole.
 pub(crate) fn span_of(
-    counted: Option<&Counted>,
+    counted: Option<&CountedQuestion>,
     edition: &PlainEdition,
     strategy: Strategy,
     query: &Key,
-) -> Span
+) -> PlaceSpan
     requires { IfSome counted (λ one. one.now.number ≡ edition.now.number → LieWithin (is_found one.now.strategy one.now.query) edition.now.content.entries one.now.span.first one.now.span.end) }
     ensures { LieWithin (is_found strategy query.now) edition.now.content.entries result.first result.end }
 {

@@ -1,7 +1,7 @@
 // An edition that is kept in memory.
 ghost use Rattle.std.specs.Prelude.{◌≡◌, ◌≤◌, ◌==◌, not, filter, IfOk, option_map, length, vec_capacity, vec_len};
 ghost use Rattle.std.specs.List.{list_any};
-ghost use Rattle.dict_desk.specs.Plain.{numbered};
+ghost use Rattle.dict_desk.specs.Plain.{edition_by_number};
 ghost use Rattle.dict_index.specs.Edition.{edition_of};
 ghost use Rattle.dict_desk.specs.Found.{is_found};
 ghost use Rattle.dict_desk.specs.PlainEntries.{LieWithin};
@@ -9,7 +9,7 @@ ghost use Rattle.dict_desk.specs.declared.lookup.What.TheVariants.{Entries, Head
 ghost use Rattle.dict_desk.specs.Shown.{found_rows, headword_rows, info_rows, count_of};
 
 use crate::entries::{
-    Hits, OwnedEntry, Span, hand_found, hand_headwords, hits_among, owned_entries,
+    EntryHits, OwnedEntry, PlaceSpan, hand_found, hand_headwords, hits_among, owned_entries,
 };
 use crate::lookup::End;
 use crate::sink::{Demand, Row, RowSink};
@@ -34,18 +34,18 @@ impl Model for PlainEdition {
     ghost use Rattle.std.specs.List.{AllByRecursion};
     ghost use Rattle.dict_index.specs.Edition.{Edition};
     ghost use Rattle.dict_catalogue.specs.Items.{Stored};
-    ghost use Rattle.dict_desk.specs.PlainEntries.{entry_of, HasItsKey, AreLinked};
+    ghost use Rattle.dict_desk.specs.PlainEntries.{entry_cut_from, IsKeyedByHeadword, AreLinked};
 
     ghost Value = { Stored Edition };
 
-    ghost view = { λ e. record { number = e.number; content = record { title = string_bytes e.title; info = string_bytes e.info; entries = map (entry_of e.text.items) e.entries.items } } };
+    ghost view = { λ e. record { number = e.number; content = record { title = string_bytes e.title; info = string_bytes e.info; entries = map (entry_cut_from e.text.items) e.entries.items } } };
 
-    ghost invariant = { λ e. AllByRecursion HasItsKey e.entries.items × AreLinked e.entries.items };
+    ghost invariant = { λ e. AllByRecursion IsKeyedByHeadword e.entries.items × AreLinked e.entries.items };
 }
 
 // The edition of this number.
 pub(crate) fn edition_numbered(editions: &[PlainEdition], number: u64) -> Option<&PlainEdition>
-    ensures { option_map (λ edition. edition.now) result ≡ numbered number editions.now }
+    ensures { option_map (λ edition. edition.now) result ≡ edition_by_number number editions.now }
 {
     editions.iter().find(|edition| edition.number() == number)
 }
@@ -80,7 +80,7 @@ impl PlainEdition {
     }
 
     // What a query finds.
-    pub(crate) fn hits(&self, strategy: Strategy, query: &[u8]) -> Hits
+    pub(crate) fn hits(&self, strategy: Strategy, query: &[u8]) -> EntryHits
         ensures entries { result.entries ≡ count_of Entries strategy query.now self.now.content }
         ensures headwords { result.headwords ≡ count_of Headwords strategy query.now self.now.content }
         ensures within { LieWithin (is_found strategy query.now) self.now.content.entries result.span.first result.span.end }
@@ -91,7 +91,7 @@ impl PlainEdition {
     // Hands out the entries that a query finds, all of which lie in the span.
     pub(crate) fn find<T: RowSink>(
         &self,
-        span: Span,
+        span: PlaceSpan,
         strategy: Strategy,
         query: &[u8],
         sink: &mut T,
@@ -112,7 +112,7 @@ impl PlainEdition {
     // Hands out the headwords shown of the entries that a query finds, all of which lie in the span.
     pub(crate) fn heads<T: RowSink>(
         &self,
-        span: Span,
+        span: PlaceSpan,
         strategy: Strategy,
         query: &[u8],
         sink: &mut T,
@@ -125,11 +125,11 @@ impl PlainEdition {
     }
 
     // The span of all entries.
-    pub(crate) fn whole(&self) -> Span
+    pub(crate) fn whole(&self) -> PlaceSpan
         ensures first { result.first ≡ 0 }
         ensures end { result.end ≡ length self.now.content.entries }
     {
-        Span {
+        PlaceSpan {
             first: 0,
             end: self.entries.len(),
         }

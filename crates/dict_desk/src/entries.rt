@@ -3,7 +3,7 @@ ghost use Rattle.std.specs.Prelude.{◌≡◌, ◌≤◌, ◌<◌, ◌==◌, ◌
 ghost use Rattle.std.specs.List.{AllByRecursion};
 ghost use Rattle.dict_index.specs.Views.{line_of as line_read, HasBodyIn, HasItsKey as HasKeyRead};
 ghost use Rattle.dict_desk.specs.Shown.{row, row_of};
-ghost use Rattle.dict_desk.specs.PlainEntries.{line_of, entry_of, shown_by, HasItsKey, AreLinked, is_hit_of, is_shown, texts_listed, rows_found, rows_listed, LieWithin};
+ghost use Rattle.dict_desk.specs.PlainEntries.{owned_line_of, entry_cut_from, shown_by, IsKeyedByHeadword, AreLinked, is_hit_of, is_shown, texts_listed, rows_found, rows_listed, LieWithin};
 
 use crate::lookup::End;
 use crate::sink::{Demand, Row, RowSink};
@@ -15,7 +15,7 @@ use std::collections::BTreeMap;
 /// What a line of the index says: a headword, what replies show of it, and where its text stands in that of its edition;
 /// and the place of the last entry before this one that shows the same text, if there is one.
 #[derive(Drop)]
-pub(crate) struct Said {
+pub(crate) struct SaidEntry {
     pub headword: String,
     pub shown: String,
     pub offset: usize,
@@ -28,14 +28,14 @@ pub(crate) struct Said {
 #[derive(Drop)]
 pub(crate) struct OwnedEntry {
     pub key: Key,
-    pub said: Box<Said>,
+    pub said: Box<SaidEntry>,
 }
 
 // The entries, with memory of their own. The last place of each text that was shown is looked up in a map in order.
 pub(crate) fn owned_entries(alloc: Global, entries: &[Entry]) -> Result<Vec<OwnedEntry>, AllocError>
     requires { AllByRecursion HasKeyRead entries.now }
-    ensures lines { IfOk result (λ owned. map line_of owned.items ≡ map line_read entries.now) }
-    ensures keys { IfOk result (λ owned. AllByRecursion HasItsKey owned.items) }
+    ensures lines { IfOk result (λ owned. map owned_line_of owned.items ≡ map line_read entries.now) }
+    ensures keys { IfOk result (λ owned. AllByRecursion IsKeyedByHeadword owned.items) }
     ensures links { IfOk result (λ owned. AreLinked owned.items) }
 {
     let mut owned = Vec::with_capacity(alloc, entries.len())?;
@@ -55,13 +55,13 @@ fn owned_entry(
     earlier: Option<usize>,
 ) -> Result<OwnedEntry, AllocError>
     requires { HasKeyRead entry.now }
-    ensures line { IfOk result (λ owned. line_of owned ≡ line_read entry.now) }
-    ensures key { IfOk result HasItsKey }
+    ensures line { IfOk result (λ owned. owned_line_of owned ≡ line_read entry.now) }
+    ensures key { IfOk result IsKeyedByHeadword }
     ensures link { IfOk result (λ owned. owned.said.value.earlier ≡ earlier) }
 {
     let headword = String::from_str(alloc, entry.headword)?;
     let shown = String::from_str(alloc, entry.shown)?;
-    let said = Said {
+    let said = SaidEntry {
         headword,
         shown,
         offset: entry.offset,
@@ -77,7 +77,7 @@ fn owned_entry(
 // Whether a query finds the entry.
 #[inline(always)]
 fn finds(strategy: Strategy, query: &[u8], entry: &OwnedEntry) -> bool
-    requires { HasItsKey entry.now }
+    requires { IsKeyedByHeadword entry.now }
     ensures { result ≡ is_hit_of strategy query.now entry.now }
 {
     let key = entry.key.as_bytes();
@@ -96,7 +96,7 @@ fn is_repeated(
     strategy: Strategy,
     query: &[u8],
 ) -> bool
-    requires keys { AllByRecursion HasItsKey entries.now }
+    requires keys { AllByRecursion IsKeyedByHeadword entries.now }
     requires links { AreLinked entries.now }
     requires here { slice_get entries.now place ≡ Some entry.now }
     ensures { result ≡ is_shown strategy query.now (shown_by entry.now) (take place entries.now) }
@@ -114,7 +114,7 @@ fn is_repeated(
 
 // Whether a query finds the entry at this place, and none before it that shows the same text.
 fn lists(entries: &[OwnedEntry], place: usize, strategy: Strategy, query: &[u8]) -> bool
-    requires keys { AllByRecursion HasItsKey entries.now }
+    requires keys { AllByRecursion IsKeyedByHeadword entries.now }
     requires links { AreLinked entries.now }
     requires place { place < length entries.now }
     ensures { (entry : OwnedEntry) → slice_get entries.now place ≡ Some entry → result ≡ (is_hit_of strategy query.now entry && not (is_shown strategy query.now (shown_by entry) (take place entries.now))) }
@@ -125,7 +125,7 @@ fn lists(entries: &[OwnedEntry], place: usize, strategy: Strategy, query: &[u8])
 
 /// The places from the first one up to the end.
 #[derive(Clone, Copy)]
-pub(crate) struct Span {
+pub(crate) struct PlaceSpan {
     pub first: usize,
     pub end: usize,
 }
@@ -133,14 +133,14 @@ pub(crate) struct Span {
 /// What a query finds: how many entries, how many headwords are shown of them, and a span in which all these entries
 /// lie.
 #[derive(Clone, Copy)]
-pub(crate) struct Hits {
+pub(crate) struct EntryHits {
     pub entries: u64,
     pub headwords: u64,
-    pub span: Span,
+    pub span: PlaceSpan,
 }
 
 // One entry more, which lies behind those before it.
-fn with(hits: Hits, place: usize, is_repeated: bool) -> Hits
+fn with(hits: EntryHits, place: usize, is_repeated: bool) -> EntryHits
     requires entries { hits.entries ≤ place }
     requires headwords { hits.headwords ≤ place }
     requires place { place < 9223372036854775808 }
@@ -155,10 +155,10 @@ fn with(hits: Hits, place: usize, is_repeated: bool) -> Hits
         hits.span.first
     };
     let firsts = if is_repeated { 0 } else { 1 };
-    Hits {
+    EntryHits {
         entries: hits.entries + 1,
         headwords: hits.headwords + firsts,
-        span: Span {
+        span: PlaceSpan {
             first,
             end: place + 1,
         },
@@ -166,17 +166,17 @@ fn with(hits: Hits, place: usize, is_repeated: bool) -> Hits
 }
 
 // What a query finds among the entries.
-pub(crate) fn hits_among(entries: &[OwnedEntry], strategy: Strategy, query: &[u8]) -> Hits
-    requires keys { AllByRecursion HasItsKey entries.now }
+pub(crate) fn hits_among(entries: &[OwnedEntry], strategy: Strategy, query: &[u8]) -> EntryHits
+    requires keys { AllByRecursion IsKeyedByHeadword entries.now }
     requires links { AreLinked entries.now }
     ensures entries { result.entries ≡ length (filter (is_hit_of strategy query.now) entries.now) }
     ensures headwords { result.headwords ≡ length (texts_listed strategy query.now entries.now) }
     ensures within { LieWithin (is_hit_of strategy query.now) entries.now result.span.first result.span.end }
 {
-    let mut hits = Hits {
+    let mut hits = EntryHits {
         entries: 0,
         headwords: 0,
-        span: Span { first: 0, end: 0 },
+        span: PlaceSpan { first: 0, end: 0 },
     };
     for (place, entry) in entries.iter().enumerate() {
         if finds(strategy, query, entry) {
@@ -195,7 +195,7 @@ pub(crate) fn hand_found<T: RowSink>(
     query: &[u8],
     sink: &mut T,
 ) -> End
-    requires { AllByRecursion HasItsKey entries.now }
+    requires { AllByRecursion IsKeyedByHeadword entries.now }
     ensures all { result ≡ End.All → T.takes sink.old (rows_found text.now strategy query.now entries.now) sink.new }
     ensures stopped { result ≡ End.Stopped → T.stops sink.old (rows_found text.now strategy query.now entries.now) sink.new }
 {
@@ -211,8 +211,8 @@ pub(crate) fn hand_found<T: RowSink>(
 
 // Hands out the entry.
 fn hand_entry<T: RowSink>(text: &[u8], entry: &OwnedEntry, sink: &mut T) -> Demand
-    ensures more { result ≡ Demand.More → T.takes sink.old (row_of (entry_of text.now entry.now) ∷ []) sink.new }
-    ensures stop { result ≡ Demand.Stop → T.stops sink.old (row_of (entry_of text.now entry.now) ∷ []) sink.new }
+    ensures more { result ≡ Demand.More → T.takes sink.old (row_of (entry_cut_from text.now entry.now) ∷ []) sink.new }
+    ensures stop { result ≡ Demand.Stop → T.stops sink.old (row_of (entry_cut_from text.now entry.now) ∷ []) sink.new }
 {
     let shown = entry.said.shown.as_str();
     let text = cut(text, entry.said.offset, entry.said.size);
@@ -230,12 +230,12 @@ fn cut(text: &[u8], offset: usize, size: usize) -> &[u8]
 // Hands out what is shown of the entries that a query finds, all of which lie in the span, each text once.
 pub(crate) fn hand_headwords<T: RowSink>(
     entries: &[OwnedEntry],
-    span: Span,
+    span: PlaceSpan,
     strategy: Strategy,
     query: &[u8],
     sink: &mut T,
 ) -> End
-    requires keys { AllByRecursion HasItsKey entries.now }
+    requires keys { AllByRecursion IsKeyedByHeadword entries.now }
     requires links { AreLinked entries.now }
     requires within { LieWithin (is_hit_of strategy query.now) entries.now span.first span.end }
     ensures all { result ≡ End.All → T.takes sink.old (rows_listed strategy query.now entries.now) sink.new }

@@ -1,6 +1,6 @@
 // What keeps a catalogue.
 ghost use Rattle.std.specs.Prelude.{◌≡◌, ◌↔◌, ◌≤◌, ◌<◌, true, false, ◌||◌, List, Option, Result, IfOk, IfErr, OnOk, Err, is_some, option_map, length, vec_len, ⊤};
-ghost use Rattle.dict_catalogue.specs.Steps.{Catalogue, Request, kept_under, step};
+ghost use Rattle.dict_catalogue.specs.Steps.{Catalogue, CommandRequest, kept_under, step};
 ghost use Rattle.dict_catalogue.specs.declared.reply.Kept.{Kept as Reply};
 ghost use Rattle.dict_catalogue.specs.Views.{command_meant, kept_shown};
 ghost use Rattle.dict_desk.specs.Applying.{Applies, Leaves};
@@ -19,10 +19,10 @@ use thiserror::Error;
 pub trait Keeper: Lookup {
     // Between two of its states a command was applied under the id of its request, and answered so. What applies commands in turn
     // tells by it which of them were.
-    ghost applies: { Self → Request → Result Reply Failure → Self → Type 0 } = { λ _ _ _ _. ⊤ };
+    ghost applies: { Self → CommandRequest → Result Reply Failure → Self → Type 0 } = { λ _ _ _ _. ⊤ };
 
     // Between two of its states a command under the id of its request failed by this fault, for a cause that this names.
-    ghost fails_to_apply: { Self → Request → Self → Failure → Type 0 };
+    ghost fails_to_apply: { Self → CommandRequest → Self → Failure → Type 0 };
 
     /// The reply that is kept under the id of a request, if there is one.
     fn kept(&mut self, id: &str) -> Result<Option<Kept>, Fault>

@@ -13,9 +13,9 @@ ghost use Rattle.dict_desk.specs.Plain.{filed_shown, newly_installed};
 ghost use Rattle.dict_desk.specs.PlainEntries.{LieWithin};
 ghost use Rattle.dict_desk.specs.Found.{is_found};
 
-use crate::counted::{Counted, span_of};
+use crate::counted::{CountedQuestion, span_of};
 use crate::edition::{PlainEdition, edition_numbered, take_out};
-use crate::entries::Span;
+use crate::entries::PlaceSpan;
 use crate::fault::Fault;
 use crate::keeper::Keeper;
 use crate::lookup::{End, Lookup, What};
@@ -37,7 +37,7 @@ pub struct PlainDesk {
     editions: Vec<PlainEdition>,
     replies: Vec<Filed>,
     places: BTreeMap<String, usize>,
-    counted: Option<Counted>,
+    counted: Option<CountedQuestion>,
     has_failed: bool,
 }
 
@@ -93,7 +93,12 @@ impl PlainDesk {
     }
 
     // The edition of this number, and the span in which all its entries lie that the query finds.
-    fn asked(&self, number: u64, strategy: Strategy, query: &Key) -> Option<(&PlainEdition, Span)>
+    fn asked(
+        &self,
+        number: u64,
+        strategy: Strategy,
+        query: &Key,
+    ) -> Option<(&PlainEdition, PlaceSpan)>
         ensures same { (edition : Edition) → HasEdition self.now.catalogue number edition → option_map (λ found. found.0.now) result ≡ Some (record { number = number; content = edition }) }
         ensures within { IfSome result (λ found. LieWithin (is_found strategy query.now) found.0.now.content.entries found.1.first found.1.end) }
     {
@@ -295,7 +300,7 @@ impl Lookup for PlainDesk {
             return Ok(0);
         };
         let hits = edition.hits(strategy, query.as_bytes());
-        self.counted = Counted::note(number, strategy, query, hits.span);
+        self.counted = CountedQuestion::note(number, strategy, query, hits.span);
         Ok(match what {
             What::Entries => hits.entries,
             What::Headwords => hits.headwords,

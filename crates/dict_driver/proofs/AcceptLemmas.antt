@@ -4,7 +4,7 @@ use Rattle.std.specs.Prelude.{Option, Some, None, Ok, Err, option_map, vec_len}
 use Rattle.std.specs.IoError.{error_kind}
 use Rattle.std.specs.declared.io.Error.{Error}
 use Rattle.dict_hub.specs.Runs.{Accepted}
-use Rattle.dict_hub.specs.Hubs.{Has}
+use Rattle.dict_hub.specs.Hubs.{HasHolding}
 use Rattle.dict_hub.specs.declared.fault.HubFault.{HubFault}
 use Rattle.dict_hub.specs.declared.hub.Hub.{Hub}
 use Rattle.dict_hub.specs.declared.kind.Kind.{Kind}
@@ -96,7 +96,7 @@ module _ {T : Type 0} {G : transport.Ghosts T} (refuses : Hub → ℕ → Kind �
   accepted_none kind after error a b from to old new after_is still same asked = (
     accepts kind (Err error) ∷ [],
     asked,
-    (Err error, [], refl, (after_is, refl, same, refl, λ other held has. subst (λ (h : Hub). Has h other held) (sym still) has)),
+    (Err error, [], refl, (after_is, refl, same, refl, λ other held has. subst (λ (h : Hub). HasHolding h other held) (sym still) has)),
   )
 
   -- there was no place for a connection

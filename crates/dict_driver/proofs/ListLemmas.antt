@@ -9,9 +9,9 @@ use Rattle.std.proofs.lemmas.List.Elements.{All-push}
 use Rattle.std.proofs.lemmas.List.Quantifiers.{all_pairs_push}
 use Rattle.std.proofs.lemmas.List.Edits.{get_or-remove_below, get_or-remove_above, length-remove}
 use Rattle.dict_connection.specs.Queues.{waiting}
-use Rattle.dict_driver.specs.Rounds.{WaitsAmong, fitting, room_of}
+use Rattle.dict_driver.specs.Rounds.{WaitsAmong, connections_fitting, room_of}
 use Rattle.dict_driver.specs.Turning.{MarkAll, any}
-use Rattle.dict_connection.specs.Turns.{IsAtRest}
+use Rattle.dict_connection.specs.Turns.{HasNothingToDo}
 use Rattle.dict_driver.proofs.BoolLemmas.{any_more, front_move, last_move}
 use Rattle.dict_connection.specs.declared.connection.Connection.{Connection}
 
@@ -66,11 +66,11 @@ among_drop zero xs id octets h = h
 among_drop (suc n) [] id octets never = absurd never
 among_drop (suc n) (x ∷ xs) id octets h = inr (among_drop n xs id octets h)
 
-pub among_fitting : {T : Type 0} (most : ℕ) (xs : List (Connection T)) (id : ℕ) (octets : List ℕ) → WaitsAmong (fitting most xs) id octets → WaitsAmong xs id octets
+pub among_fitting : {T : Type 0} (most : ℕ) (xs : List (Connection T)) (id : ℕ) (octets : List ℕ) → WaitsAmong (connections_fitting most xs) id octets → WaitsAmong xs id octets
 among_fitting most [] id octets never = absurd never
 among_fitting most (x ∷ xs) id octets h = by_room (λ behind. among_fitting most xs id octets behind) (nat_le (room_of (x ∷ xs)) most) h
   where
-    by_room : (WaitsAmong (fitting most xs) id octets → WaitsAmong xs id octets) → (b : Bool) → WaitsAmong (if b then x ∷ xs else fitting most xs) id octets → WaitsAmong (x ∷ xs) id octets
+    by_room : (WaitsAmong (connections_fitting most xs) id octets → WaitsAmong xs id octets) → (b : Bool) → WaitsAmong (if b then x ∷ xs else connections_fitting most xs) id octets → WaitsAmong (x ∷ xs) id octets
     by_room more true h = h
     by_room more false h = inr (more h)
 
@@ -267,8 +267,8 @@ move_more {X} Changes old now i one after before here both in_now is moved chang
     }
 
 -- one more is at rest
-pub idle_more : {T : Type 0} (now : List (Connection T)) (i : ℕ) (after : Connection T) → i < length now → ((k : ℕ) (d : Connection T) → k < i → k < length now → IsAtRest (get_or now k d))
-    → IsAtRest after → (k : ℕ) (d : Connection T) → k < i + 1 → k < length (set now i after) → IsAtRest (get_or (set now i after) k d)
+pub idle_more : {T : Type 0} (now : List (Connection T)) (i : ℕ) (after : Connection T) → i < length now → ((k : ℕ) (d : Connection T) → k < i → k < length now → HasNothingToDo (get_or now k d))
+    → HasNothingToDo after → (k : ℕ) (d : Connection T) → k < i + 1 → k < length (set now i after) → HasNothingToDo (get_or (set now i after) k d)
 idle_more now i after in_now before idle k d below within =
     let len : length (set now i after) ≡ length now = length-set now i after in
     elim (eqb_tells k i) [

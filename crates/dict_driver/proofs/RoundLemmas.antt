@@ -11,12 +11,12 @@ use Rattle.std.proofs.lemmas.List.{get_or_append_left, get_or-set_other, take-se
 use Rattle.std.proofs.lemmas.Grind.{get_or-set_at}
 use Rattle.dict_hub.specs.Events.{id_of}
 use Rattle.dict_hub.specs.Holding.{Holding}
-use Rattle.dict_hub.specs.Hubs.{Has}
+use Rattle.dict_hub.specs.Hubs.{HasHolding}
 use Rattle.dict_hub.specs.Runs.{Accepted, events_of}
 use Rattle.dict_hub.specs.declared.hub.Hub.{Hub}
 use Rattle.dict_connection.specs.Queues.{waiting}
 use Rattle.dict_connection.specs.Stages.{is_departing, is_held, is_open}
-use Rattle.dict_connection.specs.Events.{AreOf}
+use Rattle.dict_connection.specs.Events.{AreEventsOf}
 use Rattle.dict_connection.specs.OutletCalls.{Call}
 use Rattle.dict_connection.specs.Ordering.{AreOfTurns}
 use Rattle.dict_connection.specs.Quiet.{StaysForReader}
@@ -25,7 +25,7 @@ use Rattle.dict_hub.specs.declared.kind.Kind.{Kind}
 use Rattle.dict_session.specs.Desks.{Condition}
 use Rattle.dict_hub.specs.declared.fault.HubFault.{HubFault}
 use Rattle.dict_connection.specs.Causes.{AreCausedBy, IsRefused}
-use Rattle.dict_connection.specs.Foreseen.{HoldsBack, HoldsBy, KeepsOrder}
+use Rattle.dict_connection.specs.Foreseen.{HoldsBack, HoldsBackBy, KeepsOrder}
 use Rattle.dict_connection.specs.Handing.{are_told, held_for, held_in, is_handed}
 use Rattle.dict_connection.specs.Telling.{KeepsOthers}
 use Rattle.dict_connection.specs.Turns.{Departs, IsOpened, LeadsByAnswer, LeadsByPiece, LeadsByReading, LeadsByTurn, LeadsFurther, Turns}
@@ -74,7 +74,7 @@ abbrev pub AreBelowFrom : {T : Type 0} → List (Connection T) → ℕ → List 
 AreBelowFrom {T} all i events = (k : ℕ) (d : Connection T) → i ≤ k → k < length all → AreBelow (get_or all k d).id events
 
 pub below_from_more : {T : Type 0} (all : List (Connection T)) (i own : ℕ) (es fs : List Accepted) → AllPairs (λ a b. a.id < b.id) all → i < length all → ((d : Connection T) → (get_or all i d).id ≡ own)
-    → AreBelowFrom all i es → AreOf own fs → AreBelowFrom all (i + 1) (es ++ fs)
+    → AreBelowFrom all i es → AreEventsOf own fs → AreBelowFrom all (i + 1) (es ++ fs)
 below_from_more all i own es fs rising within is below of k d from in_all =
     let lt = rising i k d (omega (arith, from)) in_all in
     let same = is d in
@@ -149,13 +149,13 @@ turn_kept taken coming made from to old new moved events keeps turns = record {
 }
 
 -- and so is why octets are held back, where one hub has all of the connection that another has
-holds_by_kept : {K : Type 0} (expects : K → Expected → K → Type 0) (prepares : K → Result Bool Fault → K → Type 0) (behind told : Bool) (between hub : Hub) (from to : K) (id : ℕ) (octets : List ℕ) → ((held : Option Holding) → Has hub id held → Has between id held)
-    → HoldsBy expects prepares behind told between from to id octets → HoldsBy expects prepares behind told hub from to id octets
+holds_by_kept : {K : Type 0} (expects : K → Expected → K → Type 0) (prepares : K → Result Bool Fault → K → Type 0) (behind told : Bool) (between hub : Hub) (from to : K) (id : ℕ) (octets : List ℕ) → ((held : Option Holding) → HasHolding hub id held → HasHolding between id held)
+    → HoldsBackBy expects prepares behind told between from to id octets → HoldsBackBy expects prepares behind told hub from to id octets
 holds_by_kept expects prepares true told between hub from to id octets keeps (same, makes) = (same, (λ held has. makes held (keeps held has)))
 holds_by_kept expects prepares false true between hub from to id octets keeps by = by
 holds_by_kept expects prepares false false between hub from to id octets keeps (told, are, prepared) = (told, (λ held has. are held (keeps held has)), prepared)
 
-holds_kept : {K T : Type 0} (expects : K → Expected → K → Type 0) (prepares : K → Result Bool Fault → K → Type 0) (behind : Bool) (between hub : Hub) (from to : K) (old new : Connection T) → ((held : Option Holding) → Has hub old.id held → Has between old.id held)
+holds_kept : {K T : Type 0} (expects : K → Expected → K → Type 0) (prepares : K → Result Bool Fault → K → Type 0) (behind : Bool) (between hub : Hub) (from to : K) (old new : Connection T) → ((held : Option Holding) → HasHolding hub old.id held → HasHolding between old.id held)
     → HoldsBack expects prepares behind between from to old new → HoldsBack expects prepares behind hub from to old new
 holds_kept expects prepares behind between hub from to old new keeps back still is =
     let holds = back still is in
@@ -167,7 +167,7 @@ holds_kept expects prepares behind between hub from to old new keeps back still 
 
 -- what a hub has of each connection but those before this place another has
 abbrev pub KeepsFrom : {T : Type 0} → List (Connection T) → ℕ → Hub → Hub → Type 0
-KeepsFrom {T} all i old new = (other : ℕ) (held : Option Holding) → ((k : ℕ) (d : Connection T) → k < i → k < length all → (get_or all k d).id ≢ other) → Has old other held → Has new other held
+KeepsFrom {T} all i old new = (other : ℕ) (held : Option Holding) → ((k : ℕ) (d : Connection T) → k < i → k < length all → (get_or all k d).id ≢ other) → HasHolding old other held → HasHolding new other held
 
 pub keeps_more : {T : Type 0} (all : List (Connection T)) (i : ℕ) (one : Connection T) (a b c : Hub) → i < length all → ((d : Connection T) → (get_or all i d).id ≡ one.id) → KeepsFrom all i a b
     → KeepsOthers one.id b c → KeepsFrom all (i + 1) a c
@@ -179,7 +179,7 @@ keeps_whole all i a b whole keeps other held apart has = keeps other held (λ k 
 
 -- a connection from this place on isn't among those before it
 keeps_own : {T : Type 0} (all : List (Connection T)) (i own : ℕ) (a b : Hub) → AllPairs (λ a b. a.id < b.id) all → i < length all → ((d : Connection T) → (get_or all i d).id ≡ own) → KeepsFrom all i a b
-    → (held : Option Holding) → Has a own held → Has b own held
+    → (held : Option Holding) → HasHolding a own held → HasHolding b own held
 keeps_own all i own a b rising within is keeps held has =
     keeps own held (λ k d under below same. (let lt = rising k i d under within in let e = is d in absurd (omega (arith, lt, e, same)))) has
 
@@ -450,7 +450,7 @@ moves_joined a b c es fs first then =
 
 -- a connection was opened
 pub moves_opened : {T : Type 0} {G : Ghosts T} (a b : Connections T G) (one : Connection T) (events : List Accepted) → b.opened.items ≡ a.opened.items ++ one ∷ [] → b.departing.items ≡ a.departing.items → b.last ≡ one.id → a.last < one.id
-    → AreOf one.id events → Flows [] events (waiting one.queue) → Moves a b events
+    → AreEventsOf one.id events → Flows [] events (waiting one.queue) → Moves a b events
 moves_opened a b one events opened departing last above own flows =
     let none : (id : ℕ) → id ≤ a.last → events_of id events ≡ [] = λ id under. own_none one.id id events own (λ same. absurd (omega arith)) in
     record {
@@ -465,7 +465,7 @@ moves_opened a b one events opened departing last above own flows =
                 record {
                   before = [];
                   was = inr (omega arith, refl);
-                  flows = flows_as [] [] events (events_of id events) (waiting one.queue) octets refl (sym (own_all id events (subst (λ (i : ℕ). AreOf i events) same own))) here.1 flows;
+                  flows = flows_as [] [] events (events_of id events) (waiting one.queue) octets refl (sym (own_all id events (subst (λ (i : ℕ). AreEventsOf i events) same own))) here.1 flows;
                 }
             | inr never ↦ absurd never
           ]
@@ -533,7 +533,7 @@ moves_marked is_told a b opened departing id octets (inl is) = inl (marked_among
 moves_marked is_told a b opened departing id octets (inr is) = inr (marked_among is_told a.departing.items b.departing.items id octets departing is)
 
 -- what the opening of a connection is
-pub opened_own : {T : Type 0} (id : ℕ) (kind : Kind) (hub : Hub) (one : Connection T) (events : List Accepted) → IsOpened id kind hub one events → AreOf id events
+pub opened_own : {T : Type 0} (id : ℕ) (kind : Kind) (hub : Hub) (one : Connection T) (events : List Accepted) → IsOpened id kind hub one events → AreEventsOf id events
 opened_own id kind hub one events (accepted, are, is, stage, has, put, count) = rw are (ap id_of is, tt)
 
 pub opened_flows : {T : Type 0} (id : ℕ) (kind : Kind) (hub : Hub) (one : Connection T) (events : List Accepted) → IsOpened id kind hub one events → Flows [] events (waiting one.queue)

@@ -11,10 +11,10 @@ use Rattle.dict_hub.specs.declared.kind.Kind.{Kind}
 use Rattle.dict_connection.specs.OutletCalls.{Call}
 use Rattle.dict_connection.specs.declared.transport.Transport as transport
 use Rattle.dict_driver.specs.Asking.{Asking}
-use Rattle.dict_driver.specs.Served.{AreRounds, IsMade, Round, ended, is_waited}
+use Rattle.dict_driver.specs.Served.{AreRounds, IsRoundMade, Round, ended, is_waited}
 use Rattle.dict_driver.specs.declared.event_loop.EventLoop.{EventLoop}
-use Rattle.dict_driver.specs.declared.serving.Served.{Served}
-use Rattle.dict_driver.specs.declared.serving.Served.TheVariants.{Whole}
+use Rattle.dict_driver.specs.declared.serving.RoundsEnd.{RoundsEnd}
+use Rattle.dict_driver.specs.declared.serving.RoundsEnd.TheVariants.{Whole}
 
 -- the wait behind a round in which something happened, or behind which the desk is closed
 pub waits_not : (moved : Bool) (rounds : ℕ) → is_waited (Ok moved) true rounds ≡ false
@@ -32,17 +32,17 @@ module _ {K T S : Type 0} {G : transport.Ghosts T} (Shows : K → Catalogue → 
   -- so far these were made, with so many that are left, and none of them ended it
   abbrev pub AreMade : ℕ → EventLoop T S G → K → EventLoop T S G → K → List (Round K T S G) → ℕ → Type 0
   AreMade rounds old desk now left [] rest = (rest ≡ rounds) × (now ≡ old) × (left ≡ desk)
-  AreMade rounds old desk now left (one ∷ others) rest = (one.before ≡ old) × (one.desk ≡ desk) × IsMade Shows LeavesOneOf IsTrusted has_failed is_closed expects prepares taken coming made refuses asked told wait rounds one
+  AreMade rounds old desk now left (one ∷ others) rest = (one.before ≡ old) × (one.desk ≡ desk) × IsRoundMade Shows LeavesOneOf IsTrusted has_failed is_closed expects prepares taken coming made refuses asked told wait rounds one
       × (ended one.result (is_closed one.left) one.waited rounds ≡ None) × AreMade (rounds - 1) one.after one.left now left others rest
 
   -- one more that didn't end it
   pub made_more : (rounds rest next : ℕ) (old now : EventLoop T S G) (desk left : K) (rs : List (Round K T S G)) (one : Round K T S G) → AreMade rounds old desk now left rs rest
-      → one.before ≡ now → one.desk ≡ left → IsMade Shows LeavesOneOf IsTrusted has_failed is_closed expects prepares taken coming made refuses asked told wait rest one → ended one.result (is_closed one.left) one.waited rest ≡ None → next ≡ rest - 1
+      → one.before ≡ now → one.desk ≡ left → IsRoundMade Shows LeavesOneOf IsTrusted has_failed is_closed expects prepares taken coming made refuses asked told wait rest one → ended one.result (is_closed one.left) one.waited rest ≡ None → next ≡ rest - 1
       → AreMade rounds old desk one.after one.left (rs ++ one ∷ []) next
   made_more rounds rest next old now desk left [] one (same, still, kept) before over is goes less = (
     before ∙ still,
     over ∙ kept,
-    subst (λ (n : ℕ). IsMade Shows LeavesOneOf IsTrusted has_failed is_closed expects prepares taken coming made refuses asked told wait n one) same is,
+    subst (λ (n : ℕ). IsRoundMade Shows LeavesOneOf IsTrusted has_failed is_closed expects prepares taken coming made refuses asked told wait n one) same is,
     subst (λ (n : ℕ). ended one.result (is_closed one.left) one.waited n ≡ None) same goes,
     (less ∙ ap (λ (n : ℕ). n - 1) same, refl, refl),
   )
@@ -50,13 +50,13 @@ module _ {K T S : Type 0} {G : transport.Ghosts T} (Shows : K → Catalogue → 
       (begins, on, was, went, made_more (rounds - 1) rest next first.after now first.left left rs one then before over is goes less)
 
   -- one that ended it
-  pub made_last : (rounds rest : ℕ) (old now : EventLoop T S G) (desk left : K) (rs : List (Round K T S G)) (one : Round K T S G) (result : Result Served Error) → AreMade rounds old desk now left rs rest
-      → one.before ≡ now → one.desk ≡ left → IsMade Shows LeavesOneOf IsTrusted has_failed is_closed expects prepares taken coming made refuses asked told wait rest one → ended one.result (is_closed one.left) one.waited rest ≡ Some result
+  pub made_last : (rounds rest : ℕ) (old now : EventLoop T S G) (desk left : K) (rs : List (Round K T S G)) (one : Round K T S G) (result : Result RoundsEnd Error) → AreMade rounds old desk now left rs rest
+      → one.before ≡ now → one.desk ≡ left → IsRoundMade Shows LeavesOneOf IsTrusted has_failed is_closed expects prepares taken coming made refuses asked told wait rest one → ended one.result (is_closed one.left) one.waited rest ≡ Some result
       → AreRounds Shows LeavesOneOf IsTrusted has_failed is_closed expects prepares taken coming made refuses asked told wait rounds old desk one.after one.left (rs ++ one ∷ []) result
   made_last rounds rest old now desk left [] one result (same, still, kept) before over is ends = (
     before ∙ still,
     over ∙ kept,
-    subst (λ (n : ℕ). IsMade Shows LeavesOneOf IsTrusted has_failed is_closed expects prepares taken coming made refuses asked told wait n one) same is,
+    subst (λ (n : ℕ). IsRoundMade Shows LeavesOneOf IsTrusted has_failed is_closed expects prepares taken coming made refuses asked told wait n one) same is,
     inl (subst (λ (n : ℕ). ended one.result (is_closed one.left) one.waited n ≡ Some result) same ends, refl, refl, refl),
   )
   made_last rounds rest old now desk left (first ∷ rs) one result (begins, on, was, went, then) before over is ends =

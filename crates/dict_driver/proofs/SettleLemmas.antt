@@ -5,7 +5,7 @@ use Rattle.std.proofs.lemmas.List.{drop-append-le, drop-drop}
 use Rattle.std.proofs.lemmas.List.Elements.{filter-append}
 use Rattle.dict_connection.specs.Stages.{is_departing, is_open}
 use Rattle.std.specs.Prelude.{nat_le, if◌then◌else◌}
-use Rattle.dict_driver.specs.Rounds.{fitting, latest, room_of}
+use Rattle.dict_driver.specs.Rounds.{connections_fitting, latest, room_of}
 use Rattle.dict_connection.specs.declared.connection.Connection.{Connection}
 use Rattle.dict_connection.specs.declared.stage.Stage.{Stage}
 use Rattle.dict_connection.specs.declared.stage.Stage.TheVariants as stages
@@ -160,14 +160,14 @@ parted_close {T} all opened held departing opened_now departing_now place x with
 -- ---- those that have room for no more octets together than they may
 
 -- all, where they do
-pub fitting_all : {T : Type 0} (most : ℕ) (xs : List (Connection T)) → nat_le (room_of xs) most ≡ true → fitting most xs ≡ xs
+pub fitting_all : {T : Type 0} (most : ℕ) (xs : List (Connection T)) → nat_le (room_of xs) most ≡ true → connections_fitting most xs ≡ xs
 fitting_all most [] fits = refl
-fitting_all most (x ∷ xs) fits = ap (λ b. if b then x ∷ xs else fitting most xs) fits
+fitting_all most (x ∷ xs) fits = ap (λ b. if b then x ∷ xs else connections_fitting most xs) fits
 
 -- and where they don't, those behind the first
-pub fitting_less : {T : Type 0} (most : ℕ) (xs : List (Connection T)) → nat_le (room_of xs) most ≡ false → fitting most xs ≡ fitting most (remove xs 0)
+pub fitting_less : {T : Type 0} (most : ℕ) (xs : List (Connection T)) → nat_le (room_of xs) most ≡ false → connections_fitting most xs ≡ connections_fitting most (remove xs 0)
 fitting_less most [] exceeds = refl
-fitting_less most (x ∷ xs) exceeds = ap (λ b. if b then x ∷ xs else fitting most xs) exceeds
+fitting_less most (x ∷ xs) exceeds = ap (λ b. if b then x ∷ xs else connections_fitting most xs) exceeds
 
 pub some_exceed : {T : Type 0} (xs : List (Connection T)) → nat_le (room_of xs) 33554432 ≡ false → 0 < length xs
 some_exceed [] exceeds = absurd (let never : true ≡ false = exceeds in cc)

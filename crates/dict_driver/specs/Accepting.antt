@@ -59,8 +59,8 @@ module _ {T : Type 0} {G : transport.Ghosts T} (refuses : Hub → ℕ → Kind �
 
 module _ {T S : Type 0} {G : transport.Ghosts T} (refuses : Hub → ℕ → Kind → Option HubFault → Type 0) (asked : S → Option (List (Asking T))) where
   -- this was asked of the sockets
-  abbrev pub HasTaken : T → Kind → EventLoop T S G → EventLoop T S G → List Accepted → Type 0
-  HasTaken transport kind old new events =
+  abbrev pub HasTakenConnection : T → Kind → EventLoop T S G → EventLoop T S G → List Accepted → Type 0
+  HasTakenConnection transport kind old new events =
       (calls : List (Asking T)) × Asks (asked old.sockets) (asked new.sockets) calls
       × Takes refuses transport kind old.hub new.hub old.connections new.connections calls events
 

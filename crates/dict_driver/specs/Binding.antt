@@ -34,9 +34,9 @@ abbrev pub IsBound : {L : Type 0} → (L → SocketAddr → SocketAddr → Type 
 IsBound {L} is_bound text = (listener : L) × (told : SocketAddr) × IsBoundFor is_bound text listener told
 
 -- none is bound to it: the text says no address, or it does, and this is the error by which the system refused it
-abbrev pub IsRefused : (SocketAddr → Error → Type 0) → List ℕ → AddressFault → Type 0
-IsRefused refuses text Unread = IsAddress text → ⊥
-IsRefused refuses text (Unbound error) = (asked : SocketAddr) × IsSocketText text asked × refuses asked error
+abbrev pub IsAddressRefused : (SocketAddr → Error → Type 0) → List ℕ → AddressFault → Type 0
+IsAddressRefused refuses text Unread = IsAddress text → ⊥
+IsAddressRefused refuses text (Unbound error) = (asked : SocketAddr) × IsSocketText text asked × refuses asked error
 
 -- Listening sockets are bound to both addresses, that for readers first, and the sockets are over these two; or the first fault is told,
 -- with the error by which the system refused it: that for readers comes before that for editors, and both before all others
@@ -44,8 +44,8 @@ abbrev pub BindsBoth : {L S : Type 0} → (L → SocketAddr → SocketAddr → T
     → List ℕ → List ℕ → Result (S × (SocketAddr × SocketAddr)) BindFault → Type 0
 BindsBoth {L} is_bound refuses is_over is_unwatched dict http (Ok bound) =
     (readers : L) × (editors : L) × IsBoundFor is_bound dict readers bound.1.0 × IsBoundFor is_bound http editors bound.1.1 × is_over bound.0 readers editors
-BindsBoth is_bound refuses is_over is_unwatched dict http (Err (Dict fault)) = IsRefused refuses dict fault
-BindsBoth is_bound refuses is_over is_unwatched dict http (Err (Http fault)) = IsBound is_bound dict × IsRefused refuses http fault
+BindsBoth is_bound refuses is_over is_unwatched dict http (Err (Dict fault)) = IsAddressRefused refuses dict fault
+BindsBoth is_bound refuses is_over is_unwatched dict http (Err (Http fault)) = IsBound is_bound dict × IsAddressRefused refuses http fault
 BindsBoth is_bound refuses is_over is_unwatched dict http (Err (Wait error)) = IsBound is_bound dict × IsBound is_bound http × is_unwatched error
 BindsBoth is_bound refuses is_over is_unwatched dict http (Err Memory) = IsBound is_bound dict × IsBound is_bound http
 

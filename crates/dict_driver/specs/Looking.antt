@@ -8,7 +8,7 @@ use Rattle.dict_connection.specs.declared.transport.Transport as transport
 use Rattle.dict_driver.specs.Asking.{Asking, Asks, looks}
 use Rattle.dict_driver.specs.Listening.{listening_told}
 use Rattle.dict_driver.specs.Turning.{MarkAll}
-use Rattle.dict_connection.specs.Turns.{IsAtRest}
+use Rattle.dict_connection.specs.Turns.{HasNothingToDo}
 use Rattle.dict_driver.specs.declared.event_loop.EventLoop.{EventLoop}
 use Rattle.dict_driver.specs.declared.listening.Listening.{Listening}
 use Rattle.dict_driver.specs.declared.listening.Listening.TheVariants.{Ready}
@@ -52,7 +52,7 @@ module _ {T S : Type 0} {G : transport.Ghosts T} where
   pub record IsIdle (over : EventLoop T S G) : Type 0 where
     pub dict : over.dict_listening ≢ Ready
     pub http : over.http_listening ≢ Ready
-    pub read : All IsAtRest over.connections.opened.items
+    pub read : All HasNothingToDo over.connections.opened.items
 
 abbrev pub other_kind : Kind → Kind
 other_kind Dict = Http

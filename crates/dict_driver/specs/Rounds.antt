@@ -9,7 +9,7 @@ use Rattle.dict_connection.specs.OutletCalls.{Call}
 use Rattle.dict_connection.specs.Stages.{is_open, is_held, is_departing}
 use Rattle.dict_connection.specs.Events.{ArePut}
 use Rattle.dict_connection.specs.Handing.{held_in}
-use Rattle.dict_connection.specs.Opening.{IsUnopened}
+use Rattle.dict_connection.specs.Opening.{IsConnectionUnopened}
 use Rattle.dict_connection.specs.Telling.{KeepsEach, KeepsOthers}
 use Rattle.dict_connection.specs.Turns.{IsOpened}
 use Rattle.dict_driver.specs.Turning.{DepartAll, TurnAll}
@@ -62,9 +62,9 @@ abbrev pub room_of : {T : Type 0} → List (Connection T) → ℕ
 room_of all = sum_by (λ one. vec_capacity one.queue.octets) all
 
 -- the last ones that have room for no more than so many octets together
-abbrev pub fitting : {T : Type 0} → ℕ → List (Connection T) → List (Connection T)
-fitting most [] = []
-fitting most (one ∷ others) = if nat_le (room_of (one ∷ others)) most then one ∷ others else fitting most others
+abbrev pub connections_fitting : {T : Type 0} → ℕ → List (Connection T) → List (Connection T)
+connections_fitting most [] = []
+connections_fitting most (one ∷ others) = if nat_le (room_of (one ∷ others)) most then one ∷ others else connections_fitting most others
 
 -- Each connection that is no longer open had its turn as such, and then each open one by its own events, over what the hub had of it as
 -- they began, from this desk to that. Those that are open then are the open ones; those that are held and no longer open, of which the last 128
@@ -78,7 +78,7 @@ pub record TurnEach {K T : Type 0} {G : Ghosts T} (stands : K → Condition) (ex
   pub by_open : Bool
   pub turns : TurnAll stands expects prepares taken coming made refuses hub from to old.opened.items turned by_open events
   pub opened : new.opened.items ≡ filter (λ one. is_open one.stage) turned
-  pub departing : new.departing.items ≡ fitting 33554432 (latest 128 (filter (λ one. is_held one.stage) departed ++ filter (λ one. is_departing one.stage) turned))
+  pub departing : new.departing.items ≡ connections_fitting 33554432 (latest 128 (filter (λ one. is_held one.stage) departed ++ filter (λ one. is_departing one.stage) turned))
   pub last : new.last ≡ old.last
   pub has_moved : moved ≡ (by_departing || by_open)
 
@@ -92,7 +92,7 @@ IsFull all = (64 ≤ vec_len all.opened) ⊎ (2 ^ 64 ≤ all.last + 1)
 abbrev pub Admits : {T : Type 0} {G : Ghosts T} → (Hub → ℕ → Kind → Option HubFault → Type 0) → T → Kind → Hub → Hub → Connections T G → Connections T G → List Accepted → Type 0
 Admits {T} refuses transport kind from to old new events =
     ((events ≡ []) × (new.opened.items ≡ old.opened.items) × (new.departing.items ≡ old.departing.items) × (new.last ≡ old.last)
-    × KeepsEach from to × (IsFull old ⊎ IsUnopened refuses from (old.last + 1) kind))
+    × KeepsEach from to × (IsFull old ⊎ IsConnectionUnopened refuses from (old.last + 1) kind))
     ⊎ ((one : Connection T) × IsOpened (old.last + 1) kind to one events × (one.id ≡ old.last + 1) × (one.transport ≡ transport) × (one.may_receive ≡ true)
     × (one.held.kind ≡ kind) × (held_in one.held ≡ []) × (new.opened.items ≡ old.opened.items ++ one ∷ []) × (new.departing.items ≡ old.departing.items) × (new.last ≡ old.last + 1)
     × KeepsOthers (old.last + 1) from to)

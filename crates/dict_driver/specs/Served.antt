@@ -17,10 +17,10 @@ use Rattle.dict_connection.specs.Leading.{HasLedOn}
 use Rattle.dict_driver.specs.Looking.{IsIdle, WaitsIf}
 use Rattle.dict_driver.specs.Ordering.{AreOfRound}
 use Rattle.dict_driver.specs.Rounds.{Moves}
-use Rattle.dict_driver.specs.Serving.{IsCounted}
+use Rattle.dict_driver.specs.Serving.{IsRoundCounted}
 use Rattle.dict_driver.specs.declared.event_loop.EventLoop.{EventLoop}
-use Rattle.dict_driver.specs.declared.serving.Served.{Served}
-use Rattle.dict_driver.specs.declared.serving.Served.TheVariants.{Whole, Closed}
+use Rattle.dict_driver.specs.declared.serving.RoundsEnd.{RoundsEnd}
+use Rattle.dict_driver.specs.declared.serving.RoundsEnd.TheVariants.{Whole, Closed}
 
 -- One round: the loop and the desk as they were before it, what came of it, and both as it left them; then what came of the wait behind
 -- it, where there was one, and the loop as that left it
@@ -43,7 +43,7 @@ is_waited (Ok false) false rounds = nat_lt 1 rounds
 
 -- how serving ends with a round, of so many that were to be made with it: by the error of the round or of the wait behind it, or since
 -- the desk is closed; or it doesn't
-abbrev pub ended : Result Bool Error → Bool → Result (Unit {0}) Error → ℕ → Option (Result Served Error)
+abbrev pub ended : Result Bool Error → Bool → Result (Unit {0}) Error → ℕ → Option (Result RoundsEnd Error)
 ended (Err error) closed waited rounds = Some (Err error)
 ended (Ok moved) true waited rounds = Some (Ok (Closed (rounds - 1)))
 ended (Ok moved) false (Err error) rounds = Some (Err error)
@@ -59,13 +59,13 @@ module _ {K T S : Type 0} {G : transport.Ghosts T} (Shows : K → Catalogue → 
         (λ events. Moves one.before.connections one.made.connections events × AreOfRound events
         × GoesRound (condition has_failed is_closed) expects prepares taken coming made refuses asked told one.result one.desk one.left one.before one.made events)
     pub trust : IsTrusted one.left → IsTrusted one.desk
-    pub rounds : IsCounted one.result one.before.rounds one.made.rounds
+    pub rounds : IsRoundCounted one.result one.before.rounds one.made.rounds
     pub grown : one.before.rounds ≤ one.made.rounds
     pub idle : IfOk one.result (λ has_moved. has_moved ≡ false → IsIdle one.made)
     pub failure : MatchResult one.result (λ _. one.made.failure ≡ None) (λ error. one.made.failure ≡ Some (error_kind error))
 
   -- one of so many rounds that are to be made, and the wait behind it
-  pub record IsMade (rounds : ℕ) (one : Round K T S G) : Type 0 where
+  pub record IsRoundMade (rounds : ℕ) (one : Round K T S G) : Type 0 where
     pub some : 0 < rounds
     pub round : IsRound one
     pub waits : WaitsIf asked wait (told one.after.sockets) (is_waited one.result (is_closed one.left) rounds) one.waited one.made one.after
@@ -73,8 +73,8 @@ module _ {K T S : Type 0} {G : transport.Ghosts T} (Shows : K → Catalogue → 
   -- Of so many rounds these were made, over this loop and this desk: the first begins with these, each of the others with what the one
   -- before it left and the wait behind that, and the last leaves these. Serving ends with the one that ends it, and with no round before
   -- that, and else where all were made
-  abbrev pub AreRounds : ℕ → EventLoop T S G → K → EventLoop T S G → K → List (Round K T S G) → Result Served Error → Type 0
+  abbrev pub AreRounds : ℕ → EventLoop T S G → K → EventLoop T S G → K → List (Round K T S G) → Result RoundsEnd Error → Type 0
   AreRounds rounds old desk new left [] result = (rounds ≡ 0) × (new ≡ old) × (left ≡ desk) × (result ≡ Ok Whole)
-  AreRounds rounds old desk new left (one ∷ others) result = (one.before ≡ old) × (one.desk ≡ desk) × IsMade rounds one
+  AreRounds rounds old desk new left (one ∷ others) result = (one.before ≡ old) × (one.desk ≡ desk) × IsRoundMade rounds one
       × (((ended one.result (is_closed one.left) one.waited rounds ≡ Some result) × (others ≡ []) × (new ≡ one.after) × (left ≡ one.left))
       ⊎ ((ended one.result (is_closed one.left) one.waited rounds ≡ None) × AreRounds (rounds - 1) one.after one.left new left others result))

@@ -4,7 +4,7 @@ use Rattle.dict_desk.specs.declared.fault.Fault.{Fault}
 use Rattle.dict_desk.specs.Expected.{Expected}
 use Rattle.dict_session.specs.Desks.{Condition}
 use Rattle.dict_hub.specs.Holding.{Holding}
-use Rattle.dict_hub.specs.Hubs.{Has}
+use Rattle.dict_hub.specs.Hubs.{HasHolding}
 use Rattle.dict_hub.specs.Runs.{Accepted, events_of}
 use Rattle.dict_hub.specs.declared.fault.HubFault.{HubFault}
 use Rattle.dict_hub.specs.declared.hub.Hub.{Hub}
@@ -27,7 +27,7 @@ pub record MarkAll {T : Type 0} (is_told : ℕ → Bool) (old new : List (Connec
 -- what the hub has of each connection that is none of these it has still
 abbrev pub KeepsAllBut : {T : Type 0} → List (Connection T) → Hub → Hub → Type 0
 KeepsAllBut {T} all old new =
-    (other : ℕ) (held : Option Holding) → ((k : ℕ) (d : Connection T) → k < length all → (slice_index_or all k d).id ≢ other) → Has old other held → Has new other held
+    (other : ℕ) (held : Option Holding) → ((k : ℕ) (d : Connection T) → k < length all → (slice_index_or all k d).id ≢ other) → HasHolding old other held → HasHolding new other held
 
 -- one of these is so
 abbrev pub any : List Bool → Bool

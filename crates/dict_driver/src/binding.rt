@@ -2,7 +2,7 @@
 ghost use Rattle.std.specs.Prelude.{◌≡◌, IfOk, IfErr, MatchResult, ⊤};
 ghost use Rattle.std.specs.declared.io.Error.{Error};
 ghost use Rattle.std.specs.declared.net.socket_addr.SocketAddr.{SocketAddr as Address};
-ghost use Rattle.dict_driver.specs.Binding.{BindsBoth, HasAddressOf, IsBoundFor, IsRefused};
+ghost use Rattle.dict_driver.specs.Binding.{BindsBoth, HasAddressOf, IsBoundFor, IsAddressRefused};
 
 use crate::fault::{AddressFault, BindFault};
 use crate::sockets::{LISTENING, SystemSockets};
@@ -120,7 +120,7 @@ fn listen<L: Drop, S: Drop, B: Network<L, S>, N: Net>(
     net: &N,
     text: &str,
 ) -> Result<(L, SocketAddr), AddressFault>
-    ensures { MatchResult result (λ bound. IsBoundFor B.is_bound text.now bound.0 bound.1) (IsRefused B.refuses text.now) }
+    ensures { MatchResult result (λ bound. IsBoundFor B.is_bound text.now bound.0 bound.1) (IsAddressRefused B.refuses text.now) }
 {
     match text.parse::<SocketAddr>() {
         Ok(address) => network.bind(net, address).map_err(AddressFault::Unbound),

@@ -51,10 +51,10 @@ impl<T: Transport> Connections<T> {
     ghost use Rattle.dict_connection.specs.Leading.{HasLedOn};
     ghost use Rattle.std.specs.Prelude.{◌++◌, ◌∷◌, ◌==◌, ◌||◌, ◌^◌, true, MatchOption, filter, if◌then◌else◌};
     ghost use Rattle.std.specs.List.{remove};
-    ghost use Rattle.dict_driver.specs.Rounds.{Admits, Moves, TurnEach, Waits, fitting, latest};
+    ghost use Rattle.dict_driver.specs.Rounds.{Admits, Moves, TurnEach, Waits, connections_fitting, latest};
     ghost use Rattle.dict_connection.specs.Telling.{KeepsOthers};
     ghost use Rattle.dict_connection.specs.Stages.{is_departing};
-    ghost use Rattle.dict_connection.specs.Turns.{IsAtRest};
+    ghost use Rattle.dict_connection.specs.Turns.{HasNothingToDo};
     ghost use Rattle.dict_driver.specs.Turning.{KeepsAllBut, MarkAll};
     ghost use Rattle.dict_connection.specs.Ordering.{AreOfTurns};
     ghost use Rattle.dict_driver.specs.Ordering.{ComeById};
@@ -151,7 +151,7 @@ impl<T: Transport> Connections<T> {
         ensures trust { K.is_trusted desk.new → K.is_trusted desk.old }
         ensures others { KeepsAllBut self.old.opened.items hub.old hub.new }
         ensures closed { K.is_closed desk.old ≡ true → K.is_closed desk.new ≡ true }
-        ensures idle { result ≡ false → All IsAtRest self.new.opened.items }
+        ensures idle { result ≡ false → All HasNothingToDo self.new.opened.items }
     {
         let departed = depart_all(&mut self.departing);
         self.departing.retain(|one| one.stage().is_held());
@@ -173,7 +173,7 @@ impl<T: Transport> Connections<T> {
     // Parts those that are no longer open from those that are, and lets the oldest of them go where they have room for too many octets.
     fn settle(&mut self)
         ensures opened { self.new.opened.items ≡ filter (λ one. is_open one.stage) self.old.opened.items }
-        ensures departing { self.new.departing.items ≡ fitting 33554432 (latest 128 (self.old.departing.items ++ filter (λ one. is_departing one.stage) self.old.opened.items)) }
+        ensures departing { self.new.departing.items ≡ connections_fitting 33554432 (latest 128 (self.old.departing.items ++ filter (λ one. is_departing one.stage) self.old.opened.items)) }
         ensures last { self.new.last ≡ self.old.last }
     {
         self.part();
@@ -182,7 +182,7 @@ impl<T: Transport> Connections<T> {
 
     // Lets the oldest connection go that is no longer open, as often as these have room for too many octets together.
     fn bound(&mut self)
-        ensures departing { self.new.departing.items ≡ fitting 33554432 self.old.departing.items }
+        ensures departing { self.new.departing.items ≡ connections_fitting 33554432 self.old.departing.items }
         ensures opened { self.new.opened ≡ self.old.opened }
         ensures last { self.new.last ≡ self.old.last }
     {

@@ -53,10 +53,10 @@ impl<'h, T: Transport, S: Sockets<T>> EventLoop<'h, T, S> {
     ghost use Rattle.dict_connection.specs.Leading.{HasLedOn};
     ghost use Rattle.dict_driver.specs.Rounds.{Moves};
     ghost use Rattle.dict_driver.specs.Ordering.{AreOfRound};
-    ghost use Rattle.dict_driver.specs.Serving.{IsCounted};
+    ghost use Rattle.dict_driver.specs.Serving.{IsRoundCounted};
     ghost use Rattle.dict_driver.specs.Listening.{is_ready};
     ghost use Rattle.dict_driver.specs.Looking.{IsIdle, IsKept, Looks, listening_of, other_kind};
-    ghost use Rattle.dict_driver.specs.Accepting.{HasAccepted, HasAsked, HasTaken};
+    ghost use Rattle.dict_driver.specs.Accepting.{HasAccepted, HasAsked, HasTakenConnection};
     ghost use Rattle.dict_connection.specs.Telling.{KeepsOthers};
     ghost use Rattle.dict_driver.specs.EventLoops.{GoesRound};
 
@@ -114,7 +114,7 @@ impl<'h, T: Transport, S: Sockets<T>> EventLoop<'h, T, S> {
             (λ events. Moves self.old.connections self.new.connections events × AreOfRound events × GoesRound (condition K.has_failed K.is_closed) K.expects K.prepares T.taken T.coming T.made S.refuses S.asked S.told result desk.old desk.new self.old self.new events) }
         ensures trust { K.is_trusted desk.new → K.is_trusted desk.old }
         ensures closed { K.is_closed desk.old ≡ true → K.is_closed desk.new ≡ true }
-        ensures rounds { IsCounted result self.old.rounds self.new.rounds }
+        ensures rounds { IsRoundCounted result self.old.rounds self.new.rounds }
         ensures grown { self.old.rounds ≤ self.new.rounds }
         ensures idle { IfOk result (λ has_moved. has_moved ≡ false → IsIdle self.new) }
         ensures failure { MatchResult result (λ _. self.new.failure ≡ None) (λ error. self.new.failure ≡ Some (error_kind error)) }
@@ -228,7 +228,7 @@ impl<'h, T: Transport, S: Sockets<T>> EventLoop<'h, T, S> {
     // Opens the connection, or closes its socket where there is no place for it.
     fn admit<K: Preparer>(&mut self, transport: T, kind: Kind, desk: &mut K)
         ensures led { HasLedOn (K.is_trusted desk.new) (K.shows desk.old) (K.leaves_one_of desk.old) (K.shows desk.new) (K.leaves_one_of desk.new) self.old.hub self.new.hub
-            (λ events. Moves self.old.connections self.new.connections events × HasTaken S.refuses S.asked transport kind self.old self.new events) }
+            (λ events. Moves self.old.connections self.new.connections events × HasTakenConnection S.refuses S.asked transport kind self.old self.new events) }
         ensures trust { K.is_trusted desk.new → K.is_trusted desk.old }
         ensures others { KeepsOthers (self.old.connections.last + 1) self.old.hub self.new.hub }
         ensures unasked { desk.new ≡ desk.old }

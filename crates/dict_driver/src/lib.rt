@@ -18,5 +18,5 @@ pub use driver::Driver;
 pub use event_loop::EventLoop;
 pub use fault::{AddressFault, BindFault};
 pub use laws::{accepting_laws, first_laws};
-pub use serving::{Served, pace, serve};
+pub use serving::{RoundsEnd, pace, serve};
 pub use sockets::{Sockets, SystemSockets};

@@ -22,7 +22,7 @@ const LONG_WAIT: u64 = 1_000;
 
 /// Why the rounds ended.
 #[derive(Clone, Copy, Debug, PartialEq, Eq)]
-pub enum Served {
+pub enum RoundsEnd {
     /// All of them were made.
     Whole,
     /// The store of the desk failed, and it answers no more. So many rounds are left.
@@ -49,7 +49,7 @@ pub fn serve<T: Transport, S: Sockets<T>, K: Preparer>(
     desk: &mut K,
     rounds: u64,
     wait: Duration,
-) -> io::Result<Served>
+) -> io::Result<RoundsEnd>
     ensures by_rounds { (each : List (Round K T S _)) × AreRounds K.shows K.leaves_one_of K.is_trusted K.has_failed K.is_closed K.expects K.prepares T.taken T.coming T.made S.refuses S.asked S.told (as_nanos wait) rounds event_loop.old desk.old event_loop.new desk.new each result }
     ensures led { HasLedOn (K.is_trusted desk.new) (K.shows desk.old) (K.leaves_one_of desk.old) (K.shows desk.new) (K.leaves_one_of desk.new) event_loop.old.hub event_loop.new.hub
         (λ events. Moves event_loop.old.connections event_loop.new.connections events) }
@@ -62,11 +62,11 @@ pub fn serve<T: Transport, S: Sockets<T>, K: Preparer>(
     for made in 0..rounds {
         let has_moved = event_loop.round(desk)?;
         if desk.summary().is_err() {
-            return Ok(Served::Closed(rounds - made - 1));
+            return Ok(RoundsEnd::Closed(rounds - made - 1));
         }
         wait_if(event_loop, is_wait_due(has_moved, rounds - made), wait)?;
     }
-    Ok(Served::Whole)
+    Ok(RoundsEnd::Whole)
 }
 
 // Whether the sockets are waited for behind a round, of so many with it.

@@ -5,7 +5,7 @@ ghost use Rattle.dict_session.specs.Desks.{condition};
 ghost use Rattle.dict_connection.specs.Leading.{HasLedOn};
 ghost use Rattle.dict_driver.specs.Turning.{DepartAll, KeepsAllBut, MarkAll, TurnAll, first_of, first_since, is_other};
 ghost use Rattle.dict_connection.specs.Handing.{held_for};
-ghost use Rattle.dict_connection.specs.Turns.{IsAtRest};
+ghost use Rattle.dict_connection.specs.Turns.{HasNothingToDo};
 ghost use Rattle.dict_driver.specs.Rounds.{room_of};
 
 use dict_connection::{Connection, Opening, PIECE, Transport};
@@ -27,7 +27,7 @@ pub fn turn_all<T: Transport, K: Preparer, O: Opening>(
     ensures trust { K.is_trusted desk.new → K.is_trusted desk.old }
     ensures others { KeepsAllBut all.old.items hub.old hub.new }
     ensures closed { K.is_closed desk.old ≡ true → K.is_closed desk.new ≡ true }
-    ensures idle { result ≡ false → All IsAtRest all.new.items }
+    ensures idle { result ≡ false → All HasNothingToDo all.new.items }
     ensures ids { (k : ℕ) (d : _) → k < vec_len all.old → (slice_index_or all.new.items k d).id ≡ (slice_index_or all.old.items k d).id }
     ensures len { vec_len all.new ≡ vec_len all.old }
     ensures capacity { vec_capacity all.new ≡ vec_capacity all.old }

@@ -5,7 +5,7 @@ use crate::client::Client;
 use crate::ends::{Drowning, drown};
 use crate::newcomers::are_greeted;
 use crate::preparing::{Progress, is_at, round_until};
-use dict_driver::{BindFault, Driver, Served, System, pace, serve};
+use dict_driver::{BindFault, Driver, RoundsEnd, System, pace, serve};
 use dict_fixtures::{PartsDesk, install_short};
 use std::alloc::Global;
 use std::net::SocketAddr;
@@ -152,7 +152,7 @@ impl Play {
         let before = event_loop.rounds();
         let end = serve(event_loop, &mut self.desk, rounds, wait)?;
         let made = event_loop.rounds().saturating_sub(before);
-        holds(end == Served::Whole && made == rounds, "other rounds")
+        holds(end == RoundsEnd::Whole && made == rounds, "other rounds")
     }
 
     // As many as are asked for.

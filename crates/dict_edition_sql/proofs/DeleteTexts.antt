@@ -31,9 +31,9 @@ use Rattle.dict_sql.proofs.EndLemmas.{delete_ends_none}
 use Rattle.dict_sql.proofs.ListLemmas.{passes}
 use Rattle.dict_sql.proofs.ReadLemmas.{context_of}
 use Rattle.dict_sql.proofs.TextLemmas.{parsed_or}
-use Rattle.dict_edition_sql.specs.Chosen.{is_from}
+use Rattle.dict_edition_sql.specs.Chosen.{is_part_from}
 use Rattle.dict_edition_sql.specs.PartTable.{part}
-use Rattle.dict_edition_sql.specs.PartTexts.{delete_text, delete_from_text}
+use Rattle.dict_edition_sql.specs.PartTexts.{part_delete_text, delete_from_text}
 use Rattle.dict_edition_sql.proofs.ConditionLemmas.{name_expr, given_expr, binary_expr, compare_expr, and_expr, Names, Combines, lower_compare, lower_and}
 use Rattle.dict_edition_sql.proofs.PartReadTexts.{of_column}
 use Rattle.dict_edition_sql.proofs.ValueLemmas.{from_number, three_same}
@@ -45,9 +45,9 @@ test_edition = op2 (by.Compare compare.Eq Binary) (col 1 1) (col 0 0) ∷ []
 
 unfoldable pub read_delete : Parsed
 unfolding everything
-read_delete = parsed_or (first delete_text)
+read_delete = parsed_or (first part_delete_text)
 
-reads_delete : ReadsDelete delete_text read_delete part (Some (equals_expr (codes "edition"))) test_edition 99997
+reads_delete : ReadsDelete part_delete_text read_delete part (Some (equals_expr (codes "edition"))) test_edition 99997
 unfolding everything read_delete column_expr parameter_expr equals_expr
 reads_delete = record {
   read = refl;
@@ -57,22 +57,22 @@ reads_delete = record {
   accepted = λ schema tree alone low. rw (low, alone) refl;
 }
 
-takes_delete : (n : ℤ) → Takes delete_text read_delete part test_edition (Int n ∷ [])
+takes_delete : (n : ℤ) → Takes part_delete_text read_delete part test_edition (Int n ∷ [])
 unfolding everything read_delete
 takes_delete n = record { whole = lit≤ tt; names = refl; typed = λ schema tree alone low. rw (low, alone) refl }
 
 part_goes : (tree : ℕ) (n : ℤ) (row : Row) → passes (Int n ∷ []) test_edition row ≡ equals_number 1 n (shown (part tree) row)
 part_goes tree n row = and_true _ ∙ equals_is (column row 1) n
 
-pub removes_parts : (old new : State) (n : ℤ) (count : ℕ) → Has part old.now → HasApartRowids (rows_of (codes "dictcat_part") old.now) → Executes delete_text (Int n ∷ []) old new (Ok count) → IsRemoved (codes "dictcat_part") (equals_number 1 n) old.now new.now
-removes_parts old new n count = removes_rows delete_text read_delete part (Some (equals_expr (codes "edition"))) test_edition 99997 reads_delete (λ tree. refl) (Int n ∷ []) (equals_number 1 n) (λ tree row. part_goes tree n row) old new count
+pub removes_parts : (old new : State) (n : ℤ) (count : ℕ) → Has part old.now → HasApartRowids (rows_of (codes "dictcat_part") old.now) → Executes part_delete_text (Int n ∷ []) old new (Ok count) → IsRemoved (codes "dictcat_part") (equals_number 1 n) old.now new.now
+removes_parts old new n count = removes_rows part_delete_text read_delete part (Some (equals_expr (codes "edition"))) test_edition 99997 reads_delete (λ tree. refl) (Int n ∷ []) (equals_number 1 n) (λ tree row. part_goes tree n row) old new count
 
-pub parts_stay : (old new : State) (n : ℤ) (e : Error) → Has part old.now → HasApartRowids (rows_of (codes "dictcat_part") old.now) → ExecutesInside 0 delete_text (Int n ∷ []) old new (Err e)
+pub parts_stay : (old new : State) (n : ℤ) (e : Error) → Has part old.now → HasApartRowids (rows_of (codes "dictcat_part") old.now) → ExecutesInside 0 part_delete_text (Int n ∷ []) old new (Err e)
     → (RefusesToRemove (codes "dictcat_part") (equals_number 1 n) old e × IsUnchanged old new) ⊎ Fails old new ⊥ e
-parts_stay old new n e = remove_fails delete_text read_delete part (Some (equals_expr (codes "edition"))) test_edition 99997 reads_delete (λ tree. refl) (Int n ∷ []) (takes_delete n) (equals_number 1 n) (λ tree row. part_goes tree n row) old new e
+parts_stay old new n e = remove_fails part_delete_text read_delete part (Some (equals_expr (codes "edition"))) test_edition 99997 reads_delete (λ tree. refl) (Int n ∷ []) (takes_delete n) (equals_number 1 n) (λ tree row. part_goes tree n row) old new e
 
-pub delete_ends : EndsNothing delete_text
-delete_ends = delete_ends_none delete_text read_delete part _ _ _ reads_delete
+pub delete_ends : EndsNothing part_delete_text
+delete_ends = delete_ends_none part_delete_text read_delete part _ _ _ reads_delete
 
 -- ---- of a file of it, from a number on
 
@@ -157,15 +157,15 @@ takes_from : (n f m : ℤ) → Takes delete_from_text read_from part test_from (
 unfolding everything read_from
 takes_from n f m = record { whole = lit≤ tt; names = refl; typed = λ schema tree alone low. rw (low, alone) refl }
 
-from_goes : (tree : ℕ) (n f m : ℤ) (row : Row) → passes (Int n ∷ Int f ∷ Int m ∷ []) test_from row ≡ is_from n f m (shown (part tree) row)
+from_goes : (tree : ℕ) (n f m : ℤ) (row : Row) → passes (Int n ∷ Int f ∷ Int m ∷ []) test_from row ≡ is_part_from n f m (shown (part tree) row)
 from_goes tree n f m row = three_same _ _ _ _ _ _ (equals_is (column row 1) n) (equals_is (column row 2) f) (from_number (column row 3) m)
 
-pub removes_from : (old new : State) (n f m : ℤ) (count : ℕ) → Has part old.now → HasApartRowids (rows_of (codes "dictcat_part") old.now) → Executes delete_from_text (Int n ∷ Int f ∷ Int m ∷ []) old new (Ok count) → IsRemoved (codes "dictcat_part") (is_from n f m) old.now new.now
-removes_from old new n f m count = removes_rows delete_from_text read_from part (Some from_number_on) test_from 99989 reads_from (λ tree. refl) (Int n ∷ Int f ∷ Int m ∷ []) (is_from n f m) (λ tree row. from_goes tree n f m row) old new count
+pub removes_from : (old new : State) (n f m : ℤ) (count : ℕ) → Has part old.now → HasApartRowids (rows_of (codes "dictcat_part") old.now) → Executes delete_from_text (Int n ∷ Int f ∷ Int m ∷ []) old new (Ok count) → IsRemoved (codes "dictcat_part") (is_part_from n f m) old.now new.now
+removes_from old new n f m count = removes_rows delete_from_text read_from part (Some from_number_on) test_from 99989 reads_from (λ tree. refl) (Int n ∷ Int f ∷ Int m ∷ []) (is_part_from n f m) (λ tree row. from_goes tree n f m row) old new count
 
 pub from_stay : (old new : State) (n f m : ℤ) (e : Error) → Has part old.now → HasApartRowids (rows_of (codes "dictcat_part") old.now) → ExecutesInside 0 delete_from_text (Int n ∷ Int f ∷ Int m ∷ []) old new (Err e)
-    → (RefusesToRemove (codes "dictcat_part") (is_from n f m) old e × IsUnchanged old new) ⊎ Fails old new ⊥ e
-from_stay old new n f m e = remove_fails delete_from_text read_from part (Some from_number_on) test_from 99989 reads_from (λ tree. refl) (Int n ∷ Int f ∷ Int m ∷ []) (takes_from n f m) (is_from n f m) (λ tree row. from_goes tree n f m row) old new e
+    → (RefusesToRemove (codes "dictcat_part") (is_part_from n f m) old e × IsUnchanged old new) ⊎ Fails old new ⊥ e
+from_stay old new n f m e = remove_fails delete_from_text read_from part (Some from_number_on) test_from 99989 reads_from (λ tree. refl) (Int n ∷ Int f ∷ Int m ∷ []) (takes_from n f m) (is_part_from n f m) (λ tree row. from_goes tree n f m row) old new e
 
 pub from_ends : EndsNothing delete_from_text
 from_ends = delete_ends_none delete_from_text read_from part _ _ _ reads_from

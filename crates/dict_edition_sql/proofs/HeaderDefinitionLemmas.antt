@@ -3,7 +3,7 @@ use Rattle.std.proofs.Common.{◌≡◌, true, refl}
 use Rattle.sqlite.specs.Table.{Table}
 use Rattle.sqlite_schema.specs.Names.{same_name}
 use Rattle.dict_tables.specs.Definitions.{IsDefinition, are_named_apart, names_of}
-use Rattle.dict_tables.specs.Keyed.{table_of}
+use Rattle.dict_tables.specs.Keyed.{keyed_table_of}
 use Rattle.dict_tables.specs.Tables as store
 use Rattle.dict_tables.specs.declared.keyed.KeyedTable.{KeyedTable}
 use Rattle.dict_tables.specs.declared.keyed.KeyedTable.TheVariants.{Entry, Word, Gram}
@@ -29,7 +29,7 @@ from_store made.Edition h = absurd (h refl)
 from_store made.Entry h = (refl, refl)
 from_store made.Kept h = (refl, refl)
 
-pub from_keyed : (t : KeyedTable) → (are_named_apart (header 0) (table_of t 0) ≡ true) × (are_named_apart (table_of t 0) (header 0) ≡ true)
+pub from_keyed : (t : KeyedTable) → (are_named_apart (header 0) (keyed_table_of t 0) ≡ true) × (are_named_apart (keyed_table_of t 0) (header 0) ≡ true)
 unfolding same_name
 from_keyed Entry = (refl, refl)
 from_keyed Word = (refl, refl)

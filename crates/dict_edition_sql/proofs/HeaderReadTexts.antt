@@ -21,15 +21,15 @@ use Rattle.dict_sql.proofs.ReadLemmas.{rowid_expr, rowid_shown, all_shown, sourc
 use Rattle.dict_sql.proofs.ReadTexts.{ReadsTable, key_at, sort_by}
 use Rattle.dict_sql.proofs.TextLemmas.{parsed_or}
 use Rattle.dict_edition_sql.specs.HeaderTable.{header}
-use Rattle.dict_edition_sql.specs.HeaderTexts.{one_text, rowid_text}
+use Rattle.dict_edition_sql.specs.HeaderTexts.{header_one_text, header_rowid_text}
 
 -- ---- all
 
 unfoldable pub read_by_rowid : Parsed
 unfolding everything
-read_by_rowid = parsed_or (first rowid_text)
+read_by_rowid = parsed_or (first header_rowid_text)
 
-pub reads_by_rowid : ReadsTable rowid_text read_by_rowid header None [] 99999 (sort_by (codes "1") ∷ []) (key_at 0 ∷ []) (0 ∷ []) 99997 nothing
+pub reads_by_rowid : ReadsTable header_rowid_text read_by_rowid header None [] 99999 (sort_by (codes "1") ∷ []) (key_at 0 ∷ []) (0 ∷ []) 99997 nothing
 unfolding everything read_by_rowid rowid_expr rowid_shown all_shown source_of core_of select_of sort_by
 reads_by_rowid = record {
   read = refl;
@@ -47,7 +47,7 @@ reads_by_rowid = record {
   accepted = λ schema at tree alone low. rw (low, alone) refl;
 }
 
-pub takes_by_rowid : Takes rowid_text read_by_rowid header [] (key_at 0 ∷ []) no_values
+pub takes_by_rowid : Takes header_rowid_text read_by_rowid header [] (key_at 0 ∷ []) no_values
 unfolding everything read_by_rowid
 takes_by_rowid = record { whole = lit≤ tt; names = λ x. refl; typed = λ schema at tree alone low x. rw (low, alone) refl }
 
@@ -55,12 +55,12 @@ takes_by_rowid = record { whole = lit≤ tt; names = λ x. refl; typed = λ sche
 
 unfoldable pub read_one : Parsed
 unfolding everything
-read_one = parsed_or (first one_text)
+read_one = parsed_or (first header_one_text)
 
 abbrev pub test_one : List Term
 test_one = op2 (by.Compare compare.Eq Binary) (col 1 0) (col 0 0) ∷ []
 
-pub reads_one : ReadsTable one_text read_one header (Some (equals_expr (codes "number"))) test_one 99996 (sort_by (codes "2") ∷ []) (key_at 0 ∷ []) (1 ∷ []) 99994 nothing
+pub reads_one : ReadsTable header_one_text read_one header (Some (equals_expr (codes "number"))) test_one 99996 (sort_by (codes "2") ∷ []) (key_at 0 ∷ []) (1 ∷ []) 99994 nothing
 unfolding everything read_one rowid_expr rowid_shown all_shown source_of core_of select_of sort_by column_expr parameter_expr equals_expr
 reads_one = record {
   read = refl;
@@ -78,7 +78,7 @@ reads_one = record {
   accepted = λ schema at tree alone low. rw (low, alone) refl;
 }
 
-pub takes_one : Takes one_text read_one header test_one (key_at 0 ∷ []) a_number
+pub takes_one : Takes header_one_text read_one header test_one (key_at 0 ∷ []) a_number
 unfolding everything read_one
 takes_one = record { whole = lit≤ tt; names = λ x. refl; typed = λ schema at tree alone low x. rw (low, alone) refl }
 

@@ -20,7 +20,7 @@ use Rattle.sqlite_trees.specs.Sound.{fits_kind, is_free_name, begins, same_name}
 use Rattle.sqlite_value.specs.Order.{value_cmp}
 use Rattle.sqlite_resolve.specs.Lowering.{max_budget}
 use Rattle.sqlite_syntax.specs.declared.statement.Parsed.{Parsed}
-use Rattle.dict_records.specs.Records.{Header}
+use Rattle.dict_records.specs.Records.{HeaderRecord}
 use Rattle.dict_tables.specs.Tables.{needed}
 use Rattle.dict_sql.specs.Creates.{IsFree, IsMade}
 use Rattle.dict_sql.specs.Effects.{Has, HasApartRowids, IsAdded, IsRemoved, equals_number, rows_of, shown}
@@ -40,30 +40,30 @@ use Rattle.dict_sql.proofs.ListLemmas.{passes}
 use Rattle.dict_sql.proofs.TextLemmas.{parsed_or, ReadsInsert, insert_is, insert_command, insert_plain}
 use Rattle.dict_edition_sql.specs.HeaderRecords.{header_row}
 use Rattle.dict_edition_sql.specs.HeaderTable.{header}
-use Rattle.dict_edition_sql.specs.HeaderTexts.{create_text, insert_text, delete_text}
+use Rattle.dict_edition_sql.specs.HeaderTexts.{header_create_text, header_insert_text, header_delete_text}
 
 -- ---- CREATE
 
 unfoldable pub read_create : Parsed
 unfolding everything
-read_create = parsed_or (first create_text)
+read_create = parsed_or (first header_create_text)
 
-reads_create : ReadsCreate create_text read_create (header 0)
+reads_create : ReadsCreate header_create_text read_create (header 0)
 unfolding everything read_create
 reads_create = record { read = refl; statement = refl; formats = refl; name = refl; plain = refl; table_is = refl; timeless = refl; defined = refl; unreserved = refl; itself = refl; whole = λ shape. refl; uncounted = refl }
 
-create_stands : Stands create_text read_create (header 0)
+create_stands : Stands header_create_text read_create (header 0)
 unfolding everything read_create fits_kind is_free_name begins same_name value_cmp lib.Ieee.is_nan lib.Ieee.lt
 create_stands = record { whole = lit≤ tt; names = refl; is_text = refl; named = refl; unreserved = refl; formed = refl; fits = refl; short = lit≤ tt; plain = refl; keys = λ key h. absurd h }
 
-pub makes_header : (old new : State) (count : ℕ) → IsFree old.now.schema (header 0).name → Executes create_text [] old new (Ok count) → IsMade (header 0) old.now new.now
-makes_header old new count = makes create_text read_create (header 0) reads_create old new count
+pub makes_header : (old new : State) (count : ℕ) → IsFree old.now.schema (header 0).name → Executes header_create_text [] old new (Ok count) → IsMade (header 0) old.now new.now
+makes_header old new count = makes header_create_text read_create (header 0) reads_create old new count
 
-pub make_fails_in : (old new : State) → IsFree old.now.schema (header 0).name → (e : Error) → ExecutesInside 0 create_text [] old new (Err e) → (RefusesToMake (header 0) old e × IsUnchanged old new) ⊎ Fails old new ⊥ e
-make_fails_in = make_fails create_text read_create (header 0) reads_create create_stands
+pub make_fails_in : (old new : State) → IsFree old.now.schema (header 0).name → (e : Error) → ExecutesInside 0 header_create_text [] old new (Err e) → (RefusesToMake (header 0) old e × IsUnchanged old new) ⊎ Fails old new ⊥ e
+make_fails_in = make_fails header_create_text read_create (header 0) reads_create create_stands
 
-pub make_ends_none : EndsNothing create_text
-make_ends_none = create_ends_none create_text read_create (header 0) reads_create
+pub make_ends_none : EndsNothing header_create_text
+make_ends_none = create_ends_none header_create_text read_create (header 0) reads_create
 
 -- ---- INSERT
 
@@ -72,37 +72,37 @@ header_terms = col 0 0 ∷ lit Null ∷ col 0 1 ∷ col 0 2 ∷ col 0 3 ∷ []
 
 unfoldable pub read_insert : Parsed
 unfolding everything
-read_insert = parsed_or (first insert_text)
+read_insert = parsed_or (first header_insert_text)
 
-reads_insert : ReadsInsert insert_text read_insert header (Values header_terms 5)
+reads_insert : ReadsInsert header_insert_text read_insert header (Values header_terms 5)
 unfolding everything read_insert
 reads_insert = record { read = refl; statement = λ tree. refl; formats = refl; timeless = λ tree. refl; rows = λ schema tree. refl }
 
-whole_insert : (length insert_text ≤ read_insert.tail) × (4 ≡ length read_insert.names)
+whole_insert : (length header_insert_text ≤ read_insert.tail) × (4 ≡ length read_insert.names)
 unfolding everything read_insert
 whole_insert = (lit≤ tt, refl)
 
-pub adds_header : (old new : State) (h : Header) (count : ℕ) → Has header old.now → Executes insert_text (header_row h) old new (Ok count) → IsAdded (codes "edition") (header_row h) old.now new.now
+pub adds_header : (old new : State) (h : HeaderRecord) (count : ℕ) → Has header old.now → Executes header_insert_text (header_row h) old new (Ok count) → IsAdded (codes "edition") (header_row h) old.now new.now
 adds_header old new h count has runs =
     let at = has.0 in
     let tree = has.1 in
     let s = old.now.schema in
-    let w = runs_as insert_text (header_row h) old new s refl (Insert at (Values header_terms 5)) (insert_command insert_text read_insert header (Values header_terms 5) reads_insert s at tree has.2) (insert_plain insert_text read_insert header (Values header_terms 5) reads_insert s at tree has.2) count runs in
-    adds_given old new at (codes "edition") tree (header tree).columns (header tree).key (header tree).primary (header tree).uniques (header tree).orders has.2.named has.2.is header_terms 5 (statement_of insert_text (understood s insert_text)) (header_row h)
+    let w = runs_as header_insert_text (header_row h) old new s refl (Insert at (Values header_terms 5)) (insert_command header_insert_text read_insert header (Values header_terms 5) reads_insert s at tree has.2) (insert_plain header_insert_text read_insert header (Values header_terms 5) reads_insert s at tree has.2) count runs in
+    adds_given old new at (codes "edition") tree (header tree).columns (header tree).key (header tree).primary (header tree).uniques (header tree).orders has.2.named has.2.is header_terms 5 (statement_of header_insert_text (understood s header_insert_text)) (header_row h)
     (Int h.number ∷ Null ∷ Text h.owner ∷ Text h.title ∷ Text h.info ∷ []) count refl h.number (Null ∷ Text h.owner ∷ Text h.title ∷ Text h.info ∷ []) (header_row h) refl refl w
 
-pub header_fails : (old new : State) (h : Header) (e : Error) → Has header old.now → ExecutesInside 0 insert_text (header_row h) old new (Err e)
+pub header_fails : (old new : State) (h : HeaderRecord) (e : Error) → Has header old.now → ExecutesInside 0 header_insert_text (header_row h) old new (Err e)
     → (RefusesToAdd (codes "edition") (header_row h) old e × IsUnchanged old new) ⊎ Fails old new (IsTooBig (codes "edition") (header_row h) old.now) e
 header_fails old new h e has runs =
     let at = has.0 in
     let tree = has.1 in
-    cause old new at (codes "edition") tree (header tree).columns (header tree).key (header tree).primary (header tree).uniques (header tree).orders has.2.named has.2.is header_terms 5 insert_text (header_row h) (header_row h) refl refl
+    cause old new at (codes "edition") tree (header tree).columns (header tree).key (header tree).primary (header tree).uniques (header tree).orders has.2.named has.2.is header_terms 5 header_insert_text (header_row h) (header_row h) refl refl
     h.number (cast_all (header tree).columns (Null ∷ Text h.owner ∷ Text h.title ∷ Text h.info ∷ [])) (rw (cast_int h.number) refl)
     (rw cast_null refl) refl e
-    (faults_inside insert_text read_insert (Insert at (Values header_terms 5)) (header_row h) old new e (insert_is insert_text read_insert header (Values header_terms 5) reads_insert old.now.schema at tree has.2) whole_insert.0 whole_insert.1 refl refl runs)
+    (faults_inside header_insert_text read_insert (Insert at (Values header_terms 5)) (header_row h) old new e (insert_is header_insert_text read_insert header (Values header_terms 5) reads_insert old.now.schema at tree has.2) whole_insert.0 whole_insert.1 refl refl runs)
 
-pub add_ends_none : EndsNothing insert_text
-add_ends_none = insert_ends_none insert_text read_insert header _ reads_insert
+pub add_ends_none : EndsNothing header_insert_text
+add_ends_none = insert_ends_none header_insert_text read_insert header _ reads_insert
 
 -- ---- DELETE
 
@@ -111,9 +111,9 @@ test_number = op2 (by.Compare compare.Eq Binary) (col 1 0) (col 0 0) ∷ []
 
 unfoldable pub read_delete : Parsed
 unfolding everything
-read_delete = parsed_or (first delete_text)
+read_delete = parsed_or (first header_delete_text)
 
-reads_delete : ReadsDelete delete_text read_delete header (Some (equals_expr (codes "number"))) test_number 99997
+reads_delete : ReadsDelete header_delete_text read_delete header (Some (equals_expr (codes "number"))) test_number 99997
 unfolding everything read_delete column_expr parameter_expr equals_expr
 reads_delete = record {
   read = refl;
@@ -123,19 +123,19 @@ reads_delete = record {
   accepted = λ schema tree alone low. rw (low, alone) refl;
 }
 
-takes_delete : (n : ℤ) → Takes delete_text read_delete header test_number (Int n ∷ [])
+takes_delete : (n : ℤ) → Takes header_delete_text read_delete header test_number (Int n ∷ [])
 unfolding everything read_delete
 takes_delete n = record { whole = lit≤ tt; names = refl; typed = λ schema tree alone low. rw (low, alone) refl }
 
 header_goes : (tree : ℕ) (n : ℤ) (row : Row) → passes (Int n ∷ []) test_number row ≡ equals_number 1 n (shown (header tree) row)
 header_goes tree n row = and_true _ ∙ equals_is (column row 0) n
 
-pub removes_headers : (old new : State) (n : ℤ) (count : ℕ) → Has header old.now → HasApartRowids (rows_of (codes "edition") old.now) → Executes delete_text (Int n ∷ []) old new (Ok count) → IsRemoved (codes "edition") (equals_number 1 n) old.now new.now
-removes_headers old new n count = removes_rows delete_text read_delete header (Some (equals_expr (codes "number"))) test_number 99997 reads_delete (λ tree. refl) (Int n ∷ []) (equals_number 1 n) (λ tree row. header_goes tree n row) old new count
+pub removes_headers : (old new : State) (n : ℤ) (count : ℕ) → Has header old.now → HasApartRowids (rows_of (codes "edition") old.now) → Executes header_delete_text (Int n ∷ []) old new (Ok count) → IsRemoved (codes "edition") (equals_number 1 n) old.now new.now
+removes_headers old new n count = removes_rows header_delete_text read_delete header (Some (equals_expr (codes "number"))) test_number 99997 reads_delete (λ tree. refl) (Int n ∷ []) (equals_number 1 n) (λ tree row. header_goes tree n row) old new count
 
-pub headers_stay : (old new : State) (n : ℤ) (e : Error) → Has header old.now → HasApartRowids (rows_of (codes "edition") old.now) → ExecutesInside 0 delete_text (Int n ∷ []) old new (Err e)
+pub headers_stay : (old new : State) (n : ℤ) (e : Error) → Has header old.now → HasApartRowids (rows_of (codes "edition") old.now) → ExecutesInside 0 header_delete_text (Int n ∷ []) old new (Err e)
     → (RefusesToRemove (codes "edition") (equals_number 1 n) old e × IsUnchanged old new) ⊎ Fails old new ⊥ e
-headers_stay old new n e = remove_fails delete_text read_delete header (Some (equals_expr (codes "number"))) test_number 99997 reads_delete (λ tree. refl) (Int n ∷ []) (takes_delete n) (equals_number 1 n) (λ tree row. header_goes tree n row) old new e
+headers_stay old new n e = remove_fails header_delete_text read_delete header (Some (equals_expr (codes "number"))) test_number 99997 reads_delete (λ tree. refl) (Int n ∷ []) (takes_delete n) (equals_number 1 n) (λ tree row. header_goes tree n row) old new e
 
-pub delete_ends : EndsNothing delete_text
-delete_ends = delete_ends_none delete_text read_delete header _ _ _ reads_delete
+pub delete_ends : EndsNothing header_delete_text
+delete_ends = delete_ends_none header_delete_text read_delete header _ _ _ reads_delete

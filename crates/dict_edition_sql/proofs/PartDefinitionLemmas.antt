@@ -2,7 +2,7 @@
 use Rattle.std.proofs.Common.{◌≡◌, ◌==◌, ℕ, true, refl, arith}
 use Rattle.sqlite_schema.specs.Names.{same_name}
 use Rattle.dict_tables.specs.Definitions.{IsDefinition, are_named_apart}
-use Rattle.dict_tables.specs.Keyed.{table_of}
+use Rattle.dict_tables.specs.Keyed.{keyed_table_of}
 use Rattle.dict_tables.specs.Tables as store
 use Rattle.dict_tables.specs.declared.keyed.KeyedTable.{KeyedTable}
 use Rattle.dict_tables.specs.declared.keyed.KeyedTable.TheVariants.{Entry, Word, Gram}
@@ -25,7 +25,7 @@ from_store made.Edition = (refl, refl)
 from_store made.Entry = (refl, refl)
 from_store made.Kept = (refl, refl)
 
-pub from_keyed : (t : KeyedTable) → (are_named_apart (part 0) (table_of t 0) ≡ true) × (are_named_apart (table_of t 0) (part 0) ≡ true)
+pub from_keyed : (t : KeyedTable) → (are_named_apart (part 0) (keyed_table_of t 0) ≡ true) × (are_named_apart (keyed_table_of t 0) (part 0) ≡ true)
 unfolding same_name
 from_keyed Entry = (refl, refl)
 from_keyed Word = (refl, refl)

@@ -26,7 +26,7 @@ use Rattle.dict_sql.proofs.ReadTexts.{ReadsTable, sort_by, key_at}
 use Rattle.dict_sql.proofs.TextLemmas.{parsed_or}
 use Rattle.dict_edition_sql.specs.Chosen.{is_of_file, is_numbered}
 use Rattle.dict_edition_sql.specs.PartTable.{part}
-use Rattle.dict_edition_sql.specs.PartTexts.{list_text, rowid_text, file_text, one_text}
+use Rattle.dict_edition_sql.specs.PartTexts.{part_list_text, part_rowid_text, file_text, part_one_text}
 use Rattle.dict_edition_sql.proofs.ConditionLemmas.{name_expr, given_expr, binary_expr, compare_expr, and_expr, Names, Combines, lower_compare, lower_and}
 use Rattle.dict_edition_sql.proofs.ValueLemmas.{two_same, three_same}
 
@@ -37,9 +37,9 @@ of_column = record { collation = Some Binary; is_written = false }
 
 unfoldable pub read_all : Parsed
 unfolding everything
-read_all = parsed_or (first list_text)
+read_all = parsed_or (first part_list_text)
 
-pub reads_all : ReadsTable list_text read_all part None [] 99999 (sort_by (codes "2") ∷ sort_by (codes "3") ∷ sort_by (codes "4") ∷ []) (key_at 1 ∷ key_at 2 ∷ key_at 3 ∷ []) (1 ∷ 2 ∷ 3 ∷ []) 99993 of_column
+pub reads_all : ReadsTable part_list_text read_all part None [] 99999 (sort_by (codes "2") ∷ sort_by (codes "3") ∷ sort_by (codes "4") ∷ []) (key_at 1 ∷ key_at 2 ∷ key_at 3 ∷ []) (1 ∷ 2 ∷ 3 ∷ []) 99993 of_column
 unfolding everything read_all rowid_expr rowid_shown all_shown source_of core_of select_of sort_by
 reads_all = record {
   read = refl;
@@ -57,15 +57,15 @@ reads_all = record {
   accepted = λ schema at tree alone low. rw (low, alone) refl;
 }
 
-pub takes_all : Takes list_text read_all part [] (key_at 1 ∷ key_at 2 ∷ key_at 3 ∷ []) no_values
+pub takes_all : Takes part_list_text read_all part [] (key_at 1 ∷ key_at 2 ∷ key_at 3 ∷ []) no_values
 unfolding everything read_all
 takes_all = record { whole = lit≤ tt; names = λ x. refl; typed = λ schema at tree alone low x. rw (low, alone) refl }
 
 unfoldable pub read_by_rowid : Parsed
 unfolding everything
-read_by_rowid = parsed_or (first rowid_text)
+read_by_rowid = parsed_or (first part_rowid_text)
 
-pub reads_by_rowid : ReadsTable rowid_text read_by_rowid part None [] 99999 (sort_by (codes "1") ∷ []) (key_at 0 ∷ []) (0 ∷ []) 99997 nothing
+pub reads_by_rowid : ReadsTable part_rowid_text read_by_rowid part None [] 99999 (sort_by (codes "1") ∷ []) (key_at 0 ∷ []) (0 ∷ []) 99997 nothing
 unfolding everything read_by_rowid rowid_expr rowid_shown all_shown source_of core_of select_of sort_by
 reads_by_rowid = record {
   read = refl;
@@ -83,7 +83,7 @@ reads_by_rowid = record {
   accepted = λ schema at tree alone low. rw (low, alone) refl;
 }
 
-pub takes_by_rowid : Takes rowid_text read_by_rowid part [] (key_at 0 ∷ []) no_values
+pub takes_by_rowid : Takes part_rowid_text read_by_rowid part [] (key_at 0 ∷ []) no_values
 unfolding everything read_by_rowid
 takes_by_rowid = record { whole = lit≤ tt; names = λ x. refl; typed = λ schema at tree alone low x. rw (low, alone) refl }
 
@@ -204,9 +204,9 @@ a_numbered x = Int x.0 ∷ Int x.1 ∷ Int x.2 ∷ []
 
 unfoldable pub read_one : Parsed
 unfolding everything
-read_one = parsed_or (first one_text)
+read_one = parsed_or (first part_one_text)
 
-pub reads_one : ReadsTable one_text read_one part (Some with_number) test_one 99988 (sort_by (codes "4") ∷ []) (key_at 3 ∷ []) (3 ∷ []) 99986 of_column
+pub reads_one : ReadsTable part_one_text read_one part (Some with_number) test_one 99988 (sort_by (codes "4") ∷ []) (key_at 3 ∷ []) (3 ∷ []) 99986 of_column
 unfolding everything read_one rowid_expr rowid_shown all_shown source_of core_of select_of sort_by name_expr given_expr binary_expr
 reads_one = record {
   read = refl;
@@ -224,7 +224,7 @@ reads_one = record {
   accepted = λ schema at tree alone low. rw (low, alone) refl;
 }
 
-pub takes_one : Takes one_text read_one part test_one (key_at 3 ∷ []) a_numbered
+pub takes_one : Takes part_one_text read_one part test_one (key_at 3 ∷ []) a_numbered
 unfolding everything read_one
 takes_one = record { whole = lit≤ tt; names = λ x. refl; typed = λ schema at tree alone low x. rw (low, alone) refl }
 

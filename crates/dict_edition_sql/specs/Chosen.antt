@@ -14,5 +14,5 @@ abbrev pub is_numbered : (edition file number : ℤ) → Row → Bool
 is_numbered edition file number r = is_of_file edition file r && equals_number 3 number r
 
 -- it has this number or a later one
-abbrev pub is_from : (edition file number : ℤ) → Row → Bool
-is_from edition file number r = is_of_file edition file r && not (is_lt (value_cmp (column r 3) (Int number)))
+abbrev pub is_part_from : (edition file number : ℤ) → Row → Bool
+is_part_from edition file number r = is_of_file edition file r && not (is_lt (value_cmp (column r 3) (Int number)))

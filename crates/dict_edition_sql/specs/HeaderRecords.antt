@@ -2,12 +2,12 @@
 use Rattle.std.specs.Prelude.{List, [], ◌∷◌}
 use Rattle.sqlite.specs.declared.types.Value.TheVariants.{Int, Text as Words}
 use Rattle.sqlite.specs.Order.{Row}
-use Rattle.dict_records.specs.Records.{Header}
+use Rattle.dict_records.specs.Records.{HeaderRecord}
 use Rattle.dict_records.specs.Typed.{owned_header}
 use Rattle.dict_sql.specs.Columns.{Content, Name, Number}
 use Rattle.dict_edition_sql.specs.declared.header_records.StoredHeader.{StoredHeader}
 
-abbrev pub header_row : Header → Row
+abbrev pub header_row : HeaderRecord → Row
 header_row h = Int h.number ∷ Words h.owner ∷ Words h.title ∷ Words h.info ∷ []
 
 -- The rowid stands first.

@@ -15,34 +15,34 @@ use Rattle.dict_sql.specs.declared.records.ReadError.TheVariants.{NoRecord, Stor
 use Rattle.dict_sql.specs.Reads.{IsListing, FailsToRead}
 use Rattle.dict_edition_sql.specs.HeaderTable.{header}
 use Rattle.dict_edition_sql.specs.HeaderRecords.{header_columns}
-use Rattle.dict_edition_sql.specs.HeaderTexts.{rowid_text}
+use Rattle.dict_edition_sql.specs.HeaderTexts.{header_rowid_text}
 
 -- all rows, in their order
-abbrev pub IsWhole : Database → List Row → Type 0
-IsWhole db rows = IsListing (codes "edition") (0 ∷ []) db rows
+abbrev pub AreAllHeaders : Database → List Row → Type 0
+AreAllHeaders db rows = IsListing (codes "edition") (0 ∷ []) db rows
 
 -- the first of these rows
-abbrev pub IsFront : Database → List Row → Type 0
-IsFront db rows = (tail : List Row) × IsWhole db (rows ++ tail)
+abbrev pub IsFrontOfHeaders : Database → List Row → Type 0
+IsFrontOfHeaders db rows = (tail : List Row) × AreAllHeaders db (rows ++ tail)
 
 module _ {S : Type 0} (g : Ghosts S) where
   -- the connection reads them, and has given these rows
-  pub record HasGiven (h : Held S) (given : List Row) : Type 0 where
-    pub runs : kit.HasGiven g rowid_text [] h given
+  pub record HasGivenHeaders (h : Held S) (given : List Row) : Type 0 where
+    pub runs : kit.HasGiven g header_rowid_text [] h given
     pub has : Has header (state g h).now
-    pub front : IsFront (state g h).now given
+    pub front : IsFrontOfHeaders (state g h).now given
 
   -- one more row is given, or those so far are all
-  abbrev pub GivesOn : Held S → List Row → Option Row → Type 0
-  GivesOn new given (Some row) = HasGiven new (given ++ row ∷ [])
-  GivesOn new given None = IsWhole (state g new).now given
+  abbrev pub GivesOnHeaders : Held S → List Row → Option Row → Type 0
+  GivesOnHeaders new given (Some row) = HasGivenHeaders new (given ++ row ∷ [])
+  GivesOnHeaders new given None = AreAllHeaders (state g new).now given
 
   -- the next row was taken, behind which the reading stands now
-  abbrev pub Passes : Held S → Held S → List Row → Row → Type 0
-  Passes old new given row = IsUnchanged (state g old) (state g new) × HasGiven new (given ++ row ∷ [])
+  abbrev pub PassesHeader : Held S → Held S → List Row → Row → Type 0
+  PassesHeader old new given row = IsUnchanged (state g old) (state g new) × HasGivenHeaders new (given ++ row ∷ [])
 
   -- The next row is no header; or memory was refused for it; or the store failed or the limit was met, and nothing more is given.
-  abbrev pub FailsToGive : Held S → Held S → List Row → ReadError → Type 0
-  FailsToGive old new given NoRecord = (row : Row) × Passes old new given row × ¬ HasColumns header_columns row
-  FailsToGive old new given (Store e) =
-      (FailsToRead (state g old) (state g new) e × kit.IsEnded new) ⊎ ((e ≡ SqliteFailure OutOfMemory) × (row : Row) × Passes old new given row)
+  abbrev pub FailsToGiveHeader : Held S → Held S → List Row → ReadError → Type 0
+  FailsToGiveHeader old new given NoRecord = (row : Row) × PassesHeader old new given row × ¬ HasColumns header_columns row
+  FailsToGiveHeader old new given (Store e) =
+      (FailsToRead (state g old) (state g new) e × kit.IsEnded new) ⊎ ((e ≡ SqliteFailure OutOfMemory) × (row : Row) × PassesHeader old new given row)

@@ -17,59 +17,59 @@ use Rattle.dict_sql.specs.Reads.{IsSelection, FailsToRead}
 use Rattle.dict_edition_sql.specs.PartTable.{part}
 use Rattle.dict_edition_sql.specs.PartRecords.{part_columns}
 use Rattle.dict_edition_sql.specs.Chosen.{is_of_file}
-use Rattle.dict_edition_sql.specs.PartTexts.{list_text, rowid_text, file_text}
+use Rattle.dict_edition_sql.specs.PartTexts.{part_list_text, part_rowid_text, file_text}
 
 -- which parts are read: all, in the order of their key or of their rowids; or those of a file
-pub data Scan : Type 0 where
-  All : Scan
-  ByRowid : Scan
-  OfFile : (edition file : ℤ) → Scan
+pub data PartScan : Type 0 where
+  All : PartScan
+  ByRowid : PartScan
+  OfFile : (edition file : ℤ) → PartScan
 
-abbrev pub scan_text : Scan → List ℕ
-scan_text All = list_text
-scan_text ByRowid = rowid_text
-scan_text (OfFile edition file) = file_text
+abbrev pub part_scan_text : PartScan → List ℕ
+part_scan_text All = part_list_text
+part_scan_text ByRowid = part_rowid_text
+part_scan_text (OfFile edition file) = file_text
 
-abbrev pub scan_values : Scan → Row
-scan_values (OfFile edition file) = Int edition ∷ Int file ∷ []
-scan_values _ = []
+abbrev pub part_scan_values : PartScan → Row
+part_scan_values (OfFile edition file) = Int edition ∷ Int file ∷ []
+part_scan_values _ = []
 
-abbrev pub scan_test : Scan → Row → Bool
-scan_test (OfFile edition file) = is_of_file edition file
-scan_test _ = λ _. true
+abbrev pub part_scan_test : PartScan → Row → Bool
+part_scan_test (OfFile edition file) = is_of_file edition file
+part_scan_test _ = λ _. true
 
 -- the columns that order them, where the rowid is column 0
-abbrev pub scan_order : Scan → List ℕ
-scan_order All = 1 ∷ 2 ∷ 3 ∷ []
-scan_order ByRowid = 0 ∷ []
-scan_order (OfFile edition file) = 3 ∷ []
+abbrev pub part_scan_order : PartScan → List ℕ
+part_scan_order All = 1 ∷ 2 ∷ 3 ∷ []
+part_scan_order ByRowid = 0 ∷ []
+part_scan_order (OfFile edition file) = 3 ∷ []
 
 -- all rows that are read, in their order
-abbrev pub IsWhole : Scan → Database → List Row → Type 0
-IsWhole what db rows = IsSelection (codes "dictcat_part") (scan_test what) (scan_order what) db rows
+abbrev pub AreAllParts : PartScan → Database → List Row → Type 0
+AreAllParts what db rows = IsSelection (codes "dictcat_part") (part_scan_test what) (part_scan_order what) db rows
 
 -- the first of these rows
-abbrev pub IsFront : Scan → Database → List Row → Type 0
-IsFront what db rows = (tail : List Row) × IsWhole what db (rows ++ tail)
+abbrev pub IsFrontOfParts : PartScan → Database → List Row → Type 0
+IsFrontOfParts what db rows = (tail : List Row) × AreAllParts what db (rows ++ tail)
 
 module _ {S : Type 0} (g : Ghosts S) where
   -- the connection reads this, and has given these rows
-  pub record HasGiven (what : Scan) (h : Held S) (given : List Row) : Type 0 where
-    pub runs : kit.HasGiven g (scan_text what) (scan_values what) h given
+  pub record HasGivenParts (what : PartScan) (h : Held S) (given : List Row) : Type 0 where
+    pub runs : kit.HasGiven g (part_scan_text what) (part_scan_values what) h given
     pub has : Has part (state g h).now
-    pub front : IsFront what (state g h).now given
+    pub front : IsFrontOfParts what (state g h).now given
 
   -- one more row is given, or those so far are all
-  abbrev pub GivesOn : Scan → Held S → List Row → Option Row → Type 0
-  GivesOn what new given (Some row) = HasGiven what new (given ++ row ∷ [])
-  GivesOn what new given None = IsWhole what (state g new).now given
+  abbrev pub GivesOnParts : PartScan → Held S → List Row → Option Row → Type 0
+  GivesOnParts what new given (Some row) = HasGivenParts what new (given ++ row ∷ [])
+  GivesOnParts what new given None = AreAllParts what (state g new).now given
 
   -- the next row was taken, behind which the reading stands now
-  abbrev pub Passes : Scan → Held S → Held S → List Row → Row → Type 0
-  Passes what old new given row = IsUnchanged (state g old) (state g new) × HasGiven what new (given ++ row ∷ [])
+  abbrev pub PassesPart : PartScan → Held S → Held S → List Row → Row → Type 0
+  PassesPart what old new given row = IsUnchanged (state g old) (state g new) × HasGivenParts what new (given ++ row ∷ [])
 
   -- The next row is no part; or memory was refused for it; or the store failed or the limit was met, and nothing more is given.
-  abbrev pub FailsToGive : Scan → Held S → Held S → List Row → ReadError → Type 0
-  FailsToGive what old new given NoRecord = (row : Row) × Passes what old new given row × ¬ HasColumns part_columns row
-  FailsToGive what old new given (Store e) =
-      (FailsToRead (state g old) (state g new) e × kit.IsEnded new) ⊎ ((e ≡ SqliteFailure OutOfMemory) × (row : Row) × Passes what old new given row)
+  abbrev pub FailsToGivePart : PartScan → Held S → Held S → List Row → ReadError → Type 0
+  FailsToGivePart what old new given NoRecord = (row : Row) × PassesPart what old new given row × ¬ HasColumns part_columns row
+  FailsToGivePart what old new given (Store e) =
+      (FailsToRead (state g old) (state g new) e × kit.IsEnded new) ⊎ ((e ≡ SqliteFailure OutOfMemory) × (row : Row) × PassesPart what old new given row)

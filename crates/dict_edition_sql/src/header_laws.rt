@@ -16,5 +16,5 @@ pub fn definition_laws()
     ensures names { names_of (header 0) ≡ names_of (store.edition 0) }
     ensures beside { (other : Table) → (are_named_apart (header 0) other ≡ are_named_apart (store.edition 0) other) × (are_named_apart other (header 0) ≡ are_named_apart other (store.edition 0)) }
     ensures store { (other : StoreTable) → (other ≡ Edition → ⊥) → (are_named_apart (header 0) (store.table_of other 0) ≡ true) × (are_named_apart (store.table_of other 0) (header 0) ≡ true) }
-    ensures keyed { (other : KeyedTable) → (are_named_apart (header 0) (keyed.table_of other 0) ≡ true) × (are_named_apart (keyed.table_of other 0) (header 0) ≡ true) }
+    ensures keyed { (other : KeyedTable) → (are_named_apart (header 0) (keyed.keyed_table_of other 0) ≡ true) × (are_named_apart (keyed.keyed_table_of other 0) (header 0) ≡ true) }
 {}

@@ -5,7 +5,7 @@ ghost use Rattle.sqlite.specs.declared.error.ErrorCode.TheVariants.{OutOfMemory 
 ghost use Rattle.sqlite.specs.Order.{column};
 ghost use Rattle.dict_edition_sql.specs.HeaderRecords.{header_columns, stored_header};
 
-use dict_records::Header;
+use dict_records::HeaderRecord;
 use dict_sql::records::{ReadError, Record};
 use sqlite::types::FromSql;
 use sqlite::{Error, ErrorCode, Row};
@@ -16,7 +16,7 @@ pub struct StoredHeader {
     /// The rowid.
     pub rowid: i64,
     /// The header.
-    pub value: Header<String>,
+    pub value: HeaderRecord<String>,
 }
 
 // Whether memory was refused.
@@ -55,7 +55,7 @@ impl Record for StoredHeader {
         }
         Ok(StoredHeader {
             rowid: cell(row, 0)?,
-            value: Header {
+            value: HeaderRecord {
                 number: cell(row, 1)?,
                 owner: cell(row, 2)?,
                 title: cell(row, 3)?,

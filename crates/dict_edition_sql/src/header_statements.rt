@@ -11,7 +11,7 @@ ghost use Rattle.dict_sql.specs.Inserts.{Inserts, FailsToInsert};
 ghost use Rattle.dict_edition_sql.specs.HeaderRecords.{header_row};
 ghost use Rattle.dict_edition_sql.specs.HeaderTable.{header};
 
-use dict_records::Header;
+use dict_records::HeaderRecord;
 use dict_sql::transaction::OpenTransaction;
 use sqlite::{Alter, Error, params};
 
@@ -32,7 +32,7 @@ pub fn create_header_table<S: Alter, T: OpenTransaction<S>>(tx: &mut T) -> Resul
 /// Inserts a header. It answers the count of written rows that `sqlite` reports.
 pub fn insert_header<S: Alter, T: OpenTransaction<S>>(
     tx: &mut T,
-    given: &Header<&str>,
+    given: &HeaderRecord<&str>,
 ) -> Result<usize, Error>
     requires { WhileOpen (state S.Store (T.held tx.old)) (Has header) }
     ensures same_reference { T.reference tx.new ≡ T.reference tx.old }

@@ -12,5 +12,5 @@ ghost use Rattle.dict_edition_sql.specs.PartTable.{part};
 pub fn definition_laws()
     ensures part { IsDefinition part }
     ensures store { (other : StoreTable) → (are_named_apart (part 0) (store.table_of other 0) ≡ true) × (are_named_apart (store.table_of other 0) (part 0) ≡ true) }
-    ensures keyed { (other : KeyedTable) → (are_named_apart (part 0) (keyed.table_of other 0) ≡ true) × (are_named_apart (keyed.table_of other 0) (part 0) ≡ true) }
+    ensures keyed { (other : KeyedTable) → (are_named_apart (part 0) (keyed.keyed_table_of other 0) ≡ true) × (are_named_apart (keyed.keyed_table_of other 0) (part 0) ≡ true) }
 {}

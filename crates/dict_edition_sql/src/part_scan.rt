@@ -13,8 +13,8 @@ ghost use Rattle.dict_sql.specs.Effects.{Has, WhileOpen};
 ghost use Rattle.dict_sql.specs.Streams.{IsNotBegun};
 ghost use Rattle.dict_edition_sql.specs.PartRecords.{stored_part};
 ghost use Rattle.dict_edition_sql.specs.PartTable.{part};
-ghost use Rattle.dict_edition_sql.specs.PartScans.{Scan, HasGiven, GivesOn, FailsToGive};
-ghost use Rattle.dict_edition_sql.specs.PartScans.Scan.{All, ByRowid, OfFile};
+ghost use Rattle.dict_edition_sql.specs.PartScans.{PartScan, HasGivenParts, GivesOnParts, FailsToGivePart};
+ghost use Rattle.dict_edition_sql.specs.PartScans.PartScan.{All, ByRowid, OfFile};
 
 use crate::part_records::StoredPart;
 use dict_sql::records::ReadError;
@@ -28,7 +28,7 @@ pub fn read_parts<S: Alter>(conn: &mut Connection<S>) -> Result<Rows<'_, S>, Err
     requires { WhileOpen (state S.Store conn.old) (Has part) }
     ensures* refused { sem 𝓛 (RestsIfErr (the_row S.row S.Store) conn.entry (λ rows. rows.conn.ghost_name) result (IsNotBegun S.Store conn.old result)) }
     ensures same_reference { IfOk result (λ rows. rows.conn.ghost_name ≡ conn.entry.ghost_name) }
-    ensures begun { IfOk result (λ rows. HasCleanDisk (state S.Store rows.conn.now) → HasGiven S.Store All rows.conn.now [] × IsUnchanged (state S.Store conn.old) (state S.Store rows.conn.now)) }
+    ensures begun { IfOk result (λ rows. HasCleanDisk (state S.Store rows.conn.now) → HasGivenParts S.Store All rows.conn.now [] × IsUnchanged (state S.Store conn.old) (state S.Store rows.conn.now)) }
     ensures mode { IfOk result (λ rows. conn.old.in_transaction ≡ false → rows.conn.now.in_transaction ≡ false) }
     ensures survives { IfOk result (λ rows. Survives (state S.Store conn.old) (state S.Store rows.conn.now) (λ _. ⊥)) }
 {
@@ -42,7 +42,7 @@ pub fn read_parts_by_rowid<S: Alter>(conn: &mut Connection<S>) -> Result<Rows<'_
     requires { WhileOpen (state S.Store conn.old) (Has part) }
     ensures* refused { sem 𝓛 (RestsIfErr (the_row S.row S.Store) conn.entry (λ rows. rows.conn.ghost_name) result (IsNotBegun S.Store conn.old result)) }
     ensures same_reference { IfOk result (λ rows. rows.conn.ghost_name ≡ conn.entry.ghost_name) }
-    ensures begun { IfOk result (λ rows. HasCleanDisk (state S.Store rows.conn.now) → HasGiven S.Store ByRowid rows.conn.now [] × IsUnchanged (state S.Store conn.old) (state S.Store rows.conn.now)) }
+    ensures begun { IfOk result (λ rows. HasCleanDisk (state S.Store rows.conn.now) → HasGivenParts S.Store ByRowid rows.conn.now [] × IsUnchanged (state S.Store conn.old) (state S.Store rows.conn.now)) }
     ensures mode { IfOk result (λ rows. conn.old.in_transaction ≡ false → rows.conn.now.in_transaction ≡ false) }
     ensures survives { IfOk result (λ rows. Survives (state S.Store conn.old) (state S.Store rows.conn.now) (λ _. ⊥)) }
 {
@@ -60,7 +60,7 @@ pub fn read_parts_of<S: Alter>(
     requires { WhileOpen (state S.Store conn.old) (Has part) }
     ensures* refused { sem 𝓛 (RestsIfErr (the_row S.row S.Store) conn.entry (λ rows. rows.conn.ghost_name) result (IsNotBegun S.Store conn.old result)) }
     ensures same_reference { IfOk result (λ rows. rows.conn.ghost_name ≡ conn.entry.ghost_name) }
-    ensures begun { IfOk result (λ rows. HasCleanDisk (state S.Store rows.conn.now) → HasGiven S.Store (OfFile edition file) rows.conn.now [] × IsUnchanged (state S.Store conn.old) (state S.Store rows.conn.now)) }
+    ensures begun { IfOk result (λ rows. HasCleanDisk (state S.Store rows.conn.now) → HasGivenParts S.Store (OfFile edition file) rows.conn.now [] × IsUnchanged (state S.Store conn.old) (state S.Store rows.conn.now)) }
     ensures mode { IfOk result (λ rows. conn.old.in_transaction ≡ false → rows.conn.now.in_transaction ≡ false) }
     ensures survives { IfOk result (λ rows. Survives (state S.Store conn.old) (state S.Store rows.conn.now) (λ _. ⊥)) }
 {
@@ -75,9 +75,9 @@ pub fn read_parts_of<S: Alter>(
 /// `NoRecord` tells that the next row is none; another error is the store's, or memory was refused for the part. After the store's error nothing more is given; after another the reading goes on behind that row.
 pub fn next_part<S: Alter>(rows: &mut Rows<'_, S>) -> Result<Option<StoredPart>, ReadError>
     ensures same_reference { rows.new.conn.ghost_name ≡ rows.old.conn.ghost_name }
-    ensures given { HasCleanDisk (state S.Store rows.new.conn.now) → IfOk result (λ found. (what : Scan) (given : List SqlRow) → HasGiven S.Store what rows.old.conn.now given → GivesOn S.Store what rows.new.conn.now given (option_map stored_part found)) }
+    ensures given { HasCleanDisk (state S.Store rows.new.conn.now) → IfOk result (λ found. (what : PartScan) (given : List SqlRow) → HasGivenParts S.Store what rows.old.conn.now given → GivesOnParts S.Store what rows.new.conn.now given (option_map stored_part found)) }
     ensures same { HasCleanDisk (state S.Store rows.new.conn.now) → OnOk result (IsUnchanged (state S.Store rows.old.conn.now) (state S.Store rows.new.conn.now)) }
-    ensures failed { HasCleanDisk (state S.Store rows.new.conn.now) → IfErr result (λ e. (what : Scan) (given : List SqlRow) → HasGiven S.Store what rows.old.conn.now given → FailsToGive S.Store what rows.old.conn.now rows.new.conn.now given e) }
+    ensures failed { HasCleanDisk (state S.Store rows.new.conn.now) → IfErr result (λ e. (what : PartScan) (given : List SqlRow) → HasGivenParts S.Store what rows.old.conn.now given → FailsToGivePart S.Store what rows.old.conn.now rows.new.conn.now given e) }
     ensures ends { IfOk result (λ found. IfNone found (IsEnded rows.new.conn.now)) }
     ensures ended { IsEnded rows.old.conn.now → IfOk result IsNone }
     ensures mode { rows.old.conn.now.in_transaction ≡ false → rows.new.conn.now.in_transaction ≡ false }

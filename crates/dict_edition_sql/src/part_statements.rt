@@ -7,7 +7,7 @@ ghost use Rattle.dict_sql.specs.Creates.{IsFree, Makes, FailsToMake};
 ghost use Rattle.dict_sql.specs.Deletes.{HasToRemove, Removes, FailsToRemove};
 ghost use Rattle.dict_sql.specs.Effects.{Has, WhileOpen, equals_number};
 ghost use Rattle.dict_sql.specs.Inserts.{Inserts, FailsToInsert};
-ghost use Rattle.dict_edition_sql.specs.Chosen.{is_from};
+ghost use Rattle.dict_edition_sql.specs.Chosen.{is_part_from};
 ghost use Rattle.dict_edition_sql.specs.PartRecords.{lent_part, part_row};
 ghost use Rattle.dict_edition_sql.specs.PartTable.{part};
 
@@ -75,8 +75,8 @@ pub fn delete_parts_from<S: Alter, T: OpenTransaction<S>>(
 ) -> Result<usize, Error>
     requires { WhileOpen (state S.Store (T.held tx.old)) (HasToRemove part) }
     ensures same_reference { T.reference tx.new ≡ T.reference tx.old }
-    ensures removed { HasCleanDisk (state S.Store (T.held tx.new)) → OnOk result (Removes (codes "dictcat_part") (is_from edition file number) (state S.Store (T.held tx.old)) (state S.Store (T.held tx.new))) }
-    ensures failed { HasCleanDisk (state S.Store (T.held tx.new)) → IfErr result (FailsToRemove (codes "dictcat_part") (is_from edition file number) (state S.Store (T.held tx.old)) (state S.Store (T.held tx.new))) }
+    ensures removed { HasCleanDisk (state S.Store (T.held tx.new)) → OnOk result (Removes (codes "dictcat_part") (is_part_from edition file number) (state S.Store (T.held tx.old)) (state S.Store (T.held tx.new))) }
+    ensures failed { HasCleanDisk (state S.Store (T.held tx.new)) → IfErr result (FailsToRemove (codes "dictcat_part") (is_part_from edition file number) (state S.Store (T.held tx.old)) (state S.Store (T.held tx.new))) }
     ensures survives { Survives (state S.Store (T.held tx.old)) (state S.Store (T.held tx.new)) (λ _. ⊥) }
 {
     tx.execute(

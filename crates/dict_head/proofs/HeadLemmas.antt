@@ -11,13 +11,13 @@ use Rattle.httparse.specs.Spans.{IsRequestOf, IsRequestAt, IsRequestWithin, Requ
 use Rattle.dict_head.specs.declared.kinds.Need.{Need}
 use Rattle.dict_head.specs.declared.kinds.Need.TheVariants.{More, Refused}
 use Rattle.dict_head.specs.declared.kinds.Framing.{Framing}
-use Rattle.dict_head.specs.declared.kinds.Reading.{Reading}
-use Rattle.dict_head.specs.declared.kinds.Reading.TheVariants.{More as ReadMore, Whole as ReadWhole, Refused as ReadRefused}
+use Rattle.dict_head.specs.declared.kinds.RequestReading.{RequestReading}
+use Rattle.dict_head.specs.declared.kinds.RequestReading.TheVariants.{More as ReadMore, Whole as ReadWhole, Refused as ReadRefused}
 use Rattle.dict_head.specs.declared.kinds.Framing.TheVariants.{Body, Refused as NoBody}
 use Rattle.dict_head.specs.declared.statuses.Status.TheVariants.{ContentTooLarge}
 use Rattle.dict_head.specs.Fields.{Header, framing_of, framing_of_codings, framing_of_length, ids_of, length_of, values_of}
 use Rattle.dict_head.specs.Heads.{Needs, NeedsBody, NeedsHead, HasHead, headers_of, front_of}
-use Rattle.dict_head.specs.Requests.{IsAwaited, IsReading, IsHeadReading, Request, IsRequest}
+use Rattle.dict_head.specs.Requests.{IsAwaited, IsReading, IsHeadReading, EditorRequest, IsRequest}
 
 few : (fr : List ℕ) (hs : List HeaderSpan) (spans : RequestSpans) (h : RequestHead) → spans.headers ≤ length hs → length hs ≡ 32 → IsRequestAt fr hs spans h → length h.fields ≤ 32
 few fr hs spans h within room at =
@@ -87,7 +87,7 @@ awaited_with_head octets fr hs spans size is room within of is_framing =
     inl (of.0, has_head octets fr hs spans is room within of, (size, sym (framing_same fr hs spans (Body size) of is_framing), ap (λ n. n + size) of.1.len))
 
 -- the request that the head and so many octets after it say
-abbrev pub parsed : List ℕ → (fr : List ℕ) (hs : List HeaderSpan) (spans : RequestSpans) → IsRequestOf fr hs spans → ℕ → Request
+abbrev pub parsed : List ℕ → (fr : List ℕ) (hs : List HeaderSpan) (spans : RequestSpans) → IsRequestOf fr hs spans → ℕ → EditorRequest
 parsed octets fr hs spans of size = record {
   method = of.0.method;
   target = of.0.target;
@@ -122,7 +122,7 @@ no_head octets fr is over head has =
 needs_error : (octets fr : List ℕ) (n : Need) → fr ≡ front_of octets → RequestOverflows 32 fr → NeedsHead fr n → Needs octets n
 needs_error octets fr n is over h = inr (no_head octets fr is over, subst (λ x. NeedsHead x n) is h)
 
-pub reading_partial : (octets fr : List ℕ) (r : Reading) → fr ≡ front_of octets → HasNoRequest fr → IsHeadReading fr r → IsReading octets r
+pub reading_partial : (octets fr : List ℕ) (r : RequestReading) → fr ≡ front_of octets → HasNoRequest fr → IsHeadReading fr r → IsReading octets r
 reading_partial octets fr (ReadMore size) is none (h, zero) = (
   needs_partial octets fr More is none h,
   inr (λ head has. none head has.rest (subst (λ x. ReadsRequest x head has.rest) (sym is) has.reads), zero),
@@ -130,7 +130,7 @@ reading_partial octets fr (ReadMore size) is none (h, zero) = (
 reading_partial octets fr (ReadRefused s) is none h = needs_partial octets fr (Refused s) is none h
 reading_partial octets fr (ReadWhole told) is none h = absurd h
 
-pub reading_error : (octets fr : List ℕ) (r : Reading) → fr ≡ front_of octets → RequestOverflows 32 fr → IsHeadReading fr r → IsReading octets r
+pub reading_error : (octets fr : List ℕ) (r : RequestReading) → fr ≡ front_of octets → RequestOverflows 32 fr → IsHeadReading fr r → IsReading octets r
 reading_error octets fr (ReadMore size) is over (h, zero) = (needs_error octets fr More is over h, inr (no_head octets fr is over, zero))
 reading_error octets fr (ReadRefused s) is over h = needs_error octets fr (Refused s) is over h
 reading_error octets fr (ReadWhole told) is over h = absurd h

@@ -8,7 +8,7 @@ use Rattle.dict_head.specs.declared.kinds.Need.TheVariants.{More, Whole}
 use Rattle.dict_head.specs.declared.kinds.Framing.{Framing}
 use Rattle.dict_head.specs.declared.kinds.Framing.TheVariants.{Body, Refused as NoBody}
 use Rattle.dict_head.specs.Fields.{framing_of, ids_of}
-use Rattle.dict_head.specs.Requests.{IsAwaited, Request, IsRequest, request_of}
+use Rattle.dict_head.specs.Requests.{IsAwaited, EditorRequest, IsRequest, request_of}
 use Rattle.dict_head.specs.Heads.{Needs, NeedsBody, NeedsHead, HasHead, headers_of, front_of}
 
 body_one : (x : List ℕ) (len : ℕ) (k : Framing) (a b : Need) → NeedsBody x len k a → NeedsBody x len k b → a ≡ b
@@ -65,7 +65,7 @@ stays x y n (inl p) =
 body_size : {a b : ℕ} → Body a ≡ Body b → a ≡ b
 body_size h = cc h
 
-pub one_request : (x : List ℕ) (a b : Request) → IsRequest x a → IsRequest x b → a ≡ b
+pub one_request : (x : List ℕ) (a b : EditorRequest) → IsRequest x a → IsRequest x b → a ≡ b
 one_request x a b p q =
     let same : p.head ≡ q.head = (request_unique (front_of x) p.head q.head p.has.rest q.has.rest p.has.reads q.has.reads).0 in
     let sizes : p.size ≡ q.size = body_size (sym p.framed ∙ (ap (λ h. framing_of (headers_of h)) same ∙ q.framed)) in
@@ -87,7 +87,7 @@ part_stays x y from size fits =
     let b : take size (drop from x ++ y) ≡ take size (drop from x) = take-append-le size (drop from x) y long in
     sym (ap (take size) a ∙ b)
 
-pub request_stays : (x y : List ℕ) (r : Request) → IsRequest x r → IsRequest (x ++ y) r
+pub request_stays : (x y : List ℕ) (r : EditorRequest) → IsRequest x r → IsRequest (x ++ y) r
 request_stays x y r p = record {
   head = p.head;
   has = head_stays x y p.head p.has;

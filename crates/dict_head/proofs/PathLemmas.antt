@@ -8,7 +8,7 @@ use Rattle.matchit.specs.Rows.{param_token}
 use Rattle.matchit.specs.Seek.{has_slash, first, seek, step, param_step, cuts}
 use Rattle.dict_head.specs.declared.route_kinds.Route.{Route}
 use Rattle.dict_head.specs.declared.route_kinds.Route.TheVariants.{Databases, Database, Rollback, Place, Virtual}
-use Rattle.dict_head.specs.Paths.{HasNoSlash, HasName, IsPath, before, after}
+use Rattle.dict_head.specs.Paths.{HasNoSlash, HasName, IsPath, before, path_after}
 use Rattle.dict_head.specs.Rows.{rows, with_name}
 use Rattle.dict_head.proofs.SeekLemmas.{Key, TheRows, not_eq, equal_or_not, none_at, by_octet, are_octets, word_back, word_on, IsOctet, passes, passes_all, slash_or_none, segment_whole, segment_front, no_slash, has_one, by_param}
 
@@ -352,7 +352,7 @@ value_is path k h = ap (option_map (λ (row : Key). row.value)) h
 no_name : (X : Type 0) → 0 < 0 → X
 no_name X h = absurd (omega (arith, h))
 
-found_at : (path : List ℕ) (route : Route) (name : List ℕ) → AllByRecursion IsOctet path → path ≡ before route ++ (name ++ after route) → HasName route name → value_at path ≡ Some route
+found_at : (path : List ℕ) (route : Route) (name : List ℕ) → AllByRecursion IsOctet path → path ≡ before route ++ (name ++ path_after route) → HasName route name → value_at path ≡ Some route
 found_at path Databases name small is named = ap value_at (is ∙ ap (λ t. codes "/databases" ++ (t ++ [])) named) ∙ value_is (codes "/databases") databases_key list_on
 found_at path Database [] small is named = absurd (omega (arith, named.0))
 found_at path Database (b ∷ name) small is named =

@@ -3,7 +3,7 @@ use Rattle.std.proofs.Common.{◌≡◌, ◌++◌, ℕ, List, [], ◌∷◌, get
 use Rattle.std.proofs.lemmas.List.{append_cancel_left, append_cancel_right}
 use Rattle.dict_head.specs.declared.route_kinds.Route.{Route}
 use Rattle.dict_head.specs.declared.route_kinds.Route.TheVariants.{Databases, Database, Rollback, Place, Virtual}
-use Rattle.dict_head.specs.Paths.{HasNoSlash, HasName, IsPath, before, after}
+use Rattle.dict_head.specs.Paths.{HasNoSlash, HasName, IsPath, before, path_after}
 
 append_nil : (xs : List ℕ) → xs ++ [] ≡ xs
 append_nil [] = refl
@@ -38,7 +38,7 @@ at_none e = let f : 114 ≡ 112 = ap (λ l. get_or l 0 0) e in omega (arith, f)
 longer_not : {t : List ℕ} → codes "/databases" ≡ codes "/databases/" ++ t → ⊥
 longer_not e = let f : 0 ≡ 47 = ap (λ l. get_or l 10 0) e in omega (arith, f)
 
-route_of : (a b : Route) (s t : List ℕ) → HasName a s → HasName b t → before a ++ (s ++ after a) ≡ before b ++ (t ++ after b) → a ≡ b
+route_of : (a b : Route) (s t : List ℕ) → HasName a s → HasName b t → before a ++ (s ++ path_after a) ≡ before b ++ (t ++ path_after b) → a ≡ b
 route_of Databases Databases s t p q e = refl
 route_of Databases Database s t p q e = absurd (longer_not (ap (λ x. codes "/databases" ++ (x ++ [])) (sym p) ∙ e))
 route_of Databases Rollback s t p q e = absurd (longer_not (ap (λ x. codes "/databases" ++ (x ++ [])) (sym p) ∙ e))
@@ -70,5 +70,5 @@ one_route path a b s t p q = route_of a b s t p.named q.named (sym p.is ∙ q.is
 
 pub one_name : (path : List ℕ) (a b : Route) (s t : List ℕ) → IsPath path a s → IsPath path b t → s ≡ t
 one_name path a b s t p q =
-    let r : path ≡ before b ++ (s ++ after b) = subst (λ x. path ≡ before x ++ (s ++ after x)) (one_route path a b s t p q) p.is in
-    append_cancel_right s t (after b) (append_cancel_left (before b) (s ++ after b) (t ++ after b) (sym r ∙ q.is))
+    let r : path ≡ before b ++ (s ++ path_after b) = subst (λ x. path ≡ before x ++ (s ++ path_after x)) (one_route path a b s t p q) p.is in
+    append_cancel_right s t (path_after b) (append_cancel_left (before b) (s ++ path_after b) (t ++ path_after b) (sym r ∙ q.is))

@@ -13,12 +13,12 @@ before Place = codes "/databases/"
 before Virtual = codes "/virtual/"
 
 -- and after it
-abbrev pub after : Route → List ℕ
-after Databases = []
-after Database = []
-after Rollback = codes "/rollback"
-after Place = codes "/place"
-after Virtual = []
+abbrev pub path_after : Route → List ℕ
+path_after Databases = []
+path_after Database = []
+path_after Rollback = codes "/rollback"
+path_after Place = codes "/place"
+path_after Virtual = []
 
 abbrev pub HasNoSlash : List ℕ → Type 0
 HasNoSlash octets = AllByRecursion (λ octet. octet ≢ 47) octets
@@ -33,5 +33,5 @@ HasName Virtual name = (0 < length name) × HasNoSlash name
 
 -- the path has this form, with this name
 pub record IsPath (path : List ℕ) (route : Route) (name : List ℕ) : Type 0 where
-  pub is : path ≡ before route ++ (name ++ after route)
+  pub is : path ≡ before route ++ (name ++ path_after route)
   pub named : HasName route name

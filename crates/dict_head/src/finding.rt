@@ -1,10 +1,10 @@
 // Finds the form of a path.
 ghost use Rattle.std.specs.Prelude.{◌≡◌, ℕ, List, IfOk, MatchOption};
-ghost use Rattle.dict_head.specs.Paths.{IsPath, before, after};
+ghost use Rattle.dict_head.specs.Paths.{IsPath, before, path_after};
 ghost use Rattle.dict_head.specs.Rows.{rows};
 ghost use Rattle.dict_head.specs.declared.route_kinds.Route as routes;
 
-use crate::route_kinds::{Found, Route};
+use crate::route_kinds::{FoundRoute, Route};
 use matchit::{InsertError, Router};
 use std::alloc::{AllocError, Global};
 
@@ -31,7 +31,7 @@ pub struct Routes {
 // What stands in the paths of a form before the name and after it.
 fn around(route: Route) -> (&'static str, &'static str)
     ensures before { result.0.now ≡ before route }
-    ensures after { result.1.now ≡ after route }
+    ensures after { result.1.now ≡ path_after route }
 {
     match route {
         Route::Databases => ("/databases", ""),
@@ -52,7 +52,7 @@ impl Routes {
     }
 
     /// The form of a path and the name in it, if it has one of the forms. It takes no memory.
-    pub fn find<'p>(&self, path: &'p str) -> Option<Found<'p>>
+    pub fn find<'p>(&self, path: &'p str) -> Option<FoundRoute<'p>>
         ensures { MatchOption result ((route : routes.Route) (name : List ℕ) → ¬ IsPath path.now route name) (λ found. IsPath path.now found.route found.name.now) }
     {
         let Ok(found) = self.router.at(path) else {
@@ -66,6 +66,6 @@ impl Routes {
         let Some(name) = rest.strip_suffix(after) else {
             unreachable!()
         };
-        Some(Found { route, name })
+        Some(FoundRoute { route, name })
     }
 }

@@ -25,11 +25,11 @@ pub enum Values<'r> {
 
 /// A whole request. It borrows from the octets that it was read from.
 #[derive(Clone, Copy, Debug)]
-pub struct Request<'r> {
+pub struct EditorRequest<'r> {
     pub method: &'r [u8],
     /// The target, as it stands in the head. Nothing in it is decoded.
     pub target: &'r str,
-    /// The values of the headers `Request-Id`.
+    /// The values of the headers `EditorRequest-Id`.
     pub ids: Values<'r>,
     pub body: &'r [u8],
     /// How many octets head and body have.
@@ -38,10 +38,10 @@ pub struct Request<'r> {
 
 /// The octets of a request that have come, as a request.
 #[derive(Clone, Copy, Debug)]
-pub enum Reading<'r> {
+pub enum RequestReading<'r> {
     /// The request isn't whole yet. Where its head is, it is once so many octets have come, head and body, and 0 is told else.
     More(usize),
-    Whole(Request<'r>),
+    Whole(EditorRequest<'r>),
     /// It is answered with this status, whatever follows.
     Refused(Status),
 }

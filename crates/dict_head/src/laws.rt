@@ -1,7 +1,7 @@
 // Laws of the definitions.
 ghost use Rattle.std.specs.Prelude.{◌≡◌, ◌<◌, ◌++◌, ℕ, List, length};
 ghost use Rattle.dict_head.specs.Heads.{Needs};
-ghost use Rattle.dict_head.specs.Requests.{IsAwaited, Request, IsRequest};
+ghost use Rattle.dict_head.specs.Requests.{IsAwaited, EditorRequest, IsRequest};
 ghost use Rattle.dict_head.specs.declared.kinds.Need as needs;
 ghost use Rattle.dict_head.specs.declared.kinds.Need.TheVariants.{More as NeedsMore, Whole as IsWhole, Refused as IsRefused};
 ghost use Rattle.dict_head.specs.declared.statuses.Status as statuses;
@@ -16,6 +16,6 @@ pub fn one_answer()
 
 /// Octets are one whole request at most, and octets after it don't change it.
 pub fn one_request()
-    ensures one { (x : List ℕ) (a b : Request) → IsRequest x a → IsRequest x b → a ≡ b }
-    ensures stays { (x y : List ℕ) (r : Request) → IsRequest x r → IsRequest (x ++ y) r }
+    ensures one { (x : List ℕ) (a b : EditorRequest) → IsRequest x a → IsRequest x b → a ≡ b }
+    ensures stays { (x y : List ℕ) (r : EditorRequest) → IsRequest x r → IsRequest (x ++ y) r }
 {}

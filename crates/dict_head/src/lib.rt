@@ -11,9 +11,9 @@ mod route_laws;
 mod statuses;
 
 pub use finding::Routes;
-pub use kinds::{Need, Reading, Request, Values};
+pub use kinds::{EditorRequest, Need, RequestReading, Values};
 pub use laws::{one_answer, one_request};
 pub use parsing::{need, read_request};
-pub use route_kinds::{Found, Route};
+pub use route_kinds::{FoundRoute, Route};
 pub use route_laws::one_route;
 pub use statuses::Status;

@@ -6,7 +6,7 @@ ghost use Rattle.dict_head.specs.Requests.{IsReading, IsHeadReading};
 ghost use Rattle.dict_head.specs.declared.kinds.Need as needs;
 
 use crate::fields::{framing_of, values_of};
-use crate::kinds::{Framing, Need, Reading, Request};
+use crate::kinds::{EditorRequest, Framing, Need, RequestReading};
 use crate::statuses::Status;
 use httparse::Status as Parsed;
 use httparse::spans::{EMPTY_HEADER_SPAN, HeaderSpan, RequestSpans, parse_request};
@@ -53,13 +53,13 @@ fn front_of(octets: &[u8]) -> &[u8]
 }
 
 // While no head is there.
-fn without_head<'r>(front: &[u8]) -> Reading<'r>
+fn without_head<'r>(front: &[u8]) -> RequestReading<'r>
     ensures { IsHeadReading front.now result }
 {
     if front.len() == MAX_HEAD || has_end(front) {
-        Reading::Refused(Status::BadRequest)
+        RequestReading::Refused(Status::BadRequest)
     } else {
-        Reading::More(0)
+        RequestReading::More(0)
     }
 }
 
@@ -69,7 +69,7 @@ fn with_head<'r>(
     front: &'r [u8],
     headers: &[HeaderSpan],
     head: &RequestSpans,
-) -> Reading<'r>
+) -> RequestReading<'r>
     requires front { front.now ≡ front_of octets.now }
     requires inside { head.now.len ≤ length octets.now }
     requires room { length headers.now ≡ 32 }
@@ -79,17 +79,17 @@ fn with_head<'r>(
 {
     let headers = &headers[..head.headers];
     let size = match framing_of(front, headers) {
-        Framing::Refused(status) => return Reading::Refused(status),
+        Framing::Refused(status) => return RequestReading::Refused(status),
         Framing::Body(size) => size,
     };
     let rest = &octets[head.len..];
     if rest.len() < size {
-        return Reading::More(head.len + size);
+        return RequestReading::More(head.len + size);
     }
     let Ok(target) = str::from_utf8(head.path.of(front)) else {
         unreachable!()
     };
-    Reading::Whole(Request {
+    RequestReading::Whole(EditorRequest {
         method: head.method.of(front),
         target,
         ids: values_of(front, headers, b"request-id"),
@@ -99,7 +99,7 @@ fn with_head<'r>(
 }
 
 /// Reads the request that stands at the front of the octets. It takes no memory.
-pub fn read_request(octets: &[u8]) -> Reading<'_>
+pub fn read_request(octets: &[u8]) -> RequestReading<'_>
     ensures { IsReading octets.now result }
 {
     let front = front_of(octets);
@@ -117,8 +117,8 @@ pub fn need(octets: &[u8]) -> Need
     ensures only { (other : needs.Need) → Needs octets.now other → other ≡ result }
 {
     match read_request(octets) {
-        Reading::More(_) => Need::More,
-        Reading::Whole(request) => Need::Whole(request.len),
-        Reading::Refused(status) => Need::Refused(status),
+        RequestReading::More(_) => Need::More,
+        RequestReading::Whole(request) => Need::Whole(request.len),
+        RequestReading::Refused(status) => Need::Refused(status),
     }
 }

@@ -17,7 +17,7 @@ pub enum Route {
 
 /// The form of a path, and the name in it.
 #[derive(Clone, Copy, Debug)]
-pub struct Found<'p> {
+pub struct FoundRoute<'p> {
     pub route: Route,
     /// One octet or more, none of them a slash. It is empty where the form has no name.
     pub name: &'p str,

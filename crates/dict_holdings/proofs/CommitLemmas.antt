@@ -9,7 +9,7 @@ use Rattle.sqlite.specs.Tree.{Trees}
 use Rattle.sqlite.specs.State.{State, HasCleanDisk, KeepsCommit, Survives, Shows, Fails, IsRolledBack}
 use Rattle.sqlite.specs.Held.{Held, state}
 use Rattle.sqlite.proofs.Callers.{survives_begin}
-use Rattle.dict_holdings.specs.Writing.{Stays}
+use Rattle.dict_holdings.specs.Writing.{StaysCommitted}
 use Rattle.sqlite.proofs.StateLemmas.{survives_then}
 
 -- trees that a stop may leave: those of a database of this kind
@@ -27,7 +27,7 @@ keeps_begun g old begun new is keeps =
     record { was_open = same.was_open; committed = same.committed }
 
 -- what is left of one that was undone
-pub stays_undone : (old mid new : State) → KeepsCommit old mid → IsRolledBack mid new → Stays old new
+pub stays_undone : (old mid new : State) → KeepsCommit old mid → IsRolledBack mid new → StaysCommitted old new
 stays_undone old mid new keeps undone = record {
   was_open = λ h. keeps.was_open (undone.was_open h);
   committed = λ h. (undone.undone h).1 ∙ keeps.committed (undone.was_open h);

@@ -20,16 +20,16 @@ use Rattle.dict_sql.specs.declared.records.ReadError.TheVariants.{NoRecord, Stor
 use Rattle.dict_catalogue.specs.Steps.{Catalogue}
 use Rattle.dict_desk.specs.declared.fault.Fault.{Fault}
 use Rattle.dict_desk.specs.declared.fault.Fault.TheVariants.{Refused, Memory, Disk, Closed, NotACatalogue, Damaged, NewerSchema}
-use Rattle.dict_holdings.specs.Faults.{fault_of, fault_of_read, IsUnread, FailsToLookUp}
+use Rattle.dict_holdings.specs.Faults.{fault_of, fault_of_read, IsUnreadCatalogue, FailsToReadCatalogue}
 use Rattle.dict_holdings.specs.Holds.{Holds, HoldsNoneAs}
 use Rattle.dict_rows.specs.Versions.{known}
 
-pub read_fails : (old new : State) (e : Error) → FailsToRead old new e → FailsToLookUp old new (fault_of e)
+pub read_fails : (old new : State) (e : Error) → FailsToRead old new e → FailsToReadCatalogue old new (fault_of e)
 read_fails old new e (inl fails) = inr (e, refl, fails)
-read_fails old new e (inr limit) = inl (limit.2, subst (λ e. IsUnread old (fault_of e)) (sym limit.0) (inl limit.1))
+read_fails old new e (inr limit) = inl (limit.2, subst (λ e. IsUnreadCatalogue old (fault_of e)) (sym limit.0) (inl limit.1))
 
 module _ (a b c : State) (same : IsUnchanged a b) (survives : Survives a b (λ _. ⊥)) where
-  unread_behind : (fault : Fault) → IsUnread b fault → IsUnread a fault
+  unread_behind : (fault : Fault) → IsUnreadCatalogue b fault → IsUnreadCatalogue a fault
   unread_behind (Refused refusal) h = h
   unread_behind Memory h = tt
   unread_behind Disk (inl limit) = inl (subst IsSome survives.limit limit)
@@ -47,7 +47,7 @@ module _ (a b c : State) (same : IsUnchanged a b) (survives : Survives a b (λ _
   cause_behind Broken h = absurd (false≢true (sym h ∙ same.0.is_open))
   cause_behind Unstorable h = h
 
-  pub fails_behind : (fault : Fault) → FailsToLookUp b c fault → FailsToLookUp a c fault
+  pub fails_behind : (fault : Fault) → FailsToReadCatalogue b c fault → FailsToReadCatalogue a c fault
   fails_behind fault (inl still) = inl (unchanged_then a b c same still.0, unread_behind fault still.1)
   fails_behind fault (inr h) =
       let fails = h.2 in
@@ -75,12 +75,12 @@ all_contains P xs x all h = subst P h.2 (All-from_recursion P xs all h.0 x h.1)
 
 -- some rows of a table could not be read, each of which stands for a record in a catalogue
 pub list_fails : (name : List ℕ) (test : Row → Bool) (columns : List Content) (old new : State) → ((M : Catalogue) → Holds known old.now M → AllByRecursion (HasColumns columns) (rows_of name old.now))
-    → (e : ReadError) → FailsToList columns (filter test (rows_of name old.now)) old new e → FailsToLookUp old new (fault_of_read e)
+    → (e : ReadError) → FailsToList columns (filter test (rows_of name old.now)) old new e → FailsToReadCatalogue old new (fault_of_read e)
 list_fails name test columns old new readable NoRecord h =
     inl (h.0, inr (λ M holds. h.1.2 (all_contains (HasColumns columns) (filter test (rows_of name old.now)) h.1.0 (all_filter (HasColumns columns) test (rows_of name old.now) (readable M holds)) h.1.1)))
 list_fails name test columns old new readable (Store e) (inl fails) = read_fails old new e fails
-list_fails name test columns old new readable (Store e) (inr refused) = inl (refused.0, subst (λ e. IsUnread old (fault_of e)) (sym refused.1) tt)
+list_fails name test columns old new readable (Store e) (inr refused) = inl (refused.0, subst (λ e. IsUnreadCatalogue old (fault_of e)) (sym refused.1) tt)
 
 -- a growth was refused after what was read
-pub refused_memory : {X : Type 0} (old new : State) (result : Result X Fault) → IsErrAnd result (λ fault. fault ≡ Memory) → IsUnchanged old new → IfErr result (FailsToLookUp old new)
-refused_memory old new result is same = passed_on (FailsToLookUp old new) Memory result is (inl (same, tt))
+pub refused_memory : {X : Type 0} (old new : State) (result : Result X Fault) → IsErrAnd result (λ fault. fault ≡ Memory) → IsUnchanged old new → IfErr result (FailsToReadCatalogue old new)
+refused_memory old new result is same = passed_on (FailsToReadCatalogue old new) Memory result is (inl (same, tt))

@@ -33,7 +33,7 @@ use Rattle.dict_rows.proofs.OrderLemmas.{IsIn, in_all, all_same, all_with, passe
 use Rattle.dict_rows.proofs.TakenLemmas.{same_number_is, same_itself}
 use Rattle.dict_holdings.specs.Holds.{Holds}
 use Rattle.dict_holdings.specs.Readings as looks
-use Rattle.dict_holdings.specs.Readings.{Reading, KeepsRows, KeepsAll, IsReadable, HasReadableRows}
+use Rattle.dict_holdings.specs.Readings.{TableReading, KeepsRows, KeepsAll, IsReadable, HasReadableRows}
 use Rattle.dict_rows.specs.Versions.{Layout, Plain, Keyed, Shown, Parted, layout_of}
 use Rattle.dict_edition_sql.specs.HeaderRecords.{header_row}
 use Rattle.dict_edition_sql.specs.PartRecords.{part_row}
@@ -163,19 +163,19 @@ kept_values = Name ∷ Number ∷ Name ∷ Name ∷ NumberOrNull ∷ []
 abbrev MarkRow : spec.Mark → Type 0
 MarkRow m = HasColumns mark_values (mark_row m)
 
-abbrev ItemRow : spec.Item → Type 0
+abbrev ItemRow : spec.ItemRecord → Type 0
 ItemRow m = HasColumns item_values (item_row m)
 
 abbrev MemberRow : spec.Member → Type 0
 MemberRow m = HasColumns member_values (member_row m)
 
-abbrev EditionRow : spec.Edition → Type 0
+abbrev EditionRow : spec.EditionRecord → Type 0
 EditionRow e = HasColumns edition_values (edition_row e)
 
-abbrev EntryRow : spec.Entry → Type 0
+abbrev EntryRow : spec.EntryRecord → Type 0
 EntryRow e = HasColumns entry_values (entry_row e) × IsUtf8 e.shown
 
-abbrev KeptRow : spec.Kept → Type 0
+abbrev KeptRow : spec.KeptRecord → Type 0
 KeptRow k = HasColumns kept_values (kept_row k)
 
 mark_rows : (version : ℕ) (tables : Tables) (M : Catalogue) → Stands version tables M → AllByRecursion MarkRow tables.marks
@@ -265,26 +265,26 @@ numbered_rows version tables M s number known =
 
 edition_rows : (version : ℕ) (tables : Tables) (M : Catalogue) → Stands version tables M → AllByRecursion EditionRow tables.editions
 edition_rows version tables M s = each_in EditionRow tables.editions (λ row i.
-    in_all EditionRow row (editions_numbered row.number tables.editions) (numbered_rows version tables M s row.number (in_all (λ (r : spec.Edition). IsTrue (has_number M.items r.number)) row tables.editions s.numbers i)).editions
-    (passed_in (λ (r : spec.Edition). same_number r.number row.number) row tables.editions (same_itself row.number) i))
+    in_all EditionRow row (editions_numbered row.number tables.editions) (numbered_rows version tables M s row.number (in_all (λ (r : spec.EditionRecord). IsTrue (has_number M.items r.number)) row tables.editions s.numbers i)).editions
+    (passed_in (λ (r : spec.EditionRecord). same_number r.number row.number) row tables.editions (same_itself row.number) i))
 
 entry_rows : (version : ℕ) (tables : Tables) (M : Catalogue) → Stands version tables M → AllByRecursion EntryRow tables.entries
 entry_rows version tables M s = each_in EntryRow tables.entries (λ row i.
-    in_all EntryRow row (entries_of row.edition tables.entries) (numbered_rows version tables M s row.edition (in_all (λ (r : spec.Entry). IsTrue (has_number M.items r.edition)) row tables.entries s.entries i)).entries
-    (passed_in (λ (r : spec.Entry). same_number r.edition row.edition) row tables.entries (same_itself row.edition) i))
+    in_all EntryRow row (entries_of row.edition tables.entries) (numbered_rows version tables M s row.edition (in_all (λ (r : spec.EntryRecord). IsTrue (has_number M.items r.edition)) row tables.entries s.entries i)).entries
+    (passed_in (λ (r : spec.EntryRecord). same_number r.edition row.edition) row tables.entries (same_itself row.edition) i))
 
 -- an edition has few entries, and a number of no edition has none
 few_of : (version : ℕ) (tables : Tables) (M : Catalogue) → Stands version tables M → (number : ℤ) → (b : Bool) → has_number M.items number ≡ b → AreFew tables number
 few_of version tables M s number true known = (numbered_rows version tables M s number known).few
-few_of version tables M s number false unknown = record { edition = 0; lines = []; are = none_pass (λ (row : spec.Entry). same_number row.edition number) tables.entries (each_in (λ (row : spec.Entry). same_number row.edition number ≡ false) tables.entries other); few = omega arith }
+few_of version tables M s number false unknown = record { edition = 0; lines = []; are = none_pass (λ (row : spec.EntryRecord). same_number row.edition number) tables.entries (each_in (λ (row : spec.EntryRecord). same_number row.edition number ≡ false) tables.entries other); few = omega arith }
   where
-    other : (row : spec.Entry) → IsIn row tables.entries → same_number row.edition number ≡ false
+    other : (row : spec.EntryRecord) → IsIn row tables.entries → same_number row.edition number ≡ false
     other row i = split (same_number row.edition number) refl
       where
         split : (b : Bool) → same_number row.edition number ≡ b → b ≡ false
         split false e = refl
         split true e =
-            let known : has_number M.items row.edition ≡ true = in_all (λ (r : spec.Entry). IsTrue (has_number M.items r.edition)) row tables.entries s.entries i in
+            let known : has_number M.items row.edition ≡ true = in_all (λ (r : spec.EntryRecord). IsTrue (has_number M.items r.edition)) row tables.entries s.entries i in
             absurd (false≢true (sym unknown ∙ (ap (has_number M.items) (sym (same_number_is row.edition number e)) ∙ known)))
 
 -- ---- the kept replies
@@ -308,10 +308,10 @@ looked_whole looked first columns [] h ids = tt
 looked_whole looked first columns (row ∷ rows) h ids = (row_of columns (looked row) h.0 (ids.0.0, first row ∙ ids.0.1), looked_whole looked first columns rows h.1 ids.1)
 
 -- a table that keeps rows of these columns is readable
-kept_readable : (r : Reading) (columns : List Content) → r.columns ≡ Number ∷ columns → ((row : Row) → column (r.looked row) 0 ≡ column row 0) → (db : Database) (all : AllTables) → KeepsRows r db all → AllByRecursion (HasColumns columns) (r.rows all) → IsReadable r db
+kept_readable : (r : TableReading) (columns : List Content) → r.columns ≡ Number ∷ columns → ((row : Row) → column (r.looked row) 0 ≡ column row 0) → (db : Database) (all : AllTables) → KeepsRows r db all → AllByRecursion (HasColumns columns) (r.rows all) → IsReadable r db
 kept_readable r columns is first db all keeps h =
-    subst (λ cs. AllByRecursion (λ row. HasColumns cs (r.looked row)) (rows_of (looks.name_of r) db)) (sym is)
-    (looked_whole r.looked first columns (rows_of (looks.name_of r) db) (all_same (HasColumns columns) (r.rows all) (map (λ row. drop 1 (r.looked row)) (rows_of (looks.name_of r) db)) keeps.rows h) keeps.apart.integers)
+    subst (λ cs. AllByRecursion (λ row. HasColumns cs (r.looked row)) (rows_of (looks.table_name_of r) db)) (sym is)
+    (looked_whole r.looked first columns (rows_of (looks.table_name_of r) db) (all_same (HasColumns columns) (r.rows all) (map (λ row. drop 1 (r.looked row)) (rows_of (looks.table_name_of r) db)) keeps.rows h) keeps.apart.integers)
 
 written_all : {R : Type 0} (encode : R → Row) (columns : List Content) (records : List R) → AllByRecursion (λ r. HasColumns columns (encode r)) records → AllByRecursion (HasColumns columns) (map encode records)
 written_all encode columns records h = all_map (λ r. HasColumns columns (encode r)) (HasColumns columns) encode (λ r g. g) records h
@@ -325,10 +325,10 @@ first_of_six [] = refl
 first_of_six (v ∷ row) = refl
 
 -- the columns of an entry, with what is shown behind them
-shown_cells : (e : spec.Entry) → EntryRow e → HasColumns shown_values (looks.shown_row e)
+shown_cells : (e : spec.EntryRecord) → EntryRow e → HasColumns shown_values (looks.shown_row e)
 shown_cells e h = (h.0.0, (h.0.1.0, (h.0.1.1.0, (h.0.1.1.1.0, (h.0.1.1.1.1.0, ((e.shown, refl, h.1), tt))))))
 
-header_cells : (e : spec.Edition) → EditionRow e → HasColumns header_values (header_row (spec.header_of e))
+header_cells : (e : spec.EditionRecord) → EditionRow e → HasColumns header_values (header_row (spec.header_of e))
 header_cells e h = (h.0, (h.1.0, (h.1.1.0, (h.1.1.1.0, tt))))
 
 each_record : {W : Type 0} (P : W → Type 0) (encode : W → Row) (columns : List Content) → ((w : W) → P w → HasColumns columns (encode w)) → (ws : List W) → AllByRecursion P ws → AllByRecursion (HasColumns columns) (map encode ws)

@@ -2,7 +2,7 @@
 use Rattle.std.proofs.Common.{◌≡◌, List, [], ◌∷◌, map, drop, codes, refl, ap, subst}
 use Rattle.std.specs.List.Sorted.{IsPermutation}
 use Rattle.sqlite.specs.Effect.{Database}
-use Rattle.dict_records.specs.Records.{Entry, header_of}
+use Rattle.dict_records.specs.Records.{EntryRecord, header_of}
 use Rattle.dict_sql.specs.Effects.{rows_of}
 use Rattle.dict_sql.specs.Encodings.{mark_row, item_row, member_row, edition_row, kept_row}
 use Rattle.dict_edition_sql.specs.HeaderRecords.{header_row}
@@ -12,7 +12,7 @@ use Rattle.dict_rows.specs.Versions.{Layout, Plain, Keyed, Shown, Parted}
 use Rattle.dict_holdings.specs.AllTables.{AllTables, with_derived}
 use Rattle.dict_holdings.specs.Files.{all_parts}
 use Rattle.dict_holdings.specs.Readings as looks
-use Rattle.dict_holdings.specs.Readings.{Reading, KeepsRows, KeepsAll}
+use Rattle.dict_holdings.specs.Readings.{TableReading, KeepsRows, KeepsAll}
 use Rattle.dict_holdings.specs.Holds.{Keeps}
 
 pub map_twice : {X Y Z : Type 0} (f : X → Y) (g : Y → Z) (xs : List X) → map g (map f xs) ≡ map (λ x. g (f x)) xs
@@ -42,11 +42,11 @@ pub parts_kept : (db : Database) (t : Tables) → KeepsAll Parted db (with_deriv
 parts_kept db t k = record { rows = k.1.1.1.1.1.0.rows; apart = k.1.1.1.1.1.0.apart }
 
 -- in it the entries are kept in parts alone
-pub same_kept : (db : Database) (t : AllTables) (es : List Entry) → KeepsAll Parted db t → KeepsAll Parted db (record t { entries = es })
+pub same_kept : (db : Database) (t : AllTables) (es : List EntryRecord) → KeepsAll Parted db t → KeepsAll Parted db (record t { entries = es })
 same_kept db t es h =
     (one looks.marks h.0 (λ u. u), (one looks.items h.1.0 (λ u. u), (one looks.members h.1.1.0 (λ u. u), (one looks.kept_replies h.1.1.1.0 (λ u. u), (one (looks.editions Parted) h.1.1.1.1.0 (λ u. u), (one (looks.contents Parted) h.1.1.1.1.1.0 (λ u. u), h.1.1.1.1.1.1))))))
   where
-    one : (r : Reading) → KeepsRows r db t → (IsPermutation (r.rows t) (map (λ row. drop 1 (r.looked row)) (rows_of (looks.name_of r) db)) → IsPermutation (r.rows (record t { entries = es })) (map (λ row. drop 1 (r.looked row)) (rows_of (looks.name_of r) db))) → KeepsRows r db (record t { entries = es })
+    one : (r : TableReading) → KeepsRows r db t → (IsPermutation (r.rows t) (map (λ row. drop 1 (r.looked row)) (rows_of (looks.table_name_of r) db)) → IsPermutation (r.rows (record t { entries = es })) (map (λ row. drop 1 (r.looked row)) (rows_of (looks.table_name_of r) db))) → KeepsRows r db (record t { entries = es })
     one r k on = record { rows = on k.rows; apart = k.apart }
 
 -- ---- the editions of an older version

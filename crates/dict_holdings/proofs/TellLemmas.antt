@@ -6,7 +6,7 @@ use Rattle.std.proofs.lemmas.List.Elements.{filter-append}
 use Rattle.std.specs.List.Sorted.{IsPermutation}
 use Rattle.std.proofs.lemmas.List.Sorted.{IsPermutation-refl}
 use Rattle.dict_text.proofs.AllLemmas.{all_weaker, all_map}
-use Rattle.dict_records.specs.Records.{Edition, Entry, Header, Part, header_of}
+use Rattle.dict_records.specs.Records.{EditionRecord, EntryRecord, HeaderRecord, Part, header_of}
 use Rattle.dict_index.specs.Edition.{Edition as AnEdition, entry_in}
 use Rattle.dict_index.specs.Line.{Line}
 use Rattle.dict_index.specs.WellFormed.{IsWellFormedEdition, IsWellFormedEntry}
@@ -72,12 +72,12 @@ file_once edition file x y same =
 
 -- ---- the record of an edition
 
-headers_of : (number : ℤ) (es : List Edition) → filter (λ (h : Header). same_number h.number number) (map header_of es) ≡ map header_of (editions_numbered number es)
+headers_of : (number : ℤ) (es : List EditionRecord) → filter (λ (h : HeaderRecord). same_number h.number number) (map header_of es) ≡ map header_of (editions_numbered number es)
 headers_of number [] = refl
 headers_of number (e ∷ es) = by (same_number e.number number) (headers_of number es)
   where
-    by : (b : Bool) → filter (λ (h : Header). same_number h.number number) (map header_of es) ≡ map header_of (editions_numbered number es)
-        → cond b (header_of e ∷ filter (λ (h : Header). same_number h.number number) (map header_of es)) (filter (λ (h : Header). same_number h.number number) (map header_of es)) ≡ map header_of (cond b (e ∷ editions_numbered number es) (editions_numbered number es))
+    by : (b : Bool) → filter (λ (h : HeaderRecord). same_number h.number number) (map header_of es) ≡ map header_of (editions_numbered number es)
+        → cond b (header_of e ∷ filter (λ (h : HeaderRecord). same_number h.number number) (map header_of es)) (filter (λ (h : HeaderRecord). same_number h.number number) (map header_of es)) ≡ map header_of (cond b (e ∷ editions_numbered number es) (editions_numbered number es))
     by true rest = ap (λ l. header_of e ∷ l) rest
     by false rest = rest
 
@@ -87,7 +87,7 @@ one_of_map f (x ∷ []) y e = (x, refl, let same : f x ≡ y = cc in same)
 one_of_map f (x ∷ z ∷ xs) y e = absurd (cc)
 
 -- the parts of a number of which there is one record
-parts_of_one : (t : Tables) (number : ℤ) (e : Edition) → editions_numbered number t.editions ≡ e ∷ [] → filter (λ (p : Part). same_number p.edition number) (all_parts t) ≡ edition_parts t.entries e
+parts_of_one : (t : Tables) (number : ℤ) (e : EditionRecord) → editions_numbered number t.editions ≡ e ∷ [] → filter (λ (p : Part). same_number p.edition number) (all_parts t) ≡ edition_parts t.entries e
 parts_of_one t number e one = part_once t number ∙ ap (flat_map (edition_parts t.entries)) one ∙ append-nil (edition_parts t.entries e)
 
 -- the index of a number is that of its lines
@@ -117,15 +117,15 @@ module _ (version : ℕ) (a b : Tables) (M N : Catalogue) (same : HaveSameFiles 
   edition_told : (owner : List ℕ) (stored : Stored AnEdition) → HoldsEdition a owner stored → IsWellFormedEdition stored.content → HoldsEdition b owner stored
   edition_told owner stored h lawful =
       let number = pos stored.number in
-      let mine : Edition = edition_record owner stored.number h.reading in
+      let mine : EditionRecord = edition_record owner stored.number h.reading in
       let headers : Same (map header_of (editions_numbered number a.editions)) (map header_of (editions_numbered number b.editions)) =
       subst (λ l. Same l (map header_of (editions_numbered number b.editions))) (headers_of number a.editions)
-      (subst (Same (filter (λ (x : Header). same_number x.number number) (map header_of a.editions))) (headers_of number b.editions)
-      (same_passed (λ (x : Header). same_number x.number number) (map header_of a.editions) (map header_of b.editions) (same_from (map header_of a.editions) (map header_of b.editions) same.headers))) in
+      (subst (Same (filter (λ (x : HeaderRecord). same_number x.number number) (map header_of a.editions))) (headers_of number b.editions)
+      (same_passed (λ (x : HeaderRecord). same_number x.number number) (map header_of a.editions) (map header_of b.editions) (same_from (map header_of a.editions) (map header_of b.editions) same.headers))) in
       let header : map header_of (editions_numbered number b.editions) ≡ header_of mine ∷ [] = one_once (header_of mine) _ (subst (λ l. Same (map header_of l) (map header_of (editions_numbered number b.editions))) h.row headers) in
       let found = one_of_map header_of (editions_numbered number b.editions) (header_of mine) header in
-      let theirs : Edition = found.0 in
-      let at : theirs.number ≡ number = ap (λ (x : Header). x.number) found.2 in
+      let theirs : EditionRecord = found.0 in
+      let at : theirs.number ≡ number = ap (λ (x : HeaderRecord). x.number) found.2 in
       let parts : Same (edition_parts a.entries mine) (edition_parts b.entries theirs) =
       subst (λ l. Same l (edition_parts b.entries theirs)) (parts_of_one a number mine h.row)
       (subst (Same (filter (λ (p : Part). same_number p.edition number) (all_parts a))) (parts_of_one b number theirs found.1)
@@ -144,8 +144,8 @@ module _ (version : ℕ) (a b : Tables) (M N : Catalogue) (same : HaveSameFiles 
       (same_passed (λ (p : Part). same_number p.file (pos 1)) (parts_under number index_a h.reading.text) (parts_under number index_b theirs.body) parts_at)) in
       let index : index_a ≡ index_b = file_once number (pos 0) index_a index_b indexes in
       let text : h.reading.text ≡ theirs.body = file_once number (pos 1) h.reading.text theirs.body texts in
-      let here : IsIn theirs b.editions = (in_passed (λ (r : Edition). same_number r.number number) theirs b.editions (subst (IsIn theirs) (sym found.1) (inl refl))).0 in
-      let known : has_number N.items number ≡ true = subst (λ n. has_number N.items n ≡ true) at (in_all (λ (r : Edition). IsTrue (has_number N.items r.number)) theirs b.editions sb.numbers here) in
+      let here : IsIn theirs b.editions = (in_passed (λ (r : EditionRecord). same_number r.number number) theirs b.editions (subst (IsIn theirs) (sym found.1) (inl refl))).0 in
+      let known : has_number N.items number ≡ true = subst (λ n. has_number N.items n ≡ true) at (in_all (λ (r : EditionRecord). IsTrue (has_number N.items r.number)) theirs b.editions sb.numbers here) in
       let other : Found b N.items number = found_in b N.items number known sb.editions sb.well_formed.editions in
       let n : other.stored.number ≡ stored.number = pos_same _ _ other.is in
       let lines_b = other.holds.reading.lines in
@@ -155,10 +155,10 @@ module _ (version : ℕ) (a b : Tables) (M N : Catalogue) (same : HaveSameFiles 
       says_one_list h.reading.lines lines_b (storable a owner stored h lawful) (storable b other.owner other.stored other.holds other.lawful)
       (sym (index_is a stored.number h.reading.lines h.entries) ∙ index ∙ index_is b stored.number lines_b entries_b) in
       let whole : theirs ≡ mine = λ i. record {
-        number = ap (λ (x : Header). x.number) found.2 i;
-        owner = ap (λ (x : Header). x.owner) found.2 i;
-        title = ap (λ (x : Header). x.title) found.2 i;
-        info = ap (λ (x : Header). x.info) found.2 i;
+        number = ap (λ (x : HeaderRecord). x.number) found.2 i;
+        owner = ap (λ (x : HeaderRecord). x.owner) found.2 i;
+        title = ap (λ (x : HeaderRecord). x.title) found.2 i;
+        info = ap (λ (x : HeaderRecord). x.info) found.2 i;
         body = sym text i;
       } in
       record {
@@ -166,29 +166,29 @@ module _ (version : ℕ) (a b : Tables) (M N : Catalogue) (same : HaveSameFiles 
         says = h.says;
         short = h.short;
         within = h.within;
-        row = found.1 ∙ ap (λ (e : Edition). e ∷ []) whole;
+        row = found.1 ∙ ap (λ (e : EditionRecord). e ∷ []) whole;
         entries = entries_b ∙ ap (numbered (entry_record stored.number) 0) (sym lines);
       }
 
   item_told : (item : Item AnEdition) → HoldsEditions a item → HasWellFormedEditions item → HoldsEditions b item
   item_told item h lawful = all_with (HoldsEdition a (name_of item)) (λ stored. IsWellFormedEdition stored.content) (HoldsEdition b (name_of item)) (edition_told (name_of item)) (editions_of item) h lawful
 
-  of_headers : (P : ℤ → Type 0) (es : List Edition) → AllByRecursion (λ (x : Header). P x.number) (map header_of es) → AllByRecursion (λ (e : Edition). P e.number) es
+  of_headers : (P : ℤ → Type 0) (es : List EditionRecord) → AllByRecursion (λ (x : HeaderRecord). P x.number) (map header_of es) → AllByRecursion (λ (e : EditionRecord). P e.number) es
   of_headers P [] h = tt
   of_headers P (e ∷ es) h = (h.0, of_headers P es h.1)
 
-  numbers_told : AllByRecursion (λ (row : Edition). IsTrue (has_number M.items row.number)) b.editions
+  numbers_told : AllByRecursion (λ (row : EditionRecord). IsTrue (has_number M.items row.number)) b.editions
   numbers_told =
       of_headers (λ n. IsTrue (has_number M.items n)) b.editions
-      (all_same (λ (x : Header). IsTrue (has_number M.items x.number)) (map header_of a.editions) (map header_of b.editions) same.headers
-      (all_map (λ (e : Edition). IsTrue (has_number M.items e.number)) (λ (x : Header). IsTrue (has_number M.items x.number)) header_of (λ e k. k) a.editions sa.numbers))
+      (all_same (λ (x : HeaderRecord). IsTrue (has_number M.items x.number)) (map header_of a.editions) (map header_of b.editions) same.headers
+      (all_map (λ (e : EditionRecord). IsTrue (has_number M.items e.number)) (λ (x : HeaderRecord). IsTrue (has_number M.items x.number)) header_of (λ e k. k) a.editions sa.numbers))
 
   number_told : (number : ℤ) → has_number N.items number ≡ true → has_number M.items number ≡ true
   number_told number known =
       let other : Found b N.items number = found_in b N.items number known sb.editions sb.well_formed.editions in
-      let row : Edition = edition_record other.owner other.stored.number other.holds.reading in
-      let here : IsIn row b.editions = (in_passed (λ (r : Edition). same_number r.number (pos other.stored.number)) row b.editions (subst (IsIn row) (sym other.holds.row) (inl refl))).0 in
-      subst (λ n. has_number M.items n ≡ true) other.is (in_all (λ (r : Edition). IsTrue (has_number M.items r.number)) row b.editions numbers_told here)
+      let row : EditionRecord = edition_record other.owner other.stored.number other.holds.reading in
+      let here : IsIn row b.editions = (in_passed (λ (r : EditionRecord). same_number r.number (pos other.stored.number)) row b.editions (subst (IsIn row) (sym other.holds.row) (inl refl))).0 in
+      subst (λ n. has_number M.items n ≡ true) other.is (in_all (λ (r : EditionRecord). IsTrue (has_number M.items r.number)) row b.editions numbers_told here)
 
   -- the records but for editions and entries
   abbrev between : Tables
@@ -209,7 +209,7 @@ module _ (version : ℕ) (a b : Tables) (M N : Catalogue) (same : HaveSameFiles 
     owners = between_stands.owners;
     editions = all_with (HoldsEditions a) HasWellFormedEditions (HoldsEditions b) item_told M.items sa.editions sa.well_formed.editions;
     numbers = numbers_told;
-    entries = all_weaker (λ (row : Entry). IsTrue (has_number N.items row.edition)) (λ (row : Entry). IsTrue (has_number M.items row.edition)) (λ row k. number_told row.edition k) b.entries sb.entries;
+    entries = all_weaker (λ (row : EntryRecord). IsTrue (has_number N.items row.edition)) (λ (row : EntryRecord). IsTrue (has_number M.items row.edition)) (λ row k. number_told row.edition k) b.entries sb.entries;
     kept = between_stands.kept;
   }
 

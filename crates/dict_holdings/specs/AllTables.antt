@@ -1,7 +1,7 @@
 -- The records of all tables, the parts of files among them.
 use Rattle.std.specs.Prelude.{◌≡◌, ℕ, pos, ℤ, false, not, List, [], ◌∷◌, ◌++◌, map, filter, Option, Some, None}
 use Rattle.std.specs.List.{AllByRecursion}
-use Rattle.dict_records.specs.Records.{Mark, Item, Member, Edition, Entry, Part, Kept}
+use Rattle.dict_records.specs.Records.{Mark, ItemRecord, Member, EditionRecord, EntryRecord, Part, KeptRecord}
 use Rattle.dict_rows.specs.Tables.{Tables, same_number}
 use Rattle.dict_rows.specs.Written.{numbered, mark_record, item_record, kept_record}
 use Rattle.dict_rows.specs.After.{Installed, TableChange, is_gone, installed_editions, installed_entries, all_members}
@@ -11,12 +11,12 @@ use Rattle.dict_holdings.specs.Files.{all_parts, installed_parts}
 -- function of the entries.
 pub record AllTables : Type 0 where
   pub marks : List Mark
-  pub items : List Item
+  pub items : List ItemRecord
   pub members : List Member
-  pub editions : List Edition
-  pub entries : List Entry
+  pub editions : List EditionRecord
+  pub entries : List EntryRecord
   pub parts : List Part
-  pub kept : List Kept
+  pub kept : List KeptRecord
 
 -- the records with the parts of their files
 abbrev pub with_derived : Tables → AllTables
@@ -45,6 +45,6 @@ all_after version change old = record {
 }
 
 -- no record has the number of the edition that is installed
-abbrev pub IsNew : Option Installed → Tables → Type 0
-IsNew None t = Unit {0}
-IsNew (Some new) t = HasNoneOf (pos new.number) t
+abbrev pub HasNewNumber : Option Installed → Tables → Type 0
+HasNewNumber None t = Unit {0}
+HasNewNumber (Some new) t = HasNoneOf (pos new.number) t

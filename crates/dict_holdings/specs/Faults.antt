@@ -33,16 +33,16 @@ IsOfStore NewerSchema = ⊥
 
 -- Why a call that reads fails though its store doesn't: a growth was refused; or the limit on steps was met, or what is
 -- read is no catalogue's, under the known version.
-abbrev pub IsUnread : State → Fault → Type 0
-IsUnread old (Refused refusal) = ⊥
-IsUnread old Memory = Unit {0}
-IsUnread old Disk = IsSome old.step_limit ⊎ HoldsNoneAs known old.now
-IsUnread old Closed = ⊥
-IsUnread old NotACatalogue = ⊥
-IsUnread old Damaged = ⊥
-IsUnread old NewerSchema = ⊥
+abbrev pub IsUnreadCatalogue : State → Fault → Type 0
+IsUnreadCatalogue old (Refused refusal) = ⊥
+IsUnreadCatalogue old Memory = Unit {0}
+IsUnreadCatalogue old Disk = IsSome old.step_limit ⊎ HoldsNoneAs known old.now
+IsUnreadCatalogue old Closed = ⊥
+IsUnreadCatalogue old NotACatalogue = ⊥
+IsUnreadCatalogue old Damaged = ⊥
+IsUnreadCatalogue old NewerSchema = ⊥
 
 -- A call that reads failed: the store did, for the cause that its error names, of which this is the fault, and it shows
 -- what was committed; or nothing has changed, and the store did not fail.
-abbrev pub FailsToLookUp : State → State → Fault → Type 0
-FailsToLookUp old new fault = (IsUnchanged old new × IsUnread old fault) ⊎ ((e : Error) × (fault ≡ fault_of e) × Fails old new ⊥ e)
+abbrev pub FailsToReadCatalogue : State → State → Fault → Type 0
+FailsToReadCatalogue old new fault = (IsUnchanged old new × IsUnreadCatalogue old fault) ⊎ ((e : Error) × (fault ≡ fault_of e) × Fails old new ⊥ e)

@@ -1,6 +1,6 @@
 -- The two files of an edition, its index and its text, and the parts that they are kept in: a function of the records.
 use Rattle.std.specs.Prelude.{ℕ, ℤ, pos, negsuc, List, [], ◌++◌, map, flat_map, Option, Some, None}
-use Rattle.dict_records.specs.Records.{Edition, Entry, Part}
+use Rattle.dict_records.specs.Records.{EditionRecord, EntryRecord, Part}
 use Rattle.dict_index.specs.Line.{Line}
 use Rattle.dict_parts.specs.Parts.{parts_of}
 use Rattle.dict_parts.specs.Stored.{stored_index}
@@ -14,11 +14,11 @@ natural (pos n) = n
 natural (negsuc n) = 0
 
 -- the line of an entry
-abbrev pub entry_line : Entry → Line
+abbrev pub entry_line : EntryRecord → Line
 entry_line e = record { headword = e.headword; offset = natural e.start; size = natural e.length; shown = e.shown }
 
 -- the octets of an index: the lines of the entries
-abbrev pub index_octets : List Entry → List ℕ
+abbrev pub index_octets : List EntryRecord → List ℕ
 index_octets entries = stored_index (map entry_line entries)
 
 abbrev pub part_at : ℤ → ℤ → ℕ → List ℕ → Part
@@ -32,7 +32,7 @@ file_parts edition file octets = numbered (part_at edition file) 0 (parts_of oct
 abbrev pub parts_under : ℤ → (index text : List ℕ) → List Part
 parts_under edition index text = file_parts edition (pos 0) index ++ file_parts edition (pos 1) text
 
-abbrev pub edition_parts : List Entry → Edition → List Part
+abbrev pub edition_parts : List EntryRecord → EditionRecord → List Part
 edition_parts entries e = parts_under e.number (index_octets (entries_of e.number entries)) e.body
 
 -- the parts of all editions

@@ -11,7 +11,7 @@ use Rattle.dict_desk.specs.declared.fault.Fault.TheVariants.{Refused, Memory, Di
 use Rattle.dict_holdings.specs.Faults.{fault_of}
 
 -- what was committed is so still, and shown if it was before, while the store is open
-pub record Stays (old new : State) : Type 0 where
+pub record StaysCommitted (old new : State) : Type 0 where
   pub was_open : IsTrue new.is_open → IsTrue old.is_open
   pub committed : IsTrue new.is_open → new.committed ≡ old.committed
   pub settled : IsTrue new.is_open → old.now ≡ old.committed → new.now ≡ new.committed

@@ -1,20 +1,20 @@
 // What holds of the files of all editions.
 ghost use Rattle.std.specs.Prelude.{◌≡◌, ◌++◌, ℕ, ℤ, pos, List, filter, flat_map, IsPermutation};
 ghost use Rattle.std.specs.List.{AllByRecursion};
-ghost use Rattle.dict_records.specs.Records.{Edition, Entry, Part};
+ghost use Rattle.dict_records.specs.Records.{EditionRecord, EntryRecord, Part};
 ghost use Rattle.dict_index.specs.Edition.{Edition as AnEdition};
 ghost use Rattle.dict_index.specs.WellFormed.{IsWellFormedEdition};
 ghost use Rattle.dict_parts.specs.Stored.{IsStorable, stored_index};
 ghost use Rattle.dict_catalogue.specs.Commands.{Command};
 ghost use Rattle.dict_catalogue.specs.Items.{Stored};
 ghost use Rattle.dict_catalogue.specs.Steps.{Catalogue};
-ghost use Rattle.dict_rows.specs.After.{TableChange, IsChange, tables_after};
+ghost use Rattle.dict_rows.specs.After.{TableChange, IsTableChange, tables_after};
 ghost use Rattle.dict_rows.specs.Stands.{HoldsEdition, Stands};
 ghost use Rattle.dict_rows.specs.Tables.{Tables, same_number, editions_numbered};
 ghost use Rattle.dict_rows.specs.Taken.{with_edition};
 ghost use Rattle.dict_rows.specs.Whole.{with_entries};
 ghost use Rattle.dict_rows.specs.Worked.{worked_tables};
-ghost use Rattle.dict_holdings.specs.AllTables.{with_derived, as_version, all_after, HasNoneOf, IsNew};
+ghost use Rattle.dict_holdings.specs.AllTables.{with_derived, as_version, all_after, HasNoneOf, HasNewNumber};
 ghost use Rattle.dict_holdings.specs.Files.{all_parts, edition_parts, file_parts, parts_under};
 ghost use Rattle.dict_holdings.specs.Told.{HaveSameFiles};
 ghost use Rattle.dict_holdings.specs.Worked.{worked_parts};
@@ -52,15 +52,15 @@ pub fn file_laws()
 ///
 /// It does nothing. Its clauses are the law.
 pub fn files_after()
-    ensures after { (version : ℕ) (change : TableChange) (old : Tables) → IsNew change.edition old → with_derived (tables_after version change old) ≡ all_after version change (with_derived old) }
-    ensures new { (version : ℕ) (old : Tables) (M : Catalogue) (id : List ℕ) (command : Command AnEdition) (change : TableChange) → Stands version old M → IsChange M id command change → IsNew change.edition old }
+    ensures after { (version : ℕ) (change : TableChange) (old : Tables) → HasNewNumber change.edition old → with_derived (tables_after version change old) ≡ all_after version change (with_derived old) }
+    ensures new { (version : ℕ) (old : Tables) (M : Catalogue) (id : List ℕ) (command : Command AnEdition) (change : TableChange) → Stands version old M → IsTableChange M id command change → HasNewNumber change.edition old }
 {}
 
 /// The parts of one edition more, of a new number, come behind those of the others.
 ///
 /// It does nothing. Its clause is the law.
 pub fn files_more()
-    ensures { (t : Tables) (e : Edition) (es : List Entry) → HasNoneOf e.number t → AllByRecursion (λ (row : Entry). row.edition ≡ e.number) es → all_parts (with_entries (with_edition t e) es) ≡ all_parts t ++ edition_parts es e }
+    ensures { (t : Tables) (e : EditionRecord) (es : List EntryRecord) → HasNoneOf e.number t → AllByRecursion (λ (row : EntryRecord). row.edition ≡ e.number) es → all_parts (with_entries (with_edition t e) es) ≡ all_parts t ++ edition_parts es e }
 {}
 
 /// Records with the same headers and the same parts of files stand for one catalogue at most.

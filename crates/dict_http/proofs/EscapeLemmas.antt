@@ -8,7 +8,7 @@ use Rattle.dict_proto.proofs.PutLemmas.{puts_after, front_after, front_longer}
 use Rattle.dict_catalogue.specs.Effects.{KeptReply}
 use Rattle.dict_catalogue.specs.declared.reply.Verb.{Verb}
 use Rattle.dict_catalogue.specs.declared.reply.Verb.TheVariants.{Install, Rollback, Retire, Virtual, Place}
-use Rattle.dict_http.specs.Texts.{kept_text, needs_escape, number_or_null, verb_text}
+use Rattle.dict_http.specs.Texts.{kept_text, needs_escape, number_or_null_text, verb_text}
 use Rattle.std.proofs.lemmas.Bool.Decides.{nat_tests}
 use Rattle.dict_text.proofs.PositionLemmas.{here, later, position_is, position_none}
 
@@ -97,13 +97,13 @@ verb_quoted Virtual = refl
 verb_quoted Place = refl
 
 -- a reply's text, in the parts that are put
-pub kept_parts : (kept : KeptReply) → kept_text kept ≡ (codes "{\"edition\":" ++ number_or_null kept.edition)
+pub kept_parts : (kept : KeptReply) → kept_text kept ≡ (codes "{\"edition\":" ++ number_or_null_text kept.edition)
     ++ ((codes ",\"name\":" ++ quoted kept.name) ++ ((codes ",\"number\":" ++ decimal kept.number) ++ verb_part kept.verb))
 kept_parts kept =
-    ap (λ l. codes "{\"edition\":" ++ (number_or_null kept.edition ++ (codes ",\"name\":" ++ (quoted kept.name ++ (codes ",\"number\":" ++ (decimal kept.number ++ l)))))) (verb_quoted kept.verb)
-    ∙ (ap (λ l. codes "{\"edition\":" ++ (number_or_null kept.edition ++ (codes ",\"name\":" ++ (quoted kept.name ++ l)))) (sym (append_assoc (codes ",\"number\":") (decimal kept.number) (verb_part kept.verb)))
-    ∙ (ap (λ l. codes "{\"edition\":" ++ (number_or_null kept.edition ++ l)) (sym (append_assoc (codes ",\"name\":") (quoted kept.name) ((codes ",\"number\":" ++ decimal kept.number) ++ verb_part kept.verb)))
-    ∙ sym (append_assoc (codes "{\"edition\":") (number_or_null kept.edition) _)))
+    ap (λ l. codes "{\"edition\":" ++ (number_or_null_text kept.edition ++ (codes ",\"name\":" ++ (quoted kept.name ++ (codes ",\"number\":" ++ (decimal kept.number ++ l)))))) (verb_quoted kept.verb)
+    ∙ (ap (λ l. codes "{\"edition\":" ++ (number_or_null_text kept.edition ++ (codes ",\"name\":" ++ (quoted kept.name ++ l)))) (sym (append_assoc (codes ",\"number\":") (decimal kept.number) (verb_part kept.verb)))
+    ∙ (ap (λ l. codes "{\"edition\":" ++ (number_or_null_text kept.edition ++ l)) (sym (append_assoc (codes ",\"name\":") (quoted kept.name) ((codes ",\"number\":" ++ decimal kept.number) ++ verb_part kept.verb)))
+    ∙ sym (append_assoc (codes "{\"edition\":") (number_or_null_text kept.edition) _)))
 
 module _ (kept : KeptReply) where
   abbrev behind_name : List ℕ
@@ -112,16 +112,16 @@ module _ (kept : KeptReply) where
   abbrev behind_edition : List ℕ
   behind_edition = (codes ",\"name\":" ++ quoted kept.name) ++ behind_name
 
-  pub after_edition : (a b : Stream) → PutsFront a b (codes "{\"edition\":" ++ number_or_null kept.edition) → PutsFront a b (kept_text kept)
+  pub after_edition : (a b : Stream) → PutsFront a b (codes "{\"edition\":" ++ number_or_null_text kept.edition) → PutsFront a b (kept_text kept)
   after_edition a b h = subst (PutsFront a b) (sym (kept_parts kept)) (front_longer a b _ behind_edition h)
 
-  pub after_name : (a b c : Stream) → PutsAll a b (codes "{\"edition\":" ++ number_or_null kept.edition) → PutsFront b c (codes ",\"name\":" ++ quoted kept.name) → PutsFront a c (kept_text kept)
+  pub after_name : (a b c : Stream) → PutsAll a b (codes "{\"edition\":" ++ number_or_null_text kept.edition) → PutsFront b c (codes ",\"name\":" ++ quoted kept.name) → PutsFront a c (kept_text kept)
   after_name a b c h k = subst (PutsFront a c) (sym (kept_parts kept)) (front_after a b c _ behind_edition h (front_longer b c _ behind_name k))
 
-  pub after_number : (a b c d : Stream) → PutsAll a b (codes "{\"edition\":" ++ number_or_null kept.edition) → PutsAll b c (codes ",\"name\":" ++ quoted kept.name)
+  pub after_number : (a b c d : Stream) → PutsAll a b (codes "{\"edition\":" ++ number_or_null_text kept.edition) → PutsAll b c (codes ",\"name\":" ++ quoted kept.name)
       → PutsFront c d (codes ",\"number\":" ++ decimal kept.number) → PutsFront a d (kept_text kept)
   after_number a b c d h k l = subst (PutsFront a d) (sym (kept_parts kept)) (front_after a b d _ behind_edition h (front_after b c d _ behind_name k (front_longer c d _ (verb_part kept.verb) l)))
 
-  pub after_verb : {T E : Type 0} (r : Result T E) (a b c d e : Stream) → PutsAll a b (codes "{\"edition\":" ++ number_or_null kept.edition) → PutsAll b c (codes ",\"name\":" ++ quoted kept.name)
+  pub after_verb : {T E : Type 0} (r : Result T E) (a b c d e : Stream) → PutsAll a b (codes "{\"edition\":" ++ number_or_null_text kept.edition) → PutsAll b c (codes ",\"name\":" ++ quoted kept.name)
       → PutsAll c d (codes ",\"number\":" ++ decimal kept.number) → Puts r d e (verb_part kept.verb) → Puts r a e (kept_text kept)
   after_verb r a b c d e h k l p = subst (Puts r a e) (sym (kept_parts kept)) (puts_after r a b e _ behind_edition h (puts_after r b c e _ behind_name k (puts_after r c d e _ (verb_part kept.verb) l p)))

@@ -11,7 +11,7 @@ use Rattle.std.proofs.lemmas.List.{length-append}
 use Rattle.std.proofs.lemmas.Str.Parse.{IsNumeralModel, numerals_by_value, tells_all_ascii_digits}
 use Rattle.dict_index.specs.Cuts.{HasNo, IsCutAt}
 use Rattle.dict_index.proofs.CutLemmas.{one_cut}
-use Rattle.dict_http.specs.Actions.{AreParts}
+use Rattle.dict_http.specs.Actions.{IsInstallBody}
 
 own : IsNumeralModel (λ ds. list_all is_ascii_digit ds ≡ true) (digits_value 10)
 own = numerals_by_value _ tells_all_ascii_digits
@@ -68,25 +68,25 @@ none_at_cut b [] ys h = h.0 refl
 none_at_cut b (x ∷ xs) ys h = none_at_cut b xs ys h.1
 
 -- the parts of a body
-pub no_parts : (body index text : List ℕ) → HasNo 10 body → AreParts body index text → ⊥
+pub no_parts : (body index text : List ℕ) → HasNo 10 body → IsInstallBody body index text → ⊥
 no_parts body index text none parts = none_at_cut 10 (decimal (length index)) (index ++ text) (subst (HasNo 10) parts.is none)
 
-same_cut : (body digits rest index text : List ℕ) → IsCutAt 10 body digits rest → AreParts body index text → (digits ≡ decimal (length index)) × (rest ≡ index ++ text)
+same_cut : (body digits rest index text : List ℕ) → IsCutAt 10 body digits rest → IsInstallBody body index text → (digits ≡ decimal (length index)) × (rest ≡ index ++ text)
 same_cut body digits rest index text cut parts =
     let few = parts.few in
     one_cut 10 digits rest (decimal (length index)) (index ++ text) cut.none (no_line_feed (length index) (omega (arith, few))) (sym cut.whole ∙ parts.is)
 
-pub unread_parts : (body digits rest index text : List ℕ) → IsCutAt 10 body digits rest → ((n : ℕ) → n < 10 ^ 8 → digits ≡ decimal n → ⊥) → AreParts body index text → ⊥
+pub unread_parts : (body digits rest index text : List ℕ) → IsCutAt 10 body digits rest → ((n : ℕ) → n < 10 ^ 8 → digits ≡ decimal n → ⊥) → IsInstallBody body index text → ⊥
 unread_parts body digits rest index text cut unread parts = unread (length index) parts.few (same_cut body digits rest index text cut parts).0
 
-pub short_parts : (body digits rest index text : List ℕ) (size : ℕ) → IsCutAt 10 body digits rest → digits ≡ decimal size → size < 10 ^ 8 → length rest < size → AreParts body index text → ⊥
+pub short_parts : (body digits rest index text : List ℕ) (size : ℕ) → IsCutAt 10 body digits rest → digits ≡ decimal size → size < 10 ^ 8 → length rest < size → IsInstallBody body index text → ⊥
 short_parts body digits rest index text size cut is small short parts =
     let same = same_cut body digits rest index text cut parts in
     let few = parts.few in
     let equal : size ≡ length index = decimal_injective size (length index) (omega (arith, small)) (omega (arith, few)) (sym is ∙ same.0) in
     omega (arith, equal, short, ap length same.1, length-append index text)
 
-pub are_parts : (body digits rest index text : List ℕ) (size : ℕ) → IsCutAt 10 body digits rest → digits ≡ decimal size → size < 10 ^ 8 → length index ≡ size → rest ≡ index ++ text → AreParts body index text
+pub are_parts : (body digits rest index text : List ℕ) (size : ℕ) → IsCutAt 10 body digits rest → digits ≡ decimal size → size < 10 ^ 8 → length index ≡ size → rest ≡ index ++ text → IsInstallBody body index text
 are_parts body digits rest index text size cut is small long whole = record {
   is = cut.whole ∙ (λ i. (is ∙ ap decimal (sym long)) i ++ 10 ∷ whole i);
   few = omega (arith, small, long);

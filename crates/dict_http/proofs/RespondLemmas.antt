@@ -21,19 +21,19 @@ use Rattle.dict_desk.specs.declared.answered.Answered.TheVariants as prepared
 use Rattle.serde_json.specs.Data.{Data}
 use Rattle.dict_http.specs.Bodies.{IsJson, IsVirtualValue}
 use Rattle.dict_http.specs.Answers.{Response, response_text, with_body}
-use Rattle.dict_http.specs.Actions.{AreParts, command, no_edition}
+use Rattle.dict_http.specs.Actions.{IsInstallBody, command, no_edition}
 use Rattle.dict_http.specs.Settling.{Settled, SettlesNew, SettlesChange, stays, applied, replied, is_accepted}
 use Rattle.dict_http.specs.declared.actions.Action.{Action}
 use Rattle.dict_http.specs.declared.actions.Action.TheVariants.{Install}
 use Rattle.dict_http.specs.Outcomes.{IsAnswerOf, IsAnswerTo, SettlesFiles}
-use Rattle.dict_http.specs.Responding.{IsAnswer, Ends, answered, unchanged, unknown, Responds, ended, failed}
+use Rattle.dict_http.specs.Responding.{IsAnswer, RespondsOrFails, answered, unchanged, unknown, Responds, ended, failed}
 
 abbrev Left : Type 1
 Left = List (Option Catalogue) → Type 0
 
 pub after_ok : (Shows : Catalogue → Type 0) (Before After : List (Option Catalogue) → Type 0) (M : Catalogue) (id : List ℕ) (asked : Command Edition) (kept : Kept) (octets : List ℕ)
     → IsWide After → kept_under M.kept id ≡ None → Applies Shows M (step M id asked) (Ok kept) → Leaves Before After (is_some (kept_under M.kept id)) (step M id asked).catalogue (Ok kept)
-    → IsAnswer octets (with_body statuses.Ok (kept_text (kept_shown kept))) → Ends Shows Before After M (applied M id asked) octets
+    → IsAnswer octets (with_body statuses.Ok (kept_text (kept_shown kept))) → RespondsOrFails Shows Before After M (applied M id asked) octets
 after_ok Shows Before After M id asked kept octets wide none applies leaves (inl text) =
     answered (text ∙ ap (λ r. response_text (replied r)) (sym applies.0)) applies.1
     (subst (λ r. MatchBool (is_accepted r) (After (Some (step M id asked).catalogue ∷ [])) (LeavesNoMore Before After)) (sym applies.0)
@@ -44,7 +44,7 @@ after_ok Shows Before After M id asked kept octets wide none applies leaves (inr
 
 pub after_refusal : (Shows : Catalogue → Type 0) (Before After : List (Option Catalogue) → Type 0) (M : Catalogue) (id : List ℕ) (asked : Command Edition) (refusal : CommandRefusal) (octets : List ℕ)
     → IsWide After → Applies Shows M (step M id asked) (Err (Refused refusal)) → LeavesNoMore Before After
-    → IsAnswer octets (with_body statuses.Conflict (refused_command_text refusal)) → Ends Shows Before After M (applied M id asked) octets
+    → IsAnswer octets (with_body statuses.Conflict (refused_command_text refusal)) → RespondsOrFails Shows Before After M (applied M id asked) octets
 after_refusal Shows Before After M id asked refusal octets wide applies no_more (inl text) =
     answered (text ∙ ap (λ r. response_text (replied r)) (sym applies.0)) applies.1
     (subst (λ r. MatchBool (is_accepted r) (After (Some (step M id asked).catalogue ∷ [])) (LeavesNoMore Before After)) (sym applies.0) no_more)
@@ -54,7 +54,7 @@ after_refusal Shows Before After M id asked refusal octets wide applies no_more 
 -- by whatever the keeper answered
 pub after_outcome : (Shows : Catalogue → Type 0) (Before After : List (Option Catalogue) → Type 0) (M : Catalogue) (id : List ℕ) (asked : Command Edition) (outcome : Result Kept Fault) (octets : List ℕ)
     → IsWide After → kept_under M.kept id ≡ None → Applies Shows M (step M id asked) outcome → Leaves Before After (is_some (kept_under M.kept id)) (step M id asked).catalogue outcome
-    → IsAnswerTo outcome octets → Ends Shows Before After M (applied M id asked) octets
+    → IsAnswerTo outcome octets → RespondsOrFails Shows Before After M (applied M id asked) octets
 after_outcome Shows Before After M id asked (Ok kept) octets wide none applies leaves text = after_ok Shows Before After M id asked kept octets wide none applies leaves text
 after_outcome Shows Before After M id asked (Err (Refused refusal)) octets wide none applies leaves text = after_refusal Shows Before After M id asked refusal octets wide applies leaves text
 after_outcome Shows Before After M id asked (Err Memory) octets wide none applies leaves text = unchanged text applies leaves
@@ -66,7 +66,7 @@ after_outcome Shows Before After M id asked (Err NewerSchema) octets wide none a
 
 -- what a stop could leave before is wider
 pub ends_before : (Shows : Catalogue → Type 0) (Before Mid After : List (Option Catalogue) → Type 0) (M : Catalogue) (s : Settled) (octets : List ℕ) → LeavesNoMore Before Mid
-    → Ends Shows Mid After M s octets → Ends Shows Before After M s octets
+    → RespondsOrFails Shows Mid After M s octets → RespondsOrFails Shows Before After M s octets
 ends_before Shows Before Mid After M s octets first (answered text shown left) = answered text shown (left_before s.acts left)
   where
     left_before : (b : Bool) → MatchBool b (After (Some s.catalogue ∷ [])) (LeavesNoMore Mid After) → MatchBool b (After (Some s.catalogue ∷ [])) (LeavesNoMore Before After)
@@ -88,7 +88,7 @@ responds_so Shows Before After M Is So octets goes (failed text shown left) = fa
 
 -- an answer that changes nothing
 pub stays_so : (Shows : Catalogue → Type 0) (Before : List (Option Catalogue) → Type 0) (M : Catalogue) (response : Response) (octets : List ℕ) → Shows M
-    → IsAnswer octets response → Ends Shows Before Before M (stays M response) octets
+    → IsAnswer octets response → RespondsOrFails Shows Before Before M (stays M response) octets
 stays_so Shows Before M response octets shown (inl text) = answered text shown (λ ms left. left)
 stays_so Shows Before M response octets shown (inr text) = unchanged text shown (λ ms left. left)
 
@@ -110,7 +110,7 @@ after_prepared Did Shows LeavesOneOf old new M id name index text octets (prepar
     (stays_so (Shows old) (LeavesOneOf old) M (with_body statuses.UnprocessableContent (refused_edition_text refusal line)) octets shown told))
 
 -- the files are those of the body
-pub settles_files : (M : Catalogue) (id name body index text : List ℕ) (s : Settled) → AreParts body index text → SettlesFiles M id name index text s → SettlesNew M id Install name body s
+pub settles_files : (M : Catalogue) (id name body index text : List ℕ) (s : Settled) → IsInstallBody body index text → SettlesFiles M id name index text s → SettlesNew M id Install name body s
 settles_files M id name body index text s parts (said, says, is) = (said, inl (index, text, parts, says), is)
 
 -- a call of a closed keeper is answered `Closed`, so one that was answered else was of an open one

@@ -4,7 +4,7 @@ use Rattle.std.specs.Prelude.{Option, Some, None, MatchOption, codes, nat_le, if
 use Rattle.dict_catalogue.specs.Steps.{Catalogue}
 use Rattle.dict_head.specs.Fields.{framing_of_codings, framing_of_length, length_of, values_of}
 use Rattle.dict_head.specs.Heads.{Needs, NeedsBody, headers_of}
-use Rattle.dict_head.specs.Requests.{Request}
+use Rattle.dict_head.specs.Requests.{EditorRequest}
 use Rattle.dict_head.specs.declared.kinds.Framing as framings
 use Rattle.dict_head.specs.declared.kinds.Framing.TheVariants.{Body, Refused as NoBody}
 use Rattle.dict_head.specs.declared.kinds.Need.TheVariants.{Refused}
@@ -46,7 +46,7 @@ refused_status octets status (inr (none, inl (shut, e))) = let same : status ≡
 refused_status octets status (inr (none, inr (awaits, e))) = let none : ⊥ = cc in absurd none
 
 -- a request that changes, by its ids
-pub settles_ids : (M : Catalogue) (asked : Request) (action : Action) (name : List ℕ) (s : Settled) → action ≢ Listing → SettlesIds M asked.ids action name asked.body s → SettlesAction M asked action name s
+pub settles_ids : (M : Catalogue) (asked : EditorRequest) (action : Action) (name : List ℕ) (s : Settled) → action ≢ Listing → SettlesIds M asked.ids action name asked.body s → SettlesAction M asked action name s
 settles_ids M asked Listing name s other ids = absurd (other refl)
 settles_ids M asked Install name s other ids = ids
 settles_ids M asked Retire name s other ids = ids
@@ -55,12 +55,12 @@ settles_ids M asked Place name s other ids = ids
 settles_ids M asked PutVirtual name s other ids = ids
 
 -- a route that hasn't the method, and one that has it
-pub settles_none : (M : Catalogue) (asked : Request) (route : Route) (name : List ℕ) → None ≡ action_of route asked.method → SettlesRoute M asked route name (stays M (not_allowed route))
+pub settles_none : (M : Catalogue) (asked : EditorRequest) (route : Route) (name : List ℕ) → None ≡ action_of route asked.method → SettlesRoute M asked route name (stays M (not_allowed route))
 settles_none M asked route name e =
     let s = stays M (not_allowed route) in
     subst (λ o. MatchOption o (s ≡ stays M (not_allowed route)) (λ action. SettlesAction M asked action name s)) e refl
 
-pub settles_action : (M : Catalogue) (asked : Request) (route : Route) (name : List ℕ) (action : Action) (s : Settled) → Some action ≡ action_of route asked.method → SettlesAction M asked action name s
+pub settles_action : (M : Catalogue) (asked : EditorRequest) (route : Route) (name : List ℕ) (action : Action) (s : Settled) → Some action ≡ action_of route asked.method → SettlesAction M asked action name s
     → SettlesRoute M asked route name s
 settles_action M asked route name action s e is =
     subst (λ o. MatchOption o (s ≡ stays M (not_allowed route)) (λ action. SettlesAction M asked action name s)) e is

@@ -15,7 +15,7 @@ use Rattle.dict_catalogue.specs.Effects.{KeptReply}
 use Rattle.dict_catalogue.specs.Steps.{Catalogue, kept_under, summary_of}
 use Rattle.dict_head.specs.Fields.{framing_of}
 use Rattle.dict_head.specs.Heads.{HasHead, headers_of, front_of, IsClosed, Needs, NeedsBody}
-use Rattle.dict_head.specs.Requests.{Request, IsRequest, request_of}
+use Rattle.dict_head.specs.Requests.{EditorRequest, IsRequest, request_of}
 use Rattle.dict_head.specs.declared.kinds.Framing.{Framing}
 use Rattle.dict_head.specs.declared.kinds.Framing.TheVariants.{Body, Refused as NoBody}
 use Rattle.dict_head.specs.declared.kinds.Need.TheVariants.{More, Whole, Refused}
@@ -29,7 +29,7 @@ use Rattle.dict_head.specs.Paths.{IsPath}
 use Rattle.dict_head.specs.declared.route_kinds.Route.{Route}
 use Rattle.dict_head.proofs.RouteLawLemmas.{one_route, one_name}
 use Rattle.dict_http.specs.Answers.{plain, with_body, not_allowed}
-use Rattle.dict_http.specs.Actions.{action_of, AreParts, Said, command, no_edition, unformed, SaysEdition, Says, IsId}
+use Rattle.dict_http.specs.Actions.{action_of, IsInstallBody, BodyMeaning, command, no_edition, unformed, SaysEdition, Says, IsId}
 use Rattle.dict_http.specs.Settling.{Settled, stays, settled_by, SettlesNew, SettlesChange, SettlesIds, SettlesAction, SettlesRoute, SettlesRequest, Settles}
 use Rattle.dict_http.specs.declared.actions.Action.{Action}
 use Rattle.dict_http.specs.declared.actions.Action.TheVariants.{List as Listing, Install, Retire, Rollback, Place, PutVirtual}
@@ -37,7 +37,7 @@ use Rattle.dict_http.proofs.PartLemmas.{no_line_feed}
 
 -- the parts of a body
 
-parts_one : (body index text other rest : List ℕ) → AreParts body index text → AreParts body other rest → (index ≡ other) × (text ≡ rest)
+parts_one : (body index text other rest : List ℕ) → IsInstallBody body index text → IsInstallBody body other rest → (index ≡ other) × (text ≡ rest)
 parts_one body index text other rest p q =
     let few = p.few in
     let less = q.few in
@@ -49,7 +49,7 @@ parts_one body index text other rest p q =
 
 -- what a body says
 
-edition_one : (name index text : List ℕ) (a b : Said) → SaysEdition name index text a → SaysEdition name index text b → a ≡ b
+edition_one : (name index text : List ℕ) (a b : BodyMeaning) → SaysEdition name index text a → SaysEdition name index text b → a ≡ b
 edition_one name index text a b (inl p) (inl q) =
     let same : p.0 ≡ q.0 = p.1.2 ∙ ap edition_of (editions.one_reading index text p.1.0 q.1.0 p.1.1 q.1.1) ∙ sym q.1.2 in
     p.2 ∙ ap (λ e. command (install name e)) same ∙ sym q.2
@@ -59,7 +59,7 @@ edition_one name index text a b (inr p) (inr q) =
 edition_one name index text a b (inl p) (inr q) = absurd (editions.not_both index text p.1.0 q.0 q.1 p.1.1 q.2)
 edition_one name index text a b (inr p) (inl q) = absurd (editions.not_both index text q.1.0 p.0 p.1 q.1.1 p.2)
 
-says_one : (action : Action) (name body : List ℕ) (a b : Said) → Says action name body a → Says action name body b → a ≡ b
+says_one : (action : Action) (name body : List ℕ) (a b : BodyMeaning) → Says action name body a → Says action name body b → a ≡ b
 says_one Listing name body a b p q = absurd p
 says_one Install name body a b (inl p) (inl q) =
     let same = parts_one body p.0 p.1 q.0 q.1 p.2 q.2 in
@@ -100,7 +100,7 @@ ids_one M ids action name body a b (inr p) (inr q) = p.1 ∙ sym q.1
 ids_one M ids action name body a b (inl p) (inr q) = absurd (q.0 p.0 p.1)
 ids_one M ids action name body a b (inr p) (inl q) = absurd (p.0 q.0 q.1)
 
-action_one : (M : Catalogue) (asked : Request) (action : Action) (name : List ℕ) (a b : Settled) → SettlesAction M asked action name a → SettlesAction M asked action name b → a ≡ b
+action_one : (M : Catalogue) (asked : EditorRequest) (action : Action) (name : List ℕ) (a b : Settled) → SettlesAction M asked action name a → SettlesAction M asked action name b → a ≡ b
 action_one M asked Listing name a b p q = p ∙ sym q
 action_one M asked Install name a b p q = ids_one M asked.ids Install name asked.body a b p q
 action_one M asked Retire name a b p q = ids_one M asked.ids Retire name asked.body a b p q
@@ -108,13 +108,13 @@ action_one M asked Rollback name a b p q = ids_one M asked.ids Rollback name ask
 action_one M asked Place name a b p q = ids_one M asked.ids Place name asked.body a b p q
 action_one M asked PutVirtual name a b p q = ids_one M asked.ids PutVirtual name asked.body a b p q
 
-route_one : (M : Catalogue) (asked : Request) (route : Route) (name : List ℕ) (action : Option Action) (a b : Settled)
+route_one : (M : Catalogue) (asked : EditorRequest) (route : Route) (name : List ℕ) (action : Option Action) (a b : Settled)
     → MatchOption action (a ≡ stays M (not_allowed route)) (λ does. SettlesAction M asked does name a)
     → MatchOption action (b ≡ stays M (not_allowed route)) (λ does. SettlesAction M asked does name b) → a ≡ b
 route_one M asked route name None a b p q = p ∙ sym q
 route_one M asked route name (Some action) a b p q = action_one M asked action name a b p q
 
-request_one : (M : Catalogue) (asked : Request) (a b : Settled) → SettlesRequest M asked a → SettlesRequest M asked b → a ≡ b
+request_one : (M : Catalogue) (asked : EditorRequest) (a b : Settled) → SettlesRequest M asked a → SettlesRequest M asked b → a ≡ b
 request_one M asked a b (inl p) (inl q) =
     let route = one_route asked.target p.0 q.0 p.1 q.1 p.2 q.2 in
     let name = one_name asked.target p.0 q.0 p.1 q.1 p.2 q.2 in
@@ -125,7 +125,7 @@ request_one M asked a b (inl p) (inr q) = absurd (q.0 p.0 p.1 p.2)
 request_one M asked a b (inr p) (inl q) = absurd (p.0 q.0 q.1 q.2)
 
 -- a whole request is whole
-whole : (x : List ℕ) (asked : Request) (h : IsRequest x asked) → Needs x (Whole (length (print_request h.head) + h.size))
+whole : (x : List ℕ) (asked : EditorRequest) (h : IsRequest x asked) → Needs x (Whole (length (print_request h.head) + h.size))
 whole x asked h = inl (h.head, h.has, subst (λ f. NeedsBody x (length (print_request h.head)) f (Whole (length (print_request h.head) + h.size))) (sym h.framed) (inr (h.fits, refl)))
 
 refused_same : (s t : Status) → Refused s ≡ Refused t → s ≡ t
@@ -158,7 +158,7 @@ Some' {X} P = ((x : X) → P x → ⊥) → ⊥
 either : (X : Type 0) → (X ⊎ (X → ⊥) → ⊥) → ⊥
 either X k = k (inr (λ x. k (inl x)))
 
-edition_some : (name index text : List ℕ) → (said : Said) × SaysEdition name index text said
+edition_some : (name index text : List ℕ) → (said : BodyMeaning) × SaysEdition name index text said
 edition_some name index text = elim (choice.some_meaning index text) [
   | inl p ↦ (command (install name (edition_of p.0)), inl (edition_of p.0, (p.0, p.1, refl), refl))
   | inr p ↦ (no_edition p.0 p.1, inr (p.0, p.1, p.2, refl))
@@ -166,7 +166,7 @@ edition_some name index text = elim (choice.some_meaning index text) [
 
 says_some : (action : Action) (name body : List ℕ) → action ≢ Listing → Some' (Says action name body)
 says_some Listing name body other k = other refl
-says_some Install name body other k = either ((index : List ℕ) × (text : List ℕ) × AreParts body index text) (λ d. elim d [
+says_some Install name body other k = either ((index : List ℕ) × (text : List ℕ) × IsInstallBody body index text) (λ d. elim d [
   | inl p ↦ (let said = edition_some name p.0 p.1 in k said.0 (inl (p.0, p.1, p.2, said.1)))
   | inr none ↦ k unformed (inr (λ index text h. none (index, text, h), refl))
 ])
@@ -200,7 +200,7 @@ changes Rollback = Unit {0}
 changes Place = Unit {0}
 changes PutVirtual = Unit {0}
 
-action_some : (M : Catalogue) (asked : Request) (action : Action) (name : List ℕ) → Some' (SettlesAction M asked action name)
+action_some : (M : Catalogue) (asked : EditorRequest) (action : Action) (name : List ℕ) → Some' (SettlesAction M asked action name)
 unfolding changes
 action_some M asked Listing name k = k (stays M (with_body Ok (list_text (summary_of M).items))) refl
 action_some M asked Install name k = ids_some M asked.ids Install name asked.body (λ e. subst changes e tt) k
@@ -209,12 +209,12 @@ action_some M asked Rollback name k = ids_some M asked.ids Rollback name asked.b
 action_some M asked Place name k = ids_some M asked.ids Place name asked.body (λ e. subst changes e tt) k
 action_some M asked PutVirtual name k = ids_some M asked.ids PutVirtual name asked.body (λ e. subst changes e tt) k
 
-route_some : (M : Catalogue) (asked : Request) (route : Route) (name : List ℕ) (action : Option Action)
+route_some : (M : Catalogue) (asked : EditorRequest) (route : Route) (name : List ℕ) (action : Option Action)
     → Some' (λ a. MatchOption action (a ≡ stays M (not_allowed route)) (λ does. SettlesAction M asked does name a))
 route_some M asked route name None k = k (stays M (not_allowed route)) refl
 route_some M asked route name (Some action) k = action_some M asked action name k
 
-request_some : (M : Catalogue) (asked : Request) → Some' (SettlesRequest M asked)
+request_some : (M : Catalogue) (asked : EditorRequest) → Some' (SettlesRequest M asked)
 request_some M asked k = either ((route : Route) × (name : List ℕ) × IsPath asked.target route name) (λ d. elim d [
   | inl p ↦ route_some M asked p.0 p.1 (action_of p.0 asked.method) (λ a settles. k a (inl (p.0, p.1, p.2, settles)))
   | inr none ↦ k (stays M (plain NotFound)) (inr (λ route name h. none (route, name, h), refl))

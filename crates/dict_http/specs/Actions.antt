@@ -32,29 +32,29 @@ changes (Some PutVirtual) = true
 
 -- the body of an install is the length of its index in decimal, LF, the index and the text. The length has at most
 -- eight digits
-pub record AreParts (body index text : List ℕ) : Type 0 where
+pub record IsInstallBody (body index text : List ℕ) : Type 0 where
   pub is : body ≡ decimal (length index) ++ 10 ∷ (index ++ text)
   pub few : length index < 10 ^ 8
 
 -- what the body of a request says: a command; an edition that is refused, at a line where the refusal has one; or
 -- nothing, as it has not the form
-pub data Said : Type 0 where
-  command : Command Edition → Said
-  no_edition : EditionRefusal → Option ℕ → Said
-  unformed : Said
+pub data BodyMeaning : Type 0 where
+  command : Command Edition → BodyMeaning
+  no_edition : EditionRefusal → Option ℕ → BodyMeaning
+  unformed : BodyMeaning
 
 -- of an install
-abbrev pub SaysEdition : List ℕ → List ℕ → List ℕ → Said → Type 0
+abbrev pub SaysEdition : List ℕ → List ℕ → List ℕ → BodyMeaning → Type 0
 SaysEdition name index text said =
     ((edition : Edition) × IsEdition index text edition × (said ≡ command (install name edition)))
     ⊎ ((refusal : EditionRefusal) × (line : Option ℕ) × IsFault index text refusal line × (said ≡ no_edition refusal line))
 
 -- what a body says to an action, about a name
-abbrev pub Says : Action → List ℕ → List ℕ → Said → Type 0
+abbrev pub Says : Action → List ℕ → List ℕ → BodyMeaning → Type 0
 Says Listing name body said = ⊥
 Says Install name body said =
-    ((index : List ℕ) × (text : List ℕ) × AreParts body index text × SaysEdition name index text said)
-    ⊎ (((index text : List ℕ) → ¬ AreParts body index text) × (said ≡ unformed))
+    ((index : List ℕ) × (text : List ℕ) × IsInstallBody body index text × SaysEdition name index text said)
+    ⊎ (((index text : List ℕ) → ¬ IsInstallBody body index text) × (said ≡ unformed))
 Says Retire name body said = said ≡ command (retire name)
 Says Rollback name body said = said ≡ command (rollback name)
 Says Place name body said =

@@ -14,9 +14,6 @@ pub record Response : Type 0 where
   pub more : List ℕ
   pub body : List ℕ
 
-abbrev pub crlf : List ℕ
-crlf = 13 ∷ 10 ∷ []
-
 -- the status line, the header lines, an empty line, and the body
 abbrev pub response_text : Response → List ℕ
 response_text response =
@@ -60,6 +57,6 @@ not_allowed route = record {
 abbrev pub unavailable_text : List ℕ
 unavailable_text = response_text (plain ServiceUnavailable)
 
-abbrev pub octets_of : Answer → List ℕ
-octets_of (Fixed text) = text.now
-octets_of (Made text) = string_bytes text
+abbrev pub answer_octets : Answer → List ℕ
+answer_octets (Fixed text) = text.now
+answer_octets (Made text) = string_bytes text

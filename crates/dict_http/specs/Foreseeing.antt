@@ -3,18 +3,18 @@ use Rattle.std.specs.Prelude.{◌≡◌, ℕ, List, None, Some, true}
 use Rattle.dict_text.specs.Names.{is_request_id}
 use Rattle.dict_catalogue.specs.Commands.{place, put_virtual, retire, rollback}
 use Rattle.dict_catalogue.specs.Steps.{Catalogue, kept_under}
-use Rattle.dict_head.specs.Requests.{Request, IsRequest}
+use Rattle.dict_head.specs.Requests.{EditorRequest, IsRequest}
 use Rattle.dict_head.specs.Paths.{IsPath}
 use Rattle.dict_head.specs.declared.route_kinds.Route.{Route}
 use Rattle.dict_desk.specs.Expected.{Expected, of_command, of_files}
-use Rattle.dict_http.specs.Actions.{action_of, changes, AreParts, IsId}
+use Rattle.dict_http.specs.Actions.{action_of, changes, IsInstallBody, IsId}
 use Rattle.dict_http.specs.Bodies.{IsPlace, IsVirtual}
 use Rattle.dict_http.specs.declared.actions.Action.{Action}
 use Rattle.dict_http.specs.declared.actions.Action.TheVariants.{List as Listing, Install, Retire, Rollback, Place, PutVirtual}
 
 -- a whole request stands at the front of the octets, whose route and method change the catalogue
 pub record AsksForCommand (octets : List ℕ) : Type 0 where
-  pub request : Request
+  pub request : EditorRequest
   pub is : IsRequest octets request
   pub route : Route
   pub name : List ℕ
@@ -23,7 +23,7 @@ pub record AsksForCommand (octets : List ℕ) : Type 0 where
 
 -- the body of an install has these two files, about the name
 abbrev pub SaysInstall : List ℕ → List ℕ → Expected → Type 0
-SaysInstall name body asked = (index : List ℕ) × (text : List ℕ) × AreParts body index text × (asked ≡ of_files name index text)
+SaysInstall name body asked = (index : List ℕ) × (text : List ℕ) × IsInstallBody body index text × (asked ≡ of_files name index text)
 
 -- this action asks for it, about the name: an install by the files of its body, another change by its command; a list asks for none
 abbrev pub SaysChange : Action → List ℕ → List ℕ → Expected → Type 0
@@ -48,7 +48,7 @@ pub record AsksAnewBy (before : Catalogue) (action : Action) (ids : List (List �
 
 -- a whole request stands at the front of the octets, and what its route and its method do asks for this
 pub record AsksForChange (octets : List ℕ) (asked : Expected) : Type 0 where
-  pub request : Request
+  pub request : EditorRequest
   pub is : IsRequest octets request
   pub route : Route
   pub name : List ℕ

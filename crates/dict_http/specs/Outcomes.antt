@@ -9,14 +9,14 @@ use Rattle.dict_head.specs.declared.statuses.Status.TheVariants as statuses
 use Rattle.dict_http.specs.Texts.{kept_text, refused_command_text, refused_edition_text}
 use Rattle.dict_desk.specs.declared.answered.Answered.{Answered}
 use Rattle.dict_desk.specs.declared.answered.Answered.TheVariants as prepared
-use Rattle.dict_http.specs.Actions.{Said, SaysEdition}
+use Rattle.dict_http.specs.Actions.{BodyMeaning, SaysEdition}
 use Rattle.dict_http.specs.Answers.{unavailable_text, with_body}
 use Rattle.dict_http.specs.Settling.{Settled, settled_by}
 use Rattle.dict_http.specs.Responding.{IsAnswer}
 
 -- an install of two files, under a new id: what they say
 abbrev pub SettlesFiles : Catalogue → List ℕ → List ℕ → List ℕ → List ℕ → Settled → Type 0
-SettlesFiles before id name index text settled = (said : Said) × SaysEdition name index text said × (settled ≡ settled_by before id said)
+SettlesFiles before id name index text settled = (said : BodyMeaning) × SaysEdition name index text said × (settled ≡ settled_by before id said)
 
 -- the octets are the answer to a command that a keeper answered so: its reply or its refusal, or at a failure the one answer
 abbrev pub IsAnswerTo : Result Kept Fault → List ℕ → Type 0

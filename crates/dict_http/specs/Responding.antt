@@ -16,13 +16,13 @@ LeavesBy Before After settled = MatchBool settled.acts (After (Some settled.cata
 
 -- the answer that is settled; or the one for want of memory or a failure of the store, and then the catalogue is the
 -- one before, or the one that is settled, which a stop may leave too
-pub data Ends (Shows : Catalogue → Type 0) (Before After : List (Option Catalogue) → Type 0) (before : Catalogue) (settled : Settled) (octets : List ℕ) : Type 0 where
-  answered : octets ≡ response_text settled.response → Shows settled.catalogue → LeavesBy Before After settled → Ends Shows Before After before settled octets
-  unchanged : octets ≡ unavailable_text → Shows before → LeavesNoMore Before After → Ends Shows Before After before settled octets
+pub data RespondsOrFails (Shows : Catalogue → Type 0) (Before After : List (Option Catalogue) → Type 0) (before : Catalogue) (settled : Settled) (octets : List ℕ) : Type 0 where
+  answered : octets ≡ response_text settled.response → Shows settled.catalogue → LeavesBy Before After settled → RespondsOrFails Shows Before After before settled octets
+  unchanged : octets ≡ unavailable_text → Shows before → LeavesNoMore Before After → RespondsOrFails Shows Before After before settled octets
   unknown : octets ≡ unavailable_text → Shows before ⊎ Shows settled.catalogue
-      → ((ms : List (Option Catalogue)) → Before ms → After (Some settled.catalogue ∷ ms)) → Ends Shows Before After before settled octets
+      → ((ms : List (Option Catalogue)) → Before ms → After (Some settled.catalogue ∷ ms)) → RespondsOrFails Shows Before After before settled octets
 
 -- what is settled by a definition, so ended; or the answer for want of memory before anything was changed
 pub data Responds (Shows : Catalogue → Type 0) (Before After : List (Option Catalogue) → Type 0) (before : Catalogue) (Is : Settled → Type 0) (octets : List ℕ) : Type 0 where
-  ended : (settled : Settled) → Is settled → Ends Shows Before After before settled octets → Responds Shows Before After before Is octets
+  ended : (settled : Settled) → Is settled → RespondsOrFails Shows Before After before settled octets → Responds Shows Before After before Is octets
   failed : octets ≡ unavailable_text → Shows before → LeavesNoMore Before After → Responds Shows Before After before Is octets

@@ -4,7 +4,7 @@ use Rattle.serde_json.specs.Data.{Data, object, no_members, member, number, unsi
 use Rattle.serde_json.specs.View.{items_of}
 use Rattle.dict_catalogue.specs.Items.{Item, regular, virtual}
 use Rattle.dict_catalogue.specs.Effects.{KeptReply}
-use Rattle.dict_catalogue.specs.Refusals.{refusal_number, refusal_name}
+use Rattle.dict_catalogue.specs.Refusals.{command_refusal_number, command_refusal_name}
 use Rattle.dict_catalogue.specs.declared.fault.CommandRefusal.{CommandRefusal}
 use Rattle.dict_index.specs.Refusals.{refusal_number as edition_refusal_number, refusal_name as edition_refusal_name}
 use Rattle.dict_index.specs.declared.fault.EditionRefusal as editions
@@ -24,7 +24,7 @@ kept_value kept =
 
 abbrev pub refused_command_value : CommandRefusal → Data
 refused_command_value refusal =
-    object (member (codes "reason") (string (refusal_name refusal)) (member (codes "refusal") (number (unsigned (refusal_number refusal))) no_members))
+    object (member (codes "reason") (string (command_refusal_name refusal)) (member (codes "refusal") (number (unsigned (command_refusal_number refusal))) no_members))
 
 abbrev pub refused_edition_value : editions.EditionRefusal → Option ℕ → Data
 refused_edition_value refusal line =

@@ -1,7 +1,7 @@
 // The octets of answers.
 ghost use Rattle.std.specs.Prelude.{◌≡◌, IfOk};
 ghost use Rattle.dict_head.specs.declared.statuses.Status.TheVariants as statuses;
-ghost use Rattle.dict_http.specs.Answers.{octets_of, response_text, plain, with_body, not_allowed, unavailable_text};
+ghost use Rattle.dict_http.specs.Answers.{answer_octets, response_text, plain, with_body, not_allowed, unavailable_text};
 
 use dict_head::{Route, Status};
 use dict_proto::{Sink, SinkFault};
@@ -21,7 +21,7 @@ ghost use Rattle.dict_proto.specs.Streams.{Puts};
 impl Answer {
     /// The octets.
     pub fn octets(&self) -> &[u8]
-        ensures { result.now ≡ octets_of self.now }
+        ensures { result.now ≡ answer_octets self.now }
     {
         match self {
             Answer::Fixed(text) => text.as_bytes(),
@@ -31,7 +31,7 @@ impl Answer {
 
     /// Puts the answer by one call of the sink.
     pub fn put<K: Sink>(&self, sink: &mut K) -> Result<(), SinkFault>
-        ensures { Puts result (K.stream sink.old) (K.stream sink.new) (octets_of self.now) }
+        ensures { Puts result (K.stream sink.old) (K.stream sink.new) (answer_octets self.now) }
     {
         sink.put(self.octets())
     }
@@ -39,7 +39,7 @@ impl Answer {
 
 /// The answer to what is not a request of the form that its route has.
 pub fn bad_request() -> Answer
-    ensures { octets_of result ≡ response_text (plain statuses.BadRequest) }
+    ensures { answer_octets result ≡ response_text (plain statuses.BadRequest) }
 {
     Answer::Fixed(
         "HTTP/1.1 400 Bad Request\r\nContent-Type: application/json\r\nContent-Length: 23\r\nConnection: close\r\n\r\n{\"error\":\"bad request\"}",
@@ -48,7 +48,7 @@ pub fn bad_request() -> Answer
 
 /// The answer where no route has the path.
 pub fn not_found() -> Answer
-    ensures { octets_of result ≡ response_text (plain statuses.NotFound) }
+    ensures { answer_octets result ≡ response_text (plain statuses.NotFound) }
 {
     Answer::Fixed(
         "HTTP/1.1 404 Not Found\r\nContent-Type: application/json\r\nContent-Length: 21\r\nConnection: close\r\n\r\n{\"error\":\"not found\"}",
@@ -57,7 +57,7 @@ pub fn not_found() -> Answer
 
 /// The answer to a body that would be too long.
 pub fn too_large() -> Answer
-    ensures { octets_of result ≡ response_text (plain statuses.ContentTooLarge) }
+    ensures { answer_octets result ≡ response_text (plain statuses.ContentTooLarge) }
 {
     Answer::Fixed(
         "HTTP/1.1 413 Content Too Large\r\nContent-Type: application/json\r\nContent-Length: 21\r\nConnection: close\r\n\r\n{\"error\":\"too large\"}",
@@ -66,7 +66,7 @@ pub fn too_large() -> Answer
 
 /// The answer where memory was wanting or the store failed.
 pub fn unavailable() -> Answer
-    ensures { octets_of result ≡ unavailable_text }
+    ensures { answer_octets result ≡ unavailable_text }
 {
     Answer::Fixed(
         "HTTP/1.1 503 Service Unavailable\r\nContent-Type: application/json\r\nContent-Length: 23\r\nConnection: close\r\n\r\n{\"error\":\"unavailable\"}",
@@ -75,7 +75,7 @@ pub fn unavailable() -> Answer
 
 /// The answer where the route hasn't the method.
 pub fn method_not_allowed(route: Route) -> Answer
-    ensures { octets_of result ≡ response_text (not_allowed route) }
+    ensures { answer_octets result ≡ response_text (not_allowed route) }
 {
     match route {
         Route::Databases => Answer::Fixed(
@@ -98,7 +98,7 @@ pub fn method_not_allowed(route: Route) -> Answer
 
 /// The answer with this status and body.
 pub fn made(alloc: Global, status: Status, body: &str) -> Result<Answer, AllocError>
-    ensures { IfOk result (λ answer. octets_of answer ≡ response_text (with_body status body.now)) }
+    ensures { IfOk result (λ answer. answer_octets answer ≡ response_text (with_body status body.now)) }
 {
     let code = status.code();
     let reason = status.reason();

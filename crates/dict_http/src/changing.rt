@@ -6,9 +6,9 @@ ghost use Rattle.dict_catalogue.specs.Steps.{Catalogue, kept_under};
 ghost use Rattle.dict_catalogue.specs.Views.{kept_shown, command_meant};
 ghost use Rattle.dict_head.specs.declared.statuses.Status.TheVariants as statuses;
 ghost use Rattle.dict_http.specs.Texts.{kept_text, refused_command_text, refused_edition_text};
-ghost use Rattle.dict_http.specs.Answers.{octets_of, with_body};
+ghost use Rattle.dict_http.specs.Answers.{answer_octets, with_body};
 ghost use Rattle.dict_http.specs.Settling.{applied, SettlesNew, SettlesChange};
-ghost use Rattle.dict_http.specs.Responding.{IsAnswer, Ends, Responds};
+ghost use Rattle.dict_http.specs.Responding.{IsAnswer, RespondsOrFails, Responds};
 ghost use Rattle.dict_http.specs.Outcomes.{IsAnswerOf, IsAnswerTo, SettlesFiles};
 ghost use Rattle.dict_http.specs.declared.actions.Action.TheVariants as actions;
 
@@ -25,7 +25,7 @@ use std::alloc::Global;
 
 // The answer with this status and body, or the one for want of memory.
 pub fn with_text(alloc: Global, status: Status, body: &str) -> Answer
-    ensures { IsAnswer (octets_of result) (with_body status body.now) }
+    ensures { IsAnswer (answer_octets result) (with_body status body.now) }
 {
     match made(alloc, status, body) {
         Ok(answer) => answer,
@@ -35,7 +35,7 @@ pub fn with_text(alloc: Global, status: Status, body: &str) -> Answer
 
 // The answer to a command that is accepted or was.
 fn kept_answer(alloc: Global, kept: &Kept) -> Answer
-    ensures { IsAnswer (octets_of result) (with_body statuses.Ok (kept_text (kept_shown kept.now))) }
+    ensures { IsAnswer (answer_octets result) (with_body statuses.Ok (kept_text (kept_shown kept.now))) }
 {
     match crate::replies::kept_json(alloc, kept) {
         Ok(body) => with_text(alloc, Status::Ok, body.as_str()),
@@ -45,7 +45,7 @@ fn kept_answer(alloc: Global, kept: &Kept) -> Answer
 
 // The answer to a command that is refused.
 fn refused_command(alloc: Global, refusal: CommandRefusal) -> Answer
-    ensures { IsAnswer (octets_of result) (with_body statuses.Conflict (refused_command_text refusal)) }
+    ensures { IsAnswer (answer_octets result) (with_body statuses.Conflict (refused_command_text refusal)) }
 {
     match refused_command_json(alloc, refusal) {
         Ok(body) => with_text(alloc, Status::Conflict, body.as_str()),
@@ -55,7 +55,7 @@ fn refused_command(alloc: Global, refusal: CommandRefusal) -> Answer
 
 // The answer to an edition that is refused.
 fn refused_edition(alloc: Global, refusal: EditionRefusal, line: Option<usize>) -> Answer
-    ensures { IsAnswer (octets_of result) (with_body statuses.UnprocessableContent (refused_edition_text refusal line)) }
+    ensures { IsAnswer (answer_octets result) (with_body statuses.UnprocessableContent (refused_edition_text refusal line)) }
 {
     match refused_edition_json(alloc, refusal, line) {
         Ok(body) => with_text(alloc, Status::UnprocessableContent, body.as_str()),
@@ -65,7 +65,7 @@ fn refused_edition(alloc: Global, refusal: EditionRefusal, line: Option<usize>) 
 
 // The answer to a command that a keeper answered so.
 fn command_answer(alloc: Global, outcome: Result<Kept, Fault>) -> Answer
-    ensures { IsAnswerTo outcome (octets_of result) }
+    ensures { IsAnswerTo outcome (answer_octets result) }
 {
     match outcome {
         Ok(kept) => kept_answer(alloc, &kept),
@@ -76,7 +76,7 @@ fn command_answer(alloc: Global, outcome: Result<Kept, Fault>) -> Answer
 
 // The answer to an install that a keeper answered so by what it had prepared.
 fn prepared_answer(alloc: Global, answered: Answered) -> Answer
-    ensures { IsAnswerOf answered (octets_of result) }
+    ensures { IsAnswerOf answered (answer_octets result) }
 {
     match answered {
         Answered::Done(outcome) => command_answer(alloc, outcome),
@@ -86,7 +86,7 @@ fn prepared_answer(alloc: Global, answered: Answered) -> Answer
 
 // Applies a command under a new id.
 fn apply<K: Keeper>(alloc: Global, desk: &mut K, id: &str, command: &Command) -> Answer
-    ensures ends { K.is_trusted desk.new → (M : Catalogue) → K.shows desk.old M → kept_under M.kept id.now ≡ None → Ends (K.shows desk.new) (K.leaves_one_of desk.old) (K.leaves_one_of desk.new) M (applied M id.now (command_meant command.now)) (octets_of result) }
+    ensures ends { K.is_trusted desk.new → (M : Catalogue) → K.shows desk.old M → kept_under M.kept id.now ≡ None → RespondsOrFails (K.shows desk.new) (K.leaves_one_of desk.old) (K.leaves_one_of desk.new) M (applied M id.now (command_meant command.now)) (answer_octets result) }
     ensures trust { K.is_trusted desk.new → K.is_trusted desk.old }
     ensures closed { K.is_closed desk.old ≡ true → K.is_closed desk.new ≡ true }
 {
@@ -101,7 +101,7 @@ fn install_edition<K: Keeper>(
     name: &str,
     edition: &Edition,
 ) -> Answer
-    ensures ends { K.is_trusted desk.new → (M : Catalogue) → K.shows desk.old M → kept_under M.kept id.now ≡ None → Ends (K.shows desk.new) (K.leaves_one_of desk.old) (K.leaves_one_of desk.new) M (applied M id.now (install name.now (edition_of edition.now))) (octets_of result) }
+    ensures ends { K.is_trusted desk.new → (M : Catalogue) → K.shows desk.old M → kept_under M.kept id.now ≡ None → RespondsOrFails (K.shows desk.new) (K.leaves_one_of desk.old) (K.leaves_one_of desk.new) M (applied M id.now (install name.now (edition_of edition.now))) (answer_octets result) }
     ensures trust { K.is_trusted desk.new → K.is_trusted desk.old }
     ensures closed { K.is_closed desk.old ≡ true → K.is_closed desk.new ≡ true }
 {
@@ -117,7 +117,7 @@ fn install_read<K: Keeper>(
     index: &[u8],
     text: &[u8],
 ) -> Answer
-    ensures responds { K.is_trusted desk.new → (M : Catalogue) → K.shows desk.old M → kept_under M.kept id.now ≡ None → Responds (K.shows desk.new) (K.leaves_one_of desk.old) (K.leaves_one_of desk.new) M (SettlesFiles M id.now name.now index.now text.now) (octets_of result) }
+    ensures responds { K.is_trusted desk.new → (M : Catalogue) → K.shows desk.old M → kept_under M.kept id.now ≡ None → Responds (K.shows desk.new) (K.leaves_one_of desk.old) (K.leaves_one_of desk.new) M (SettlesFiles M id.now name.now index.now text.now) (answer_octets result) }
     ensures trust { K.is_trusted desk.new → K.is_trusted desk.old }
     ensures closed { K.is_closed desk.old ≡ true → K.is_closed desk.new ≡ true }
 {
@@ -137,7 +137,7 @@ fn install_files<K: Preparer>(
     index: &[u8],
     text: &[u8],
 ) -> Answer
-    ensures responds { K.is_trusted desk.new → (M : Catalogue) → K.shows desk.old M → kept_under M.kept id.now ≡ None → Responds (K.shows desk.new) (K.leaves_one_of desk.old) (K.leaves_one_of desk.new) M (SettlesFiles M id.now name.now index.now text.now) (octets_of result) }
+    ensures responds { K.is_trusted desk.new → (M : Catalogue) → K.shows desk.old M → kept_under M.kept id.now ≡ None → Responds (K.shows desk.new) (K.leaves_one_of desk.old) (K.leaves_one_of desk.new) M (SettlesFiles M id.now name.now index.now text.now) (answer_octets result) }
     ensures trust { K.is_trusted desk.new → K.is_trusted desk.old }
     ensures closed { K.is_closed desk.old ≡ true → K.is_closed desk.new ≡ true }
 {
@@ -150,7 +150,7 @@ fn install_files<K: Preparer>(
 
 // Installs the edition that a body has.
 fn install<K: Preparer>(alloc: Global, desk: &mut K, id: &str, name: &str, body: &[u8]) -> Answer
-    ensures responds { K.is_trusted desk.new → (M : Catalogue) → K.shows desk.old M → kept_under M.kept id.now ≡ None → Responds (K.shows desk.new) (K.leaves_one_of desk.old) (K.leaves_one_of desk.new) M (SettlesNew M id.now actions.Install name.now body.now) (octets_of result) }
+    ensures responds { K.is_trusted desk.new → (M : Catalogue) → K.shows desk.old M → kept_under M.kept id.now ≡ None → Responds (K.shows desk.new) (K.leaves_one_of desk.old) (K.leaves_one_of desk.new) M (SettlesNew M id.now actions.Install name.now body.now) (answer_octets result) }
     ensures trust { K.is_trusted desk.new → K.is_trusted desk.old }
     ensures closed { K.is_closed desk.old ≡ true → K.is_closed desk.new ≡ true }
 {
@@ -162,7 +162,7 @@ fn install<K: Preparer>(alloc: Global, desk: &mut K, id: &str, name: &str, body:
 
 // Puts an item at the place that a body says.
 fn place<K: Keeper>(alloc: Global, desk: &mut K, id: &str, name: &str, body: &[u8]) -> Answer
-    ensures responds { K.is_trusted desk.new → (M : Catalogue) → K.shows desk.old M → kept_under M.kept id.now ≡ None → Responds (K.shows desk.new) (K.leaves_one_of desk.old) (K.leaves_one_of desk.new) M (SettlesNew M id.now actions.Place name.now body.now) (octets_of result) }
+    ensures responds { K.is_trusted desk.new → (M : Catalogue) → K.shows desk.old M → kept_under M.kept id.now ≡ None → Responds (K.shows desk.new) (K.leaves_one_of desk.old) (K.leaves_one_of desk.new) M (SettlesNew M id.now actions.Place name.now body.now) (answer_octets result) }
     ensures trust { K.is_trusted desk.new → K.is_trusted desk.old }
     ensures closed { K.is_closed desk.old ≡ true → K.is_closed desk.new ≡ true }
 {
@@ -183,7 +183,7 @@ fn place<K: Keeper>(alloc: Global, desk: &mut K, id: &str, name: &str, body: &[u
 
 // Puts the virtual item that a body says.
 fn put_virtual<K: Keeper>(alloc: Global, desk: &mut K, id: &str, name: &str, body: &[u8]) -> Answer
-    ensures responds { K.is_trusted desk.new → (M : Catalogue) → K.shows desk.old M → kept_under M.kept id.now ≡ None → Responds (K.shows desk.new) (K.leaves_one_of desk.old) (K.leaves_one_of desk.new) M (SettlesNew M id.now actions.PutVirtual name.now body.now) (octets_of result) }
+    ensures responds { K.is_trusted desk.new → (M : Catalogue) → K.shows desk.old M → kept_under M.kept id.now ≡ None → Responds (K.shows desk.new) (K.leaves_one_of desk.old) (K.leaves_one_of desk.new) M (SettlesNew M id.now actions.PutVirtual name.now body.now) (answer_octets result) }
     ensures trust { K.is_trusted desk.new → K.is_trusted desk.old }
     ensures closed { K.is_closed desk.old ≡ true → K.is_closed desk.new ≡ true }
 {
@@ -218,7 +218,7 @@ fn change_anew<K: Preparer>(
     body: &[u8],
 ) -> Answer
     requires { action ≢ actions.List }
-    ensures responds { K.is_trusted desk.new → (M : Catalogue) → K.shows desk.old M → kept_under M.kept id.now ≡ None → Responds (K.shows desk.new) (K.leaves_one_of desk.old) (K.leaves_one_of desk.new) M (SettlesNew M id.now action name.now body.now) (octets_of result) }
+    ensures responds { K.is_trusted desk.new → (M : Catalogue) → K.shows desk.old M → kept_under M.kept id.now ≡ None → Responds (K.shows desk.new) (K.leaves_one_of desk.old) (K.leaves_one_of desk.new) M (SettlesNew M id.now action name.now body.now) (answer_octets result) }
     ensures trust { K.is_trusted desk.new → K.is_trusted desk.old }
     ensures closed { K.is_closed desk.old ≡ true → K.is_closed desk.new ≡ true }
 {
@@ -242,7 +242,7 @@ pub fn change<K: Preparer>(
     body: &[u8],
 ) -> Answer
     requires { action ≢ actions.List }
-    ensures responds { K.is_trusted desk.new → (M : Catalogue) → K.shows desk.old M → Responds (K.shows desk.new) (K.leaves_one_of desk.old) (K.leaves_one_of desk.new) M (SettlesChange M id.now action name.now body.now) (octets_of result) }
+    ensures responds { K.is_trusted desk.new → (M : Catalogue) → K.shows desk.old M → Responds (K.shows desk.new) (K.leaves_one_of desk.old) (K.leaves_one_of desk.new) M (SettlesChange M id.now action name.now body.now) (answer_octets result) }
     ensures trust { K.is_trusted desk.new → K.is_trusted desk.old }
     ensures closed { K.is_closed desk.old ≡ true → K.is_closed desk.new ≡ true }
 {

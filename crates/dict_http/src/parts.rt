@@ -4,7 +4,7 @@ ghost use Rattle.std.specs.List.{list_all};
 ghost use Rattle.std.specs.Char.{is_ascii_digit};
 ghost use Rattle.std.specs.Str.Parse.{digits_value};
 ghost use Rattle.dict_index.specs.Cuts.{HasNo, IsCutAt};
-ghost use Rattle.dict_http.specs.Actions.{AreParts};
+ghost use Rattle.dict_http.specs.Actions.{IsInstallBody};
 
 use memchr::memchr;
 
@@ -49,7 +49,7 @@ fn cut_at_line_feed(body: &[u8]) -> Option<(&[u8], &[u8])>
 
 // The index and the text that the body has, where it has that form.
 pub fn parts_of(body: &[u8]) -> Option<(&[u8], &[u8])>
-    ensures { MatchOption result ((index text : List ℕ) → ¬ AreParts body.now index text) (λ parts. AreParts body.now parts.0.now parts.1.now) }
+    ensures { MatchOption result ((index text : List ℕ) → ¬ IsInstallBody body.now index text) (λ parts. IsInstallBody body.now parts.0.now parts.1.now) }
 {
     let Some((digits, rest)) = cut_at_line_feed(body) else {
         return None;

@@ -5,7 +5,7 @@ ghost use Rattle.std.specs.List.{position};
 ghost use Rattle.json.specs.Print.{escape, escape_byte, escape_letter, quoted};
 ghost use Rattle.dict_proto.specs.Streams.{Puts};
 ghost use Rattle.dict_catalogue.specs.Views.{kept_shown};
-ghost use Rattle.dict_http.specs.Texts.{kept_text, number_or_null, needs_escape};
+ghost use Rattle.dict_http.specs.Texts.{kept_text, number_or_null_text, needs_escape};
 
 use crate::replies::verb_text;
 use dict_catalogue::Kept;
@@ -26,7 +26,7 @@ pub fn put_kept<K: Sink>(sink: &mut K, kept: &Kept) -> Result<(), SinkFault>
 
 // Puts the edition's number, or that there is none.
 fn put_edition<K: Sink>(sink: &mut K, edition: Option<u64>) -> Result<(), SinkFault>
-    ensures { Puts result (K.stream sink.old) (K.stream sink.new) (codes "{\"edition\":" ++ number_or_null edition) }
+    ensures { Puts result (K.stream sink.old) (K.stream sink.new) (codes "{\"edition\":" ++ number_or_null_text edition) }
 {
     match edition {
         Some(number) => {

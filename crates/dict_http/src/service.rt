@@ -3,11 +3,11 @@ ghost use Rattle.std.specs.Prelude.{◌≡◌, ◌⊎◌, List, Option, false, t
 ghost use Rattle.dict_catalogue.specs.Steps.{Catalogue, summary_of};
 ghost use Rattle.dict_head.specs.Fields.{AreValues};
 ghost use Rattle.dict_head.specs.Heads.{Needs};
-ghost use Rattle.dict_head.specs.Requests.{Request as WholeRequest, Tells};
+ghost use Rattle.dict_head.specs.Requests.{EditorRequest as WholeRequest, TellsRequest};
 ghost use Rattle.dict_head.specs.declared.kinds.Need.TheVariants as needs;
 ghost use Rattle.dict_head.specs.declared.statuses.Status.TheVariants as statuses;
 ghost use Rattle.dict_http.specs.Texts.{list_text};
-ghost use Rattle.dict_http.specs.Answers.{octets_of, plain, with_body, response_text};
+ghost use Rattle.dict_http.specs.Answers.{answer_octets, plain, with_body, response_text};
 ghost use Rattle.dict_http.specs.Foreseeing.{HasForeseen, AsksAnewForChange, AsksForChange, AsksForCommand};
 ghost use Rattle.dict_http.specs.Settling.{Settles, SettlesRequest, SettlesAction};
 ghost use Rattle.dict_http.specs.Responding.{IsAnswer, Responds};
@@ -18,7 +18,7 @@ use crate::changing::{change, with_text};
 use crate::foreseeing::{foresee_change, is_foreseen};
 use crate::items::list_json;
 use dict_desk::{Keeper, Preparer};
-use dict_head::{Reading, Request, Routes, Status, Values, read_request};
+use dict_head::{EditorRequest, RequestReading, Routes, Status, Values, read_request};
 use std::alloc::{AllocError, Global};
 
 /// Answers editors' requests.
@@ -30,7 +30,7 @@ pub struct Service {
 // The answer to octets that are refused before they are a request.
 fn refused(status: Status) -> Answer
     requires { (status ≡ statuses.BadRequest) ⊎ (status ≡ statuses.ContentTooLarge) }
-    ensures { octets_of result ≡ response_text (plain status) }
+    ensures { answer_octets result ≡ response_text (plain status) }
 {
     if status == Status::ContentTooLarge {
         too_large()
@@ -41,7 +41,7 @@ fn refused(status: Status) -> Answer
 
 // The list of the catalogue's items.
 fn list<K: Keeper>(alloc: Global, desk: &K) -> Answer
-    ensures { (M : Catalogue) → K.shows desk.now M → IsAnswer (octets_of result) (with_body statuses.Ok (list_text (summary_of M).items)) }
+    ensures { (M : Catalogue) → K.shows desk.now M → IsAnswer (answer_octets result) (with_body statuses.Ok (list_text (summary_of M).items)) }
 {
     match desk.summary() {
         Ok(summary) => match list_json(alloc, summary) {
@@ -61,7 +61,7 @@ fn act<K: Preparer>(
     name: &str,
     body: &[u8],
 ) -> Answer
-    ensures responds { K.is_trusted desk.new → (M : Catalogue) (asked : WholeRequest) → K.shows desk.old M → AreValues ids.entry asked.ids → body.now ≡ asked.body → Responds (K.shows desk.new) (K.leaves_one_of desk.old) (K.leaves_one_of desk.new) M (SettlesAction M asked action name.now) (octets_of result) }
+    ensures responds { K.is_trusted desk.new → (M : Catalogue) (asked : WholeRequest) → K.shows desk.old M → AreValues ids.entry asked.ids → body.now ≡ asked.body → Responds (K.shows desk.new) (K.leaves_one_of desk.old) (K.leaves_one_of desk.new) M (SettlesAction M asked action name.now) (answer_octets result) }
     ensures trust { K.is_trusted desk.new → K.is_trusted desk.old }
     ensures closed { K.is_closed desk.old ≡ true → K.is_closed desk.new ≡ true }
 {
@@ -82,8 +82,13 @@ impl Service {
     }
 
     // Answers a request.
-    fn respond_to<K: Preparer>(&self, alloc: Global, request: Request<'_>, desk: &mut K) -> Answer
-        ensures responds { K.is_trusted desk.new → (M : Catalogue) (asked : WholeRequest) → K.shows desk.old M → Tells request.entry asked → Responds (K.shows desk.new) (K.leaves_one_of desk.old) (K.leaves_one_of desk.new) M (SettlesRequest M asked) (octets_of result) }
+    fn respond_to<K: Preparer>(
+        &self,
+        alloc: Global,
+        request: EditorRequest<'_>,
+        desk: &mut K,
+    ) -> Answer
+        ensures responds { K.is_trusted desk.new → (M : Catalogue) (asked : WholeRequest) → K.shows desk.old M → TellsRequest request.entry asked → Responds (K.shows desk.new) (K.leaves_one_of desk.old) (K.leaves_one_of desk.new) M (SettlesRequest M asked) (answer_octets result) }
         ensures trust { K.is_trusted desk.new → K.is_trusted desk.old }
         ensures closed { K.is_closed desk.old ≡ true → K.is_closed desk.new ≡ true }
     {
@@ -103,14 +108,14 @@ impl Service {
     /// or the one after the whole command, and the request may be sent again under its id.
     pub fn respond<K: Preparer>(&self, alloc: Global, octets: &[u8], desk: &mut K) -> Answer
         requires whole { ¬ Needs octets.now needs.More }
-        ensures responds { K.is_trusted desk.new → (M : Catalogue) → K.shows desk.old M → Responds (K.shows desk.new) (K.leaves_one_of desk.old) (K.leaves_one_of desk.new) M (Settles M octets.now) (octets_of result) }
+        ensures responds { K.is_trusted desk.new → (M : Catalogue) → K.shows desk.old M → Responds (K.shows desk.new) (K.leaves_one_of desk.old) (K.leaves_one_of desk.new) M (Settles M octets.now) (answer_octets result) }
         ensures trust { K.is_trusted desk.new → K.is_trusted desk.old }
         ensures closed { K.is_closed desk.old ≡ true → K.is_closed desk.new ≡ true }
     {
         match read_request(octets) {
-            Reading::More(_) => unreachable!(),
-            Reading::Whole(request) => self.respond_to(alloc, request, desk),
-            Reading::Refused(status) => refused(status),
+            RequestReading::More(_) => unreachable!(),
+            RequestReading::Whole(request) => self.respond_to(alloc, request, desk),
+            RequestReading::Refused(status) => refused(status),
         }
     }
 
@@ -120,7 +125,7 @@ impl Service {
         ensures yes { result ≡ true → AsksForCommand octets.now }
         ensures no { result ≡ false → ¬ AsksForCommand octets.now }
     {
-        let Reading::Whole(request) = read_request(octets) else {
+        let RequestReading::Whole(request) = read_request(octets) else {
             return false;
         };
         let Some(found) = self.routes.find(request.target) else {
@@ -145,7 +150,7 @@ impl Service {
         ensures shows { K.is_trusted desk.new → (M : Catalogue) → K.shows desk.old M → K.shows desk.new M }
         ensures leaves { (ms : List (Option Catalogue)) → K.leaves_one_of desk.old ms → K.leaves_one_of desk.new ms }
     {
-        let Reading::Whole(request) = read_request(octets) else {
+        let RequestReading::Whole(request) = read_request(octets) else {
             return false;
         };
         let Some(found) = self.routes.find(request.target) else {

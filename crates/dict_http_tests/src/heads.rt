@@ -1,6 +1,6 @@
 //! What heads are taken, and what is needed at each front of a request.
 use crate::checks::{same, same_text};
-use dict_head::{Need, Reading, Status, Values, need, read_request};
+use dict_head::{Need, RequestReading, Status, Values, need, read_request};
 use std::alloc::Global;
 use std::test::Fail;
 
@@ -189,7 +189,7 @@ fn lengths_and_counts(rt: HostRuntime) -> Result<(), Fail> {
 
 // A request's method, target, ids and body.
 fn told(alloc: Global, octets: &[u8]) -> Result<String, Fail> {
-    let Reading::Whole(request) = read_request(octets) else {
+    let RequestReading::Whole(request) = read_request(octets) else {
         return Ok(String::from_str(alloc, "not whole")?);
     };
     let ids = match request.ids {

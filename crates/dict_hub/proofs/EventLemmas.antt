@@ -5,7 +5,7 @@ use Rattle.dict_proto.specs.Streams.{Stream}
 use Rattle.dict_catalogue.specs.Steps.{Catalogue}
 use Rattle.dict_hub.specs.Holding.{Holding, left_by}
 use Rattle.dict_hub.specs.Given.{Gets, GetsThrough, LookNothingUp}
-use Rattle.dict_hub.specs.Hubs.{Has}
+use Rattle.dict_hub.specs.Hubs.{HasHolding}
 use Rattle.dict_hub.specs.Events.{Happening, came, id_of, held_after, Serves, ServesThrough, IsQuiet}
 use Rattle.dict_hub.specs.declared.hub.Hub.{Hub}
 use Rattle.dict_hub.specs.declared.incoming.Out.{Out}
@@ -32,12 +32,12 @@ serves_piece host desk Shows Before After before (Some held) what id piece old n
 
 pub own_piece : (hub : Hub) (held : Option Holding) (what : Happening) (id : ℕ) (piece : List ℕ) (result : Result Out HubFault) → what ≡ came id piece
     → (held ≡ None → result ≡ Err UnknownConnection)
-    → ((one : Holding) → held ≡ Some one → IfOk result (λ out. Has hub id (left_by one.kind (one.octets ++ piece) out)))
-    → IfOk result (λ out. Has hub (id_of what) (held_after held what out))
+    → ((one : Holding) → held ≡ Some one → IfOk result (λ out. HasHolding hub id (left_by one.kind (one.octets ++ piece) out)))
+    → IfOk result (λ out. HasHolding hub (id_of what) (held_after held what out))
 own_piece hub None what id piece result is unknown known =
-    subst (λ r. IfOk r (λ out. Has hub (id_of what) (held_after None what out))) (sym (unknown refl)) tt
+    subst (λ r. IfOk r (λ out. HasHolding hub (id_of what) (held_after None what out))) (sym (unknown refl)) tt
 own_piece hub (Some held) what id piece result is unknown known =
-    subst (λ w. IfOk result (λ out. Has hub (id_of w) (held_after (Some held) w out))) (sym is) (known held refl)
+    subst (λ w. IfOk result (λ out. HasHolding hub (id_of w) (held_after (Some held) w out))) (sym is) (known held refl)
 
 pub through_piece : (host : List ℕ) (catalogue : Catalogue) (before : Bool) (desk : Condition) (held : Option Holding) (what : Happening) (id : ℕ) (piece : List ℕ) (old new : Stream) (result : Result Out HubFault)
     → what ≡ came id piece → (held ≡ None → result ≡ Err UnknownConnection)

@@ -8,12 +8,12 @@ use Rattle.dict_session.specs.Ending.{Wrote, step_at}
 use Rattle.dict_session.specs.declared.step.Course.{Course}
 use Rattle.dict_session.specs.declared.step.Course.TheVariants as courses
 use Rattle.dict_session.specs.declared.step.Step.TheVariants as steps
-use Rattle.dict_hub.specs.Asking.{Awaits, Answers, IsAwaitedIn}
+use Rattle.dict_hub.specs.Asking.{Awaits, AnswersRequest, IsAwaitedIn}
 use Rattle.dict_hub.specs.Holding.{Holding, left_by, unanswered}
-use Rattle.dict_hub.specs.Lines.{Holds, IsEditor, IsLeft}
+use Rattle.dict_hub.specs.Lines.{HoldsExchange, IsEditor, HoldsIfOpen}
 use Rattle.dict_hub.specs.declared.incoming.Incoming.{Incoming}
 use Rattle.dict_hub.specs.declared.exchange.Exchange.TheVariants.{Editor}
-use Rattle.dict_hub.specs.Given.{Replies, RepliesThrough, Stays, Gets, GetsThrough}
+use Rattle.dict_hub.specs.Given.{Replies, RepliesThrough, CatalogueStays, Gets, GetsThrough}
 use Rattle.dict_hub.specs.declared.kind.Kind.{Kind}
 use Rattle.dict_hub.specs.declared.kind.Kind.TheVariants.{Http}
 use Rattle.dict_hub.specs.declared.fault.HubFault.{HubFault}
@@ -65,8 +65,8 @@ pub asks_from : (host : List ℕ) (desk : Condition) (Shows : Catalogue → Type
     (kind : Kind) (octets held : List ℕ) (old new : Stream) (result : Result Out HubFault)
     → kind ≡ Http
     → (result ≡ Ok More → Awaits octets held old new)
-    → (result ≡ Ok More → Stays Shows Before After before)
-    → (result ≡ Ok Close → Answers Shows Before After before octets old new)
+    → (result ≡ Ok More → CatalogueStays Shows Before After before)
+    → (result ≡ Ok Close → AnswersRequest Shows Before After before octets old new)
     → IfOk result (λ out. Gets host desk Shows Before After before kind octets out old new)
 asks_from host desk Shows Before After before kind octets held old new (Ok More) is awaits stays answers =
     subst (λ one. Gets host desk Shows Before After before one octets More old new) (sym is) ((awaits refl).more, (awaits refl).nothing, stays refl)
@@ -76,14 +76,14 @@ asks_from host desk Shows Before After before kind octets held old new (Err faul
 
 -- what is left of an editor's request that is awaited further
 pub left_from : (host : List ℕ) (id : ℕ) (kind : Kind) (octets : List ℕ) (new : Incoming) (result : Result Out HubFault) → kind ≡ Http → (result ≡ Ok More → new.octets.items ≡ octets)
-    → IsAwaitedIn new.octets.items new.awaited → IfOk result (λ out. IsLeft host id (Editor new) (left_by kind octets out))
+    → IsAwaitedIn new.octets.items new.awaited → IfOk result (λ out. HoldsIfOpen host id (Editor new) (left_by kind octets out))
 left_from host id kind octets new (Ok More) is held awaited = record { kind = is; octets_held = held refl ∙ sym (ap (λ (k : Kind). unanswered k octets) is); awaited = awaited }
 left_from host id kind octets new (Ok Close) is held awaited = tt
 left_from host id kind octets new (Err fault) is held awaited = tt
 
 -- a piece that was refused
 pub held_from : (old new : Incoming) (result : Result Out HubFault) → OnErr result (new.octets.items ≡ old.octets.items) → (IsAwaitedIn old.octets.items old.awaited → IsAwaitedIn new.octets.items new.awaited)
-    → OnErr result ((host : List ℕ) (id : ℕ) (held : Holding) → Holds host id (Editor old) held → Holds host id (Editor new) held)
+    → OnErr result ((host : List ℕ) (id : ℕ) (held : Holding) → HoldsExchange host id (Editor old) held → HoldsExchange host id (Editor new) held)
 held_from old new (Ok out) same awaited = tt
 held_from old new (Err fault) same awaited = λ host id held h. record { kind = h.kind; octets_held = same ∙ h.octets_held; awaited = awaited h.awaited }
 

@@ -10,21 +10,21 @@ use Rattle.std.proofs.lemmas.List.Sums.{prefix_len_passes}
 use Rattle.std.proofs.lemmas.List.Edits.{get_or-remove_below, get_or-remove_above, length-remove}
 use Rattle.std.proofs.lemmas.List.Quantifiers.{position-Some}
 use Rattle.dict_desk.specs.Expected.{Expected}
-use Rattle.dict_hub.specs.Books.{place_of, opening, is_given}
+use Rattle.dict_hub.specs.Books.{place_of_connection, opening, is_given}
 use Rattle.dict_hub.specs.Foreseen.{IsForeseen, AreForeseen, MakesCommand, MakeCommand}
 use Rattle.dict_hub.specs.Holding.{Holding}
-use Rattle.dict_hub.specs.Lines.{Holds}
+use Rattle.dict_hub.specs.Lines.{HoldsExchange}
 use Rattle.dict_hub.specs.Hubs.{HoldsAt, IsAbsent, StandsAt}
 use Rattle.dict_hub.specs.declared.exchange.Exchange.{Exchange}
 use Rattle.dict_hub.specs.declared.incoming.Out.{Out}
 use Rattle.dict_hub.specs.declared.incoming.Out.TheVariants.{More, Close}
 
 -- an id that is found stands at its place
-pub found_at : (ids : List ℕ) (id place : ℕ) → place_of id ids ≡ Some place → (place < length ids) × (get_or ids place 0 ≡ id)
+pub found_at : (ids : List ℕ) (id place : ℕ) → place_of_connection id ids ≡ Some place → (place < length ids) × (get_or ids place 0 ≡ id)
 found_at ids id place is = let h = position-Some (λ one. one == id) ids place 0 is in (h.0, eqb-true _ _ h.1)
 
 -- and one that isn't found stands at none
-pub not_found : (ids : List ℕ) (id : ℕ) → place_of id ids ≡ None → IsAbsent ids id
+pub not_found : (ids : List ℕ) (id : ℕ) → place_of_connection id ids ≡ None → IsAbsent ids id
 not_found ids id none place within is =
     elim (leb_tells (length ids) (position_or_len (λ one. one == id) ids)) [
       | inl all ↦ let t = prefix_len_passes (λ x. not (x == id)) ids place 0 (omega (arith, all.1, within)) in let e = eq-eqb (get_or ids place 0) id is in cc (t, e)
@@ -44,9 +44,9 @@ only_place ids p q id rising in_p in_q at_p at_q =
 
 -- what stands beside an id is what is held
 pub holds_there : (host ids : List ℕ) (lines : List Exchange) (id : ℕ) (held : Holding) (p : ℕ) → AllPairs (λ a b. a < b) ids → p < length ids → get_or ids p 0 ≡ id
-    → HoldsAt host ids lines id held → (d : Exchange) → Holds host id (get_or lines p d) held
+    → HoldsAt host ids lines id held → (d : Exchange) → HoldsExchange host id (get_or lines p d) held
 holds_there host ids lines id held p rising in_p at_p at d =
-    subst (λ q. Holds host id (get_or lines q d) held) (only_place ids at.place p id rising at.within in_p at.is at_p) (at.holds d)
+    subst (λ q. HoldsExchange host id (get_or lines q d) held) (only_place ids at.place p id rising at.within in_p at.is at_p) (at.holds d)
 
 -- the same lists stand for the same
 pub stands_as : (host host' ids ids' : List ℕ) (lines lines' : List Exchange) (id : ℕ) (held : Option Holding) → host' ≡ host → ids' ≡ ids → lines' ≡ lines
@@ -64,16 +64,16 @@ set_others host ids lines p id line at_p other (Some held) ne at = record {
   place = at.place;
   within = at.within;
   is = at.is;
-  holds = λ d. subst (λ one. Holds host other one held) (sym (get_or-set_other lines p at.place line d (λ e. ne (sym at.is ∙ (ap (λ k. get_or ids k 0) e ∙ at_p))))) (at.holds d);
+  holds = λ d. subst (λ one. HoldsExchange host other one held) (sym (get_or-set_other lines p at.place line d (λ e. ne (sym at.is ∙ (ap (λ k. get_or ids k 0) e ∙ at_p))))) (at.holds d);
 }
 
 pub set_own : (host ids : List ℕ) (lines : List Exchange) (p id : ℕ) (line : Exchange) → length lines ≡ length ids → p < length ids → get_or ids p 0 ≡ id
-    → (held : Holding) → Holds host id line held → HoldsAt host ids (slice_set lines p line) id held
+    → (held : Holding) → HoldsExchange host id line held → HoldsAt host ids (slice_set lines p line) id held
 set_own host ids lines p id line even in_p at_p held h = record {
   place = p;
   within = in_p;
   is = at_p;
-  holds = λ d. subst (λ one. Holds host id one held) (sym (get_or-set_same lines p line d (omega (arith, even, in_p)))) h;
+  holds = λ d. subst (λ one. HoldsExchange host id one held) (sym (get_or-set_same lines p line d (omega (arith, even, in_p)))) h;
 }
 
 -- one is opened, last
@@ -89,16 +89,16 @@ push_others host ids lines id line even other (Some held) ne at = record {
   place = at.place;
   within = let longer = length_push ids id in omega (arith, at.within, longer);
   is = get_or_append_left ids (id ∷ []) 0 at.place at.within ∙ at.is;
-  holds = λ d. subst (λ one. Holds host other one held) (sym (get_or_append_left lines (line ∷ []) d at.place (omega (arith, even, at.within)))) (at.holds d);
+  holds = λ d. subst (λ one. HoldsExchange host other one held) (sym (get_or_append_left lines (line ∷ []) d at.place (omega (arith, even, at.within)))) (at.holds d);
 }
 
 pub push_own : (host ids : List ℕ) (lines : List Exchange) (id : ℕ) (line : Exchange) → length lines ≡ length ids
-    → (held : Holding) → Holds host id line held → HoldsAt host (ids ++ id ∷ []) (lines ++ line ∷ []) id held
+    → (held : Holding) → HoldsExchange host id line held → HoldsAt host (ids ++ id ∷ []) (lines ++ line ∷ []) id held
 push_own host ids lines id line even held h = record {
   place = length ids;
   within = let longer = length_push ids id in omega (arith, longer);
   is = get_or-append_seam ids id [] 0;
-  holds = λ d. subst (λ one. Holds host id one held) (sym (ap (λ k. get_or (lines ++ line ∷ []) k d) (sym even) ∙ get_or-append_seam lines line [] d)) h;
+  holds = λ d. subst (λ one. HoldsExchange host id one held) (sym (ap (λ k. get_or (lines ++ line ∷ []) k d) (sym even) ∙ get_or-append_seam lines line [] d)) h;
 }
 
 -- one is closed
@@ -123,13 +123,13 @@ remove_others host ids lines p id even in_p at_p other (Some held) ne at =
             place = k;
             within = omega (arith, at.within, shorter, over);
             is = get_or-remove_above ids p 0 k (omega (arith, over)) in_p ∙ (ap (λ j. get_or ids j 0) e ∙ at.is);
-            holds = λ d. subst (λ one. Holds host other one held) (sym (get_or-remove_above lines p d k (omega (arith, over)) in_lines ∙ ap (λ j. get_or lines j d) e)) (at.holds d);
+            holds = λ d. subst (λ one. HoldsExchange host other one held) (sym (get_or-remove_above lines p d k (omega (arith, over)) in_lines ∙ ap (λ j. get_or lines j d) e)) (at.holds d);
           })
       | inr below ↦ record {
         place = at.place;
         within = omega (arith, in_p, shorter, below.1);
         is = get_or-remove_below ids p 0 at.place below.1 in_p ∙ at.is;
-        holds = λ d. subst (λ one. Holds host other one held) (sym (get_or-remove_below lines p d at.place below.1 in_lines)) (at.holds d);
+        holds = λ d. subst (λ one. HoldsExchange host other one held) (sym (get_or-remove_below lines p d at.place below.1 in_lines)) (at.holds d);
       }
     ]
 
@@ -171,15 +171,15 @@ keep_others host host' ids ids' lines mid lines' id line Close even same eh more
 
 -- one is changed, and holds what it held
 pub set_same : (host ids : List ℕ) (lines : List Exchange) (p id : ℕ) (was line : Exchange) → AllPairs (λ a b. a < b) ids → length lines ≡ length ids → p < length ids → get_or ids p 0 ≡ id
-    → was ≡ get_or lines p was → ((held : Holding) → Holds host id was held → Holds host id line held)
+    → was ≡ get_or lines p was → ((held : Holding) → HoldsExchange host id was held → HoldsExchange host id line held)
     → (held : Option Holding) → StandsAt host ids lines id held → StandsAt host ids (slice_set lines p line) id held
 set_same host ids lines p id was line rising even in_p at_p is same None absent = absent
 set_same host ids lines p id was line rising even in_p at_p is same (Some held) at =
-    set_own host ids lines p id line even in_p at_p held (same held (subst (λ one. Holds host id one held) (sym is) (holds_there host ids lines id held p rising in_p at_p at was)))
+    set_own host ids lines p id line even in_p at_p held (same held (subst (λ one. HoldsExchange host id one held) (sym is) (holds_there host ids lines id held p rising in_p at_p at was)))
 
 -- one is changed, and holds what it held: each of them does
 pub set_each : (host ids : List ℕ) (lines : List Exchange) (p id : ℕ) (was line : Exchange) → AllPairs (λ a b. a < b) ids → length lines ≡ length ids → p < length ids → get_or ids p 0 ≡ id
-    → was ≡ get_or lines p was → ((held : Holding) → Holds host id was held → Holds host id line held)
+    → was ≡ get_or lines p was → ((held : Holding) → HoldsExchange host id was held → HoldsExchange host id line held)
     → (other : ℕ) (held : Option Holding) → StandsAt host ids lines other held → StandsAt host ids (slice_set lines p line) other held
 set_each host ids lines p id was line rising even in_p at_p is same other held at = by (other == id) refl
   where
@@ -193,26 +193,26 @@ set_each host ids lines p id was line rising even in_p at_p is same other held a
 -- what is foreseen of the one at a place is foreseen of its id
 pub foreseen_there : {K : Type 0} (expects : K → Expected → K → Type 0) (Asks : List ℕ → Expected → Type 0) (host ids : List ℕ) (lines : List Exchange) (p id : ℕ) (was : Exchange) (piece : List ℕ) (desk : K)
     → AllPairs (λ a b. a < b) ids → p < length ids → get_or ids p 0 ≡ id → was ≡ get_or lines p was
-    → ((held : Holding) → Holds host id was held → IsForeseen expects Asks held piece desk)
+    → ((held : Holding) → HoldsExchange host id was held → IsForeseen expects Asks held piece desk)
     → (held : Option Holding) → StandsAt host ids lines id held → AreForeseen expects Asks held piece desk
 foreseen_there expects Asks host ids lines p id was piece desk rising in_p at_p is there None absent = absent p in_p at_p
 foreseen_there expects Asks host ids lines p id was piece desk rising in_p at_p is there (Some held) at =
-    there held (subst (λ one. Holds host id one held) (sym is) (holds_there host ids lines id held p rising in_p at_p at was))
+    there held (subst (λ one. HoldsExchange host id one held) (sym is) (holds_there host ids lines id held p rising in_p at_p at was))
 
 -- so is whether octets make a command whole
 pub command_there : (host ids : List ℕ) (lines : List Exchange) (p id : ℕ) (was : Exchange) (piece : List ℕ) → AllPairs (λ a b. a < b) ids → p < length ids → get_or ids p 0 ≡ id → was ≡ get_or lines p was
-    → ((held : Holding) → Holds host id was held → MakesCommand held piece) → (held : Option Holding) → StandsAt host ids lines id held → MakeCommand held piece
+    → ((held : Holding) → HoldsExchange host id was held → MakesCommand held piece) → (held : Option Holding) → StandsAt host ids lines id held → MakeCommand held piece
 command_there host ids lines p id was piece rising in_p at_p is there None absent = absent p in_p at_p
 command_there host ids lines p id was piece rising in_p at_p is there (Some held) at =
-    there held (subst (λ one. Holds host id one held) (sym is) (holds_there host ids lines id held p rising in_p at_p at was))
+    there held (subst (λ one. HoldsExchange host id one held) (sym is) (holds_there host ids lines id held p rising in_p at_p at was))
 
 pub no_command_there : (host ids : List ℕ) (lines : List Exchange) (p id : ℕ) (was : Exchange) (piece : List ℕ) → AllPairs (λ a b. a < b) ids → p < length ids → get_or ids p 0 ≡ id → was ≡ get_or lines p was
-    → ((held : Holding) → Holds host id was held → MakesCommand held piece → ⊥) → (held : Option Holding) → StandsAt host ids lines id held → MakeCommand held piece → ⊥
+    → ((held : Holding) → HoldsExchange host id was held → MakesCommand held piece → ⊥) → (held : Option Holding) → StandsAt host ids lines id held → MakeCommand held piece → ⊥
 no_command_there host ids lines p id was piece rising in_p at_p is there None absent makes = makes
 no_command_there host ids lines p id was piece rising in_p at_p is there (Some held) at makes =
-    there held (subst (λ one. Holds host id one held) (sym is) (holds_there host ids lines id held p rising in_p at_p at was)) makes
+    there held (subst (λ one. HoldsExchange host id one held) (sym is) (holds_there host ids lines id held p rising in_p at_p at was)) makes
 
 -- of an id that isn't found nothing is held
-pub none_there : (host ids : List ℕ) (lines : List Exchange) (id : ℕ) (piece : List ℕ) → place_of id ids ≡ None → (held : Option Holding) → StandsAt host ids lines id held → MakeCommand held piece → ⊥
+pub none_there : (host ids : List ℕ) (lines : List Exchange) (id : ℕ) (piece : List ℕ) → place_of_connection id ids ≡ None → (held : Option Holding) → StandsAt host ids lines id held → MakeCommand held piece → ⊥
 none_there host ids lines id piece none None at makes = makes
 none_there host ids lines id piece none (Some held) at makes = not_found ids id none at.place at.within at.is

@@ -9,18 +9,18 @@ use Rattle.dict_proto.specs.Meaning.{Meaning}
 use Rattle.dict_head.specs.Heads.{Needs}
 use Rattle.dict_head.specs.declared.kinds.Need.TheVariants.{More as NeedsMore}
 use Rattle.dict_http.specs.Answers.{unavailable_text}
-use Rattle.dict_http.specs.Responding.Ends.{answered, unchanged, unknown}
+use Rattle.dict_http.specs.Responding.RespondsOrFails.{answered, unchanged, unknown}
 use Rattle.dict_http.specs.Responding.Responds.{ended as responded, failed as unresponded}
 use Rattle.dict_http.specs.Settling.{Settled, Settles}
 use Rattle.dict_session.specs.Lines.{cut}
 use Rattle.dict_session.specs.Answers.{answer_to}
 use Rattle.dict_session.specs.Spoken.{Speaks, HasUnavailable, answers, has_quit}
-use Rattle.dict_hub.specs.Asking.{Answers}
+use Rattle.dict_hub.specs.Asking.{AnswersRequest}
 use Rattle.dict_hub.specs.Holding.{Holding}
 use Rattle.dict_hub.specs.Given.{Replies, Gets}
 use Rattle.dict_hub.specs.Events.{Happening, opened, came, ended, id_of, held_after, Serves}
 use Rattle.dict_hub.specs.Undisturbed.{Served, greeting, to_editor, IsServedOctets, IsServed, Lacks, IsDisturbed}
-use Rattle.dict_hub.specs.Runs.{State, Standing, Accepted, EventAt, asked, state_after, IsStep, Leads, IsUndisturbed, HasDisturbance, GoWell, events_of, GotSame}
+use Rattle.dict_hub.specs.Runs.{State, Standing, Accepted, EventAt, event_asked, state_after, IsServedEvent, Leads, IsUndisturbed, HasDisturbance, GoWell, events_of, GotSame}
 use Rattle.dict_hub.specs.declared.kind.Kind.{Kind}
 use Rattle.dict_hub.specs.declared.kind.Kind.TheVariants.{Dict, Http}
 use Rattle.dict_hub.specs.declared.incoming.Out.{Out}
@@ -65,7 +65,7 @@ replies_gave law host desk before after octets Close old new same (inr (inr (fai
 
 -- an editor's request
 answers_gave : (host : List ℕ) (desk : Condition) (before after : Catalogue) (l k : List (Option Catalogue)) (octets : List ℕ) (old new : Stream)
-    → Answers (λ M. M ≡ after) (λ ms. ms ≡ l) (λ ms. ms ≡ k) before octets old new
+    → AnswersRequest (λ M. M ≡ after) (λ ms. ms ≡ l) (λ ms. ms ≡ k) before octets old new
     → ((put : List ℕ) × IsServedOctets host before Http octets (record { out = Close; octets = put; catalogue = after }) × PutsAll old new put)
     ⊎ (HasFailed old.failures new.failures ⊎ Lacks host desk before Http octets Close old new)
 answers_gave host desk before after l k octets old new given =
@@ -107,7 +107,7 @@ serves_gave law host desk before after l k held (ended id) out old new serves =
 
 pub undisturbed_or : ((answer : Meaning → List ℕ) (closed : Bool) (ls : List (List ℕ)) (o : List ℕ) (ended : Bool) → Speaks answer closed ls o ended
     → ((o ≡ answers answer ls) × (ended ≡ has_quit ls)) ⊎ HasUnavailable answer closed ls o)
-    → (state : State) (one : Accepted) → IsStep state one → IsUndisturbed state one ⊎ HasDisturbance state one
+    → (state : State) (one : Accepted) → IsServedEvent state one → IsUndisturbed state one ⊎ HasDisturbance state one
 unfolding Gave IsLaw
 undisturbed_or law state one step = serves_gave law state.host one.desk one.before.catalogue one.after.catalogue one.before.leaves one.after.leaves (state.held (id_of one.what)) one.what one.out one.put.old one.put.new step.serves
 
@@ -164,13 +164,13 @@ head d (x ∷ xs) = x
 -- two connections that see the same
 same_alone : ((host : List ℕ) (M : Catalogue) (held : Option Holding) (what : Happening) (a b : Served) → IsServed host M held what a → IsServed host M held what b → a ≡ b)
     → (host : List ℕ) (held end end' : Option Holding) (events others : List Accepted) → Alone host held events end → Alone host held others end'
-    → map asked events ≡ map asked others → GotSame events others × (end ≡ end')
+    → map event_asked events ≡ map event_asked others → GotSame events others × (end ≡ end')
 unfolding Alone tail head
 same_alone one host held end end' [] [] x y e = (tt, x ∙ sym y)
 same_alone one host held end end' [] (other ∷ others) x y e = cc e
 same_alone one host held end end' (first ∷ events) [] x y e = cc e
 same_alone one host held end end' (first ∷ events) (other ∷ others) x y e =
-    let h : asked first ≡ asked other = ap (λ l. head (asked first) l) e in
+    let h : event_asked first ≡ event_asked other = ap (λ l. head (event_asked first) l) e in
     let what : first.what ≡ other.what = ap (λ s. s.what) h in
     let before : first.before.catalogue ≡ other.before.catalogue = ap (λ s. s.catalogue) h in
     let b : Served = record { out = other.out; octets = y.0.0; catalogue = other.after.catalogue } in
@@ -187,7 +187,7 @@ same_alone one host held end end' (first ∷ events) (other ∷ others) x y e =
 pub same_in_both : ((host : List ℕ) (M : Catalogue) (held : Option Holding) (what : Happening) (a b : Served) → IsServed host M held what a → IsServed host M held what b → a ≡ b)
     → (id : ℕ) (a b a' b' : State) (p q p' q' : Standing) (events others : List Accepted) → Leads a p events a' p' → Leads b q others b' q'
     → a.host ≡ b.host → a.held id ≡ b.held id → GoWell id a events → GoWell id b others
-    → map asked (events_of id events) ≡ map asked (events_of id others) → GotSame (events_of id events) (events_of id others) × (a'.held id ≡ b'.held id)
+    → map event_asked (events_of id events) ≡ map event_asked (events_of id others) → GotSame (events_of id events) (events_of id others) × (a'.held id ≡ b'.held id)
 same_in_both one id a b a' b' p q p' q' events others leads leads' host held well well' same =
     same_alone one a.host (a.held id) (a'.held id) (b'.held id) (events_of id events) (events_of id others)
     (alone id a a' p p' events leads well)

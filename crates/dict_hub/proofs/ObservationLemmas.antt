@@ -3,12 +3,12 @@ use Rattle.std.proofs.Common.{◌≡◌, ◌≢◌, ◌==◌, ℕ, Bool, true, f
 use Rattle.std.specs.Prelude.{Option, Some, None, MatchOption, map, if◌then◌else◌}
 use Rattle.std.proofs.lemmas.Bool.{eqb-true, eq-eqb}
 use Rattle.dict_proto.specs.Streams.{Stream}
-use Rattle.dict_catalogue.specs.Steps.{Catalogue, Request, after, step, kept_under}
+use Rattle.dict_catalogue.specs.Steps.{Catalogue, CommandRequest, after, step, kept_under}
 use Rattle.dict_catalogue.specs.Effects.{KeptReply}
-use Rattle.dict_head.specs.Requests.{Request as WholeRequest}
+use Rattle.dict_head.specs.Requests.{EditorRequest as WholeRequest}
 use Rattle.dict_http.specs.Answers.{Response}
-use Rattle.dict_http.specs.Actions.{Said, command as said_command, no_edition, unformed, action_of}
-use Rattle.dict_http.specs.Responding.Ends.{answered, unchanged, unknown}
+use Rattle.dict_http.specs.Actions.{BodyMeaning, command as said_command, no_edition, unformed, action_of}
+use Rattle.dict_http.specs.Responding.RespondsOrFails.{answered, unchanged, unknown}
 use Rattle.dict_http.specs.Responding.Responds.{ended as responded, failed as unresponded}
 use Rattle.dict_http.specs.Responding.{Responds}
 use Rattle.dict_http.specs.Settling.{Settled, Settles, SettlesAction, SettlesIds, SettlesNew, SettlesRequest, stays, settled_by}
@@ -18,7 +18,7 @@ use Rattle.dict_hub.specs.Holding.{Holding}
 use Rattle.dict_hub.specs.Given.{Gets}
 use Rattle.dict_hub.specs.Events.{Happening, opened, came, ended, id_of, held_after, Serves}
 use Rattle.dict_hub.specs.Undisturbed.{Served, IsServed}
-use Rattle.dict_hub.specs.Runs.{State, Standing, Accepted, EventAt, asked, state_after, Leads, GoWell, events_of}
+use Rattle.dict_hub.specs.Runs.{State, Standing, Accepted, EventAt, event_asked, state_after, Leads, GoWell, events_of}
 use Rattle.dict_hub.specs.Observations.{Observation, own, command, AreObservations}
 use Rattle.dict_hub.specs.declared.kind.Kind.{Kind}
 use Rattle.dict_hub.specs.declared.kind.Kind.TheVariants.{Dict, Http}
@@ -28,7 +28,7 @@ use Rattle.dict_session.specs.Desks.{Condition}
 
 -- commands make this catalogue of that one
 record ByCommands (before M : Catalogue) : Type 0 where
-  requests : List Request
+  requests : List CommandRequest
   is : M ≡ after before requests
 
 by_none : (before M : Catalogue) → M ≡ before → ByCommands before M
@@ -37,7 +37,7 @@ by_none before M same = record { requests = []; is = same }
 by_stay : (before : Catalogue) (response : Response) (settled : Settled) → settled ≡ stays before response → ByCommands before settled.catalogue
 by_stay before response settled is = by_none before settled.catalogue (ap (λ s. s.catalogue) is)
 
-by_said : (before : Catalogue) (id : List ℕ) (said : Said) (settled : Settled) → settled ≡ settled_by before id said → ByCommands before settled.catalogue
+by_said : (before : Catalogue) (id : List ℕ) (said : BodyMeaning) (settled : Settled) → settled ≡ settled_by before id said → ByCommands before settled.catalogue
 by_said before id (said_command asks) settled is = record { requests = record { id = id; command = asks } ∷ []; is = ap (λ s. s.catalogue) is }
 by_said before id (no_edition refusal line) settled is = by_stay before _ settled is
 by_said before id unformed settled is = by_stay before _ settled is
@@ -112,19 +112,19 @@ Plays host M held (own what ∷ turns) questions =
     (served : Served) × IsServed host M held what served × ((rest : List EventAt) × (questions ≡ record { what = what; catalogue = M } ∷ rest) × Plays host served.catalogue (held_after held what served.out) turns rest)
 Plays host M held (command request ∷ turns) questions = Plays host (step M request.id request.command).catalogue held turns questions
 
-plays_behind : (host : List ℕ) (M : Catalogue) (held : Option Holding) (requests : List Request) (turns : List Observation) (questions : List EventAt)
+plays_behind : (host : List ℕ) (M : Catalogue) (held : Option Holding) (requests : List CommandRequest) (turns : List Observation) (questions : List EventAt)
     → Plays host (after M requests) held turns questions → Plays host M held (map command requests ++ turns) questions
 unfolding Plays
 plays_behind host M held [] turns questions plays = plays
 plays_behind host M held (request ∷ requests) turns questions plays = plays_behind host (step M request.id request.command).catalogue held requests turns questions plays
 
 -- of the questions of a run with one more event, where that is the connection's own, or isn't
-own_first : (id : ℕ) (one : Accepted) (events : List Accepted) → id_of one.what ≡ id → map asked (events_of id (one ∷ events)) ≡ asked one ∷ map asked (events_of id events)
-own_first id one events same = ap (λ (b : Bool). map asked (if b then one ∷ events_of id events else events_of id events)) (eq-eqb id (id_of one.what) (sym same))
+own_first : (id : ℕ) (one : Accepted) (events : List Accepted) → id_of one.what ≡ id → map event_asked (events_of id (one ∷ events)) ≡ event_asked one ∷ map event_asked (events_of id events)
+own_first id one events same = ap (λ (b : Bool). map event_asked (if b then one ∷ events_of id events else events_of id events)) (eq-eqb id (id_of one.what) (sym same))
 
-other_first : (id : ℕ) (one : Accepted) (events : List Accepted) (b : Bool) → (id == id_of one.what) ≡ b → id_of one.what ≢ id → map asked (events_of id (one ∷ events)) ≡ map asked (events_of id events)
+other_first : (id : ℕ) (one : Accepted) (events : List Accepted) (b : Bool) → (id == id_of one.what) ≡ b → id_of one.what ≢ id → map event_asked (events_of id (one ∷ events)) ≡ map event_asked (events_of id events)
 other_first id one events true e ne = absurd (ne (sym (eqb-true id (id_of one.what) e)))
-other_first id one events false e ne = ap (λ (b : Bool). map asked (if b then one ∷ events_of id events else events_of id events)) e
+other_first id one events false e ne = ap (λ (b : Bool). map event_asked (if b then one ∷ events_of id events else events_of id events)) e
 
 held_own : (id : ℕ) (state : State) (what : Happening) (out : Out) → id_of what ≡ id → (state_after state what out).held id ≡ held_after (state.held id) what out
 held_own id state what out same =
@@ -136,7 +136,7 @@ held_other id state what out true e ne = absurd (ne (sym (eqb-true id (id_of wha
 held_other id state what out false e ne = ap (λ (b : Bool). if b then held_after (state.held (id_of what)) what out else state.held id) e
 
 plays : (id : ℕ) (a a' : State) (p p' : Standing) (events : List Accepted) (turns : List Observation) → Leads a p events a' p' → GoWell id a events → AreObservations id events turns
-    → Plays a.host p.catalogue (a.held id) turns (map asked (events_of id events))
+    → Plays a.host p.catalogue (a.held id) turns (map event_asked (events_of id events))
 unfolding Plays
 plays id a a' p p' [] turns leads well are = subst (λ (t : List Observation). Plays a.host p.catalogue (a.held id) t []) (sym are) refl
 plays id a a' p p' (one ∷ events) turns leads well (inl (same, (rest, is, are))) =
@@ -144,19 +144,19 @@ plays id a a' p p' (one ∷ events) turns leads well (inl (same, (rest, is, are)
     let gave = well.0 same in
     let served : Served = record { out = one.out; octets = gave.0; catalogue = one.after.catalogue } in
     let so = subst (λ (i : ℕ). IsServed a.host one.before.catalogue (a.held i) one.what served) same gave.1 in
-    let later = subst (λ (h : Option Holding). Plays a.host one.after.catalogue h rest (map asked (events_of id events))) (held_own id a one.what one.out same)
+    let later = subst (λ (h : Option Holding). Plays a.host one.after.catalogue h rest (map event_asked (events_of id events))) (held_own id a one.what one.out same)
     (plays id (state_after a one.what one.out) a' one.after p' events rest leads.2 well.1 are) in
-    subst (λ (M : Catalogue). Plays a.host M (a.held id) turns (map asked (events_of id (one ∷ events)))) here
-    (subst (λ (t : List Observation). Plays a.host one.before.catalogue (a.held id) t (map asked (events_of id (one ∷ events)))) (sym is)
-    (served, so, (map asked (events_of id events), own_first id one events same, later)))
+    subst (λ (M : Catalogue). Plays a.host M (a.held id) turns (map event_asked (events_of id (one ∷ events)))) here
+    (subst (λ (t : List Observation). Plays a.host one.before.catalogue (a.held id) t (map event_asked (events_of id (one ∷ events)))) (sym is)
+    (served, so, (map event_asked (events_of id events), own_first id one events same, later)))
 plays id a a' p p' (one ∷ events) turns leads well (inr (ne, (requests, rest, is, by, are))) =
     let here : one.before.catalogue ≡ p.catalogue = ap (λ s. s.catalogue) leads.0 in
-    let later = subst (λ (h : Option Holding). Plays a.host one.after.catalogue h rest (map asked (events_of id events))) (held_other id a one.what one.out (id == id_of one.what) refl ne)
+    let later = subst (λ (h : Option Holding). Plays a.host one.after.catalogue h rest (map event_asked (events_of id events))) (held_other id a one.what one.out (id == id_of one.what) refl ne)
     (plays id (state_after a one.what one.out) a' one.after p' events rest leads.2 well.1 are) in
-    let behind = plays_behind a.host one.before.catalogue (a.held id) requests rest (map asked (events_of id events))
-    (subst (λ (M : Catalogue). Plays a.host M (a.held id) rest (map asked (events_of id events))) by later) in
-    subst (λ (M : Catalogue). Plays a.host M (a.held id) turns (map asked (events_of id (one ∷ events)))) here
-    (subst (λ (t : List Observation). Plays a.host one.before.catalogue (a.held id) t (map asked (events_of id (one ∷ events)))) (sym is)
+    let behind = plays_behind a.host one.before.catalogue (a.held id) requests rest (map event_asked (events_of id events))
+    (subst (λ (M : Catalogue). Plays a.host M (a.held id) rest (map event_asked (events_of id events))) by later) in
+    subst (λ (M : Catalogue). Plays a.host M (a.held id) turns (map event_asked (events_of id (one ∷ events)))) here
+    (subst (λ (t : List Observation). Plays a.host one.before.catalogue (a.held id) t (map event_asked (events_of id (one ∷ events)))) (sym is)
     (subst (λ (q : List EventAt). Plays a.host one.before.catalogue (a.held id) (map command requests ++ rest) q) (sym (other_first id one events (id == id_of one.what) refl ne)) behind))
 
 one_play : ((host : List ℕ) (M : Catalogue) (held : Option Holding) (what : Happening) (a b : Served) → IsServed host M held what a → IsServed host M held what b → a ≡ b)
@@ -174,11 +174,11 @@ one_play one host M held (command request ∷ turns) x y plays_x plays_y = one_p
 pub same_questions : ((host : List ℕ) (M : Catalogue) (held : Option Holding) (what : Happening) (a b : Served) → IsServed host M held what a → IsServed host M held what b → a ≡ b)
     → (id : ℕ) (a b a' b' : State) (p q p' q' : Standing) (events others : List Accepted) (turns : List Observation) → Leads a p events a' p' → Leads b q others b' q'
     → a.host ≡ b.host → a.held id ≡ b.held id → p.catalogue ≡ q.catalogue → GoWell id a events → GoWell id b others → AreObservations id events turns → AreObservations id others turns
-    → map asked (events_of id events) ≡ map asked (events_of id others)
+    → map event_asked (events_of id events) ≡ map event_asked (events_of id others)
 same_questions one id a b a' b' p q p' q' events others turns leads leads' host held M well well' are are' =
-    one_play one a.host p.catalogue (a.held id) turns (map asked (events_of id events)) (map asked (events_of id others))
+    one_play one a.host p.catalogue (a.held id) turns (map event_asked (events_of id events)) (map event_asked (events_of id others))
     (plays id a a' p p' events turns leads well are)
-    (subst (λ (h : List ℕ). Plays h p.catalogue (a.held id) turns (map asked (events_of id others))) (sym host)
-    (subst (λ (o : Option Holding). Plays b.host p.catalogue o turns (map asked (events_of id others))) (sym held)
-    (subst (λ (N : Catalogue). Plays b.host N (b.held id) turns (map asked (events_of id others))) (sym M)
+    (subst (λ (h : List ℕ). Plays h p.catalogue (a.held id) turns (map event_asked (events_of id others))) (sym host)
+    (subst (λ (o : Option Holding). Plays b.host p.catalogue o turns (map event_asked (events_of id others))) (sym held)
+    (subst (λ (N : Catalogue). Plays b.host N (b.held id) turns (map event_asked (events_of id others))) (sym M)
     (plays id b b' q q' others turns leads' well' are'))))

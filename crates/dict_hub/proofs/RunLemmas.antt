@@ -5,17 +5,17 @@ use Rattle.std.proofs.lemmas.Bool.{eqb-true, eq-eqb}
 use Rattle.dict_proto.specs.Streams.{Stream, StreamChange}
 use Rattle.dict_catalogue.specs.Steps.{Catalogue}
 use Rattle.dict_desk.specs.Applying.{LeavesNoMore}
-use Rattle.dict_http.specs.Responding.{Ends, Responds}
-use Rattle.dict_http.specs.Responding.Ends.{answered, unchanged, unknown}
+use Rattle.dict_http.specs.Responding.{RespondsOrFails, Responds}
+use Rattle.dict_http.specs.Responding.RespondsOrFails.{answered, unchanged, unknown}
 use Rattle.dict_http.specs.Responding.Responds.{ended as responded, failed as unresponded}
 use Rattle.dict_http.specs.Settling.{Settled, Settles}
 use Rattle.std.proofs.lemmas.List.{length_push}
 use Rattle.dict_hub.specs.Books.{opening, is_given}
 use Rattle.dict_hub.specs.Holding.{Holding, left_by}
-use Rattle.dict_hub.specs.Given.{Greets, Stays, Gets}
-use Rattle.dict_hub.specs.Hubs.{Has, host_of, greatest_of, count_of}
+use Rattle.dict_hub.specs.Given.{Greets, CatalogueStays, Gets}
+use Rattle.dict_hub.specs.Hubs.{HasHolding, host_of, greatest_of, connection_count}
 use Rattle.dict_hub.specs.Events.{Happening, opened, came, ended, id_of, of_open, admitted, count_after, greatest_after, held_after, Serves}
-use Rattle.dict_hub.specs.Runs.{State, Standing, Accepted, state_after, IsAt, IsStep, Leads, LeadsOn}
+use Rattle.dict_hub.specs.Runs.{State, Standing, Accepted, state_after, IsAt, IsServedEvent, Leads, LeadsOn}
 use Rattle.dict_hub.specs.declared.kind.Kind.{Kind}
 use Rattle.dict_hub.specs.declared.kind.Kind.TheVariants.{Dict, Http}
 use Rattle.dict_hub.specs.declared.hub.Hub.{Hub}
@@ -41,8 +41,8 @@ record Pinned (Shows : Catalogue → Type 0) (After : List (Option Catalogue) �
   holds : P at
 
 pinned_ends : (Shows : Catalogue → Type 0) (Before After : List (Option Catalogue) → Type 0) (before : Catalogue) (l : List (Option Catalogue)) (settled : Settled) (octets : List ℕ) → Before l
-    → Ends Shows Before After before settled octets
-    → Pinned Shows After (λ at. Ends (λ M. M ≡ at.catalogue) (λ ms. ms ≡ l) (λ ms. ms ≡ at.leaves) before settled octets)
+    → RespondsOrFails Shows Before After before settled octets
+    → Pinned Shows After (λ at. RespondsOrFails (λ M. M ≡ at.catalogue) (λ ms. ms ≡ l) (λ ms. ms ≡ at.leaves) before settled octets)
 pinned_ends Shows Before After before l settled octets here (answered is shows leaves) =
     let k = pinned_leaves Before After l settled.acts settled.catalogue here leaves in
     record { at = record { catalogue = settled.catalogue; leaves = k.0 }; shows = shows; leaves = k.1; holds = answered is refl k.2 }
@@ -63,8 +63,8 @@ pinned_responds Shows Before After before l Is octets here (unresponded is shows
     record { at = record { catalogue = before; leaves = l }; shows = shows; leaves = leaves l here; holds = unresponded is refl (λ ms e. e) }
 
 pinned_stays : (Shows : Catalogue → Type 0) (Before After : List (Option Catalogue) → Type 0) (before : Catalogue) (l : List (Option Catalogue)) → Before l
-    → Stays Shows Before After before
-    → Pinned Shows After (λ at. Stays (λ M. M ≡ at.catalogue) (λ ms. ms ≡ l) (λ ms. ms ≡ at.leaves) before)
+    → CatalogueStays Shows Before After before
+    → Pinned Shows After (λ at. CatalogueStays (λ M. M ≡ at.catalogue) (λ ms. ms ≡ l) (λ ms. ms ≡ at.leaves) before)
 pinned_stays Shows Before After before l here stays = record {
   at = record { catalogue = before; leaves = l };
   shows = stays.shows;
@@ -100,22 +100,22 @@ pinned_serves host desk Shows Before After before l held (ended id) out old new 
 
 -- one more event behind others
 leads_further : (origin : State) (start : Standing) (events : List Accepted) (state : State) (stands : Standing) (one : Accepted)
-    → Leads origin start events state stands → one.before ≡ stands → IsStep state one
+    → Leads origin start events state stands → one.before ≡ stands → IsServedEvent state one
     → Leads origin start (events ++ one ∷ []) (state_after state one.what one.out) one.after
 leads_further origin start [] state stands one leads is step =
-    (is ∙ leads.1, subst (λ s. IsStep s one) leads.0 step, (ap (λ s. state_after s one.what one.out) leads.0, refl))
+    (is ∙ leads.1, subst (λ s. IsServedEvent s one) leads.0 step, (ap (λ s. state_after s one.what one.out) leads.0, refl))
 leads_further origin start (first ∷ events) state stands one leads is step =
     (leads.0, leads.1, leads_further (state_after origin first.what first.out) first.after events state stands one leads.2 is step)
 
 -- what is held of each id after an event
 held_all : (hub : Hub) (state : State) (what : Happening) (out : Out)
-    → Has hub (id_of what) (held_after (state.held (id_of what)) what out)
-    → ((other : ℕ) → other ≢ id_of what → Has hub other (state.held other))
-    → (id : ℕ) → Has hub id ((state_after state what out).held id)
+    → HasHolding hub (id_of what) (held_after (state.held (id_of what)) what out)
+    → ((other : ℕ) → other ≢ id_of what → HasHolding hub other (state.held other))
+    → (id : ℕ) → HasHolding hub id ((state_after state what out).held id)
 held_all hub state what out own others id =
-    let told : (b : Bool) → (id == id_of what) ≡ b → Has hub id (if b then held_after (state.held (id_of what)) what out else state.held id)
-    = λ b. elim b as (λ v. (id == id_of what) ≡ v → Has hub id (if v then held_after (state.held (id_of what)) what out else state.held id)) [
-      | true ↦ λ e. subst (λ (i : ℕ). Has hub i (held_after (state.held (id_of what)) what out)) (sym (eqb-true _ _ e)) own
+    let told : (b : Bool) → (id == id_of what) ≡ b → HasHolding hub id (if b then held_after (state.held (id_of what)) what out else state.held id)
+    = λ b. elim b as (λ v. (id == id_of what) ≡ v → HasHolding hub id (if v then held_after (state.held (id_of what)) what out else state.held id)) [
+      | true ↦ λ e. subst (λ (i : ℕ). HasHolding hub i (held_after (state.held (id_of what)) what out)) (sym (eqb-true _ _ e)) own
       | false ↦ λ e. others id (λ same. let t = eq-eqb id (id_of what) same in cc (t, e))
     ] in
     told (id == id_of what) refl
@@ -129,13 +129,13 @@ passes_unless (Err fault) out never = let e = never fault refl in cc e
 pub leads_on : (Shows : Catalogue → Type 0) (Before After : List (Option Catalogue) → Type 0) (origin : State) (start : Standing) (events : List Accepted) (state : State) (stands : Standing)
     (what : Happening) (desk : Condition) (put : StreamChange) (old hub : Hub) (result : Result Out HubFault)
     → Leads origin start events state stands → IsAt old state → Before stands.leaves
-    → ((held : Option Holding) → Has old (id_of what) held → IfOk result (λ out. Serves (host_of old) desk Shows Before After stands.catalogue held what out put.old put.new))
-    → ((held : Option Holding) → Has old (id_of what) held → IfOk result (λ out. Has hub (id_of what) (held_after held what out)))
-    → OnOk result ((other : ℕ) (held : Option Holding) → other ≢ id_of what → Has old other held → Has hub other held)
+    → ((held : Option Holding) → HasHolding old (id_of what) held → IfOk result (λ out. Serves (host_of old) desk Shows Before After stands.catalogue held what out put.old put.new))
+    → ((held : Option Holding) → HasHolding old (id_of what) held → IfOk result (λ out. HasHolding hub (id_of what) (held_after held what out)))
+    → OnOk result ((other : ℕ) (held : Option Holding) → other ≢ id_of what → HasHolding old other held → HasHolding hub other held)
     → OnOk result (greatest_of hub ≡ greatest_after (greatest_of old) what)
     → host_of hub ≡ host_of old
-    → ((held : Option Holding) → Has old (id_of what) held → (fault : HubFault) → admitted held (greatest_of old) (count_of old) what ≡ Err fault → result ≡ Err fault)
-    → ((held : Option Holding) → Has old (id_of what) held → IfOk result (λ out. count_of hub ≡ count_after (count_of old) held (held_after held what out)))
+    → ((held : Option Holding) → HasHolding old (id_of what) held → (fault : HubFault) → admitted held (greatest_of old) (connection_count old) what ≡ Err fault → result ≡ Err fault)
+    → ((held : Option Holding) → HasHolding old (id_of what) held → IfOk result (λ out. connection_count hub ≡ count_after (connection_count old) held (held_after held what out)))
     → IfOk result (λ out. LeadsOn Shows After origin start events state stands what out desk put hub)
 leads_on Shows Before After origin start events state stands what desk put old hub (Err fault) leads at here serves own others greatest host refused count = tt
 leads_on Shows Before After origin start events state stands what desk put old hub (Ok out) leads at here serves own others greatest host refused count =
@@ -143,7 +143,7 @@ leads_on Shows Before After origin start events state stands what desk put old h
     let there = at.held (id_of what) in
     let served = subst (λ (h : List ℕ). Serves h desk Shows Before After stands.catalogue held what out put.old put.new) at.host (serves held there) in
     let p = pinned_serves state.host desk Shows Before After stands.catalogue stands.leaves held what out put.old put.new here served in
-    let passed : admitted held (greatest_of old) (count_of old) what ≡ Ok tt = passes_unless (admitted held (greatest_of old) (count_of old) what) out (refused held there) in
+    let passed : admitted held (greatest_of old) (connection_count old) what ≡ Ok tt = passes_unless (admitted held (greatest_of old) (connection_count old) what) out (refused held there) in
     let passes : admitted held state.greatest state.count what ≡ Ok tt
     = subst (λ (g : Option ℕ). admitted held g state.count what ≡ Ok tt) at.greatest (subst (λ (n : ℕ). admitted held (greatest_of old) n what ≡ Ok tt) at.count passed) in
     record {
@@ -161,14 +161,14 @@ leads_on Shows Before After origin start events state stands what desk put old h
 
 -- an opening is served by its greeting
 pub serves_opened : (host : List ℕ) (desk : Condition) (Shows : Catalogue → Type 0) (Before After : List (Option Catalogue) → Type 0) (before : Catalogue) (held : Option Holding) (id : ℕ) (kind : Kind) (old new : Stream) (result : Result Out HubFault)
-    → Stays Shows Before After before → IfOk result (λ out. Greets host id kind out old new)
+    → CatalogueStays Shows Before After before → IfOk result (λ out. Greets host id kind out old new)
     → IfOk result (λ out. Serves host desk Shows Before After before held (opened id kind) out old new)
 serves_opened host desk Shows Before After before held id kind old new (Ok out) stays greets = (greets, stays)
 serves_opened host desk Shows Before After before held id kind old new (Err fault) stays greets = tt
 
 -- an end is served by nothing
 pub serves_ended : (host : List ℕ) (desk : Condition) (Shows : Catalogue → Type 0) (Before After : List (Option Catalogue) → Type 0) (before : Catalogue) (held : Option Holding) (id : ℕ) (stream : Stream) (fault : HubFault) (result : Result Out HubFault)
-    → Stays Shows Before After before → (held ≡ None → result ≡ Err fault) → ((one : Holding) → held ≡ Some one → result ≡ Ok More)
+    → CatalogueStays Shows Before After before → (held ≡ None → result ≡ Err fault) → ((one : Holding) → held ≡ Some one → result ≡ Ok More)
     → IfOk result (λ out. Serves host desk Shows Before After before held (ended id) out stream stream)
 serves_ended host desk Shows Before After before None id stream fault result stays absent known =
     subst (λ r. IfOk r (λ out. Serves host desk Shows Before After before None (ended id) out stream stream)) (sym (absent refl)) tt
@@ -177,9 +177,9 @@ serves_ended host desk Shows Before After before (Some one) id stream fault resu
     (record { no_close = refl; nothing = refl; stays = stays })
 
 pub own_ended : (hub : Hub) (held : Option Holding) (id : ℕ) (fault : HubFault) (result : Result Out HubFault)
-    → (held ≡ None → result ≡ Err fault) → ((one : Holding) → held ≡ Some one → Has hub id None)
-    → IfOk result (λ out. Has hub id (held_after held (ended id) out))
-own_ended hub None id fault result absent known = subst (λ r. IfOk r (λ out. Has hub id (held_after None (ended id) out))) (sym (absent refl)) tt
+    → (held ≡ None → result ≡ Err fault) → ((one : Holding) → held ≡ Some one → HasHolding hub id None)
+    → IfOk result (λ out. HasHolding hub id (held_after held (ended id) out))
+own_ended hub None id fault result absent known = subst (λ r. IfOk r (λ out. HasHolding hub id (held_after None (ended id) out))) (sym (absent refl)) tt
 own_ended hub (Some one) id fault (Ok out) absent known = known one refl
 own_ended hub (Some one) id fault (Err other) absent known = tt
 
@@ -206,13 +206,13 @@ count_ended before now (Some one) (Ok out) absent count id = count
 count_ended before now (Some one) (Err fault) absent count id = tt
 
 -- an opening that is accepted is of an id that stood nowhere
-pub count_opened : (hub : Hub) (now : ℕ) (id : ℕ) (kind : Kind) (held : Option Holding) (result : Result Out HubFault) → All (λ one. is_given hub.book.greatest one ≡ true) hub.book.ids.items → Has hub id held
-    → ((fault : HubFault) → opening id (greatest_of hub) (count_of hub) ≡ Err fault → result ≡ Err fault)
-    → IfOk result (λ out. now ≡ count_after (count_of hub) None (left_by kind [] out)) → IfOk result (λ out. now ≡ count_after (count_of hub) held (left_by kind [] out))
+pub count_opened : (hub : Hub) (now : ℕ) (id : ℕ) (kind : Kind) (held : Option Holding) (result : Result Out HubFault) → All (λ one. is_given hub.book.greatest one ≡ true) hub.book.ids.items → HasHolding hub id held
+    → ((fault : HubFault) → opening id (greatest_of hub) (connection_count hub) ≡ Err fault → result ≡ Err fault)
+    → IfOk result (λ out. now ≡ count_after (connection_count hub) None (left_by kind [] out)) → IfOk result (λ out. now ≡ count_after (connection_count hub) held (left_by kind [] out))
 count_opened hub now id kind held (Err fault) given has tests count = tt
 count_opened hub now id kind None (Ok out) given has tests count = count
 count_opened hub now id kind (Some one) (Ok out) given has tests count =
-    absurd (new_absent hub.book.ids.items id hub.book.greatest (count_of hub) (passes_unless (opening id (greatest_of hub) (count_of hub)) out tests) given has.place has.within has.is)
+    absurd (new_absent hub.book.ids.items id hub.book.greatest (connection_count hub) (passes_unless (opening id (greatest_of hub) (connection_count hub)) out tests) given has.place has.within has.is)
 
 -- how many are open once one was greeted, and is kept or only its id is given
 pub count_kept : (ids ids' : List ℕ) (id : ℕ) (kind : Kind) (out : Out) (P Q : Type 0) → (out ≡ More → (ids' ≡ ids ++ id ∷ []) × P) → (out ≡ Close → (ids' ≡ ids) × Q)

@@ -19,7 +19,7 @@ pub record Awaits (octets held : List ℕ) (old new : Stream) : Type 0 where
 
 -- The octets that have come need no more. They are answered over this catalogue, and the answer is put, or where the sink failed a
 -- front of it.
-pub record Answers (Shows : Catalogue → Type 0) (Before After : List (Option Catalogue) → Type 0) (before : Catalogue) (octets : List ℕ) (old new : Stream) : Type 0 where
+pub record AnswersRequest (Shows : Catalogue → Type 0) (Before After : List (Option Catalogue) → Type 0) (before : Catalogue) (octets : List ℕ) (old new : Stream) : Type 0 where
   pub whole : Needs octets NeedsMore → ⊥
   pub answer : List ℕ
   pub responds : Responds Shows Before After before (Settles before octets) answer

@@ -23,8 +23,8 @@ is_given None id = false
 is_given (Some greatest) id = nat_le id greatest
 
 -- the place of an open connection
-abbrev pub place_of : ℕ → List ℕ → Option ℕ
-place_of id ids = position (λ one. one == id) ids
+abbrev pub place_of_connection : ℕ → List ℕ → Option ℕ
+place_of_connection id ids = position (λ one. one == id) ids
 
 abbrev pub hub_fault_number : HubFault → ℕ
 hub_fault_number UnknownConnection = 50

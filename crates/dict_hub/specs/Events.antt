@@ -5,7 +5,7 @@ use Rattle.dict_catalogue.specs.Steps.{Catalogue}
 use Rattle.dict_session.specs.Desks.{Condition}
 use Rattle.dict_hub.specs.Books.{opening}
 use Rattle.dict_hub.specs.Holding.{Holding, left_by}
-use Rattle.dict_hub.specs.Given.{Greets, Gets, GetsThrough, LookNothingUp, Stays}
+use Rattle.dict_hub.specs.Given.{Greets, Gets, GetsThrough, LookNothingUp, CatalogueStays}
 use Rattle.dict_hub.specs.declared.kind.Kind.{Kind}
 use Rattle.dict_hub.specs.declared.kind.Kind.TheVariants.{Dict, Http}
 use Rattle.dict_hub.specs.declared.fault.HubFault.{HubFault}
@@ -95,16 +95,16 @@ ServesPiece host desk Shows Before After before None piece out old new = ⊥
 ServesPiece host desk Shows Before After before (Some held) piece out old new = Gets host desk Shows Before After before held.kind (held.octets ++ piece) out old new
 
 -- an end puts nothing, and nothing is to be closed
-pub record Ends (Shows : Catalogue → Type 0) (Before After : List (Option Catalogue) → Type 0) (before : Catalogue) (out : Out) (old new : Stream) : Type 0 where
+pub record ServesEnd (Shows : Catalogue → Type 0) (Before After : List (Option Catalogue) → Type 0) (before : Catalogue) (out : Out) (old new : Stream) : Type 0 where
   pub no_close : out ≡ More
   pub nothing : new ≡ old
-  pub stays : Stays Shows Before After before
+  pub stays : CatalogueStays Shows Before After before
 
 -- what the event puts on its connection, and what it leaves of the catalogue
 abbrev pub Serves : List ℕ → Condition → (Catalogue → Type 0) → (List (Option Catalogue) → Type 0) → (List (Option Catalogue) → Type 0) → Catalogue → Option Holding → Happening → Out → Stream → Stream → Type 0
-Serves host desk Shows Before After before held (opened id kind) out old new = Greets host id kind out old new × Stays Shows Before After before
+Serves host desk Shows Before After before held (opened id kind) out old new = Greets host id kind out old new × CatalogueStays Shows Before After before
 Serves host desk Shows Before After before held (came id piece) out old new = ServesPiece host desk Shows Before After before held piece out old new
-Serves host desk Shows Before After before held (ended id) out old new = Ends Shows Before After before out old new
+Serves host desk Shows Before After before held (ended id) out old new = ServesEnd Shows Before After before out old new
 
 -- what octets that came put, by how the desk stood before each line
 abbrev pub ServesPieceThrough : List ℕ → Catalogue → Bool → Condition → Option Holding → List ℕ → Out → Stream → Stream → Type 0

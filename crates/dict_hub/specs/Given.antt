@@ -13,7 +13,7 @@ use Rattle.dict_session.specs.Answers.{answer_to}
 use Rattle.dict_session.specs.Spoken.{Speaks, BreaksOff}
 use Rattle.dict_session.specs.Desks.{Condition}
 use Rattle.dict_session.specs.Through.{SpeaksThrough, BreaksThrough, looks_up}
-use Rattle.dict_hub.specs.Asking.{Answers}
+use Rattle.dict_hub.specs.Asking.{AnswersRequest}
 use Rattle.dict_hub.specs.declared.kind.Kind.{Kind}
 use Rattle.dict_hub.specs.declared.kind.Kind.TheVariants.{Dict, Http}
 use Rattle.dict_hub.specs.declared.incoming.Out.{Out}
@@ -35,20 +35,20 @@ Replies answer desk lines Close old new = ((octets : List ℕ) × Speaks answer 
     ⊎ ((desk.failed ≡ true) × ((octets : List ℕ) × BreaksOff answer desk.closed lines octets × PutsAll old new octets)))
 
 -- the catalogue stays, and nothing new may be left by a stop
-pub record Stays (Shows : Catalogue → Type 0) (Before After : List (Option Catalogue) → Type 0) (before : Catalogue) : Type 0 where
+pub record CatalogueStays (Shows : Catalogue → Type 0) (Before After : List (Option Catalogue) → Type 0) (before : Catalogue) : Type 0 where
   pub shows : Shows before
   pub leaves : LeavesNoMore Before After
 
 -- an editor's octets are no whole request yet, and nothing is put; or they are answered, and the connection is closed
-abbrev pub Asks : (Catalogue → Type 0) → (List (Option Catalogue) → Type 0) → (List (Option Catalogue) → Type 0) → Catalogue → List ℕ → Out → Stream → Stream → Type 0
-Asks Shows Before After before octets More old new = Needs octets NeedsMore × (new ≡ old) × Stays Shows Before After before
-Asks Shows Before After before octets Close old new = Answers Shows Before After before octets old new
+abbrev pub AnswersEditor : (Catalogue → Type 0) → (List (Option Catalogue) → Type 0) → (List (Option Catalogue) → Type 0) → Catalogue → List ℕ → Out → Stream → Stream → Type 0
+AnswersEditor Shows Before After before octets More old new = Needs octets NeedsMore × (new ≡ old) × CatalogueStays Shows Before After before
+AnswersEditor Shows Before After before octets Close old new = AnswersRequest Shows Before After before octets old new
 
 -- these octets have come on a connection of this kind
 abbrev pub Gets : List ℕ → Condition → (Catalogue → Type 0) → (List (Option Catalogue) → Type 0) → (List (Option Catalogue) → Type 0) → Catalogue → Kind → List ℕ → Out → Stream → Stream → Type 0
 Gets host desk Shows Before After before Dict octets out old new =
-    Replies (answer_to before host) desk (cut octets).lines out old new × Stays Shows Before After before
-Gets host desk Shows Before After before Http octets out old new = Asks Shows Before After before octets out old new
+    Replies (answer_to before host) desk (cut octets).lines out old new × CatalogueStays Shows Before After before
+Gets host desk Shows Before After before Http octets out old new = AnswersEditor Shows Before After before octets out old new
 
 -- the same of these lines of a reader's by how the desk stood before each: it was closed, or not, before the first as `before` tells, and
 -- where nothing is looked up for a line it stands behind it as before

@@ -1,6 +1,6 @@
 -- What the hub keeps of one connection.
 use Rattle.std.specs.Prelude.{◌≡◌, ℕ, List, Option, Some, None}
-use Rattle.dict_session.specs.Session.{HasUnfinished, step_of, host_of, connection_of}
+use Rattle.dict_session.specs.Session.{HasUnfinished, step_of, session_host, connection_of}
 use Rattle.dict_session.specs.declared.session.Session.{Session}
 use Rattle.dict_session.specs.declared.step.Step.TheVariants as steps
 use Rattle.dict_hub.specs.Asking.{IsAwaitedIn}
@@ -15,7 +15,7 @@ pub record IsReader (host : List ℕ) (id : ℕ) (session : Session) (held : Hol
   pub kind : held.kind ≡ Dict
   pub goes_on : step_of session ≡ steps.More
   pub unfinished : HasUnfinished session held.octets
-  pub same_host : host_of session ≡ host
+  pub same_host : session_host session ≡ host
   pub number : connection_of session ≡ id
 
 -- the octets of a request that have come, and how many are awaited
@@ -24,11 +24,11 @@ pub record IsEditor (incoming : Incoming) (held : Holding) : Type 0 where
   pub octets_held : incoming.octets.items ≡ held.octets
   pub awaited : IsAwaitedIn incoming.octets.items incoming.awaited
 
-abbrev pub Holds : List ℕ → ℕ → Exchange → Holding → Type 0
-Holds host id (Reader session) held = IsReader host id session held
-Holds host id (Editor incoming) held = IsEditor incoming held
+abbrev pub HoldsExchange : List ℕ → ℕ → Exchange → Holding → Type 0
+HoldsExchange host id (Reader session) held = IsReader host id session held
+HoldsExchange host id (Editor incoming) held = IsEditor incoming held
 
 -- it holds this where it is still open
-abbrev pub IsLeft : List ℕ → ℕ → Exchange → Option Holding → Type 0
-IsLeft host id line None = Unit {0}
-IsLeft host id line (Some held) = Holds host id line held
+abbrev pub HoldsIfOpen : List ℕ → ℕ → Exchange → Option Holding → Type 0
+HoldsIfOpen host id line None = Unit {0}
+HoldsIfOpen host id line (Some held) = HoldsExchange host id line held

@@ -6,7 +6,7 @@ use Rattle.dict_session.specs.Desks.{Condition}
 use Rattle.dict_hub.specs.Holding.{Holding}
 use Rattle.dict_hub.specs.Events.{Happening, id_of, admitted, count_after, greatest_after, held_after, Serves}
 use Rattle.dict_hub.specs.Undisturbed.{IsServed, IsDisturbed}
-use Rattle.dict_hub.specs.Hubs.{Has, host_of, greatest_of, count_of}
+use Rattle.dict_hub.specs.Hubs.{HasHolding, host_of, greatest_of, connection_count}
 use Rattle.dict_hub.specs.declared.incoming.Out.{Out}
 use Rattle.dict_hub.specs.declared.hub.Hub.{Hub}
 
@@ -34,8 +34,8 @@ state_after state what out = record {
 pub record IsAt (hub : Hub) (state : State) : Type 0 where
   pub host : host_of hub ≡ state.host
   pub greatest : greatest_of hub ≡ state.greatest
-  pub count : count_of hub ≡ state.count
-  pub held : (id : ℕ) → Has hub id (state.held id)
+  pub count : connection_count hub ≡ state.count
+  pub held : (id : ℕ) → HasHolding hub id (state.held id)
 
 -- the catalogue that a desk shows, and a list of which a stop may leave one
 pub record Standing : Type 0 where
@@ -53,7 +53,7 @@ pub record Accepted : Type 0 where
   pub after : Standing
 
 -- at this state the event is admitted, and served so
-pub record IsStep (state : State) (one : Accepted) : Type 0 where
+pub record IsServedEvent (state : State) (one : Accepted) : Type 0 where
   pub passes : admitted (state.held (id_of one.what)) state.greatest state.count one.what ≡ Ok tt
   pub serves : Serves state.host one.desk (λ M. M ≡ one.after.catalogue) (λ ms. ms ≡ one.before.leaves) (λ ms. ms ≡ one.after.leaves)
       one.before.catalogue (state.held (id_of one.what)) one.what one.out one.put.old one.put.new
@@ -62,7 +62,7 @@ pub record IsStep (state : State) (one : Accepted) : Type 0 where
 abbrev pub Leads : State → Standing → List Accepted → State → Standing → Type 0
 Leads state stands [] end ends = (end ≡ state) × (ends ≡ stands)
 Leads state stands (one ∷ events) end ends =
-    (one.before ≡ stands) × IsStep state one × Leads (state_after state one.what one.out) one.after events end ends
+    (one.before ≡ stands) × IsServedEvent state one × Leads (state_after state one.what one.out) one.after events end ends
 
 -- The events lead to `state` and `stands`, and with this one on to where the hub and its desk are now
 pub record LeadsOn (Shows : Catalogue → Type 0) (Leaves : List (Option Catalogue) → Type 0) (origin : State) (start : Standing) (events : List Accepted)
@@ -97,8 +97,8 @@ pub record EventAt : Type 0 where
   pub what : Happening
   pub catalogue : Catalogue
 
-abbrev pub asked : Accepted → EventAt
-asked one = record { what = one.what; catalogue = one.before.catalogue }
+abbrev pub event_asked : Accepted → EventAt
+event_asked one = record { what = one.what; catalogue = one.before.catalogue }
 
 -- one by one the events were answered alike, put the same octets, and left the same catalogue
 abbrev pub GotSame : List Accepted → List Accepted → Type 0

@@ -1,7 +1,7 @@
 // Which connections are open.
 ghost use Rattle.std.specs.Prelude.{◌≡◌, ◌<◌, ◌≤◌, ◌+◌, ◌++◌, [], ◌∷◌, true, None, Some, Ok, All, IfOk, IfSome, OnOk, OnErr, length, vec_len, vec_capacity, remove};
 ghost use Rattle.std.specs.List.{AllPairs};
-ghost use Rattle.dict_hub.specs.Books.{is_given, opening, place_of};
+ghost use Rattle.dict_hub.specs.Books.{is_given, opening, place_of_connection};
 
 use crate::fault::HubFault;
 use std::alloc::{AllocError, Global};
@@ -79,7 +79,7 @@ impl ConnectionTable {
 
     /// The place of an open connection, from 0.
     pub fn place_of(&self, id: u64) -> Option<usize>
-        ensures value { result ≡ place_of id self.now.ids.items }
+        ensures value { result ≡ place_of_connection id self.now.ids.items }
         ensures within { IfSome result (λ place. place < vec_len self.now.ids) }
     {
         self.ids.iter().position(|one| *one == id)

@@ -38,7 +38,7 @@ fn out_of(step: Step) -> Out
 }
 
 impl<'h> Exchange<'h> {
-    ghost use Rattle.dict_hub.specs.Lines.{Holds, IsLeft};
+    ghost use Rattle.dict_hub.specs.Lines.{HoldsExchange, HoldsIfOpen};
 
     /// A connection of this id on which nothing has come.
     pub fn new(
@@ -47,7 +47,7 @@ impl<'h> Exchange<'h> {
         id: u64,
         kind: Kind,
     ) -> Result<Exchange<'h>, AllocError>
-        ensures { IfOk result (λ line. Holds host.now id line (just_opened kind)) }
+        ensures { IfOk result (λ line. HoldsExchange host.now id line (just_opened kind)) }
     {
         match kind {
             Kind::Dict => Ok(Exchange::Reader(Session::new(alloc, host, id)?)),
@@ -57,9 +57,9 @@ impl<'h> Exchange<'h> {
 
     /// Greets a reader.
     pub fn greet<S: Sink>(&mut self, sink: &mut S) -> Out
-        ensures greets { (host : List ℕ) (id : ℕ) (held : Holding) → Holds host id self.old held
+        ensures greets { (host : List ℕ) (id : ℕ) (held : Holding) → HoldsExchange host id self.old held
             → Greets host id held.kind result (S.stream sink.old) (S.stream sink.new) }
-        ensures holds { (host : List ℕ) (id : ℕ) (held : Holding) → Holds host id self.old held → result ≡ outs.More → Holds host id self.new held }
+        ensures holds { (host : List ℕ) (id : ℕ) (held : Holding) → HoldsExchange host id self.old held → result ≡ outs.More → HoldsExchange host id self.new held }
     {
         match self {
             Exchange::Reader(session) => out_of(session.greet(sink)),
@@ -76,19 +76,19 @@ impl<'h> Exchange<'h> {
         desk: &mut K,
         sink: &mut S,
     ) -> Result<Out, HubFault>
-        ensures gets { K.is_trusted desk.new → (M : Catalogue) → K.shows desk.old M → (host : List ℕ) (id : ℕ) (held : Holding) → Holds host id self.old held
+        ensures gets { K.is_trusted desk.new → (M : Catalogue) → K.shows desk.old M → (host : List ℕ) (id : ℕ) (held : Holding) → HoldsExchange host id self.old held
             → IfOk result (λ out. Gets host (condition K.has_failed K.is_closed desk.new) (K.shows desk.new) (K.leaves_one_of desk.old) (K.leaves_one_of desk.new) M held.kind (held.octets ++ piece.now) out (S.stream sink.old) (S.stream sink.new)) }
-        ensures through { K.is_trusted desk.new → (M : Catalogue) → K.shows desk.old M → (host : List ℕ) (id : ℕ) (held : Holding) → Holds host id self.old held
+        ensures through { K.is_trusted desk.new → (M : Catalogue) → K.shows desk.old M → (host : List ℕ) (id : ℕ) (held : Holding) → HoldsExchange host id self.old held
             → IfOk result (λ out. GetsThrough host M (K.is_closed desk.old) (condition K.has_failed K.is_closed desk.new) held.kind (held.octets ++ piece.now) out (S.stream sink.old) (S.stream sink.new)) }
-        ensures quiet { K.is_trusted desk.new → (M : Catalogue) → K.shows desk.old M → (host : List ℕ) (id : ℕ) (held : Holding) → Holds host id self.old held
+        ensures quiet { K.is_trusted desk.new → (M : Catalogue) → K.shows desk.old M → (host : List ℕ) (id : ℕ) (held : Holding) → HoldsExchange host id self.old held
             → LookNothingUp M held.kind (held.octets ++ piece.now) → desk.new ≡ desk.old }
-        ensures left { K.is_trusted desk.new → (M : Catalogue) → K.shows desk.old M → (host : List ℕ) (id : ℕ) (held : Holding) → Holds host id self.old held
-            → IfOk result (λ out. IsLeft host id self.new (left_by held.kind (held.octets ++ piece.now) out)) }
+        ensures left { K.is_trusted desk.new → (M : Catalogue) → K.shows desk.old M → (host : List ℕ) (id : ℕ) (held : Holding) → HoldsExchange host id self.old held
+            → IfOk result (λ out. HoldsIfOpen host id self.new (left_by held.kind (held.octets ++ piece.now) out)) }
         ensures trust { K.is_trusted desk.new → K.is_trusted desk.old }
         ensures closed { K.is_closed desk.old ≡ true → K.is_closed desk.new ≡ true }
         ensures memory { IfErr result (λ fault. fault ≡ Memory) }
-        ensures editor { (host : List ℕ) (id : ℕ) (held : Holding) → Holds host id self.old held → IfErr result (λ fault. held.kind ≡ Http) }
-        ensures held { OnErr result ((host : List ℕ) (id : ℕ) (held : Holding) → Holds host id self.old held → Holds host id self.new held) }
+        ensures editor { (host : List ℕ) (id : ℕ) (held : Holding) → HoldsExchange host id self.old held → IfErr result (λ fault. held.kind ≡ Http) }
+        ensures held { OnErr result ((host : List ℕ) (id : ℕ) (held : Holding) → HoldsExchange host id self.old held → HoldsExchange host id self.new held) }
         ensures desk { OnErr result (desk.new ≡ desk.old) }
         ensures sink { OnErr result (sink.new ≡ sink.old) }
     {
@@ -107,9 +107,9 @@ impl<'h> Exchange<'h> {
         piece: &[u8],
         desk: &mut K,
     ) -> bool
-        ensures holds { (host : List ℕ) (id : ℕ) (held : Holding) → Holds host id self.old held → Holds host id self.new held }
-        ensures foreseen { result ≡ true → (host : List ℕ) (id : ℕ) (held : Holding) → Holds host id self.old held → IsForeseen K.expects AsksForChange held piece.now desk.new }
-        ensures anew { result ≡ true → K.is_trusted desk.new → (M : Catalogue) → K.shows desk.old M → (host : List ℕ) (id : ℕ) (held : Holding) → Holds host id self.old held → IsForeseen K.expects (AsksAnewForChange M) held piece.now desk.new }
+        ensures holds { (host : List ℕ) (id : ℕ) (held : Holding) → HoldsExchange host id self.old held → HoldsExchange host id self.new held }
+        ensures foreseen { result ≡ true → (host : List ℕ) (id : ℕ) (held : Holding) → HoldsExchange host id self.old held → IsForeseen K.expects AsksForChange held piece.now desk.new }
+        ensures anew { result ≡ true → K.is_trusted desk.new → (M : Catalogue) → K.shows desk.old M → (host : List ℕ) (id : ℕ) (held : Holding) → HoldsExchange host id self.old held → IsForeseen K.expects (AsksAnewForChange M) held piece.now desk.new }
         ensures trust { K.is_trusted desk.new → K.is_trusted desk.old }
         ensures closed { K.is_closed desk.old ≡ true → K.is_closed desk.new ≡ true }
         ensures shows { K.is_trusted desk.new → (M : Catalogue) → K.shows desk.old M → K.shows desk.new M }
@@ -124,9 +124,9 @@ impl<'h> Exchange<'h> {
     /// Whether this piece makes an editor's request whole that changes the catalogue. Nothing of what is held changes.
     pub fn asks_change(&mut self, service: &Service, piece: &[u8]) -> bool
         requires { length piece.now ≤ 4096 }
-        ensures holds { (host : List ℕ) (id : ℕ) (held : Holding) → Holds host id self.old held → Holds host id self.new held }
-        ensures yes { result ≡ true → (host : List ℕ) (id : ℕ) (held : Holding) → Holds host id self.old held → MakesCommand held piece.now }
-        ensures no { result ≡ false → (host : List ℕ) (id : ℕ) (held : Holding) → Holds host id self.old held → ¬ MakesCommand held piece.now }
+        ensures holds { (host : List ℕ) (id : ℕ) (held : Holding) → HoldsExchange host id self.old held → HoldsExchange host id self.new held }
+        ensures yes { result ≡ true → (host : List ℕ) (id : ℕ) (held : Holding) → HoldsExchange host id self.old held → MakesCommand held piece.now }
+        ensures no { result ≡ false → (host : List ℕ) (id : ℕ) (held : Holding) → HoldsExchange host id self.old held → ¬ MakesCommand held piece.now }
     {
         match self {
             Exchange::Reader(..) => false,

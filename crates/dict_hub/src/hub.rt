@@ -2,7 +2,7 @@
 ghost use Rattle.std.specs.Prelude.{◌≡◌, ◌≢◌, ◌-◌, ◌++◌, ◌<◌, ◌≤◌, ℕ, length, List, Option, [], ◌∷◌, true, false, None, Some, Ok, Err, IfOk, IfErr, OnOk, OnErr, vec_len, vec_capacity, remove};
 ghost use Rattle.dict_catalogue.specs.Steps.{Catalogue};
 ghost use Rattle.dict_session.specs.Desks.{condition};
-ghost use Rattle.dict_hub.specs.Books.{IsRefusal, opening, place_of};
+ghost use Rattle.dict_hub.specs.Books.{IsRefusal, opening, place_of_connection};
 ghost use Rattle.dict_hub.specs.Holding.{Holding, left_by};
 ghost use Rattle.dict_http.specs.Foreseeing.{AsksAnewForChange, AsksForChange};
 ghost use Rattle.dict_hub.specs.Foreseen.{AreForeseen, MakeCommand};
@@ -58,14 +58,14 @@ impl<'h> Drop for Hub<'h> {
 }
 
 impl<'h> Hub<'h> {
-    ghost use Rattle.dict_hub.specs.Hubs.{Has, host_of, greatest_of, count_of};
+    ghost use Rattle.dict_hub.specs.Hubs.{HasHolding, host_of, greatest_of, connection_count};
     ghost use Rattle.dict_hub.specs.Events.{opened, happening, id_of, admitted, asks_desk, takes_memory, count_after, greatest_after, held_after, Serves, ServesThrough, IsQuiet};
     ghost use Rattle.dict_hub.specs.Runs.{State, Standing, Accepted, IsAt, Leads, LeadsOn, beginning};
     ghost use Rattle.dict_proto.specs.Streams.{change};
 
     /// No connection is open, and no id was given.
     pub fn new(alloc: Global, host: &'h str) -> Result<Hub<'h>, AllocError>
-        ensures none { IfOk result (λ hub. (id : ℕ) → Has hub id None) }
+        ensures none { IfOk result (λ hub. (id : ℕ) → HasHolding hub id None) }
         ensures greatest { IfOk result (λ hub. greatest_of hub ≡ None) }
         ensures host { IfOk result (λ hub. host_of hub ≡ host.now) }
         ensures beginning { IfOk result (λ hub. IsAt hub (beginning host.now)) }
@@ -89,29 +89,29 @@ impl<'h> Hub<'h> {
         event: Event,
         sink: &mut S,
     ) -> Result<Out, HubFault>
-        ensures refused { (held : Option Holding) → Has self.old (id_of (happening event.entry)) held → (fault : HubFault)
-            → admitted held (greatest_of self.old) (count_of self.old) (happening event.entry) ≡ Err fault → result ≡ Err fault }
-        ensures memory { (held : Option Holding) → Has self.old (id_of (happening event.entry)) held
-            → admitted held (greatest_of self.old) (count_of self.old) (happening event.entry) ≡ Ok tt → IfErr result (λ fault. (fault ≡ Memory) × (takes_memory held (happening event.entry) ≡ true)) }
-        ensures opening { (id : ℕ) (kind : Kind) → happening event.entry ≡ opened id kind → IfErr result (λ fault. IsRefusal (opening id (greatest_of self.old) (count_of self.old)) fault) }
-        ensures serves { K.is_trusted desk.new → (M : Catalogue) → K.shows desk.old M → (held : Option Holding) → Has self.old (id_of (happening event.entry)) held
+        ensures refused { (held : Option Holding) → HasHolding self.old (id_of (happening event.entry)) held → (fault : HubFault)
+            → admitted held (greatest_of self.old) (connection_count self.old) (happening event.entry) ≡ Err fault → result ≡ Err fault }
+        ensures memory { (held : Option Holding) → HasHolding self.old (id_of (happening event.entry)) held
+            → admitted held (greatest_of self.old) (connection_count self.old) (happening event.entry) ≡ Ok tt → IfErr result (λ fault. (fault ≡ Memory) × (takes_memory held (happening event.entry) ≡ true)) }
+        ensures opening { (id : ℕ) (kind : Kind) → happening event.entry ≡ opened id kind → IfErr result (λ fault. IsRefusal (opening id (greatest_of self.old) (connection_count self.old)) fault) }
+        ensures serves { K.is_trusted desk.new → (M : Catalogue) → K.shows desk.old M → (held : Option Holding) → HasHolding self.old (id_of (happening event.entry)) held
             → IfOk result (λ out. Serves (host_of self.old) (condition K.has_failed K.is_closed desk.new) (K.shows desk.new) (K.leaves_one_of desk.old) (K.leaves_one_of desk.new) M held (happening event.entry) out (S.stream sink.old) (S.stream sink.new)) }
-        ensures through { K.is_trusted desk.new → (M : Catalogue) → K.shows desk.old M → (held : Option Holding) → Has self.old (id_of (happening event.entry)) held
+        ensures through { K.is_trusted desk.new → (M : Catalogue) → K.shows desk.old M → (held : Option Holding) → HasHolding self.old (id_of (happening event.entry)) held
             → IfOk result (λ out. ServesThrough (host_of self.old) M (K.is_closed desk.old) (condition K.has_failed K.is_closed desk.new) held (happening event.entry) out (S.stream sink.old) (S.stream sink.new)) }
-        ensures quiet { K.is_trusted desk.new → (M : Catalogue) → K.shows desk.old M → (held : Option Holding) → Has self.old (id_of (happening event.entry)) held
+        ensures quiet { K.is_trusted desk.new → (M : Catalogue) → K.shows desk.old M → (held : Option Holding) → HasHolding self.old (id_of (happening event.entry)) held
             → IsQuiet M held (happening event.entry) → desk.new ≡ desk.old }
-        ensures own { K.is_trusted desk.new → (M : Catalogue) → K.shows desk.old M → (held : Option Holding) → Has self.old (id_of (happening event.entry)) held
-            → IfOk result (λ out. Has self.new (id_of (happening event.entry)) (held_after held (happening event.entry) out)) }
-        ensures others { (other : ℕ) (held : Option Holding) → other ≢ id_of (happening event.entry) → Has self.old other held → Has self.new other held }
+        ensures own { K.is_trusted desk.new → (M : Catalogue) → K.shows desk.old M → (held : Option Holding) → HasHolding self.old (id_of (happening event.entry)) held
+            → IfOk result (λ out. HasHolding self.new (id_of (happening event.entry)) (held_after held (happening event.entry) out)) }
+        ensures others { (other : ℕ) (held : Option Holding) → other ≢ id_of (happening event.entry) → HasHolding self.old other held → HasHolding self.new other held }
         ensures greatest { OnOk result (greatest_of self.new ≡ greatest_after (greatest_of self.old) (happening event.entry)) }
-        ensures count { (held : Option Holding) → Has self.old (id_of (happening event.entry)) held
-            → IfOk result (λ out. count_of self.new ≡ count_after (count_of self.old) held (held_after held (happening event.entry) out)) }
+        ensures count { (held : Option Holding) → HasHolding self.old (id_of (happening event.entry)) held
+            → IfOk result (λ out. connection_count self.new ≡ count_after (connection_count self.old) held (held_after held (happening event.entry) out)) }
         ensures host { host_of self.new ≡ host_of self.old }
         ensures trust { K.is_trusted desk.new → K.is_trusted desk.old }
         ensures closed { K.is_closed desk.old ≡ true → K.is_closed desk.new ≡ true }
-        ensures kept { OnErr result ((other : ℕ) (held : Option Holding) → Has self.old other held → Has self.new other held) }
+        ensures kept { OnErr result ((other : ℕ) (held : Option Holding) → HasHolding self.old other held → HasHolding self.new other held) }
         ensures given { OnErr result (greatest_of self.new ≡ greatest_of self.old) }
-        ensures number { OnErr result (count_of self.new ≡ count_of self.old) }
+        ensures number { OnErr result (connection_count self.new ≡ connection_count self.old) }
         ensures desk { OnErr result (desk.new ≡ desk.old) }
         ensures sink { OnErr result (sink.new ≡ sink.old) }
         ensures unasked { asks_desk (happening event.entry) ≡ false → desk.new ≡ desk.old }
@@ -134,12 +134,12 @@ impl<'h> Hub<'h> {
     /// the event of these octets gives what it would have given. The desk is told of installs of 65,536 octets and more, and
     /// of each other change, but where its body is JSON of so many.
     pub fn foresee<K: Preparer>(&mut self, desk: &mut K, id: u64, piece: &[u8]) -> bool
-        ensures foreseen { result ≡ true → (held : Option Holding) → Has self.old id held → AreForeseen K.expects AsksForChange held piece.now desk.new }
-        ensures anew { result ≡ true → K.is_trusted desk.new → (M : Catalogue) → K.shows desk.old M → (held : Option Holding) → Has self.old id held → AreForeseen K.expects (AsksAnewForChange M) held piece.now desk.new }
-        ensures kept { (other : ℕ) (held : Option Holding) → Has self.old other held → Has self.new other held }
+        ensures foreseen { result ≡ true → (held : Option Holding) → HasHolding self.old id held → AreForeseen K.expects AsksForChange held piece.now desk.new }
+        ensures anew { result ≡ true → K.is_trusted desk.new → (M : Catalogue) → K.shows desk.old M → (held : Option Holding) → HasHolding self.old id held → AreForeseen K.expects (AsksAnewForChange M) held piece.now desk.new }
+        ensures kept { (other : ℕ) (held : Option Holding) → HasHolding self.old other held → HasHolding self.new other held }
         ensures state { (state : State) → IsAt self.old state → IsAt self.new state }
         ensures given { greatest_of self.new ≡ greatest_of self.old }
-        ensures count { count_of self.new ≡ count_of self.old }
+        ensures count { connection_count self.new ≡ connection_count self.old }
         ensures host { host_of self.new ≡ host_of self.old }
         ensures trust { K.is_trusted desk.new → K.is_trusted desk.old }
         ensures closed { K.is_closed desk.old ≡ true → K.is_closed desk.new ≡ true }
@@ -156,12 +156,12 @@ impl<'h> Hub<'h> {
     /// is answered. It is no event: nothing of the hub changes. At most 4,096 octets are asked about.
     pub fn asks_change(&mut self, id: u64, piece: &[u8]) -> bool
         requires { length piece.now ≤ 4096 }
-        ensures yes { result ≡ true → (held : Option Holding) → Has self.old id held → MakeCommand held piece.now }
-        ensures no { result ≡ false → (held : Option Holding) → Has self.old id held → ¬ MakeCommand held piece.now }
-        ensures kept { (other : ℕ) (held : Option Holding) → Has self.old other held → Has self.new other held }
+        ensures yes { result ≡ true → (held : Option Holding) → HasHolding self.old id held → MakeCommand held piece.now }
+        ensures no { result ≡ false → (held : Option Holding) → HasHolding self.old id held → ¬ MakeCommand held piece.now }
+        ensures kept { (other : ℕ) (held : Option Holding) → HasHolding self.old other held → HasHolding self.new other held }
         ensures state { (state : State) → IsAt self.old state → IsAt self.new state }
         ensures given { greatest_of self.new ≡ greatest_of self.old }
-        ensures count { count_of self.new ≡ count_of self.old }
+        ensures count { connection_count self.new ≡ connection_count self.old }
         ensures host { host_of self.new ≡ host_of self.old }
     {
         let Some(place) = self.book.place_of(id) else {
@@ -172,17 +172,17 @@ impl<'h> Hub<'h> {
 
     // Opens a connection, and greets a reader.
     fn opened<S: Sink>(&mut self, id: u64, kind: Kind, sink: &mut S) -> Result<Out, HubFault>
-        ensures tests { (fault : HubFault) → opening id (greatest_of self.old) (count_of self.old) ≡ Err fault → result ≡ Err fault }
-        ensures memory { opening id (greatest_of self.old) (count_of self.old) ≡ Ok tt → IfErr result (λ fault. fault ≡ Memory) }
-        ensures own { IfOk result (λ out. Has self.new id (left_by kind [] out)) }
+        ensures tests { (fault : HubFault) → opening id (greatest_of self.old) (connection_count self.old) ≡ Err fault → result ≡ Err fault }
+        ensures memory { opening id (greatest_of self.old) (connection_count self.old) ≡ Ok tt → IfErr result (λ fault. fault ≡ Memory) }
+        ensures own { IfOk result (λ out. HasHolding self.new id (left_by kind [] out)) }
         ensures greets { IfOk result (λ out. Greets (host_of self.old) id kind out (S.stream sink.old) (S.stream sink.new)) }
         ensures greatest { OnOk result (greatest_of self.new ≡ Some id) }
-        ensures count { IfOk result (λ out. count_of self.new ≡ count_after (count_of self.old) None (left_by kind [] out)) }
-        ensures others { OnOk result ((other : ℕ) (held : Option Holding) → other ≢ id → Has self.old other held → Has self.new other held) }
+        ensures count { IfOk result (λ out. connection_count self.new ≡ count_after (connection_count self.old) None (left_by kind [] out)) }
+        ensures others { OnOk result ((other : ℕ) (held : Option Holding) → other ≢ id → HasHolding self.old other held → HasHolding self.new other held) }
         ensures host { host_of self.new ≡ host_of self.old }
-        ensures kept { OnErr result ((other : ℕ) (held : Option Holding) → Has self.old other held → Has self.new other held) }
+        ensures kept { OnErr result ((other : ℕ) (held : Option Holding) → HasHolding self.old other held → HasHolding self.new other held) }
         ensures given { OnErr result (greatest_of self.new ≡ greatest_of self.old) }
-        ensures number { OnErr result (count_of self.new ≡ count_of self.old) }
+        ensures number { OnErr result (connection_count self.new ≡ connection_count self.old) }
         ensures sink { OnErr result (sink.new ≡ sink.old) }
     {
         self.book.admits(id)?;
@@ -199,7 +199,7 @@ impl<'h> Hub<'h> {
 
     // Keeps a connection that was greeted, or only its id.
     fn keep(&mut self, id: u64, line: Exchange<'h>, out: Out)
-        requires admitted { opening id (greatest_of self.old) (count_of self.old) ≡ Ok tt }
+        requires admitted { opening id (greatest_of self.old) (connection_count self.old) ≡ Ok tt }
         requires room { vec_len self.old.lines < vec_capacity self.old.lines }
         ensures more { out ≡ outs.More → (self.new.book.ids.items ≡ self.old.book.ids.items ++ id ∷ []) × (self.new.lines.items ≡ self.old.lines.items ++ line.entry ∷ []) }
         ensures close { out ≡ outs.Close → (self.new.book.ids.items ≡ self.old.book.ids.items) × (self.new.lines.items ≡ self.old.lines.items) }
@@ -235,24 +235,24 @@ impl<'h> Hub<'h> {
         desk: &mut K,
         sink: &mut S,
     ) -> Result<Out, HubFault>
-        ensures unknown { Has self.old id None → result ≡ Err UnknownConnection }
-        ensures memory { (held : Holding) → Has self.old id (Some held) → IfErr result (λ fault. (fault ≡ Memory) × (held.kind ≡ Http)) }
-        ensures gets { K.is_trusted desk.new → (M : Catalogue) → K.shows desk.old M → (held : Holding) → Has self.old id (Some held)
+        ensures unknown { HasHolding self.old id None → result ≡ Err UnknownConnection }
+        ensures memory { (held : Holding) → HasHolding self.old id (Some held) → IfErr result (λ fault. (fault ≡ Memory) × (held.kind ≡ Http)) }
+        ensures gets { K.is_trusted desk.new → (M : Catalogue) → K.shows desk.old M → (held : Holding) → HasHolding self.old id (Some held)
             → IfOk result (λ out. Gets (host_of self.old) (condition K.has_failed K.is_closed desk.new) (K.shows desk.new) (K.leaves_one_of desk.old) (K.leaves_one_of desk.new) M held.kind (held.octets ++ piece.now) out (S.stream sink.old) (S.stream sink.new)) }
-        ensures through { K.is_trusted desk.new → (M : Catalogue) → K.shows desk.old M → (held : Holding) → Has self.old id (Some held)
+        ensures through { K.is_trusted desk.new → (M : Catalogue) → K.shows desk.old M → (held : Holding) → HasHolding self.old id (Some held)
             → IfOk result (λ out. GetsThrough (host_of self.old) M (K.is_closed desk.old) (condition K.has_failed K.is_closed desk.new) held.kind (held.octets ++ piece.now) out (S.stream sink.old) (S.stream sink.new)) }
-        ensures quiet { K.is_trusted desk.new → (M : Catalogue) → K.shows desk.old M → (held : Holding) → Has self.old id (Some held)
+        ensures quiet { K.is_trusted desk.new → (M : Catalogue) → K.shows desk.old M → (held : Holding) → HasHolding self.old id (Some held)
             → LookNothingUp M held.kind (held.octets ++ piece.now) → desk.new ≡ desk.old }
-        ensures own { K.is_trusted desk.new → (M : Catalogue) → K.shows desk.old M → (held : Holding) → Has self.old id (Some held)
-            → IfOk result (λ out. Has self.new id (left_by held.kind (held.octets ++ piece.now) out)) }
-        ensures count { (held : Holding) → Has self.old id (Some held) → IfOk result (λ out. count_of self.new ≡ count_after (count_of self.old) (Some held) (left_by held.kind (held.octets ++ piece.now) out)) }
-        ensures others { (other : ℕ) (held : Option Holding) → other ≢ id → Has self.old other held → Has self.new other held }
+        ensures own { K.is_trusted desk.new → (M : Catalogue) → K.shows desk.old M → (held : Holding) → HasHolding self.old id (Some held)
+            → IfOk result (λ out. HasHolding self.new id (left_by held.kind (held.octets ++ piece.now) out)) }
+        ensures count { (held : Holding) → HasHolding self.old id (Some held) → IfOk result (λ out. connection_count self.new ≡ count_after (connection_count self.old) (Some held) (left_by held.kind (held.octets ++ piece.now) out)) }
+        ensures others { (other : ℕ) (held : Option Holding) → other ≢ id → HasHolding self.old other held → HasHolding self.new other held }
         ensures greatest { greatest_of self.new ≡ greatest_of self.old }
         ensures host { host_of self.new ≡ host_of self.old }
         ensures trust { K.is_trusted desk.new → K.is_trusted desk.old }
         ensures closed { K.is_closed desk.old ≡ true → K.is_closed desk.new ≡ true }
-        ensures kept { OnErr result ((held : Option Holding) → Has self.old id held → Has self.new id held) }
-        ensures number { OnErr result (count_of self.new ≡ count_of self.old) }
+        ensures kept { OnErr result ((held : Option Holding) → HasHolding self.old id held → HasHolding self.new id held) }
+        ensures number { OnErr result (connection_count self.new ≡ connection_count self.old) }
         ensures desk { OnErr result (desk.new ≡ desk.old) }
         ensures sink { OnErr result (sink.new ≡ sink.old) }
     {
@@ -270,14 +270,14 @@ impl<'h> Hub<'h> {
 
     // The other end sends no more. What has come of an unfinished line or request is let go, and changes nothing.
     fn ended(&mut self, id: u64) -> Result<Out, HubFault>
-        ensures unknown { Has self.old id None → result ≡ Err UnknownConnection }
-        ensures known { (held : Holding) → Has self.old id (Some held) → (result ≡ Ok outs.More) × Has self.new id None }
-        ensures count { OnOk result (count_of self.new ≡ count_of self.old - 1) }
-        ensures others { (other : ℕ) (held : Option Holding) → other ≢ id → Has self.old other held → Has self.new other held }
+        ensures unknown { HasHolding self.old id None → result ≡ Err UnknownConnection }
+        ensures known { (held : Holding) → HasHolding self.old id (Some held) → (result ≡ Ok outs.More) × HasHolding self.new id None }
+        ensures count { OnOk result (connection_count self.new ≡ connection_count self.old - 1) }
+        ensures others { (other : ℕ) (held : Option Holding) → other ≢ id → HasHolding self.old other held → HasHolding self.new other held }
         ensures greatest { greatest_of self.new ≡ greatest_of self.old }
         ensures host { host_of self.new ≡ host_of self.old }
-        ensures kept { OnErr result ((held : Option Holding) → Has self.old id held → Has self.new id held) }
-        ensures number { OnErr result (count_of self.new ≡ count_of self.old) }
+        ensures kept { OnErr result ((held : Option Holding) → HasHolding self.old id held → HasHolding self.new id held) }
+        ensures number { OnErr result (connection_count self.new ≡ connection_count self.old) }
     {
         let Some(place) = self.book.place_of(id) else {
             return Err(HubFault::UnknownConnection);

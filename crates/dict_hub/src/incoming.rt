@@ -2,14 +2,14 @@
 ghost use Rattle.std.specs.Prelude.{◌≡◌, ◌+◌, ◌++◌, ◌≤◌, [], false, true, length, List, Option, IfErr, IfOk, OnErr, vec_len, vec_capacity};
 ghost use Rattle.dict_catalogue.specs.Steps.{Catalogue};
 ghost use Rattle.dict_http.specs.Foreseeing.{HasForeseen, AsksAnewForChange, AsksForChange, AsksForCommand};
-ghost use Rattle.dict_hub.specs.Asking.{Awaits, Answers, IsAwaitedIn};
+ghost use Rattle.dict_hub.specs.Asking.{Awaits, AnswersRequest, IsAwaitedIn};
 ghost use Rattle.dict_hub.specs.declared.incoming.Out.TheVariants as outs;
 ghost use Rattle.std.specs.Prelude.{Ok};
 ghost use Rattle.dict_hub.specs.declared.fault.HubFault.TheVariants.{Memory};
 
 use crate::fault::HubFault;
 use dict_desk::Preparer;
-use dict_head::{Reading, read_request};
+use dict_head::{RequestReading, read_request};
 use dict_http::Service;
 use dict_proto::Sink;
 use std::alloc::{AllocError, Global};
@@ -63,7 +63,7 @@ impl Incoming {
         ensures awaited { IsAwaitedIn self.old.octets.items self.old.awaited → IsAwaitedIn self.new.octets.items self.new.awaited }
         ensures unasked { result ≡ Ok outs.More → desk.new ≡ desk.old }
         ensures answers { result ≡ Ok outs.Close → K.is_trusted desk.new → (M : Catalogue) → K.shows desk.old M
-            → Answers (K.shows desk.new) (K.leaves_one_of desk.old) (K.leaves_one_of desk.new) M (self.old.octets.items ++ piece.now) (S.stream sink.old) (S.stream sink.new) }
+            → AnswersRequest (K.shows desk.new) (K.leaves_one_of desk.old) (K.leaves_one_of desk.new) M (self.old.octets.items ++ piece.now) (S.stream sink.old) (S.stream sink.new) }
         ensures trust { K.is_trusted desk.new → K.is_trusted desk.old }
         ensures closed { K.is_closed desk.old ≡ true → K.is_closed desk.new ≡ true }
         ensures memory { IfErr result (λ fault. fault ≡ Memory) }
@@ -84,7 +84,7 @@ impl Incoming {
         if self.octets.len() < self.awaited {
             return Ok(Out::More);
         }
-        if let Reading::More(awaited) = read_request(&self.octets) {
+        if let RequestReading::More(awaited) = read_request(&self.octets) {
             self.awaited = awaited;
             return Ok(Out::More);
         }

@@ -5,7 +5,7 @@ ghost use Rattle.dict_catalogue.specs.Steps.{Catalogue};
 ghost use Rattle.dict_hub.specs.Holding.{Holding};
 ghost use Rattle.dict_hub.specs.Events.{Happening};
 ghost use Rattle.dict_hub.specs.Undisturbed.{Served, IsServed};
-ghost use Rattle.dict_hub.specs.Runs.{State, Standing, Accepted, Leads, IsStep, IsUndisturbed, HasDisturbance, GoWell, GotSame, asked, events_of};
+ghost use Rattle.dict_hub.specs.Runs.{State, Standing, Accepted, Leads, IsServedEvent, IsUndisturbed, HasDisturbance, GoWell, GotSame, event_asked, events_of};
 ghost use Rattle.dict_hub.specs.Observations.{Observation, AreObservations};
 
 use dict_http::one_answer;
@@ -22,7 +22,7 @@ pub fn one_served()
 /// Each event of a run gave just that, or its sink failed, or the desk did behind the first octet of an answer, or the
 /// answer for want of memory stands in place of one.
 pub fn undisturbed_or_not()
-    ensures { (state : State) (one : Accepted) → IsStep state one → IsUndisturbed state one ⊎ HasDisturbance state one }
+    ensures { (state : State) (one : Accepted) → IsServedEvent state one → IsUndisturbed state one ⊎ HasDisturbance state one }
 {
     spoken_or_unavailable();
 }
@@ -33,10 +33,10 @@ pub fn undisturbed_or_not()
 pub fn same_for_both()
     ensures got { (id : ℕ) (a b a' b' : State) (p q p' q' : Standing) (events others : List Accepted) → Leads a p events a' p' → Leads b q others b' q'
         → a.host ≡ b.host → a.held id ≡ b.held id → GoWell id a events → GoWell id b others
-        → map asked (events_of id events) ≡ map asked (events_of id others) → GotSame (events_of id events) (events_of id others) }
+        → map event_asked (events_of id events) ≡ map event_asked (events_of id others) → GotSame (events_of id events) (events_of id others) }
     ensures held { (id : ℕ) (a b a' b' : State) (p q p' q' : Standing) (events others : List Accepted) → Leads a p events a' p' → Leads b q others b' q'
         → a.host ≡ b.host → a.held id ≡ b.held id → GoWell id a events → GoWell id b others
-        → map asked (events_of id events) ≡ map asked (events_of id others) → a'.held id ≡ b'.held id }
+        → map event_asked (events_of id events) ≡ map event_asked (events_of id others) → a'.held id ≡ b'.held id }
 {
     one_served();
 }
@@ -49,7 +49,7 @@ pub fn same_by_turns()
     ensures some { (id : ℕ) (a a' : State) (p p' : Standing) (events : List Accepted) → Leads a p events a' p' → (turns : List Observation) × AreObservations id events turns }
     ensures asked { (id : ℕ) (a b a' b' : State) (p q p' q' : Standing) (events others : List Accepted) (turns : List Observation) → Leads a p events a' p' → Leads b q others b' q'
         → a.host ≡ b.host → a.held id ≡ b.held id → p.catalogue ≡ q.catalogue → GoWell id a events → GoWell id b others
-        → AreObservations id events turns → AreObservations id others turns → map asked (events_of id events) ≡ map asked (events_of id others) }
+        → AreObservations id events turns → AreObservations id others turns → map event_asked (events_of id events) ≡ map event_asked (events_of id others) }
     ensures got { (id : ℕ) (a b a' b' : State) (p q p' q' : Standing) (events others : List Accepted) (turns : List Observation) → Leads a p events a' p' → Leads b q others b' q'
         → a.host ≡ b.host → a.held id ≡ b.held id → p.catalogue ≡ q.catalogue → GoWell id a events → GoWell id b others
         → AreObservations id events turns → AreObservations id others turns → GotSame (events_of id events) (events_of id others) }

@@ -10,7 +10,7 @@ use Rattle.dict_index.specs.Reserved.{title_in, info_in}
 use Rattle.dict_index.specs.Tests.{PassesWhole, PassesLine, IsTitle, line_at}
 use Rattle.dict_index.specs.Refusals.{whole_tests, line_tests}
 use Rattle.dict_index.specs.Meaning.{IsReadEdition, IsFault, entry_lines}
-use Rattle.dict_index.specs.Refused.{PassesEach, FailsFirst, PassLines, StopsAt, PassWholes, FailsWhole}
+use Rattle.dict_index.specs.Refused.{PassesEach, LineFailsFirst, PassLines, StopsAt, PassWholes, FailsWhole}
 use Rattle.dict_index.specs.declared.fault.EditionRefusal.{EditionRefusal}
 use Rattle.dict_index.specs.declared.fault.EditionRefusal.TheVariants.{NoTitle, BadTitle}
 use Rattle.dict_text.proofs.AllLemmas.{all_of}
@@ -29,7 +29,7 @@ module _ (index text : List ℕ) where
       by_tests (try_each (λ f. PassesLine f text (take n (text_lines index)) (line_at index n)) line_tests
       (all_of (λ f. Decided (PassesLine f text (take n (text_lines index)) (line_at index n))) (λ f. line_test f text (take n (text_lines index)) (line_at index n)) line_tests))
     where
-      by_tests : ((f : EditionRefusal) × FailsFirst line_tests f text (take n (text_lines index)) (line_at index n)) ⊎ PassesEach line_tests text (take n (text_lines index)) (line_at index n) → FirstStop ⊎ PassLines index text (n + 1)
+      by_tests : ((f : EditionRefusal) × LineFailsFirst line_tests f text (take n (text_lines index)) (line_at index n)) ⊎ PassesEach line_tests text (take n (text_lines index)) (line_at index n) → FirstStop ⊎ PassLines index text (n + 1)
       by_tests (inl failing) = inl (failing.0, n, record { there = there; before = passes; first = failing.1 })
       by_tests (inr all) = inr (pass_more index text n (line_at index n) passes refl all)
 

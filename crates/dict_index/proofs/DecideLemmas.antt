@@ -13,7 +13,7 @@ use Rattle.dict_text.specs.Lines.{text_lines}
 use Rattle.dict_match.specs.Key.{reserved_key_of}
 use Rattle.dict_index.specs.Cuts.{AreLast, AreColumns}
 use Rattle.dict_index.specs.Line.{Line, IsLine, body_in}
-use Rattle.dict_index.specs.Reserved.{is_reserved, is_known}
+use Rattle.dict_index.specs.Reserved.{is_reserved, is_known_reserved}
 use Rattle.dict_index.specs.Tests.{PassesLine, IfSays, IfFourth, IsHeadword, IsShown, IsTextOctet, IsText, HasShortLines, NoneHasKey, IsTitle, EndsByLineFeed}
 use Rattle.dict_index.specs.declared.fault.EditionRefusal.{EditionRefusal}
 use Rattle.dict_index.specs.declared.fault.EditionRefusal.TheVariants.{Columns, Number, Interval, Headword, Shown, BodyText, BodyLine, Reserved, ReservedTwice}
@@ -245,10 +245,10 @@ line_test Headword text before line = if_it_says line (λ said. IsHeadword said.
 line_test Shown text before line = if_it_has_fourth line IsShown is_shown
 line_test BodyText text before line = if_it_says line (λ said. IsText (body_in text said)) (λ said. is_text (body_in text said))
 line_test BodyLine text before line = if_it_says line (λ said. HasShortLines (body_in text said)) (λ said. all (λ l. length l ≤ 1021) (λ l. at_most (length l) 1021) (text_lines (body_in text said)))
-line_test Reserved text before line = if_it_says line (λ said. IsTrue (is_reserved (reserved_key_of said.headword)) → IsTrue (is_known (reserved_key_of said.headword)))
-    (λ said. implied (IsTrue (is_reserved (reserved_key_of said.headword))) (IsTrue (is_known (reserved_key_of said.headword))) (is_true (is_reserved (reserved_key_of said.headword))) (is_true (is_known (reserved_key_of said.headword))))
-line_test ReservedTwice text before line = if_it_says line (λ said. IsTrue (is_known (reserved_key_of said.headword)) → NoneHasKey before (reserved_key_of said.headword))
-    (λ said. implied (IsTrue (is_known (reserved_key_of said.headword))) (NoneHasKey before (reserved_key_of said.headword)) (is_true (is_known (reserved_key_of said.headword))) (none_has_key before (reserved_key_of said.headword)))
+line_test Reserved text before line = if_it_says line (λ said. IsTrue (is_reserved (reserved_key_of said.headword)) → IsTrue (is_known_reserved (reserved_key_of said.headword)))
+    (λ said. implied (IsTrue (is_reserved (reserved_key_of said.headword))) (IsTrue (is_known_reserved (reserved_key_of said.headword))) (is_true (is_reserved (reserved_key_of said.headword))) (is_true (is_known_reserved (reserved_key_of said.headword))))
+line_test ReservedTwice text before line = if_it_says line (λ said. IsTrue (is_known_reserved (reserved_key_of said.headword)) → NoneHasKey before (reserved_key_of said.headword))
+    (λ said. implied (IsTrue (is_known_reserved (reserved_key_of said.headword))) (NoneHasKey before (reserved_key_of said.headword)) (is_true (is_known_reserved (reserved_key_of said.headword))) (none_has_key before (reserved_key_of said.headword)))
 line_test _ text before line = inl tt
 
 -- an index ends by LF, or not

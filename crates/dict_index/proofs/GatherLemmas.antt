@@ -8,7 +8,7 @@ use Rattle.std.specs.Option.{option_map}
 use Rattle.std.specs.Str.{bytes_eq}
 use Rattle.dict_match.specs.Key.{reserved_key_of}
 use Rattle.dict_index.specs.Line.{Line, IsLine, body_in}
-use Rattle.dict_index.specs.Reserved.{is_reserved, is_known, text_under, short_key, info_key}
+use Rattle.dict_index.specs.Reserved.{is_reserved, is_known_reserved, text_under, short_key, info_key}
 use Rattle.dict_index.specs.Tests.{NoneHasKey}
 use Rattle.dict_index.specs.Meaning.{entry_lines}
 use Rattle.dict_index.proofs.LineLemmas.{if_says}
@@ -96,7 +96,7 @@ take_of_take (suc m) (suc n) [] le = refl
 take_of_take (suc m) (suc n) (x ∷ xs) le = ap (λ l. x ∷ l) (take_of_take m n xs (omega arith))
 
 -- a known reserved key is reserved
-pub known_is_reserved : (key : List ℕ) → is_known key ≡ true → is_reserved key ≡ true
+pub known_is_reserved : (key : List ℕ) → is_known_reserved key ≡ true → is_reserved key ≡ true
 known_is_reserved key e = elim (or_cases (list_any (bytes_eq key) (short_key ∷ info_key ∷ codes "00databaseurl" ∷ codes "00databaseutf8" ∷ codes "00databasealphabet" ∷ [])) (starts_with nat_eq key (codes "00databasedictfmt")) e) [
   | inl named ↦ among_reserved key (short_key ∷ info_key ∷ codes "00databaseurl" ∷ codes "00databaseutf8" ∷ codes "00databasealphabet" ∷ []) (refl, (refl, (refl, (refl, (refl, tt))))) named
   | inr format ↦

@@ -8,7 +8,7 @@ use Rattle.dict_index.specs.Edition.{ReadEdition}
 use Rattle.dict_index.specs.Reserved.{title_in, info_in}
 use Rattle.dict_index.specs.Refusals.{whole_tests, line_tests}
 use Rattle.dict_index.specs.Order.{rank, IsOfLine, Precedes}
-use Rattle.dict_index.specs.Meaning.{IsReadEdition, IsFault, Tells, entry_lines}
+use Rattle.dict_index.specs.Meaning.{IsReadEdition, IsFault, TellsLine, entry_lines}
 use Rattle.dict_index.specs.declared.fault.EditionRefusal.{EditionRefusal}
 use Rattle.dict_index.proofs.OrderLemmas.{one_rank}
 use Rattle.dict_index.proofs.MeaningLemmas.{all_said_one}
@@ -48,7 +48,7 @@ in_order_or_one f j g k = elim (of_line_or_not f) [
 ]
 
 -- one test at one place is told by one line
-one_line : (f : EditionRefusal) (j k : ℕ) (l m : Option ℕ) → (IsOfLine f → j ≡ k) → Tells f j l → Tells f k m → l ≡ m
+one_line : (f : EditionRefusal) (j k : ℕ) (l m : Option ℕ) → (IsOfLine f → j ≡ k) → TellsLine f j l → TellsLine f k m → l ≡ m
 one_line f j k l m same (inl a) (inl b) = a.1 ∙ (ap (λ n. let told : Option ℕ = Some (n + 1) in told) (same a.0) ∙ sym b.1)
 one_line f j k l m same (inl a) (inr b) = absurd (b.0 a.0)
 one_line f j k l m same (inr a) (inl b) = absurd (a.0 b.0)
@@ -60,7 +60,7 @@ one_fault index text f g k l h i = elim (in_order_or_one f h.at g i.at) [
   | inl before ↦ absurd (h.fails (i.earlier f h.at before h.made))
   | inr other ↦ (elim other [
     | inl behind ↦ absurd (i.fails (h.earlier g i.at behind i.made))
-    | inr one ↦ (one.0, one_line g h.at i.at k l (λ o. one.1 (subst IsOfLine (sym one.0) o)) (subst (λ r. Tells r h.at k) one.0 h.tells) i.tells)
+    | inr one ↦ (one.0, one_line g h.at i.at k l (λ o. one.1 (subst IsOfLine (sym one.0) o)) (subst (λ r. TellsLine r h.at k) one.0 h.tells) i.tells)
   ])
 ]
 

@@ -10,7 +10,7 @@ use Rattle.dict_index.specs.Reserved.{title_in, title_from, info_in, info_from, 
 use Rattle.dict_index.specs.Tests.{Passes, PassesWhole, PassesLine, IsTitle, line_at}
 use Rattle.dict_index.specs.Refusals.{whole_tests, line_tests}
 use Rattle.dict_index.specs.Order.{rank, IsOfLine, Precedes}
-use Rattle.dict_index.specs.Meaning.{IsFault, IsMade, IsReadEdition}
+use Rattle.dict_index.specs.Meaning.{IsFault, IsTestMade, IsReadEdition}
 use Rattle.dict_index.specs.Refused.{PassesEach, PassLines, StopsAt, PassWholes, FailsWhole, IsTitleFault, IsIndexFault, IsLinesFault}
 use Rattle.dict_index.specs.Gathered.{HasGathered}
 use Rattle.dict_index.specs.Views.{line_of, octets_of}
@@ -124,7 +124,7 @@ all_said_one (l ∷ lines) (x ∷ a) (y ∷ b) h k = ap (λ z. z ∷ a) (one_sai
 
 module _ (index text : List ℕ) (wholes : PassWholes index text) (passed : PassLines index text (length (text_lines index))) where
   -- each test before the title's passes
-  before_no_title : (f : EditionRefusal) (j : ℕ) → rank f < length whole_tests + length line_tests → IsMade f index j → Passes f index text j
+  before_no_title : (f : EditionRefusal) (j : ℕ) → rank f < length whole_tests + length line_tests → IsTestMade f index j → Passes f index text j
   before_no_title f j lt made = elim (before_title f lt) [
     | inl whole ↦ whole_of f index text j wholes whole
     | inr line ↦ line_of_all f index text j (passed j (made line)) line
@@ -144,7 +144,7 @@ module _ (index text : List ℕ) (wholes : PassWholes index text) (passed : Pass
       earlier = λ f j p made. by_order f j p made;
     }
       where
-        by_order : (f : EditionRefusal) (j : ℕ) → Precedes f j NoTitle 0 → IsMade f index j → Passes f index text j
+        by_order : (f : EditionRefusal) (j : ℕ) → Precedes f j NoTitle 0 → IsTestMade f index j → Passes f index text j
         by_order f j (inl p) made = before_no_title f j (let lt = p.0 in omega (arith, rank_no_title)) made
         by_order f j (inr p) made = absurd (let high = p.1.1 in omega (arith, rank_no_title))
 
@@ -160,7 +160,7 @@ module _ (index text : List ℕ) (wholes : PassWholes index text) (passed : Pass
       earlier = λ f j p made. by_order f j p made;
     }
       where
-        by_order : (f : EditionRefusal) (j : ℕ) → Precedes f j BadTitle 0 → IsMade f index j → Passes f index text j
+        by_order : (f : EditionRefusal) (j : ℕ) → Precedes f j BadTitle 0 → IsTestMade f index j → Passes f index text j
         by_order f j (inl p) made = elim (cases_lt (rank f) (length whole_tests + length line_tests)) [
           | inl before ↦ before_no_title f j before made
           | inr not_before ↦ (let lt = p.0 in let same : rank NoTitle ≡ rank f = omega (arith, rank_no_title, rank_bad_title) in subst (λ r. Passes r index text j) (one_rank NoTitle f same) (has_title found e j))
@@ -174,7 +174,7 @@ module _ (index text : List ℕ) (wholes : PassWholes index text) (passed : Pass
     title_fault Memory h = tt
 
     -- no test fails
-    pub all_pass : (found : List ℕ) → title_in text said ≡ Some found → IsTitle found → (f : EditionRefusal) (j : ℕ) → IsMade f index j → Passes f index text j
+    pub all_pass : (found : List ℕ) → title_in text said ≡ Some found → IsTitle found → (f : EditionRefusal) (j : ℕ) → IsTestMade f index j → Passes f index text j
     unfolding rank
     all_pass found e good NoTitle j made = has_title found e j
     all_pass found e good BadTitle j made = ((λ all_said others. subst (λ t. IfSome t IsTitle) (sym (one_title all_said others ∙ e)) good), tt)

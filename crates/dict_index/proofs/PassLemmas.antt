@@ -7,11 +7,11 @@ use Rattle.dict_text.specs.Lines.{text_lines}
 use Rattle.dict_index.specs.Tests.{PassesLine, line_at}
 use Rattle.dict_index.specs.Refusals.{said_tests, reserved_tests, line_tests}
 use Rattle.dict_index.specs.Gathered.{IsGatherFault}
-use Rattle.dict_index.specs.Refused.{PassesEach, FailsFirst, IsLineFault, PassLines, IsFaultBehind, IsLinesFault, told_at}
+use Rattle.dict_index.specs.Refused.{PassesEach, LineFailsFirst, IsLineFault, PassLines, IsFaultBehind, IsLinesFault, told_at}
 use Rattle.dict_index.specs.declared.fault.IndexFault.{IndexFault}
 use Rattle.dict_index.specs.declared.fault.EditionRefusal.TheVariants.{Reserved, ReservedTwice}
-use Rattle.dict_index.specs.declared.line.LineFault.{LineFault}
-use Rattle.dict_index.specs.declared.line.LineFault.TheVariants.{Refused, Memory}
+use Rattle.dict_index.specs.declared.line.EntryLineFault.{EntryLineFault}
+use Rattle.dict_index.specs.declared.line.EntryLineFault.TheVariants.{Refused, Memory}
 use Rattle.dict_text.proofs.AllLemmas.{all_append}
 use Rattle.dict_index.proofs.OrderLemmas.{first_of_more, first_behind}
 
@@ -44,13 +44,13 @@ pub passes_all : (text : List ℕ) (lines : List (List ℕ)) (line : List ℕ) �
 passes_all text lines line said reserved twice = all_append (λ f. PassesLine f text lines line) said_tests reserved_tests said (reserved, (twice, tt))
 
 -- a fault of the reserved tests, behind the tests before them
-pub gather_fault : (fault : LineFault) (text : List ℕ) (lines : List (List ℕ)) (line : List ℕ) → PassesEach said_tests text lines line → IsGatherFault fault text lines line → IsFaultBehind fault text lines line
+pub gather_fault : (fault : EntryLineFault) (text : List ℕ) (lines : List (List ℕ)) (line : List ℕ) → PassesEach said_tests text lines line → IsGatherFault fault text lines line → IsFaultBehind fault text lines line
 gather_fault (Refused Reserved) text lines line said h = first_behind (λ f. PassesLine f text lines line) said_tests reserved_tests Reserved said (inl (refl, h))
 gather_fault (Refused ReservedTwice) text lines line said h = first_behind (λ f. PassesLine f text lines line) said_tests reserved_tests ReservedTwice said (inr (h.0, inl (refl, h.1)))
 gather_fault (Refused _) text lines line said h = absurd h
 gather_fault Memory text lines line said h = tt
 
-pub line_fault : (fault : LineFault) (text : List ℕ) (lines : List (List ℕ)) (line : List ℕ) → IsLineFault fault text line → IsFaultBehind fault text lines line
+pub line_fault : (fault : EntryLineFault) (text : List ℕ) (lines : List (List ℕ)) (line : List ℕ) → IsLineFault fault text line → IsFaultBehind fault text lines line
 line_fault (Refused refusal) text lines line h = first_of_more (λ f. PassesLine f text lines line) said_tests reserved_tests refusal (h lines)
 line_fault Memory text lines line h = tt
 
@@ -75,6 +75,6 @@ if_err_map (Ok x) f p = tt
 if_err_map (Err e) f p = f e p
 
 -- what is told where a line is not gathered
-pub lines_fault : (fault : LineFault) (told : IndexFault) (index text : List ℕ) (n : ℕ) (line : List ℕ) → told ≡ told_at fault (n + 1) → n < length (text_lines index) → line_at index n ≡ line → PassLines index text n → IsFaultBehind fault text (take n (text_lines index)) line → IsLinesFault told index text
-lines_fault (Refused refusal) told index text n line e there at before h = subst (λ t. IsLinesFault t index text) (sym e) (n, refl, record { there = there; before = before; first = subst (FailsFirst line_tests refusal text (take n (text_lines index))) (sym at) h })
+pub lines_fault : (fault : EntryLineFault) (told : IndexFault) (index text : List ℕ) (n : ℕ) (line : List ℕ) → told ≡ told_at fault (n + 1) → n < length (text_lines index) → line_at index n ≡ line → PassLines index text n → IsFaultBehind fault text (take n (text_lines index)) line → IsLinesFault told index text
+lines_fault (Refused refusal) told index text n line e there at before h = subst (λ t. IsLinesFault t index text) (sym e) (n, refl, record { there = there; before = before; first = subst (LineFailsFirst line_tests refusal text (take n (text_lines index))) (sym at) h })
 lines_fault Memory told index text n line e there at before h = subst (λ t. IsLinesFault t index text) (sym e) tt

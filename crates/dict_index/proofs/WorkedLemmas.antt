@@ -14,7 +14,7 @@ use Rattle.dict_match.proofs.Computing.{keys}
 use Rattle.dict_index.specs.Cuts.{HasNo}
 use Rattle.dict_index.specs.Limits.{most_lines, most_octets}
 use Rattle.dict_index.specs.Line.{Line, IsLine, body_in}
-use Rattle.dict_index.specs.Reserved.{is_reserved, is_known, title_in}
+use Rattle.dict_index.specs.Reserved.{is_reserved, is_known_reserved, title_in}
 use Rattle.dict_index.specs.Tests.{PassesLine, IsHeadword, IsShown, IsText, IsTextOctet, HasShortLines, IsTitle, NoneHasKey}
 use Rattle.dict_index.specs.Meaning.{IsReadEdition}
 use Rattle.dict_index.specs.Refused.{PassesEach, PassLines, PassWholes}
@@ -98,18 +98,18 @@ entry_passes : (text : List ℕ) (before : List (List ℕ)) (line : List ℕ) (s
     → is_good said.headword (body_in text said) text ≡ true → reserved_key_of said.headword ≢ [] → is_reserved (reserved_key_of said.headword) ≡ false → (f : EditionRefusal) → PassesLine f text before line
 entry_passes text before line said l three tabs within g key free f =
     passes_by text before line said l three tabs within (good _ _ text g) key
-    (if_says line said (λ said. IsTrue (is_reserved (reserved_key_of said.headword)) → IsTrue (is_known (reserved_key_of said.headword))) l (λ e. absurd (reserved e)))
-    (if_says line said (λ said. IsTrue (is_known (reserved_key_of said.headword)) → NoneHasKey before (reserved_key_of said.headword)) l (λ e. absurd (reserved (known_is_reserved (reserved_key_of said.headword) e)))) f
+    (if_says line said (λ said. IsTrue (is_reserved (reserved_key_of said.headword)) → IsTrue (is_known_reserved (reserved_key_of said.headword))) l (λ e. absurd (reserved e)))
+    (if_says line said (λ said. IsTrue (is_known_reserved (reserved_key_of said.headword)) → NoneHasKey before (reserved_key_of said.headword)) l (λ e. absurd (reserved (known_is_reserved (reserved_key_of said.headword) e)))) f
   where
     reserved : is_reserved (reserved_key_of said.headword) ≡ true → ⊥
     reserved e = let bad : false ≡ true = sym free ∙ e in cc
 
 -- the first line, whose key is known
 first_passes : (text line : List ℕ) (said : Line) (l : IsLine line said) → l.fourth ≡ None → count_by (λ octet. octet == 9) line ≡ 2 → nat_le (said.offset + said.size) (length text) ≡ true
-    → is_good said.headword (body_in text said) text ≡ true → reserved_key_of said.headword ≢ [] → is_known (reserved_key_of said.headword) ≡ true → (f : EditionRefusal) → PassesLine f text [] line
+    → is_good said.headword (body_in text said) text ≡ true → reserved_key_of said.headword ≢ [] → is_known_reserved (reserved_key_of said.headword) ≡ true → (f : EditionRefusal) → PassesLine f text [] line
 first_passes text line said l three tabs within g key known f =
     passes_by text [] line said l three tabs within (good _ _ text g) key
-    (if_says line said (λ said. IsTrue (is_reserved (reserved_key_of said.headword)) → IsTrue (is_known (reserved_key_of said.headword))) l (λ e. known))
+    (if_says line said (λ said. IsTrue (is_reserved (reserved_key_of said.headword)) → IsTrue (is_known_reserved (reserved_key_of said.headword))) l (λ e. known))
     (λ other k e. tt) f
 
 -- one digit spells its value

@@ -11,12 +11,12 @@ use Rattle.dict_index.specs.Order.{IsOfLine, Precedes}
 use Rattle.dict_index.specs.declared.fault.EditionRefusal.{EditionRefusal}
 
 -- line k is there, from 0, where the test is one of a line
-abbrev pub IsMade : EditionRefusal → List ℕ → ℕ → Type 0
-IsMade refusal index k = IsOfLine refusal → k < length (text_lines index)
+abbrev pub IsTestMade : EditionRefusal → List ℕ → ℕ → Type 0
+IsTestMade refusal index k = IsOfLine refusal → k < length (text_lines index)
 
 -- the number of the line that is told with a refusal, from 1: a test of the whole has none
-abbrev pub Tells : EditionRefusal → ℕ → Option ℕ → Type 0
-Tells refusal k line = (IsOfLine refusal × (line ≡ Some (k + 1))) ⊎ (¬ IsOfLine refusal × (line ≡ None))
+abbrev pub TellsLine : EditionRefusal → ℕ → Option ℕ → Type 0
+TellsLine refusal k line = (IsOfLine refusal × (line ≡ Some (k + 1))) ⊎ (¬ IsOfLine refusal × (line ≡ None))
 
 -- the lines of the index that make entries, and what they say
 abbrev pub entry_lines : List Line → List Line
@@ -25,7 +25,7 @@ entry_lines lines = filter (λ said. not (is_reserved (reserved_key_of said.head
 -- no test fails, and the reading is what the lines say: its lines are those of the index in order, without the
 -- reserved ones
 pub record IsReadEdition (index text : List ℕ) (reading : ReadEdition) : Type 0 where
-  pub passes : (refusal : EditionRefusal) (k : ℕ) → IsMade refusal index k → Passes refusal index text k
+  pub passes : (refusal : EditionRefusal) (k : ℕ) → IsTestMade refusal index k → Passes refusal index text k
   pub lines : List Line
   pub said : AllZip IsLine (text_lines index) lines
   pub entries : reading.lines ≡ entry_lines lines
@@ -48,7 +48,7 @@ IsRead reading = (index : List ℕ) × IsReadEdition index reading.text reading
 -- the test fails, at this line where it is one of a line, and each test before it passes
 pub record IsFault (index text : List ℕ) (refusal : EditionRefusal) (line : Option ℕ) : Type 0 where
   pub at : ℕ
-  pub tells : Tells refusal at line
-  pub made : IsMade refusal index at
+  pub tells : TellsLine refusal at line
+  pub made : IsTestMade refusal index at
   pub fails : ¬ Passes refusal index text at
-  pub earlier : (f : EditionRefusal) (j : ℕ) → Precedes f j refusal at → IsMade f index j → Passes f index text j
+  pub earlier : (f : EditionRefusal) (j : ℕ) → Precedes f j refusal at → IsTestMade f index j → Passes f index text j

@@ -7,28 +7,28 @@ pub record RefusalText : Type 0 where
   pub number : ℕ
   pub name : List ℕ
 
-abbrev pub text_of : EditionRefusal → RefusalText
-text_of IndexNotUtf8 = record { number = 1; name = codes "IndexNotUtf8" }
-text_of Columns = record { number = 2; name = codes "Columns" }
-text_of Number = record { number = 3; name = codes "Number" }
-text_of Interval = record { number = 4; name = codes "Interval" }
-text_of Headword = record { number = 5; name = codes "Headword" }
-text_of BodyText = record { number = 6; name = codes "BodyText" }
-text_of BodyLine = record { number = 7; name = codes "BodyLine" }
-text_of Reserved = record { number = 8; name = codes "Reserved" }
-text_of ReservedTwice = record { number = 9; name = codes "ReservedTwice" }
-text_of NoTitle = record { number = 10; name = codes "NoTitle" }
-text_of BadTitle = record { number = 11; name = codes "BadTitle" }
-text_of TooManyEntries = record { number = 12; name = codes "TooManyEntries" }
-text_of TextTooLong = record { number = 13; name = codes "TextTooLong" }
-text_of LastLine = record { number = 14; name = codes "LastLine" }
-text_of Shown = record { number = 15; name = codes "Shown" }
+abbrev pub edition_refusal_text : EditionRefusal → RefusalText
+edition_refusal_text IndexNotUtf8 = record { number = 1; name = codes "IndexNotUtf8" }
+edition_refusal_text Columns = record { number = 2; name = codes "Columns" }
+edition_refusal_text Number = record { number = 3; name = codes "Number" }
+edition_refusal_text Interval = record { number = 4; name = codes "Interval" }
+edition_refusal_text Headword = record { number = 5; name = codes "Headword" }
+edition_refusal_text BodyText = record { number = 6; name = codes "BodyText" }
+edition_refusal_text BodyLine = record { number = 7; name = codes "BodyLine" }
+edition_refusal_text Reserved = record { number = 8; name = codes "Reserved" }
+edition_refusal_text ReservedTwice = record { number = 9; name = codes "ReservedTwice" }
+edition_refusal_text NoTitle = record { number = 10; name = codes "NoTitle" }
+edition_refusal_text BadTitle = record { number = 11; name = codes "BadTitle" }
+edition_refusal_text TooManyEntries = record { number = 12; name = codes "TooManyEntries" }
+edition_refusal_text TextTooLong = record { number = 13; name = codes "TextTooLong" }
+edition_refusal_text LastLine = record { number = 14; name = codes "LastLine" }
+edition_refusal_text Shown = record { number = 15; name = codes "Shown" }
 
 abbrev pub refusal_number : EditionRefusal → ℕ
-refusal_number refusal = (text_of refusal).number
+refusal_number refusal = (edition_refusal_text refusal).number
 
 abbrev pub refusal_name : EditionRefusal → List ℕ
-refusal_name refusal = (text_of refusal).name
+refusal_name refusal = (edition_refusal_text refusal).name
 
 -- the tests in order: first those of the whole files
 abbrev pub whole_tests : List EditionRefusal

@@ -8,8 +8,8 @@ use Rattle.dict_index.specs.Order.{IsFirstFailing}
 use Rattle.dict_index.specs.Meaning.{IsFault}
 use Rattle.dict_index.specs.declared.fault.EditionRefusal.{EditionRefusal}
 use Rattle.dict_index.specs.declared.fault.EditionRefusal.TheVariants.{NoTitle, BadTitle}
-use Rattle.dict_index.specs.declared.line.LineFault.{LineFault}
-use Rattle.dict_index.specs.declared.line.LineFault.TheVariants as line_faults
+use Rattle.dict_index.specs.declared.line.EntryLineFault.{EntryLineFault}
+use Rattle.dict_index.specs.declared.line.EntryLineFault.TheVariants as line_faults
 use Rattle.dict_index.specs.declared.fault.IndexFault.{IndexFault}
 use Rattle.dict_index.specs.declared.fault.IndexFault.TheVariants as faults
 
@@ -25,18 +25,18 @@ FailsWhole refusal index text = IsFirstFailing (λ f. PassesWhole f index text) 
 abbrev pub PassesEach : List EditionRefusal → List ℕ → List (List ℕ) → List ℕ → Type 0
 PassesEach tests text before line = AllByRecursion (λ f. PassesLine f text before line) tests
 
-abbrev pub FailsFirst : List EditionRefusal → EditionRefusal → List ℕ → List (List ℕ) → List ℕ → Type 0
-FailsFirst tests refusal text before line = IsFirstFailing (λ f. PassesLine f text before line) tests refusal
+abbrev pub LineFailsFirst : List EditionRefusal → EditionRefusal → List ℕ → List (List ℕ) → List ℕ → Type 0
+LineFailsFirst tests refusal text before line = IsFirstFailing (λ f. PassesLine f text before line) tests refusal
 
 -- what a line says is not read for memory, or because of the first test that it doesn't pass, whatever lines stand
 -- before it
-abbrev pub IsLineFault : LineFault → List ℕ → List ℕ → Type 0
-IsLineFault (line_faults.Refused refusal) text line = (before : List (List ℕ)) → FailsFirst said_tests refusal text before line
+abbrev pub IsLineFault : EntryLineFault → List ℕ → List ℕ → Type 0
+IsLineFault (line_faults.Refused refusal) text line = (before : List (List ℕ)) → LineFailsFirst said_tests refusal text before line
 IsLineFault line_faults.Memory text line = Unit {0}
 
 -- why a line is not gathered, behind these lines
-abbrev pub IsFaultBehind : LineFault → List ℕ → List (List ℕ) → List ℕ → Type 0
-IsFaultBehind (line_faults.Refused refusal) text lines line = FailsFirst line_tests refusal text lines line
+abbrev pub IsFaultBehind : EntryLineFault → List ℕ → List (List ℕ) → List ℕ → Type 0
+IsFaultBehind (line_faults.Refused refusal) text lines line = LineFailsFirst line_tests refusal text lines line
 IsFaultBehind line_faults.Memory text lines line = Unit {0}
 
 -- the first n lines pass each test of a line
@@ -47,10 +47,10 @@ PassLines index text n = (k : ℕ) → k < n → PassesEach line_tests text (tak
 pub record StopsAt (index text : List ℕ) (refusal : EditionRefusal) (k : ℕ) : Type 0 where
   pub there : k < length (text_lines index)
   pub before : PassLines index text k
-  pub first : FailsFirst line_tests refusal text (take k (text_lines index)) (line_at index k)
+  pub first : LineFailsFirst line_tests refusal text (take k (text_lines index)) (line_at index k)
 
 -- a line's fault, with the line's number
-abbrev pub told_at : LineFault → ℕ → IndexFault
+abbrev pub told_at : EntryLineFault → ℕ → IndexFault
 told_at (line_faults.Refused refusal) number = faults.Refused refusal (Some number)
 told_at line_faults.Memory number = faults.Memory
 

@@ -19,8 +19,8 @@ abbrev pub is_reserved : List ℕ → Bool
 is_reserved key = starts_with nat_eq key (codes "00database")
 
 -- the reserved key is one of those that are known
-abbrev pub is_known : List ℕ → Bool
-is_known key = list_any (bytes_eq key) (short_key ∷ info_key ∷ codes "00databaseurl" ∷ codes "00databaseutf8" ∷ codes "00databasealphabet" ∷ [])
+abbrev pub is_known_reserved : List ℕ → Bool
+is_known_reserved key = list_any (bytes_eq key) (short_key ∷ info_key ∷ codes "00databaseurl" ∷ codes "00databaseutf8" ∷ codes "00databasealphabet" ∷ [])
     || starts_with nat_eq key (codes "00databasedictfmt")
 
 -- the body of the first line with this key

@@ -7,7 +7,7 @@ use Rattle.dict_text.specs.Lines.{text_lines}
 use Rattle.dict_match.specs.Key.{reserved_key_of}
 use Rattle.dict_index.specs.Limits.{most_lines, most_octets}
 use Rattle.dict_index.specs.Line.{Line, IsLine, body_in, tab}
-use Rattle.dict_index.specs.Reserved.{is_reserved, is_known, title_in}
+use Rattle.dict_index.specs.Reserved.{is_reserved, is_known_reserved, title_in}
 use Rattle.dict_index.specs.declared.fault.EditionRefusal.{EditionRefusal}
 use Rattle.dict_index.specs.declared.fault.EditionRefusal.TheVariants.{IndexNotUtf8, Columns, Number, Interval, Headword, BodyText, BodyLine, Reserved, ReservedTwice, NoTitle, BadTitle, TooManyEntries, TextTooLong, LastLine, Shown}
 
@@ -78,8 +78,8 @@ PassesLine Headword text before line = IfSays line (λ said. IsHeadword said.hea
 PassesLine Shown text before line = IfFourth line IsShown
 PassesLine BodyText text before line = IfSays line (λ said. IsText (body_in text said))
 PassesLine BodyLine text before line = IfSays line (λ said. HasShortLines (body_in text said))
-PassesLine Reserved text before line = IfSays line (λ said. IsTrue (is_reserved (reserved_key_of said.headword)) → IsTrue (is_known (reserved_key_of said.headword)))
-PassesLine ReservedTwice text before line = IfSays line (λ said. IsTrue (is_known (reserved_key_of said.headword)) → NoneHasKey before (reserved_key_of said.headword))
+PassesLine Reserved text before line = IfSays line (λ said. IsTrue (is_reserved (reserved_key_of said.headword)) → IsTrue (is_known_reserved (reserved_key_of said.headword)))
+PassesLine ReservedTwice text before line = IfSays line (λ said. IsTrue (is_known_reserved (reserved_key_of said.headword)) → NoneHasKey before (reserved_key_of said.headword))
 PassesLine _ text before line = Unit {0}
 
 -- the index and the text pass the test; a test of a line is made at the line with this number, from 0

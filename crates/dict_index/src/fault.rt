@@ -1,6 +1,6 @@
 // Why a pair of files is no edition.
 ghost use Rattle.std.specs.Prelude.{◌≡◌};
-ghost use Rattle.dict_index.specs.Refusals.{refusal_number, refusal_name, text_of};
+ghost use Rattle.dict_index.specs.Refusals.{refusal_number, refusal_name, edition_refusal_text};
 
 use std::alloc::{AllocError, AllocFailed};
 use thiserror::Error;
@@ -43,8 +43,8 @@ pub enum EditionRefusal {
 impl EditionRefusal {
     // What users see of the refusal: its number, 1 to 15, and its name.
     fn text(self) -> (u8, &'static str)
-        ensures number { result.0 ≡ (text_of self).number }
-        ensures name { result.1.now ≡ (text_of self).name }
+        ensures number { result.0 ≡ (edition_refusal_text self).number }
+        ensures name { result.1.now ≡ (edition_refusal_text self).name }
     {
         match self {
             EditionRefusal::IndexNotUtf8 => (1, "IndexNotUtf8"),

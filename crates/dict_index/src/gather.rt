@@ -1,7 +1,7 @@
 // The entries and the reserved texts of the lines of an index.
 ghost use Rattle.std.specs.Prelude.{◌≡◌, ℕ, List, [], ◌∷◌, ◌++◌, IfOk, IfErr, OnOk, OnErr};
 ghost use Rattle.std.specs.Str.{IsUtf8};
-ghost use Rattle.dict_index.specs.Reserved.{is_reserved, is_known};
+ghost use Rattle.dict_index.specs.Reserved.{is_reserved, is_known_reserved};
 ghost use Rattle.dict_index.specs.Line.{IsLine};
 ghost use Rattle.dict_index.specs.Views.{line_of, HasBodyIn, HasItsKey, HasReservedKey};
 ghost use Rattle.dict_index.specs.Tests.{PassesLine};
@@ -9,7 +9,7 @@ ghost use Rattle.dict_index.specs.declared.fault.EditionRefusal.TheVariants.{Res
 
 use crate::entry::Entry;
 use crate::fault::EditionRefusal;
-use crate::line::{LineFault, as_text, searched_key};
+use crate::line::{EntryLineFault, as_text, searched_key};
 use std::alloc::{AllocError, Global};
 use std::collections::BTreeMap;
 
@@ -29,7 +29,7 @@ pub(crate) fn is_reserved_key(key: &[u8]) -> bool
 
 // Whether a reserved key is one of those that are known.
 fn is_known_key(key: &[u8]) -> bool
-    ensures { result ≡ is_known key.now }
+    ensures { result ≡ is_known_reserved key.now }
 {
     key == b"00databaseshort".as_slice()
         || key == b"00databaseinfo".as_slice()
@@ -71,7 +71,7 @@ impl<'a> Gathered<'a> {
     }
 
     // Adds a line's entry, or its text where its key is reserved.
-    pub(crate) fn add(&mut self, alloc: Global, read: Entry<'a>) -> Result<(), LineFault>
+    pub(crate) fn add(&mut self, alloc: Global, read: Entry<'a>) -> Result<(), EntryLineFault>
         requires key { HasReservedKey read }
         requires text { IsUtf8 read.headword.now }
         ensures added { OnOk result ((text : List ℕ) (lines : List (List ℕ)) (line : List ℕ) →
@@ -83,25 +83,25 @@ impl<'a> Gathered<'a> {
     {
         if !is_reserved_key(read.key.as_bytes()) {
             let Ok(entry) = with_its_key(alloc, read) else {
-                return Err(LineFault::Memory);
+                return Err(EntryLineFault::Memory);
             };
             let Ok(()) = self.entries.push(entry) else {
-                return Err(LineFault::Memory);
+                return Err(EntryLineFault::Memory);
             };
             return Ok(());
         }
         if !is_known_key(read.key.as_bytes()) {
-            return Err(LineFault::Refused(EditionRefusal::Reserved));
+            return Err(EntryLineFault::Refused(EditionRefusal::Reserved));
         }
         let name = as_text(read.key.as_bytes());
         if self.reserved.contains_key(name) {
-            return Err(LineFault::Refused(EditionRefusal::ReservedTwice));
+            return Err(EntryLineFault::Refused(EditionRefusal::ReservedTwice));
         }
         let Ok(owned) = String::from_str(alloc, name) else {
-            return Err(LineFault::Memory);
+            return Err(EntryLineFault::Memory);
         };
         let Ok(_) = self.reserved.insert(owned, read.body) else {
-            return Err(LineFault::Memory);
+            return Err(EntryLineFault::Memory);
         };
         Ok(())
     }

@@ -146,7 +146,7 @@ pub(crate) fn as_text(octets: &[u8]) -> &str
 
 /// Why a line is no entry.
 #[derive(Clone, Copy, Debug, PartialEq, Eq)]
-pub(crate) enum LineFault {
+pub(crate) enum EntryLineFault {
     Refused(EditionRefusal),
     Memory,
 }
@@ -156,7 +156,7 @@ pub(crate) fn read_line<'a>(
     alloc: Global,
     line: &'a [u8],
     text: &'a [u8],
-) -> Result<Entry<'a>, LineFault>
+) -> Result<Entry<'a>, EntryLineFault>
     requires { IsUtf8 line.now }
     ensures said { IfOk result (λ entry. IsLine line.now (line_of entry)) }
     ensures body { IfOk result (HasBodyIn text.now) }
@@ -166,28 +166,28 @@ pub(crate) fn read_line<'a>(
     ensures refused { IfErr result (λ fault. IsLineFault fault text.now line.now) }
 {
     let Some(columns) = columns_of(line) else {
-        return Err(LineFault::Refused(EditionRefusal::Columns));
+        return Err(EntryLineFault::Refused(EditionRefusal::Columns));
     };
     let Some((offset, size)) = interval_of(columns) else {
-        return Err(LineFault::Refused(EditionRefusal::Number));
+        return Err(EntryLineFault::Refused(EditionRefusal::Number));
     };
     let Some(body) = cut_out(text, offset, size) else {
-        return Err(LineFault::Refused(EditionRefusal::Interval));
+        return Err(EntryLineFault::Refused(EditionRefusal::Interval));
     };
     let headword = as_text(columns.headword);
     let key = match headword_key(alloc, headword) {
         Ok(Some(key)) => key,
-        Ok(None) => return Err(LineFault::Refused(EditionRefusal::Headword)),
-        Err(_) => return Err(LineFault::Memory),
+        Ok(None) => return Err(EntryLineFault::Refused(EditionRefusal::Headword)),
+        Err(_) => return Err(EntryLineFault::Memory),
     };
     let Some(shown) = shown_of(headword, columns.shown) else {
-        return Err(LineFault::Refused(EditionRefusal::Shown));
+        return Err(EntryLineFault::Refused(EditionRefusal::Shown));
     };
     let Some(body) = text_of(body) else {
-        return Err(LineFault::Refused(EditionRefusal::BodyText));
+        return Err(EntryLineFault::Refused(EditionRefusal::BodyText));
     };
     if !has_short_lines(body.as_bytes()) {
-        return Err(LineFault::Refused(EditionRefusal::BodyLine));
+        return Err(EntryLineFault::Refused(EditionRefusal::BodyLine));
     }
     Ok(Entry {
         headword,

@@ -11,7 +11,7 @@ ghost use Rattle.dict_index.specs.Refused.{PassesEach, PassLines, IsLinesFault, 
 use crate::edition::Edition;
 use crate::fault::IndexFault;
 use crate::gather::Gathered;
-use crate::line::{LineFault, read_line};
+use crate::line::{EntryLineFault, read_line};
 use crate::title::{refused, title_and_info};
 use crate::whole::whole_refusal;
 use dict_text::text_lines;
@@ -23,7 +23,7 @@ fn read_and_add<'a>(
     gathered: &mut Gathered<'a>,
     line: &'a [u8],
     text: &'a [u8],
-) -> Result<(), LineFault>
+) -> Result<(), EntryLineFault>
     requires { IsUtf8 line.now }
     ensures added { OnOk result ((lines : List (List ℕ)) → HasGathered text.now lines gathered.old → HasGathered text.now (lines ++ line.now ∷ []) gathered.new) }
     ensures passes { OnOk result ((lines : List (List ℕ)) → HasGathered text.now lines gathered.old → PassesEach line_tests text.now lines line.now) }
@@ -36,12 +36,12 @@ fn read_and_add<'a>(
 }
 
 // A line's fault, told with the line's number.
-fn at_line(fault: LineFault, number: usize) -> IndexFault
+fn at_line(fault: EntryLineFault, number: usize) -> IndexFault
     ensures { result ≡ told_at fault number }
 {
     match fault {
-        LineFault::Memory => IndexFault::Memory,
-        LineFault::Refused(refusal) => IndexFault::Refused {
+        EntryLineFault::Memory => IndexFault::Memory,
+        EntryLineFault::Refused(refusal) => IndexFault::Refused {
             refusal,
             line: Some(number),
         },

@@ -11,23 +11,23 @@ use Rattle.sqlite.proofs.StateLemmas.{survives_then}
 use Rattle.dict_sql.specs.Effects.{WhileOpen}
 use Rattle.dict_parts.specs.Parts.{parts_of}
 use Rattle.dict_holdings.specs.Texts.{HoldsText}
-use Rattle.dict_lookup.specs.KeptTexts.{Key, same_key, with_text}
+use Rattle.dict_lookup.specs.KeptTexts.{PartNumbers, same_key, with_text}
 use Rattle.dict_lookup.proofs.KeptLemmas.{all_without, all_with, all_found}
 use Rattle.dict_desk.specs.declared.fault.Fault.{Fault}
 use Rattle.dict_desk.specs.declared.fault.Fault.TheVariants.{Memory}
-use Rattle.dict_lookup.specs.Searches.{IsUnread, column_of}
-use Rattle.dict_lookup.specs.Texts.{IsPartOf, ArePartsOf, AreMade, MayKeep, HasText, IsAtMostRead, Asks, FailsToFind}
+use Rattle.dict_lookup.specs.Searches.{IsUnreadEdition, number_in_column}
+use Rattle.dict_lookup.specs.Texts.{IsPartOf, ArePartsOf, AreOfInstalls, MayKeep, HasText, IsAtMostRead, AsksForParts, FailsToFind}
 use Rattle.dict_lookup.proofs.FailLemmas.{fails_behind}
 use Rattle.dict_lookup.proofs.StateLemmas.{clean_before}
 
 -- a part is put, or a growth is refused
-pub put_by : {T E : Type 0} (result : Result T E) (installs : ℕ) (key : Key) (octets : List ℕ) (old new : List (Key × List ℕ)) → key.0 ≤ installs → OnOk result (new ≡ with_text key octets old)
+pub put_by : {T E : Type 0} (result : Result T E) (installs : ℕ) (key : PartNumbers) (octets : List ℕ) (old new : List (PartNumbers × List ℕ)) → key.0 ≤ installs → OnOk result (new ≡ with_text key octets old)
     → OnErr result (new ≡ old) → MayKeep installs key octets old new
 put_by (Ok value) installs key octets old new low put same = inr (low, put)
 put_by (Err error) installs key octets old new low put same = inl same
 
 -- the one that is kept under a number is that part of the text
-pub part_kept : (number part : ℕ) (octets : List ℕ) (texts : List (Key × List ℕ)) → lookup (same_key (number, part)) texts ≡ Some octets → (text : List ℕ) → ArePartsOf number text texts → octets ≡ get_or (parts_of text) part []
+pub part_kept : (number part : ℕ) (octets : List ℕ) (texts : List (PartNumbers × List ℕ)) → lookup (same_key (number, part)) texts ≡ Some octets → (text : List ℕ) → ArePartsOf number text texts → octets ≡ get_or (parts_of text) part []
 part_kept number part octets texts there text are = all_found (IsPartOf number text) (number, part) octets texts there are refl
 
 survives_itself : (s : State) → Survives s s (λ _. ⊥)
@@ -57,17 +57,17 @@ module _ {S : Type 0} (g : Ghosts S) where
   -- ---- one part
 
   -- one was taken out, and it isn't kept
-  pub asks_left : (installs number part : ℕ) (old new : Held S) (x y : List (Key × List ℕ)) → (old.in_transaction ≡ false → new.in_transaction ≡ false) → Survives (state g old) (state g new) (λ _. ⊥)
-      → y ≡ remove_entry (same_key (number, part)) x → Asks g installs number old new x y
+  pub asks_left : (installs number part : ℕ) (old new : Held S) (x y : List (PartNumbers × List ℕ)) → (old.in_transaction ≡ false → new.in_transaction ≡ false) → Survives (state g old) (state g new) (λ _. ⊥)
+      → y ≡ remove_entry (same_key (number, part)) x → AsksForParts g installs number old new x y
   asks_left installs number part old new x y mode survives left = record {
     mode = mode;
     survives = survives;
     texts = λ clean other text are held. subst (ArePartsOf other text) (sym left) (all_without (IsPartOf other text) (number, part) x are);
-    made = λ made. subst (AreMade installs) (sym left) (all_without (λ kept. kept.0.0 ≤ installs) (number, part) x made);
+    made = λ made. subst (AreOfInstalls installs) (sym left) (all_without (λ kept. kept.0.0 ≤ installs) (number, part) x made);
   }
 
   -- one was taken out or read, and may be kept from then on
-  module _ (installs number part : ℕ) (old new : Held S) (x y z : List (Key × List ℕ)) (octets : List ℕ) (first : Asks g installs number old new x y) (may : MayKeep installs (number, part) octets y z)
+  module _ (installs number part : ℕ) (old new : Held S) (x y z : List (PartNumbers × List ℕ)) (octets : List ℕ) (first : AsksForParts g installs number old new x y) (may : MayKeep installs (number, part) octets y z)
       (is : HasCleanDisk (state g new) → (text : List ℕ) → HasText (state g old) number text x → octets ≡ get_or (parts_of text) part []) where
     texts_kept : HasCleanDisk (state g new) → (other : ℕ) (text : List ℕ) → ArePartsOf other text x → (other ≡ number → IsTrue (state g old).is_open → HoldsText (state g old).now other text) → ArePartsOf other text z
     texts_kept clean other text are held = elim may [
@@ -83,21 +83,21 @@ module _ {S : Type 0} (g : Ghosts S) where
           (first.texts clean other text are held))
     ]
 
-    made_kept : AreMade installs x → AreMade installs z
+    made_kept : AreOfInstalls installs x → AreOfInstalls installs z
     made_kept made = elim may [
-      | inl same ↦ subst (AreMade installs) (sym same) (first.made made)
-      | inr put ↦ subst (AreMade installs) (sym put.1) (all_with (λ kept. kept.0.0 ≤ installs) (number, part) octets y put.0 (first.made made))
+      | inl same ↦ subst (AreOfInstalls installs) (sym same) (first.made made)
+      | inr put ↦ subst (AreOfInstalls installs) (sym put.1) (all_with (λ kept. kept.0.0 ≤ installs) (number, part) octets y put.0 (first.made made))
     ]
 
-    pub asks_kept : Asks g installs number old new x z
+    pub asks_kept : AsksForParts g installs number old new x z
     asks_kept = record { mode = first.mode; survives = first.survives; texts = texts_kept; made = made_kept }
 
   -- ---- none, or some and then some more
 
-  pub asks_none : (installs number : ℕ) (a : Held S) (x : List (Key × List ℕ)) → Asks g installs number a a x x
+  pub asks_none : (installs number : ℕ) (a : Held S) (x : List (PartNumbers × List ℕ)) → AsksForParts g installs number a a x x
   asks_none installs number a x = record { mode = λ none. none; survives = survives_itself (state g a); texts = λ clean other text are held. are; made = λ made. made }
 
-  pub asks_then : (installs number : ℕ) (a b c : Held S) (x y z : List (Key × List ℕ)) → Asks g installs number a b x y → (HasCleanDisk (state g b) → IsAtMostRead g a b) → Asks g installs number b c y z → Asks g installs number a c x z
+  pub asks_then : (installs number : ℕ) (a b c : Held S) (x y z : List (PartNumbers × List ℕ)) → AsksForParts g installs number a b x y → (HasCleanDisk (state g b) → IsAtMostRead g a b) → AsksForParts g installs number b c y z → AsksForParts g installs number a c x z
   asks_then installs number a b c x y z first same second = record {
     mode = λ none. second.mode (first.mode none);
     survives = survives_then (state g a) (state g b) (state g c) (λ _. ⊥) (λ _. ⊥) (λ _. ⊥) (λ _ db none. none) (λ _ db none. none) first.survives second.survives;
@@ -111,7 +111,7 @@ module _ {S : Type 0} (g : Ghosts S) where
   same_then a b c survives first clean second = read_then a b c (first (clean_before (state g b) (state g c) survives clean)) second
 
   -- the text is there still
-  pub has_still : (installs number : ℕ) (a b : Held S) (x y : List (Key × List ℕ)) → Asks g installs number a b x y → (HasCleanDisk (state g b) → IsAtMostRead g a b) → HasCleanDisk (state g b)
+  pub has_still : (installs number : ℕ) (a b : Held S) (x y : List (PartNumbers × List ℕ)) → AsksForParts g installs number a b x y → (HasCleanDisk (state g b) → IsAtMostRead g a b) → HasCleanDisk (state g b)
       → (text : List ℕ) → HasText (state g a) number text x → HasText (state g b) number text y
   has_still installs number a b x y asks same clean text has = record { kept = asks.texts clean number text has.kept (λ _. has.held); held = text_still number text a b (same clean) has.held }
 
@@ -124,8 +124,8 @@ module _ {S : Type 0} (g : Ghosts S) where
 
   find_behind : (number : ℕ) (a b c : Held S) (fault : Fault) → Survives (state g a) (state g b) (λ _. ⊥) → IsAtMostRead g a b → FailsToFind g number b c fault → FailsToFind g number a c fault
   find_behind number a b c fault survives (inl same) h = subst (λ (s : Held S). FailsToFind g number s c fault) same h
-  find_behind number a b c fault survives (inr same) (inl h) = inr (inl (subst (λ (s : Held S). IsUnchanged (state g a) (state g s)) (sym h.1) same, subst (IsUnread (column_of number) (state g a)) (sym h.0) tt))
-  find_behind number a b c fault survives (inr same) (inr h) = inr (fails_behind (column_of number) (state g a) (state g b) (state g c) same survives fault h)
+  find_behind number a b c fault survives (inr same) (inl h) = inr (inl (subst (λ (s : Held S). IsUnchanged (state g a) (state g s)) (sym h.1) same, subst (IsUnreadEdition (number_in_column number) (state g a)) (sym h.0) tt))
+  find_behind number a b c fault survives (inr same) (inr h) = inr (fails_behind (number_in_column number) (state g a) (state g b) (state g c) same survives fault h)
 
   pub fails_then : (number : ℕ) (a b c : Held S) → Survives (state g a) (state g b) (λ _. ⊥) → Survives (state g b) (state g c) (λ _. ⊥) → (HasCleanDisk (state g b) → IsAtMostRead g a b)
       → HasCleanDisk (state g c) → (fault : Fault) → FailsToFind g number b c fault → FailsToFind g number a c fault

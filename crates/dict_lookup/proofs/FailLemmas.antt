@@ -17,18 +17,18 @@ use Rattle.dict_sql.specs.declared.records.ReadError.{ReadError}
 use Rattle.dict_sql.specs.declared.records.ReadError.TheVariants.{NoRecord, Store}
 use Rattle.dict_desk.specs.declared.fault.Fault.{Fault}
 use Rattle.dict_desk.specs.declared.fault.Fault.TheVariants.{Refused, Memory, Disk, Closed, NotACatalogue, Damaged, NewerSchema}
-use Rattle.dict_lookup.specs.Searches.{fault_of, fault_of_read, IsReadable, IsUnread, FailsToLookUp}
+use Rattle.dict_lookup.specs.Searches.{fault_of, fault_of_read, IsEditionReadable, IsUnreadEdition, FailsToLookUp}
 
 pub read_fails : (number : ℕ) (old new : State) (e : Error) → FailsToRead old new e → FailsToLookUp number old new (fault_of e)
 read_fails number old new e (inl fails) = inr (e, refl, fails)
-read_fails number old new e (inr limit) = inl (limit.2, subst (λ e. IsUnread number old (fault_of e)) (sym limit.0) (inl limit.1))
+read_fails number old new e (inr limit) = inl (limit.2, subst (λ e. IsUnreadEdition number old (fault_of e)) (sym limit.0) (inl limit.1))
 
 module _ (number : ℕ) (a b c : State) (same : IsUnchanged a b) (survives : Survives a b (λ _. ⊥)) where
-  unread_behind : (fault : Fault) → IsUnread number b fault → IsUnread number a fault
+  unread_behind : (fault : Fault) → IsUnreadEdition number b fault → IsUnreadEdition number a fault
   unread_behind (Refused refusal) h = h
   unread_behind Memory h = tt
   unread_behind Disk (inl limit) = inl (subst IsSome survives.limit limit)
-  unread_behind Disk (inr none) = inr (subst (λ (db : Database). IsReadable db number → ⊥) same.0.now_is none)
+  unread_behind Disk (inr none) = inr (subst (λ (db : Database). IsEditionReadable db number → ⊥) same.0.now_is none)
   unread_behind Closed h = h
   unread_behind NotACatalogue h = h
   unread_behind Damaged h = h
@@ -69,8 +69,8 @@ pub all_contains : {X : Type 0} (P : X → Type 0) (xs : List X) (x : X) → All
 all_contains P xs x all h = subst P h.2 (All-from_recursion P xs all h.0 x h.1)
 
 -- some rows of a number could not be read, each of which stands for a record
-pub list_fails : (number : ℕ) (rows : Database → List Row) (columns : List Content) (old new : State) → (IsReadable old.now number → AllByRecursion (HasColumns columns) (rows old.now))
+pub list_fails : (number : ℕ) (rows : Database → List Row) (columns : List Content) (old new : State) → (IsEditionReadable old.now number → AllByRecursion (HasColumns columns) (rows old.now))
     → (e : ReadError) → FailsToList columns (rows old.now) old new e → FailsToLookUp number old new (fault_of_read e)
 list_fails number rows columns old new readable NoRecord h = inl (h.0, inr (λ held. h.1.2 (all_contains (HasColumns columns) (rows old.now) h.1.0 (readable held) h.1.1)))
 list_fails number rows columns old new readable (Store e) (inl fails) = read_fails number old new e fails
-list_fails number rows columns old new readable (Store e) (inr refused) = inl (refused.0, subst (λ e. IsUnread number old (fault_of e)) (sym refused.1) tt)
+list_fails number rows columns old new readable (Store e) (inr refused) = inl (refused.0, subst (λ e. IsUnreadEdition number old (fault_of e)) (sym refused.1) tt)

@@ -10,7 +10,7 @@ use Rattle.sqlite.specs.Table.{Table}
 use Rattle.sqlite.specs.declared.types.Value.{Value}
 use Rattle.sqlite.specs.declared.types.Value.TheVariants.{Int, Blob}
 use Rattle.dict_text.proofs.AllLemmas.{all_filter, all_flat_map_parts}
-use Rattle.dict_records.specs.Records.{Edition, Part, header_of}
+use Rattle.dict_records.specs.Records.{EditionRecord, Part, header_of}
 use Rattle.dict_tables.specs.Found.{HasOwn}
 use Rattle.dict_sql.specs.Columns.{HasColumns}
 use Rattle.dict_sql.specs.Effects.{Has, rows_of, equals_number, same_value}
@@ -35,7 +35,7 @@ use Rattle.dict_holdings.specs.Holds.{HasLayout, Holds}
 use Rattle.dict_holdings.specs.Texts.{HoldsText, text_rows}
 use Rattle.dict_holdings.proofs.ReadableLemmas as holdings
 use Rattle.dict_search.specs.Entries.{entry_of}
-use Rattle.dict_lookup.specs.Searches.{HasLookupTables, HoldsOne, IsReadable, rows_under}
+use Rattle.dict_lookup.specs.Searches.{HasLookupTables, HoldsOne, IsEditionReadable, rows_under}
 use Rattle.dict_lookup.specs.Texts.{Cuts}
 use Rattle.dict_lookup.proofs.FailLemmas.{all_contains}
 use Rattle.dict_lookup.proofs.RowLemmas.{column_behind, filter_map, rows_numbered, same_int}
@@ -44,8 +44,8 @@ use Rattle.dict_lookup.proofs.ListLemmas.{all_unmapped, map_undone}
 -- ---- the rows of a number
 
 module _ (db : Database) (T : Tables) (k : KeepsAll Parted db (with_derived T)) (number : ℕ) where
-  pub headers_under : IsPermutation (map (λ (e : Edition). header_row (header_of e)) (editions_numbered (pos number) T.editions)) (rows_under (codes "edition") number db)
-  headers_under = rows_numbered (λ (e : Edition). header_row (header_of e)) (λ (e : Edition). e.number) (λ e. refl) (codes "edition") db T.editions k.1.1.1.1.0.rows (pos number)
+  pub headers_under : IsPermutation (map (λ (e : EditionRecord). header_row (header_of e)) (editions_numbered (pos number) T.editions)) (rows_under (codes "edition") number db)
+  headers_under = rows_numbered (λ (e : EditionRecord). header_row (header_of e)) (λ (e : EditionRecord). e.number) (λ e. refl) (codes "edition") db T.editions k.1.1.1.1.0.rows (pos number)
 
 -- the test of a part, on its row
 abbrev behind_test : (n f : ℤ) → Row → Bool
@@ -75,7 +75,7 @@ parts_of_file db ps same n f =
 
 -- ---- each row under a number stands for a header, or for a part
 
-pub held_readable : (db : Database) (M : Catalogue) (number : ℕ) → Holds known db M → IsReadable db number
+pub held_readable : (db : Database) (M : Catalogue) (number : ℕ) → Holds known db M → IsEditionReadable db number
 held_readable db M number holds =
     let all = holdings.held_readable known db M holds in
     record {
@@ -163,7 +163,7 @@ held_one db M number edition holds has =
       record {
         few = few;
         owner = name_of item;
-        row = subst (λ (l : List Edition). IsPermutation (map (λ (e : Edition). header_row (header_of e)) l) (rows_under (codes "edition") number db)) one.row (headers_under db T k number);
+        row = subst (λ (l : List EditionRecord). IsPermutation (map (λ (e : EditionRecord). header_row (header_of e)) l) (rows_under (codes "edition") number db)) one.row (headers_under db T k number);
       },
       one.says,
       text_held db T k (name_of item) stored one few,

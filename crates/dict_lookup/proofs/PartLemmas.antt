@@ -31,7 +31,7 @@ use Rattle.dict_rows.proofs.PartLemmas.{filter_filter}
 use Rattle.dict_rows.proofs.TakenLemmas.{nat_itself}
 use Rattle.dict_holdings.specs.Files.{part_at, file_parts}
 use Rattle.dict_holdings.specs.Texts.{HoldsText, text_rows}
-use Rattle.dict_lookup.specs.Searches.{IsReadable}
+use Rattle.dict_lookup.specs.Searches.{IsEditionReadable}
 use Rattle.dict_lookup.proofs.ListLemmas.{map_twice}
 use Rattle.dict_lookup.proofs.RowLemmas.{column_behind, filter_map, same_int}
 
@@ -179,7 +179,7 @@ failed_as edition file part number n e f p old new error h =
     (subst (λ (z : ℤ). FailsToList part_columns (filter (is_numbered z file part) (rows_of (codes "dictcat_part") old.now)) old new error) e h))
 
 -- the rows of a part can be read where those of the text can
-pub part_readable : (number n : ℕ) (db : Database) → IsReadable db number → AllByRecursion (HasColumns part_columns) (filter (is_numbered (pos number) (pos 1) (pos n)) (rows_of (codes "dictcat_part") db))
+pub part_readable : (number n : ℕ) (db : Database) → IsEditionReadable db number → AllByRecursion (HasColumns part_columns) (filter (is_numbered (pos number) (pos 1) (pos n)) (rows_of (codes "dictcat_part") db))
 part_readable number n db h =
     let rows = rows_of (codes "dictcat_part") db in
     let of_file = filter (is_of_file (pos number) (pos 1)) rows in

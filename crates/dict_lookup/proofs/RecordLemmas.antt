@@ -19,7 +19,7 @@ use Rattle.dict_edition_sql.specs.HeaderRecords.{header_row, header_columns}
 use Rattle.dict_index.specs.Edition.{ReadEdition}
 use Rattle.dict_rows.specs.Written.{edition_record}
 use Rattle.dict_rows.proofs.OrderLemmas.{same_from, one_once}
-use Rattle.dict_lookup.specs.Searches.{HoldsOne, column_of}
+use Rattle.dict_lookup.specs.Searches.{HoldsOne, number_in_column}
 use Rattle.dict_lookup.proofs.RowLemmas.{column_behind}
 
 -- ---- a number in a column
@@ -29,13 +29,13 @@ few_by number true e = leb-true number 9223372036854775807 e
 few_by number false e = omega arith
 
 -- what is read back from it is the number that was put there
-pub at_column : (number : ℕ) → to_z w64 (of_z w64 (pos (column_of number))) ≡ pos (column_of number)
-at_column number = to_z-of_z w64 (pos (column_of number)) (record { sfits = let few : column_of number ≤ 9223372036854775807 = few_by number (leb number 9223372036854775807) refl in omega (arith, few) })
+pub at_column : (number : ℕ) → to_z w64 (of_z w64 (pos (number_in_column number))) ≡ pos (number_in_column number)
+at_column number = to_z-of_z w64 (pos (number_in_column number)) (record { sfits = let few : number_in_column number ≤ 9223372036854775807 = few_by number (leb number 9223372036854775807) refl in omega (arith, few) })
 
-pub column_is : (number : ℕ) → number ≤ 9223372036854775807 → column_of number ≡ number
+pub column_is : (number : ℕ) → number ≤ 9223372036854775807 → number_in_column number ≡ number
 column_is number few = ap (λ b. cond b number 0) (le-leb number 9223372036854775807 few)
 
-pub column_back : (number : ℕ) (z : ℤ) → z ≡ pos (column_of number) → to_z w64 (of_z w64 z) ≡ pos (column_of number)
+pub column_back : (number : ℕ) (z : ℤ) → z ≡ pos (number_in_column number) → to_z w64 (of_z w64 z) ≡ pos (number_in_column number)
 column_back number z is = ap (λ (z : ℤ). to_z w64 (of_z w64 z)) is ∙ at_column number
 
 -- ---- the info

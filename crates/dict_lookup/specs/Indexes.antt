@@ -12,11 +12,11 @@ abbrev pub entries_under : ℕ → List (ℕ × List Indexed) → Option (List I
 entries_under number indexes = lookup (nat_eq number) indexes
 
 -- The edition is what the lines of a reading cut out of its text, and under the edition's number stands an index of these lines.
-pub record IsIndexOf (indexes : List (ℕ × List Indexed)) (stored : Stored Edition) : Type 0 where
+pub record HasIndexOf (indexes : List (ℕ × List Indexed)) (stored : Stored Edition) : Type 0 where
   pub reading : ReadEdition
   pub says : stored.content ≡ edition_of reading
   pub stands : entries_under stored.number indexes ≡ Some (map entry_of reading.lines)
 
 -- Under the number of each edition of the catalogue, current and former, stands an index of that edition.
 abbrev pub AreIndexesOf : Catalogue → List (ℕ × List Indexed) → Type 0
-AreIndexesOf M indexes = AllByRecursion (λ item. AllByRecursion (IsIndexOf indexes) (editions_of item)) M.items
+AreIndexesOf M indexes = AllByRecursion (λ item. AllByRecursion (HasIndexOf indexes) (editions_of item)) M.items

@@ -37,11 +37,11 @@ pub record HoldsOne (db : Database) (number : ℕ) (reading : ReadEdition) : Typ
   pub row : IsPermutation (header_row (header_of (edition_record owner number reading)) ∷ []) (rows_under (codes "edition") number db)
 
 -- the number as a column has it: one that no column can have is no edition's, nor is the one that stands for it
-abbrev pub column_of : ℕ → ℕ
-column_of number = if nat_le number 9223372036854775807 then number else 0
+abbrev pub number_in_column : ℕ → ℕ
+number_in_column number = if nat_le number 9223372036854775807 then number else 0
 
 -- what stands under this number can be read: each row stands for a header, or for a part of the text
-pub record IsReadable (db : Database) (number : ℕ) : Type 0 where
+pub record IsEditionReadable (db : Database) (number : ℕ) : Type 0 where
   pub headers : AllByRecursion (HasColumns header_columns) (filter (equals_number 1 (pos number)) (rows_of (codes "edition") db))
   pub parts : AllByRecursion (HasColumns part_columns) (filter (is_of_file (pos number) (pos 1)) (rows_of (codes "dictcat_part") db))
 
@@ -49,16 +49,16 @@ pub record IsReadable (db : Database) (number : ℕ) : Type 0 where
 
 -- Why a lookup under this number fails though its store doesn't: a growth was refused; or the limit on steps was met, or
 -- what stands under the number is no edition's.
-abbrev pub IsUnread : ℕ → State → Fault → Type 0
-IsUnread number old (Refused refusal) = ⊥
-IsUnread number old Memory = Unit {0}
-IsUnread number old Disk = IsSome old.step_limit ⊎ (IsReadable old.now number → ⊥)
-IsUnread number old Closed = ⊥
-IsUnread number old NotACatalogue = ⊥
-IsUnread number old Damaged = ⊥
-IsUnread number old NewerSchema = ⊥
+abbrev pub IsUnreadEdition : ℕ → State → Fault → Type 0
+IsUnreadEdition number old (Refused refusal) = ⊥
+IsUnreadEdition number old Memory = Unit {0}
+IsUnreadEdition number old Disk = IsSome old.step_limit ⊎ (IsEditionReadable old.now number → ⊥)
+IsUnreadEdition number old Closed = ⊥
+IsUnreadEdition number old NotACatalogue = ⊥
+IsUnreadEdition number old Damaged = ⊥
+IsUnreadEdition number old NewerSchema = ⊥
 
 -- A lookup under this number failed: the store did, for the cause that its error names, of which this is the fault, and it
 -- shows what was committed; or nothing has changed, and the store did not fail.
 abbrev pub FailsToLookUp : ℕ → State → State → Fault → Type 0
-FailsToLookUp number old new fault = (IsUnchanged old new × IsUnread number old fault) ⊎ ((e : Error) × (fault ≡ fault_of e) × Fails old new ⊥ e)
+FailsToLookUp number old new fault = (IsUnchanged old new × IsUnreadEdition number old fault) ⊎ ((e : Error) × (fault ≡ fault_of e) × Fails old new ⊥ e)

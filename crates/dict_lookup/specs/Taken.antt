@@ -6,6 +6,6 @@ abbrev pub more_taken : ℕ → ℕ → ℕ
 more_taken taken more = min (taken + more) (2 ^ 64 - 1)
 
 -- a part of a text is read, which is one row, where it isn't kept
-abbrev pub rows_for : Option (List ℕ) → ℕ
-rows_for (Some octets) = 0
-rows_for None = 1
+abbrev pub rows_read_for : Option (List ℕ) → ℕ
+rows_read_for (Some octets) = 0
+rows_read_for None = 1

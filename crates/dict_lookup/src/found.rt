@@ -6,13 +6,13 @@ ghost use Rattle.dict_sql.specs.Effects.{Has, WhileOpen};
 ghost use Rattle.dict_edition_sql.specs.PartTable.{part as part_table};
 ghost use Rattle.dict_desk.specs.Shown.{Row as ShownRow};
 ghost use Rattle.dict_desk.specs.Handing.{Hands};
-ghost use Rattle.dict_search.specs.Entries.{entry_at, entries_at, row_in, headword_row, shown_of};
+ghost use Rattle.dict_search.specs.Entries.{entry_at, entries_at, row_in, headword_row, indexed_shown};
 ghost use Rattle.dict_lookup.specs.Searches.{IsOfStore};
-ghost use Rattle.dict_lookup.specs.Texts.{HasText, IsAtMostRead, Asks, FailsToFind};
+ghost use Rattle.dict_lookup.specs.Texts.{HasText, IsAtMostRead, AsksForParts, FailsToFind};
 ghost use Rattle.dict_lookup.specs.Taken.{more_taken};
 
 use crate::parts::body;
-use crate::texts::Texts;
+use crate::texts::TextParts;
 use dict_desk::{Demand, End, Fault, Row, RowSink};
 use dict_search::Index;
 use sqlite::{Alter, Connection};
@@ -22,7 +22,7 @@ use std::alloc::Global;
 fn hand_entry<S: Alter, T: RowSink>(
     alloc: Global,
     conn: &mut Connection<S>,
-    texts: &mut Texts,
+    texts: &mut TextParts,
     installs: u64,
     number: u64,
     index: &Index,
@@ -31,7 +31,7 @@ fn hand_entry<S: Alter, T: RowSink>(
     rows_taken: &mut u64,
 ) -> Result<Demand, Fault>
     requires { WhileOpen (state S.Store conn.old) (Has part_table) }
-    ensures asks { Asks S.Store installs number conn.old conn.new texts.old texts.new }
+    ensures asks { AsksForParts S.Store installs number conn.old conn.new texts.old texts.new }
     ensures more { HasCleanDisk (state S.Store conn.new) → (text : List ℕ) → length text < 64 ^ 6 → HasText (state S.Store conn.old) number text texts.old → result ≡ Ok Demand.More → T.takes sink.old (row_in text (entry_at index.now place) ∷ []) sink.new }
     ensures stop { HasCleanDisk (state S.Store conn.new) → (text : List ℕ) → length text < 64 ^ 6 → HasText (state S.Store conn.old) number text texts.old → result ≡ Ok Demand.Stop → T.stops sink.old (row_in text (entry_at index.now place) ∷ []) sink.new }
     ensures handed { (row : ShownRow) × (result ≡ Ok Demand.More → T.takes sink.old (row ∷ []) sink.new) × (result ≡ Ok Demand.Stop → T.stops sink.old (row ∷ []) sink.new) }
@@ -64,7 +64,7 @@ fn hand_entry<S: Alter, T: RowSink>(
 pub(crate) fn hand_found<S: Alter, T: RowSink>(
     alloc: Global,
     conn: &mut Connection<S>,
-    texts: &mut Texts,
+    texts: &mut TextParts,
     installs: u64,
     number: u64,
     index: &Index,
@@ -74,7 +74,7 @@ pub(crate) fn hand_found<S: Alter, T: RowSink>(
     rows_taken: &mut u64,
 ) -> Result<End, Fault>
     requires { WhileOpen (state S.Store conn.old) (Has part_table) }
-    ensures asks { Asks S.Store installs number conn.old conn.new texts.old texts.new }
+    ensures asks { AsksForParts S.Store installs number conn.old conn.new texts.old texts.new }
     ensures value { HasCleanDisk (state S.Store conn.new) → (text : List ℕ) → length text < 64 ^ 6 → HasText (state S.Store conn.old) number text texts.old → Hands T.takes T.stops sink.old sink.new (map (row_in text) (entries_at index.now places.now)) result }
     ensures handed { (rows : List ShownRow) × Hands T.takes T.stops sink.old sink.new rows result }
     ensures counted { OnOk result ((read : ℕ) × (rows_taken.new ≡ more_taken rows_taken.old read)) }
@@ -97,8 +97,8 @@ pub(crate) fn hand_found<S: Alter, T: RowSink>(
 
 // Hands out what is shown of the entry at a place.
 fn hand_shown<T: RowSink>(index: &Index, place: u32, sink: &mut T) -> Demand
-    ensures more { result ≡ Demand.More → T.takes sink.old (headword_row (shown_of (entry_at index.now place)) ∷ []) sink.new }
-    ensures stop { result ≡ Demand.Stop → T.stops sink.old (headword_row (shown_of (entry_at index.now place)) ∷ []) sink.new }
+    ensures more { result ≡ Demand.More → T.takes sink.old (headword_row (indexed_shown (entry_at index.now place)) ∷ []) sink.new }
+    ensures stop { result ≡ Demand.Stop → T.stops sink.old (headword_row (indexed_shown (entry_at index.now place)) ∷ []) sink.new }
 {
     let entry = index.entry(place);
     sink.take(Row {
@@ -109,8 +109,8 @@ fn hand_shown<T: RowSink>(index: &Index, place: u32, sink: &mut T) -> Demand
 
 // Hands out what is shown of the entries at these places.
 pub(crate) fn hand_headwords<T: RowSink>(index: &Index, places: &[u32], sink: &mut T) -> End
-    ensures all { result ≡ End.All → T.takes sink.old (map headword_row (map shown_of (entries_at index.now places.now))) sink.new }
-    ensures stopped { result ≡ End.Stopped → T.stops sink.old (map headword_row (map shown_of (entries_at index.now places.now))) sink.new }
+    ensures all { result ≡ End.All → T.takes sink.old (map headword_row (map indexed_shown (entries_at index.now places.now))) sink.new }
+    ensures stopped { result ≡ End.Stopped → T.stops sink.old (map headword_row (map indexed_shown (entries_at index.now places.now))) sink.new }
 {
     for place in places {
         if let Demand::Stop = hand_shown(index, *place, sink) {

@@ -8,7 +8,7 @@ ghost use Rattle.dict_rows.specs.Versions.{layout_of, known};
 ghost use Rattle.dict_holdings.specs.Holds.{HasLayout, Holds};
 ghost use Rattle.dict_holdings.specs.Texts.{HoldsText};
 ghost use Rattle.dict_search.specs.Entries.{entry_of};
-ghost use Rattle.dict_lookup.specs.Searches.{HasLookupTables, HoldsOne, IsReadable};
+ghost use Rattle.dict_lookup.specs.Searches.{HasLookupTables, HoldsOne, IsEditionReadable};
 ghost use Rattle.dict_lookup.specs.Texts.{Cuts};
 
 /// A database of the known version has the tables that lookups read. Where it holds a catalogue, it has the header and the text of
@@ -20,5 +20,5 @@ pub fn held_laws()
     ensures tables { (db : Database) → HasLayout (layout_of known) db.schema → HasLookupTables db }
     ensures one { (db : Database) (M : Catalogue) (number : ℕ) (edition : Edition) → Holds known db M → HasEdition M number edition → (reading : ReadEdition) × HoldsOne db number reading × (edition ≡ edition_of reading) × HoldsText db number reading.text × Cuts (map entry_of reading.lines) edition reading.text }
     ensures once { (db : Database) (number : ℕ) (x y : List ℕ) → HoldsText db number x → HoldsText db number y → x ≡ y }
-    ensures readable { (db : Database) (M : Catalogue) (number : ℕ) → Holds known db M → IsReadable db number }
+    ensures readable { (db : Database) (M : Catalogue) (number : ℕ) → Holds known db M → IsEditionReadable db number }
 {}

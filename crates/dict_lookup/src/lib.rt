@@ -14,4 +14,4 @@ mod texts;
 pub use indexes::Indexes;
 pub use laws::held_laws;
 pub use lookups::{count, find, heads, info};
-pub use texts::{MAX_OCTETS, MAX_TEXTS, PartKey, Texts};
+pub use texts::{MAX_OCTETS, MAX_TEXTS, PartKey, TextParts};

@@ -8,13 +8,13 @@ ghost use Rattle.dict_desk.specs.Shown.{Row as ShownRow, found_rows, headword_ro
 ghost use Rattle.dict_desk.specs.Handing.{Hands};
 ghost use Rattle.dict_search.specs.Found.{count_selected};
 ghost use Rattle.dict_holdings.specs.Texts.{HoldsText};
-ghost use Rattle.dict_lookup.specs.Searches.{HasLookupTables, HoldsOne, FailsToLookUp, IsOfStore, column_of};
-ghost use Rattle.dict_lookup.specs.Texts.{Cuts, IsIndexOf, ArePartsOf, AreMade, IsAtMostRead, FailsToFind};
+ghost use Rattle.dict_lookup.specs.Searches.{HasLookupTables, HoldsOne, FailsToLookUp, IsOfStore, number_in_column};
+ghost use Rattle.dict_lookup.specs.Texts.{Cuts, IsIndexOf, ArePartsOf, AreOfInstalls, IsAtMostRead, FailsToFind};
 ghost use Rattle.dict_lookup.specs.Taken.{more_taken};
 
 use crate::found::{hand_found, hand_headwords};
 use crate::record::info_of_number;
-use crate::texts::Texts;
+use crate::texts::TextParts;
 use dict_derived::is_tested;
 use dict_desk::{Demand, End, Fault, Row, RowSink, What};
 use dict_match::{Key, Strategy};
@@ -39,7 +39,7 @@ pub fn info<S: Alter, T: RowSink>(
     ensures taken { HasCleanDisk (state S.Store conn.new) → (reading : ReadEdition) → HoldsOne (state S.Store conn.old).now number reading → OnOk result (rows_taken.new ≡ more_taken rows_taken.old 1) }
     ensures handed { (rows : List ShownRow) × Hands T.takes T.stops sink.old sink.new rows result }
     ensures same { HasCleanDisk (state S.Store conn.new) → OnOk result (IsUnchanged (state S.Store conn.old) (state S.Store conn.new)) }
-    ensures failed { HasCleanDisk (state S.Store conn.new) → IfErr result (FailsToLookUp (column_of number) (state S.Store conn.old) (state S.Store conn.new)) }
+    ensures failed { HasCleanDisk (state S.Store conn.new) → IfErr result (FailsToLookUp (number_in_column number) (state S.Store conn.old) (state S.Store conn.new)) }
     ensures shut { HasCleanDisk (state S.Store conn.new) → (state S.Store conn.old).is_open ≡ false → IsErr result × (sink.new ≡ sink.old) }
     ensures kinds { IfErr result IsOfStore }
     ensures mode { conn.old.in_transaction ≡ false → conn.new.in_transaction ≡ false }
@@ -72,7 +72,7 @@ pub fn info<S: Alter, T: RowSink>(
 pub fn find<S: Alter, T: RowSink>(
     alloc: Global,
     conn: &mut Connection<S>,
-    texts: &mut Texts,
+    texts: &mut TextParts,
     installs: u64,
     number: u64,
     index: &Index,
@@ -84,7 +84,7 @@ pub fn find<S: Alter, T: RowSink>(
     requires { WhileOpen (state S.Store conn.old) HasLookupTables }
     ensures value { HasCleanDisk (state S.Store conn.new) → (edition : Edition) (text : List ℕ) → Cuts index.now edition text → ArePartsOf number text texts.old → (IsTrue (state S.Store conn.old).is_open → HoldsText (state S.Store conn.old).now number text) → Hands T.takes T.stops sink.old sink.new (found_rows strategy query.now edition) result }
     ensures texts { HasCleanDisk (state S.Store conn.new) → (other : ℕ) (text : List ℕ) → ArePartsOf other text texts.old → (other ≡ number → IsTrue (state S.Store conn.old).is_open → HoldsText (state S.Store conn.old).now other text) → ArePartsOf other text texts.new }
-    ensures made { AreMade installs texts.old → AreMade installs texts.new }
+    ensures made { AreOfInstalls installs texts.old → AreOfInstalls installs texts.new }
     ensures handed { (rows : List ShownRow) × Hands T.takes T.stops sink.old sink.new rows result }
     ensures taken { result ≡ Ok End.All → (read : ℕ) × (rows_taken.new ≡ more_taken rows_taken.old (count_selected strategy query.now index.now + read)) }
     ensures same { HasCleanDisk (state S.Store conn.new) → OnOk result (IsAtMostRead S.Store conn.old conn.new) }

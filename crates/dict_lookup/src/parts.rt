@@ -8,12 +8,12 @@ ghost use Rattle.dict_edition_sql.specs.PartTable.{part as part_table};
 ghost use Rattle.dict_parts.specs.Parts.{parts_of};
 ghost use Rattle.dict_holdings.specs.Texts.{HoldsText};
 ghost use Rattle.dict_lookup.specs.KeptTexts.{same_key};
-ghost use Rattle.dict_lookup.specs.Searches.{FailsToLookUp, IsOfStore, column_of};
-ghost use Rattle.dict_lookup.specs.Texts.{HasText, MayKeep, IsAtMostRead, Asks, FailsToFind};
-ghost use Rattle.dict_lookup.specs.Taken.{more_taken, rows_for};
+ghost use Rattle.dict_lookup.specs.Searches.{FailsToLookUp, IsOfStore, number_in_column};
+ghost use Rattle.dict_lookup.specs.Texts.{HasText, MayKeep, IsAtMostRead, AsksForParts, FailsToFind};
+ghost use Rattle.dict_lookup.specs.Taken.{more_taken, rows_read_for};
 
 use crate::record::read_part;
-use crate::texts::Texts;
+use crate::texts::TextParts;
 use dict_desk::Fault;
 use dict_parts::PART_SIZE;
 use sqlite::{Alter, Connection};
@@ -21,7 +21,7 @@ use std::alloc::{AllocError, Global};
 
 // Keeps a part of a text under the number of its edition and its own, where the first is that of an install. A refused growth
 // leaves it unkept.
-fn keep(texts: &mut Texts, installs: u64, number: u64, part: u64, octets: Vec<u8>)
+fn keep(texts: &mut TextParts, installs: u64, number: u64, part: u64, octets: Vec<u8>)
     ensures { MayKeep installs (number, part) octets.items texts.old texts.new }
 {
     if number > installs {
@@ -35,7 +35,7 @@ fn keep(texts: &mut Texts, installs: u64, number: u64, part: u64, octets: Vec<u8
 fn take_part<S: Alter>(
     alloc: Global,
     conn: &mut Connection<S>,
-    texts: &mut Texts,
+    texts: &mut TextParts,
     number: u64,
     part: u64,
     rows_taken: &mut u64,
@@ -44,10 +44,10 @@ fn take_part<S: Alter>(
     requires few { part < 2 ^ 63 }
     ensures value { HasCleanDisk (state S.Store conn.new) → (text : List ℕ) → HasText (state S.Store conn.old) number text texts.old → IfOk result (λ octets. octets.items ≡ slice_index_or (parts_of text) part []) }
     ensures left { texts.new ≡ remove_entry (same_key (number, part)) texts.old }
-    ensures taken { HasCleanDisk (state S.Store conn.new) → (text : List ℕ) → HoldsText (state S.Store conn.old).now number text → part < length (parts_of text) → OnOk result (rows_taken.new ≡ more_taken rows_taken.old (rows_for (lookup (same_key (number, part)) texts.old))) }
+    ensures taken { HasCleanDisk (state S.Store conn.new) → (text : List ℕ) → HoldsText (state S.Store conn.old).now number text → part < length (parts_of text) → OnOk result (rows_taken.new ≡ more_taken rows_taken.old (rows_read_for (lookup (same_key (number, part)) texts.old))) }
     ensures counted { OnOk result ((read : ℕ) × (rows_taken.new ≡ more_taken rows_taken.old read)) }
     ensures same { HasCleanDisk (state S.Store conn.new) → OnOk result (IsAtMostRead S.Store conn.old conn.new) }
-    ensures failed { HasCleanDisk (state S.Store conn.new) → IfErr result (FailsToLookUp (column_of number) (state S.Store conn.old) (state S.Store conn.new)) }
+    ensures failed { HasCleanDisk (state S.Store conn.new) → IfErr result (FailsToLookUp (number_in_column number) (state S.Store conn.old) (state S.Store conn.new)) }
     ensures kinds { IfErr result IsOfStore }
     ensures mode { conn.old.in_transaction ≡ false → conn.new.in_transaction ≡ false }
     ensures survives { Survives (state S.Store conn.old) (state S.Store conn.new) (λ _. ⊥) }
@@ -79,7 +79,7 @@ fn put_front(octets: &[u8], start: usize, most: usize, to: &mut Vec<u8>) -> Resu
 fn put_part<S: Alter>(
     alloc: Global,
     conn: &mut Connection<S>,
-    texts: &mut Texts,
+    texts: &mut TextParts,
     installs: u64,
     number: u64,
     place: u64,
@@ -88,7 +88,7 @@ fn put_part<S: Alter>(
     rows_taken: &mut u64,
 ) -> Result<(), Fault>
     requires { WhileOpen (state S.Store conn.old) (Has part_table) }
-    ensures asks { Asks S.Store installs number conn.old conn.new texts.old texts.new }
+    ensures asks { AsksForParts S.Store installs number conn.old conn.new texts.old texts.new }
     ensures put { HasCleanDisk (state S.Store conn.new) → (text : List ℕ) → HasText (state S.Store conn.old) number text texts.old → OnOk result (to.new.items ≡ to.old.items ++ take (length to.new.items - length to.old.items) (drop place text)) }
     ensures ended { HasCleanDisk (state S.Store conn.new) → (text : List ℕ) → HasText (state S.Store conn.old) number text texts.old → 1 ≤ most → OnOk result (length to.new.items ≡ length to.old.items → length text ≤ place) }
     ensures more { OnOk result (length to.old.items ≤ length to.new.items) }
@@ -119,7 +119,7 @@ fn put_part<S: Alter>(
 pub(crate) fn body<S: Alter>(
     alloc: Global,
     conn: &mut Connection<S>,
-    texts: &mut Texts,
+    texts: &mut TextParts,
     installs: u64,
     number: u64,
     start: usize,
@@ -127,7 +127,7 @@ pub(crate) fn body<S: Alter>(
     rows_taken: &mut u64,
 ) -> Result<Vec<u8>, Fault>
     requires { WhileOpen (state S.Store conn.old) (Has part_table) }
-    ensures asks { Asks S.Store installs number conn.old conn.new texts.old texts.new }
+    ensures asks { AsksForParts S.Store installs number conn.old conn.new texts.old texts.new }
     ensures value { HasCleanDisk (state S.Store conn.new) → (text : List ℕ) → length text < 64 ^ 6 → HasText (state S.Store conn.old) number text texts.old → IfOk result (λ octets. octets.items ≡ take size (drop start text)) }
     ensures counted { OnOk result ((read : ℕ) × (rows_taken.new ≡ more_taken rows_taken.old read)) }
     ensures same { HasCleanDisk (state S.Store conn.new) → OnOk result (IsAtMostRead S.Store conn.old conn.new) }

@@ -10,7 +10,7 @@ ghost use Rattle.dict_edition_sql.specs.declared.part_records.StoredPart.{Stored
 ghost use Rattle.dict_parts.specs.Parts.{parts_of};
 ghost use Rattle.dict_index.specs.Edition.{ReadEdition};
 ghost use Rattle.dict_holdings.specs.Texts.{HoldsText};
-ghost use Rattle.dict_lookup.specs.Searches.{HoldsOne, FailsToLookUp, IsOfStore, column_of};
+ghost use Rattle.dict_lookup.specs.Searches.{HoldsOne, FailsToLookUp, IsOfStore, number_in_column};
 ghost use Rattle.dict_lookup.specs.Taken.{more_taken};
 
 use dict_desk::Fault;
@@ -24,7 +24,7 @@ const TEXT: i64 = 1;
 
 // The number as a column has it. A number that no column can have is no edition's, nor is the one that stands for it.
 pub(crate) fn column_number(number: u64) -> i64
-    ensures { result ≡ pos (column_of number) }
+    ensures { result ≡ pos (number_in_column number) }
 {
     if number > i64::MAX as u64 {
         return 0;
@@ -51,7 +51,7 @@ pub(crate) fn info_of_number<S: Alter>(
     ensures value { HasCleanDisk (state S.Store conn.new) → IfOk result (λ found. (reading : ReadEdition) → HoldsOne (state S.Store conn.old).now number reading → option_map string_bytes found ≡ Some reading.info) }
     ensures taken { HasCleanDisk (state S.Store conn.new) → (reading : ReadEdition) → HoldsOne (state S.Store conn.old).now number reading → OnOk result (rows_taken.new ≡ more_taken rows_taken.old 1) }
     ensures same { HasCleanDisk (state S.Store conn.new) → OnOk result (IsUnchanged (state S.Store conn.old) (state S.Store conn.new)) }
-    ensures failed { HasCleanDisk (state S.Store conn.new) → IfErr result (FailsToLookUp (column_of number) (state S.Store conn.old) (state S.Store conn.new)) }
+    ensures failed { HasCleanDisk (state S.Store conn.new) → IfErr result (FailsToLookUp (number_in_column number) (state S.Store conn.old) (state S.Store conn.new)) }
     ensures shut { HasCleanDisk (state S.Store conn.new) → (state S.Store conn.old).is_open ≡ false → IsErr result }
     ensures kinds { IfErr result IsOfStore }
     ensures mode { conn.old.in_transaction ≡ false → conn.new.in_transaction ≡ false }
@@ -95,7 +95,7 @@ pub(crate) fn read_part<S: Alter>(
     ensures taken { HasCleanDisk (state S.Store conn.new) → (text : List ℕ) → HoldsText (state S.Store conn.old).now number text → part < length (parts_of text) → OnOk result (rows_taken.new ≡ more_taken rows_taken.old 1) }
     ensures counted { OnOk result ((read : ℕ) × (rows_taken.new ≡ more_taken rows_taken.old read)) }
     ensures same { HasCleanDisk (state S.Store conn.new) → OnOk result (IsUnchanged (state S.Store conn.old) (state S.Store conn.new)) }
-    ensures failed { HasCleanDisk (state S.Store conn.new) → IfErr result (FailsToLookUp (column_of number) (state S.Store conn.old) (state S.Store conn.new)) }
+    ensures failed { HasCleanDisk (state S.Store conn.new) → IfErr result (FailsToLookUp (number_in_column number) (state S.Store conn.old) (state S.Store conn.new)) }
     ensures kinds { IfErr result IsOfStore }
     ensures mode { conn.old.in_transaction ≡ false → conn.new.in_transaction ≡ false }
     ensures survives { Survives (state S.Store conn.old) (state S.Store conn.new) (λ _. ⊥) }

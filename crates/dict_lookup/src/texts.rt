@@ -2,7 +2,7 @@
 ghost use Rattle.std.specs.Prelude.{◌≡◌, ◌≤◌, ◌+◌, [], length, take, option_map, OnOk, OnErr, IfOk, IfSome, IsSome};
 ghost use Rattle.std.specs.Map.{lookup, remove_entry};
 ghost use Rattle.lru.specs.LruCache.{lru_cache};
-ghost use Rattle.dict_lookup.specs.KeptTexts.{most_octets, most_texts, same_key, octets_of, texts_of, kept_texts, fitting, put_first, with_text};
+ghost use Rattle.dict_lookup.specs.KeptTexts.{most_kept_octets, most_texts, same_key, octets_of_texts, texts_of, kept_texts, fitting, put_first, with_text};
 
 use lru::LruCache;
 use std::alloc::{AllocError, Global};
@@ -19,16 +19,16 @@ pub const MAX_TEXTS: usize = 16_384;
 pub type PartKey = (u64, u64);
 
 /// Parts of texts, each by the number of its edition and its own number, those that were used last first. No memory is taken before the first is put.
-pub struct Texts {
+pub struct TextParts {
     alloc: Global,
     kept: Option<LruCache<PartKey, Vec<u8>>>,
     pub(crate) octets: usize,
 }
 
 // It is written out, so that what owns one doesn't prove again how each part is dropped.
-impl Drop for Texts {
+impl Drop for TextParts {
     fn drop(self) {
-        let Texts {
+        let TextParts {
             alloc: _,
             kept: _,
             octets: _,
@@ -36,15 +36,15 @@ impl Drop for Texts {
     }
 }
 
-impl Model for Texts {
+impl Model for TextParts {
     ghost use Rattle.std.specs.Prelude.{ℕ, List};
-    ghost use Rattle.dict_lookup.specs.KeptTexts.{Key, kept_texts, IsCounted};
+    ghost use Rattle.dict_lookup.specs.KeptTexts.{PartNumbers, kept_texts, TextsAreCounted};
 
-    ghost Value = { List (Key × List ℕ) };
+    ghost Value = { List (PartNumbers × List ℕ) };
 
     ghost view = { λ t. kept_texts t.kept };
 
-    ghost invariant = { λ t. IsCounted t.kept t.octets };
+    ghost invariant = { λ t. TextsAreCounted t.kept t.octets };
 }
 
 // A cache of no texts.
@@ -76,11 +76,11 @@ fn take_from(
     octets: &mut usize,
     key: PartKey,
 ) -> Option<Vec<u8>>
-    requires { octets.old ≡ octets_of (texts_of kept.old.entries) }
+    requires { octets.old ≡ octets_of_texts (texts_of kept.old.entries) }
     ensures text { option_map (λ text. text.items) result ≡ lookup (same_key key) (texts_of kept.old.entries) }
     ensures rest { texts_of kept.new.entries ≡ remove_entry (same_key key) (texts_of kept.old.entries) }
     ensures cap { kept.new.cap ≡ kept.old.cap }
-    ensures counted { octets.new ≡ octets_of (texts_of kept.new.entries) }
+    ensures counted { octets.new ≡ octets_of_texts (texts_of kept.new.entries) }
     ensures fewer { octets.new ≤ octets.old }
 {
     match kept.pop(&key) {
@@ -110,14 +110,14 @@ fn put_new(
     text: Vec<u8>,
 ) -> Result<(), AllocError>
     requires cap { kept.old.cap ≡ most_texts }
-    requires counted { octets.old ≡ octets_of (texts_of kept.old.entries) }
-    requires few { octets.old ≤ most_octets }
-    requires short { length text.items ≤ most_octets }
+    requires counted { octets.old ≡ octets_of_texts (texts_of kept.old.entries) }
+    requires few { octets.old ≤ most_kept_octets }
+    requires short { length text.items ≤ most_kept_octets }
     ensures cap { kept.new.cap ≡ most_texts }
     ensures put { OnOk result (texts_of kept.new.entries ≡ put_first key text.items (texts_of kept.old.entries)) }
     ensures same { OnErr result (kept.new ≡ kept.old) }
-    ensures counted { octets.new ≡ octets_of (texts_of kept.new.entries) }
-    ensures sum { octets.new ≤ most_octets + most_octets }
+    ensures counted { octets.new ≡ octets_of_texts (texts_of kept.new.entries) }
+    ensures sum { octets.new ≤ most_kept_octets + most_kept_octets }
 {
     let _count = kept.len();
     let size = text.len();
@@ -131,10 +131,10 @@ fn put_new(
 
 // Lets go of the texts that were used least recently, until those that are left have no more octets than this.
 pub(crate) fn let_go(kept: &mut LruCache<PartKey, Vec<u8>>, octets: &mut usize, most: usize)
-    requires counted { octets.old ≡ octets_of (texts_of kept.old.entries) }
+    requires counted { octets.old ≡ octets_of_texts (texts_of kept.old.entries) }
     ensures cap { kept.new.cap ≡ kept.old.cap }
     ensures fits { texts_of kept.new.entries ≡ fitting most (texts_of kept.old.entries) }
-    ensures counted { octets.new ≡ octets_of (texts_of kept.new.entries) }
+    ensures counted { octets.new ≡ octets_of_texts (texts_of kept.new.entries) }
 {
     while *octets > most {
         let Some((_, text)) = kept.pop_lru() else {
@@ -144,12 +144,12 @@ pub(crate) fn let_go(kept: &mut LruCache<PartKey, Vec<u8>>, octets: &mut usize, 
     }
 }
 
-impl Texts {
+impl TextParts {
     /// No texts.
-    pub fn new(alloc: Global) -> Texts
+    pub fn new(alloc: Global) -> TextParts
         ensures { result ≡ [] }
     {
-        Texts {
+        TextParts {
             alloc,
             kept: None,
             octets: 0,

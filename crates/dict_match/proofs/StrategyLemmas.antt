@@ -4,7 +4,7 @@ use Rattle.std.proofs.lemmas.Slice.Eq.{bytes_eq-Decides}
 use Rattle.std.specs.Prelude.{Option, Some, None, find, slice_get}
 use Rattle.dict_match.specs.declared.strategy.Strategy.{Strategy}
 use Rattle.dict_match.specs.declared.strategy.Strategy.TheVariants.{Exact, Prefix, Suffix, Substring, Word, First, Last}
-use Rattle.dict_match.specs.StrategyText.{strategies, name_of, strategy_named, AreEachOnce}
+use Rattle.dict_match.specs.StrategyText.{strategies, strategy_name, strategy_named, AreEachOnce}
 
 -- the place of a strategy in the list
 place_of : Strategy → ℕ
@@ -41,8 +41,8 @@ pub each_once : AreEachOnce strategies
 each_once s = (place_of s, λ n. (one_place n s, λ e. subst (λ m. slice_get strategies m ≡ Some s) (sym e) (at_place s)))
 
 -- each strategy has its own name
-pub named_itself : (s : Strategy) → strategy_named (name_of s) ≡ Some s
-unfolding name_of
+pub named_itself : (s : Strategy) → strategy_named (strategy_name s) ≡ Some s
+unfolding strategy_name
 named_itself Exact = refl
 named_itself Prefix = refl
 named_itself Suffix = refl
@@ -52,18 +52,18 @@ named_itself First = refl
 named_itself Last = refl
 
 -- what is found by its name has it
-found_has_name : (name : List ℕ) (ss : List Strategy) (s : Strategy) → find (λ t. bytes_eq name (name_of t)) ss ≡ Some s → name ≡ name_of s
+found_has_name : (name : List ℕ) (ss : List Strategy) (s : Strategy) → find (λ t. bytes_eq name (strategy_name t)) ss ≡ Some s → name ≡ strategy_name s
 found_has_name name [] s e = absurd (cc)
-found_has_name name (t ∷ ss) s e = by_first (bytes_eq name (name_of t)) refl e (found_has_name name ss s)
+found_has_name name (t ∷ ss) s e = by_first (bytes_eq name (strategy_name t)) refl e (found_has_name name ss s)
   where
-    by_first : (b : Bool) → bytes_eq name (name_of t) ≡ b → cond b (Some t) (find (λ u. bytes_eq name (name_of u)) ss) ≡ Some s → (find (λ u. bytes_eq name (name_of u)) ss ≡ Some s → name ≡ name_of s) → name ≡ name_of s
-    by_first true h k later = let same : t ≡ s = cc in (bytes_eq-Decides name (name_of t)).0 h ∙ ap name_of same
+    by_first : (b : Bool) → bytes_eq name (strategy_name t) ≡ b → cond b (Some t) (find (λ u. bytes_eq name (strategy_name u)) ss) ≡ Some s → (find (λ u. bytes_eq name (strategy_name u)) ss ≡ Some s → name ≡ strategy_name s) → name ≡ strategy_name s
+    by_first true h k later = let same : t ≡ s = cc in (bytes_eq-Decides name (strategy_name t)).0 h ∙ ap strategy_name same
     by_first false h k later = later k
 
 -- what is found by a name is the strategy that has it
-pub named_only : (name : List ℕ) (r : Option Strategy) → r ≡ strategy_named name → (s : Strategy) → (r ≡ Some s) ↔ (name ≡ name_of s)
+pub named_only : (name : List ℕ) (r : Option Strategy) → r ≡ strategy_named name → (s : Strategy) → (r ≡ Some s) ↔ (name ≡ strategy_name s)
 named_only name r is s = ((λ e. found_has_name name strategies s (sym is ∙ e)), (λ e. is ∙ (ap strategy_named e ∙ named_itself s)))
 
 -- a name that is one strategy's is no other's
-pub one_name : (name : List ℕ) (s t : Strategy) → name ≡ name_of s → (Some s ≡ Some t) ↔ (name ≡ name_of t)
-one_name name s t is = ((λ e. let same : s ≡ t = cc in is ∙ ap name_of same), (λ e. sym (named_itself s) ∙ (ap strategy_named (sym is ∙ e) ∙ named_itself t)))
+pub one_name : (name : List ℕ) (s t : Strategy) → name ≡ strategy_name s → (Some s ≡ Some t) ↔ (name ≡ strategy_name t)
+one_name name s t is = ((λ e. let same : s ≡ t = cc in is ∙ ap strategy_name same), (λ e. sym (named_itself s) ∙ (ap strategy_named (sym is ∙ e) ∙ named_itself t)))

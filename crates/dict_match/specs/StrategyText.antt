@@ -12,24 +12,24 @@ pub record StrategyText : Type 0 where
   pub name : List ℕ
   pub title : List ℕ
 
-abbrev pub text_of : Strategy → StrategyText
-text_of Exact = record { name = codes "exact"; title = codes "Equal keys" }
-text_of Prefix = record { name = codes "prefix"; title = codes "Key begins with the query" }
-text_of Suffix = record { name = codes "suffix"; title = codes "Key ends with the query" }
-text_of Substring = record { name = codes "substring"; title = codes "Key contains the query" }
-text_of Word = record { name = codes "word"; title = codes "Words of the query stand together in the key" }
-text_of First = record { name = codes "first"; title = codes "Key begins with the words of the query" }
-text_of Last = record { name = codes "last"; title = codes "Key ends with the words of the query" }
+abbrev pub strategy_text : Strategy → StrategyText
+strategy_text Exact = record { name = codes "exact"; title = codes "Equal keys" }
+strategy_text Prefix = record { name = codes "prefix"; title = codes "Key begins with the query" }
+strategy_text Suffix = record { name = codes "suffix"; title = codes "Key ends with the query" }
+strategy_text Substring = record { name = codes "substring"; title = codes "Key contains the query" }
+strategy_text Word = record { name = codes "word"; title = codes "Words of the query stand together in the key" }
+strategy_text First = record { name = codes "first"; title = codes "Key begins with the words of the query" }
+strategy_text Last = record { name = codes "last"; title = codes "Key ends with the words of the query" }
 
-unfoldable pub name_of : Strategy → List ℕ
-name_of strategy = (text_of strategy).name
+unfoldable pub strategy_name : Strategy → List ℕ
+strategy_name strategy = (strategy_text strategy).name
 
-unfoldable pub title_of : Strategy → List ℕ
-title_of strategy = (text_of strategy).title
+unfoldable pub strategy_title : Strategy → List ℕ
+strategy_title strategy = (strategy_text strategy).title
 
 -- the strategy that has this name
 abbrev pub strategy_named : List ℕ → Option Strategy
-strategy_named name = find (λ strategy. bytes_eq name (name_of strategy)) strategies
+strategy_named name = find (λ strategy. bytes_eq name (strategy_name strategy)) strategies
 
 -- each strategy stands in the list, at one place
 abbrev pub AreEachOnce : List Strategy → Type 0

@@ -9,7 +9,7 @@ ghost use Rattle.caseless.specs.Caseless.{default_case_fold};
 ghost use Rattle.std.specs.Char.{IsScalar};
 ghost use Rattle.dict_match.specs.Words.{AreLongestRuns, words_between_blanks};
 ghost use Rattle.dict_match.specs.Matching.{Hits, is_hit};
-ghost use Rattle.dict_match.specs.StrategyText.{name_of, strategies, strategy_named, AreEachOnce};
+ghost use Rattle.dict_match.specs.StrategyText.{strategy_name, strategies, strategy_named, AreEachOnce};
 ghost use Rattle.dict_match.specs.declared.strategy.Strategy.{Strategy};
 
 /// A full case folding of scalar values has scalar values only.
@@ -88,5 +88,5 @@ pub fn hit_laws()
 /// The list has each strategy once, and the strategy of a strategy's name is that strategy.
 pub fn strategy_laws()
     ensures once { AreEachOnce strategies }
-    ensures named { (strategy : Strategy) → strategy_named (name_of strategy) ≡ Some strategy }
+    ensures named { (strategy : Strategy) → strategy_named (strategy_name strategy) ≡ Some strategy }
 {}

@@ -22,7 +22,7 @@ pub enum Strategy {
 }
 
 impl Strategy {
-    ghost use Rattle.dict_match.specs.StrategyText.{name_of, title_of, text_of, strategy_named};
+    ghost use Rattle.dict_match.specs.StrategyText.{strategy_name, strategy_title, strategy_text, strategy_named};
 
     /// All strategies, in the order in which SHOW STRAT lists them.
     pub const ALL: [Strategy; 7] = [
@@ -37,8 +37,8 @@ impl Strategy {
 
     // What clients see of the strategy: its name, and the description that SHOW STRAT gives of it.
     fn text(self) -> (&'static str, &'static str)
-        ensures name { result.0.now ≡ (text_of self).name }
-        ensures title { result.1.now ≡ (text_of self).title }
+        ensures name { result.0.now ≡ (strategy_text self).name }
+        ensures title { result.1.now ≡ (strategy_text self).title }
     {
         match self {
             Strategy::Exact => ("exact", "Equal keys"),
@@ -54,7 +54,7 @@ impl Strategy {
     /// The strategy of this name, compared byte for byte. The server's own choice, `.`, is no name here.
     pub fn by_name(name: &str) -> Option<Strategy>
         ensures named { result ≡ strategy_named name.now }
-        ensures only { (strategy : Strategy) → (result ≡ Some strategy) ↔ (name.now ≡ name_of strategy) }
+        ensures only { (strategy : Strategy) → (result ≡ Some strategy) ↔ (name.now ≡ strategy_name strategy) }
     {
         for strategy in Strategy::ALL {
             if strategy.name() == name {
@@ -67,7 +67,7 @@ impl Strategy {
     /// The strategy's name.
     #[tactic(auto, unfolding(crate::specs::StrategyText::name_of))]
     pub fn name(self) -> &'static str
-        ensures { result.now ≡ name_of self }
+        ensures { result.now ≡ strategy_name self }
     {
         self.text().0
     }
@@ -75,7 +75,7 @@ impl Strategy {
     /// The description that SHOW STRAT gives of the strategy.
     #[tactic(auto, unfolding(crate::specs::StrategyText::title_of))]
     pub fn title(self) -> &'static str
-        ensures { result.now ≡ title_of self }
+        ensures { result.now ≡ strategy_title self }
     {
         self.text().1
     }

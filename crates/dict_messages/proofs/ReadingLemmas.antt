@@ -8,7 +8,7 @@ use Rattle.std.proofs.lemmas.Option.{none-some, same_Some}
 use Rattle.clap.specs.Matches.{ReadsOne}
 use Rattle.clap.specs.Walk.{Row, Text}
 use Rattle.clap.proofs.WalkLemmas.{both}
-use Rattle.dict_messages.specs.Asked.{Asked, asked_by, found_asked, number_in}
+use Rattle.dict_messages.specs.Asked.{AskedTask, asked_by, found_asked, number_in}
 
 digits_pass : (digits : Text) → AllDigits 10 digits → list_all (λ digit. nat_lt (digit_value digit) 10) digits ≡ true
 digits_pass [] all = refl
@@ -52,12 +52,12 @@ pub number_read : {E : Type 0} (Gives : Text → Result ℕ E → Type 0) → ((
 number_read {E} Gives parses None result none some = none refl
 number_read {E} Gives parses (Some text) result none some = value_read E Gives parses text result (some text refl)
 
-named : (task : Option Asked) (name used_name : Text) (rows used_rows : List Row) → Some name ≡ Some used_name → Some rows ≡ Some used_rows
+named : (task : Option AskedTask) (name used_name : Text) (rows used_rows : List Row) → Some name ≡ Some used_name → Some rows ≡ Some used_rows
     → task ≡ asked_by name rows → task ≡ asked_by used_name used_rows
 named task name used_name rows used_rows same_name same_rows is = rw (← same_Some _ _ same_name, ← same_Some _ _ same_rows) is
 
 -- what is asked by the name and the rows of a subcommand that was found is asked by that subcommand
-pub asked_of_found : {B : Type 0} (used : Option B) (name_of : B → Text) (rows_of : B → List Row) (task : Option Asked) (name : Text) (rows : List Row)
+pub asked_of_found : {B : Type 0} (used : Option B) (name_of : B → Text) (rows_of : B → List Row) (task : Option AskedTask) (name : Text) (rows : List Row)
     → Some name ≡ option_map name_of used → Some rows ≡ option_map (λ (each : Text × List Row). each.1) (option_map (λ one. (name_of one, rows_of one)) used)
     → task ≡ asked_by name rows → task ≡ found_asked (option_map (λ one. (name_of one, rows_of one)) used)
 asked_of_found None name_of rows_of task name rows same_name same_rows is = absurd (none-some _ (sym same_name))

@@ -11,7 +11,7 @@ use Rattle.clap.proofs.OnLiterals.{clap_on_literals}
 use Rattle.clap.specs.Built.{AddsArg, AddsSubcommand}
 use Rattle.clap.specs.declared.builder.arg.Arg.{Arg}
 use Rattle.clap.specs.declared.builder.command.Command.{Command}
-use Rattle.dict_messages.specs.Line.{command_line, alone, leaf, word, Reads}
+use Rattle.dict_messages.specs.Line.{command_line, alone, leaf, word_rule, Reads}
 use Rattle.dict_messages.specs.Asked.{mistakes_in, Fails}
 
 -- an argument more
@@ -28,10 +28,10 @@ adds_subcommand app sub old new added reads reads_sub adds =
 
 -- the words of a subcommand up to one, and that one
 pub leaf_more : {X : Type 0} (f : X → Text) (name : Text) (xs : List X) (i : ℕ) (d : X) → i < length xs
-    → with_rule (alone (leaf name (map f (take i xs)))) (word (f (get_or xs i d))) ≡ alone (leaf name (map f (take (i + 1) xs)))
+    → with_rule (alone (leaf name (map f (take i xs)))) (word_rule (f (get_or xs i d))) ≡ alone (leaf name (map f (take (i + 1) xs)))
 leaf_more f name xs i d lt =
     ap (λ (rules : List Rule). alone (record (new_shape name) { rules = rules }))
-    (sym (map-append word (map f (take i xs)) (f (get_or xs i d) ∷ [])) ∙ ap (map word) (sym (map_more f xs i d lt)))
+    (sym (map-append word_rule (map f (take i xs)) (f (get_or xs i d) ∷ [])) ∙ ap (map word_rule) (sym (map_more f xs i d lt)))
 
 -- clap's contracts tell what it finds by this command line
 simple : is_simple command_line ≡ true

@@ -27,14 +27,14 @@ pub data AskedChange : Type 0 where
 
 -- what is asked for, by its words: the name, the index and the text of a database; or a file; or a file, a name, the id of
 -- a request, and a change; or a file, two addresses and how many rounds
-pub data Asked : Type 0 where
-  plain : Text → Text → Text → Asked
-  create : Text → Asked
-  list : Text → Asked
-  audit : Text → Asked
-  session : Text → Asked
-  change : Text → Text → Text → AskedChange → Asked
-  serve : Text → Text → Text → Option ℕ → Asked
+pub data AskedTask : Type 0 where
+  plain : Text → Text → Text → AskedTask
+  create : Text → AskedTask
+  list : Text → AskedTask
+  audit : Text → AskedTask
+  session : Text → AskedTask
+  change : Text → Text → Text → AskedChange → AskedTask
+  serve : Text → Text → Text → Option ℕ → AskedTask
 
 -- the texts of words
 abbrev pub words_shown : List (Bor Text) → List Text
@@ -48,7 +48,7 @@ change_shown changes.Retire = retire
 change_shown (changes.Virtual title members) = virtual title.now (words_shown members.items)
 change_shown (changes.Place at) = place at
 
-abbrev pub task_shown : Task → Asked
+abbrev pub task_shown : Task → AskedTask
 task_shown (tasks.Plain name index text) = plain name.now index.now text.now
 task_shown (tasks.Create file) = create file.now
 task_shown (tasks.List file) = list file.now
@@ -58,20 +58,20 @@ task_shown (tasks.Change file name id what) = change file.now name.now id.now (c
 task_shown (tasks.Serve file dict http rounds) = serve file.now dict.now http.now rounds
 
 -- with the text of a word, where it is there
-abbrev pub with_text : {A : Type 0} → Text → List Row → (Text → Option A) → Option A
-with_text id rows next = option_and_then next (first_of id rows)
+abbrev pub with_word_text : {A : Type 0} → Text → List Row → (Text → Option A) → Option A
+with_word_text id rows next = option_and_then next (first_of id rows)
 
-abbrev pub on_file : List Row → (Text → Asked) → Option Asked
-on_file rows of = with_text (codes "FILE") rows (λ file. Some (of file))
+abbrev pub on_file : List Row → (Text → AskedTask) → Option AskedTask
+on_file rows of = with_word_text (codes "FILE") rows (λ file. Some (of file))
 
-abbrev pub plain_asked : List Row → Option Asked
-plain_asked rows = with_text (codes "NAME") rows (λ name. with_text (codes "INDEX") rows (λ index. with_text (codes "DICT") rows (λ text. Some (plain name index text))))
+abbrev pub plain_asked : List Row → Option AskedTask
+plain_asked rows = with_word_text (codes "NAME") rows (λ name. with_word_text (codes "INDEX") rows (λ index. with_word_text (codes "DICT") rows (λ text. Some (plain name index text))))
 
 abbrev pub install_asked : List Row → Option AskedChange
-install_asked rows = with_text (codes "INDEX") rows (λ index. with_text (codes "DICT") rows (λ text. Some (install index text)))
+install_asked rows = with_word_text (codes "INDEX") rows (λ index. with_word_text (codes "DICT") rows (λ text. Some (install index text)))
 
 abbrev pub virtual_asked : List Row → Option AskedChange
-virtual_asked rows = with_text (codes "TITLE") rows (λ title. option_map (virtual title) (all_of (codes "MEMBER") rows))
+virtual_asked rows = with_word_text (codes "TITLE") rows (λ title. option_map (virtual title) (all_of (codes "MEMBER") rows))
 
 -- the number that decimal digits say, with a plus sign before them or none, where it is less than 2^32
 abbrev pub number_in : Text → Option ℕ
@@ -83,18 +83,18 @@ number_in text =
 abbrev pub place_asked : List Row → Option AskedChange
 place_asked rows = option_map place (option_and_then number_in (one_of (codes "PLACE") rows))
 
-abbrev pub change_asked : List Row → Option AskedChange → Option Asked
+abbrev pub change_asked : List Row → Option AskedChange → Option AskedTask
 change_asked rows what =
-    with_text (codes "FILE") rows (λ file. with_text (codes "NAME") rows (λ name. with_text (codes "ID") rows (λ id.
+    with_word_text (codes "FILE") rows (λ file. with_word_text (codes "NAME") rows (λ name. with_word_text (codes "ID") rows (λ id.
     option_map (change file name id) what)))
 
-abbrev pub serve_asked : List Row → Option Asked
+abbrev pub serve_asked : List Row → Option AskedTask
 serve_asked rows =
-    with_text (codes "FILE") rows (λ file. with_text (codes "dict") rows (λ dict. with_text (codes "http") rows (λ http.
+    with_word_text (codes "FILE") rows (λ file. with_word_text (codes "dict") rows (λ dict. with_word_text (codes "http") rows (λ http.
     Some (serve file dict http (option_and_then number_in (one_of (codes "rounds") rows))))))
 
 -- what a subcommand of this name asks for, by its words
-abbrev pub asked_by : Text → List Row → Option Asked
+abbrev pub asked_by : Text → List Row → Option AskedTask
 asked_by name rows =
     if bytes_eq name (codes "plain") then plain_asked rows
     else (if bytes_eq name (codes "create") then on_file rows create
@@ -110,7 +110,7 @@ asked_by name rows =
     else None))))))))))
 
 -- the same of the subcommand that was used, if one was
-abbrev pub found_asked : Option (Text × List Row) → Option Asked
+abbrev pub found_asked : Option (Text × List Row) → Option AskedTask
 found_asked None = None
 found_asked (Some used) = asked_by used.0 used.1
 
@@ -119,8 +119,8 @@ abbrev pub mistakes_in : List Text → Kinds
 mistakes_in words = fault_of command_line words
 
 -- the words, of which the first is the program's name, ask for the task
-abbrev pub Asks : List Text → Task → Type 0
-Asks words task = (mistakes_in words ≡ []) × (found_asked (subcommand_of command_line words) ≡ Some (task_shown task))
+abbrev pub AskForTask : List Text → Task → Type 0
+AskForTask words task = (mistakes_in words ≡ []) × (found_asked (subcommand_of command_line words) ≡ Some (task_shown task))
 
 -- they ask for nothing
 abbrev pub AskNothing : List Text → Type 0

@@ -41,17 +41,17 @@ store_line store_faults.Damaged = codes "fault 44 Damaged"
 store_line store_faults.NewerSchema = codes "fault 45 NewerSchema"
 
 -- the line of a fault, without its end
-abbrev pub line_of : ProgramFault → List ℕ
-line_of (faults.Line refusal line) = refused_at (editions.refusal_number refusal) (editions.refusal_name refusal) line
-line_of (faults.Edition refusal) = refused (editions.refusal_number refusal) (editions.refusal_name refusal)
-line_of (faults.Refused refusal) = refused (commands.refusal_number refusal) (commands.refusal_name refusal)
-line_of (faults.Store fault) = store_line fault
-line_of (faults.CannotRead path) = codes "cannot read " ++ path.now
-line_of faults.SessionEnded = codes "session ended by a fault"
-line_of faults.CannotWrite = codes "cannot write output"
-line_of (faults.CannotBind address) = codes "cannot bind " ++ address.now
-line_of faults.CannotWait = codes "cannot wait for connections"
-line_of faults.Memory = codes "fault 40 Memory"
+abbrev pub fault_line : ProgramFault → List ℕ
+fault_line (faults.Line refusal line) = refused_at (editions.refusal_number refusal) (editions.refusal_name refusal) line
+fault_line (faults.Edition refusal) = refused (editions.refusal_number refusal) (editions.refusal_name refusal)
+fault_line (faults.Refused refusal) = refused (commands.command_refusal_number refusal) (commands.command_refusal_name refusal)
+fault_line (faults.Store fault) = store_line fault
+fault_line (faults.CannotRead path) = codes "cannot read " ++ path.now
+fault_line faults.SessionEnded = codes "session ended by a fault"
+fault_line faults.CannotWrite = codes "cannot write output"
+fault_line (faults.CannotBind address) = codes "cannot bind " ++ address.now
+fault_line faults.CannotWait = codes "cannot wait for connections"
+fault_line faults.Memory = codes "fault 40 Memory"
 
 -- why no edition was read, as the program tells it
 abbrev pub told : IndexFault → ProgramFault

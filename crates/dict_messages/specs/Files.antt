@@ -16,16 +16,16 @@ IsUnreadable (Err Unreadable) = ⊤
 IsUnreadable _ = ⊥
 
 -- neither of two files was read whole: one can't be read, which none can be said of whose octets are known, or memory ran out
-abbrev pub IsUnread : {A : Type 0} → (List ℕ → Option (List ℕ)) → List ℕ → List ℕ → Result A ProgramFault → Type 0
-IsUnread files index text (Err (faults.CannotRead path)) = ((path.now ≡ index) ⊎ (path.now ≡ text)) × (files path.now ≡ None)
-IsUnread files index text (Err faults.Memory) = ⊤
-IsUnread files index text _ = ⊥
+abbrev pub AreUnreadFiles : {A : Type 0} → (List ℕ → Option (List ℕ)) → List ℕ → List ℕ → Result A ProgramFault → Type 0
+AreUnreadFiles files index text (Err (faults.CannotRead path)) = ((path.now ≡ index) ⊎ (path.now ≡ text)) × (files path.now ≡ None)
+AreUnreadFiles files index text (Err faults.Memory) = ⊤
+AreUnreadFiles files index text _ = ⊥
 
 -- what is told of why a file isn't read: that it can't be, or that memory ran out
-abbrev pub IsTold : (ReadFault → Type 0) → ProgramFault → Type 0
-IsTold Refuses (faults.CannotRead path) = Refuses Unreadable
-IsTold Refuses faults.Memory = Refuses Memory
-IsTold Refuses _ = ⊥
+abbrev pub IsReadFaultTold : (ReadFault → Type 0) → ProgramFault → Type 0
+IsReadFaultTold Refuses (faults.CannotRead path) = Refuses Unreadable
+IsReadFaultTold Refuses faults.Memory = Refuses Memory
+IsReadFaultTold Refuses _ = ⊥
 
 -- Of two files the faults come in order: the index can't be read; it is read, and the text can't be; both are read, and then what they say
 -- is refused. Want of memory is told where it is met

@@ -16,7 +16,7 @@ use Rattle.dict_messages.specs.Writing.{IsUntouched, Prints}
 use Rattle.dict_messages.specs.declared.fault.ProgramFault.{ProgramFault}
 use Rattle.dict_messages.specs.declared.fault.ProgramFault.TheVariants as faults
 use Rattle.dict_messages.specs.Changing.{IsChanged, kept_line}
-use Rattle.dict_messages.specs.Files.{IsReadFrom, IsUnread}
+use Rattle.dict_messages.specs.Files.{IsReadFrom, AreUnreadFiles}
 
 -- an index and a text are no edition: the first test that they don't pass is told; or memory ran out
 abbrev pub IsNoEdition : List ℕ → List ℕ → Result (Unit {0}) ProgramFault → Type 0
@@ -55,7 +55,7 @@ module _ {D : Type 0} (Shows : D → Catalogue → Type 0) (LeavesOneOf : D → 
   -- the files weren't read, or they were
   abbrev pub InstallsFiles : (List ℕ → Option (List ℕ)) → D → D → List ℕ → List ℕ → List ℕ → List ℕ → Result (Unit {0}) ProgramFault → StreamChange → Type 0
   InstallsFiles files old new name id index text result writer =
-      (IsUnread files index text result × (new ≡ old) × IsUntouched writer)
+      (AreUnreadFiles files index text result × (new ≡ old) × IsUntouched writer)
       ⊎ ((i : List ℕ) × (t : List ℕ) × IsReadFrom (files index) i × IsReadFrom (files text) t × InstallsRead old new name id i t result writer)
 
   -- what comes of an install under an id, over files of these octets by their paths

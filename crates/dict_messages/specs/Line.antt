@@ -8,20 +8,20 @@ use Rattle.clap.specs.declared.builder.command.Command.TheViews.{out-Command}
 use Rattle.clap.specs.declared.builder.value_parser.ValueParser.TheVariants as parsers
 
 -- a word that has to be there
-abbrev pub word : Text → Rule
-word id = record (new_rule id) { required = true }
+abbrev pub word_rule : Text → Rule
+word_rule id = record (new_rule id) { required = true }
 
 -- a word that has to be there once or more
 abbrev pub several : Text → Rule
-several id = record (word id) { range = Some (record { start_inclusive = 1; end_inclusive = usize_max }) }
+several id = record (word_rule id) { range = Some (record { start_inclusive = 1; end_inclusive = usize_max }) }
 
 -- a word that has to be there, and be a number from 0 to 4,294,967,295
 abbrev pub number : Text → Rule
-number id = record (word id) { parser = Some (parsers.Signed (pos 0) (pos 4294967295)) }
+number id = record (word_rule id) { parser = Some (parsers.Signed (pos 0) (pos 4294967295)) }
 
 -- a value that has to be there, behind two hyphens and its name
 abbrev pub setting : Text → Rule
-setting id = record (word id) { long = Some id; value_names = 1 }
+setting id = record (word_rule id) { long = Some id; value_names = 1 }
 
 -- a number from 1 to 4,294,967,295, behind two hyphens and its name
 abbrev pub count : Text → Rule
@@ -29,11 +29,11 @@ count id = record (new_rule id) { long = Some id; value_names = 1; parser = Some
 
 -- a subcommand that takes these words, in this order
 abbrev pub leaf : Text → List Text → Shape
-leaf name words = record (new_shape name) { rules = map word words }
+leaf name words = record (new_shape name) { rules = map word_rule words }
 
 -- a subcommand that takes these words, in this order, and what these rules take
 abbrev pub leaf_with : Text → List Text → List Rule → Shape
-leaf_with name words rules = record (new_shape name) { rules = map word words ++ rules }
+leaf_with name words rules = record (new_shape name) { rules = map word_rule words ++ rules }
 
 -- a command without subcommands
 abbrev pub alone : Shape → App
@@ -44,8 +44,8 @@ abbrev pub with_all : App → List Shape → App
 with_all app added = record { top = record app.top { is_leaf = false }; subs = app.subs ++ added }
 
 -- what makes or reads a file, or serves a session
-abbrev pub readings : List Shape
-readings =
+abbrev pub reading_shapes : List Shape
+reading_shapes =
     leaf (codes "plain") (codes "NAME" ∷ codes "INDEX" ∷ codes "DICT" ∷ [])
     ∷ leaf (codes "create") (codes "FILE" ∷ [])
     ∷ leaf (codes "list") (codes "FILE" ∷ [])
@@ -81,7 +81,7 @@ required = record (new_shape (codes "dictcat")) { has_version = true; subcommand
 
 -- the command line that the program reads
 unfoldable pub command_line : App
-command_line = with_all (with_all (with_all (with_all (alone required) readings) changes) arrangements) servers
+command_line = with_all (with_all (with_all (with_all (alone required) reading_shapes) changes) arrangements) servers
 
 -- what clap reads by this command is what the app says
 abbrev pub Reads : App → Command → Type 0

@@ -15,23 +15,23 @@ abbrev pub behind_comma : List ℕ → List ℕ
 behind_comma name = codes "," ++ name
 
 -- names, with a comma between two
-abbrev pub with_commas : List (List ℕ) → List ℕ
-with_commas [] = []
-with_commas (name ∷ names) = name ++ flat_map behind_comma names
+abbrev pub names_with_commas : List (List ℕ) → List ℕ
+names_with_commas [] = []
+names_with_commas (name ∷ names) = name ++ flat_map behind_comma names
 
 -- the name and the kind, and the current and the former edition or the members
 abbrev pub kind_text : Item (List ℕ) → List ℕ
 kind_text (regular name current former) = name ++ (codes " regular " ++ (decimal current.number ++ (codes " " ++ (former_text former ++ codes " "))))
-kind_text (virtual name title members) = (name ++ codes " virtual ") ++ (with_commas members ++ codes " ")
+kind_text (virtual name title members) = (name ++ codes " virtual ") ++ (names_with_commas members ++ codes " ")
 
 -- the line of the item at a place, from 0
-abbrev pub item_line : ℕ → Item (List ℕ) → List ℕ
-item_line place item = (decimal place ++ codes " ") ++ (kind_text item ++ (quoted (title_of item) ++ codes "\n"))
+abbrev pub listed_item_line : ℕ → Item (List ℕ) → List ℕ
+listed_item_line place item = (decimal place ++ codes " ") ++ (kind_text item ++ (quoted (title_of item) ++ codes "\n"))
 
 -- the lines of items, of which the first stands at a place
-abbrev pub lines_from : ℕ → List (Item (List ℕ)) → List ℕ
-lines_from place [] = []
-lines_from place (item ∷ items) = item_line place item ++ lines_from (place + 1) items
+abbrev pub listing_from : ℕ → List (Item (List ℕ)) → List ℕ
+listing_from place [] = []
+listing_from place (item ∷ items) = listed_item_line place item ++ listing_from (place + 1) items
 
-abbrev pub list_text : List (Item (List ℕ)) → List ℕ
-list_text items = lines_from 0 items
+abbrev pub listing_text : List (Item (List ℕ)) → List ℕ
+listing_text items = listing_from 0 items

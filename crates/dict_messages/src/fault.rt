@@ -1,7 +1,7 @@
 // Why the program didn't do what it was asked.
 ghost use Rattle.std.specs.Prelude.{◌≡◌, ◌++◌, codes};
 ghost use Rattle.dict_proto.specs.Streams.{Puts};
-ghost use Rattle.dict_messages.specs.Faults.{line_of, refused, refused_at, status_of, store_line};
+ghost use Rattle.dict_messages.specs.Faults.{fault_line, refused, refused_at, status_of, store_line};
 
 use dict_catalogue::CommandRefusal;
 use dict_desk::Fault as DeskFault;
@@ -96,7 +96,7 @@ impl ProgramFault<'_> {
 
     /// Puts the line that standard error gets, and the line's end. It takes no memory.
     pub fn put_line<K: Sink>(&self, sink: &mut K) -> Result<(), SinkFault>
-        ensures { Puts result (K.stream sink.old) (K.stream sink.new) (line_of self.now ++ codes "\n") }
+        ensures { Puts result (K.stream sink.old) (K.stream sink.new) (fault_line self.now ++ codes "\n") }
     {
         match self {
             ProgramFault::Line { refusal, line } => {

@@ -1,6 +1,6 @@
 // Files as a whole.
 ghost use Rattle.std.specs.Prelude.{◌≡◌, ℕ, List, Option, None, IfOk, MatchResult, ⊤};
-ghost use Rattle.dict_messages.specs.Files.{IsReadFrom, IsTold, IsUnread, IsUnreadable};
+ghost use Rattle.dict_messages.specs.Files.{IsReadFrom, IsReadFaultTold, AreUnreadFiles, IsUnreadable};
 ghost use Rattle.dict_messages.specs.declared.files.ReadFault.{ReadFault as Fault};
 
 use crate::fault::ProgramFault;
@@ -66,8 +66,8 @@ impl<R: Files + AllocGlobal> InputFiles for OverFiles<'_, R> {
 /// The octets of the file with this path.
 pub fn read_file<'w, I: InputFiles>(files: &I, path: &'w str) -> Result<Vec<u8>, ProgramFault<'w>>
     ensures value { MatchResult result (λ read. IsReadFrom (I.octets files.now path.entry.now) read.items)
-        (λ _. IsUnread (I.octets files.now) path.entry.now path.entry.now result) }
-    ensures found { MatchResult result (λ _. I.reads files.now path.entry.now) (IsTold (I.refuses files.now path.entry.now)) }
+        (λ _. AreUnreadFiles (I.octets files.now) path.entry.now path.entry.now result) }
+    ensures found { MatchResult result (λ _. I.reads files.now path.entry.now) (IsReadFaultTold (I.refuses files.now path.entry.now)) }
 {
     match files.read(path) {
         Ok(octets) => Ok(octets),

@@ -2,7 +2,7 @@
 ghost use Rattle.std.specs.Prelude.{◌≡◌, IfOk, false, map};
 ghost use Rattle.clap.specs.Simple.{App, with_rule, with_subcommand};
 ghost use Rattle.clap.specs.Walk.{Rule, rule_of};
-ghost use Rattle.dict_messages.specs.Line.{word, several, number, setting, count, leaf, alone, required, command_line, with_all, readings, changes, grouping, placing, arrangements, Reads};
+ghost use Rattle.dict_messages.specs.Line.{word_rule, several, number, setting, count, leaf, alone, required, command_line, with_all, reading_shapes, changes, grouping, placing, arrangements, Reads};
 
 use crate::help;
 use crate::version::VERSION;
@@ -11,7 +11,7 @@ use std::alloc::{AllocError, Global};
 
 // A word that has to be there.
 fn word<'w>(alloc: Global, id: &'w str, help: &'w str) -> Arg<'w>
-    ensures rule { rule_of result ≡ word id.entry.now }
+    ensures rule { rule_of result ≡ word_rule id.entry.now }
     ensures local { result.global ≡ false }
 {
     Arg::new(alloc, id).required(true).help(help)
@@ -150,7 +150,7 @@ fn with_readings<'w>(
     alloc: Global,
     line: Result<Command<'w>, AllocError>,
 ) -> Result<Command<'w>, AllocError>
-    ensures { IfOk line.entry (Reads (alone required)) → IfOk result (Reads (with_all (alone required) readings)) }
+    ensures { IfOk line.entry (Reads (alone required)) → IfOk result (Reads (with_all (alone required) reading_shapes)) }
 {
     let line = with_leaf(alloc, line, "plain", help::PLAIN, &[NAME, INDEX, DICT]);
     let line = with_leaf(alloc, line, "create", help::CREATE, &[FILE]);
@@ -164,7 +164,7 @@ fn with_changes<'w>(
     alloc: Global,
     line: Result<Command<'w>, AllocError>,
 ) -> Result<Command<'w>, AllocError>
-    ensures { IfOk line.entry (Reads (with_all (alone required) readings)) → IfOk result (Reads (with_all (with_all (alone required) readings) changes)) }
+    ensures { IfOk line.entry (Reads (with_all (alone required) reading_shapes)) → IfOk result (Reads (with_all (with_all (alone required) reading_shapes) changes)) }
 {
     let words = &[FILE, NAME, ID, INDEX, DICT];
     let line = with_leaf(alloc, line, "install", help::INSTALL, words);
@@ -203,7 +203,7 @@ fn with_arrangements<'w>(
     alloc: Global,
     line: Result<Command<'w>, AllocError>,
 ) -> Result<Command<'w>, AllocError>
-    ensures { IfOk line.entry (Reads (with_all (with_all (alone required) readings) changes)) → IfOk result (Reads (with_all (with_all (with_all (alone required) readings) changes) arrangements)) }
+    ensures { IfOk line.entry (Reads (with_all (with_all (alone required) reading_shapes) changes)) → IfOk result (Reads (with_all (with_all (with_all (alone required) reading_shapes) changes) arrangements)) }
 {
     with_place(alloc, with_group(alloc, line))
 }
@@ -213,7 +213,7 @@ fn with_server<'w>(
     alloc: Global,
     line: Result<Command<'w>, AllocError>,
 ) -> Result<Command<'w>, AllocError>
-    ensures { IfOk line.entry (Reads (with_all (with_all (with_all (alone required) readings) changes) arrangements)) → IfOk result (Reads command_line) }
+    ensures { IfOk line.entry (Reads (with_all (with_all (with_all (alone required) reading_shapes) changes) arrangements)) → IfOk result (Reads command_line) }
 {
     let server = leaf(alloc, "serve", help::SERVE, &[FILE]);
     let help = "The address for readers, as 127.0.0.1:2628";

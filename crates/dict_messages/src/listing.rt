@@ -5,7 +5,7 @@ ghost use Rattle.dict_proto.specs.Streams.{Puts};
 ghost use Rattle.dict_catalogue.specs.Items.{regular, virtual};
 ghost use Rattle.dict_catalogue.specs.Views.{item_shown, stored_shown, texts_shown, title_of};
 ghost use Rattle.dict_proto.specs.Text.{quoted};
-ghost use Rattle.dict_messages.specs.Listing.{behind_comma, former_text, item_line, kind_text, list_text, with_commas};
+ghost use Rattle.dict_messages.specs.Listing.{behind_comma, former_text, listed_item_line, kind_text, listing_text, names_with_commas};
 
 use dict_catalogue::{Item, StoredTitle};
 use dict_proto::{Sink, SinkFault, put_all, put_quoted};
@@ -15,7 +15,7 @@ use itoa::Buffer;
 /// former edition (`-` where there is none) or `virtual` with its members, and its title between quote signs. It takes no
 /// memory.
 pub fn put_list<K: Sink>(sink: &mut K, items: &[Item]) -> Result<(), SinkFault>
-    ensures { Puts result (K.stream sink.old) (K.stream sink.new) (list_text (map item_shown items.now)) }
+    ensures { Puts result (K.stream sink.old) (K.stream sink.new) (listing_text (map item_shown items.now)) }
 {
     let mut place = 0;
     for item in items {
@@ -27,7 +27,7 @@ pub fn put_list<K: Sink>(sink: &mut K, items: &[Item]) -> Result<(), SinkFault>
 
 // Puts the line of the item at a place.
 fn put_item<K: Sink>(sink: &mut K, place: usize, item: &Item) -> Result<(), SinkFault>
-    ensures { Puts result (K.stream sink.old) (K.stream sink.new) (item_line place (item_shown item.now)) }
+    ensures { Puts result (K.stream sink.old) (K.stream sink.new) (listed_item_line place (item_shown item.now)) }
 {
     put_place(sink, place)?;
     put_kind(sink, item)?;
@@ -120,7 +120,7 @@ fn put_editions<K: Sink>(
 
 // Puts names with a comma between two, and a space.
 fn put_members<K: Sink>(sink: &mut K, members: &[String]) -> Result<(), SinkFault>
-    ensures { Puts result (K.stream sink.old) (K.stream sink.new) (with_commas (texts_shown members.now) ++ codes " ") }
+    ensures { Puts result (K.stream sink.old) (K.stream sink.new) (names_with_commas (texts_shown members.now) ++ codes " ") }
 {
     match members.split_first() {
         Some((first, further)) => put_some(sink, first.as_str(), further),

@@ -5,7 +5,7 @@ ghost use Rattle.clap.specs.Walk.{rows_of, all_of, first_of, one_of};
 ghost use Rattle.clap.specs.Simple.{subcommand_rows_of};
 ghost use Rattle.clap.specs.Matches.{found_of};
 ghost use Rattle.dict_messages.specs.Line.{command_line, Reads};
-ghost use Rattle.dict_messages.specs.Asked.{Asks, Fails, task_shown, change_shown, found_asked, asked_by, plain_asked, on_file, change_asked, install_asked, virtual_asked, place_asked, serve_asked, number_in, words_shown};
+ghost use Rattle.dict_messages.specs.Asked.{AskForTask, Fails, task_shown, change_shown, found_asked, asked_by, plain_asked, on_file, change_asked, install_asked, virtual_asked, place_asked, serve_asked, number_in, words_shown};
 
 use crate::line::command_line;
 use crate::task::{ItemChange, Task};
@@ -16,7 +16,7 @@ use std::convert::AsStr;
 
 /// What the words ask for, of which the first is the program's name.
 pub fn read_words<'w, W: AsStr>(alloc: Global, words: &'w [W]) -> Result<Task<'w>, Error>
-    ensures ok { IfOk result (Asks (map W.text words.entry.now)) }
+    ensures ok { IfOk result (AskForTask (map W.text words.entry.now)) }
     ensures err { IfErr result (λ error. Fails (map W.text words.entry.now) (kind_of error)) }
 {
     let mut line = command_line(alloc)?;
@@ -32,7 +32,7 @@ fn read_by<'w, W: AsStr>(
     words: &'w [W],
 ) -> Result<Task<'w>, Error>
     requires { Reads command_line line.old }
-    ensures ok { IfOk result (Asks (map W.text words.entry.now)) }
+    ensures ok { IfOk result (AskForTask (map W.text words.entry.now)) }
     ensures err { IfErr result (λ error. Fails (map W.text words.entry.now) (kind_of error)) }
 {
     let matches = line.try_get_matches_from_mut(words)?;

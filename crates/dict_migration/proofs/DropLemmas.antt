@@ -15,7 +15,7 @@ use Rattle.dict_tables.proofs.MadeLemmas.{store_defined}
 use Rattle.dict_sql.specs.Drops.{IsDropped}
 use Rattle.dict_sql.specs.Effects.{rows_of}
 use Rattle.dict_sql.proofs.DroppedLemmas.{drop_counted, drop_keeps, drop_rows}
-use Rattle.dict_older_sql.specs.Entries.{entry_of}
+use Rattle.dict_older_sql.specs.Entries.{entry_table_of}
 use Rattle.dict_older_sql.specs.declared.entries.EntryForm.{EntryForm}
 use Rattle.dict_older_sql.specs.declared.entries.EntryForm.TheVariants as form
 use Rattle.dict_older_sql.proofs.MigrationDefinitionLemmas.{form_defined, word_defined, gram_defined}
@@ -104,15 +104,15 @@ may_go form.Shown = may_keyed form.Shown
 
 -- what is left to drop behind the first of them, behind the second, and behind the third
 pub editions_left : (old new : Database) → AllByRecursion (HasOwn old.schema) plain_tables → IsDropped (codes "entry") old new → HasOwn new.schema edition
-editions_left old new own dropped = (later_own (entry_of form.Plain) may_plain.0 old new dropped own.0 (edition ∷ []) may_plain.3 may_plain.2 own.1).0
+editions_left old new own dropped = (later_own (entry_table_of form.Plain) may_plain.0 old new dropped own.0 (edition ∷ []) may_plain.3 may_plain.2 own.1).0
 
-as_form : (f : EntryForm) (old new : Database) → IsDropped (codes "entry") old new → IsDropped (entry_of f 0).name old new
+as_form : (f : EntryForm) (old new : Database) → IsDropped (codes "entry") old new → IsDropped (entry_table_of f 0).name old new
 as_form form.Plain old new h = h
 as_form form.Keyed old new h = h
 as_form form.Shown old new h = h
 
 pub behind_entries : (f : EntryForm) (old new : Database) → AllByRecursion (HasOwn old.schema) (keyed_tables f) → IsDropped (codes "entry") old new → AllByRecursion (HasOwn new.schema) (word ∷ gram ∷ edition ∷ [])
-behind_entries f old new own dropped = let may = may_keyed f in later_own (entry_of f) may.0 old new (as_form f old new dropped) own.0 (word ∷ gram ∷ edition ∷ []) may.3 may.2 own.1
+behind_entries f old new own dropped = let may = may_keyed f in later_own (entry_table_of f) may.0 old new (as_form f old new dropped) own.0 (word ∷ gram ∷ edition ∷ []) may.3 may.2 own.1
 
 pub behind_words : (old new : Database) → AllByRecursion (HasOwn old.schema) (word ∷ gram ∷ edition ∷ []) → IsDropped (codes "word") old new → AllByRecursion (HasOwn new.schema) (gram ∷ edition ∷ [])
 behind_words old new own dropped = let may = (may_keyed form.Keyed).3 in later_own word may.0 old new dropped own.0 (gram ∷ edition ∷ []) may.3 may.2 own.1

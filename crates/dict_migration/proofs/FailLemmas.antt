@@ -17,20 +17,20 @@ use Rattle.dict_desk.specs.declared.fault.Fault.TheVariants.{Memory, Disk}
 use Rattle.dict_holdings.specs.Faults.{fault_of_read}
 use Rattle.dict_older_sql.proofs.CopyLemmas.{none_more}
 use Rattle.dict_migration.specs.Older.{DroppedInTurn}
-use Rattle.dict_migration.specs.Parts.{Part, FailsBy, dropping}
-use Rattle.dict_migration.specs.Places.{Place, Dropping}
-use Rattle.dict_migration.specs.Failing.{FailsInside, FailsToSign, IsBeyond}
+use Rattle.dict_migration.specs.MigrationParts.{MigrationPart, FailsBy, dropping}
+use Rattle.dict_migration.specs.FailurePlaces.{FailurePlace, Dropping}
+use Rattle.dict_migration.specs.Failing.{MigrationFailsInside, FailsToSign, IsBeyond}
 use Rattle.dict_migration.proofs.PlaceLemmas.{Leads}
 
 module _ {S : Type 0} (g : Ghosts S) where
   -- the part is the first of those that were handed in
-  pub fails_here : (P : Place) (part : Part) (old new : Held S) (e : ReadError) → P part (state g old).now (state g old).now → FailsBy part (state g old) (state g new) e → FailsInside g P old new e
+  pub fails_here : (P : FailurePlace) (part : MigrationPart) (old new : Held S) (e : ReadError) → P part (state g old).now (state g old).now → FailsBy part (state g old) (state g new) e → MigrationFailsInside g P old new e
   fails_here P part old new e place fails = record { at = old; before = none_more (state g old); inside = λ h. h; part = part; place = place; fails = fails }
 
   -- others went well before
-  pub fails_later : (P Q : Place) (old mid new : Held S) (e : ReadError) → Survives (state g old) (state g mid) (λ _. ⊥) → ((state g old).in_transaction ≡ true → (state g mid).in_transaction ≡ true)
+  pub fails_later : (P Q : FailurePlace) (old mid new : Held S) (e : ReadError) → Survives (state g old) (state g mid) (λ _. ⊥) → ((state g old).in_transaction ≡ true → (state g mid).in_transaction ≡ true)
       → Leads P (state g mid).now Q (state g old).now
-      → FailsInside g P mid new e → FailsInside g Q old new e
+      → MigrationFailsInside g P mid new e → MigrationFailsInside g Q old new e
   fails_later P Q old mid new e survives inside leads h = record {
     at = h.at;
     before = survives_then (state g old) (state g mid) (state g h.at) (λ _. ⊥) (λ _. ⊥) (λ _. ⊥) (λ _ db none. none) (λ _ db none. none) survives h.before;
@@ -41,12 +41,12 @@ module _ {S : Type 0} (g : Ghosts S) where
   }
 
   -- the places of a call are some of another's
-  pub fails_within : (P Q : Place) (old new : Held S) (e : ReadError) → Leads P (state g old).now Q (state g old).now → FailsInside g P old new e → FailsInside g Q old new e
+  pub fails_within : (P Q : FailurePlace) (old new : Held S) (e : ReadError) → Leads P (state g old).now Q (state g old).now → MigrationFailsInside g P old new e → MigrationFailsInside g Q old new e
   fails_within P Q old new e leads h = record { at = h.at; before = h.before; inside = h.inside; part = h.part; place = leads h.part (state g h.at).now h.place; fails = h.fails }
 
   -- a table isn't dropped, behind those before it
   pub fails_at : (names gone : List (List ℕ)) (name : List ℕ) (rest : List (List ℕ)) → gone ++ name ∷ rest ≡ names → (old mid new : Held S) (e : Error) → Survives (state g old) (state g mid) (λ _. ⊥)
-      → ((state g old).in_transaction ≡ true → (state g mid).in_transaction ≡ true) → DroppedInTurn gone (state g old).now (state g mid).now → FailsToDrop name (state g mid) (state g new) e → FailsInside g
+      → ((state g old).in_transaction ≡ true → (state g mid).in_transaction ≡ true) → DroppedInTurn gone (state g old).now (state g mid).now → FailsToDrop name (state g mid) (state g new) e → MigrationFailsInside g
       (Dropping names) old new (Store e)
   fails_at names gone name rest these old mid new e survives inside dropped fails = record {
     at = mid;

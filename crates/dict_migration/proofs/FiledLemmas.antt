@@ -5,7 +5,7 @@ use Rattle.std.specs.List.{AllByRecursion}
 use Rattle.std.specs.List.Sorted.{IsPermutation}
 use Rattle.std.proofs.lemmas.List.Sorted.{IsPermutation-refl}
 use Rattle.sqlite.specs.Effect.{Database}
-use Rattle.dict_records.specs.Records.{Edition, Header, Part, header_of}
+use Rattle.dict_records.specs.Records.{EditionRecord, HeaderRecord, Part, header_of}
 use Rattle.dict_tables.specs.Found.{HasOwn}
 use Rattle.dict_tables.specs.Tables.{edition}
 use Rattle.dict_tables.specs.declared.tables.StoreTable.TheVariants as store
@@ -16,12 +16,12 @@ use Rattle.dict_sql.proofs.Callers.{apart_none}
 use Rattle.dict_edition_sql.specs.PartRecords.{part_row}
 use Rattle.dict_edition_sql.specs.PartTable.{part}
 use Rattle.dict_edition_sql.proofs.PartDefinitionLemmas.{part_defined}
-use Rattle.dict_older_sql.specs.Entries.{entry_of}
+use Rattle.dict_older_sql.specs.Entries.{entry_table_of}
 use Rattle.dict_older_sql.proofs.MigrationDefinitionLemmas.{form_defined}
 use Rattle.dict_rows.specs.Order.{is_of, editions_of_numbers}
 use Rattle.dict_rows.specs.Tables.{Tables}
 use Rattle.dict_holdings.specs.Files.{all_parts}
-use Rattle.dict_migration.specs.Older.{entry_cells, form_of, looked_at}
+use Rattle.dict_migration.specs.Older.{older_entry_cells, form_of, looked_at}
 use Rattle.dict_migration.specs.Steps.{AreParted, IsPartedOne}
 use Rattle.dict_migration.specs.declared.older.Older.{Older}
 use Rattle.dict_migration.proofs.NumberLemmas.{AreNumbered, AreFresh}
@@ -31,31 +31,31 @@ use Rattle.dict_migration.proofs.SpareLemmas.{added_rows, edition_part, entry_pa
 -- the tables that are read and written are had
 pub record Owns (older : Older) (db : Database) : Type 0 where
   pub editions : HasOwn db.schema edition
-  pub entries : HasOwn db.schema (entry_of (form_of older))
+  pub entries : HasOwn db.schema (entry_table_of (form_of older))
   pub parts : HasOwn db.schema part
 
 module _ (older : Older) (t : Tables) where
   pub records_same : (old new : Database) → rows_of (codes "edition") new ≡ rows_of (codes "edition") old → rows_of (codes "entry") new ≡ rows_of (codes "entry") old → HasRecordsOf older t old → HasRecordsOf older t new
   records_same old new one two has = record {
     editions = subst (λ l. IsPermutation (map edition_row t.editions) (map (drop 1) l)) (sym one) has.editions;
-    entries = subst (λ l. IsPermutation (map (entry_cells older) t.entries) (map (λ row. drop 1 (looked_at older row)) l)) (sym two) has.entries;
+    entries = subst (λ l. IsPermutation (map (older_entry_cells older) t.entries) (map (λ row. drop 1 (looked_at older row)) l)) (sym two) has.entries;
     shown = has.shown;
   }
 
-  one_still : (n : ℤ) (header : Header) (old new : Database) → Owns older old → IsPartedOne older n header old new → HasRecordsOf older t old → HasRecordsOf older t new
+  one_still : (n : ℤ) (header : HeaderRecord) (old new : Database) → Owns older old → IsPartedOne older n header old new → HasRecordsOf older t old → HasRecordsOf older t new
   one_still n header old new own one has =
       records_same old new (added_rows part part_defined edition (store_defined store.Edition) edition_part _ old new one.added own.parts own.editions)
       (subst (λ name. rows_of name new ≡ rows_of name old) (same_entries (form_of older))
-      (added_rows part part_defined (entry_of (form_of older)) (form_defined (form_of older)) (entry_part (form_of older)) _ old new one.added own.parts own.entries)) has
+      (added_rows part part_defined (entry_table_of (form_of older)) (form_defined (form_of older)) (entry_part (form_of older)) _ old new one.added own.parts own.entries)) has
 
-  owns_still : (n : ℤ) (header : Header) (old new : Database) → IsPartedOne older n header old new → Owns older old → Owns older new
+  owns_still : (n : ℤ) (header : HeaderRecord) (old new : Database) → IsPartedOne older n header old new → Owns older old → Owns older new
   owns_still n header old new one own = record {
     editions = own_still edition old new one.added.schema own.editions;
-    entries = own_still (entry_of (form_of older)) old new one.added.schema own.entries;
+    entries = own_still (entry_table_of (form_of older)) old new one.added.schema own.entries;
     parts = own_still part old new one.added.schema own.parts;
   }
 
-  pub all_filed : (ns done : List ℤ) (before headers : List Header) (old new : Database) → AreFresh done ns → AllByRecursion (AreNumbered t) ns → Owns older old → AreParted older ns headers old new
+  pub all_filed : (ns done : List ℤ) (before headers : List HeaderRecord) (old new : Database) → AreFresh done ns → AllByRecursion (AreNumbered t) ns → Owns older old → AreParted older ns headers old new
       → HasRecordsOf older t old → IsFiled done before t old → IsFiled (done ++ ns) (before ++ headers) t new
   all_filed [] done before headers old new fresh are own h has k =
       subst (λ hs. IsFiled (done ++ []) (before ++ hs) t new) (sym h.0)
@@ -75,7 +75,7 @@ no_part : (ps : List Part) → filter (λ (p : Part). is_of [] p.edition) ps ≡
 no_part [] = refl
 no_part (p ∷ ps) = no_part ps
 
-no_edition : (es : List Edition) → editions_of_numbers [] es ≡ []
+no_edition : (es : List EditionRecord) → editions_of_numbers [] es ≡ []
 no_edition [] = refl
 no_edition (e ∷ es) = no_edition es
 

@@ -8,7 +8,7 @@ use Rattle.sqlite.specs.State.{State, Survives}
 use Rattle.sqlite.specs.Table.{Table}
 use Rattle.sqlite.specs.Does.{lacks_sequence}
 use Rattle.sqlite.proofs.StateLemmas.{survives_then}
-use Rattle.dict_records.specs.Records.{Header}
+use Rattle.dict_records.specs.Records.{HeaderRecord}
 use Rattle.dict_tables.specs.Found.{HasOwn}
 use Rattle.dict_tables.specs.Keyed.{word, gram}
 use Rattle.dict_tables.specs.Room.{LeavesRoom}
@@ -19,7 +19,7 @@ use Rattle.dict_sql.specs.Creates.{IsFree, IsMade}
 use Rattle.dict_sql.specs.Effects.{rows_of}
 use Rattle.dict_sql.proofs.Callers.{still_has, own_has}
 use Rattle.dict_sql.proofs.MakeLemmas.{one_keeps, one_own}
-use Rattle.dict_older_sql.specs.Entries.{entry_of}
+use Rattle.dict_older_sql.specs.Entries.{entry_table_of}
 use Rattle.dict_older_sql.specs.declared.entries.EntryForm.{EntryForm}
 use Rattle.dict_older_sql.specs.declared.entries.EntryForm.TheVariants as form
 use Rattle.dict_older_sql.proofs.MigrationDefinitionLemmas.{form_defined, word_defined, gram_defined}
@@ -45,25 +45,25 @@ three_survive a b c d one two three = two_survive a c d (two_survive a b c one t
 -- ---- the files of editions, one after the other
 
 module _ (older : Older) where
-  pub parted_schema : (numbers : List ℤ) (headers : List Header) (old new : Database) → AreParted older numbers headers old new → new.schema ≡ old.schema
+  pub parted_schema : (numbers : List ℤ) (headers : List HeaderRecord) (old new : Database) → AreParted older numbers headers old new → new.schema ≡ old.schema
   parted_schema [] headers old new h = ap (λ (d : Database). d.schema) h.1
   parted_schema (n ∷ ns) headers old new h = parted_schema ns h.2 h.0 new h.5 ∙ h.4.added.schema
 
-  pub parted_sound : (numbers : List ℤ) (headers : List Header) (old new : Database) → AreParted older numbers headers old new → IsDatabase old → IsDatabase new
+  pub parted_sound : (numbers : List ℤ) (headers : List HeaderRecord) (old new : Database) → AreParted older numbers headers old new → IsDatabase old → IsDatabase new
   parted_sound [] headers old new h sound = subst IsDatabase (sym h.1) sound
   parted_sound (n ∷ ns) headers old new h sound = parted_sound ns h.2 h.0 new h.5 (h.4.added.sound sound)
 
-  pub parted_one : (numbers : List ℤ) (headers : List Header) (n : ℤ) (one : Header) (old mid new : Database) → AreParted older numbers headers old mid → IsPartedOne older n one mid new
+  pub parted_one : (numbers : List ℤ) (headers : List HeaderRecord) (n : ℤ) (one : HeaderRecord) (old mid new : Database) → AreParted older numbers headers old mid → IsPartedOne older n one mid new
       → AreParted older (numbers ++ n ∷ []) (headers ++ one ∷ []) old new
   parted_one [] headers n one old mid new done it = (new, one, [], ap (λ l. l ++ one ∷ []) done.0, subst (λ d. IsPartedOne older n one d new) done.1 it, (refl, refl))
   parted_one (m ∷ ns) headers n one old mid new done it = (done.0, done.1, done.2 ++ one ∷ [], ap (λ l. l ++ one ∷ []) done.3, done.4, parted_one ns done.2 n one done.0 mid new done.5 it)
 
-  pub parted_spares : (numbers : List ℤ) (headers : List Header) (old new : Database) → AreParted older numbers headers old new → HasOwn old.schema part → Spares old new
+  pub parted_spares : (numbers : List ℤ) (headers : List HeaderRecord) (old new : Database) → AreParted older numbers headers old new → HasOwn old.schema part → Spares old new
   parted_spares [] headers old new h own = spares_same old new h.1
   parted_spares (n ∷ ns) headers old new h own =
       spares_then old h.0 new (spares_added part part_defined away_part _ old h.0 h.4.added own) (parted_spares ns h.2 h.0 new h.5 (own_still part old h.0 h.4.added.schema own))
 
-  pub number_parted : (all : List ℤ) (i : ℕ) (d n : ℤ) → i < length all → n ≡ get_or all i d → (headers : List Header) (one : Header) (first mid new : Database)
+  pub number_parted : (all : List ℤ) (i : ℕ) (d n : ℤ) → i < length all → n ≡ get_or all i d → (headers : List HeaderRecord) (one : HeaderRecord) (first mid new : Database)
       → AreParted older (take i all) headers first mid → IsPartedOne older n one mid new → AreParted older (take (i + 1) all) (headers ++ one ∷ []) first new
   number_parted all i d n within is headers one first mid new before it =
       subst (λ l. AreParted older l (headers ++ one ∷ []) first new) (sym (take_more all i d within)) (parted_one (take i all) headers (get_or all i d) one first mid new before (subst (λ m. IsPartedOne older m one mid new) is it))
@@ -71,7 +71,7 @@ module _ (older : Older) where
   pub three_still : (old new : Database) → new.schema ≡ old.schema → HasThree older old → HasThree older new
   three_still old new same h = record {
     editions = still_has edition old new same h.editions;
-    entries = still_has (entry_of (form_of older)) old new same h.entries;
+    entries = still_has (entry_table_of (form_of older)) old new same h.entries;
     parts = still_has part old new same h.parts;
   }
 
@@ -88,7 +88,7 @@ edition_old Plain schema own = own.tables.1.1.1.1.0
 edition_old Keyed schema own = own.tables.1.1.1.1.0
 edition_old Shown schema own = own.tables.1.1.1.1.0
 
-pub entries_old : (older : Older) (schema : Schema) → HasLayout (layout_as older) schema → HasOwn schema (entry_of (form_of older))
+pub entries_old : (older : Older) (schema : Schema) → HasLayout (layout_as older) schema → HasOwn schema (entry_table_of (form_of older))
 entries_old Plain schema own = own.tables.1.1.1.1.1.0
 entries_old Keyed schema own = own.tables.1.1.1.1.1.0
 entries_old Shown schema own = own.tables.1.1.1.1.1.0
@@ -113,13 +113,13 @@ all_keep old new made (t ∷ ts) keep own = (keep.0 own.0, all_keep old new made
 
 module _ (older : Older) (old new : Database) (its : IsOld older old) (made : IsMade (part 0) old new) where
   kept : (f : EntryForm) → AllByRecursion (λ (t : ℕ → Table). HasOwn old.schema t → HasOwn new.schema t) (gone_with f)
-  kept form.Plain = (one_keeps part part_defined old new made (entry_of form.Plain) (form_defined form.Plain), (one_keeps part part_defined old new made edition (store_defined store.Edition), tt))
+  kept form.Plain = (one_keeps part part_defined old new made (entry_table_of form.Plain) (form_defined form.Plain), (one_keeps part part_defined old new made edition (store_defined store.Edition), tt))
   kept form.Keyed = (
-    one_keeps part part_defined old new made (entry_of form.Keyed) (form_defined form.Keyed),
+    one_keeps part part_defined old new made (entry_table_of form.Keyed) (form_defined form.Keyed),
     (one_keeps part part_defined old new made word word_defined, (one_keeps part part_defined old new made gram gram_defined, (one_keeps part part_defined old new made edition (store_defined store.Edition), tt))),
   )
   kept form.Shown = (
-    one_keeps part part_defined old new made (entry_of form.Shown) (form_defined form.Shown),
+    one_keeps part part_defined old new made (entry_table_of form.Shown) (form_defined form.Shown),
     (one_keeps part part_defined old new made word word_defined, (one_keeps part part_defined old new made gram gram_defined, (one_keeps part part_defined old new made edition (store_defined store.Edition), tt))),
   )
 
@@ -132,13 +132,13 @@ module _ (older : Older) (old new : Database) (its : IsOld older old) (made : Is
   pub made_edition : HasOwn new.schema edition
   made_edition = one_keeps part part_defined old new made edition (store_defined store.Edition) (edition_old older old.schema its.own)
 
-  pub made_entries : HasOwn new.schema (entry_of (form_of older))
-  made_entries = one_keeps part part_defined old new made (entry_of (form_of older)) (form_defined (form_of older)) (entries_old older old.schema its.own)
+  pub made_entries : HasOwn new.schema (entry_table_of (form_of older))
+  made_entries = one_keeps part part_defined old new made (entry_table_of (form_of older)) (form_defined (form_of older)) (entries_old older old.schema its.own)
 
   pub made_three : HasThree older new
   made_three = record {
     editions = own_has edition new made_edition;
-    entries = own_has (entry_of (form_of older)) new made_entries;
+    entries = own_has (entry_table_of (form_of older)) new made_entries;
     parts = own_has part new made_part;
   }
 
@@ -150,7 +150,7 @@ gone_later older old new same own = subst (λ (s : Schema). AllByRecursion (HasO
 
 -- ---- what is left of them
 
-module _ (older : Older) (numbers : List ℤ) (headers : List Header) (old new : Database) (its : IsOld older old) (h : AreTakenApart older numbers headers old new) where
+module _ (older : Older) (numbers : List ℤ) (headers : List HeaderRecord) (old new : Database) (its : IsOld older old) (h : AreTakenApart older numbers headers old new) where
   files_same : h.with_files.schema ≡ h.with_table.schema
   files_same = parted_schema older numbers headers h.with_table h.with_files h.parted
 

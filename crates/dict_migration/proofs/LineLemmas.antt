@@ -10,7 +10,7 @@ use Rattle.std.specs.List.{AllByRecursion, list_any}
 use Rattle.std.proofs.lemmas.Bool.{false≢true, cases_Bool}
 use Rattle.std.proofs.lemmas.List.{take_more, map-append}
 use Rattle.std.proofs.lemmas.Grind.{flat_map-append}
-use Rattle.dict_records.specs.Records.{Entry}
+use Rattle.dict_records.specs.Records.{EntryRecord}
 use Rattle.dict_index.specs.Cuts.{HasNo}
 use Rattle.dict_index.specs.Line.{Line}
 use Rattle.dict_parts.specs.Stored.{IsColumn, IsStorable, saying, stored_line}
@@ -18,28 +18,28 @@ use Rattle.dict_holdings.specs.Files.{entry_line, index_octets, natural}
 use Rattle.dict_rows.proofs.TakenLemmas.{nat_same, nat_itself}
 use Rattle.dict_sql.specs.declared.records.ReadError.{ReadError}
 use Rattle.dict_sql.specs.declared.records.ReadError.TheVariants.{NoRecord, Store}
-use Rattle.dict_migration.specs.Parts.{FailsToWrite}
-use Rattle.dict_migration.specs.Steps.{HasLine, IsShort}
+use Rattle.dict_migration.specs.MigrationParts.{FailsToWriteIndex}
+use Rattle.dict_migration.specs.Steps.{HasLine, HasSixDigits}
 
 -- the index of one entry more
-pub line_more : (entries : List Entry) (e : Entry) → index_octets (entries ++ e ∷ []) ≡ index_octets entries ++ (stored_line (entry_line e) ++ 10 ∷ [])
+pub line_more : (entries : List EntryRecord) (e : EntryRecord) → index_octets (entries ++ e ∷ []) ≡ index_octets entries ++ (stored_line (entry_line e) ++ 10 ∷ [])
 line_more entries e =
     let f : Line → List ℕ = λ said. stored_line said ++ 10 ∷ [] in
     ap (flat_map f) (map-append entry_line entries (e ∷ [])) ∙ flat_map-append f (map entry_line entries) (entry_line e ∷ []) ∙ ap (λ l. index_octets entries ++ l) (append-nil (f (entry_line e)))
 
-module _ {X : Type 0} (entry : X → Entry) (all : List X) (i : ℕ) (d : X) (within : i < length all) where
+module _ {X : Type 0} (entry : X → EntryRecord) (all : List X) (i : ℕ) (d : X) (within : i < length all) where
   pub lines_next : index_octets (map entry (take (i + 1) all)) ≡ index_octets (map entry (take i all)) ++ (stored_line (entry_line (entry (get_or all i d))) ++ 10 ∷ [])
   lines_next =
       ap (λ l. index_octets (map entry l)) (take_more all i d within) ∙ ap index_octets (map-append entry (take i all) (get_or all i d ∷ [])) ∙ line_more (map entry (take i all)) (entry (get_or all i d))
 
 -- what holds of all holds of each
-each_is : {X : Type 0} (P : Entry → Type 0) (entry : X → Entry) (all : List X) (i : ℕ) (d : X) → i < length all → AllByRecursion P (map entry all) → P (entry (get_or all i d))
+each_is : {X : Type 0} (P : EntryRecord → Type 0) (entry : X → EntryRecord) (all : List X) (i : ℕ) (d : X) → i < length all → AllByRecursion P (map entry all) → P (entry (get_or all i d))
 each_is P entry [] i d lt h = absurd (omega (arith, lt))
 each_is P entry (x ∷ xs) zero d lt h = h.0
 each_is P entry (x ∷ xs) (suc i) d lt h = each_is P entry xs i d (let less : i < length xs = omega (arith, lt) in less) h.1
 
 -- one of them can't be written
-pub write_later : {X : Type 0} (entry : X → Entry) (all : List X) (i : ℕ) (d : X) → i < length all → (e : ReadError) → FailsToWrite (entry (get_or all i d) ∷ []) e → FailsToWrite (map entry all) e
+pub write_later : {X : Type 0} (entry : X → EntryRecord) (all : List X) (i : ℕ) (d : X) → i < length all → (e : ReadError) → FailsToWriteIndex (entry (get_or all i d) ∷ []) e → FailsToWriteIndex (map entry all) e
 write_later entry all i d within NoRecord h = λ lines. h (each_is HasLine entry all i d within lines, tt)
 write_later entry all i d within (Store e) h = h
 
@@ -71,19 +71,19 @@ below : (n : ℕ) → n < 68719476736 → n < 18446744073709551616
 below n h = omega arith
 
 -- a cast to a number that isn't negative loses nothing
-pub short_cast : (z : ℤ) → IsShort z → T (non_neg z) × Fits w64 (nat_abs z)
+pub short_cast : (z : ℤ) → HasSixDigits z → T (non_neg z) × Fits w64 (nat_abs z)
 short_cast (pos n) h = (tt, record { fits = below n h })
 short_cast (negsuc n) h = absurd h
 
-short_same : (z : ℤ) → IsShort z → nat_abs z ≡ natural z
+short_same : (z : ℤ) → HasSixDigits z → nat_abs z ≡ natural z
 short_same (pos n) h = refl
 short_same (negsuc n) h = absurd h
 
-short_below : (z : ℤ) → IsShort z → natural z < 64 ^ 6
+short_below : (z : ℤ) → HasSixDigits z → natural z < 64 ^ 6
 short_below (pos n) h = h
 short_below (negsuc n) h = absurd h
 
-module _ (headword shown : List ℕ) (start length a b : ℤ) (one : a ≡ start) (two : b ≡ length) (s : IsShort start) (l : IsShort length) where
+module _ (headword shown : List ℕ) (start length a b : ℤ) (one : a ≡ start) (two : b ≡ length) (s : HasSixDigits start) (l : HasSixDigits length) where
   cast_start : nat_abs a ≡ natural start
   cast_start = ap nat_abs one ∙ short_same start s
 
@@ -102,5 +102,5 @@ module _ (headword shown : List ℕ) (start length a b : ℤ) (one : a ≡ start
   }
 
 -- any entry
-pub some_entry : Entry
+pub some_entry : EntryRecord
 some_entry = record { edition = pos 0; ord = pos 0; headword = []; start = pos 0; length = pos 0; shown = [] }

@@ -37,40 +37,40 @@ use Rattle.dict_rows.specs.Tables.{Tables}
 use Rattle.dict_rows.specs.Versions.{Parted, known}
 use Rattle.dict_rows.specs.Written.{mark_record}
 use Rattle.dict_holdings.specs.AllTables.{with_derived}
-use Rattle.dict_holdings.specs.Readings.{Reading, KeepsRows, name_of, marks, items, members, editions, contents, kept_replies}
+use Rattle.dict_holdings.specs.Readings.{TableReading, KeepsRows, table_name_of, marks, items, members, editions, contents, kept_replies}
 use Rattle.dict_holdings.specs.Holds.{HasPlace, Holds}
 use Rattle.dict_holdings.proofs.KeepLemmas.{keeps_added, keeps_none}
-use Rattle.dict_migration.specs.Making.{Step, one, Succeeds, FailsTo, RunInTurn, FailsInTurn, lasting_tables}
+use Rattle.dict_migration.specs.Making.{CreationStep, one, StepSucceeds, StepFails, StepsRunInTurn, StepsFailInTurn, lasting_tables}
 use Rattle.dict_migration.proofs.SpareLemmas.{apart_mark, others_rows, own_still}
 
 -- ---- steps, one after the other
 
 module _ {S : Type 0} (g : Ghosts S) where
-  pub run_step : (step : Step) (old new : Held S) → Succeeds step (state g old) (state g new) → Survives (state g old) (state g new) (λ _. ⊥) → RunInTurn g (step ∷ []) old new
+  pub run_step : (step : CreationStep) (old new : Held S) → StepSucceeds step (state g old) (state g new) → Survives (state g old) (state g new) (λ _. ⊥) → StepsRunInTurn g (step ∷ []) old new
   run_step step old new done survives = (new, (done, survives), refl)
 
-  pub run_steps : (front back : List Step) (old mid new : Held S) → RunInTurn g front old mid → RunInTurn g back mid new → RunInTurn g (front ++ back) old new
-  run_steps [] back old mid new first second = subst (λ h. RunInTurn g back h new) first second
+  pub run_steps : (front back : List CreationStep) (old mid new : Held S) → StepsRunInTurn g front old mid → StepsRunInTurn g back mid new → StepsRunInTurn g (front ++ back) old new
+  run_steps [] back old mid new first second = subst (λ h. StepsRunInTurn g back h new) first second
   run_steps (step ∷ front) back old mid new first second = (first.0, first.1, run_steps front back first.0 mid new first.2 second)
 
-  pub fails_step : (step : Step) (old new : Held S) (e : Error) → FailsTo step (state g old) (state g new) e → Survives (state g old) (state g new) (λ _. ⊥) → FailsInTurn g (step ∷ []) old new e
+  pub fails_step : (step : CreationStep) (old new : Held S) (e : Error) → StepFails step (state g old) (state g new) e → Survives (state g old) (state g new) (λ _. ⊥) → StepsFailInTurn g (step ∷ []) old new e
   fails_step step old new e failed survives = inl (failed, survives)
 
-  pub fails_front : (front back : List Step) (old new : Held S) (e : Error) → FailsInTurn g front old new e → FailsInTurn g (front ++ back) old new e
+  pub fails_front : (front back : List CreationStep) (old new : Held S) (e : Error) → StepsFailInTurn g front old new e → StepsFailInTurn g (front ++ back) old new e
   fails_front [] back old new e h = absurd h
   fails_front (step ∷ front) back old new e (inl h) = inl h
   fails_front (step ∷ front) back old new e (inr h) = inr (h.0, h.1, fails_front front back h.0 new e h.2)
 
-  pub fails_back : (front back : List Step) (old mid new : Held S) (e : Error) → RunInTurn g front old mid → FailsInTurn g back mid new e → FailsInTurn g (front ++ back) old new e
-  fails_back [] back old mid new e ran h = subst (λ s. FailsInTurn g back s new e) ran h
+  pub fails_back : (front back : List CreationStep) (old mid new : Held S) (e : Error) → StepsRunInTurn g front old mid → StepsFailInTurn g back mid new e → StepsFailInTurn g (front ++ back) old new e
+  fails_back [] back old mid new e ran h = subst (λ s. StepsFailInTurn g back s new e) ran h
   fails_back (step ∷ front) back old mid new e ran h = inr (ran.0, ran.1, fails_back front back ran.0 mid new e ran.2 h)
 
   -- statements are steps
-  pub run_ones : (statements : List Statement) (old new : Held S) → sql.RunInTurn g statements old new → RunInTurn g (map one statements) old new
+  pub run_ones : (statements : List Statement) (old new : Held S) → sql.RunInTurn g statements old new → StepsRunInTurn g (map one statements) old new
   run_ones [] old new h = h
   run_ones (s ∷ ss) old new h = (h.0, h.1, run_ones ss h.0 new h.2)
 
-  pub fails_ones : (statements : List Statement) (old new : Held S) (e : Error) → sql.FailsInTurn g statements old new e → FailsInTurn g (map one statements) old new e
+  pub fails_ones : (statements : List Statement) (old new : Held S) (e : Error) → sql.FailsInTurn g statements old new e → StepsFailInTurn g (map one statements) old new e
   fails_ones [] old new e h = absurd h
   fails_ones (s ∷ ss) old new e (inl h) = inl h
   fails_ones (s ∷ ss) old new e (inr h) = inr (h.0, h.1, fails_ones ss h.0 new e h.2)
@@ -147,12 +147,12 @@ module _ (old mid : Database) (place : HasPlace old.schema) (sound : IsDatabase 
         own_new : (table : ℕ → Table) → HasOwn late.schema table → HasOwn new.schema table
         own_new table own = own_still table late new put.schema own
 
-        none_new : (r : Reading) → IsDefinition r.table → same_name (name_of r) (mark 0).name ≡ false → HasOwn late.schema r.table → rows_of (name_of r) late ≡ [] → r.rows (with_derived empty_tables) ≡ []
+        none_new : (r : TableReading) → IsDefinition r.table → same_name (table_name_of r) (mark 0).name ≡ false → HasOwn late.schema r.table → rows_of (table_name_of r) late ≡ [] → r.rows (with_derived empty_tables) ≡ []
             → KeepsRows r new (with_derived empty_tables)
         none_new r defined apart own none no_rows =
             let empty = others_rows mark (store_defined Mark) r.table defined apart late new put.schema put.others mark_there own ∙ none in
             record {
-              rows = subst (λ l. IsPermutation l (map (λ row. drop 1 (r.looked row)) (rows_of (name_of r) new))) (sym no_rows) (subst (λ l. IsPermutation [] (map (λ row. drop 1 (r.looked row)) l)) (sym empty) (IsPermutation-refl []));
+              rows = subst (λ l. IsPermutation l (map (λ row. drop 1 (r.looked row)) (rows_of (table_name_of r) new))) (sym no_rows) (subst (λ l. IsPermutation [] (map (λ row. drop 1 (r.looked row)) l)) (sym empty) (IsPermutation-refl []));
               apart = subst HasApartRowids (sym empty) apart_none;
             }
 

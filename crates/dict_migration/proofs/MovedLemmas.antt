@@ -27,7 +27,7 @@ use Rattle.dict_edition_sql.proofs.HeaderDefinitionLemmas.{header_defined}
 use Rattle.dict_edition_sql.specs.PartRecords.{part_row}
 use Rattle.dict_edition_sql.specs.PartTable.{part}
 use Rattle.dict_edition_sql.proofs.PartDefinitionLemmas.{part_defined}
-use Rattle.dict_older_sql.specs.Entries.{entry_of}
+use Rattle.dict_older_sql.specs.Entries.{entry_table_of}
 use Rattle.dict_older_sql.proofs.MigrationDefinitionLemmas.{form_defined}
 use Rattle.dict_rows.specs.Tables.{Tables}
 use Rattle.dict_rows.specs.Stands.{Stands}
@@ -37,13 +37,13 @@ use Rattle.dict_rows.specs.Order.{is_of}
 use Rattle.dict_rows.proofs.PartLemmas.{filter_whole}
 use Rattle.dict_holdings.specs.AllTables.{AllTables, with_derived, as_version}
 use Rattle.dict_holdings.specs.Files.{all_parts}
-use Rattle.dict_holdings.specs.Readings.{Reading, KeepsAll, KeepsRows, name_of, marks, items, members, editions, contents, kept_replies, AreShownIn}
+use Rattle.dict_holdings.specs.Readings.{TableReading, KeepsAll, KeepsRows, table_name_of, marks, items, members, editions, contents, kept_replies, AreShownIn}
 use Rattle.dict_holdings.specs.Holds.{HasLayout, Holds}
 use Rattle.dict_holdings.proofs.KeepLemmas.{keeps_added, keeps_none}
 use Rattle.dict_holdings.proofs.OneLemmas.{same_version}
 use Rattle.dict_holdings.proofs.ReadingLemmas.{map_twice}
 use Rattle.dict_migration.specs.Migrated.{IsMigrated}
-use Rattle.dict_migration.specs.Moved.{AreHeaded, AreTakenApart, IsMarked, IsMoved}
+use Rattle.dict_migration.specs.Moved.{AreHeaded, AreTakenApart, IsMarkedAnew, IsMoved}
 use Rattle.dict_migration.specs.Older.{IsOld, form_of, layout_as}
 use Rattle.dict_migration.specs.Spared.{IsBeside, Spares}
 use Rattle.dict_migration.specs.declared.older.Older.{Older}
@@ -77,7 +77,7 @@ owns_mark older schema own = own.tables.0
 
 -- ---- the headers
 
-module _ (older : Older) (numbers : List ℤ) (headers : List spec.Header) (old apart new : Database) (its : IsOld older old) (takes : AreTakenApart older numbers headers old apart) (h : AreHeaded headers apart new) where
+module _ (older : Older) (numbers : List ℤ) (headers : List spec.HeaderRecord) (old apart new : Database) (its : IsOld older old) (takes : AreTakenApart older numbers headers old apart) (h : AreHeaded headers apart new) where
   pub made_header : HasOwn h.with_table.schema header
   made_header =
       let may = apart_headed older numbers headers old apart its takes in
@@ -127,7 +127,7 @@ none_left : (rows : List Row) → filter (λ (r : Row). not true) rows ≡ []
 none_left [] = refl
 none_left (r ∷ rows) = none_left rows
 
-module _ (installs : ℕ) (last new : Database) (own : HasOwn last.schema mark) (h : IsMarked installs last new) where
+module _ (installs : ℕ) (last new : Database) (own : HasOwn last.schema mark) (h : IsMarkedAnew installs last new) where
   pub marked_schema : new.schema ≡ last.schema
   marked_schema = h.put.schema ∙ h.taken.schema
 
@@ -147,9 +147,9 @@ module _ (installs : ℕ) (last new : Database) (own : HasOwn last.schema mark) 
 
 -- ---- all of it
 
-again : (r : Reading) (A B : AllTables) (old new : Database) → r.rows A ≡ r.rows B → rows_of (name_of r) new ≡ rows_of (name_of r) old → KeepsRows r old A → KeepsRows r new B
+again : (r : TableReading) (A B : AllTables) (old new : Database) → r.rows A ≡ r.rows B → rows_of (table_name_of r) new ≡ rows_of (table_name_of r) old → KeepsRows r old A → KeepsRows r new B
 again r A B old new same still k = record {
-  rows = subst (λ l. IsPermutation (r.rows B) (map (λ row. drop 1 (r.looked row)) l)) (sym still) (subst (λ l. IsPermutation l (map (λ row. drop 1 (r.looked row)) (rows_of (name_of r) old))) same k.rows);
+  rows = subst (λ l. IsPermutation (r.rows B) (map (λ row. drop 1 (r.looked row)) l)) (sym still) (subst (λ l. IsPermutation l (map (λ row. drop 1 (r.looked row)) (rows_of (table_name_of r) old))) same k.rows);
   apart = subst HasApartRowids (sym still) k.apart;
 }
 
@@ -221,7 +221,7 @@ module _ (older : Older) (version : ℕ) (is : layout_of version ≡ layout_as o
         let its_own = entries_old older old.schema its.own in
         let f = form_of older in
         records_same older t old first (one_rows (part 0) old first m.takes.made (edition 0).name (edition own.tree) (own_in edition (store_defined store.Edition) old own))
-        (subst (λ name. rows_of name first ≡ rows_of name old) (same_entries f) (one_rows (part 0) old first m.takes.made (entry_of f 0).name (entry_of f its_own.tree) (own_in (entry_of f) (form_defined f) old its_own)))
+        (subst (λ name. rows_of name first ≡ rows_of name old) (same_entries f) (one_rows (part 0) old first m.takes.made (entry_table_of f 0).name (entry_table_of f its_own.tree) (own_in (entry_table_of f) (form_defined f) old its_own)))
         (records_of older t old k shown)
 
     all_done : IsFiled numbers m.headers t m.takes.with_files
@@ -233,7 +233,7 @@ module _ (older : Older) (version : ℕ) (is : layout_of version ≡ layout_as o
     rows_new = marked_rows N.installs last new mark_last m.marked
 
     -- a table that stays has what it had
-    other_kept : (r : Reading) → IsDefinition r.table → IsBeside (name_of r) → same_name (name_of r) (mark 0).name ≡ false → HasOwn old.schema r.table
+    other_kept : (r : TableReading) → IsDefinition r.table → IsBeside (table_name_of r) → same_name (table_name_of r) (mark 0).name ≡ false → HasOwn old.schema r.table
         → r.rows (with_derived t) ≡ r.rows (with_derived (as_version known t)) → KeepsRows r old (with_derived t) → KeepsRows r new (with_derived (as_version known t))
     other_kept r defined beside apart own same kept =
         let stay = stays r.table defined beside own in
@@ -253,7 +253,7 @@ module _ (older : Older) (version : ℕ) (is : layout_of version ≡ layout_as o
     -- all headers
     headers_kept : KeepsRows (editions Parted) new (with_derived (as_version known t))
     headers_kept =
-        let whole = filter_whole (λ (e : spec.Edition). is_of numbers e.number) t.editions (editions_known version t N s) in
+        let whole = filter_whole (λ (e : spec.EditionRecord). is_of numbers e.number) t.editions (editions_known version t N s) in
         let same = rows_new header header_defined apart_mark.1.0 headers_last in
         let rows = map (drop 1) (rows_of (codes "edition") last) in
         let heads : IsPermutation (map spec.header_of t.editions) m.headers = subst (λ es. IsPermutation (map spec.header_of es) m.headers) whole all_done.heads in

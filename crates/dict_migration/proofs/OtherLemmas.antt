@@ -8,7 +8,7 @@ use Rattle.sqlite.specs.Table.{Table}
 use Rattle.sqlite_schema.specs.Names.{same_name}
 use Rattle.sqlite_rules.specs.Lists.{Has}
 use Rattle.sqlite_rules.proofs.ListLemmas.{has_found, has_kept}
-use Rattle.dict_records.specs.Records.{Header}
+use Rattle.dict_records.specs.Records.{HeaderRecord}
 use Rattle.dict_tables.specs.Definitions.{IsDefinition}
 use Rattle.dict_tables.specs.Found.{HasOwn}
 use Rattle.dict_tables.specs.Tables.{mark, table_of}
@@ -112,7 +112,7 @@ others_parts old new own same others name other none there = rows_apart part par
 others_headers : (old new : Database) → HasOwn old.schema header → new.schema ≡ old.schema → SameOthers (header 0).name old new → SparesOthers old new
 others_headers old new own same others name other none there = rows_apart header header_defined name none.1.1.1.0 other old new own there same others
 
-others_parted : (older : Older) (numbers : List ℤ) (headers : List Header) (old new : Database) → AreParted older numbers headers old new → HasOwn old.schema part → SparesOthers old new
+others_parted : (older : Older) (numbers : List ℤ) (headers : List HeaderRecord) (old new : Database) → AreParted older numbers headers old new → HasOwn old.schema part → SparesOthers old new
 others_parted older [] headers old new h own = others_same old new h.1
 others_parted older (n ∷ ns) headers old new h own =
     others_then old h.0 new (others_parts old h.0 own h.4.added.schema h.4.added.others) (others_parted older ns h.2 h.0 new h.5 (own_still part old h.0 h.4.added.schema own))

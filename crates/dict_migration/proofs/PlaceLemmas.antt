@@ -2,17 +2,17 @@
 use Rattle.std.proofs.Common.{◌≡◌, ◌++◌, ◌+◌, ◌<◌, ℕ, ℤ, List, [], ◌∷◌, map, take, drop, length, get_or, refl, sym, subst, inl, inr, IsPermutation}
 use Rattle.sqlite.specs.Effect.{Database}
 use Rattle.sqlite.specs.Order.{Row}
-use Rattle.dict_records.specs.Records.{Header}
+use Rattle.dict_records.specs.Records.{HeaderRecord}
 use Rattle.dict_sql.specs.Added.{AreAdded}
 use Rattle.dict_older_sql.proofs.CopyLemmas.{split_at, rows_at}
-use Rattle.dict_migration.specs.Parts.{Part, keeping, putting}
-use Rattle.dict_migration.specs.Places.{Place, First, InEdition, InEditions, Putting}
+use Rattle.dict_migration.specs.MigrationParts.{MigrationPart, keeping, putting}
+use Rattle.dict_migration.specs.FailurePlaces.{FailurePlace, First, InEdition, InEditions, Putting}
 use Rattle.dict_migration.specs.Steps.{AreParted}
 use Rattle.dict_migration.specs.declared.older.Older.{Older}
 
 -- each place is one of these too, where the first call began with one database, and the second with another
-abbrev pub Leads : Place → Database → Place → Database → Type 0
-Leads P from Q to = (part : Part) (at : Database) → P part from at → Q part to at
+abbrev pub Leads : FailurePlace → Database → FailurePlace → Database → Type 0
+Leads P from Q to = (part : MigrationPart) (at : Database) → P part from at → Q part to at
 
 module _ (name : List ℕ) where
   -- a row is put in, when those before it had been
@@ -34,7 +34,7 @@ module _ (older : Older) (all : List ℤ) (i : ℕ) (d n : ℤ) (within : i < le
   these_are = subst (λ x. take i all ++ x ∷ drop (i + 1) all ≡ all) (sym same) (split_at all i d within)
 
   -- the call of one number, when those of the numbers before it had been made
-  pub edition_placed : (headers : List Header) (first mid : Database) → AreParted older (take i all) headers first mid → Leads (InEdition older n) mid (InEditions older all) first
+  pub edition_placed : (headers : List HeaderRecord) (first mid : Database) → AreParted older (take i all) headers first mid → Leads (InEdition older n) mid (InEditions older all) first
   edition_placed headers first mid done part at place = record {
     done = take i all;
     headers = headers;

@@ -9,14 +9,14 @@ use Rattle.std.proofs.lemmas.List.Sorted.{IsPermutation-map, IsPermutation-sym, 
 use Rattle.sqlite.specs.Effect.{Database}
 use Rattle.sqlite.specs.Order.{Row}
 use Rattle.dict_records.specs.Keyed.{owned_old_entry, owned_keyed_entry, plain_entry}
-use Rattle.dict_records.specs.Records.{Edition, Entry, ShowsHeadword}
+use Rattle.dict_records.specs.Records.{EditionRecord, EntryRecord, ShowsHeadword}
 use Rattle.dict_records.specs.Typed.{owned_edition, owned_entry, owned_header}
-use Rattle.dict_records.specs.declared.headers.Header.{Header as TypedHeader}
+use Rattle.dict_records.specs.declared.headers.HeaderRecord.{HeaderRecord as TypedHeader}
 use Rattle.dict_records.specs.declared.keyed.KeyedEntry.{KeyedEntry as TypedShown}
 use Rattle.dict_records.specs.declared.keyed.OldEntry.{OldEntry as TypedOld}
-use Rattle.dict_records.specs.declared.records.Edition.{Edition as TypedEdition}
-use Rattle.dict_records.specs.declared.records.Entry.{Entry as TypedEntry}
-use Rattle.dict_records.specs.declared.records.Stored.{Stored}
+use Rattle.dict_records.specs.declared.records.EditionRecord.{EditionRecord as TypedEdition}
+use Rattle.dict_records.specs.declared.records.EntryRecord.{EntryRecord as TypedEntry}
+use Rattle.dict_records.specs.declared.records.StoredRow.{StoredRow}
 use Rattle.dict_edition_sql.specs.HeaderRecords.{header_row}
 use Rattle.dict_sql.specs.Effects.{equals_number}
 use Rattle.dict_sql.specs.Encodings.{edition_row, stored_edition, stored_entry}
@@ -24,8 +24,8 @@ use Rattle.dict_sql.specs.Keyed.{stored_keyed_entry, stored_old_entry}
 use Rattle.dict_sql.specs.Reads.{IsSelection, by_columns}
 use Rattle.dict_holdings.specs.Readings.{AreShownIn}
 use Rattle.dict_holdings.proofs.ReadLemmas.{sorted_order, one_le, records_order}
-use Rattle.dict_migration.specs.Older.{entry_cells, layout_as, looked_at}
-use Rattle.dict_migration.specs.Parts.{HasNotOne}
+use Rattle.dict_migration.specs.Older.{older_entry_cells, layout_as, looked_at}
+use Rattle.dict_migration.specs.MigrationParts.{HasNotOne}
 use Rattle.dict_migration.specs.Steps.{AreEntriesOf, IsEditionOf, edition_rows, entry_rows}
 use Rattle.dict_migration.specs.Written.{shown_entry}
 use Rattle.dict_migration.specs.declared.older.Older.{Older}
@@ -33,9 +33,9 @@ use Rattle.dict_migration.specs.declared.older.Older.TheVariants.{Plain, Keyed, 
 
 -- ---- entries
 
-module _ {X : Type 0} (encode : X → Row) (entry : X → Entry) (older : Older) (cells : (x : X) → drop 1 (looked_at older (encode x)) ≡ entry_cells older (entry x))
+module _ {X : Type 0} (encode : X → Row) (entry : X → EntryRecord) (older : Older) (cells : (x : X) → drop 1 (looked_at older (encode x)) ≡ older_entry_cells older (entry x))
     (le : (a b : X) → is_lt (by_columns (2 ∷ []) (encode b) (encode a)) ≡ false → (entry a).ord ≤ℤ (entry b).ord) where
-  cells_are : (all : List X) → map (λ row. drop 1 (looked_at older row)) (map encode all) ≡ map (entry_cells older) (map entry all)
+  cells_are : (all : List X) → map (λ row. drop 1 (looked_at older row)) (map encode all) ≡ map (older_entry_cells older) (map entry all)
   cells_are [] = refl
   cells_are (x ∷ all) = λ i. cells x i ∷ cells_are all i
 
@@ -43,26 +43,26 @@ module _ {X : Type 0} (encode : X → Row) (entry : X → Entry) (older : Older)
   selected number db all shown it = record {
     rows = IsPermutation-sym _ _
         (subst (IsPermutation (map (λ row. drop 1 (looked_at older row)) (entry_rows number db))) (cells_are all) (IsPermutation-map (λ row. drop 1 (looked_at older row)) (entry_rows number db) (map encode all) it.same));
-    order = records_order encode entry (λ (a b : Row). is_lt (by_columns (2 ∷ []) b a) ≡ false) (λ (a b : Entry). a.ord ≤ℤ b.ord) le all (sorted_order (2 ∷ []) (map encode all) it.sorted);
+    order = records_order encode entry (λ (a b : Row). is_lt (by_columns (2 ∷ []) b a) ≡ false) (λ (a b : EntryRecord). a.ord ≤ℤ b.ord) le all (sorted_order (2 ∷ []) (map encode all) it.sorted);
     shown = shown;
   }
 
 abbrev pub PlainRow : Type 0
-PlainRow = Stored (TypedEntry (String Global))
+PlainRow = StoredRow (TypedEntry (String Global))
 
 abbrev pub KeyedRow : Type 0
-KeyedRow = Stored (TypedOld (String Global) (Vec ℕ Global))
+KeyedRow = StoredRow (TypedOld (String Global) (Vec ℕ Global))
 
 abbrev pub ShownRow : Type 0
-ShownRow = Stored (TypedShown (String Global) (Vec ℕ Global))
+ShownRow = StoredRow (TypedShown (String Global) (Vec ℕ Global))
 
-abbrev pub plain_of : PlainRow → Entry
+abbrev pub plain_of : PlainRow → EntryRecord
 plain_of row = owned_entry row.value
 
-abbrev pub keyed_of : KeyedRow → Entry
+abbrev pub keyed_of : KeyedRow → EntryRecord
 keyed_of row = plain_entry (owned_old_entry row.value)
 
-abbrev pub shown_of : ShownRow → Entry
+abbrev pub shown_of : ShownRow → EntryRecord
 shown_of row = shown_entry (owned_keyed_entry row.value)
 
 plain_shown : (all : List PlainRow) → AllByRecursion ShowsHeadword (map plain_of all)
@@ -90,9 +90,9 @@ one_item (y ∷ []) x e f = ap (λ z. z ∷ []) (sym f)
 one_item (y ∷ z ∷ zs) x e f = absurd (omega arith)
 
 abbrev pub EditionRow : Type 0
-EditionRow = Stored (TypedEdition (String Global) (Vec ℕ Global))
+EditionRow = StoredRow (TypedEdition (String Global) (Vec ℕ Global))
 
-abbrev pub edition_in : EditionRow → Edition
+abbrev pub edition_in : EditionRow → EditionRecord
 edition_in row = owned_edition row.value
 
 rows_are : (all : List EditionRow) → map (drop 1) (map stored_edition all) ≡ map edition_row (map edition_in all)
@@ -103,7 +103,7 @@ module _ (number : ℤ) (db : Database) (all : List EditionRow) (it : IsSelectio
   read : IsPermutation (map edition_row (map edition_in all)) (map (drop 1) (edition_rows number db))
   read = IsPermutation-sym _ _ (subst (IsPermutation (map (drop 1) (edition_rows number db))) (rows_are all) (IsPermutation-map (drop 1) (edition_rows number db) (map stored_edition all) it.same))
 
-  pub one_read : (edition : Edition) → map edition_in all ≡ edition ∷ [] → IsEditionOf number db edition
+  pub one_read : (edition : EditionRecord) → map edition_in all ≡ edition ∷ [] → IsEditionOf number db edition
   one_read edition one = subst (λ l. IsPermutation (map edition_row l) (map (drop 1) (edition_rows number db))) one read
 
   many : length (map edition_row (map edition_in all)) ≡ length all

@@ -10,7 +10,7 @@ use Rattle.sqlite.specs.Order.{Row, column}
 use Rattle.sqlite.specs.declared.types.Value.TheVariants.{Int}
 use Rattle.sqlite_trees.proofs.ListLemmas.{IsPermutation-filter}
 use Rattle.dict_text.proofs.AllLemmas.{all_filter}
-use Rattle.dict_records.specs.Records.{Edition, Entry, Header, Part, ShowsHeadword, header_of}
+use Rattle.dict_records.specs.Records.{EditionRecord, EntryRecord, HeaderRecord, Part, ShowsHeadword, header_of}
 use Rattle.dict_sql.specs.Added.{AreAdded}
 use Rattle.dict_sql.specs.Effects.{HasApartRowids, equals_number, same_value, rows_of}
 use Rattle.dict_sql.specs.Encodings.{edition_row, entry_row}
@@ -26,7 +26,7 @@ use Rattle.dict_holdings.specs.Files.{all_parts, edition_parts, index_octets, pa
 use Rattle.dict_holdings.proofs.FileLemmas.{part_once}
 use Rattle.dict_holdings.specs.Readings.{AreShownIn, shown_row}
 use Rattle.dict_holdings.proofs.OneLemmas.{both, both_where, decode_edition, edition_back, decode_entry, entry_back, decode_shown, shown_back}
-use Rattle.dict_migration.specs.Older.{entry_cells, layout_as, looked_at}
+use Rattle.dict_migration.specs.Older.{older_entry_cells, layout_as, looked_at}
 use Rattle.dict_migration.specs.Steps.{AreEntriesOf, IsEditionOf, IsPartedOne, edition_rows, entry_rows}
 use Rattle.dict_migration.specs.declared.older.Older.{Older}
 use Rattle.dict_migration.specs.declared.older.Older.TheVariants.{Plain, Keyed, Shown}
@@ -57,7 +57,7 @@ part_of key encode first look behind n xs rows had =
 
 -- ---- what is looked at of the rows of entries
 
-cells_first : (older : Older) (e : Entry) → column (entry_cells older e) 0 ≡ Int e.edition
+cells_first : (older : Older) (e : EntryRecord) → column (older_entry_cells older e) 0 ≡ Int e.edition
 cells_first Plain e = refl
 cells_first Keyed e = refl
 cells_first Shown e = refl
@@ -72,13 +72,13 @@ looked_first Shown (x ∷ []) = refl
 looked_first Shown (x ∷ y ∷ row) = refl
 
 -- two lists of entries that are written as the same cells
-same_cells : (older : Older) (xs ys : List Entry) (rows : List Row) → AreShownIn (layout_as older) xs → AreShownIn (layout_as older) ys → IsPermutation (map (entry_cells older) xs) rows
-    → IsPermutation (map (entry_cells older) ys) rows → IsPermutation xs ys
+same_cells : (older : Older) (xs ys : List EntryRecord) (rows : List Row) → AreShownIn (layout_as older) xs → AreShownIn (layout_as older) ys → IsPermutation (map (older_entry_cells older) xs) rows
+    → IsPermutation (map (older_entry_cells older) ys) rows → IsPermutation xs ys
 same_cells Plain xs ys rows qx qy a b = both_where ShowsHeadword entry_row decode_entry entry_back xs ys rows qx qy a b
 same_cells Keyed xs ys rows qx qy a b = both_where ShowsHeadword entry_row decode_entry entry_back xs ys rows qx qy a b
 same_cells Shown xs ys rows qx qy a b = both shown_row decode_shown shown_back xs ys rows a b
 
-some_shown : (older : Older) (p : Entry → Bool) (es : List Entry) → AreShownIn (layout_as older) es → AreShownIn (layout_as older) (filter p es)
+some_shown : (older : Older) (p : EntryRecord → Bool) (es : List EntryRecord) → AreShownIn (layout_as older) es → AreShownIn (layout_as older) (filter p es)
 some_shown Plain p es shown = all_filter ShowsHeadword p es shown
 some_shown Keyed p es shown = all_filter ShowsHeadword p es shown
 some_shown Shown p es shown = tt
@@ -87,14 +87,14 @@ some_shown Shown p es shown = tt
 
 pub record HasRecordsOf (older : Older) (t : Tables) (db : Database) : Type 0 where
   pub editions : IsPermutation (map edition_row t.editions) (map (drop 1) (rows_of (codes "edition") db))
-  pub entries : IsPermutation (map (entry_cells older) t.entries) (map (λ row. drop 1 (looked_at older row)) (rows_of (codes "entry") db))
+  pub entries : IsPermutation (map (older_entry_cells older) t.entries) (map (λ row. drop 1 (looked_at older row)) (rows_of (codes "entry") db))
   pub shown : AreShownIn (layout_as older) t.entries
 
 module _ (older : Older) (t : Tables) (db : Database) (has : HasRecordsOf older t db) (n : ℤ) (are : AreNumbered t n) where
   -- the record that was read is that of the edition
-  pub edition_is : (edition : Edition) → IsEditionOf n db edition → edition ≡ are.edition
+  pub edition_is : (edition : EditionRecord) → IsEditionOf n db edition → edition ≡ are.edition
   edition_is edition read =
-      let part = part_of (λ (e : Edition). e.number) edition_row (λ e. refl) (drop 1) (λ row. behind row 0) n t.editions (rows_of (codes "edition") db) has.editions in
+      let part = part_of (λ (e : EditionRecord). e.number) edition_row (λ e. refl) (drop 1) (λ row. behind row 0) n t.editions (rows_of (codes "edition") db) has.editions in
       let same : IsPermutation (editions_numbered n t.editions) (edition ∷ []) = both edition_row decode_edition edition_back (editions_numbered n t.editions) (edition ∷ []) (map (drop 1) (edition_rows n db)) part read in
       let one : IsPermutation (are.edition ∷ []) (edition ∷ []) = subst (λ l. IsPermutation l (edition ∷ [])) are.one same in
       head_is (one_once are.edition (edition ∷ []) (same_from (are.edition ∷ []) (edition ∷ []) one))
@@ -103,17 +103,17 @@ module _ (older : Older) (t : Tables) (db : Database) (has : HasRecordsOf older 
       head_is e = cc
 
   -- and so are its entries
-  pub entries_are : (entries : List Entry) → AreEntriesOf older n db entries → entries ≡ entries_of n t.entries
+  pub entries_are : (entries : List EntryRecord) → AreEntriesOf older n db entries → entries ≡ entries_of n t.entries
   entries_are entries read =
-      let part = part_of (λ (e : Entry). e.edition) (entry_cells older) (cells_first older) (λ row. drop 1 (looked_at older row)) (looked_first older) n t.entries (rows_of (codes "entry") db) has.entries in
+      let part = part_of (λ (e : EntryRecord). e.edition) (older_entry_cells older) (cells_first older) (λ row. drop 1 (looked_at older row)) (looked_first older) n t.entries (rows_of (codes "entry") db) has.entries in
       let same : IsPermutation (entries_of n t.entries) entries =
-      same_cells older (entries_of n t.entries) entries (map (λ row. drop 1 (looked_at older row)) (entry_rows n db)) (some_shown older (λ (e : Entry). same_number e.edition n) t.entries has.shown) read.shown part read.rows in
-      let strict = subst (InOrder (λ (a b : Entry). Below a.ord b.ord)) (sym are.entries) (numbered_rise (entry_record are.number) (λ (e : Entry). e.ord) (λ m line. refl) 0 are.lines) in
-      sym (ordered_once (λ (e : Entry). e.ord) (entries_of n t.entries) entries (same_from (entries_of n t.entries) entries same) strict read.order)
+      same_cells older (entries_of n t.entries) entries (map (λ row. drop 1 (looked_at older row)) (entry_rows n db)) (some_shown older (λ (e : EntryRecord). same_number e.edition n) t.entries has.shown) read.shown part read.rows in
+      let strict = subst (InOrder (λ (a b : EntryRecord). Below a.ord b.ord)) (sym are.entries) (numbered_rise (entry_record are.number) (λ (e : EntryRecord). e.ord) (λ m line. refl) 0 are.lines) in
+      sym (ordered_once (λ (e : EntryRecord). e.ord) (entries_of n t.entries) entries (same_from (entries_of n t.entries) entries same) strict read.order)
 
 -- ---- the parts and the headers of the editions so far
 
-pub record IsFiled (done : List ℤ) (headers : List Header) (t : Tables) (db : Database) : Type 0 where
+pub record IsFiled (done : List ℤ) (headers : List HeaderRecord) (t : Tables) (db : Database) : Type 0 where
   pub parts : IsPermutation (map part_row (filter (λ (p : Part). is_of done p.edition) (all_parts t))) (map (drop 1) (rows_of (codes "dictcat_part") db))
   pub apart : HasApartRowids (rows_of (codes "dictcat_part") db)
   pub heads : IsPermutation (map header_of (editions_of_numbers done t.editions)) headers
@@ -125,7 +125,7 @@ grown name before added after old new more had same =
     IsPermutation-trans after (before ++ added) (map (drop 1) (rows_of name new)) (IsPermutation-sym (before ++ added) after same)
     (IsPermutation-trans (before ++ added) (map (drop 1) (rows_of name old) ++ added) (map (drop 1) (rows_of name new)) (IsPermutation-append_left added before (map (drop 1) (rows_of name old)) had) more.rows)
 
-module _ (older : Older) (t : Tables) (old new : Database) (has : HasRecordsOf older t old) (done : List ℤ) (headers : List Header) (n : ℤ) (header : Header) (fresh : is_of done n ≡ false) (are : AreNumbered t n)
+module _ (older : Older) (t : Tables) (old new : Database) (has : HasRecordsOf older t old) (done : List ℤ) (headers : List HeaderRecord) (n : ℤ) (header : HeaderRecord) (fresh : is_of done n ≡ false) (are : AreNumbered t n)
     (one : IsPartedOne older n header old new) where
   those : parts_under n (index_octets one.entries) one.edition.body ≡ edition_parts t.entries are.edition
   those =

@@ -17,7 +17,7 @@ use Rattle.dict_sql.specs.Creates.{IsMade}
 use Rattle.dict_sql.specs.Effects.{SameOthers, rows_of}
 use Rattle.dict_sql.proofs.DroppedLemmas.{own_in}
 use Rattle.dict_sql.proofs.MakeLemmas.{one_keeps, one_rows}
-use Rattle.dict_older_sql.specs.Entries.{entry_of}
+use Rattle.dict_older_sql.specs.Entries.{entry_table_of}
 use Rattle.dict_older_sql.specs.declared.entries.EntryForm.{EntryForm}
 use Rattle.dict_older_sql.specs.declared.entries.EntryForm.TheVariants as form
 use Rattle.dict_edition_sql.specs.HeaderTable.{header}
@@ -46,7 +46,7 @@ own_still table old new same own = subst (λ (s : Schema). HasOwn s table) (sym 
 
 -- ---- the names of the tables that are made, dropped and read
 
-pub entry_part : (f : EntryForm) → same_name (entry_of f 0).name (part 0).name ≡ false
+pub entry_part : (f : EntryForm) → same_name (entry_table_of f 0).name (part 0).name ≡ false
 unfolding same_name
 entry_part form.Plain = refl
 entry_part form.Keyed = refl
@@ -76,7 +76,7 @@ pub apart_mark : ((same_name (codes "item") (codes "mark") ≡ false) × (same_n
 unfolding same_name
 apart_mark = ((refl, refl, refl), (refl, refl))
 
-pub same_entries : (f : EntryForm) → (entry_of f 0).name ≡ codes "entry"
+pub same_entries : (f : EntryForm) → (entry_table_of f 0).name ≡ codes "entry"
 same_entries form.Plain = refl
 same_entries form.Keyed = refl
 same_entries form.Shown = refl

@@ -11,7 +11,7 @@ use Rattle.dict_holdings.specs.AllTables.{as_version}
 use Rattle.dict_holdings.proofs.VersionLemmas.{same_stands}
 use Rattle.dict_holdings.specs.Holds.{Holds, IsHeld}
 use Rattle.dict_migration.specs.Migrated.{IsMigrated, HoldsOlder, MayMigrate}
-use Rattle.dict_migration.specs.Leaves.{StandsFor, LeavesOneOf}
+use Rattle.dict_migration.specs.Leaves.{StandsFor, StateLeavesOneOf}
 use Rattle.dict_holdings.proofs.OneLemmas.{one_catalogue, one_held, left_held, left_known}
 
 pub migrated : (version : ℕ) (old new : Database) (M : Catalogue) → IsMigrated version old new → Holds version old M → Holds known new M
@@ -38,7 +38,7 @@ clean_before : (old new : State) (P : Trees → Type 0) → Survives old new P �
 clean_before old new P s clean = omega (arith, s.clean)
 
 pub stopped : (old new : State) → (IsTrue old.is_open → IsDatabase old.committed) → (IsTrue old.is_open → old.may_leave old.committed.trees) → Survives old new (MayMigrate old)
-    → (ms : List (Option Catalogue)) → LeavesOneOf old ms → LeavesOneOf new ms
+    → (ms : List (Option Catalogue)) → StateLeavesOneOf old ms → StateLeavesOneOf new ms
 stopped old new sound stays survives ms leaves clean trees left =
     let before : HasCleanDisk old = clean_before old new (MayMigrate old) survives clean in
     elim (survives.crash clean trees left) [

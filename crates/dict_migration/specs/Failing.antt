@@ -20,8 +20,8 @@ use Rattle.dict_holdings.specs.Faults.{fault_of_read}
 use Rattle.dict_holdings.specs.Holds.{Holds}
 use Rattle.dict_migration.specs.declared.older.Older.{Older}
 use Rattle.dict_migration.specs.Older.{layout_as}
-use Rattle.dict_migration.specs.Parts.{Part, FailsBy}
-use Rattle.dict_migration.specs.Places.{Place, InMove}
+use Rattle.dict_migration.specs.MigrationParts.{MigrationPart, FailsBy}
+use Rattle.dict_migration.specs.FailurePlaces.{FailurePlace, InMove}
 
 -- one of the numbers is above all that a column holds, or a growth was refused
 abbrev pub FailsToSign : List ℕ → ReadError → Type 0
@@ -35,26 +35,26 @@ IsBeyond summary = (summary.installs ≤ 9223372036854775807) × AllByRecursion 
 module _ {S : Type 0} (g : Ghosts S) where
   -- At one of these places of the transaction a part of it failed. Nothing was committed before, and the database that the part
   -- found is that of the place.
-  pub record FailsInside (P : Place) (old new : Held S) (e : ReadError) : Type 0 where
+  pub record MigrationFailsInside (P : FailurePlace) (old new : Held S) (e : ReadError) : Type 0 where
     pub at : Held S
     pub before : Survives (state g old) (state g at) (λ _. ⊥)
     pub inside : (state g old).in_transaction ≡ true → (state g at).in_transaction ≡ true
-    pub part : Part
+    pub part : MigrationPart
     pub place : P part (state g old).now (state g at).now
     pub fails : FailsBy part (state g at) (state g new) e
 
   -- A transaction was begun, and a part of it failed at one of these places; then it was rolled back. The fault is that of the error.
-  pub record FailsBefore (P : Place) (old new : Held S) (fault : Fault) : Type 0 where
+  pub record MigrationFailsBefore (P : FailurePlace) (old new : Held S) (fault : Fault) : Type 0 where
     pub error : ReadError
     pub told : fault ≡ fault_of_read error
     pub last : Held S
-    pub within : FailsInside P (record old { in_transaction = true }) last error
+    pub within : MigrationFailsInside P (record old { in_transaction = true }) last error
     pub after : Survives (state g last) (state g new) (λ _. ⊥)
     pub undone : IsRolledBack (state g last) (state g new)
 
   -- A transaction was begun, and all was done, so that P holds of the database; then its commit failed, for whatever cause. The
   -- fault is `Disk`.
-  pub record FailsAtLast (P : Database → Type 0) (old new : Held S) (fault : Fault) : Type 0 where
+  pub record MigrationFailsAtLast (P : Database → Type 0) (old new : Held S) (fault : Fault) : Type 0 where
     pub told : fault ≡ Disk
     pub last : Held S
     pub before : Survives (state g old) (state g last) (λ _. ⊥)
@@ -63,21 +63,21 @@ module _ {S : Type 0} (g : Ghosts S) where
     pub fails : Fails (state g last) (state g new) ⊥ error
 
   -- either
-  abbrev pub FailsToEnd : Place → (Database → Type 0) → Held S → Held S → Fault → Type 0
-  FailsToEnd P W old new fault = FailsBefore P old new fault ⊎ FailsAtLast W old new fault
+  abbrev pub MigrationFailsToEnd : FailurePlace → (Database → Type 0) → Held S → Held S → Fault → Type 0
+  MigrationFailsToEnd P W old new fault = MigrationFailsBefore P old new fault ⊎ MigrationFailsAtLast W old new fault
 
   -- Nothing was begun: a growth was refused, or a number of the summary is above all that a column holds.
-  pub record IsNotBegun (summary : Holdings (List ℕ)) (old new : Held S) (fault : Fault) : Type 0 where
+  pub record MigrationIsNotBegun (summary : Holdings (List ℕ)) (old new : Held S) (fault : Fault) : Type 0 where
     pub same : new ≡ old
     pub why : (fault ≡ Memory) ⊎ ((fault ≡ Disk) × IsBeyond summary)
 
   -- A part of the migration of the editions of this summary failed, or its commit did, behind which a catalogue that was held under
   -- this version is held under the known one.
-  pub record FailsToMove (version : ℕ) (summary : Holdings (List ℕ)) (old new : Held S) (fault : Fault) : Type 0 where
+  pub record FailsToMoveEditions (version : ℕ) (summary : Holdings (List ℕ)) (old new : Held S) (fault : Fault) : Type 0 where
     pub older : Older
     pub layout : layout_of version ≡ layout_as older
-    pub why : FailsToEnd (InMove older (map pos (edition_numbers summary.items)) summary.installs) (λ db. (M : Catalogue) → Holds version (state g old).committed M → Holds known db M) old new fault
+    pub why : MigrationFailsToEnd (InMove older (map pos (edition_numbers summary.items)) summary.installs) (λ db. (M : Catalogue) → Holds version (state g old).committed M → Holds known db M) old new fault
 
   -- either
   abbrev pub FailsToMigrate : ℕ → Holdings (List ℕ) → Held S → Held S → Fault → Type 0
-  FailsToMigrate version summary old new fault = IsNotBegun summary old new fault ⊎ FailsToMove version summary old new fault
+  FailsToMigrate version summary old new fault = MigrationIsNotBegun summary old new fault ⊎ FailsToMoveEditions version summary old new fault

@@ -11,5 +11,5 @@ abbrev pub StandsFor : Option Catalogue → Trees → Type 0
 StandsFor m trees = MatchOption m ((M : Catalogue) → IsLeft M trees → ⊥) (λ M. IsLeft M trees)
 
 -- whatever a stop now leaves stands for one of these
-abbrev pub LeavesOneOf : State → List (Option Catalogue) → Type 0
-LeavesOneOf s ms = HasCleanDisk s → (trees : Trees) → s.may_leave trees → (m : Option Catalogue) × Contains ms m × StandsFor m trees
+abbrev pub StateLeavesOneOf : State → List (Option Catalogue) → Type 0
+StateLeavesOneOf s ms = HasCleanDisk s → (trees : Trees) → s.may_leave trees → (m : Option Catalogue) × Contains ms m × StandsFor m trees

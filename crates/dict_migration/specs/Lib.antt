@@ -4,8 +4,8 @@ pub mod Steps
 pub mod Older
 pub mod Moved
 pub mod Making
-pub mod Parts
-pub mod Places
+pub mod MigrationParts
+pub mod FailurePlaces
 pub mod Failing
 pub mod Written
 pub mod Spared

@@ -24,58 +24,58 @@ abbrev pub lasting_tables : List StoreTable
 lasting_tables = Mark ∷ Item ∷ Member ∷ Kept ∷ []
 
 -- a statement over those, or a table is made that only the known version has
-pub data Step : Type 0 where
-  one : Statement → Step
-  making : Table → Step
+pub data CreationStep : Type 0 where
+  one : Statement → CreationStep
+  making : Table → CreationStep
 
 -- it has done what it says
-abbrev pub Succeeds : Step → State → State → Type 0
-Succeeds (one statement) old new = sql.Succeeds statement old new
-Succeeds (making table) old new = Makes table old new
+abbrev pub StepSucceeds : CreationStep → State → State → Type 0
+StepSucceeds (one statement) old new = sql.Succeeds statement old new
+StepSucceeds (making table) old new = Makes table old new
 
 -- it failed, for the cause that the error names
-abbrev pub FailsTo : Step → State → State → Error → Type 0
-FailsTo (one statement) old new e = sql.FailsTo statement old new e
-FailsTo (making table) old new e = FailsToMake table old new e
+abbrev pub StepFails : CreationStep → State → State → Error → Type 0
+StepFails (one statement) old new e = sql.FailsTo statement old new e
+StepFails (making table) old new e = FailsToMake table old new e
 
 -- the steps of a creation: each table is made, and then the mark of the empty catalogue is added
-abbrev pub creation : ℕ → List Step
+abbrev pub creation : ℕ → List CreationStep
 creation version = map one (map make lasting_tables) ++ making (header 0) ∷ making (part 0) ∷ one (add (codes "mark") (mark_row (mark_record version 0))) ∷ []
 
 module _ {S : Type 0} (g : Ghosts S) where
   -- Each has done what it says, one after the other, and a stop leaves what it left before.
-  abbrev pub RunInTurn : List Step → Held S → Held S → Type 0
-  RunInTurn [] old new = new ≡ old
-  RunInTurn (step ∷ rest) old new = (mid : Held S) × (Succeeds step (state g old) (state g mid) × Survives (state g old) (state g mid) (λ _. ⊥)) × RunInTurn rest mid new
+  abbrev pub StepsRunInTurn : List CreationStep → Held S → Held S → Type 0
+  StepsRunInTurn [] old new = new ≡ old
+  StepsRunInTurn (step ∷ rest) old new = (mid : Held S) × (StepSucceeds step (state g old) (state g mid) × Survives (state g old) (state g mid) (λ _. ⊥)) × StepsRunInTurn rest mid new
 
   -- One of them failed, where those before it had done what they say.
-  abbrev pub FailsInTurn : List Step → Held S → Held S → Error → Type 0
-  FailsInTurn [] old new e = ⊥
-  FailsInTurn (step ∷ rest) old new e =
-      (FailsTo step (state g old) (state g new) e × Survives (state g old) (state g new) (λ _. ⊥))
-      ⊎ ((mid : Held S) × (Succeeds step (state g old) (state g mid) × Survives (state g old) (state g mid) (λ _. ⊥)) × FailsInTurn rest mid new e)
+  abbrev pub StepsFailInTurn : List CreationStep → Held S → Held S → Error → Type 0
+  StepsFailInTurn [] old new e = ⊥
+  StepsFailInTurn (step ∷ rest) old new e =
+      (StepFails step (state g old) (state g new) e × Survives (state g old) (state g new) (λ _. ⊥))
+      ⊎ ((mid : Held S) × (StepSucceeds step (state g old) (state g mid) × Survives (state g old) (state g mid) (λ _. ⊥)) × StepsFailInTurn rest mid new e)
 
   -- A transaction was begun, and one of these steps failed, where those before it had done what they say; then it was rolled
   -- back. The fault is that of the error.
-  pub record FailsBefore (steps : List Step) (old new : Held S) (fault : Fault) : Type 0 where
+  pub record CreationFailsBefore (steps : List CreationStep) (old new : Held S) (fault : Fault) : Type 0 where
     pub error : Error
     pub told : fault ≡ fault_of error
     pub last : Held S
-    pub within : FailsInTurn steps (record old { in_transaction = true }) last error
+    pub within : StepsFailInTurn steps (record old { in_transaction = true }) last error
     pub after : Survives (state g last) (state g new) (λ _. ⊥)
     pub undone : IsRolledBack (state g last) (state g new)
 
   -- A transaction was begun, and these steps all did what they say, so that P holds of the database; then its commit failed,
   -- for whatever cause. The fault is `Disk`.
-  pub record FailsAtLast (steps : List Step) (P : Database → Type 0) (old new : Held S) (fault : Fault) : Type 0 where
+  pub record CreationFailsAtLast (steps : List CreationStep) (P : Database → Type 0) (old new : Held S) (fault : Fault) : Type 0 where
     pub told : fault ≡ Disk
     pub last : Held S
-    pub ran : RunInTurn steps (record old { in_transaction = true }) last
+    pub ran : StepsRunInTurn steps (record old { in_transaction = true }) last
     pub before : Survives (state g old) (state g last) (λ _. ⊥)
     pub written : P (state g last).now
     pub error : Error
     pub fails : Fails (state g last) (state g new) ⊥ error
 
   -- either
-  abbrev pub FailsToEnd : List Step → (Database → Type 0) → Held S → Held S → Fault → Type 0
-  FailsToEnd steps P old new fault = FailsBefore steps old new fault ⊎ FailsAtLast steps P old new fault
+  abbrev pub CreationFailsToEnd : List CreationStep → (Database → Type 0) → Held S → Held S → Fault → Type 0
+  CreationFailsToEnd steps P old new fault = CreationFailsBefore steps old new fault ⊎ CreationFailsAtLast steps P old new fault

@@ -3,9 +3,7 @@ use Rattle.std.specs.Prelude.{◌≡◌, ℕ, ℤ, true, IsTrue, List, codes, ma
 use Rattle.sqlite.specs.Effect.{Database, IsDatabase}
 use Rattle.sqlite.specs.State.{State}
 use Rattle.sqlite.specs.Tree.{Trees}
-use Rattle.dict_desk.specs.declared.fault.Fault.{Fault}
-use Rattle.dict_desk.specs.declared.fault.Fault.TheVariants.{Refused, Memory, Disk, Closed, NotACatalogue, Damaged, NewerSchema}
-use Rattle.dict_records.specs.Records.{Header}
+use Rattle.dict_records.specs.Records.{HeaderRecord}
 use Rattle.dict_sql.specs.Added.{AreAdded}
 use Rattle.dict_sql.specs.Creates.{IsMade}
 use Rattle.dict_sql.specs.Effects.{IsAdded, IsRemoved}
@@ -20,14 +18,14 @@ use Rattle.dict_migration.specs.Older.{DroppedInTurn, gone_names}
 use Rattle.dict_migration.specs.Steps.{AreParted}
 
 -- the mark was taken out, and that of the known version was put in, with this count of installs
-pub record IsMarked (installs : ℕ) (old new : Database) : Type 0 where
+pub record IsMarkedAnew (installs : ℕ) (old new : Database) : Type 0 where
   pub cleared : Database
   pub taken : IsRemoved (codes "mark") (λ _. true) old cleared
   pub put : IsAdded (codes "mark") (mark_row (mark_record known installs)) cleared new
 
 -- the table of parts was made, the files of these editions were put into it, and the old tables were dropped; these are the
 -- editions' headers
-pub record AreTakenApart (older : Older) (numbers : List ℤ) (headers : List Header) (old new : Database) : Type 0 where
+pub record AreTakenApart (older : Older) (numbers : List ℤ) (headers : List HeaderRecord) (old new : Database) : Type 0 where
   pub with_table : Database
   pub with_files : Database
   pub made : IsMade (part 0) old with_table
@@ -35,19 +33,19 @@ pub record AreTakenApart (older : Older) (numbers : List ℤ) (headers : List He
   pub gone : DroppedInTurn (gone_names older) with_files new
 
 -- the table of editions was made again, without texts, and these headers were put in
-pub record AreHeaded (headers : List Header) (old new : Database) : Type 0 where
+pub record AreHeaded (headers : List HeaderRecord) (old new : Database) : Type 0 where
   pub with_table : Database
   pub made : IsMade (header 0) old with_table
   pub added : AreAdded (codes "edition") (map header_row headers) with_table new
 
 -- all of it, and then the mark was written anew
 pub record IsMoved (older : Older) (numbers : List ℤ) (installs : ℕ) (old new : Database) : Type 0 where
-  pub headers : List Header
+  pub headers : List HeaderRecord
   pub apart : Database
   pub headed : Database
   pub takes : AreTakenApart older numbers headers old apart
   pub heads : AreHeaded headers apart headed
-  pub marked : IsMarked installs headed new
+  pub marked : IsMarkedAnew installs headed new
 
 -- what is made of an open store
 pub record IsOutcome (older : Older) (numbers : List ℤ) (installs : ℕ) (old : State) (new : Database) : Type 0 where
@@ -64,13 +62,3 @@ pub record IsCommitted (P : Database → Type 0) (s : State) : Type 0 where
   pub settled : s.now ≡ s.committed
   pub holds : P s.committed
   pub only : (trees : Trees) → s.may_leave trees → AreTreesOf P trees
-
--- a growth was refused, or the store failed
-abbrev pub IsOfMigration : Fault → Type 0
-IsOfMigration (Refused refusal) = ⊥
-IsOfMigration Memory = Unit {0}
-IsOfMigration Disk = Unit {0}
-IsOfMigration Closed = ⊥
-IsOfMigration NotACatalogue = ⊥
-IsOfMigration Damaged = ⊥
-IsOfMigration NewerSchema = ⊥

@@ -3,7 +3,7 @@ use Rattle.std.specs.Prelude.{◌≡◌, ℕ, List, [], ◌∷◌, codes}
 use Rattle.sqlite.specs.Effect.{Database, IsDatabase}
 use Rattle.sqlite.specs.Order.{Row}
 use Rattle.sqlite.specs.Table.{Table}
-use Rattle.dict_records.specs.Records.{Entry}
+use Rattle.dict_records.specs.Records.{EntryRecord}
 use Rattle.dict_tables.specs.Keyed.{word, gram}
 use Rattle.dict_tables.specs.Tables.{edition}
 use Rattle.dict_sql.specs.Columns.{Content, entry_columns}
@@ -11,7 +11,7 @@ use Rattle.dict_sql.specs.Drops.{IsDropped}
 use Rattle.dict_sql.specs.Effects.{HasApartRowids, rows_of}
 use Rattle.dict_sql.specs.Encodings.{entry_row}
 use Rattle.dict_sql.specs.Keyed.{old_entry_columns, keyed_entry_columns}
-use Rattle.dict_older_sql.specs.Entries.{entry_of}
+use Rattle.dict_older_sql.specs.Entries.{entry_table_of}
 use Rattle.dict_older_sql.specs.declared.entries.EntryForm.{EntryForm}
 use Rattle.dict_older_sql.specs.declared.entries.EntryForm.TheVariants as form
 use Rattle.dict_rows.specs.Versions as layout
@@ -41,18 +41,18 @@ columns_of Shown = keyed_entry_columns
 abbrev pub looked_at : Older → Row → Row
 looked_at older = (contents (layout_as older)).looked
 
-abbrev pub entry_cells : Older → Entry → Row
-entry_cells Plain = entry_row
-entry_cells Keyed = entry_row
-entry_cells Shown = shown_row
+abbrev pub older_entry_cells : Older → EntryRecord → Row
+older_entry_cells Plain = entry_row
+older_entry_cells Keyed = entry_row
+older_entry_cells Shown = shown_row
 
 -- ---- the tables that are dropped
 
 abbrev pub plain_tables : List (ℕ → Table)
-plain_tables = entry_of form.Plain ∷ edition ∷ []
+plain_tables = entry_table_of form.Plain ∷ edition ∷ []
 
 abbrev pub keyed_tables : EntryForm → List (ℕ → Table)
-keyed_tables f = entry_of f ∷ word ∷ gram ∷ edition ∷ []
+keyed_tables f = entry_table_of f ∷ word ∷ gram ∷ edition ∷ []
 
 abbrev pub gone_with : EntryForm → List (ℕ → Table)
 gone_with form.Plain = plain_tables

@@ -5,9 +5,9 @@ ghost use Rattle.sqlite.specs.State.{HasCleanDisk, KeepsCommit, Survives};
 ghost use Rattle.dict_tables.specs.Found.{HasOwn};
 ghost use Rattle.dict_sql.specs.Effects.{WhileOpen, seen};
 ghost use Rattle.dict_sql.specs.declared.records.ReadError.TheVariants.{Store};
-ghost use Rattle.dict_migration.specs.Failing.{FailsInside};
+ghost use Rattle.dict_migration.specs.Failing.{MigrationFailsInside};
 ghost use Rattle.dict_migration.specs.Older.{DroppedInTurn, gone_names, gone_tables, keyed_names, keyed_tables, plain_names, plain_tables};
-ghost use Rattle.dict_migration.specs.Places.{Dropping};
+ghost use Rattle.dict_migration.specs.FailurePlaces.{Dropping};
 
 use crate::older::Older;
 use dict_older_sql::{EntryForm, drop_entry, drop_keyed_table, drop_old_edition};
@@ -20,7 +20,7 @@ fn drop_plain<S: Alter>(tx: &mut Transaction<'_, S>) -> Result<(), Error>
     ensures same_reference { tx.new.conn.ghost_name ≡ tx.old.conn.ghost_name }
     ensures gone { HasCleanDisk (seen S.Store tx.new) → OnOk result (DroppedInTurn plain_names (seen S.Store tx.old).now (seen S.Store tx.new).now) }
     ensures inside { HasCleanDisk (seen S.Store tx.new) → OnOk result ((seen S.Store tx.new).in_transaction ≡ true) }
-    ensures failed { HasCleanDisk (seen S.Store tx.new) → IfErr result (λ e. FailsInside S.Store (Dropping plain_names) tx.old.conn.now tx.new.conn.now (Store e)) }
+    ensures failed { HasCleanDisk (seen S.Store tx.new) → IfErr result (λ e. MigrationFailsInside S.Store (Dropping plain_names) tx.old.conn.now tx.new.conn.now (Store e)) }
     ensures keeps { HasCleanDisk (seen S.Store tx.new) → KeepsCommit (seen S.Store tx.old) (seen S.Store tx.new) }
     ensures survives { Survives (seen S.Store tx.old) (seen S.Store tx.new) (λ _. ⊥) }
 {
@@ -35,7 +35,7 @@ fn drop_keyed<S: Alter>(tx: &mut Transaction<'_, S>, form: EntryForm) -> Result<
     ensures same_reference { tx.new.conn.ghost_name ≡ tx.old.conn.ghost_name }
     ensures gone { HasCleanDisk (seen S.Store tx.new) → OnOk result (DroppedInTurn keyed_names (seen S.Store tx.old).now (seen S.Store tx.new).now) }
     ensures inside { HasCleanDisk (seen S.Store tx.new) → OnOk result ((seen S.Store tx.new).in_transaction ≡ true) }
-    ensures failed { HasCleanDisk (seen S.Store tx.new) → IfErr result (λ e. FailsInside S.Store (Dropping keyed_names) tx.old.conn.now tx.new.conn.now (Store e)) }
+    ensures failed { HasCleanDisk (seen S.Store tx.new) → IfErr result (λ e. MigrationFailsInside S.Store (Dropping keyed_names) tx.old.conn.now tx.new.conn.now (Store e)) }
     ensures keeps { HasCleanDisk (seen S.Store tx.new) → KeepsCommit (seen S.Store tx.old) (seen S.Store tx.new) }
     ensures survives { Survives (seen S.Store tx.old) (seen S.Store tx.new) (λ _. ⊥) }
 {
@@ -52,7 +52,7 @@ pub(crate) fn drop_old<S: Alter>(tx: &mut Transaction<'_, S>, layout: Older) -> 
     ensures same_reference { tx.new.conn.ghost_name ≡ tx.old.conn.ghost_name }
     ensures gone { HasCleanDisk (seen S.Store tx.new) → OnOk result (DroppedInTurn (gone_names layout) (seen S.Store tx.old).now (seen S.Store tx.new).now) }
     ensures inside { HasCleanDisk (seen S.Store tx.new) → OnOk result ((seen S.Store tx.new).in_transaction ≡ true) }
-    ensures failed { HasCleanDisk (seen S.Store tx.new) → IfErr result (λ e. FailsInside S.Store (Dropping (gone_names layout)) tx.old.conn.now tx.new.conn.now (Store e)) }
+    ensures failed { HasCleanDisk (seen S.Store tx.new) → IfErr result (λ e. MigrationFailsInside S.Store (Dropping (gone_names layout)) tx.old.conn.now tx.new.conn.now (Store e)) }
     ensures keeps { HasCleanDisk (seen S.Store tx.new) → KeepsCommit (seen S.Store tx.old) (seen S.Store tx.new) }
     ensures survives { Survives (seen S.Store tx.old) (seen S.Store tx.new) (λ _. ⊥) }
 {

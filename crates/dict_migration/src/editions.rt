@@ -5,23 +5,23 @@ ghost use Rattle.dict_records.specs.Records.{header_of};
 ghost use Rattle.dict_records.specs.Typed.{owned_edition, owned_header};
 ghost use Rattle.dict_tables.specs.Tables.{edition as edition_table};
 ghost use Rattle.dict_sql.specs.Effects.{Has, WhileOpen, seen};
-ghost use Rattle.dict_migration.specs.Failing.{FailsInside};
-ghost use Rattle.dict_migration.specs.Places.{InEdition, InEditions, InRecord};
+ghost use Rattle.dict_migration.specs.Failing.{MigrationFailsInside};
+ghost use Rattle.dict_migration.specs.FailurePlaces.{InEdition, InEditions, InRecord};
 ghost use Rattle.dict_migration.specs.Steps.{AreParted, HasThree, IsEditionOf, IsPartedOne};
 
 use crate::files::{EditionFiles, put_files};
 use crate::index::read_index;
 use crate::older::Older;
 use dict_older_sql::editions_inside;
-use dict_records::{Edition, Header, Stored};
+use dict_records::{EditionRecord, HeaderRecord, StoredRow};
 use dict_sql::records::ReadError;
 use sqlite::{Alter, Transaction};
 use std::alloc::Global;
 
 // The only one of these rows. `NoRecord` tells that there is none, or more.
 fn only_one(
-    mut editions: Vec<Stored<Edition<String, Vec<u8>>>>,
-) -> Result<Stored<Edition<String, Vec<u8>>>, ReadError>
+    mut editions: Vec<StoredRow<EditionRecord<String, Vec<u8>>>>,
+) -> Result<StoredRow<EditionRecord<String, Vec<u8>>>, ReadError>
     ensures one { IfOk result (λ row. editions.items ≡ row ∷ []) }
     ensures none { IfErr result (λ e. (e ≡ ReadError.NoRecord) × (length editions.items ≢ 1)) }
 {
@@ -36,32 +36,32 @@ fn read_record<S: Alter>(
     alloc: Global,
     tx: &mut Transaction<'_, S>,
     number: i64,
-) -> Result<Edition<String, Vec<u8>>, ReadError>
+) -> Result<EditionRecord<String, Vec<u8>>, ReadError>
     requires { WhileOpen (seen S.Store tx.old) (Has edition_table) }
     ensures same_reference { tx.new.conn.ghost_name ≡ tx.old.conn.ghost_name }
     ensures edition { HasCleanDisk (seen S.Store tx.new) → IfOk result (λ edition. IsEditionOf number (seen S.Store tx.old).now (owned_edition edition) × IsUnchanged (seen S.Store tx.old) (seen S.Store tx.new)) }
-    ensures failed { HasCleanDisk (seen S.Store tx.new) → IfErr result (FailsInside S.Store (InRecord number) tx.old.conn.now tx.new.conn.now) }
+    ensures failed { HasCleanDisk (seen S.Store tx.new) → IfErr result (MigrationFailsInside S.Store (InRecord number) tx.old.conn.now tx.new.conn.now) }
     ensures keeps { HasCleanDisk (seen S.Store tx.new) → KeepsCommit (seen S.Store tx.old) (seen S.Store tx.new) }
     ensures survives { Survives (seen S.Store tx.old) (seen S.Store tx.new) (λ _. ⊥) }
 {
     let editions = editions_inside(alloc, tx, number)?;
     let row = only_one(editions)?;
-    let Stored { rowid: _, value } = row;
+    let StoredRow { rowid: _, value } = row;
     Ok(value)
 }
 
 // The edition without its text.
-fn without_text(edition: Edition<String, Vec<u8>>) -> Header<String>
+fn without_text(edition: EditionRecord<String, Vec<u8>>) -> HeaderRecord<String>
     ensures { owned_header result ≡ header_of (owned_edition edition) }
 {
-    let Edition {
+    let EditionRecord {
         number,
         owner,
         title,
         info,
         body: _,
     } = edition;
-    Header {
+    HeaderRecord {
         number,
         owner,
         title,
@@ -76,12 +76,12 @@ fn part_edition<S: Alter>(
     tx: &mut Transaction<'_, S>,
     layout: Older,
     number: i64,
-) -> Result<Header<String>, ReadError>
+) -> Result<HeaderRecord<String>, ReadError>
     requires { WhileOpen (seen S.Store tx.old) (HasThree layout) }
     ensures same_reference { tx.new.conn.ghost_name ≡ tx.old.conn.ghost_name }
     ensures parted { HasCleanDisk (seen S.Store tx.new) → IfOk result (λ header. IsPartedOne layout number (owned_header header) (seen S.Store tx.old).now (seen S.Store tx.new).now) }
     ensures inside { HasCleanDisk (seen S.Store tx.new) → OnOk result ((seen S.Store tx.old).in_transaction ≡ true → (seen S.Store tx.new).in_transaction ≡ true) }
-    ensures failed { HasCleanDisk (seen S.Store tx.new) → IfErr result (FailsInside S.Store (InEdition layout number) tx.old.conn.now tx.new.conn.now) }
+    ensures failed { HasCleanDisk (seen S.Store tx.new) → IfErr result (MigrationFailsInside S.Store (InEdition layout number) tx.old.conn.now tx.new.conn.now) }
     ensures keeps { HasCleanDisk (seen S.Store tx.new) → KeepsCommit (seen S.Store tx.old) (seen S.Store tx.new) }
     ensures survives { Survives (seen S.Store tx.old) (seen S.Store tx.new) (λ _. ⊥) }
 {
@@ -103,12 +103,12 @@ pub(crate) fn part_editions<S: Alter>(
     tx: &mut Transaction<'_, S>,
     layout: Older,
     numbers: &[i64],
-) -> Result<Vec<Header<String>>, ReadError>
+) -> Result<Vec<HeaderRecord<String>>, ReadError>
     requires { WhileOpen (seen S.Store tx.old) (HasThree layout) }
     ensures same_reference { tx.new.conn.ghost_name ≡ tx.old.conn.ghost_name }
     ensures parted { HasCleanDisk (seen S.Store tx.new) → IfOk result (λ headers. AreParted layout numbers.now (map owned_header headers.items) (seen S.Store tx.old).now (seen S.Store tx.new).now) }
     ensures inside { HasCleanDisk (seen S.Store tx.new) → OnOk result ((seen S.Store tx.old).in_transaction ≡ true → (seen S.Store tx.new).in_transaction ≡ true) }
-    ensures failed { HasCleanDisk (seen S.Store tx.new) → IfErr result (FailsInside S.Store (InEditions layout numbers.now) tx.old.conn.now tx.new.conn.now) }
+    ensures failed { HasCleanDisk (seen S.Store tx.new) → IfErr result (MigrationFailsInside S.Store (InEditions layout numbers.now) tx.old.conn.now tx.new.conn.now) }
     ensures keeps { HasCleanDisk (seen S.Store tx.new) → KeepsCommit (seen S.Store tx.old) (seen S.Store tx.new) }
     ensures survives { Survives (seen S.Store tx.old) (seen S.Store tx.new) (λ _. ⊥) }
 {

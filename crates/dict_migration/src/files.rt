@@ -8,8 +8,8 @@ ghost use Rattle.dict_sql.specs.Added.{AreAdded};
 ghost use Rattle.dict_sql.specs.Effects.{Has, WhileOpen, seen};
 ghost use Rattle.dict_sql.specs.declared.records.ReadError.TheVariants.{Store};
 ghost use Rattle.dict_holdings.specs.Files.{part_at};
-ghost use Rattle.dict_migration.specs.Failing.{FailsInside};
-ghost use Rattle.dict_migration.specs.Places.{Putting};
+ghost use Rattle.dict_migration.specs.Failing.{MigrationFailsInside};
+ghost use Rattle.dict_migration.specs.FailurePlaces.{Putting};
 ghost use Rattle.dict_migration.specs.Written.{parts_in};
 
 use dict_edition_sql::{Part, insert_part};
@@ -86,7 +86,7 @@ pub(crate) fn put_files<S: Alter>(
     ensures same_reference { tx.new.conn.ghost_name ≡ tx.old.conn.ghost_name }
     ensures added { HasCleanDisk (seen S.Store tx.new) → OnOk result (AreAdded (codes "dictcat_part") (map part_row (parts_in files.now)) (seen S.Store tx.old).now (seen S.Store tx.new).now) }
     ensures inside { HasCleanDisk (seen S.Store tx.new) → OnOk result ((seen S.Store tx.old).in_transaction ≡ true → (seen S.Store tx.new).in_transaction ≡ true) }
-    ensures failed { HasCleanDisk (seen S.Store tx.new) → IfErr result (λ e. FailsInside S.Store (Putting (codes "dictcat_part") (map part_row (parts_in files.now))) tx.old.conn.now tx.new.conn.now (Store e)) }
+    ensures failed { HasCleanDisk (seen S.Store tx.new) → IfErr result (λ e. MigrationFailsInside S.Store (Putting (codes "dictcat_part") (map part_row (parts_in files.now))) tx.old.conn.now tx.new.conn.now (Store e)) }
     ensures keeps { HasCleanDisk (seen S.Store tx.new) → KeepsCommit (seen S.Store tx.old) (seen S.Store tx.new) }
     ensures survives { Survives (seen S.Store tx.old) (seen S.Store tx.new) (λ _. ⊥) }
 {

@@ -7,25 +7,25 @@ ghost use Rattle.dict_edition_sql.specs.HeaderTable.{header as header_table};
 ghost use Rattle.dict_sql.specs.Added.{AreAdded};
 ghost use Rattle.dict_sql.specs.Effects.{Has, WhileOpen, seen};
 ghost use Rattle.dict_sql.specs.declared.records.ReadError.TheVariants.{Store};
-ghost use Rattle.dict_migration.specs.Failing.{FailsInside};
+ghost use Rattle.dict_migration.specs.Failing.{MigrationFailsInside};
 ghost use Rattle.dict_migration.specs.Moved.{AreHeaded};
-ghost use Rattle.dict_migration.specs.Places.{InHeads, Putting};
+ghost use Rattle.dict_migration.specs.FailurePlaces.{InHeads, Putting};
 ghost use Rattle.dict_migration.specs.Steps.{MayBeHeaded};
 
 use dict_edition_sql::{create_header_table, insert_header};
-use dict_records::Header;
+use dict_records::HeaderRecord;
 use sqlite::{Alter, Error, Transaction};
 
 // Puts these headers in, one after the other.
 fn put_headers<S: Alter>(
     tx: &mut Transaction<'_, S>,
-    headers: &[Header<String>],
+    headers: &[HeaderRecord<String>],
 ) -> Result<(), Error>
     requires { WhileOpen (seen S.Store tx.old) (Has header_table) }
     ensures same_reference { tx.new.conn.ghost_name ≡ tx.old.conn.ghost_name }
     ensures added { HasCleanDisk (seen S.Store tx.new) → OnOk result (AreAdded (codes "edition") (map header_row (map owned_header headers.now)) (seen S.Store tx.old).now (seen S.Store tx.new).now) }
     ensures inside { HasCleanDisk (seen S.Store tx.new) → OnOk result ((seen S.Store tx.old).in_transaction ≡ true → (seen S.Store tx.new).in_transaction ≡ true) }
-    ensures failed { HasCleanDisk (seen S.Store tx.new) → IfErr result (λ e. FailsInside S.Store (Putting (codes "edition") (map header_row (map owned_header headers.now))) tx.old.conn.now tx.new.conn.now (Store e)) }
+    ensures failed { HasCleanDisk (seen S.Store tx.new) → IfErr result (λ e. MigrationFailsInside S.Store (Putting (codes "edition") (map header_row (map owned_header headers.now))) tx.old.conn.now tx.new.conn.now (Store e)) }
     ensures keeps { HasCleanDisk (seen S.Store tx.new) → KeepsCommit (seen S.Store tx.old) (seen S.Store tx.new) }
     ensures survives { Survives (seen S.Store tx.old) (seen S.Store tx.new) (λ _. ⊥) }
 {
@@ -39,13 +39,13 @@ fn put_headers<S: Alter>(
 /// Makes the table of editions, without texts, and puts these headers in.
 pub(crate) fn head_editions<S: Alter>(
     tx: &mut Transaction<'_, S>,
-    headers: &[Header<String>],
+    headers: &[HeaderRecord<String>],
 ) -> Result<(), Error>
     requires { WhileOpen (seen S.Store tx.old) MayBeHeaded }
     ensures same_reference { tx.new.conn.ghost_name ≡ tx.old.conn.ghost_name }
     ensures headed { HasCleanDisk (seen S.Store tx.new) → OnOk result (AreHeaded (map owned_header headers.now) (seen S.Store tx.old).now (seen S.Store tx.new).now) }
     ensures inside { HasCleanDisk (seen S.Store tx.new) → OnOk result ((seen S.Store tx.new).in_transaction ≡ true) }
-    ensures failed { HasCleanDisk (seen S.Store tx.new) → IfErr result (λ e. FailsInside S.Store (InHeads (map owned_header headers.now)) tx.old.conn.now tx.new.conn.now (Store e)) }
+    ensures failed { HasCleanDisk (seen S.Store tx.new) → IfErr result (λ e. MigrationFailsInside S.Store (InHeads (map owned_header headers.now)) tx.old.conn.now tx.new.conn.now (Store e)) }
     ensures keeps { HasCleanDisk (seen S.Store tx.new) → KeepsCommit (seen S.Store tx.old) (seen S.Store tx.new) }
     ensures survives { Survives (seen S.Store tx.old) (seen S.Store tx.new) (λ _. ⊥) }
 {

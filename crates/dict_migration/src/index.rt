@@ -2,11 +2,11 @@
 ghost use Rattle.std.specs.Prelude.{◌≡◌, IfOk, IfErr};
 ghost use Rattle.sqlite.specs.State.{HasCleanDisk, IsUnchanged, KeepsCommit, Survives};
 ghost use Rattle.dict_sql.specs.Effects.{Has, WhileOpen, seen};
-ghost use Rattle.dict_older_sql.specs.Entries.{entry_of};
-ghost use Rattle.dict_migration.specs.Failing.{FailsInside};
+ghost use Rattle.dict_older_sql.specs.Entries.{entry_table_of};
+ghost use Rattle.dict_migration.specs.Failing.{MigrationFailsInside};
 ghost use Rattle.dict_migration.specs.Older.{form_of};
-ghost use Rattle.dict_migration.specs.Places.{InIndex};
-ghost use Rattle.dict_migration.specs.Steps.{IsIndexOf};
+ghost use Rattle.dict_migration.specs.FailurePlaces.{InIndex};
+ghost use Rattle.dict_migration.specs.Steps.{AreIndexOctetsOf};
 
 use crate::lines::lines_of_all;
 use crate::older::Older;
@@ -21,10 +21,10 @@ fn plain_index<S: Alter>(
     tx: &mut Transaction<'_, S>,
     number: i64,
 ) -> Result<Vec<u8>, ReadError>
-    requires { WhileOpen (seen S.Store tx.old) (Has (entry_of (form_of Older.Plain))) }
+    requires { WhileOpen (seen S.Store tx.old) (Has (entry_table_of (form_of Older.Plain))) }
     ensures same_reference { tx.new.conn.ghost_name ≡ tx.old.conn.ghost_name }
-    ensures index { HasCleanDisk (seen S.Store tx.new) → IfOk result (λ octets. IsIndexOf Older.Plain number (seen S.Store tx.old).now octets.items × IsUnchanged (seen S.Store tx.old) (seen S.Store tx.new)) }
-    ensures failed { HasCleanDisk (seen S.Store tx.new) → IfErr result (FailsInside S.Store (InIndex Older.Plain number) tx.old.conn.now tx.new.conn.now) }
+    ensures index { HasCleanDisk (seen S.Store tx.new) → IfOk result (λ octets. AreIndexOctetsOf Older.Plain number (seen S.Store tx.old).now octets.items × IsUnchanged (seen S.Store tx.old) (seen S.Store tx.new)) }
+    ensures failed { HasCleanDisk (seen S.Store tx.new) → IfErr result (MigrationFailsInside S.Store (InIndex Older.Plain number) tx.old.conn.now tx.new.conn.now) }
     ensures keeps { HasCleanDisk (seen S.Store tx.new) → KeepsCommit (seen S.Store tx.old) (seen S.Store tx.new) }
     ensures survives { Survives (seen S.Store tx.old) (seen S.Store tx.new) (λ _. ⊥) }
 {
@@ -39,10 +39,10 @@ fn keyed_index<S: Alter>(
     tx: &mut Transaction<'_, S>,
     number: i64,
 ) -> Result<Vec<u8>, ReadError>
-    requires { WhileOpen (seen S.Store tx.old) (Has (entry_of (form_of Older.Keyed))) }
+    requires { WhileOpen (seen S.Store tx.old) (Has (entry_table_of (form_of Older.Keyed))) }
     ensures same_reference { tx.new.conn.ghost_name ≡ tx.old.conn.ghost_name }
-    ensures index { HasCleanDisk (seen S.Store tx.new) → IfOk result (λ octets. IsIndexOf Older.Keyed number (seen S.Store tx.old).now octets.items × IsUnchanged (seen S.Store tx.old) (seen S.Store tx.new)) }
-    ensures failed { HasCleanDisk (seen S.Store tx.new) → IfErr result (FailsInside S.Store (InIndex Older.Keyed number) tx.old.conn.now tx.new.conn.now) }
+    ensures index { HasCleanDisk (seen S.Store tx.new) → IfOk result (λ octets. AreIndexOctetsOf Older.Keyed number (seen S.Store tx.old).now octets.items × IsUnchanged (seen S.Store tx.old) (seen S.Store tx.new)) }
+    ensures failed { HasCleanDisk (seen S.Store tx.new) → IfErr result (MigrationFailsInside S.Store (InIndex Older.Keyed number) tx.old.conn.now tx.new.conn.now) }
     ensures keeps { HasCleanDisk (seen S.Store tx.new) → KeepsCommit (seen S.Store tx.old) (seen S.Store tx.new) }
     ensures survives { Survives (seen S.Store tx.old) (seen S.Store tx.new) (λ _. ⊥) }
 {
@@ -57,10 +57,10 @@ fn shown_index<S: Alter>(
     tx: &mut Transaction<'_, S>,
     number: i64,
 ) -> Result<Vec<u8>, ReadError>
-    requires { WhileOpen (seen S.Store tx.old) (Has (entry_of (form_of Older.Shown))) }
+    requires { WhileOpen (seen S.Store tx.old) (Has (entry_table_of (form_of Older.Shown))) }
     ensures same_reference { tx.new.conn.ghost_name ≡ tx.old.conn.ghost_name }
-    ensures index { HasCleanDisk (seen S.Store tx.new) → IfOk result (λ octets. IsIndexOf Older.Shown number (seen S.Store tx.old).now octets.items × IsUnchanged (seen S.Store tx.old) (seen S.Store tx.new)) }
-    ensures failed { HasCleanDisk (seen S.Store tx.new) → IfErr result (FailsInside S.Store (InIndex Older.Shown number) tx.old.conn.now tx.new.conn.now) }
+    ensures index { HasCleanDisk (seen S.Store tx.new) → IfOk result (λ octets. AreIndexOctetsOf Older.Shown number (seen S.Store tx.old).now octets.items × IsUnchanged (seen S.Store tx.old) (seen S.Store tx.new)) }
+    ensures failed { HasCleanDisk (seen S.Store tx.new) → IfErr result (MigrationFailsInside S.Store (InIndex Older.Shown number) tx.old.conn.now tx.new.conn.now) }
     ensures keeps { HasCleanDisk (seen S.Store tx.new) → KeepsCommit (seen S.Store tx.old) (seen S.Store tx.new) }
     ensures survives { Survives (seen S.Store tx.old) (seen S.Store tx.new) (λ _. ⊥) }
 {
@@ -77,10 +77,10 @@ pub(crate) fn read_index<S: Alter>(
     layout: Older,
     number: i64,
 ) -> Result<Vec<u8>, ReadError>
-    requires { WhileOpen (seen S.Store tx.old) (Has (entry_of (form_of layout))) }
+    requires { WhileOpen (seen S.Store tx.old) (Has (entry_table_of (form_of layout))) }
     ensures same_reference { tx.new.conn.ghost_name ≡ tx.old.conn.ghost_name }
-    ensures index { HasCleanDisk (seen S.Store tx.new) → IfOk result (λ octets. IsIndexOf layout number (seen S.Store tx.old).now octets.items × IsUnchanged (seen S.Store tx.old) (seen S.Store tx.new)) }
-    ensures failed { HasCleanDisk (seen S.Store tx.new) → IfErr result (FailsInside S.Store (InIndex layout number) tx.old.conn.now tx.new.conn.now) }
+    ensures index { HasCleanDisk (seen S.Store tx.new) → IfOk result (λ octets. AreIndexOctetsOf layout number (seen S.Store tx.old).now octets.items × IsUnchanged (seen S.Store tx.old) (seen S.Store tx.new)) }
+    ensures failed { HasCleanDisk (seen S.Store tx.new) → IfErr result (MigrationFailsInside S.Store (InIndex layout number) tx.old.conn.now tx.new.conn.now) }
     ensures keeps { HasCleanDisk (seen S.Store tx.new) → KeepsCommit (seen S.Store tx.old) (seen S.Store tx.new) }
     ensures survives { Survives (seen S.Store tx.old) (seen S.Store tx.new) (λ _. ⊥) }
 {

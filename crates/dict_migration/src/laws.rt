@@ -7,7 +7,7 @@ ghost use Rattle.dict_catalogue.specs.Steps.{Catalogue};
 ghost use Rattle.dict_rows.specs.Versions.{known};
 ghost use Rattle.dict_holdings.specs.Holds.{Holds, IsHeld};
 ghost use Rattle.dict_migration.specs.Migrated.{IsMigrated, HoldsOlder, MayMigrate};
-ghost use Rattle.dict_migration.specs.Leaves.{LeavesOneOf};
+ghost use Rattle.dict_migration.specs.Leaves.{StateLeavesOneOf};
 
 use sqlite::Alter;
 
@@ -25,5 +25,5 @@ pub fn migrated_holds()
 ///
 /// It does nothing. Its clause is the law.
 pub fn stopped_migration<S: Alter>()
-    ensures { (old new : Held S) → IsLive (state S.Store old) → Survives (state S.Store old) (state S.Store new) (MayMigrate (state S.Store old)) → (ms : List (Option Catalogue)) → LeavesOneOf (state S.Store old) ms → LeavesOneOf (state S.Store new) ms }
+    ensures { (old new : Held S) → IsLive (state S.Store old) → Survives (state S.Store old) (state S.Store new) (MayMigrate (state S.Store old)) → (ms : List (Option Catalogue)) → StateLeavesOneOf (state S.Store old) ms → StateLeavesOneOf (state S.Store new) ms }
 {}

@@ -1,17 +1,17 @@
 // The lines of an index, written of the entries of an older version.
 ghost use Rattle.std.specs.Prelude.{◌≡◌, ◌++◌, ◌∷◌, [], ℕ, map, IfOk, IfErr, OnOk, MatchBool};
 ghost use Rattle.dict_records.specs.Keyed.{owned_old_entry, owned_keyed_entry, plain_entry};
-ghost use Rattle.dict_records.specs.Records.{Entry as TheEntry};
+ghost use Rattle.dict_records.specs.Records.{EntryRecord as TheEntry};
 ghost use Rattle.dict_records.specs.Typed.{owned_entry};
 ghost use Rattle.dict_index.specs.Cuts.{HasNo};
 ghost use Rattle.dict_parts.specs.Stored.{IsColumn, stored_line};
 ghost use Rattle.dict_holdings.specs.Files.{index_octets};
-ghost use Rattle.dict_migration.specs.Parts.{FailsToWrite};
-ghost use Rattle.dict_migration.specs.Steps.{HasLine, IsShort};
-ghost use Rattle.dict_migration.specs.Written.{line_said, said_of, shown_entry};
+ghost use Rattle.dict_migration.specs.MigrationParts.{FailsToWriteIndex};
+ghost use Rattle.dict_migration.specs.Steps.{HasLine, HasSixDigits};
+ghost use Rattle.dict_migration.specs.Written.{line_to_write, said_of, shown_entry};
 
 use dict_parts::write_line;
-use dict_records::{Entry, KeyedEntry, OldEntry, Stored};
+use dict_records::{EntryRecord, KeyedEntry, OldEntry, StoredRow};
 use dict_sql::records::ReadError;
 use std::alloc::Global;
 
@@ -20,7 +20,7 @@ const MOST: i64 = 68_719_476_736;
 
 /// What the line of an entry is to say.
 #[derive(Clone, Copy)]
-pub(crate) struct Said<'a> {
+pub(crate) struct LineToWrite<'a> {
     pub(crate) headword: &'a str,
     pub(crate) start: i64,
     pub(crate) length: i64,
@@ -28,20 +28,20 @@ pub(crate) struct Said<'a> {
 }
 
 /// A record that an entry was read as.
-pub(crate) trait Indexed {
+pub(crate) trait IndexedRecord {
     // The entry.
     ghost entry: { Self → TheEntry };
 
     /// What its line is to say.
-    fn said(&self) -> Said<'_>
+    fn said(&self) -> LineToWrite<'_>
         ensures { said_of (entry self.now) result ≡ entry self.now };
 }
 
-impl Indexed for Stored<Entry<String>> {
+impl IndexedRecord for StoredRow<EntryRecord<String>> {
     ghost entry = { λ stored. owned_entry stored.value };
 
-    fn said(&self) -> Said<'_> {
-        Said {
+    fn said(&self) -> LineToWrite<'_> {
+        LineToWrite {
             headword: &self.value.headword,
             start: self.value.start,
             length: self.value.length,
@@ -50,11 +50,11 @@ impl Indexed for Stored<Entry<String>> {
     }
 }
 
-impl Indexed for Stored<OldEntry<String, Vec<u8>>> {
+impl IndexedRecord for StoredRow<OldEntry<String, Vec<u8>>> {
     ghost entry = { λ stored. plain_entry (owned_old_entry stored.value) };
 
-    fn said(&self) -> Said<'_> {
-        Said {
+    fn said(&self) -> LineToWrite<'_> {
+        LineToWrite {
             headword: &self.value.headword,
             start: self.value.start,
             length: self.value.length,
@@ -63,11 +63,11 @@ impl Indexed for Stored<OldEntry<String, Vec<u8>>> {
     }
 }
 
-impl Indexed for Stored<KeyedEntry<String, Vec<u8>>> {
+impl IndexedRecord for StoredRow<KeyedEntry<String, Vec<u8>>> {
     ghost entry = { λ stored. shown_entry (owned_keyed_entry stored.value) };
 
-    fn said(&self) -> Said<'_> {
-        Said {
+    fn said(&self) -> LineToWrite<'_> {
+        LineToWrite {
             headword: &self.value.headword,
             start: self.value.start,
             length: self.value.length,
@@ -93,13 +93,13 @@ fn is_column(text: &str) -> bool
 
 // Whether a number has at most six digits in base 64.
 fn is_short(number: i64) -> bool
-    ensures { MatchBool result (IsShort number) (¬ IsShort number) }
+    ensures { MatchBool result (HasSixDigits number) (¬ HasSixDigits number) }
 {
     number >= 0 && number < MOST
 }
 
 // Whether a line can say this.
-fn has_line(said: &Said<'_>) -> bool
+fn has_line(said: &LineToWrite<'_>) -> bool
     ensures { (e : TheEntry) → MatchBool result (HasLine (said_of e said.now)) (¬ HasLine (said_of e said.now)) }
 {
     is_column(said.headword)
@@ -109,10 +109,10 @@ fn has_line(said: &Said<'_>) -> bool
 }
 
 // Appends the line that says this, and its LF. `NoRecord` tells that no line does.
-fn put_line(said: &Said<'_>, to: &mut Vec<u8>) -> Result<(), ReadError>
-    ensures put { OnOk result (to.new.items ≡ to.old.items ++ (stored_line (line_said said.now) ++ 10 ∷ [])) }
+fn put_line(said: &LineToWrite<'_>, to: &mut Vec<u8>) -> Result<(), ReadError>
+    ensures put { OnOk result (to.new.items ≡ to.old.items ++ (stored_line (line_to_write said.now) ++ 10 ∷ [])) }
     ensures has { OnOk result ((e : TheEntry) → HasLine (said_of e said.now)) }
-    ensures failed { (e : TheEntry) → IfErr result (FailsToWrite (said_of e said.now ∷ [])) }
+    ensures failed { (e : TheEntry) → IfErr result (FailsToWriteIndex (said_of e said.now ∷ [])) }
 {
     if !has_line(said) {
         return Err(ReadError::NoRecord);
@@ -128,9 +128,9 @@ fn put_line(said: &Said<'_>, to: &mut Vec<u8>) -> Result<(), ReadError>
 }
 
 // The octets of the index of these entries. `NoRecord` tells that one of them has no line.
-fn lines_of<E: Indexed>(alloc: Global, entries: &[E]) -> Result<Vec<u8>, ReadError>
+fn lines_of<E: IndexedRecord>(alloc: Global, entries: &[E]) -> Result<Vec<u8>, ReadError>
     ensures written { IfOk result (λ octets. octets.items ≡ index_octets (map E.entry entries.now)) }
-    ensures failed { IfErr result (FailsToWrite (map E.entry entries.now)) }
+    ensures failed { IfErr result (FailsToWriteIndex (map E.entry entries.now)) }
 {
     let mut octets = Vec::new(alloc);
     'each: for entry in entries {
@@ -141,12 +141,12 @@ fn lines_of<E: Indexed>(alloc: Global, entries: &[E]) -> Result<Vec<u8>, ReadErr
 }
 
 /// The octets of the index of these entries, which are let go of then. `NoRecord` tells that one of them has no line.
-pub(crate) fn lines_of_all<E: Indexed + Drop>(
+pub(crate) fn lines_of_all<E: IndexedRecord + Drop>(
     alloc: Global,
     entries: Vec<E>,
 ) -> Result<Vec<u8>, ReadError>
     ensures written { IfOk result (λ octets. octets.items ≡ index_octets (map E.entry entries.items)) }
-    ensures failed { IfErr result (FailsToWrite (map E.entry entries.items)) }
+    ensures failed { IfErr result (FailsToWriteIndex (map E.entry entries.items)) }
 {
     let octets = lines_of(alloc, &entries);
     drop(entries);

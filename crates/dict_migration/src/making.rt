@@ -11,8 +11,8 @@ ghost use Rattle.dict_rows.specs.Versions.{known};
 ghost use Rattle.dict_catalogue.specs.Steps.{empty_catalogue};
 ghost use Rattle.dict_desk.specs.Faults.{is_disk};
 ghost use Rattle.dict_holdings.specs.Holds.{Holds, Rests, IsLeftAs, HasPlace};
-ghost use Rattle.dict_holdings.specs.Writing.{Stays, IsOfCreation};
-ghost use Rattle.dict_migration.specs.Making.{creation, FailsToEnd, RunInTurn, FailsInTurn};
+ghost use Rattle.dict_holdings.specs.Writing.{StaysCommitted, IsOfCreation};
+ghost use Rattle.dict_migration.specs.Making.{creation, CreationFailsToEnd, StepsRunInTurn, StepsFailInTurn};
 ghost use Rattle.dict_migration.specs.Moved.{AreTreesOf};
 ghost use Rattle.dict_migration.specs.Spared.{SparesOthers};
 
@@ -51,8 +51,8 @@ fn make_all<S: Alter>(tx: &mut Transaction<'_, S>) -> Result<(), Error>
     ensures made { HasCleanDisk (seen S.Store tx.new) → OnOk result (Holds known (seen S.Store tx.new).now empty_catalogue × IsDatabase (seen S.Store tx.new).now) }
     ensures spares { HasCleanDisk (seen S.Store tx.new) → OnOk result (SparesOthers (seen S.Store tx.old).now (seen S.Store tx.new).now) }
     ensures inside { HasCleanDisk (seen S.Store tx.new) → OnOk result ((seen S.Store tx.new).in_transaction ≡ true) }
-    ensures ran { HasCleanDisk (seen S.Store tx.new) → OnOk result (RunInTurn S.Store (creation known) tx.old.conn.now tx.new.conn.now) }
-    ensures failed { HasCleanDisk (seen S.Store tx.new) → IfErr result (FailsInTurn S.Store (creation known) tx.old.conn.now tx.new.conn.now) }
+    ensures ran { HasCleanDisk (seen S.Store tx.new) → OnOk result (StepsRunInTurn S.Store (creation known) tx.old.conn.now tx.new.conn.now) }
+    ensures failed { HasCleanDisk (seen S.Store tx.new) → IfErr result (StepsFailInTurn S.Store (creation known) tx.old.conn.now tx.new.conn.now) }
     ensures keeps { HasCleanDisk (seen S.Store tx.new) → KeepsCommit (seen S.Store tx.old) (seen S.Store tx.new) }
     ensures survives { Survives (seen S.Store tx.old) (seen S.Store tx.new) (λ _. ⊥) }
 {
@@ -83,8 +83,8 @@ fn commit_tables<S: Alter>(conn: &mut Connection<S>) -> Result<(), Fault>
     ensures beside { Survives (state S.Store conn.old) (state S.Store conn.new) (AreTreesOf (SparesOthers (state S.Store conn.old).now)) }
     ensures adds_none { IfErr result (λ fault. is_disk fault ≡ false → Survives (state S.Store conn.old) (state S.Store conn.new) (λ _. ⊥)) }
     ensures undone { HasCleanDisk (state S.Store conn.new) → IfErr result (λ fault. is_disk fault ≡ false → IsTrue (state S.Store conn.new).is_open → (state S.Store conn.new).committed ≡ (state S.Store conn.old).committed) }
-    ensures stays { HasCleanDisk (state S.Store conn.new) → OnErr result (Stays (state S.Store conn.old) (state S.Store conn.new)) }
-    ensures failed { HasCleanDisk (state S.Store conn.new) → IfErr result (FailsToEnd S.Store (creation known) (λ db. Holds known db empty_catalogue) conn.old conn.new) }
+    ensures stays { HasCleanDisk (state S.Store conn.new) → OnErr result (StaysCommitted (state S.Store conn.old) (state S.Store conn.new)) }
+    ensures failed { HasCleanDisk (state S.Store conn.new) → IfErr result (CreationFailsToEnd S.Store (creation known) (λ db. Holds known db empty_catalogue) conn.old conn.new) }
     ensures kinds { IfErr result IsOfCreation }
     ensures placed { IfErr result (λ fault. fault ≢ Fault.NotACatalogue) }
     ensures autocommit { (state S.Store conn.new).in_transaction ≡ false }
@@ -118,8 +118,8 @@ pub fn create<S: Alter>(conn: &mut Connection<S>) -> Result<(), Fault>
     ensures unchanged { result ≡ Err Fault.NotACatalogue → conn.new ≡ conn.old }
     ensures adds_none { IfErr result (λ fault. is_disk fault ≡ false → Survives (state S.Store conn.old) (state S.Store conn.new) (λ _. ⊥)) }
     ensures undone { HasCleanDisk (state S.Store conn.new) → IfErr result (λ fault. is_disk fault ≡ false → IsTrue (state S.Store conn.new).is_open → (state S.Store conn.new).committed ≡ (state S.Store conn.old).committed) }
-    ensures stays { HasCleanDisk (state S.Store conn.new) → OnErr result (Stays (state S.Store conn.old) (state S.Store conn.new)) }
-    ensures failed { HasCleanDisk (state S.Store conn.new) → IfErr result (λ fault. fault ≢ Fault.NotACatalogue → FailsToEnd S.Store (creation known) (λ db. Holds known db empty_catalogue) conn.old conn.new fault) }
+    ensures stays { HasCleanDisk (state S.Store conn.new) → OnErr result (StaysCommitted (state S.Store conn.old) (state S.Store conn.new)) }
+    ensures failed { HasCleanDisk (state S.Store conn.new) → IfErr result (λ fault. fault ≢ Fault.NotACatalogue → CreationFailsToEnd S.Store (creation known) (λ db. Holds known db empty_catalogue) conn.old conn.new fault) }
     ensures kinds { IfErr result IsOfCreation }
     ensures autocommit { (state S.Store conn.new).in_transaction ≡ false }
     ensures crash { Survives (state S.Store conn.old) (state S.Store conn.new) (IsLeftAs known empty_catalogue) }

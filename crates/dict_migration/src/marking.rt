@@ -4,10 +4,10 @@ ghost use Rattle.sqlite.specs.State.{HasCleanDisk, KeepsCommit, Survives};
 ghost use Rattle.dict_tables.specs.Tables.{mark};
 ghost use Rattle.dict_sql.specs.Deletes.{HasToRemove};
 ghost use Rattle.dict_sql.specs.Effects.{WhileOpen, seen};
-ghost use Rattle.dict_migration.specs.Moved.{IsMarked};
+ghost use Rattle.dict_migration.specs.Moved.{IsMarkedAnew};
 ghost use Rattle.dict_sql.specs.declared.records.ReadError.TheVariants.{Store};
-ghost use Rattle.dict_migration.specs.Places.{InMark};
-ghost use Rattle.dict_migration.specs.Failing.{FailsInside};
+ghost use Rattle.dict_migration.specs.FailurePlaces.{InMark};
+ghost use Rattle.dict_migration.specs.Failing.{MigrationFailsInside};
 
 use dict_rows::{KNOWN_VERSION, mark_row};
 use dict_sql::delete::clear_table;
@@ -20,9 +20,9 @@ pub(crate) fn renew_mark<S: Alter>(tx: &mut Transaction<'_, S>, installs: u64) -
     requires installs { installs ≤ 9223372036854775807 }
     requires mark { WhileOpen (seen S.Store tx.old) (HasToRemove mark) }
     ensures same_reference { tx.new.conn.ghost_name ≡ tx.old.conn.ghost_name }
-    ensures marked { HasCleanDisk (seen S.Store tx.new) → OnOk result (IsMarked installs (seen S.Store tx.old).now (seen S.Store tx.new).now) }
+    ensures marked { HasCleanDisk (seen S.Store tx.new) → OnOk result (IsMarkedAnew installs (seen S.Store tx.old).now (seen S.Store tx.new).now) }
     ensures inside { HasCleanDisk (seen S.Store tx.new) → OnOk result ((seen S.Store tx.new).in_transaction ≡ true) }
-    ensures failed { HasCleanDisk (seen S.Store tx.new) → IfErr result (λ e. FailsInside S.Store (InMark installs) tx.old.conn.now tx.new.conn.now (Store e)) }
+    ensures failed { HasCleanDisk (seen S.Store tx.new) → IfErr result (λ e. MigrationFailsInside S.Store (InMark installs) tx.old.conn.now tx.new.conn.now (Store e)) }
     ensures keeps { HasCleanDisk (seen S.Store tx.new) → KeepsCommit (seen S.Store tx.old) (seen S.Store tx.new) }
     ensures survives { Survives (seen S.Store tx.old) (seen S.Store tx.new) (λ _. ⊥) }
 {

@@ -12,13 +12,14 @@ ghost use Rattle.dict_records.specs.Typed.{owned_header};
 ghost use Rattle.dict_rows.specs.Versions.{layout_of, known};
 ghost use Rattle.dict_sql.specs.Effects.{WhileOpen, seen};
 ghost use Rattle.dict_holdings.specs.Holds.{Holds, IsLeftAs, Rests};
-ghost use Rattle.dict_holdings.specs.Writing.{Stays};
+ghost use Rattle.dict_holdings.specs.Writing.{StaysCommitted};
 ghost use Rattle.dict_migration.specs.Migrated.{IsMigrated, MayMigrate};
-ghost use Rattle.dict_migration.specs.Moved.{AreTakenApart, AreTreesOf, IsCommitted, IsOfMigration, IsOutcome};
+ghost use Rattle.dict_migration.specs.Moved.{AreTakenApart, AreTreesOf, IsCommitted, IsOutcome};
 ghost use Rattle.dict_migration.specs.Older.{IsOld, layout_as};
-ghost use Rattle.dict_migration.specs.Places.{InApart, InMove};
+ghost use Rattle.dict_migration.specs.FailurePlaces.{InApart, InMove};
 ghost use Rattle.dict_migration.specs.Spared.{SparesOthers};
-ghost use Rattle.dict_migration.specs.Failing.{FailsInside, FailsToEnd, FailsToMigrate, FailsToSign};
+ghost use Rattle.dict_migration.specs.Failing.{MigrationFailsInside, MigrationFailsToEnd, FailsToMigrate, FailsToSign};
+ghost use Rattle.dict_holdings.specs.Faults.{IsOfStore};
 
 use crate::dropping::drop_old;
 use crate::editions::part_editions;
@@ -29,7 +30,7 @@ use dict_catalogue::{Summary, edition_numbers};
 use dict_desk::Fault;
 use dict_edition_sql::create_part_table;
 use dict_holdings::fault_of_read;
-use dict_records::Header;
+use dict_records::HeaderRecord;
 use dict_sql::commit::commit;
 use dict_sql::records::ReadError;
 use sqlite::{Alter, Connection, Transaction};
@@ -44,13 +45,13 @@ fn take_apart<S: Alter>(
     tx: &mut Transaction<'_, S>,
     layout: Older,
     numbers: &[i64],
-) -> Result<Vec<Header<String>>, ReadError>
+) -> Result<Vec<HeaderRecord<String>>, ReadError>
     requires { WhileOpen (seen S.Store tx.old) (IsOld layout) }
     ensures same_reference { tx.new.conn.ghost_name ≡ tx.old.conn.ghost_name }
     ensures apart { HasCleanDisk (seen S.Store tx.new) → IfOk result (λ headers. AreTakenApart layout numbers.now (map owned_header headers.items) (seen S.Store tx.old).now (seen S.Store tx.new).now) }
     ensures opened { HasCleanDisk (seen S.Store tx.new) → OnOk result (IsTrue (seen S.Store tx.old).is_open) }
     ensures inside { HasCleanDisk (seen S.Store tx.new) → OnOk result ((seen S.Store tx.new).in_transaction ≡ true) }
-    ensures failed { HasCleanDisk (seen S.Store tx.new) → IfErr result (FailsInside S.Store (InApart layout numbers.now) tx.old.conn.now tx.new.conn.now) }
+    ensures failed { HasCleanDisk (seen S.Store tx.new) → IfErr result (MigrationFailsInside S.Store (InApart layout numbers.now) tx.old.conn.now tx.new.conn.now) }
     ensures keeps { HasCleanDisk (seen S.Store tx.new) → KeepsCommit (seen S.Store tx.old) (seen S.Store tx.new) }
     ensures survives { Survives (seen S.Store tx.old) (seen S.Store tx.new) (λ _. ⊥) }
 {
@@ -73,7 +74,7 @@ fn migrate_inside<S: Alter>(
     ensures same_reference { tx.new.conn.ghost_name ≡ tx.old.conn.ghost_name }
     ensures moved { HasCleanDisk (seen S.Store tx.new) → OnOk result (IsOutcome layout numbers.now installs (seen S.Store tx.old) (seen S.Store tx.new).now × IsDatabase (seen S.Store tx.new).now) }
     ensures inside { HasCleanDisk (seen S.Store tx.new) → OnOk result ((seen S.Store tx.new).in_transaction ≡ true) }
-    ensures failed { HasCleanDisk (seen S.Store tx.new) → IfErr result (FailsInside S.Store (InMove layout numbers.now installs) tx.old.conn.now tx.new.conn.now) }
+    ensures failed { HasCleanDisk (seen S.Store tx.new) → IfErr result (MigrationFailsInside S.Store (InMove layout numbers.now installs) tx.old.conn.now tx.new.conn.now) }
     ensures keeps { HasCleanDisk (seen S.Store tx.new) → KeepsCommit (seen S.Store tx.old) (seen S.Store tx.new) }
     ensures survives { Survives (seen S.Store tx.old) (seen S.Store tx.new) (λ _. ⊥) }
 {
@@ -95,10 +96,10 @@ fn migrate_from<S: Alter>(
     requires installs { installs ≤ 9223372036854775807 }
     requires old { WhileOpen (state S.Store conn.old) (IsOld layout) }
     ensures made { HasCleanDisk (state S.Store conn.new) → OnOk result (IsCommitted (IsOutcome layout numbers.now installs (state S.Store conn.old)) (state S.Store conn.new)) }
-    ensures stays { HasCleanDisk (state S.Store conn.new) → OnErr result (Stays (state S.Store conn.old) (state S.Store conn.new)) }
+    ensures stays { HasCleanDisk (state S.Store conn.new) → OnErr result (StaysCommitted (state S.Store conn.old) (state S.Store conn.new)) }
     ensures adds_none { IfErr result (λ fault. is_disk fault ≡ false → Survives (state S.Store conn.old) (state S.Store conn.new) (λ _. ⊥)) }
-    ensures failed { HasCleanDisk (state S.Store conn.new) → IfErr result (FailsToEnd S.Store (InMove layout numbers.now installs) (IsOutcome layout numbers.now installs (state S.Store conn.old)) conn.old conn.new) }
-    ensures kinds { IfErr result IsOfMigration }
+    ensures failed { HasCleanDisk (state S.Store conn.new) → IfErr result (MigrationFailsToEnd S.Store (InMove layout numbers.now installs) (IsOutcome layout numbers.now installs (state S.Store conn.old)) conn.old conn.new) }
+    ensures kinds { IfErr result IsOfStore }
     ensures autocommit { (state S.Store conn.new).in_transaction ≡ false }
     ensures crash { Survives (state S.Store conn.old) (state S.Store conn.new) (AreTreesOf (IsOutcome layout numbers.now installs (state S.Store conn.old))) }
 {
@@ -179,10 +180,10 @@ pub fn migrate<S: Alter>(
     ensures beside { Survives (state S.Store conn.old) (state S.Store conn.new) (λ trees. IsTrue (state S.Store conn.old).is_open × AreTreesOf (SparesOthers (state S.Store conn.old).committed) trees) }
     ensures only { HasCleanDisk (state S.Store conn.new) → OnOk result ((M : Catalogue) → Holds version (state S.Store conn.old).committed M → (trees : Trees) → (state S.Store conn.new).may_leave trees → IsLeftAs known M trees) }
     ensures lives { HasCleanDisk (state S.Store conn.new) → IsTrue (state S.Store conn.new).is_open → IsTrue (state S.Store conn.old).is_open }
-    ensures stays { HasCleanDisk (state S.Store conn.new) → OnErr result (Stays (state S.Store conn.old) (state S.Store conn.new)) }
+    ensures stays { HasCleanDisk (state S.Store conn.new) → OnErr result (StaysCommitted (state S.Store conn.old) (state S.Store conn.new)) }
     ensures adds_none { IfErr result (λ fault. is_disk fault ≡ false → Survives (state S.Store conn.old) (state S.Store conn.new) (λ _. ⊥)) }
     ensures failed { HasCleanDisk (state S.Store conn.new) → IfErr result (FailsToMigrate S.Store version (summary_shown summary.now) conn.old conn.new) }
-    ensures kinds { IfErr result IsOfMigration }
+    ensures kinds { IfErr result IsOfStore }
     ensures autocommit { (state S.Store conn.new).in_transaction ≡ false }
     ensures crash { Survives (state S.Store conn.old) (state S.Store conn.new) (MayMigrate (state S.Store conn.old)) }
 {

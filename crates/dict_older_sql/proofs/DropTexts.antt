@@ -11,8 +11,8 @@ use Rattle.dict_sql.specs.Refusals.{RefusesToDrop}
 use Rattle.dict_sql.proofs.TextLemmas.{parsed_or}
 use Rattle.dict_sql.proofs.DropLemmas.{ReadsDrop, drops}
 use Rattle.dict_sql.proofs.DropFaults.{fails}
-use Rattle.dict_tables.specs.Keyed.{entry, word, gram, table_of}
-use Rattle.dict_older_sql.specs.Texts.{drop_text}
+use Rattle.dict_tables.specs.Keyed.{entry_with_keys, word, gram, keyed_table_of}
+use Rattle.dict_older_sql.specs.Texts.{keyed_drop_text}
 use Rattle.dict_tables.specs.declared.keyed.KeyedTable.{KeyedTable}
 use Rattle.dict_tables.specs.declared.keyed.KeyedTable.TheVariants as keyed
 use Rattle.dict_sql.proofs.EndLemmas.{drop_ends_none}
@@ -20,13 +20,13 @@ use Rattle.dict_sql.specs.Transactions.{EndsNothing}
 
 -- all of the text is read, and it names no value
 abbrev IsRead : KeyedTable → Parsed → Type 0
-IsRead table p = (length (drop_text table) ≤ p.tail) × (0 ≡ length p.names)
+IsRead table p = (length (keyed_drop_text table) ≤ p.tail) × (0 ≡ length p.names)
 
 unfoldable pub read_entry : Parsed
 unfolding everything
-read_entry = parsed_or (first (drop_text keyed.Entry))
+read_entry = parsed_or (first (keyed_drop_text keyed.Entry))
 
-reads_entry : ReadsDrop (drop_text keyed.Entry) read_entry entry
+reads_entry : ReadsDrop (keyed_drop_text keyed.Entry) read_entry entry_with_keys
 unfolding everything read_entry
 reads_entry = record { read = refl; statement = λ tree. refl; formats = refl; unreserved = λ tree. refl; uncounted = λ tree. refl; named = λ tree. refl }
 
@@ -36,9 +36,9 @@ whole_entry = (lit≤ tt, refl)
 
 unfoldable pub read_word : Parsed
 unfolding everything
-read_word = parsed_or (first (drop_text keyed.Word))
+read_word = parsed_or (first (keyed_drop_text keyed.Word))
 
-reads_word : ReadsDrop (drop_text keyed.Word) read_word word
+reads_word : ReadsDrop (keyed_drop_text keyed.Word) read_word word
 unfolding everything read_word
 reads_word = record { read = refl; statement = λ tree. refl; formats = refl; unreserved = λ tree. refl; uncounted = λ tree. refl; named = λ tree. refl }
 
@@ -48,9 +48,9 @@ whole_word = (lit≤ tt, refl)
 
 unfoldable pub read_gram : Parsed
 unfolding everything
-read_gram = parsed_or (first (drop_text keyed.Gram))
+read_gram = parsed_or (first (keyed_drop_text keyed.Gram))
 
-reads_gram : ReadsDrop (drop_text keyed.Gram) read_gram gram
+reads_gram : ReadsDrop (keyed_drop_text keyed.Gram) read_gram gram
 unfolding everything read_gram
 reads_gram = record { read = refl; statement = λ tree. refl; formats = refl; unreserved = λ tree. refl; uncounted = λ tree. refl; named = λ tree. refl }
 
@@ -58,17 +58,17 @@ whole_gram : IsRead keyed.Gram read_gram
 unfolding everything read_gram
 whole_gram = (lit≤ tt, refl)
 
-pub drops_table : (t : KeyedTable) (old new : State) (count : ℕ) → Has (table_of t) old.now → Executes (drop_text t) [] old new (Ok count) → IsDropped (table_of t 0).name old.now new.now
-drops_table keyed.Entry old new count = drops (drop_text keyed.Entry) read_entry entry reads_entry old new count
-drops_table keyed.Word old new count = drops (drop_text keyed.Word) read_word word reads_word old new count
-drops_table keyed.Gram old new count = drops (drop_text keyed.Gram) read_gram gram reads_gram old new count
+pub drops_table : (t : KeyedTable) (old new : State) (count : ℕ) → Has (keyed_table_of t) old.now → Executes (keyed_drop_text t) [] old new (Ok count) → IsDropped (keyed_table_of t 0).name old.now new.now
+drops_table keyed.Entry old new count = drops (keyed_drop_text keyed.Entry) read_entry entry_with_keys reads_entry old new count
+drops_table keyed.Word old new count = drops (keyed_drop_text keyed.Word) read_word word reads_word old new count
+drops_table keyed.Gram old new count = drops (keyed_drop_text keyed.Gram) read_gram gram reads_gram old new count
 
-pub drop_fails_in : (t : KeyedTable) (old new : State) (e : Error) → Has (table_of t) old.now → ExecutesInside 0 (drop_text t) [] old new (Err e) → (RefusesToDrop (table_of t 0).name old e × IsUnchanged old new) ⊎ Fails old new ⊥ e
-drop_fails_in keyed.Entry old new e has = fails (drop_text keyed.Entry) read_entry entry reads_entry whole_entry.0 whole_entry.1 old new has.0 has.1 has.2 e
-drop_fails_in keyed.Word old new e has = fails (drop_text keyed.Word) read_word word reads_word whole_word.0 whole_word.1 old new has.0 has.1 has.2 e
-drop_fails_in keyed.Gram old new e has = fails (drop_text keyed.Gram) read_gram gram reads_gram whole_gram.0 whole_gram.1 old new has.0 has.1 has.2 e
+pub drop_fails_in : (t : KeyedTable) (old new : State) (e : Error) → Has (keyed_table_of t) old.now → ExecutesInside 0 (keyed_drop_text t) [] old new (Err e) → (RefusesToDrop (keyed_table_of t 0).name old e × IsUnchanged old new) ⊎ Fails old new ⊥ e
+drop_fails_in keyed.Entry old new e has = fails (keyed_drop_text keyed.Entry) read_entry entry_with_keys reads_entry whole_entry.0 whole_entry.1 old new has.0 has.1 has.2 e
+drop_fails_in keyed.Word old new e has = fails (keyed_drop_text keyed.Word) read_word word reads_word whole_word.0 whole_word.1 old new has.0 has.1 has.2 e
+drop_fails_in keyed.Gram old new e has = fails (keyed_drop_text keyed.Gram) read_gram gram reads_gram whole_gram.0 whole_gram.1 old new has.0 has.1 has.2 e
 
-pub take_ends_none : (t : KeyedTable) → EndsNothing (drop_text t)
-take_ends_none keyed.Entry = drop_ends_none (drop_text keyed.Entry) read_entry entry reads_entry
-take_ends_none keyed.Word = drop_ends_none (drop_text keyed.Word) read_word word reads_word
-take_ends_none keyed.Gram = drop_ends_none (drop_text keyed.Gram) read_gram gram reads_gram
+pub take_ends_none : (t : KeyedTable) → EndsNothing (keyed_drop_text t)
+take_ends_none keyed.Entry = drop_ends_none (keyed_drop_text keyed.Entry) read_entry entry_with_keys reads_entry
+take_ends_none keyed.Word = drop_ends_none (keyed_drop_text keyed.Word) read_word word reads_word
+take_ends_none keyed.Gram = drop_ends_none (keyed_drop_text keyed.Gram) read_gram gram reads_gram

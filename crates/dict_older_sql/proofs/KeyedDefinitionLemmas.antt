@@ -5,19 +5,19 @@ use Rattle.dict_tables.specs.Definitions.{IsDefinition, are_named_apart}
 use Rattle.dict_tables.specs.Tables as store
 use Rattle.dict_tables.specs.declared.tables.StoreTable.{StoreTable}
 use Rattle.dict_tables.specs.declared.tables.StoreTable.TheVariants as made
-use Rattle.dict_tables.specs.Keyed.{table_of}
+use Rattle.dict_tables.specs.Keyed.{keyed_table_of}
 use Rattle.dict_tables.specs.declared.keyed.KeyedTable.{KeyedTable}
 use Rattle.dict_tables.specs.declared.keyed.KeyedTable.TheVariants.{Entry, Word, Gram}
 
 itself : (n : ℕ) → (n == n) ≡ true
 itself n = search arith
 
-pub keyed_defined : (t : KeyedTable) → IsDefinition (table_of t)
+pub keyed_defined : (t : KeyedTable) → IsDefinition (keyed_table_of t)
 keyed_defined Entry = record { same = λ n. refl; unreferring = refl; keyed = λ n m. (rw (itself n) refl, tt) }
 keyed_defined Word = record { same = λ n. refl; unreferring = refl; keyed = λ n m. (rw (itself n) refl, tt) }
 keyed_defined Gram = record { same = λ n. refl; unreferring = refl; keyed = λ n m. (rw (itself n) refl, tt) }
 
-pub keyed_apart : (t o : KeyedTable) → (t ≡ o → ⊥) → are_named_apart (table_of t 0) (table_of o 0) ≡ true
+pub keyed_apart : (t o : KeyedTable) → (t ≡ o → ⊥) → are_named_apart (keyed_table_of t 0) (keyed_table_of o 0) ≡ true
 unfolding same_name
 keyed_apart Entry Entry other = absurd (other refl)
 keyed_apart Entry Word other = refl
@@ -29,7 +29,7 @@ keyed_apart Gram Entry other = refl
 keyed_apart Gram Word other = refl
 keyed_apart Gram Gram other = absurd (other refl)
 
-pub from_store : (t : KeyedTable) (o : StoreTable) → same_name (table_of t 0).name (store.table_of o 0).name ≡ false → (are_named_apart (table_of t 0) (store.table_of o 0) ≡ true) × (are_named_apart (store.table_of o 0) (table_of t 0) ≡ true)
+pub from_store : (t : KeyedTable) (o : StoreTable) → same_name (keyed_table_of t 0).name (store.table_of o 0).name ≡ false → (are_named_apart (keyed_table_of t 0) (store.table_of o 0) ≡ true) × (are_named_apart (store.table_of o 0) (keyed_table_of t 0) ≡ true)
 unfolding same_name
 from_store Entry made.Mark other = (refl, refl)
 from_store Entry made.Item other = (refl, refl)

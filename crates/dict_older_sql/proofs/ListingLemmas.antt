@@ -5,17 +5,17 @@ use Rattle.sqlite.specs.Effect.{Database}
 use Rattle.sqlite.specs.Order.{Row}
 use Rattle.dict_sql.specs.Effects.{rows_of}
 use Rattle.dict_sql.specs.Reads.{IsListing}
-use Rattle.dict_tables.specs.Keyed.{table_of}
-use Rattle.dict_older_sql.specs.Scans.{IsWhole}
-use Rattle.dict_older_sql.specs.Scans.Scan.{ByRowid}
+use Rattle.dict_tables.specs.Keyed.{keyed_table_of}
+use Rattle.dict_older_sql.specs.Scans.{AreAllOlder}
+use Rattle.dict_older_sql.specs.Scans.OlderScan.{ByRowid}
 use Rattle.dict_tables.specs.declared.keyed.KeyedTable.{KeyedTable}
 
 all_pass : {X : Type 0} (xs : List X) → filter (λ _. true) xs ≡ xs
 all_pass [] = refl
 all_pass (x ∷ xs) = ap (λ l. x ∷ l) (all_pass xs)
 
-pub listed_by_rowid : (table : KeyedTable) (db : Database) (rows : List Row) → IsWhole (ByRowid table) db rows → IsListing (table_of table 0).name (0 ∷ []) db rows
+pub listed_by_rowid : (table : KeyedTable) (db : Database) (rows : List Row) → AreAllOlder (ByRowid table) db rows → IsListing (keyed_table_of table 0).name (0 ∷ []) db rows
 listed_by_rowid table db rows whole = record {
-  same = subst (λ l. IsPermutation l rows) (all_pass (rows_of (table_of table 0).name db)) whole.same;
+  same = subst (λ l. IsPermutation l rows) (all_pass (rows_of (keyed_table_of table 0).name db)) whole.same;
   sorted = whole.sorted;
 }

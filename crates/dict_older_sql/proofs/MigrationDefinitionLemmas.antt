@@ -2,14 +2,14 @@
 use Rattle.std.proofs.Common.{◌≡◌, ◌==◌, ℕ, true, refl, arith}
 use Rattle.dict_tables.specs.Definitions.{IsDefinition}
 use Rattle.dict_tables.specs.Keyed.{word, gram}
-use Rattle.dict_older_sql.specs.Entries.{entry_of}
+use Rattle.dict_older_sql.specs.Entries.{entry_table_of}
 use Rattle.dict_older_sql.specs.declared.entries.EntryForm.{EntryForm}
 use Rattle.dict_older_sql.specs.declared.entries.EntryForm.TheVariants.{Plain, Keyed, Shown}
 
 itself : (n : ℕ) → (n == n) ≡ true
 itself n = search arith
 
-pub form_defined : (form : EntryForm) → IsDefinition (entry_of form)
+pub form_defined : (form : EntryForm) → IsDefinition (entry_table_of form)
 form_defined Plain = record { same = λ n. refl; unreferring = refl; keyed = λ n m. (rw (itself n) refl, tt) }
 form_defined Keyed = record { same = λ n. refl; unreferring = refl; keyed = λ n m. (rw (itself n) refl, tt) }
 form_defined Shown = record { same = λ n. refl; unreferring = refl; keyed = λ n m. (rw (itself n) refl, tt) }

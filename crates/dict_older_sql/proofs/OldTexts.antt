@@ -18,14 +18,14 @@ use Rattle.dict_sql.proofs.ReadTexts.{ReadsTable, sort_by, key_at}
 use Rattle.dict_sql.proofs.TextLemmas.{parsed_or}
 use Rattle.dict_older_sql.proofs.ReadTexts.{of_column, test_edition}
 use Rattle.dict_tables.specs.Keyed.{old_entry}
-use Rattle.dict_older_sql.specs.Texts.{rowid_text, select_text}
+use Rattle.dict_older_sql.specs.Texts.{keyed_rowid_text, keyed_select_text}
 use Rattle.dict_tables.specs.declared.keyed.KeyedTable.TheVariants as keyed
 
 unfoldable pub read_old_of : Parsed
 unfolding everything
-read_old_of = parsed_or (first (select_text keyed.Entry))
+read_old_of = parsed_or (first (keyed_select_text keyed.Entry))
 
-pub reads_old_of : ReadsTable (select_text keyed.Entry) read_old_of old_entry (Some (equals_expr (codes "edition"))) test_edition 99996 (sort_by (codes "3") ∷ []) (key_at 2 ∷ []) (2 ∷ []) 99994 of_column
+pub reads_old_of : ReadsTable (keyed_select_text keyed.Entry) read_old_of old_entry (Some (equals_expr (codes "edition"))) test_edition 99996 (sort_by (codes "3") ∷ []) (key_at 2 ∷ []) (2 ∷ []) 99994 of_column
 unfolding everything read_old_of rowid_expr rowid_shown all_shown source_of core_of select_of sort_by column_expr parameter_expr equals_expr
 reads_old_of = record {
   read = refl;
@@ -43,7 +43,7 @@ reads_old_of = record {
   accepted = λ schema at tree alone low. rw (low, alone) refl;
 }
 
-pub takes_old_of : Takes (select_text keyed.Entry) read_old_of old_entry test_edition (key_at 2 ∷ []) a_number
+pub takes_old_of : Takes (keyed_select_text keyed.Entry) read_old_of old_entry test_edition (key_at 2 ∷ []) a_number
 unfolding everything read_old_of
 takes_old_of = record { whole = lit≤ tt; names = λ x. refl; typed = λ schema at tree alone low x. rw (low, alone) refl }
 
@@ -52,9 +52,9 @@ is_old_of tree n row = and_true _ ∙ equals_is (column row 1) n
 
 unfoldable pub read_old_by_rowid : Parsed
 unfolding everything
-read_old_by_rowid = parsed_or (first (rowid_text keyed.Entry))
+read_old_by_rowid = parsed_or (first (keyed_rowid_text keyed.Entry))
 
-pub reads_old_by_rowid : ReadsTable (rowid_text keyed.Entry) read_old_by_rowid old_entry None [] 99999 (sort_by (codes "1") ∷ []) (key_at 0 ∷ []) (0 ∷ []) 99997 nothing
+pub reads_old_by_rowid : ReadsTable (keyed_rowid_text keyed.Entry) read_old_by_rowid old_entry None [] 99999 (sort_by (codes "1") ∷ []) (key_at 0 ∷ []) (0 ∷ []) 99997 nothing
 unfolding everything read_old_by_rowid rowid_expr rowid_shown all_shown source_of core_of select_of sort_by
 reads_old_by_rowid = record {
   read = refl;
@@ -72,6 +72,6 @@ reads_old_by_rowid = record {
   accepted = λ schema at tree alone low. rw (low, alone) refl;
 }
 
-pub takes_old_by_rowid : Takes (rowid_text keyed.Entry) read_old_by_rowid old_entry [] (key_at 0 ∷ []) no_values
+pub takes_old_by_rowid : Takes (keyed_rowid_text keyed.Entry) read_old_by_rowid old_entry [] (key_at 0 ∷ []) no_values
 unfolding everything read_old_by_rowid
 takes_old_by_rowid = record { whole = lit≤ tt; names = λ x. refl; typed = λ schema at tree alone low x. rw (low, alone) refl }

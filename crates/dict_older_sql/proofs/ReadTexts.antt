@@ -20,8 +20,8 @@ use Rattle.dict_sql.proofs.ReadFaults.{Takes, a_number}
 use Rattle.dict_sql.proofs.ReadLemmas.{rowid_expr, rowid_shown, all_shown, source_of, core_of, select_of, outputs_of}
 use Rattle.dict_sql.proofs.ReadTexts.{ReadsTable, sort_by, key_at}
 use Rattle.dict_sql.proofs.TextLemmas.{parsed_or}
-use Rattle.dict_tables.specs.Keyed.{entry, word, gram}
-use Rattle.dict_older_sql.specs.Texts.{select_text}
+use Rattle.dict_tables.specs.Keyed.{entry_with_keys, word, gram}
+use Rattle.dict_older_sql.specs.Texts.{keyed_select_text}
 use Rattle.dict_tables.specs.declared.keyed.KeyedTable.TheVariants as keyed
 
 abbrev pub of_column : Carried
@@ -33,9 +33,9 @@ test_edition = op2 (by.Compare compare.Eq Binary) (col 1 1) (col 0 0) ∷ []
 
 unfoldable pub read_of_entry : Parsed
 unfolding everything
-read_of_entry = parsed_or (first (select_text keyed.Entry))
+read_of_entry = parsed_or (first (keyed_select_text keyed.Entry))
 
-pub reads_of_entry : ReadsTable (select_text keyed.Entry) read_of_entry entry (Some (equals_expr (codes "edition"))) test_edition 99996 (sort_by (codes "3") ∷ []) (key_at 2 ∷ []) (2 ∷ []) 99994 of_column
+pub reads_of_entry : ReadsTable (keyed_select_text keyed.Entry) read_of_entry entry_with_keys (Some (equals_expr (codes "edition"))) test_edition 99996 (sort_by (codes "3") ∷ []) (key_at 2 ∷ []) (2 ∷ []) 99994 of_column
 unfolding everything read_of_entry rowid_expr rowid_shown all_shown source_of core_of select_of sort_by column_expr parameter_expr equals_expr
 reads_of_entry = record {
   read = refl;
@@ -45,7 +45,7 @@ reads_of_entry = record {
   no_rowid = λ tree. refl;
   few = λ at tree. refl;
   some = λ at tree. refl;
-  tests = λ schema at tree is. tests_equals schema at (entry tree) is (codes "edition") 0 (needed (codes "edition") Integer) refl refl (outputs_of at (entry tree)) refl (rw is refl) 99999 refl refl refl;
+  tests = λ schema at tree is. tests_equals schema at (entry_with_keys tree) is (codes "edition") 0 (needed (codes "edition") Integer) refl refl (outputs_of at (entry_with_keys tree)) refl (rw is refl) 99999 refl refl refl;
   sorts = λ schema at tree. refl;
   shows = λ at tree params r. refl;
   keyed = λ tree params r. refl;
@@ -53,18 +53,18 @@ reads_of_entry = record {
   accepted = λ schema at tree alone low. rw (low, alone) refl;
 }
 
-pub takes_of_entry : Takes (select_text keyed.Entry) read_of_entry entry test_edition (key_at 2 ∷ []) a_number
+pub takes_of_entry : Takes (keyed_select_text keyed.Entry) read_of_entry entry_with_keys test_edition (key_at 2 ∷ []) a_number
 unfolding everything read_of_entry
 takes_of_entry = record { whole = lit≤ tt; names = λ x. refl; typed = λ schema at tree alone low x. rw (low, alone) refl }
 
-pub is_of_entry : (tree : ℕ) (n : ℤ) (row : Row) → passes (Int n ∷ []) test_edition row ≡ equals_number 1 n (shown (entry tree) row)
+pub is_of_entry : (tree : ℕ) (n : ℤ) (row : Row) → passes (Int n ∷ []) test_edition row ≡ equals_number 1 n (shown (entry_with_keys tree) row)
 is_of_entry tree n row = and_true _ ∙ equals_is (column row 1) n
 
 unfoldable pub read_of_word : Parsed
 unfolding everything
-read_of_word = parsed_or (first (select_text keyed.Word))
+read_of_word = parsed_or (first (keyed_select_text keyed.Word))
 
-pub reads_of_word : ReadsTable (select_text keyed.Word) read_of_word word (Some (equals_expr (codes "edition"))) test_edition 99996 (sort_by (codes "3") ∷ sort_by (codes "4") ∷ []) (key_at 2 ∷ key_at 3 ∷ []) (2 ∷ 3 ∷ []) 99992 of_column
+pub reads_of_word : ReadsTable (keyed_select_text keyed.Word) read_of_word word (Some (equals_expr (codes "edition"))) test_edition 99996 (sort_by (codes "3") ∷ sort_by (codes "4") ∷ []) (key_at 2 ∷ key_at 3 ∷ []) (2 ∷ 3 ∷ []) 99992 of_column
 unfolding everything read_of_word rowid_expr rowid_shown all_shown source_of core_of select_of sort_by column_expr parameter_expr equals_expr
 reads_of_word = record {
   read = refl;
@@ -82,7 +82,7 @@ reads_of_word = record {
   accepted = λ schema at tree alone low. rw (low, alone) refl;
 }
 
-pub takes_of_word : Takes (select_text keyed.Word) read_of_word word test_edition (key_at 2 ∷ key_at 3 ∷ []) a_number
+pub takes_of_word : Takes (keyed_select_text keyed.Word) read_of_word word test_edition (key_at 2 ∷ key_at 3 ∷ []) a_number
 unfolding everything read_of_word
 takes_of_word = record { whole = lit≤ tt; names = λ x. refl; typed = λ schema at tree alone low x. rw (low, alone) refl }
 
@@ -91,9 +91,9 @@ is_of_word tree n row = and_true _ ∙ equals_is (column row 1) n
 
 unfoldable pub read_of_gram : Parsed
 unfolding everything
-read_of_gram = parsed_or (first (select_text keyed.Gram))
+read_of_gram = parsed_or (first (keyed_select_text keyed.Gram))
 
-pub reads_of_gram : ReadsTable (select_text keyed.Gram) read_of_gram gram (Some (equals_expr (codes "edition"))) test_edition 99996 (sort_by (codes "3") ∷ sort_by (codes "4") ∷ []) (key_at 2 ∷ key_at 3 ∷ []) (2 ∷ 3 ∷ []) 99992 of_column
+pub reads_of_gram : ReadsTable (keyed_select_text keyed.Gram) read_of_gram gram (Some (equals_expr (codes "edition"))) test_edition 99996 (sort_by (codes "3") ∷ sort_by (codes "4") ∷ []) (key_at 2 ∷ key_at 3 ∷ []) (2 ∷ 3 ∷ []) 99992 of_column
 unfolding everything read_of_gram rowid_expr rowid_shown all_shown source_of core_of select_of sort_by column_expr parameter_expr equals_expr
 reads_of_gram = record {
   read = refl;
@@ -111,7 +111,7 @@ reads_of_gram = record {
   accepted = λ schema at tree alone low. rw (low, alone) refl;
 }
 
-pub takes_of_gram : Takes (select_text keyed.Gram) read_of_gram gram test_edition (key_at 2 ∷ key_at 3 ∷ []) a_number
+pub takes_of_gram : Takes (keyed_select_text keyed.Gram) read_of_gram gram test_edition (key_at 2 ∷ key_at 3 ∷ []) a_number
 unfolding everything read_of_gram
 takes_of_gram = record { whole = lit≤ tt; names = λ x. refl; typed = λ schema at tree alone low x. rw (low, alone) refl }
 

@@ -5,15 +5,15 @@ ghost use Rattle.sqlite.specs.State.{HasCleanDisk, Survives};
 ghost use Rattle.sqlite.specs.Held.{state};
 ghost use Rattle.dict_sql.specs.Effects.{Has, WhileOpen};
 ghost use Rattle.dict_sql.specs.Drops.{Drops, FailsToDrop};
-ghost use Rattle.dict_tables.specs.Keyed.{table_of};
-ghost use Rattle.dict_older_sql.specs.Texts.{drop_text};
+ghost use Rattle.dict_tables.specs.Keyed.{keyed_table_of};
+ghost use Rattle.dict_older_sql.specs.Texts.{keyed_drop_text};
 
 use dict_sql::transaction::OpenTransaction;
 use dict_tables::KeyedTable;
 use sqlite::{Alter, Error};
 
 fn text_of(table: KeyedTable) -> &'static str
-    ensures { result.now ≡ drop_text table }
+    ensures { result.now ≡ keyed_drop_text table }
 {
     match table {
         KeyedTable::Entry => "DROP TABLE entry",
@@ -27,10 +27,10 @@ pub fn drop_keyed_table<S: Alter, T: OpenTransaction<S>>(
     tx: &mut T,
     table: KeyedTable,
 ) -> Result<usize, Error>
-    requires { WhileOpen (state S.Store (T.held tx.old)) (Has (table_of table)) }
+    requires { WhileOpen (state S.Store (T.held tx.old)) (Has (keyed_table_of table)) }
     ensures same_reference { T.reference tx.new ≡ T.reference tx.old }
-    ensures dropped { HasCleanDisk (state S.Store (T.held tx.new)) → OnOk result (Drops (table_of table 0).name (state S.Store (T.held tx.old)) (state S.Store (T.held tx.new))) }
-    ensures failed { HasCleanDisk (state S.Store (T.held tx.new)) → IfErr result (FailsToDrop (table_of table 0).name (state S.Store (T.held tx.old)) (state S.Store (T.held tx.new))) }
+    ensures dropped { HasCleanDisk (state S.Store (T.held tx.new)) → OnOk result (Drops (keyed_table_of table 0).name (state S.Store (T.held tx.old)) (state S.Store (T.held tx.new))) }
+    ensures failed { HasCleanDisk (state S.Store (T.held tx.new)) → IfErr result (FailsToDrop (keyed_table_of table 0).name (state S.Store (T.held tx.old)) (state S.Store (T.held tx.new))) }
     ensures survives { Survives (state S.Store (T.held tx.old)) (state S.Store (T.held tx.new)) (λ _. ⊥) }
 {
     tx.execute(text_of(table), &[])

@@ -10,7 +10,7 @@ ghost use Rattle.dict_sql.specs.Effects.{Has, WhileOpen, equals_number, rows_of}
 ghost use Rattle.dict_sql.specs.Encodings.{stored_edition};
 ghost use Rattle.dict_sql.specs.Reads.{Selects, FailsToRead, FailsToList};
 
-use dict_records::{Edition, Stored};
+use dict_records::{EditionRecord, StoredRow};
 use dict_sql::drop::drop_table;
 use dict_sql::read::records_of;
 use dict_sql::records::ReadError;
@@ -37,7 +37,7 @@ pub fn editions_inside<S: Alter, T: OpenTransaction<S>>(
     alloc: Global,
     tx: &mut T,
     number: i64,
-) -> Result<Vec<Stored<Edition<String, Vec<u8>>>>, ReadError>
+) -> Result<Vec<StoredRow<EditionRecord<String, Vec<u8>>>>, ReadError>
     requires { WhileOpen (state S.Store (T.held tx.old)) (Has edition_table) }
     ensures same_reference { T.reference tx.new ≡ T.reference tx.old }
     ensures selected { HasCleanDisk (state S.Store (T.held tx.new)) → IfOk result (λ all. Selects (codes "edition") (equals_number 1 number) (1 ∷ []) (state S.Store (T.held tx.old)) (state S.Store (T.held tx.new)) (map stored_edition all.items)) }

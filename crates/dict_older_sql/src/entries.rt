@@ -5,7 +5,7 @@ ghost use Rattle.sqlite.specs.State.{HasCleanDisk, Survives};
 ghost use Rattle.sqlite.specs.Held.{state};
 ghost use Rattle.dict_sql.specs.Drops.{Drops, FailsToDrop};
 ghost use Rattle.dict_sql.specs.Effects.{Has, WhileOpen};
-ghost use Rattle.dict_older_sql.specs.Entries.{entry_of};
+ghost use Rattle.dict_older_sql.specs.Entries.{entry_table_of};
 
 use dict_sql::transaction::OpenTransaction;
 use sqlite::{Alter, Error};
@@ -26,7 +26,7 @@ pub fn drop_entry<S: Alter, T: OpenTransaction<S>>(
     tx: &mut T,
     _form: EntryForm,
 ) -> Result<usize, Error>
-    requires { WhileOpen (state S.Store (T.held tx.old)) (Has (entry_of _form)) }
+    requires { WhileOpen (state S.Store (T.held tx.old)) (Has (entry_table_of _form)) }
     ensures same_reference { T.reference tx.new ≡ T.reference tx.old }
     ensures dropped { HasCleanDisk (state S.Store (T.held tx.new)) → OnOk result (Drops (codes "entry") (state S.Store (T.held tx.old)) (state S.Store (T.held tx.new))) }
     ensures failed { HasCleanDisk (state S.Store (T.held tx.new)) → IfErr result (FailsToDrop (codes "entry") (state S.Store (T.held tx.old)) (state S.Store (T.held tx.new))) }

@@ -4,7 +4,7 @@ ghost use Rattle.std.specs.Prelude.{true, ◌≡◌, ◌∷◌, [], codes, IsTru
 ghost use Rattle.sqlite.specs.Kind.TheVariants.{Integer, Text, Blob};
 ghost use Rattle.dict_tables.specs.Found.{HasOwn};
 ghost use Rattle.dict_tables.specs.Tables.{column_of};
-ghost use Rattle.dict_tables.specs.Keyed.{entry, word, gram, table_of};
+ghost use Rattle.dict_tables.specs.Keyed.{entry_with_keys, word, gram, keyed_table_of};
 
 use dict_tables::{
     KeyedTable, find_table, is_column, is_only_key, is_only_plain_order, is_plain, is_unshared,
@@ -27,7 +27,7 @@ fn are_interval_columns(columns: &[Column]) -> bool
 }
 
 fn are_entry_columns(columns: &[Column]) -> bool
-    ensures { IsTrue result ↔ columns.now ≡ (entry 0).columns }
+    ensures { IsTrue result ↔ columns.now ≡ (entry_with_keys 0).columns }
 {
     match columns {
         [edition, ord, headword, rest @ ..] => {
@@ -41,7 +41,7 @@ fn are_entry_columns(columns: &[Column]) -> bool
 }
 
 fn are_entry_keys(t: &Table) -> bool
-    ensures { IsTrue result ↔ (t.now.key ≡ (entry 0).key) × (t.now.primary ≡ (entry 0).primary) × (t.now.uniques ≡ (entry 0).uniques) × (t.now.orders ≡ (entry 0).orders) }
+    ensures { IsTrue result ↔ (t.now.key ≡ (entry_with_keys 0).key) × (t.now.primary ≡ (entry_with_keys 0).primary) × (t.now.uniques ≡ (entry_with_keys 0).uniques) × (t.now.orders ≡ (entry_with_keys 0).orders) }
 {
     t.key.is_none()
         && t.primary.as_slice() == [1, 2].as_slice()
@@ -50,7 +50,7 @@ fn are_entry_keys(t: &Table) -> bool
 }
 
 fn is_entry(t: &Table) -> bool
-    ensures { IsTrue result ↔ t.now ≡ entry t.now.tree }
+    ensures { IsTrue result ↔ t.now ≡ entry_with_keys t.now.tree }
 {
     t.name.as_slice() == b"entry".as_slice()
         && are_entry_columns(t.columns.as_slice())
@@ -100,7 +100,7 @@ fn is_gram(t: &Table) -> bool
 
 // Whether a table that is found is this one but for its tree.
 fn is_defined_as(found: &Table, table: KeyedTable) -> bool
-    ensures { IsTrue result ↔ found.now ≡ table_of table found.now.tree }
+    ensures { IsTrue result ↔ found.now ≡ keyed_table_of table found.now.tree }
 {
     match table {
         KeyedTable::Entry => is_entry(found),
@@ -111,7 +111,7 @@ fn is_defined_as(found: &Table, table: KeyedTable) -> bool
 
 /// Whether the schema has the table exactly as it is defined here, in a tree that no other table shares, with no foreign key that refers to it and no further unique index.
 pub fn has_keyed_table(schema: &Schema, table: KeyedTable) -> bool
-    ensures { IsTrue result ↔ HasOwn schema.now (table_of table) }
+    ensures { IsTrue result ↔ HasOwn schema.now (keyed_table_of table) }
 {
     match find_table(schema, table.name().as_bytes()) {
         Some(found) => is_defined_as(found, table) && is_unshared(schema, found),

@@ -9,7 +9,7 @@ ghost use Rattle.dict_sql.specs.Columns.{entry_columns};
 ghost use Rattle.dict_sql.specs.Encodings.{stored_entry};
 ghost use Rattle.dict_sql.specs.Reads.{Selects, FailsToRead, FailsToList};
 
-use dict_records::{Entry, Stored};
+use dict_records::{EntryRecord, StoredRow};
 use dict_sql::read::records_of;
 use dict_sql::records::ReadError;
 use dict_sql::transaction::OpenTransaction;
@@ -34,7 +34,7 @@ pub fn entries_inside<S: Alter, T: OpenTransaction<S>>(
     alloc: Global,
     tx: &mut T,
     edition: i64,
-) -> Result<Vec<Stored<Entry<String>>>, ReadError>
+) -> Result<Vec<StoredRow<EntryRecord<String>>>, ReadError>
     requires { WhileOpen (state S.Store (T.held tx.old)) (Has entry) }
     ensures same_reference { T.reference tx.new ≡ T.reference tx.old }
     ensures selected { HasCleanDisk (state S.Store (T.held tx.new)) → IfOk result (λ all. Selects (codes "entry") (equals_number 1 edition) (2 ∷ []) (state S.Store (T.held tx.old)) (state S.Store (T.held tx.new)) (map stored_entry all.items)) }

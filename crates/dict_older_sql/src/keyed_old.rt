@@ -11,8 +11,8 @@ ghost use Rattle.dict_sql.specs.Streams.{IsNotBegun};
 ghost use Rattle.dict_tables.specs.Found.{HasOwn};
 ghost use Rattle.dict_tables.specs.Tables.{column_of};
 ghost use Rattle.dict_tables.specs.Keyed.{old_entry};
-ghost use Rattle.dict_older_sql.specs.Scans.{HasGiven};
-ghost use Rattle.dict_older_sql.specs.Scans.Scan.{OldByRowid, OldOf};
+ghost use Rattle.dict_older_sql.specs.Scans.{HasGivenOlder};
+ghost use Rattle.dict_older_sql.specs.Scans.OlderScan.{OldByRowid, OldOf};
 
 use dict_tables::{find_table, is_column, is_only_key, is_only_plain_order, is_plain, is_unshared};
 use sqlite::{Alter, Connection, Error, Rows, params};
@@ -81,7 +81,7 @@ pub fn read_old_by_rowid<S: Alter>(conn: &mut Connection<S>) -> Result<Rows<'_, 
     requires { WhileOpen (state S.Store conn.old) (Has old_entry) }
     ensures* refused { sem 𝓛 (RestsIfErr (the_row S.row S.Store) conn.entry (λ rows. rows.conn.ghost_name) result (IsNotBegun S.Store conn.old result)) }
     ensures same_reference { IfOk result (λ rows. rows.conn.ghost_name ≡ conn.entry.ghost_name) }
-    ensures begun { IfOk result (λ rows. HasCleanDisk (state S.Store rows.conn.now) → HasGiven S.Store OldByRowid rows.conn.now [] × IsUnchanged (state S.Store conn.old) (state S.Store rows.conn.now)) }
+    ensures begun { IfOk result (λ rows. HasCleanDisk (state S.Store rows.conn.now) → HasGivenOlder S.Store OldByRowid rows.conn.now [] × IsUnchanged (state S.Store conn.old) (state S.Store rows.conn.now)) }
     ensures mode { IfOk result (λ rows. conn.old.in_transaction ≡ false → rows.conn.now.in_transaction ≡ false) }
     ensures survives { IfOk result (λ rows. Survives (state S.Store conn.old) (state S.Store rows.conn.now) (λ _. ⊥)) }
 {
@@ -98,7 +98,7 @@ pub fn read_old_rows_of<S: Alter>(
     requires { WhileOpen (state S.Store conn.old) (Has old_entry) }
     ensures* refused { sem 𝓛 (RestsIfErr (the_row S.row S.Store) conn.entry (λ rows. rows.conn.ghost_name) result (IsNotBegun S.Store conn.old result)) }
     ensures same_reference { IfOk result (λ rows. rows.conn.ghost_name ≡ conn.entry.ghost_name) }
-    ensures begun { IfOk result (λ rows. HasCleanDisk (state S.Store rows.conn.now) → HasGiven S.Store (OldOf edition) rows.conn.now [] × IsUnchanged (state S.Store conn.old) (state S.Store rows.conn.now)) }
+    ensures begun { IfOk result (λ rows. HasCleanDisk (state S.Store rows.conn.now) → HasGivenOlder S.Store (OldOf edition) rows.conn.now [] × IsUnchanged (state S.Store conn.old) (state S.Store rows.conn.now)) }
     ensures mode { IfOk result (λ rows. conn.old.in_transaction ≡ false → rows.conn.now.in_transaction ≡ false) }
     ensures survives { IfOk result (λ rows. Survives (state S.Store conn.old) (state S.Store rows.conn.now) (λ _. ⊥)) }
 {

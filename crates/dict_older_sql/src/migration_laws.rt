@@ -13,17 +13,17 @@ ghost use Rattle.dict_tables.specs.Found.{HasOwn};
 ghost use Rattle.dict_tables.specs.Room.{LeavesRoom};
 ghost use Rattle.dict_sql.specs.Drops.{IsDropped};
 ghost use Rattle.dict_tables.specs.OwnNames.{is_own_name};
-ghost use Rattle.dict_older_sql.specs.Entries.{entry_of};
+ghost use Rattle.dict_older_sql.specs.Entries.{entry_table_of};
 ghost use Rattle.dict_older_sql.specs.declared.entries.EntryForm.{EntryForm};
 
 /// Each form of `entry` is defined for whichever tree it is made in, so that the laws of what is made and dropped hold of it.
 pub fn old_definition_laws()
-    ensures forms { (form : EntryForm) → IsDefinition (entry_of form) }
+    ensures forms { (form : EntryForm) → IsDefinition (entry_table_of form) }
 {}
 
 /// All forms take the same names, so that one can be made where another was dropped.
 pub fn form_law()
-    ensures { (form other : EntryForm) → names_of (entry_of form 0) ≡ names_of (entry_of other 0) }
+    ensures { (form other : EntryForm) → names_of (entry_table_of form 0) ≡ names_of (entry_table_of other 0) }
 {}
 
 /// In a sound database a name is that of one table, index or view at most, and a table's keys have their indexes. So a dropped table frees its own names and no others: a table that takes the names of its definition can be made again, whatever its columns.

@@ -8,7 +8,7 @@ ghost use Rattle.dict_sql.specs.Effects.{Has, WhileOpen, equals_number, rows_of}
 ghost use Rattle.dict_sql.specs.Keyed.{old_entry_columns, stored_old_entry};
 ghost use Rattle.dict_sql.specs.Reads.{Selects, FailsToRead, FailsToList};
 
-use dict_records::{OldEntry, Stored};
+use dict_records::{OldEntry, StoredRow};
 use dict_sql::read::records_of;
 use dict_sql::records::ReadError;
 use dict_sql::transaction::OpenTransaction;
@@ -33,7 +33,7 @@ pub fn old_entries_inside<S: Alter, T: OpenTransaction<S>>(
     alloc: Global,
     tx: &mut T,
     edition: i64,
-) -> Result<Vec<Stored<OldEntry<String, Vec<u8>>>>, ReadError>
+) -> Result<Vec<StoredRow<OldEntry<String, Vec<u8>>>>, ReadError>
     requires { WhileOpen (state S.Store (T.held tx.old)) (Has old_entry) }
     ensures same_reference { T.reference tx.new ≡ T.reference tx.old }
     ensures selected { HasCleanDisk (state S.Store (T.held tx.new)) → IfOk result (λ all. Selects (codes "entry") (equals_number 1 edition) (2 ∷ []) (state S.Store (T.held tx.old)) (state S.Store (T.held tx.new)) (map stored_old_entry all.items)) }

@@ -9,16 +9,16 @@ ghost use Rattle.sqlite.specs.Held.{state};
 ghost use Rattle.sqlite.specs.contracts.connection.Connection.{the_row};
 ghost use Rattle.dict_sql.specs.Effects.{Has, WhileOpen};
 ghost use Rattle.dict_sql.specs.Streams.{IsNotBegun};
-ghost use Rattle.dict_tables.specs.Keyed.{table_of};
-ghost use Rattle.dict_older_sql.specs.Texts.{rowid_text, select_text};
-ghost use Rattle.dict_older_sql.specs.Scans.{HasGiven};
-ghost use Rattle.dict_older_sql.specs.Scans.Scan.{ByRowid, Of};
+ghost use Rattle.dict_tables.specs.Keyed.{keyed_table_of};
+ghost use Rattle.dict_older_sql.specs.Texts.{keyed_rowid_text, keyed_select_text};
+ghost use Rattle.dict_older_sql.specs.Scans.{HasGivenOlder};
+ghost use Rattle.dict_older_sql.specs.Scans.OlderScan.{ByRowid, Of};
 
 use dict_tables::KeyedTable;
 use sqlite::{Alter, Connection, Error, Rows, params};
 
 fn rowid_text(table: KeyedTable) -> &'static str
-    ensures { result.now ≡ rowid_text table }
+    ensures { result.now ≡ keyed_rowid_text table }
 {
     match table {
         KeyedTable::Entry => "SELECT rowid, * FROM entry ORDER BY 1",
@@ -28,7 +28,7 @@ fn rowid_text(table: KeyedTable) -> &'static str
 }
 
 fn select_text(table: KeyedTable) -> &'static str
-    ensures { result.now ≡ select_text table }
+    ensures { result.now ≡ keyed_select_text table }
 {
     match table {
         KeyedTable::Entry => "SELECT rowid, * FROM entry WHERE edition = ?1 ORDER BY 3",
@@ -44,10 +44,10 @@ pub fn read_by_rowid<S: Alter>(
     conn: &mut Connection<S>,
     table: KeyedTable,
 ) -> Result<Rows<'_, S>, Error>
-    requires { WhileOpen (state S.Store conn.old) (Has (table_of table)) }
+    requires { WhileOpen (state S.Store conn.old) (Has (keyed_table_of table)) }
     ensures* refused { sem 𝓛 (RestsIfErr (the_row S.row S.Store) conn.entry (λ rows. rows.conn.ghost_name) result (IsNotBegun S.Store conn.old result)) }
     ensures same_reference { IfOk result (λ rows. rows.conn.ghost_name ≡ conn.entry.ghost_name) }
-    ensures begun { IfOk result (λ rows. HasCleanDisk (state S.Store rows.conn.now) → HasGiven S.Store (ByRowid table) rows.conn.now [] × IsUnchanged (state S.Store conn.old) (state S.Store rows.conn.now)) }
+    ensures begun { IfOk result (λ rows. HasCleanDisk (state S.Store rows.conn.now) → HasGivenOlder S.Store (ByRowid table) rows.conn.now [] × IsUnchanged (state S.Store conn.old) (state S.Store rows.conn.now)) }
     ensures mode { IfOk result (λ rows. conn.old.in_transaction ≡ false → rows.conn.now.in_transaction ≡ false) }
     ensures survives { IfOk result (λ rows. Survives (state S.Store conn.old) (state S.Store rows.conn.now) (λ _. ⊥)) }
 {
@@ -62,10 +62,10 @@ pub fn read_rows_of<S: Alter>(
     table: KeyedTable,
     edition: i64,
 ) -> Result<Rows<'_, S>, Error>
-    requires { WhileOpen (state S.Store conn.old) (Has (table_of table)) }
+    requires { WhileOpen (state S.Store conn.old) (Has (keyed_table_of table)) }
     ensures* refused { sem 𝓛 (RestsIfErr (the_row S.row S.Store) conn.entry (λ rows. rows.conn.ghost_name) result (IsNotBegun S.Store conn.old result)) }
     ensures same_reference { IfOk result (λ rows. rows.conn.ghost_name ≡ conn.entry.ghost_name) }
-    ensures begun { IfOk result (λ rows. HasCleanDisk (state S.Store rows.conn.now) → HasGiven S.Store (Of table edition) rows.conn.now [] × IsUnchanged (state S.Store conn.old) (state S.Store rows.conn.now)) }
+    ensures begun { IfOk result (λ rows. HasCleanDisk (state S.Store rows.conn.now) → HasGivenOlder S.Store (Of table edition) rows.conn.now [] × IsUnchanged (state S.Store conn.old) (state S.Store rows.conn.now)) }
     ensures mode { IfOk result (λ rows. conn.old.in_transaction ≡ false → rows.conn.now.in_transaction ≡ false) }
     ensures survives { IfOk result (λ rows. Survives (state S.Store conn.old) (state S.Store rows.conn.now) (λ _. ⊥)) }
 {

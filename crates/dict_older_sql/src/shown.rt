@@ -3,12 +3,12 @@
 ghost use Rattle.std.specs.Prelude.{◌≡◌, ◌∷◌, [], filter, map, codes, IfOk, IfErr};
 ghost use Rattle.sqlite.specs.State.{HasCleanDisk, Survives};
 ghost use Rattle.sqlite.specs.Held.{state};
-ghost use Rattle.dict_tables.specs.Keyed.{entry as shown_entry};
+ghost use Rattle.dict_tables.specs.Keyed.{entry_with_keys as shown_entry};
 ghost use Rattle.dict_sql.specs.Effects.{Has, WhileOpen, equals_number, rows_of};
 ghost use Rattle.dict_sql.specs.Keyed.{keyed_entry_columns, stored_keyed_entry};
 ghost use Rattle.dict_sql.specs.Reads.{Selects, FailsToRead, FailsToList};
 
-use dict_records::{KeyedEntry, Stored};
+use dict_records::{KeyedEntry, StoredRow};
 use dict_sql::read::records_of;
 use dict_sql::records::ReadError;
 use dict_sql::transaction::OpenTransaction;
@@ -33,7 +33,7 @@ pub fn shown_entries_inside<S: Alter, T: OpenTransaction<S>>(
     alloc: Global,
     tx: &mut T,
     edition: i64,
-) -> Result<Vec<Stored<KeyedEntry<String, Vec<u8>>>>, ReadError>
+) -> Result<Vec<StoredRow<KeyedEntry<String, Vec<u8>>>>, ReadError>
     requires { WhileOpen (state S.Store (T.held tx.old)) (Has shown_entry) }
     ensures same_reference { T.reference tx.new ≡ T.reference tx.old }
     ensures selected { HasCleanDisk (state S.Store (T.held tx.new)) → IfOk result (λ all. Selects (codes "entry") (equals_number 1 edition) (2 ∷ []) (state S.Store (T.held tx.old)) (state S.Store (T.held tx.new)) (map stored_keyed_entry all.items)) }

@@ -24,7 +24,7 @@ use Rattle.dict_catalogue.proofs.ListLemmas.{sum_append}
 use Rattle.dict_rows.specs.Given.{kept_given}
 use Rattle.dict_rows.specs.Stands.{Stands, HoldsMembers, HoldsEdition, HoldsEditions, has_number}
 use Rattle.dict_rows.specs.Tables.{Tables, same_number, editions_numbered, entries_of}
-use Rattle.dict_rows.specs.Taken.{BeginsWith, GoesOn}
+use Rattle.dict_rows.specs.Taken.{BeginsWith, GoesOnFrom}
 use Rattle.dict_rows.specs.Versions.{Layout, Plain, Keyed, Shown, Parted, layout_of}
 use Rattle.dict_rows.specs.Whole.{with_replies}
 use Rattle.dict_rows.specs.declared.reader.Reader.{Reader}
@@ -34,14 +34,14 @@ use Rattle.dict_rows.proofs.TakenLemmas.{holds_same, same_number_is, same_itself
 use Rattle.dict_holdings.specs.AllTables.{with_derived}
 use Rattle.dict_holdings.specs.Files.{entry_line, index_octets}
 use Rattle.dict_holdings.specs.Holds.{Keeps}
-use Rattle.dict_holdings.specs.Readings.{AreShownIn, editions, contents, name_of}
+use Rattle.dict_holdings.specs.Readings.{AreShownIn, editions, contents, table_name_of}
 use Rattle.dict_holdings.proofs.ReadingLemmas.{map_twice, editions_kept, headers_kept, replies_kept}
 use Rattle.dict_scans.specs.Census.{one_of, is_of_contents}
-use Rattle.dict_scans.specs.Entries.{behind, entry_cells}
+use Rattle.dict_scans.specs.Entries.{looked_behind_rowid, entry_cells}
 use Rattle.dict_scans.specs.Files.{HasFile}
 use Rattle.dict_scans.specs.Takers.{KeptRow}
 use Rattle.dict_scans.proofs.CodecLemmas.{Codec, edition_codec, header_codec, kept_codec}
-use Rattle.dict_opening.specs.Opens.{Keeping, KeepsNone, Fits, HasBegun, HasNamed, HasRows, HasAllRows, AreAllKnown, HasReplies, HasAll, numbers_in}
+use Rattle.dict_opening.specs.Opens.{Keeping, KeepsNone, AllGoOnFrom, HasBegun, HasNamed, HasRows, HasAllRows, AreAllKnown, HasReplies, HasAll, numbers_in}
 use Rattle.dict_opening.proofs.EntryLemmas.{HasEntryTable, entries_rows, entries_both}
 use Rattle.dict_opening.proofs.FileLemmas.{has_index, headers_of, index_is}
 use Rattle.dict_opening.proofs.FitLemmas.{fits_replies}
@@ -51,13 +51,13 @@ use Rattle.dict_opening.proofs.WrongLemmas.{rows_listed}
 -- ---- no strays, so what was read of the editions of the items is all
 
 -- more replies change nothing of editions and of entries
-editions_still : (layout : Layout) (db : Database) (t : Tables) (kept : List spec.Kept) → HasRows db t (editions layout) → HasRows db (record t { kept = kept }) (editions layout)
+editions_still : (layout : Layout) (db : Database) (t : Tables) (kept : List spec.KeptRecord) → HasRows db t (editions layout) → HasRows db (record t { kept = kept }) (editions layout)
 editions_still Plain db t kept h = h
 editions_still Keyed db t kept h = h
 editions_still Shown db t kept h = h
 editions_still Parted db t kept h = h
 
-contents_still : (layout : Layout) (db : Database) (t : Tables) (kept : List spec.Kept) → HasRows db t (contents layout) → HasRows db (record t { kept = kept }) (contents layout)
+contents_still : (layout : Layout) (db : Database) (t : Tables) (kept : List spec.KeptRecord) → HasRows db t (contents layout) → HasRows db (record t { kept = kept }) (contents layout)
 contents_still Plain db t kept h = h
 contents_still Keyed db t kept h = h
 contents_still Shown db t kept h = h
@@ -72,11 +72,11 @@ module _ (version : ℕ) (db : Database) (reader : Reader) (front taken : Tables
 
   editions_all : HasRows db taken (editions layout)
   editions_all =
-      subst (λ rows. IsPermutation ((editions layout).rows (with_derived taken)) (map (λ row. drop 1 ((editions layout).looked row)) rows)) (filter_whole (one_of numbers) (rows_of (name_of (editions layout)) db) all.editions.known) named.editions_are
+      subst (λ rows. IsPermutation ((editions layout).rows (with_derived taken)) (map (λ row. drop 1 ((editions layout).looked row)) rows)) (filter_whole (one_of numbers) (rows_of (table_name_of (editions layout)) db) all.editions.known) named.editions_are
 
   contents_all : HasRows db taken (contents layout)
   contents_all =
-      subst (λ rows. IsPermutation ((contents layout).rows (with_derived taken)) (map (λ row. drop 1 ((contents layout).looked row)) rows)) (filter_whole (is_of_contents layout numbers) (rows_of (name_of (contents layout)) db) all.contents.known) named.contents_are
+      subst (λ rows. IsPermutation ((contents layout).rows (with_derived taken)) (map (λ row. drop 1 ((contents layout).looked row)) rows)) (filter_whole (is_of_contents layout numbers) (rows_of (table_name_of (contents layout)) db) all.contents.known) named.contents_are
 
   module _ (begun : HasBegun version db front) (after : Tables) (replies : HasReplies db taken after) where
     none_yet : taken.kept ≡ []
@@ -113,7 +113,7 @@ module _ (version : ℕ) (db : Database) (reader : Reader) (front taken : Tables
         kept = (taken.kept ++ kept_given given, sym (ap (λ l. l ++ (taken.kept ++ kept_given given)) begun.no_kept));
       };
       fits = fits_replies version db taken named.fits none_yet given ([], subst (λ rows. IsListing (codes "kept") (2 ∷ []) db rows) (sym (append-nil (map stored_kept given))) replies.listing);
-      ids = subst (λ ks. IsEachOnce (map (λ (row : spec.Kept). row.id) ks)) (sym kept_is) replies.ids;
+      ids = subst (λ ks. IsEachOnce (map (λ (row : spec.KeptRecord). row.id) ks)) (sym kept_is) replies.ids;
       known = all;
     }
 
@@ -167,15 +167,15 @@ count_map f [] = refl
 count_map f (x ∷ xs) = let rest = count_map f xs in omega (arith, rest)
 
 -- an index has octets for each line
-no_octets : (es : List spec.Entry) → index_octets es ≡ [] → es ≡ []
+no_octets : (es : List spec.EntryRecord) → index_octets es ≡ [] → es ≡ []
 no_octets [] e = refl
 no_octets (x ∷ es) e = absurd (let size = ap length e in let line = length-append (stored_line (entry_line x) ++ 10 ∷ []) (index_octets es) in let own = length-append (stored_line (entry_line x)) (10 ∷ []) in omega (arith, size, line, own))
 
-index_append : (xs ys : List spec.Entry) → index_octets (xs ++ ys) ≡ index_octets xs ++ index_octets ys
+index_append : (xs ys : List spec.EntryRecord) → index_octets (xs ++ ys) ≡ index_octets xs ++ index_octets ys
 index_append xs ys = ap stored_index (map-append entry_line xs ys) ∙ flat_map-append (λ (said : Line). stored_line said ++ 10 ∷ []) (map entry_line xs) (map entry_line ys)
 
 -- so entries with the same index as the first of them are no more
-same_index : (xs ys : List spec.Entry) → BeginsWith xs ys → index_octets xs ≡ index_octets ys → xs ≡ ys
+same_index : (xs ys : List spec.EntryRecord) → BeginsWith xs ys → index_octets xs ≡ index_octets ys → xs ≡ ys
 same_index xs ys b e =
     let whole : index_octets xs ≡ index_octets ys ++ index_octets b.0 = ap index_octets b.1 ∙ index_append ys b.0 in
     let size = ap length whole ∙ length-append (index_octets ys) (index_octets b.0) in
@@ -192,12 +192,12 @@ record AreSame (T after : Tables) : Type 0 where
   editions : (n : ℤ) → editions_numbered n T.editions ≡ editions_numbered n after.editions
   entries : (n : ℤ) → entries_of n T.entries ≡ entries_of n after.entries
 
-module _ (version : ℕ) (db : Database) (T after : Tables) (M : Catalogue) (s : Stands version T M) (goes : GoesOn after T) where
+module _ (version : ℕ) (db : Database) (T after : Tables) (M : Catalogue) (s : Stands version T M) (goes : GoesOnFrom after T) where
   table_same : (layout : Layout) → HasEntryTable layout → KeptAs layout db T → AreShownIn layout after.entries → Keeps (codes "edition") edition_codec.encode db T.editions → IsPermutation (map edition_codec.encode after.editions) (map (drop 1) (rows_of (codes "edition") db))
-      → IsPermutation (map (entry_cells layout) after.entries) (map (behind layout) (rows_of (codes "entry") db)) → AreSame T after
+      → IsPermutation (map (entry_cells layout) after.entries) (map (looked_behind_rowid layout) (rows_of (codes "entry") db)) → AreSame T after
   table_same layout has k shown keeps rows cells =
       let editions = records_back edition_codec (codes "edition") db T.editions after.editions keeps rows in
-      let entries = entries_both layout T.entries after.entries (map (behind layout) (rows_of (codes "entry") db)) k.shown shown (entries_rows layout has db T k.keeps.1.1.1.1.1.0) cells in
+      let entries = entries_both layout T.entries after.entries (map (looked_behind_rowid layout) (rows_of (codes "entry") db)) k.shown shown (entries_rows layout has db T k.keeps.1.1.1.1.1.0) cells in
       record {
         editions = (λ n. nothing_more _ _ (goes.editions n) (same_passed (λ row. same_number row.number n) T.editions after.editions (same_from T.editions after.editions editions)));
         entries = (λ n. nothing_more _ _ (goes.entries n) (same_passed (λ row. same_number row.edition n) T.entries after.entries (same_from T.entries after.entries entries)));
@@ -216,12 +216,12 @@ module _ (version : ℕ) (db : Database) (T after : Tables) (M : Catalogue) (s :
       one n =
           let same : Same (map header_of (editions_numbered n T.editions)) (map header_of (editions_numbered n after.editions)) =
           subst (λ l. Same l (map header_of (editions_numbered n after.editions))) (headers_of n T.editions)
-          (subst (Same (filter (λ (h : spec.Header). same_number h.number n) (map header_of T.editions))) (headers_of n after.editions)
-          (same_passed (λ (h : spec.Header). same_number h.number n) (map header_of T.editions) (map header_of after.editions) (same_from (map header_of T.editions) (map header_of after.editions) headers))) in
+          (subst (Same (filter (λ (h : spec.HeaderRecord). same_number h.number n) (map header_of T.editions))) (headers_of n after.editions)
+          (same_passed (λ (h : spec.HeaderRecord). same_number h.number n) (map header_of T.editions) (map header_of after.editions) (same_from (map header_of T.editions) (map header_of after.editions) headers))) in
           as_many (editions_numbered n T.editions) (editions_numbered n after.editions) (goes.editions n)
           (sym (count_map header_of (editions_numbered n T.editions)) ∙ same.counts (λ h. true) ∙ count_map header_of (editions_numbered n after.editions))
 
-      unknown : (n : ℤ) → has_number M.items n ≡ false → (es : List spec.Entry) → AllByRecursion (λ (x : spec.Entry). IsTrue (has_number M.items x.edition)) es → entries_of n es ≡ []
+      unknown : (n : ℤ) → has_number M.items n ≡ false → (es : List spec.EntryRecord) → AllByRecursion (λ (x : spec.EntryRecord). IsTrue (has_number M.items x.edition)) es → entries_of n es ≡ []
       unknown n absent [] all = refl
       unknown n absent (x ∷ es) all = split (same_number x.edition n) refl (unknown n absent es all.1)
         where
@@ -229,7 +229,7 @@ module _ (version : ℕ) (db : Database) (T after : Tables) (M : Catalogue) (s :
           split true e rest = absurd (false≢true (sym absent ∙ subst (λ m. has_number M.items m ≡ true) (same_number_is x.edition n e) all.0))
           split false e rest = rest
 
-      nothing : (xs ys : List spec.Entry) → BeginsWith xs ys → xs ≡ [] → ys ≡ []
+      nothing : (xs ys : List spec.EntryRecord) → BeginsWith xs ys → xs ≡ [] → ys ≡ []
       nothing xs [] b e = refl
       nothing xs (y ∷ ys) b e = absurd (let some : y ∷ (ys ++ b.0) ≡ [] = sym b.1 ∙ e in cc)
 
@@ -250,7 +250,7 @@ module _ (version : ℕ) (db : Database) (T after : Tables) (M : Catalogue) (s :
   are_same Shown k shown rows cells = table_same Shown tt k shown (editions_kept Shown db T refl k.keeps) rows cells
   are_same Parted k shown rows cells = parted_same k rows cells
 
-module _ (version : ℕ) (db : Database) (after : Tables) (keeps : HasAllRows version db after) (shown : AreShownIn (layout_of version) after.entries) (fits : Fits version db after) where
+module _ (version : ℕ) (db : Database) (after : Tables) (keeps : HasAllRows version db after) (shown : AreShownIn (layout_of version) after.entries) (fits : AllGoOnFrom version db after) where
   stands_after : (T : Tables) (M : Catalogue) → Keeping version db after.members T M → Stands version after M
   stands_after T M K =
       let goes = fits T M K in
@@ -265,8 +265,8 @@ module _ (version : ℕ) (db : Database) (after : Tables) (keeps : HasAllRows ve
         owners = subst (AllByRecursion (λ (row : spec.Member). IsTrue (is_known M.items row.owner))) goes.members s.owners;
         editions = all_weaker (HoldsEditions T) (HoldsEditions after)
             (λ item g. all_weaker (HoldsEdition T (name_in item)) (HoldsEdition after (name_in item)) (λ stored h. holds_same T after (name_in item) stored (record { editions = sym (it.editions (pos stored.number)); entries = sym (it.entries (pos stored.number)) }) h) (editions_of item) g) M.items s.editions;
-        numbers = carried (λ (row : spec.Edition). row.number) (λ row. IsTrue (has_number M.items row.number)) T.editions after.editions it.editions s.numbers;
-        entries = carried (λ (row : spec.Entry). row.edition) (λ row. IsTrue (has_number M.items row.edition)) T.entries after.entries it.entries s.entries;
+        numbers = carried (λ (row : spec.EditionRecord). row.number) (λ row. IsTrue (has_number M.items row.number)) T.editions after.editions it.editions s.numbers;
+        entries = carried (λ (row : spec.EntryRecord). row.edition) (λ row. IsTrue (has_number M.items row.edition)) T.entries after.entries it.entries s.entries;
         kept = sym (nothing_more T.kept after.kept goes.kept (same_from T.kept after.kept kept)) ∙ s.kept;
       }
 

@@ -8,7 +8,7 @@ use Rattle.sqlite.specs.Effect.{Database}
 use Rattle.sqlite.specs.Order.{Row, column}
 use Rattle.sqlite.specs.declared.types.Value.TheVariants.{Int}
 use Rattle.dict_text.proofs.AllLemmas.{all_weaker}
-use Rattle.dict_records.specs.Records.{Edition, Header, Part, header_of}
+use Rattle.dict_records.specs.Records.{EditionRecord, HeaderRecord, Part, header_of}
 use Rattle.dict_index.specs.Line.{Line}
 use Rattle.dict_index.specs.Edition.{Edition as AnEdition, entry_in}
 use Rattle.dict_index.specs.WellFormed.{IsWellFormedEdition, IsWellFormedEntry}
@@ -86,7 +86,7 @@ text_under edition index text =
 
 -- ---- the files of an edition of which there is one record
 
-module _ (db : Database) (t : Tables) (keeps : IsPermutation (map part_row (all_parts t)) (map (drop 1) (rows_of (codes "dictcat_part") db))) (n : ℤ) (e : Edition) (one : editions_numbered n t.editions ≡ e ∷ []) (at : e.number ≡ n) where
+module _ (db : Database) (t : Tables) (keeps : IsPermutation (map part_row (all_parts t)) (map (drop 1) (rows_of (codes "dictcat_part") db))) (n : ℤ) (e : EditionRecord) (one : editions_numbered n t.editions ≡ e ∷ []) (at : e.number ≡ n) where
   of_file : (f : ℤ) → filter (part_test n f) (all_parts t) ≡ filter (λ (p : Part). same_number p.file f) (edition_parts t.entries e)
   of_file f =
       sym (filter_filter (λ (p : Part). same_number p.file f) (λ (p : Part). same_number p.edition n) (part_test n f) (λ p. refl) (all_parts t))
@@ -105,8 +105,8 @@ module _ (db : Database) (t : Tables) (keeps : IsPermutation (map part_row (all_
 
 -- ---- headers
 
-pub headers_of : (number : ℤ) (es : List Edition) → filter (λ (h : Header). same_number h.number number) (map header_of es) ≡ map header_of (editions_numbered number es)
-headers_of number es = filter_map header_of (λ (e : Edition). same_number e.number number) (λ (h : Header). same_number h.number number) (λ e. refl) es
+pub headers_of : (number : ℤ) (es : List EditionRecord) → filter (λ (h : HeaderRecord). same_number h.number number) (map header_of es) ≡ map header_of (editions_numbered number es)
+headers_of number es = filter_map header_of (λ (e : EditionRecord). same_number e.number number) (λ (h : HeaderRecord). same_number h.number number) (λ e. refl) es
 
 -- ---- the lines of an edition that is held
 

@@ -19,12 +19,12 @@ use Rattle.dict_catalogue.specs.Steps.{Catalogue}
 use Rattle.dict_rows.specs.Tables.{Tables, same_number, editions_numbered, entries_of}
 use Rattle.dict_rows.specs.Written.{item_record}
 use Rattle.dict_rows.specs.Given.{marks_given, items_given, members_given, kept_given}
-use Rattle.dict_rows.specs.Taken.{BeginsWith, GoesOn, StandsForNone, begun, with_edition}
+use Rattle.dict_rows.specs.Taken.{BeginsWith, GoesOnFrom, StandsForNone, begun, with_edition}
 use Rattle.dict_rows.specs.Whole.{with_entries, with_replies}
 use Rattle.dict_rows.specs.Order.{InOrder}
 use Rattle.dict_rows.proofs.OrderLemmas.{Same, Below, same_from, ordered_once, one_once, numbered_rise, item_placed, kept_rise}
 use Rattle.dict_rows.proofs.TakenLemmas.{same_number_is, same_itself, filter_passes, filter_passes_not}
-use Rattle.dict_opening.specs.Opens.{Keeping, KeepsNone, Fits}
+use Rattle.dict_opening.specs.Opens.{Keeping, KeepsNone, AllGoOnFrom}
 use Rattle.dict_rows.specs.Versions.{layout_of}
 use Rattle.dict_holdings.proofs.ReadingLemmas.{marks_kept, items_kept, replies_kept}
 use Rattle.dict_scans.specs.Takers.{KeptRow}
@@ -33,11 +33,11 @@ use Rattle.dict_scans.proofs.NumberLemmas.{behind_column}
 
 -- ---- the entries of one number
 
-pub none_of : (n m : ℤ) → same_number n m ≡ false → (es : List spec.Entry) → AllByRecursion (λ (x : spec.Entry). x.edition ≡ n) es → entries_of m es ≡ []
+pub none_of : (n m : ℤ) → same_number n m ≡ false → (es : List spec.EntryRecord) → AllByRecursion (λ (x : spec.EntryRecord). x.edition ≡ n) es → entries_of m es ≡ []
 none_of n m k [] all = refl
 none_of n m k (e ∷ es) all = ap (λ b. cond b (e ∷ entries_of m es) (entries_of m es)) (ap (λ z. same_number z m) all.0 ∙ k) ∙ none_of n m k es all.1
 
-pub all_of : (n : ℤ) (es : List spec.Entry) → AllByRecursion (λ (x : spec.Entry). x.edition ≡ n) es → entries_of n es ≡ es
+pub all_of : (n : ℤ) (es : List spec.EntryRecord) → AllByRecursion (λ (x : spec.EntryRecord). x.edition ≡ n) es → entries_of n es ≡ es
 all_of n [] all = refl
 all_of n (e ∷ es) all = ap (λ b. cond b (e ∷ entries_of n es) (entries_of n es)) (ap (λ z. same_number z n) all.0 ∙ same_itself n) ∙ ap (λ l. e ∷ l) (all_of n es all.1)
 
@@ -60,16 +60,16 @@ module _ (version : ℕ) (db : Database) (members : List spec.Member) (T : Table
   pub items_read : (rows : List Row) → IsListing (codes "item") (1 ∷ []) db rows → T.items ≡ map (read item_codec) rows
   items_read rows l =
       let found = listed_records item_codec (codes "item") db T.items (items_kept (layout_of version) db T K.keeps) rows l.same in
-      let up = rows_order item_codec (1 ∷ []) (λ (a b : spec.Item). a.place ≤ℤ b.place) (λ r s w v e f h. column_le 1 r s [] [] w.place v.place (behind_is r (item_row w) 0 w.place e refl) (behind_is s (item_row v) 0 v.place f refl) h) rows found.1 l.sorted in
-      ordered_once (λ (row : spec.Item). row.place) T.items (map (read item_codec) rows) (same_from T.items (map (read item_codec) rows) found.0)
-      (subst (InOrder (λ (a b : spec.Item). Below a.place b.place)) (sym K.stands.items) (numbered_rise item_record (λ (row : spec.Item). row.place) item_placed 0 M.items)) up
+      let up = rows_order item_codec (1 ∷ []) (λ (a b : spec.ItemRecord). a.place ≤ℤ b.place) (λ r s w v e f h. column_le 1 r s [] [] w.place v.place (behind_is r (item_row w) 0 w.place e refl) (behind_is s (item_row v) 0 v.place f refl) h) rows found.1 l.sorted in
+      ordered_once (λ (row : spec.ItemRecord). row.place) T.items (map (read item_codec) rows) (same_from T.items (map (read item_codec) rows) found.0)
+      (subst (InOrder (λ (a b : spec.ItemRecord). Below a.place b.place)) (sym K.stands.items) (numbered_rise item_record (λ (row : spec.ItemRecord). row.place) item_placed 0 M.items)) up
 
   pub replies_read : (rows : List Row) → IsListing (codes "kept") (2 ∷ []) db rows → T.kept ≡ map (read kept_codec) rows
   replies_read rows l =
       let found = listed_records kept_codec (codes "kept") db T.kept (replies_kept (layout_of version) db T K.keeps) rows l.same in
-      let up = rows_order kept_codec (2 ∷ []) (λ (a b : spec.Kept). a.number ≤ℤ b.number) (λ r s w v e f h. column_le 2 r s [] [] w.number v.number (behind_is r (kept_row w) 1 w.number e refl) (behind_is s (kept_row v) 1 v.number f refl) h) rows found.1 l.sorted in
-      ordered_once (λ (row : spec.Kept). row.number) T.kept (map (read kept_codec) rows) (same_from T.kept (map (read kept_codec) rows) found.0)
-      (subst (InOrder (λ (a b : spec.Kept). Below a.number b.number)) (sym K.stands.kept) (kept_rise 1 M.kept K.stands.well_formed.numbered)) up
+      let up = rows_order kept_codec (2 ∷ []) (λ (a b : spec.KeptRecord). a.number ≤ℤ b.number) (λ r s w v e f h. column_le 2 r s [] [] w.number v.number (behind_is r (kept_row w) 1 w.number e refl) (behind_is s (kept_row v) 1 v.number f refl) h) rows found.1 l.sorted in
+      ordered_once (λ (row : spec.KeptRecord). row.number) T.kept (map (read kept_codec) rows) (same_from T.kept (map (read kept_codec) rows) found.0)
+      (subst (InOrder (λ (a b : spec.KeptRecord). Below a.number b.number)) (sym K.stands.kept) (kept_rise 1 M.kept K.stands.well_formed.numbered)) up
 
 -- a front of the rows, and the others
 pub front_read : {R W : Type 0} (k : Codec R W) (given : List R) (tail : List Row) → map (read k) (map k.stored given ++ tail) ≡ map k.owned given ++ map (read k) tail
@@ -77,7 +77,7 @@ front_read k given tail = map-append (read k) (map k.stored given) tail ∙ ap (
 
 -- ---- the mark, the items and the members
 
-pub fits_begun : (version : ℕ) (db : Database) (marks : List _) (items : List _) (members : List _) → IsListing (codes "mark") (1 ∷ []) db (map stored_mark marks) → IsListing (codes "item") (1 ∷ []) db (map stored_item items) → Fits version db (begun (marks_given marks) (items_given items) (members_given members))
+pub fits_begun : (version : ℕ) (db : Database) (marks : List _) (items : List _) (members : List _) → IsListing (codes "mark") (1 ∷ []) db (map stored_mark marks) → IsListing (codes "item") (1 ∷ []) db (map stored_item items) → AllGoOnFrom version db (begun (marks_given marks) (items_given items) (members_given members))
 fits_begun version db marks items members lm li T M K = record {
   marks = marks_read version db (members_given members) T M K (map stored_mark marks) lm ∙ read_stored mark_codec marks;
   items = items_read version db (members_given members) T M K (map stored_item items) li ∙ read_stored item_codec items;
@@ -89,31 +89,31 @@ fits_begun version db marks items members lm li T M K = record {
 
 -- ---- an edition
 
-module _ (n : ℤ) (taken T : Tables) (goes : GoesOn taken T) where
-  pub goes_edition : (e : spec.Edition) → e.number ≡ n → editions_numbered n T.editions ≡ e ∷ [] → editions_numbered n taken.editions ≡ [] → GoesOn (with_edition taken e) T
+module _ (n : ℤ) (taken T : Tables) (goes : GoesOnFrom taken T) where
+  pub goes_edition : (e : spec.EditionRecord) → e.number ≡ n → editions_numbered n T.editions ≡ e ∷ [] → editions_numbered n taken.editions ≡ [] → GoesOnFrom (with_edition taken e) T
   goes_edition e is only none = record { marks = goes.marks; items = goes.items; members = goes.members; editions = (λ m. step m (same_number e.number m) refl); entries = goes.entries; kept = goes.kept }
     where
       step : (m : ℤ) (b : Bool) → same_number e.number m ≡ b → BeginsWith (editions_numbered m T.editions) (editions_numbered m (taken.editions ++ e ∷ []))
-      step m false k = subst (BeginsWith (editions_numbered m T.editions)) (sym (filter_passes_not (λ (x : spec.Edition). same_number x.number m) taken.editions e k)) (goes.editions m)
+      step m false k = subst (BeginsWith (editions_numbered m T.editions)) (sym (filter_passes_not (λ (x : spec.EditionRecord). same_number x.number m) taken.editions e k)) (goes.editions m)
       step m true k =
           let same : n ≡ m = sym is ∙ same_number_is e.number m k in
-          let front : editions_numbered m (taken.editions ++ e ∷ []) ≡ e ∷ [] = filter_passes (λ (x : spec.Edition). same_number x.number m) taken.editions e k ∙ ap (λ l. l ++ e ∷ []) (subst (λ z. editions_numbered z taken.editions ≡ []) same none) in
+          let front : editions_numbered m (taken.editions ++ e ∷ []) ≡ e ∷ [] = filter_passes (λ (x : spec.EditionRecord). same_number x.number m) taken.editions e k ∙ ap (λ l. l ++ e ∷ []) (subst (λ z. editions_numbered z taken.editions ≡ []) same none) in
           ([], subst (λ z. editions_numbered z T.editions ≡ e ∷ []) same only ∙ ap (λ l. l ++ []) (sym front))
 
   -- the edition's entries, as far as they were read
-  pub goes_entries : (given : List spec.Entry) → AllByRecursion (λ (x : spec.Entry). x.edition ≡ n) given → BeginsWith (entries_of n T.entries) given → entries_of n taken.entries ≡ [] → GoesOn (with_entries taken given) T
+  pub goes_entries : (given : List spec.EntryRecord) → AllByRecursion (λ (x : spec.EntryRecord). x.edition ≡ n) given → BeginsWith (entries_of n T.entries) given → entries_of n taken.entries ≡ [] → GoesOnFrom (with_entries taken given) T
   goes_entries given all begun none = record { marks = goes.marks; items = goes.items; members = goes.members; editions = goes.editions; entries = (λ m. step m (same_number n m) refl); kept = goes.kept }
     where
       step : (m : ℤ) (b : Bool) → same_number n m ≡ b → BeginsWith (entries_of m T.entries) (entries_of m (taken.entries ++ given))
-      step m false k = subst (BeginsWith (entries_of m T.entries)) (sym (filter-append (λ (x : spec.Entry). same_number x.edition m) taken.entries given ∙ ap (λ l. entries_of m taken.entries ++ l) (none_of n m k given all) ∙ append-nil (entries_of m taken.entries))) (goes.entries m)
+      step m false k = subst (BeginsWith (entries_of m T.entries)) (sym (filter-append (λ (x : spec.EntryRecord). same_number x.edition m) taken.entries given ∙ ap (λ l. entries_of m taken.entries ++ l) (none_of n m k given all) ∙ append-nil (entries_of m taken.entries))) (goes.entries m)
       step m true k =
           let same : n ≡ m = same_number_is n m k in
-          let now : entries_of n (taken.entries ++ given) ≡ given = filter-append (λ (x : spec.Entry). same_number x.edition n) taken.entries given ∙ (λ i. none i ++ all_of n given all i) in
+          let now : entries_of n (taken.entries ++ given) ≡ given = filter-append (λ (x : spec.EntryRecord). same_number x.edition n) taken.entries given ∙ (λ i. none i ++ all_of n given all i) in
           subst (λ z. BeginsWith (entries_of z T.entries) (entries_of z (taken.entries ++ given))) same (begun.0, begun.1 ∙ ap (λ l. l ++ begun.0) (sym now))
 
 -- ---- the kept replies
 
-pub fits_replies : (version : ℕ) (db : Database) (taken : Tables) → Fits version db taken → taken.kept ≡ [] → (given : List KeptRow) → IsFront AllKept db (map stored_kept given) → Fits version db (with_replies taken (kept_given given))
+pub fits_replies : (version : ℕ) (db : Database) (taken : Tables) → AllGoOnFrom version db taken → taken.kept ≡ [] → (given : List KeptRow) → IsFront AllKept db (map stored_kept given) → AllGoOnFrom version db (with_replies taken (kept_given given))
 fits_replies version db taken fits none given front T M K =
     let whole = replies_read version db taken.members T M K (map stored_kept given ++ front.0) front.1 ∙ front_read kept_codec given front.0 in
     let goes = fits T M K in
@@ -121,5 +121,5 @@ fits_replies version db taken fits none given front T M K =
 
 -- ---- none
 
-pub none_kept : (version : ℕ) (db : Database) (front : Tables) → Fits version db front → StandsForNone version front → KeepsNone version db front.members
+pub none_kept : (version : ℕ) (db : Database) (front : Tables) → AllGoOnFrom version db front → StandsForNone version front → KeepsNone version db front.members
 none_kept version db front fits none T M K = none T M (fits T M K) K.stands

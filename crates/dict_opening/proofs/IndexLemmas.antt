@@ -6,7 +6,7 @@ use Rattle.std.proofs.lemmas.Bool.{eqb-true, eq-eqb}
 use Rattle.std.proofs.lemmas.List.{take_more}
 use Rattle.sqlite.specs.Effect.{Database}
 use Rattle.dict_text.proofs.AllLemmas.{all_push, all_append_parts}
-use Rattle.dict_records.specs.Records.{Entry}
+use Rattle.dict_records.specs.Records.{EntryRecord}
 use Rattle.dict_index.specs.Line.{Line}
 use Rattle.dict_index.specs.Edition.{Edition}
 use Rattle.dict_catalogue.specs.Items.{Stored, Item, regular, virtual, name_of, editions_of, numbers_of, edition_numbers, item_as}
@@ -24,14 +24,14 @@ use Rattle.dict_holdings.specs.Holds.{Holds}
 use Rattle.dict_holdings.proofs.ReadableLemmas.{held_readable}
 use Rattle.dict_scans.specs.Entries.{HasEntries}
 use Rattle.dict_scans.specs.Indexing.{indexed_of}
-use Rattle.dict_opening.specs.Indexed.{HasIndex, IsIndexed, HasPut, HasRowsIndexed, HaveRowsIndexed}
+use Rattle.dict_opening.specs.Indexed.{HasIndex, IsHeldIndexed, HasPut, HasRowsIndexed, HaveRowsIndexed}
 use Rattle.dict_opening.specs.Opens.{Keeping}
 use Rattle.dict_opening.proofs.ToldLemmas.{kept_as, find, entries_told}
 use Rattle.dict_opening.proofs.WrongLemmas.{each_known}
 
 -- ---- one number more
 
-module _ (layout : Layout) (db : Database) (n : ℕ) (given : List Entry) (old new : List (ℕ × List Indexed)) (put : HasPut n (map indexed_of given) old new) (entries : HasEntries layout db (pos n) given) where
+module _ (layout : Layout) (db : Database) (n : ℕ) (given : List EntryRecord) (old new : List (ℕ × List Indexed)) (put : HasPut n (map indexed_of given) old new) (entries : HasEntries layout db (pos n) given) where
   fresh : HasRowsIndexed layout db new n
   fresh = record { given = given; entries = entries; stands = put n ∙ ap (λ b. cond b (Some (map indexed_of given)) (entries_under n old)) (eq-eqb n n refl) }
 
@@ -46,7 +46,7 @@ module _ (layout : Layout) (db : Database) (n : ℕ) (given : List Entry) (old n
   pub with_number : (ms : List ℕ) → HaveRowsIndexed layout db ms old → HaveRowsIndexed layout db (ms ++ n ∷ []) new
   with_number ms h = all_push (HasRowsIndexed layout db new) ms n (all_still ms h) fresh
 
-pub next_indexed : (layout : Layout) (db : Database) (ns : List ℕ) (i : ℕ) (given : List Entry) (index : List Indexed) (old new : List (ℕ × List Indexed)) → i < length ns → HaveRowsIndexed layout db (take i ns) old → HasEntries layout db (pos (get_or ns i 0)) given → index ≡ map indexed_of given → HasPut (get_or ns i 0) index old new → HaveRowsIndexed layout db (take (i + 1) ns) new
+pub next_indexed : (layout : Layout) (db : Database) (ns : List ℕ) (i : ℕ) (given : List EntryRecord) (index : List Indexed) (old new : List (ℕ × List Indexed)) → i < length ns → HaveRowsIndexed layout db (take i ns) old → HasEntries layout db (pos (get_or ns i 0)) given → index ≡ map indexed_of given → HasPut (get_or ns i 0) index old new → HaveRowsIndexed layout db (take (i + 1) ns) new
 next_indexed layout db ns i given index old new lt before entries is put =
     subst (λ ms. HaveRowsIndexed layout db ms new) (sym (take_more ns i 0 lt)) (with_number layout db (get_or ns i 0) given old new (subst (λ l. HasPut (get_or ns i 0) l old new) is put) entries (take i ns) before)
 
@@ -99,7 +99,7 @@ module _ (version : ℕ) (db : Database) (M : Catalogue) (h : Holds version db M
       let parts = all_append_parts IsThere (numbers_of item) (flat_map numbers_of items) rows in
       (of_item (name_of item) (editions_of item) held.0 parts.0, of_items items held.1 parts.1)
 
-  pub is_indexed : HaveRowsIndexed layout db (edition_numbers M.items) indexes → IsIndexed version db M indexes
+  pub is_indexed : HaveRowsIndexed layout db (edition_numbers M.items) indexes → IsHeldIndexed version db M indexes
   is_indexed rows = record {
     holds = h;
     each = of_items M.items h.stands.editions

@@ -14,7 +14,7 @@ use Rattle.sqlite.specs.declared.types.Value.TheVariants.{Int}
 use Rattle.dict_records.specs.Records as spec
 use Rattle.dict_records.specs.Typed.{owned_mark}
 use Rattle.dict_records.specs.declared.records as typed
-use Rattle.dict_records.specs.declared.records.Stored.{Stored}
+use Rattle.dict_records.specs.declared.records.StoredRow.{StoredRow}
 use Rattle.dict_sql.specs.Columns.{HasColumns, mark_columns}
 use Rattle.dict_sql.specs.Effects.{rows_of}
 use Rattle.dict_sql.specs.Encodings.{mark_row, stored_mark}
@@ -24,7 +24,7 @@ use Rattle.dict_holdings.specs.Holds.{Holds, IsHeld}
 use Rattle.dict_rows.specs.Given.{marks_given}
 use Rattle.dict_rows.proofs.OrderLemmas.{Same, same_from, one_once}
 use Rattle.dict_opening.specs.Marks.{HasMarkTable}
-use Rattle.dict_opening.specs.Opens.{HasMark, HasKnownMark, HoldsNone, HoldsNoneAs, IsMarked, marked}
+use Rattle.dict_opening.specs.Opens.{HasMark, HasKnownMark, HoldsNone, HoldsNoneAs, IsMarked, mark_of_version}
 use Rattle.dict_desk.specs.declared.fault.Fault.TheVariants as desk
 use Rattle.dict_scans.specs.declared.fault.ReadingFault.{ReadingFault}
 use Rattle.dict_scans.specs.declared.fault.ReadingFault.TheVariants.{Damaged, Memory, Disk}
@@ -34,13 +34,13 @@ use Rattle.dict_opening.proofs.NoneLemmas.{all_contains}
 use Rattle.dict_opening.proofs.TableLemmas.{own_mark}
 
 abbrev pub MarkRow : Type 0
-MarkRow = Stored (typed.Mark.Mark (String Global))
+MarkRow = StoredRow (typed.Mark.Mark (String Global))
 
-pub told_marked : (o : Option ℕ) (marks : List MarkRow) (m : spec.Mark) (i : ℤ) → marks_given marks ≡ m ∷ [] → IfSome o (λ v. (m ≡ marked v i) × (1 ≤ v)) → IfSome o (λ v. IsMarked marks v)
+pub told_marked : (o : Option ℕ) (marks : List MarkRow) (m : spec.Mark) (i : ℤ) → marks_given marks ≡ m ∷ [] → IfSome o (λ v. (m ≡ mark_of_version v i) × (1 ≤ v)) → IfSome o (λ v. IsMarked marks v)
 told_marked None marks m i e h = tt
 told_marked (Some v) marks m i e h = (i, e ∙ ap (λ x. x ∷ []) h.0, h.1)
 
-pub none_marked : (o : Option ℕ) (marks : List MarkRow) (m : spec.Mark) → marks_given marks ≡ m ∷ [] → IfNone o ((v : ℕ) (i : ℤ) → m ≡ marked v i → 1 ≤ v → ⊥) → IfNone o ((v : ℕ) → IsMarked marks v → ⊥)
+pub none_marked : (o : Option ℕ) (marks : List MarkRow) (m : spec.Mark) → marks_given marks ≡ m ∷ [] → IfNone o ((v : ℕ) (i : ℤ) → m ≡ mark_of_version v i → 1 ≤ v → ⊥) → IfNone o ((v : ℕ) → IsMarked marks v → ⊥)
 none_marked (Some v) marks m e h = tt
 none_marked None marks m e h = λ v is. h v is.0 (first (sym e ∙ is.1)) is.2
   where
@@ -50,20 +50,20 @@ none_marked None marks m e h = λ v is. h v is.0 (first (sym e ∙ is.1)) is.2
 pub has_mark : (db : Database) (marks : List MarkRow) (v : ℕ) → HasMarkTable db.schema → IsListing (codes "mark") (1 ∷ []) db (map stored_mark marks) → IsMarked marks v → HasMark db v
 has_mark db [] v own l is = absurd (let e = is.1 in cc)
 has_mark db (r ∷ []) v own l is =
-    let owned : owned_mark r.value ≡ marked v is.0 = let e = is.1 in cc in
+    let owned : owned_mark r.value ≡ mark_of_version v is.0 = let e = is.1 in cc in
     let rows = one_once (stored_mark r) (rows_of (codes "mark") db) (same_from (stored_mark r ∷ []) (rows_of (codes "mark") db) (IsPermutation-sym _ _ l.same)) in
     record { own = own; rowid = r.rowid; installs = is.0; rows = rows ∙ ap (λ m. (Int r.rowid ∷ mark_row m) ∷ []) owned; counted = is.2 }
 has_mark db (r ∷ s ∷ marks) v own l is = absurd (let e = is.1 in cc)
 
 pub is_marked : (db : Database) (marks : List MarkRow) (v : ℕ) → IsListing (codes "mark") (1 ∷ []) db (map stored_mark marks) → HasMark db v → IsMarked marks v
 is_marked db marks v l h =
-    let x : Row = Int h.rowid ∷ mark_row (marked v h.installs) in
+    let x : Row = Int h.rowid ∷ mark_row (mark_of_version v h.installs) in
     let rows = one_once x (map stored_mark marks) (subst (λ rows. Same rows (map stored_mark marks)) h.rows (same_from (rows_of (codes "mark") db) (map stored_mark marks) l.same)) in
     (h.installs, only marks rows, h.counted)
   where
-    only : (marks : List MarkRow) → map stored_mark marks ≡ (Int h.rowid ∷ mark_row (marked v h.installs)) ∷ [] → marks_given marks ≡ marked v h.installs ∷ []
+    only : (marks : List MarkRow) → map stored_mark marks ≡ (Int h.rowid ∷ mark_row (mark_of_version v h.installs)) ∷ [] → marks_given marks ≡ mark_of_version v h.installs ∷ []
     only [] e = absurd (cc)
-    only (r ∷ []) e = ap (λ m. m ∷ []) (sym (mark_back (owned_mark r.value)) ∙ ap (λ row. decode_mark (drop 1 row)) (let same : stored_mark r ≡ Int h.rowid ∷ mark_row (marked v h.installs) = cc in same) ∙ mark_back (marked v h.installs))
+    only (r ∷ []) e = ap (λ m. m ∷ []) (sym (mark_back (owned_mark r.value)) ∙ ap (λ row. decode_mark (drop 1 row)) (let same : stored_mark r ≡ Int h.rowid ∷ mark_row (mark_of_version v h.installs) = cc in same) ∙ mark_back (mark_of_version v h.installs))
     only (r ∷ s ∷ marks) e = absurd (cc)
 
 pub err_is : {X E : Type 0} (result : Result X E) (e f : E) → IsErrAnd result (λ g. g ≡ e) → result ≡ Err f → e ≡ f
@@ -101,7 +101,7 @@ one_row row ((x ∷ r) ∷ s ∷ rows) some e all = absurd (cc)
 
 pub held_mark : (version : ℕ) (db : Database) (M : Catalogue) → 1 ≤ version → Holds version db M → HasMark db version
 held_mark version db M counted h =
-    let row = mark_row (marked version (pos M.installs)) in
+    let row = mark_row (mark_of_version version (pos M.installs)) in
     let written = subst (λ (ms : List spec.Mark). IsPermutation (map mark_row ms) (map (drop 1) (rows_of (codes "mark") db))) h.stands.marks h.keeps.0.rows in
     let only = one_once row (map (drop 1) (rows_of (codes "mark") db)) (same_from (row ∷ []) (map (drop 1) (rows_of (codes "mark") db)) written) in
     let found = one_row row (rows_of (codes "mark") db) (λ e. let wrong : ⊥ = cc in wrong) only h.keeps.0.apart.integers in
@@ -112,7 +112,7 @@ known_mark db M h = record { version = h.version; known = h.known; marked = held
 
 pub mark_once : (db : Database) (v w : ℕ) → HasMark db v → HasMark db w → v ≡ w
 mark_once db v w a b =
-    let same : (Int a.rowid ∷ mark_row (marked v a.installs)) ∷ [] ≡ (Int b.rowid ∷ mark_row (marked w b.installs)) ∷ [] = sym a.rows ∙ b.rows in
+    let same : (Int a.rowid ∷ mark_row (mark_of_version v a.installs)) ∷ [] ≡ (Int b.rowid ∷ mark_row (mark_of_version w b.installs)) ∷ [] = sym a.rows ∙ b.rows in
     (let e : v ≡ w = cc in e)
 
 -- of a database with this mark that holds no catalogue under its version none is held

@@ -21,7 +21,7 @@ use Rattle.dict_rows.specs.Tables.{Tables, same_number, entries_of}
 use Rattle.dict_rows.specs.Versions.{Layout, Plain, Keyed, Shown, Parted, layout_of}
 use Rattle.dict_rows.specs.Written.{numbered, entry_record}
 use Rattle.dict_rows.specs.Taken.{BeginsWith, HasTaken, StandsForNone, with_edition, IsOfLast}
-use Rattle.dict_rows.specs.Whole.{AreOf, with_entries}
+use Rattle.dict_rows.specs.Whole.{AreOfLast, with_entries}
 use Rattle.dict_rows.specs.declared.reader.Reader.{Reader}
 use Rattle.dict_rows.proofs.FoundLemmas.{Found}
 use Rattle.dict_rows.proofs.OrderLemmas.{Same, all_same, all_passed, same_from, one_once}
@@ -32,7 +32,7 @@ use Rattle.dict_holdings.proofs.ReadingLemmas.{map_twice, editions_kept, headers
 use Rattle.dict_scans.specs.Entries.{BeginsWithEntries, HasWrongEntries, HasWrongRows, HasWrongIndex, next_entries}
 use Rattle.dict_scans.proofs.CodecLemmas.{Codec, read, read_stored, selected_records, edition_codec, header_codec}
 use Rattle.dict_scans.proofs.NumberLemmas.{first_number}
-use Rattle.dict_opening.specs.Opens.{Keeping, KeepsNone, Fits, CanReadOne, IsNotOne, HasRecord, HasNoEdition}
+use Rattle.dict_opening.specs.Opens.{Keeping, KeepsNone, AllGoOnFrom, CanReadOne, IsNotOne, HasRecord, HasNoEdition}
 use Rattle.dict_opening.proofs.EntryLemmas.{HasEntryTable, IsEntryRow, entries_rows, entries_written}
 use Rattle.dict_opening.proofs.FileLemmas.{has_index, has_text, headers_of, storable}
 use Rattle.dict_opening.proofs.FitLemmas.{goes_edition, goes_entries, none_kept}
@@ -69,7 +69,7 @@ module _ {R W : Type 0} (k : Codec R W) (columns : List Content) (db : Database)
 module _ (db : Database) (T : Tables) (items : List (Item Edition)) (n : ℤ) (found : Found T items n) where
   no_whole : Keeps (codes "edition") edition_row db T.editions → AllByRecursion (HasColumns edition_columns) (rows_of (codes "edition") db) → IsNotOne edition_codec.stored edition_columns db n → ⊥
   no_whole keeps readable h =
-      not_one edition_codec edition_columns db n (λ (e : spec.Edition). same_number e.number n) (λ row w e. first_number row (edition_row w) w.number n e refl) T.editions keeps (its_record db T items n found) (only db T items n found) readable h
+      not_one edition_codec edition_columns db n (λ (e : spec.EditionRecord). same_number e.number n) (λ row w e. first_number row (edition_row w) w.number n e refl) T.editions keeps (its_record db T items n found) (only db T items n found) readable h
 
   pub no_edition : (layout : Layout) → KeptAs layout db T → HasNoEdition layout db n → ⊥
   no_edition Plain k h = no_whole (editions_kept Plain db T refl k.keeps) k.records.1.1.1.1.0 h
@@ -78,7 +78,7 @@ module _ (db : Database) (T : Tables) (items : List (Item Edition)) (n : ℤ) (f
   no_edition Parted k (inl h) =
       let mine = headers_kept db T k.keeps in
       let keeps : Keeps (codes "edition") header_row db (map header_of T.editions) = record { rows = subst (λ l. IsPermutation l (map (drop 1) (rows_of (codes "edition") db))) (sym (map_twice header_of header_row T.editions)) mine.rows; apart = mine.apart } in
-      not_one header_codec header_columns db n (λ (e : spec.Header). same_number e.number n) (λ row w e. first_number row (header_row w) w.number n e refl) (map header_of T.editions) keeps (header_of (its_record db T items n found))
+      not_one header_codec header_columns db n (λ (e : spec.HeaderRecord). same_number e.number n) (λ row w e. first_number row (header_row w) w.number n e refl) (map header_of T.editions) keeps (header_of (its_record db T items n found))
       (headers_of n T.editions ∙ ap (map header_of) (only db T items n found)) k.records.1.1.1.1.0 h
   no_edition Parted k (inr none) = none k.records.1.1.1.1.1.0 (its_record db T items n found).body (has_text db T (parts_kept db T k.keeps).rows n (its_record db T items n found) (only db T items n found) found.is)
 
@@ -102,20 +102,20 @@ module _ (version : ℕ) (db : Database) (taken : Tables) (n : ℤ) (can : CanRe
   pub edition_missing : HasNoEdition (layout_of version) db n → KeepsNone version db taken.members
   edition_missing h T M K = no_edition db T M.items n (there T M K) (layout_of version) (kept T M K) h
 
-  module _ (e : spec.Edition) (r : HasRecord (layout_of version) db n e) where
+  module _ (e : spec.EditionRecord) (r : HasRecord (layout_of version) db n e) where
     number_is : e.number ≡ n
     number_is = record_number (layout_of version) db n e r
 
-    pub now_fits : Fits version db (with_edition taken e)
+    pub now_fits : AllGoOnFrom version db (with_edition taken e)
     now_fits T M K = goes_edition n taken T (can.fits T M K) e number_is (edition_told db T M.items n (there T M K) (layout_of version) (kept T M K) e r) can.no_editions
 
     pub edition_refused : (reader : Reader) → HasTaken version reader taken → ((version : ℕ) (before : Tables) → HasTaken version reader before → StandsForNone version (with_edition before e)) → KeepsNone version db taken.members
     edition_refused reader h wrong = none_kept version db (with_edition taken e) now_fits (wrong version taken h)
 
-    are_of : (given : List spec.Entry) → AllByRecursion (λ (x : spec.Entry). x.edition ≡ n) given → AreOf (with_edition taken e) given
-    are_of given all = all_weaker (λ (x : spec.Entry). x.edition ≡ n) (IsOfLast (with_edition taken e)) (λ x p. (taken.editions, e, refl, p ∙ sym number_is)) given all
+    are_of : (given : List spec.EntryRecord) → AllByRecursion (λ (x : spec.EntryRecord). x.edition ≡ n) given → AreOfLast (with_edition taken e) given
+    are_of given all = all_weaker (λ (x : spec.EntryRecord). x.edition ≡ n) (IsOfLast (with_edition taken e)) (λ x p. (taken.editions, e, refl, p ∙ sym number_is)) given all
 
-    begun_number : (layout : Layout) (given : List spec.Entry) → BeginsWithEntries layout db n given → AllByRecursion (λ (x : spec.Entry). x.edition ≡ n) given
+    begun_number : (layout : Layout) (given : List spec.EntryRecord) → BeginsWithEntries layout db n given → AllByRecursion (λ (x : spec.EntryRecord). x.edition ≡ n) given
     begun_number layout given front =
         rows_number layout n front.0 given front.3
         (all_append_parts (λ row. equals_number 1 n row ≡ true) front.0 front.1 (all_same (λ row. equals_number 1 n row ≡ true) (filter (equals_number 1 n) (rows_of (codes "entry") db)) (front.0 ++ front.1) front.2.same (all_passed (equals_number 1 n) (rows_of (codes "entry") db)))).0
@@ -152,7 +152,7 @@ module _ (version : ℕ) (db : Database) (taken : Tables) (n : ℤ) (can : CanRe
           let w = wrong number (sym found.is) lines (storable T found.owner found.stored found.holds found.lawful) (index_told db T M.items n found (keeps T M K).keeps octets file) in
           let given = w.0 in
           let es = numbered (entry_record number) 0 given in
-          let next : next_entries (with_edition taken e) number given ≡ es = subst (λ m. numbered (entry_record number) (length (entries_of m taken.entries)) given ≡ es) (sym found.is) (ap (λ (l : List spec.Entry). numbered (entry_record number) (length l) given) can.no_entries) in
+          let next : next_entries (with_edition taken e) number given ≡ es = subst (λ m. numbered (entry_record number) (length (entries_of m taken.entries)) given ≡ es) (sym found.is) (ap (λ (l : List spec.EntryRecord). numbered (entry_record number) (length l) given) can.no_entries) in
           let refused = subst (λ l. StandsForNone version (with_entries (with_edition taken e) l)) next (w.3 version (with_edition taken e) number h (taken.editions, e, refl, found.is ∙ sym number_is)) in
           let begun : BeginsWith (entries_of n T.entries) es = subst (λ l. BeginsWith l es) (sym (its_lines db T M.items n found ∙ ap (numbered (entry_record number) 0) w.2)) (numbered_begins number 0 given w.1) in
           refused T M (goes_entries n (with_edition taken e) T (now_fits T M K) es (lines_number n number (sym found.is) 0 given) begun can.no_entries) K.stands

@@ -33,10 +33,10 @@ use Rattle.dict_holdings.proofs.FileLemmas.{lines_back}
 use Rattle.dict_holdings.proofs.MoreLemmas.{more}
 use Rattle.dict_holdings.specs.Readings.{AreShownIn, editions, contents}
 use Rattle.dict_scans.specs.Census.{one_of, is_in_file, is_known_part, is_of_contents}
-use Rattle.dict_scans.specs.Entries.{behind, entry_cells, HasEntries, HasEntryRows, HasIndexFile}
+use Rattle.dict_scans.specs.Entries.{looked_behind_rowid, entry_cells, HasEntries, HasEntryRows, HasIndexFile}
 use Rattle.dict_scans.specs.Files.{HasFile}
 use Rattle.dict_scans.proofs.NumberLemmas.{int_once}
-use Rattle.dict_opening.specs.Opens.{Keeping, Fits, HasRecord, HasWholeRecord, HasRowsOf, CanReadOne, HasReadOne, CanRead, HasRead}
+use Rattle.dict_opening.specs.Opens.{Keeping, AllGoOnFrom, HasRecord, HasWholeRecord, HasRowsOf, CanReadOne, HasReadOne, CanRead, HasReadEditions}
 use Rattle.dict_opening.proofs.EntryLemmas.{none_shown, more_shown}
 use Rattle.dict_opening.proofs.PartLemmas.{one_more, one_apart, rows_join, parts_of, turned}
 use Rattle.dict_opening.proofs.FitLemmas.{goes_entries, none_of, all_of}
@@ -73,15 +73,15 @@ no_editions_read : (layout : Layout) (db : Database) (front : Tables) → front.
 no_editions_read Plain db front none = no_rows (drop 1) (rows_of (codes "edition") db) _ (ap (map edition_row) none)
 no_editions_read Keyed db front none = no_rows (drop 1) (rows_of (codes "edition") db) _ (ap (map edition_row) none)
 no_editions_read Shown db front none = no_rows (drop 1) (rows_of (codes "edition") db) _ (ap (map edition_row) none)
-no_editions_read Parted db front none = no_rows (drop 1) (rows_of (codes "edition") db) _ (ap (map (λ (e : spec.Edition). header_row (header_of e))) none)
+no_editions_read Parted db front none = no_rows (drop 1) (rows_of (codes "edition") db) _ (ap (map (λ (e : spec.EditionRecord). header_row (header_of e))) none)
 
 no_contents_read : (layout : Layout) (db : Database) (front : Tables) → front.editions ≡ [] → front.entries ≡ [] → HasRowsOf (is_of_contents layout []) db front (contents layout)
-no_contents_read Plain db front one none = no_rows (behind Plain) (rows_of (codes "entry") db) _ (ap (map (entry_cells Plain)) none)
-no_contents_read Keyed db front one none = no_rows (behind Keyed) (rows_of (codes "entry") db) _ (ap (map (entry_cells Keyed)) none)
-no_contents_read Shown db front one none = no_rows (behind Shown) (rows_of (codes "entry") db) _ (ap (map (entry_cells Shown)) none)
-no_contents_read Parted db front one none = no_rows (drop 1) (rows_of (codes "dictcat_part") db) _ (ap (λ (es : List spec.Edition). map part_row (flat_map (edition_parts front.entries) es)) one)
+no_contents_read Plain db front one none = no_rows (looked_behind_rowid Plain) (rows_of (codes "entry") db) _ (ap (map (entry_cells Plain)) none)
+no_contents_read Keyed db front one none = no_rows (looked_behind_rowid Keyed) (rows_of (codes "entry") db) _ (ap (map (entry_cells Keyed)) none)
+no_contents_read Shown db front one none = no_rows (looked_behind_rowid Shown) (rows_of (codes "entry") db) _ (ap (map (entry_cells Shown)) none)
+no_contents_read Parted db front one none = no_rows (drop 1) (rows_of (codes "dictcat_part") db) _ (ap (λ (es : List spec.EditionRecord). map part_row (flat_map (edition_parts front.entries) es)) one)
 
-pub read_none : (version : ℕ) (db : Database) (reader : Reader) (numbers : List ℤ) (front : Tables) → CanRead version db reader numbers front → HasRead version db [] front front
+pub read_none : (version : ℕ) (db : Database) (reader : Reader) (numbers : List ℤ) (front : Tables) → CanRead version db reader numbers front → HasReadEditions version db [] front front
 read_none version db reader numbers front can = record {
   marks = refl;
   items = refl;
@@ -97,7 +97,7 @@ read_none version db reader numbers front can = record {
 
 -- ---- the next one
 
-pub can_one : (version : ℕ) (db : Database) (reader : Reader) (numbers ns : List ℤ) (front taken : Tables) (n : ℤ) → CanRead version db reader numbers front → HasRead version db ns front taken → has_number (items_in reader) n ≡ true → is_of ns n ≡ false → CanReadOne version db taken n
+pub can_one : (version : ℕ) (db : Database) (reader : Reader) (numbers ns : List ℤ) (front taken : Tables) (n : ℤ) → CanRead version db reader numbers front → HasReadEditions version db ns front taken → has_number (items_in reader) n ≡ true → is_of ns n ≡ false → CanReadOne version db taken n
 can_one version db reader numbers ns front taken n can done there new = record {
   fits = done.fits;
   known = (λ T M K. known T M (record { keeps = K.keeps; shown = K.shown; same_members = K.same_members ∙ done.members; stands = K.stands; records = K.records }));
@@ -146,7 +146,7 @@ none_passed {X} test (x ∷ xs) e = split (test x) refl (none_passed test xs)
     split true p rest = absurd (let some : x ∷ filter test xs ≡ [] = sym (ap (λ b. cond b (x ∷ filter test xs) (filter test xs)) p) ∙ e in cc)
     split false p rest = (p, rest (sym (ap (λ b. cond b (x ∷ filter test xs) (filter test xs)) p) ∙ e))
 
-module _ (db : Database) (ns : List ℤ) (n : ℤ) (new : is_of ns n ≡ false) (taken : Tables) (e : spec.Edition) (es : List spec.Entry) where
+module _ (db : Database) (ns : List ℤ) (n : ℤ) (new : is_of ns n ≡ false) (taken : Tables) (e : spec.EditionRecord) (es : List spec.EntryRecord) where
   abbrev whole : Tables
   whole = with_entries (with_edition taken e) es
 
@@ -156,7 +156,7 @@ module _ (db : Database) (ns : List ℤ) (n : ℤ) (new : is_of ns n ≡ false) 
   whole_more r done =
       let rows = rows_of (codes "edition") db in
       let one : IsPermutation (edition_row e ∷ []) (map (drop 1) (filter (equals_number 1 n) rows)) =
-      subst (λ (x : spec.Edition). IsPermutation (edition_row x ∷ []) (map (drop 1) (filter (equals_number 1 n) rows))) (sym r.2) (IsPermutation-map (drop 1) (stored_edition r.0 ∷ []) (filter (equals_number 1 n) rows) (IsPermutation-sym (filter (equals_number 1 n) rows) (stored_edition r.0 ∷ []) r.1.same)) in
+      subst (λ (x : spec.EditionRecord). IsPermutation (edition_row x ∷ []) (map (drop 1) (filter (equals_number 1 n) rows))) (sym r.2) (IsPermutation-map (drop 1) (stored_edition r.0 ∷ []) (filter (equals_number 1 n) rows) (IsPermutation-sym (filter (equals_number 1 n) rows) (stored_edition r.0 ∷ []) r.1.same)) in
       subst (λ l. IsPermutation l (map (drop 1) (filter (one_of (ns ++ n ∷ [])) rows))) (sym (map-append edition_row taken.editions (e ∷ [])))
       (rows_join (drop 1) (one_of ns) (equals_number 1 n) (one_of (ns ++ n ∷ [])) (one_more ns n) (one_apart ns n new) rows (map edition_row taken.editions) (edition_row e ∷ []) done one)
 
@@ -167,20 +167,20 @@ module _ (db : Database) (ns : List ℤ) (n : ℤ) (new : is_of ns n ≡ false) 
   editions_more Parted (r, text) done =
       let rows = rows_of (codes "edition") db in
       let one : IsPermutation (header_row (header_of e) ∷ []) (map (drop 1) (filter (equals_number 1 n) rows)) =
-      subst (λ (h : spec.Header). IsPermutation (header_row h ∷ []) (map (drop 1) (filter (equals_number 1 n) rows))) (sym r.2) (IsPermutation-map (drop 1) (stored_header r.0 ∷ []) (filter (equals_number 1 n) rows) (IsPermutation-sym (filter (equals_number 1 n) rows) (stored_header r.0 ∷ []) r.1.same)) in
-      subst (λ l. IsPermutation l (map (drop 1) (filter (one_of (ns ++ n ∷ [])) rows))) (sym (map-append (λ (x : spec.Edition). header_row (header_of x)) taken.editions (e ∷ [])))
-      (rows_join (drop 1) (one_of ns) (equals_number 1 n) (one_of (ns ++ n ∷ [])) (one_more ns n) (one_apart ns n new) rows (map (λ (x : spec.Edition). header_row (header_of x)) taken.editions) (header_row (header_of e) ∷ []) done one)
+      subst (λ (h : spec.HeaderRecord). IsPermutation (header_row h ∷ []) (map (drop 1) (filter (equals_number 1 n) rows))) (sym r.2) (IsPermutation-map (drop 1) (stored_header r.0 ∷ []) (filter (equals_number 1 n) rows) (IsPermutation-sym (filter (equals_number 1 n) rows) (stored_header r.0 ∷ []) r.1.same)) in
+      subst (λ l. IsPermutation l (map (drop 1) (filter (one_of (ns ++ n ∷ [])) rows))) (sym (map-append (λ (x : spec.EditionRecord). header_row (header_of x)) taken.editions (e ∷ [])))
+      (rows_join (drop 1) (one_of ns) (equals_number 1 n) (one_of (ns ++ n ∷ [])) (one_more ns n) (one_apart ns n new) rows (map (λ (x : spec.EditionRecord). header_row (header_of x)) taken.editions) (header_row (header_of e) ∷ []) done one)
 
   -- ---- of entries
 
-  entries_more : (layout : Layout) → HasEntryRows layout db n es → IsPermutation (map (entry_cells layout) taken.entries) (map (behind layout) (filter (one_of ns) (rows_of (codes "entry") db)))
-      → IsPermutation (map (entry_cells layout) whole.entries) (map (behind layout) (filter (one_of (ns ++ n ∷ [])) (rows_of (codes "entry") db)))
+  entries_more : (layout : Layout) → HasEntryRows layout db n es → IsPermutation (map (entry_cells layout) taken.entries) (map (looked_behind_rowid layout) (filter (one_of ns) (rows_of (codes "entry") db)))
+      → IsPermutation (map (entry_cells layout) whole.entries) (map (looked_behind_rowid layout) (filter (one_of (ns ++ n ∷ [])) (rows_of (codes "entry") db)))
   entries_more layout h done =
       let rows = rows_of (codes "entry") db in
-      let one : IsPermutation (map (entry_cells layout) es) (map (behind layout) (filter (equals_number 1 n) rows)) =
-      subst (λ l. IsPermutation l (map (behind layout) (filter (equals_number 1 n) rows))) h.2 (IsPermutation-map (behind layout) h.0 (filter (equals_number 1 n) rows) (IsPermutation-sym (filter (equals_number 1 n) rows) h.0 h.1.same)) in
-      subst (λ l. IsPermutation l (map (behind layout) (filter (one_of (ns ++ n ∷ [])) rows))) (sym (map-append (entry_cells layout) taken.entries es))
-      (rows_join (behind layout) (one_of ns) (equals_number 1 n) (one_of (ns ++ n ∷ [])) (one_more ns n) (one_apart ns n new) rows (map (entry_cells layout) taken.entries) (map (entry_cells layout) es) done one)
+      let one : IsPermutation (map (entry_cells layout) es) (map (looked_behind_rowid layout) (filter (equals_number 1 n) rows)) =
+      subst (λ l. IsPermutation l (map (looked_behind_rowid layout) (filter (equals_number 1 n) rows))) h.2 (IsPermutation-map (looked_behind_rowid layout) h.0 (filter (equals_number 1 n) rows) (IsPermutation-sym (filter (equals_number 1 n) rows) h.0 h.1.same)) in
+      subst (λ l. IsPermutation l (map (looked_behind_rowid layout) (filter (one_of (ns ++ n ∷ [])) rows))) (sym (map-append (entry_cells layout) taken.entries es))
+      (rows_join (looked_behind_rowid layout) (one_of ns) (equals_number 1 n) (one_of (ns ++ n ∷ [])) (one_more ns n) (one_apart ns n new) rows (map (entry_cells layout) taken.entries) (map (entry_cells layout) es) done one)
 
   -- ---- of parts
 
@@ -193,12 +193,12 @@ module _ (db : Database) (ns : List ℤ) (n : ℤ) (new : is_of ns n ≡ false) 
       let rows = rows_of (codes "dictcat_part") db in
       let numbers = entries_number Parted db n es (octets, index, is) in
       let none : HasNoneOf e.number taken = (
-        subst (λ m. AllByRecursion (λ (x : spec.Edition). same_number x.number m ≡ false) taken.editions) (sym at) (none_passed (λ (x : spec.Edition). same_number x.number n) taken.editions no_editions),
-        subst (λ m. AllByRecursion (λ (x : spec.Entry). same_number x.edition m ≡ false) taken.entries) (sym at) (none_passed (λ (x : spec.Entry). same_number x.edition n) taken.entries no_entries),
+        subst (λ m. AllByRecursion (λ (x : spec.EditionRecord). same_number x.number m ≡ false) taken.editions) (sym at) (none_passed (λ (x : spec.EditionRecord). same_number x.number n) taken.editions no_editions),
+        subst (λ m. AllByRecursion (λ (x : spec.EntryRecord). same_number x.edition m ≡ false) taken.entries) (sym at) (none_passed (λ (x : spec.EntryRecord). same_number x.edition n) taken.entries no_entries),
       ) in
       let lines : index_octets (entries_of n es) ≡ octets = ap index_octets (all_of n es numbers ∙ is.entries) ∙ ap stored_index (lines_back is.edition 0 is.lines) ∙ sym is.octets_are in
       let its : edition_parts es e ≡ file_parts n (pos 0) octets ++ file_parts n (pos 1) e.body = ap (λ m. parts_under m (index_octets (entries_of m es)) e.body) at ∙ ap (λ o. parts_under n o e.body) lines in
-      let all : all_parts whole ≡ all_parts taken ++ (file_parts n (pos 0) octets ++ file_parts n (pos 1) e.body) = more taken e es none (subst (λ m. AllByRecursion (λ (x : spec.Entry). x.edition ≡ m) es) (sym at) numbers) ∙ ap (λ l. all_parts taken ++ l) its in
+      let all : all_parts whole ≡ all_parts taken ++ (file_parts n (pos 0) octets ++ file_parts n (pos 1) e.body) = more taken e es none (subst (λ m. AllByRecursion (λ (x : spec.EntryRecord). x.edition ≡ m) es) (sym at) numbers) ∙ ap (λ l. all_parts taken ++ l) its in
       let files = rows_join (drop 1) (is_of_file n (pos 0)) (is_of_file n (pos 1)) its_part (λ row. in_either (equals_number 1 n row) (equals_number 2 (pos 0) row) (equals_number 2 (pos 1) row)) (one_file n) rows (map part_row (file_parts n (pos 0) octets)) (map part_row (file_parts n (pos 1) e.body)) index text in
       subst (λ l. IsPermutation l (map (drop 1) (filter (is_known_part (ns ++ n ∷ [])) rows))) (sym (ap (map part_row) all ∙ map-append part_row (all_parts taken) _ ∙ ap (λ l. map part_row (all_parts taken) ++ l) (map-append part_row (file_parts n (pos 0) octets) (file_parts n (pos 1) e.body))))
       (rows_join (drop 1) (is_known_part ns) its_part (is_known_part (ns ++ n ∷ [])) (λ row. ap (λ b. b && is_in_file row) (one_more ns n row) ∙ either_in (one_of ns row) (equals_number 1 n row) (is_in_file row)) (λ row. apart_in (one_of ns row) (equals_number 1 n row) (is_in_file row) (one_apart ns n new row)) rows
@@ -211,20 +211,20 @@ module _ (db : Database) (ns : List ℤ) (n : ℤ) (new : is_of ns n ≡ false) 
   contents_more Parted r h none empty done = parts_more h r.1 (record_number Parted db n e r) none empty done
 
 -- the entries that were read are shown as the layout shows them
-entries_shown : (layout : Layout) (db : Database) (n : ℤ) (es : List spec.Entry) → HasEntries layout db n es → AreShownIn layout es
+entries_shown : (layout : Layout) (db : Database) (n : ℤ) (es : List spec.EntryRecord) → HasEntries layout db n es → AreShownIn layout es
 entries_shown Plain db n es h = h.3
 entries_shown Keyed db n es h = h.3
 entries_shown Shown db n es h = tt
 entries_shown Parted db n es h = tt
 
-module _ (version : ℕ) (db : Database) (ns : List ℤ) (front taken after : Tables) (n : ℤ) (done : HasRead version db ns front taken) (can : CanReadOne version db taken n) (one : HasReadOne (layout_of version) db n taken after) (new : is_of ns n ≡ false) where
+module _ (version : ℕ) (db : Database) (ns : List ℤ) (front taken after : Tables) (n : ℤ) (done : HasReadEditions version db ns front taken) (can : CanReadOne version db taken n) (one : HasReadOne (layout_of version) db n taken after) (new : is_of ns n ≡ false) where
   abbrev layout : Layout
   layout = layout_of version
 
-  abbrev e : spec.Edition
+  abbrev e : spec.EditionRecord
   e = one.edition
 
-  abbrev es : List spec.Entry
+  abbrev es : List spec.EntryRecord
   es = one.given
 
   abbrev now : Tables
@@ -233,13 +233,13 @@ module _ (version : ℕ) (db : Database) (ns : List ℤ) (front taken after : Ta
   numbered_so : e.number ≡ n
   numbered_so = record_number layout db n e one.record'
 
-  entries_so : AllByRecursion (λ (x : spec.Entry). x.edition ≡ n) es
+  entries_so : AllByRecursion (λ (x : spec.EntryRecord). x.edition ≡ n) es
   entries_so = entries_number layout db n es one.entries
 
-  fits : Fits version db now
+  fits : AllGoOnFrom version db now
   fits T M K = goes_entries n (with_edition taken e) T (now_fits version db taken n can e one.record' T M K) es entries_so ([], entries_told db T M.items n (there version db taken n can T M K) layout (kept version db taken n can T M K) es one.entries ∙ sym (append-nil es)) can.no_entries
 
-  whole_read : HasRead version db (ns ++ n ∷ []) front now
+  whole_read : HasReadEditions version db (ns ++ n ∷ []) front now
   whole_read = record {
     marks = done.marks;
     items = done.items;
@@ -251,10 +251,10 @@ module _ (version : ℕ) (db : Database) (ns : List ℤ) (front taken after : Ta
     fits = fits;
     other_editions = (λ m k. let p = parts_of ns n m k in
         let apart : same_number e.number m ≡ false = ap (λ z. same_number z m) numbered_so ∙ turned n m (same_number n m) refl p.1 in
-        filter_passes_not (λ (x : spec.Edition). same_number x.number m) taken.editions e apart ∙ done.other_editions m p.0);
+        filter_passes_not (λ (x : spec.EditionRecord). same_number x.number m) taken.editions e apart ∙ done.other_editions m p.0);
     other_entries = (λ m k. let p = parts_of ns n m k in
-        filter-append (λ (x : spec.Entry). same_number x.edition m) taken.entries es ∙ (λ i. done.other_entries m p.0 i ++ none_of n m (turned n m (same_number n m) refl p.1) es entries_so i));
+        filter-append (λ (x : spec.EntryRecord). same_number x.edition m) taken.entries es ∙ (λ i. done.other_entries m p.0 i ++ none_of n m (turned n m (same_number n m) refl p.1) es entries_so i));
   }
 
-  pub read_more : HasRead version db (ns ++ n ∷ []) front after
-  read_more = subst (HasRead version db (ns ++ n ∷ []) front) (sym one.after_is) whole_read
+  pub read_more : HasReadEditions version db (ns ++ n ∷ []) front after
+  read_more = subst (HasReadEditions version db (ns ++ n ∷ []) front) (sym one.after_is) whole_read

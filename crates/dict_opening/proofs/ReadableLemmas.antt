@@ -10,7 +10,7 @@ use Rattle.dict_sql.specs.Columns.{Content, HasColumns}
 use Rattle.dict_sql.specs.Reads.{FailsToList}
 use Rattle.dict_sql.specs.declared.records.ReadError.{ReadError}
 use Rattle.dict_sql.specs.declared.records.ReadError.TheVariants.{NoRecord, Store}
-use Rattle.dict_scans.specs.Reading.{fault_of_store, fault_of_read}
+use Rattle.dict_scans.specs.Reading.{fault_of_store, reading_fault_of}
 use Rattle.dict_scans.specs.declared.fault.ReadingFault.TheVariants.{Damaged}
 use Rattle.dict_opening.proofs.NoneLemmas.{all_contains}
 
@@ -18,6 +18,6 @@ no_damage : (e : Error) → fault_of_store e ≡ Damaged → ⊥
 no_damage (SqliteFailure code.OutOfMemory) is = absurd (cc)
 no_damage e is = absurd (cc)
 
-pub none_listed : (columns : List Content) (rows : List Row) (old new : State) (error : ReadError) → FailsToList columns rows old new error → fault_of_read error ≡ Damaged → AllByRecursion (HasColumns columns) rows → ⊥
+pub none_listed : (columns : List Content) (rows : List Row) (old new : State) (error : ReadError) → FailsToList columns rows old new error → reading_fault_of error ≡ Damaged → AllByRecursion (HasColumns columns) rows → ⊥
 none_listed columns rows old new NoRecord h is all = h.1.2 (all_contains (HasColumns columns) rows h.1.0 all h.1.1)
 none_listed columns rows old new (Store e) h is all = no_damage e is

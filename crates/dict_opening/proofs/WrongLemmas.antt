@@ -22,7 +22,7 @@ use Rattle.dict_records.specs.Records as spec
 use Rattle.dict_records.specs.Records.{header_of}
 use Rattle.dict_records.specs.Typed.{owned_member, owned_kept}
 use Rattle.dict_records.specs.declared.records as typed
-use Rattle.dict_records.specs.declared.records.Stored.{Stored as Beside}
+use Rattle.dict_records.specs.declared.records.StoredRow.{StoredRow as Beside}
 use Rattle.std.specs.declared.alloc.Global.{Global}
 use Rattle.std.proofs.Common.{String}
 use Rattle.dict_sql.specs.Columns.{Content, HasColumns, kept_columns}
@@ -57,19 +57,19 @@ use Rattle.dict_rows.proofs.TakenLemmas.{same_itself, holds_same}
 use Rattle.dict_holdings.specs.AllTables.{with_derived}
 use Rattle.dict_holdings.specs.Files.{part_at, file_parts, parts_under, edition_parts, all_parts, index_octets}
 use Rattle.dict_holdings.specs.Holds.{Keeps}
-use Rattle.dict_holdings.specs.Readings.{KeepsRows, KeepsAll, editions, contents, name_of}
+use Rattle.dict_holdings.specs.Readings.{KeepsRows, KeepsAll, editions, contents, table_name_of}
 use Rattle.dict_holdings.proofs.ReadLemmas.{sorted_order, second_le, records_order}
 use Rattle.dict_holdings.proofs.ReadableLemmas.{held_readable}
 use Rattle.dict_holdings.proofs.ReadingLemmas.{members_kept, replies_kept, parts_kept}
 use Rattle.dict_scans.specs.Census.{one_of, is_in_file, is_known_part, is_of_contents, AreKnownApart}
 use Rattle.dict_scans.specs.Cursors.{InStore}
-use Rattle.dict_scans.specs.Entries.{behind, entry_cells}
+use Rattle.dict_scans.specs.Entries.{looked_behind_rowid, entry_cells}
 use Rattle.dict_scans.specs.Scans.{HasNoRecordIn, IsWrong}
 use Rattle.dict_scans.specs.Takers.{KeptRow, ids_given, HasIdsApart, HasIdTwice, refuses_replies}
 use Rattle.dict_scans.proofs.CodecLemmas.{Codec, read, read_stored, stored_rows, listed_records, member_codec, kept_codec, mark_codec, item_codec}
 use Rattle.dict_scans.proofs.NumberLemmas.{behind_column, same_int}
 use Rattle.dict_scans.proofs.RowidLemmas.{all_of_map}
-use Rattle.dict_opening.specs.Opens.{Keeping, KeepsNone, Fits, HoldsNoneAs, HasBegun, CanRead, AreReadableEditions, AreAllKnown, numbers_in}
+use Rattle.dict_opening.specs.Opens.{Keeping, KeepsNone, AllGoOnFrom, HoldsNoneAs, HasBegun, CanRead, AreReadableEditions, AreAllKnown, numbers_in}
 use Rattle.dict_opening.proofs.EntryLemmas.{HasEntryTable, entries_rows, each_row, number_is}
 use Rattle.dict_opening.proofs.FitLemmas.{front_read, fits_begun, fits_replies, none_kept}
 use Rattle.dict_opening.proofs.NoneLemmas.{last_holds}
@@ -125,7 +125,7 @@ module _ (db : Database) (T : Tables) (members : List spec.Member) (rows : IsPer
     ),
   )
 
-module _ (version : ℕ) (db : Database) (marks : List (Beside (typed.Mark.Mark (String Global)))) (items : List (Beside (typed.Item.Item (String Global)))) (members : List MemberRow)
+module _ (version : ℕ) (db : Database) (marks : List (Beside (typed.Mark.Mark (String Global)))) (items : List (Beside (typed.ItemRecord.ItemRecord (String Global)))) (members : List MemberRow)
     (lm : IsListing (codes "mark") (1 ∷ []) db (map stored_mark marks)) (li : IsListing (codes "item") (1 ∷ []) db (map stored_item items)) (lo : IsListing (codes "member") (1 ∷ 2 ∷ []) db (map stored_member members)) where
   stands_so : (T : Tables) (M : Catalogue) → Keeps (codes "member") member_row db T.members → Stands version T M → Stands version (record T { members = members_given members }) M
   stands_so T M keeps s =
@@ -237,7 +237,7 @@ both_true true b p q = q
 both_true false b p q = absurd (false≢true p)
 
 -- what is kept of editions and of their entries is of editions that the items name
-module _ (version : ℕ) (db : Database) (reader : Reader) (taken : Tables) (h : HasTaken version reader taken) (fits : Fits version db taken) (T : Tables) (M : Catalogue) (K : Keeping version db taken.members T M) where
+module _ (version : ℕ) (db : Database) (reader : Reader) (taken : Tables) (h : HasTaken version reader taken) (fits : AllGoOnFrom version db taken) (T : Tables) (M : Catalogue) (K : Keeping version db taken.members T M) where
   abbrev numbers : List ℤ
   numbers = numbers_in reader
 
@@ -261,24 +261,24 @@ module _ (version : ℕ) (db : Database) (reader : Reader) (taken : Tables) (h :
         all_of_map (drop 1) IsNamed (λ row. one_of numbers row ≡ true) (λ row p. numbered_row row p.0 numbers (behind_column row 0 ∙ p.1) p.2) (rows_of name db)
         (all_same IsNamed (map encode ws) (map (drop 1) (rows_of name db)) same (written ws known))
 
-  editions_known : AllByRecursion (λ (e : spec.Edition). is_of numbers e.number ≡ true) T.editions
-  editions_known = all_weaker (λ (e : spec.Edition). IsTrue (has_number M.items e.number)) (λ (e : spec.Edition). is_of numbers e.number ≡ true) (λ e k. number_named e.number k) T.editions K.stands.numbers
+  editions_known : AllByRecursion (λ (e : spec.EditionRecord). is_of numbers e.number ≡ true) T.editions
+  editions_known = all_weaker (λ (e : spec.EditionRecord). IsTrue (has_number M.items e.number)) (λ (e : spec.EditionRecord). is_of numbers e.number ≡ true) (λ e k. number_named e.number k) T.editions K.stands.numbers
 
   -- ---- editions
 
-  editions_named : (layout : Layout) → KeptAs layout db T → AreKnownApart (one_of numbers) (name_of (editions layout)) db
-  editions_named Plain k = record { apart = k.keeps.1.1.1.1.0.apart; known = named (codes "edition") edition_row (λ (e : spec.Edition). e.number) (λ e. refl) T.editions k.keeps.1.1.1.1.0.rows editions_known }
-  editions_named Keyed k = record { apart = k.keeps.1.1.1.1.0.apart; known = named (codes "edition") edition_row (λ (e : spec.Edition). e.number) (λ e. refl) T.editions k.keeps.1.1.1.1.0.rows editions_known }
-  editions_named Shown k = record { apart = k.keeps.1.1.1.1.0.apart; known = named (codes "edition") edition_row (λ (e : spec.Edition). e.number) (λ e. refl) T.editions k.keeps.1.1.1.1.0.rows editions_known }
-  editions_named Parted k = record { apart = k.keeps.1.1.1.1.0.apart; known = named (codes "edition") (λ e. header_row (header_of e)) (λ (e : spec.Edition). e.number) (λ e. refl) T.editions k.keeps.1.1.1.1.0.rows editions_known }
+  editions_named : (layout : Layout) → KeptAs layout db T → AreKnownApart (one_of numbers) (table_name_of (editions layout)) db
+  editions_named Plain k = record { apart = k.keeps.1.1.1.1.0.apart; known = named (codes "edition") edition_row (λ (e : spec.EditionRecord). e.number) (λ e. refl) T.editions k.keeps.1.1.1.1.0.rows editions_known }
+  editions_named Keyed k = record { apart = k.keeps.1.1.1.1.0.apart; known = named (codes "edition") edition_row (λ (e : spec.EditionRecord). e.number) (λ e. refl) T.editions k.keeps.1.1.1.1.0.rows editions_known }
+  editions_named Shown k = record { apart = k.keeps.1.1.1.1.0.apart; known = named (codes "edition") edition_row (λ (e : spec.EditionRecord). e.number) (λ e. refl) T.editions k.keeps.1.1.1.1.0.rows editions_known }
+  editions_named Parted k = record { apart = k.keeps.1.1.1.1.0.apart; known = named (codes "edition") (λ e. header_row (header_of e)) (λ (e : spec.EditionRecord). e.number) (λ e. refl) T.editions k.keeps.1.1.1.1.0.rows editions_known }
 
   -- ---- entries
 
   entries_named : (layout : Layout) → HasEntryTable layout → KeptAs layout db T → AllByRecursion (λ row. one_of numbers row ≡ true) (rows_of (codes "entry") db)
   entries_named layout has k =
-      all_weaker (λ row. (e : spec.Entry) × (behind layout row ≡ entry_cells layout e) × IsTrue (has_number M.items e.edition)) (λ row. one_of numbers row ≡ true)
+      all_weaker (λ row. (e : spec.EntryRecord) × (looked_behind_rowid layout row ≡ entry_cells layout e) × IsTrue (has_number M.items e.edition)) (λ row. one_of numbers row ≡ true)
       (λ row e. numbered_row row e.0.edition numbers (number_is layout row e.0 e.1) (number_named e.0.edition e.2)) (rows_of (codes "entry") db)
-      (each_row layout db T.entries (entries_rows layout has db T k.keeps.1.1.1.1.1.0) (λ (e : spec.Entry). IsTrue (has_number M.items e.edition)) K.stands.entries)
+      (each_row layout db T.entries (entries_rows layout has db T k.keeps.1.1.1.1.1.0) (λ (e : spec.EntryRecord). IsTrue (has_number M.items e.edition)) K.stands.entries)
 
   -- ---- parts
 
@@ -288,7 +288,7 @@ module _ (version : ℕ) (db : Database) (reader : Reader) (taken : Tables) (h :
   parts_known : AllByRecursion IsKnownPart (all_parts T)
   parts_known =
       all_flat_map IsKnownPart (edition_parts T.entries) T.editions
-      (all_weaker (λ (e : spec.Edition). is_of numbers e.number ≡ true) (λ e. AllByRecursion IsKnownPart (edition_parts T.entries e))
+      (all_weaker (λ (e : spec.EditionRecord). is_of numbers e.number ≡ true) (λ e. AllByRecursion IsKnownPart (edition_parts T.entries e))
       (λ e k. all_weaker (IsPartOf e.number) IsKnownPart (λ p is. (ap (is_of numbers) is.0 ∙ k, is.1)) (edition_parts T.entries e) (edition_parts_so e.number (index_octets (entries_of e.number T.entries)) e.body)) T.editions editions_known)
 
   abbrev IsInFile : Row → Type 0
@@ -312,7 +312,7 @@ module _ (version : ℕ) (db : Database) (reader : Reader) (taken : Tables) (h :
       let files = all_of_map (drop 1) IsInFile (λ row. is_in_file row ≡ true) in_file rows (all_same IsInFile (map part_row (all_parts T)) (map (drop 1) rows) kept.rows (files_written (all_parts T) parts_known)) in
       record { apart = kept.apart; known = all_with (λ row. one_of numbers row ≡ true) (λ row. is_in_file row ≡ true) (λ row. is_known_part numbers row ≡ true) (λ row p q. both_true (one_of numbers row) (is_in_file row) p q) rows numbered_so files }
 
-  contents_named : (layout : Layout) → KeptAs layout db T → AreKnownApart (is_of_contents layout numbers) (name_of (contents layout)) db
+  contents_named : (layout : Layout) → KeptAs layout db T → AreKnownApart (is_of_contents layout numbers) (table_name_of (contents layout)) db
   contents_named Plain k = record { apart = k.keeps.1.1.1.1.1.0.apart; known = entries_named Plain tt k }
   contents_named Keyed k = record { apart = k.keeps.1.1.1.1.1.0.apart; known = entries_named Keyed tt k }
   contents_named Shown k = record { apart = k.keeps.1.1.1.1.1.0.apart; known = entries_named Shown tt k }
@@ -323,13 +323,13 @@ module _ (version : ℕ) (db : Database) (reader : Reader) (taken : Tables) (h :
       let k = kept_as version db taken.members T M K in
       record { editions = editions_named (layout_of version) k; contents = contents_named (layout_of version) k }
 
-pub rows_stray : (version : ℕ) (db : Database) (reader : Reader) (taken : Tables) → HasTaken version reader taken → Fits version db taken
+pub rows_stray : (version : ℕ) (db : Database) (reader : Reader) (taken : Tables) → HasTaken version reader taken → AllGoOnFrom version db taken
     → (AreReadableEditions (layout_of version) db → AreAllKnown (layout_of version) db (numbers_in reader) → ⊥) → KeepsNone version db taken.members
 rows_stray version db reader taken h fits wrong T M K = wrong (K.records.1.1.1.1.0, (K.records.1.1.1.1.1.0, tt)) (all_named version db reader taken h fits T M K)
 
 -- ---- the kept replies
 
-pub replies_wrong : (version : ℕ) (db : Database) (reader : Reader) (taken : Tables) → HasTaken version reader taken → Fits version db taken → taken.kept ≡ [] → IsWrong stored_kept kept_columns refuses_replies (InStore AllKept) db reader → KeepsNone version db taken.members
+pub replies_wrong : (version : ℕ) (db : Database) (reader : Reader) (taken : Tables) → HasTaken version reader taken → AllGoOnFrom version db taken → taken.kept ≡ [] → IsWrong stored_kept kept_columns refuses_replies (InStore AllKept) db reader → KeepsNone version db taken.members
 replies_wrong version db reader taken h fits none (inl w) T M K = w.3 (last_holds (HasColumns kept_columns) (rows_of (codes "kept") db) (map stored_kept w.0) w.2.0 w.1 K.records.1.1.1.0 w.2.1.same)
 replies_wrong version db reader taken h fits none (inr w) T M K = none_kept version db (with_replies taken (kept_given w.0)) (fits_replies version db taken fits none w.0 w.1) (w.2 version taken h) T M K
 
@@ -342,7 +342,7 @@ once_front xs ys h text =
     let whole = sum_append (λ one. cond (bytes_eq one text) 1 0) xs ys in
     omega (arith, few, whole)
 
-abbrev id_of : spec.Kept → List ℕ
+abbrev id_of : spec.KeptRecord → List ℕ
 id_of row = row.id
 
 pub ids_twice : (version : ℕ) (db : Database) (members : List spec.Member) → HasNoRecordIn stored_kept kept_columns (InStore KeptById) db ⊎ HasIdTwice db → KeepsNone version db members

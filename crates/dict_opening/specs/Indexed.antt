@@ -2,7 +2,7 @@
 use Rattle.std.specs.Prelude.{◌≡◌, ℕ, pos, nat_eq, List, map, Some, if◌then◌else◌}
 use Rattle.std.specs.List.{AllByRecursion}
 use Rattle.sqlite.specs.Effect.{Database}
-use Rattle.dict_records.specs.Records.{Entry}
+use Rattle.dict_records.specs.Records.{EntryRecord}
 use Rattle.dict_index.specs.Edition.{Edition}
 use Rattle.dict_catalogue.specs.Items.{Stored, name_of, editions_of}
 use Rattle.dict_catalogue.specs.Steps.{Catalogue}
@@ -22,7 +22,7 @@ pub record HasIndex (tables : Tables) (owner : List ℕ) (indexes : List (ℕ ×
 
 -- The database holds the catalogue under this version, and under the number of each of its editions, current and former, stands an
 -- index of the lines that its tables hold of that edition.
-pub record IsIndexed (version : ℕ) (db : Database) (M : Catalogue) (indexes : List (ℕ × List Indexed)) : Type 0 where
+pub record IsHeldIndexed (version : ℕ) (db : Database) (M : Catalogue) (indexes : List (ℕ × List Indexed)) : Type 0 where
   pub holds : Holds version db M
   pub each : AllByRecursion (λ item. AllByRecursion (HasIndex holds.tables (name_of item) indexes) (editions_of item)) M.items
 
@@ -34,7 +34,7 @@ HasPut number entries old new = (q : ℕ) → entries_under q new ≡ (if nat_eq
 
 -- Under the number stand the entries that the rows of its edition are.
 pub record HasRowsIndexed (layout : Layout) (db : Database) (indexes : List (ℕ × List Indexed)) (number : ℕ) : Type 0 where
-  pub given : List Entry
+  pub given : List EntryRecord
   pub entries : HasEntries layout db (pos number) given
   pub stands : entries_under number indexes ≡ Some (map indexed_of given)
 

@@ -5,10 +5,10 @@ use Rattle.std.specs.declared.alloc.Global.{Global}
 use Rattle.sqlite.specs.Effect.{Database}
 use Rattle.sqlite.specs.Order.{Row}
 use Rattle.sqlite.specs.declared.types.Value.TheVariants.{Int}
-use Rattle.dict_records.specs.Records.{Mark, Member, Entry, Edition, header_of}
+use Rattle.dict_records.specs.Records.{Mark, Member, EntryRecord, EditionRecord, header_of}
 use Rattle.dict_records.specs.Typed.{owned_edition, owned_header}
 use Rattle.dict_records.specs.declared.records as typed
-use Rattle.dict_records.specs.declared.records.Stored.{Stored}
+use Rattle.dict_records.specs.declared.records.StoredRow.{StoredRow}
 use Rattle.dict_tables.specs.Found.{HasOwn}
 use Rattle.dict_sql.specs.Columns.{Content, edition_columns}
 use Rattle.dict_sql.specs.Effects.{HasApartRowids, rows_of, equals_number}
@@ -24,14 +24,14 @@ use Rattle.dict_rows.specs.Given.{kept_given, marks_given}
 use Rattle.dict_rows.specs.Order.{InOrder, is_of}
 use Rattle.dict_rows.specs.Stands.{Stands, has_number}
 use Rattle.dict_rows.specs.Tables.{Tables, editions_numbered, entries_of}
-use Rattle.dict_rows.specs.Taken.{GoesOn, HasTaken, HasIdsOnce, items_in, with_edition}
+use Rattle.dict_rows.specs.Taken.{GoesOnFrom, HasTaken, HasIdsOnce, items_in, with_edition}
 use Rattle.dict_rows.specs.Versions.{Layout, Plain, Keyed, Shown, Parted, layout_of, IsVersion}
 use Rattle.dict_rows.specs.Whole.{with_entries, with_replies}
 use Rattle.dict_rows.specs.declared.reader.Reader.{Reader}
 use Rattle.dict_holdings.specs.AllTables.{with_derived}
 pub use Rattle.dict_holdings.specs.Holds.{HoldsNone, HoldsNoneAs}
 pub use Rattle.dict_holdings.specs.Readings.{HasReadableRows, HasRowidsApart}
-use Rattle.dict_holdings.specs.Readings.{Reading, KeepsAll, AreShownIn, IsReadable, readings, edition_readings, editions, contents, tables_of, name_of}
+use Rattle.dict_holdings.specs.Readings.{TableReading, KeepsAll, AreShownIn, IsReadable, readings, edition_readings, editions, contents, tables_of, table_name_of}
 use Rattle.dict_scans.specs.Census.{one_of, is_of_contents, AreKnownApart}
 use Rattle.dict_scans.specs.Entries.{HasEntries}
 use Rattle.dict_scans.specs.Files.{HasFile, HasNoFile}
@@ -51,21 +51,21 @@ abbrev pub KeepsNone : ℕ → Database → List Member → Type 0
 KeepsNone version db members = (tables : Tables) (M : Catalogue) → Keeping version db members tables M → ⊥
 
 -- all such tables go on from these
-abbrev pub Fits : ℕ → Database → Tables → Type 0
-Fits version db front = (tables : Tables) (M : Catalogue) → Keeping version db front.members tables M → GoesOn front tables
+abbrev pub AllGoOnFrom : ℕ → Database → Tables → Type 0
+AllGoOnFrom version db front = (tables : Tables) (M : Catalogue) → Keeping version db front.members tables M → GoesOnFrom front tables
 
 -- ---- the record of an edition
 
 -- one record has the edition's number, and is this one
-abbrev pub HasWholeRecord : Database → ℤ → Edition → Type 0
+abbrev pub HasWholeRecord : Database → ℤ → EditionRecord → Type 0
 HasWholeRecord db n e = (row : EditionRow) × IsSelection (codes "edition") (equals_number 1 n) (1 ∷ []) db (stored_edition row ∷ []) × (e ≡ owned_edition row.value)
 
 -- the same of a record without the text
-abbrev pub HasHeader : Database → ℤ → Edition → Type 0
+abbrev pub HasHeader : Database → ℤ → EditionRecord → Type 0
 HasHeader db n e = (row : StoredHeader) × IsSelection (codes "edition") (equals_number 1 n) (1 ∷ []) db (stored_header row ∷ []) × (header_of e ≡ owned_header row.value)
 
 -- one record has the edition's number, and is this one, with this text
-abbrev pub HasRecord : Layout → Database → ℤ → Edition → Type 0
+abbrev pub HasRecord : Layout → Database → ℤ → EditionRecord → Type 0
 HasRecord Plain db n e = HasWholeRecord db n e
 HasRecord Keyed db n e = HasWholeRecord db n e
 HasRecord Shown db n e = HasWholeRecord db n e
@@ -88,15 +88,15 @@ HasNoEdition Parted db n = IsNotOne stored_header header_columns db n ⊎ HasNoF
 
 -- what is known before the edition of a number is read
 pub record CanReadOne (version : ℕ) (db : Database) (taken : Tables) (n : ℤ) : Type 0 where
-  pub fits : Fits version db taken
+  pub fits : AllGoOnFrom version db taken
   pub known : (tables : Tables) (M : Catalogue) → Keeping version db taken.members tables M → has_number M.items n ≡ true
   pub no_editions : editions_numbered n taken.editions ≡ []
   pub no_entries : entries_of n taken.entries ≡ []
 
 -- the edition of this number was read, and its entries
 pub record HasReadOne (layout : Layout) (db : Database) (n : ℤ) (taken after : Tables) : Type 0 where
-  pub edition : Edition
-  pub given : List Entry
+  pub edition : EditionRecord
+  pub given : List EntryRecord
   pub record' : HasRecord layout db n edition
   pub entries : HasEntries layout db n given
   pub after_is : after ≡ with_entries (with_edition taken edition) given
@@ -106,16 +106,16 @@ pub record CanRead (version : ℕ) (db : Database) (reader : Reader) (numbers : 
   pub taken : HasTaken version reader front
   pub no_editions : front.editions ≡ []
   pub no_entries : front.entries ≡ []
-  pub fits : Fits version db front
+  pub fits : AllGoOnFrom version db front
   pub known : AllByRecursion (λ n. has_number (items_in reader) n ≡ true) numbers
   pub apart : InOrder (λ a b. a ≡ b → ⊥) numbers
 
 -- the rows that pass the test are those of what was read
-abbrev pub HasRowsOf : (Row → Bool) → Database → Tables → Reading → Type 0
-HasRowsOf test db after r = IsPermutation (r.rows (with_derived after)) (map (λ row. drop 1 (r.looked row)) (filter test (rows_of (name_of r) db)))
+abbrev pub HasRowsOf : (Row → Bool) → Database → Tables → TableReading → Type 0
+HasRowsOf test db after r = IsPermutation (r.rows (with_derived after)) (map (λ row. drop 1 (r.looked row)) (filter test (rows_of (table_name_of r) db)))
 
 -- the editions of these numbers were read, and their entries
-pub record HasRead (version : ℕ) (db : Database) (numbers : List ℤ) (front after : Tables) : Type 0 where
+pub record HasReadEditions (version : ℕ) (db : Database) (numbers : List ℤ) (front after : Tables) : Type 0 where
   pub marks : after.marks ≡ front.marks
   pub items : after.items ≡ front.items
   pub members : after.members ≡ front.members
@@ -123,7 +123,7 @@ pub record HasRead (version : ℕ) (db : Database) (numbers : List ℤ) (front a
   pub editions_are : HasRowsOf (one_of numbers) db after (editions (layout_of version))
   pub contents_are : HasRowsOf (is_of_contents (layout_of version) numbers) db after (contents (layout_of version))
   pub shown : AreShownIn (layout_of version) after.entries
-  pub fits : Fits version db after
+  pub fits : AllGoOnFrom version db after
   pub other_editions : (n : ℤ) → is_of numbers n ≡ false → editions_numbered n after.editions ≡ []
   pub other_entries : (n : ℤ) → is_of numbers n ≡ false → entries_of n after.entries ≡ []
 
@@ -137,8 +137,8 @@ HasVersionTables version db = HasTablesOf (layout_of version) db
 -- ---- the whole file
 
 -- a table has a row for each of its records and no others
-abbrev pub HasRows : Database → Tables → Reading → Type 0
-HasRows db tables r = IsPermutation (r.rows (with_derived tables)) (map (λ row. drop 1 (r.looked row)) (rows_of (name_of r) db))
+abbrev pub HasRows : Database → Tables → TableReading → Type 0
+HasRows db tables r = IsPermutation (r.rows (with_derived tables)) (map (λ row. drop 1 (r.looked row)) (rows_of (table_name_of r) db))
 
 -- Each table of this version does.
 abbrev pub HasAllRows : ℕ → Database → Tables → Type 0
@@ -152,7 +152,7 @@ pub record HasBegun (version : ℕ) (db : Database) (front : Tables) : Type 0 wh
   pub no_editions : front.editions ≡ []
   pub no_entries : front.entries ≡ []
   pub no_kept : front.kept ≡ []
-  pub fits : Fits version db front
+  pub fits : AllGoOnFrom version db front
   pub none : KeepsNone version db front.members → HoldsNoneAs version db
 
 -- the numbers of the editions of the items
@@ -161,12 +161,12 @@ numbers_in reader = map pos (edition_numbers (items_in reader))
 
 -- the editions that the items name were read, with their entries
 abbrev pub HasNamed : ℕ → Database → Reader → Tables → Tables → Type 0
-HasNamed version db reader front after = HasRead version db (numbers_in reader) front after
+HasNamed version db reader front after = HasReadEditions version db (numbers_in reader) front after
 
 -- no two rows of the editions have one rowid, nor two of what is kept of their entries, and each is of an edition that has one of these numbers
 pub record AreAllKnown (layout : Layout) (db : Database) (numbers : List ℤ) : Type 0 where
-  pub editions : AreKnownApart (one_of numbers) (name_of (editions layout)) db
-  pub contents : AreKnownApart (is_of_contents layout numbers) (name_of (contents layout)) db
+  pub editions : AreKnownApart (one_of numbers) (table_name_of (editions layout)) db
+  pub contents : AreKnownApart (is_of_contents layout numbers) (table_name_of (contents layout)) db
 
 -- the rows of both stand for records
 abbrev pub AreReadableEditions : Layout → Database → Type 0
@@ -190,14 +190,14 @@ pub record HasReplies (db : Database) (taken after : Tables) : Type 0 where
 pub record HasAll (version : ℕ) (db : Database) (reader : Reader) (front after : Tables) : Type 0 where
   pub keeps : HasAllRows version db after
   pub shown : AreShownIn (layout_of version) after.entries
-  pub goes : GoesOn front after
-  pub fits : Fits version db after
+  pub goes : GoesOnFrom front after
+  pub fits : AllGoOnFrom version db after
   pub ids : HasIdsOnce after
   pub known : AreAllKnown (layout_of version) db (numbers_in reader)
 
 -- the rowids of editions, and of what is kept of their entries, are apart
 abbrev pub AreApartEditions : Layout → Database → Type 0
-AreApartEditions layout db = AllByRecursion (λ r. HasApartRowids (rows_of (name_of r) db)) (edition_readings layout)
+AreApartEditions layout db = AllByRecursion (λ r. HasApartRowids (rows_of (table_name_of r) db)) (edition_readings layout)
 
 -- the records of all rows stand for the catalogue of this summary, under this version
 pub record HasSummary (version : ℕ) (db : Database) (holdings : Holdings (List ℕ)) : Type 0 where
@@ -212,15 +212,15 @@ pub record HasSummary (version : ℕ) (db : Database) (holdings : Holdings (List
 -- ---- the mark
 
 -- the mark of a file of this version
-abbrev pub marked : ℕ → ℤ → Mark
-marked version installs = record { id = pos 1; magic = codes "dictcat"; version = pos version; installs = installs }
+abbrev pub mark_of_version : ℕ → ℤ → Mark
+mark_of_version version installs = record { id = pos 1; magic = codes "dictcat"; version = pos version; installs = installs }
 
 -- There is one mark with the product's word and a version, and its table is the product's, whether or not a foreign key refers to it.
 pub record HasMark (db : Database) (version : ℕ) : Type 0 where
   pub own : HasMarkTable db.schema
   pub rowid : ℤ
   pub installs : ℤ
-  pub rows : rows_of (codes "mark") db ≡ (Int rowid ∷ mark_row (marked version installs)) ∷ []
+  pub rows : rows_of (codes "mark") db ≡ (Int rowid ∷ mark_row (mark_of_version version installs)) ∷ []
   pub counted : 1 ≤ version
 
 -- there is the mark of a version that is known
@@ -230,5 +230,5 @@ pub record HasKnownMark (db : Database) : Type 0 where
   pub marked : HasMark db version
 
 -- the list of marks is one of this version, with the product's id and word
-abbrev pub IsMarked : List (Stored (typed.Mark.Mark (String Global))) → ℕ → Type 0
-IsMarked marks version = (installs : ℤ) × (marks_given marks ≡ marked version installs ∷ []) × (1 ≤ version)
+abbrev pub IsMarked : List (StoredRow (typed.Mark.Mark (String Global))) → ℕ → Type 0
+IsMarked marks version = (installs : ℤ) × (marks_given marks ≡ mark_of_version version installs ∷ []) × (1 ≤ version)

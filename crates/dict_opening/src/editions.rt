@@ -2,25 +2,25 @@
 ghost use Rattle.std.specs.Prelude.{◌≡◌, ◌++◌, ℕ, pos, List, [], map, IfErr, OnOk};
 ghost use Rattle.sqlite.specs.State.{HasCleanDisk};
 ghost use Rattle.sqlite.specs.Held.{state};
-ghost use Rattle.dict_records.specs.Records.{Entry as EntryRecord};
+ghost use Rattle.dict_records.specs.Records.{EntryRecord};
 ghost use Rattle.dict_sql.specs.Effects.{WhileOpen};
 ghost use Rattle.dict_rows.specs.Tables.{Tables, entries_of};
 ghost use Rattle.dict_rows.specs.Taken.{HasTaken};
 ghost use Rattle.dict_rows.specs.Versions.{layout_of as layout_at};
-ghost use Rattle.dict_scans.specs.Reading.{Same, OnlyReads, IsExcused};
+ghost use Rattle.dict_scans.specs.Reading.{Same, OnlyReads, IsExcusedReading};
 ghost use Rattle.dict_scans.specs.Entries.{HasEntries, HasWrongEntries, TakesEntries};
 ghost use Rattle.dict_scans.specs.Indexing.{indexed_of};
 ghost use Rattle.dict_opening.specs.Indexed.{HasPut, HaveRowsIndexed};
 ghost use Rattle.dict_opening.specs.Layouts.{layout_in};
-ghost use Rattle.dict_opening.specs.Opens.{KeepsNone, HasVersionTables, HasTablesOf, CanReadOne, HasReadOne, CanRead, HasRead};
+ghost use Rattle.dict_opening.specs.Opens.{KeepsNone, HasVersionTables, HasTablesOf, CanReadOne, HasReadOne, CanRead, HasReadEditions};
 
 use crate::layout::{TableLayout, layout_of};
 use crate::texts::read_edition;
 use dict_lookup::Indexes;
 use dict_rows::number_in;
 use dict_scans::{
-    EditionIndex, EditionReader, ReadingFault, fault_of_rows, read_filed_entries, read_old_entries,
-    read_plain_entries, read_shown_entries,
+    EditionIndex, IndexingReader, ReadingFault, fault_of_rows, read_filed_entries,
+    read_old_entries, read_plain_entries, read_shown_entries,
 };
 use sqlite::{Alter, Connection};
 use std::alloc::Global;
@@ -32,11 +32,11 @@ fn read_entries<S: Alter>(
     conn: &mut Connection<S>,
     layout: TableLayout,
     number: i64,
-    reader: &mut EditionReader,
+    reader: &mut IndexingReader,
 ) -> Result<(), ReadingFault>
     requires { WhileOpen (state S.Store conn.old) (HasTablesOf (layout_in layout)) }
     ensures reads { OnlyReads (state S.Store conn.old) (state S.Store conn.new) }
-    ensures failed { HasCleanDisk (state S.Store conn.new) → IfErr result (IsExcused (state S.Store conn.old) (state S.Store conn.new)) }
+    ensures failed { HasCleanDisk (state S.Store conn.new) → IfErr result (IsExcusedReading (state S.Store conn.old) (state S.Store conn.new)) }
     ensures same { HasCleanDisk (state S.Store conn.new) → OnOk result (Same (state S.Store conn.old) (state S.Store conn.new)) }
     ensures whole { HasCleanDisk (state S.Store conn.new) → OnOk result ((es : List EntryRecord) × TakesEntries (layout_in layout) (state S.Store conn.old).now number reader.old.reader reader.new.reader es × (reader.new.index ≡ reader.old.index ++ map indexed_of es)) }
     ensures damaged { HasCleanDisk (state S.Store conn.new) → IfErr result (λ fault. fault ≡ ReadingFault.Damaged → HasWrongEntries (layout_in layout) (state S.Store conn.old).now number reader.old.reader) }
@@ -55,11 +55,11 @@ fn read_number<S: Alter>(
     conn: &mut Connection<S>,
     version: u64,
     number: i64,
-    reader: &mut EditionReader,
+    reader: &mut IndexingReader,
 ) -> Result<(), ReadingFault>
     requires { WhileOpen (state S.Store conn.old) (HasVersionTables version) }
     ensures reads { OnlyReads (state S.Store conn.old) (state S.Store conn.new) }
-    ensures failed { HasCleanDisk (state S.Store conn.new) → IfErr result (IsExcused (state S.Store conn.old) (state S.Store conn.new)) }
+    ensures failed { HasCleanDisk (state S.Store conn.new) → IfErr result (IsExcusedReading (state S.Store conn.old) (state S.Store conn.new)) }
     ensures same { HasCleanDisk (state S.Store conn.new) → OnOk result (Same (state S.Store conn.old) (state S.Store conn.new)) }
     ensures whole { HasCleanDisk (state S.Store conn.new) → OnOk result ((taken : Tables) → HasTaken version reader.old.reader taken → entries_of number taken.entries ≡ [] → (after : Tables) × HasTaken version reader.new.reader after × HasReadOne (layout_at version) (state S.Store conn.old).now number taken after) }
     ensures indexed { HasCleanDisk (state S.Store conn.new) → OnOk result ((given : List EntryRecord) × HasEntries (layout_at version) (state S.Store conn.old).now number given × (reader.new.index ≡ map indexed_of given)) }
@@ -104,14 +104,14 @@ pub(crate) fn read_numbered_editions<S: Alter>(
     conn: &mut Connection<S>,
     version: u64,
     numbers: &[i64],
-    reader: &mut EditionReader,
+    reader: &mut IndexingReader,
     indexes: &mut Indexes,
 ) -> Result<(), ReadingFault>
     requires { WhileOpen (state S.Store conn.old) (HasVersionTables version) }
     ensures reads { OnlyReads (state S.Store conn.old) (state S.Store conn.new) }
-    ensures failed { HasCleanDisk (state S.Store conn.new) → IfErr result (IsExcused (state S.Store conn.old) (state S.Store conn.new)) }
+    ensures failed { HasCleanDisk (state S.Store conn.new) → IfErr result (IsExcusedReading (state S.Store conn.old) (state S.Store conn.new)) }
     ensures same { HasCleanDisk (state S.Store conn.new) → OnOk result (Same (state S.Store conn.old) (state S.Store conn.new)) }
-    ensures whole { HasCleanDisk (state S.Store conn.new) → OnOk result ((front : Tables) → CanRead version (state S.Store conn.old).now reader.old.reader numbers.now front → (after : Tables) × HasTaken version reader.new.reader after × HasRead version (state S.Store conn.old).now numbers.now front after) }
+    ensures whole { HasCleanDisk (state S.Store conn.new) → OnOk result ((front : Tables) → CanRead version (state S.Store conn.old).now reader.old.reader numbers.now front → (after : Tables) × HasTaken version reader.new.reader after × HasReadEditions version (state S.Store conn.old).now numbers.now front after) }
     ensures indexed { HasCleanDisk (state S.Store conn.new) → OnOk result ((ns : List ℕ) → numbers.now ≡ map pos ns → HaveRowsIndexed (layout_at version) (state S.Store conn.old).now ns indexes.new) }
     ensures damaged { HasCleanDisk (state S.Store conn.new) → IfErr result (λ fault. fault ≡ ReadingFault.Damaged → (front : Tables) → CanRead version (state S.Store conn.old).now reader.old.reader numbers.now front → KeepsNone version (state S.Store conn.old).now front.members) }
 {

@@ -2,7 +2,7 @@
 ghost use Rattle.std.specs.Prelude.{◌≡◌, ◌↔◌, IsTrue};
 ghost use Rattle.std.specs.List.{AllByRecursion};
 ghost use Rattle.dict_tables.specs.Found.{HasOwn};
-ghost use Rattle.dict_tables.specs.Keyed.{entry, old_entry, word, gram};
+ghost use Rattle.dict_tables.specs.Keyed.{entry_with_keys, old_entry, word, gram};
 ghost use Rattle.dict_tables.specs.Tables.{mark, item, member, edition, kept};
 ghost use Rattle.dict_edition_sql.specs.HeaderTable.{header};
 ghost use Rattle.dict_edition_sql.specs.PartTable.{part};
@@ -93,7 +93,7 @@ fn has_keyed_tables(schema: &Schema) -> bool
 
 // The entries of schema 4, with their words and grams.
 fn has_filed_tables(schema: &Schema) -> bool
-    ensures { IsTrue result ↔ (HasOwn schema.now entry × HasOwn schema.now word × HasOwn schema.now gram) }
+    ensures { IsTrue result ↔ (HasOwn schema.now entry_with_keys × HasOwn schema.now word × HasOwn schema.now gram) }
 {
     has_keyed_table(schema, KeyedTable::Entry) && has_pieces(schema)
 }

@@ -8,7 +8,7 @@ ghost use Rattle.dict_sql.specs.Encodings.{stored_mark};
 ghost use Rattle.dict_sql.specs.Reads.{Lists, FailsToRead, FailsToList};
 ghost use Rattle.dict_opening.specs.Marks.{HasMarkTable};
 
-use dict_records::{Mark, Stored};
+use dict_records::{Mark, StoredRow};
 use dict_sql::read::records_of;
 use dict_sql::records::ReadError;
 use sqlite::{Alter, Connection, Error, Row};
@@ -28,7 +28,7 @@ fn mark_rows<S: Alter>(conn: &mut Connection<S>) -> Result<Vec<Row>, Error>
 pub(crate) fn marks<S: Alter>(
     alloc: Global,
     conn: &mut Connection<S>,
-) -> Result<Vec<Stored<Mark<String>>>, ReadError>
+) -> Result<Vec<StoredRow<Mark<String>>>, ReadError>
     requires { WhileOpen (state S.Store conn.old) (λ db. HasMarkTable db.schema) }
     ensures listed { HasCleanDisk (state S.Store conn.new) → IfOk result (λ all. Lists (codes "mark") (1 ∷ []) (state S.Store conn.old) (state S.Store conn.new) (map stored_mark all.items)) }
     ensures failed { HasCleanDisk (state S.Store conn.new) → IfErr result (FailsToList mark_columns (rows_of (codes "mark") (state S.Store conn.old).now) (state S.Store conn.old) (state S.Store conn.new)) }

@@ -8,9 +8,9 @@ ghost use Rattle.dict_sql.specs.Reads.{IsListing};
 ghost use Rattle.dict_catalogue.specs.Steps.{Catalogue, summary_of};
 ghost use Rattle.dict_catalogue.specs.Views.{summary_shown};
 ghost use Rattle.dict_holdings.specs.Holds.{Holds, Rests};
-ghost use Rattle.dict_scans.specs.Reading.{Same, OnlyReads, IsOfOpening, IsExcused, HasFailed, fault_told};
-ghost use Rattle.dict_opening.specs.Indexed.{IsIndexed};
-ghost use Rattle.dict_opening.specs.Opens.{HoldsNone, HoldsNoneAs, HasMark, HasKnownMark, IsMarked, marked};
+ghost use Rattle.dict_scans.specs.Reading.{Same, OnlyReads, IsOfOpening, IsExcusedReading, HasFailedToRead, fault_told};
+ghost use Rattle.dict_opening.specs.Indexed.{IsHeldIndexed};
+ghost use Rattle.dict_opening.specs.Opens.{HoldsNone, HoldsNoneAs, HasMark, HasKnownMark, IsMarked, mark_of_version};
 ghost use Rattle.dict_rows.specs.Versions.{known, IsVersion};
 
 use crate::layout::has_layout;
@@ -22,7 +22,7 @@ use dict_catalogue::Summary;
 use dict_desk::Fault;
 use dict_holdings::fault_of;
 use dict_lookup::Indexes;
-use dict_records::{Mark, Stored};
+use dict_records::{Mark, StoredRow};
 use dict_rows::{KNOWN_VERSION, number_in};
 use dict_scans::ReadingFault;
 use dict_sql::records::ReadError;
@@ -35,12 +35,12 @@ fn read_tables<S: Alter>(
     alloc: Global,
     conn: &mut Connection<S>,
     version: u64,
-    marks: &[Stored<Mark<String>>],
+    marks: &[StoredRow<Mark<String>>],
 ) -> Result<(Summary, Indexes), ReadingFault>
     ensures reads { OnlyReads (state S.Store conn.old) (state S.Store conn.new) }
-    ensures failed { HasCleanDisk (state S.Store conn.new) → IfErr result (IsExcused (state S.Store conn.old) (state S.Store conn.new)) }
+    ensures failed { HasCleanDisk (state S.Store conn.new) → IfErr result (IsExcusedReading (state S.Store conn.old) (state S.Store conn.new)) }
     ensures same { HasCleanDisk (state S.Store conn.new) → OnOk result (Same (state S.Store conn.old) (state S.Store conn.new)) }
-    ensures holds { HasCleanDisk (state S.Store conn.new) → IfOk result (λ read. IsListing (codes "mark") (1 ∷ []) (state S.Store conn.old).now (map stored_mark marks.now) → (M : Catalogue) × Holds version (state S.Store conn.old).now M × (summary_of M ≡ summary_shown read.0) × IsIndexed version (state S.Store conn.old).now M read.1) }
+    ensures holds { HasCleanDisk (state S.Store conn.new) → IfOk result (λ read. IsListing (codes "mark") (1 ∷ []) (state S.Store conn.old).now (map stored_mark marks.now) → (M : Catalogue) × Holds version (state S.Store conn.old).now M × (summary_of M ≡ summary_shown read.0) × IsHeldIndexed version (state S.Store conn.old).now M read.1) }
     ensures damaged { HasCleanDisk (state S.Store conn.new) → IfErr result (λ fault. fault ≡ ReadingFault.Damaged → IsListing (codes "mark") (1 ∷ []) (state S.Store conn.old).now (map stored_mark marks.now) → HoldsNoneAs version (state S.Store conn.old).now) }
 {
     if !has_layout(conn.schema(), version) {
@@ -62,8 +62,8 @@ fn is_one(found: &i64) -> bool
 
 /// The version that a mark tells.
 fn version_in(mark: &Mark<String>) -> Option<u64>
-    ensures told { IfSome result (λ version. (owned_mark mark.now ≡ marked version mark.now.installs) × (1 ≤ version)) }
-    ensures none { IfNone result ((version : ℕ) (installs : ℤ) → owned_mark mark.now ≡ marked version installs → 1 ≤ version → ⊥) }
+    ensures told { IfSome result (λ version. (owned_mark mark.now ≡ mark_of_version version mark.now.installs) × (1 ≤ version)) }
+    ensures none { IfNone result ((version : ℕ) (installs : ℤ) → owned_mark mark.now ≡ mark_of_version version installs → 1 ≤ version → ⊥) }
 {
     if !is_one(&mark.id) || mark.magic.as_str() != "dictcat" {
         return None;
@@ -76,7 +76,7 @@ fn version_in(mark: &Mark<String>) -> Option<u64>
 }
 
 /// The version that a readable mark tells.
-fn version_of(marks: &[Stored<Mark<String>>]) -> Option<u64>
+fn version_of(marks: &[StoredRow<Mark<String>>]) -> Option<u64>
     ensures told { IfSome result (λ version. IsMarked marks.now version) }
     ensures none { IfNone result ((version : ℕ) → IsMarked marks.now version → ⊥) }
 {
@@ -90,9 +90,9 @@ fn version_of(marks: &[Stored<Mark<String>>]) -> Option<u64>
 fn read_mark<S: Alter>(
     alloc: Global,
     conn: &mut Connection<S>,
-) -> Result<(u64, Vec<Stored<Mark<String>>>), Fault>
+) -> Result<(u64, Vec<StoredRow<Mark<String>>>), Fault>
     ensures reads { OnlyReads (state S.Store conn.old) (state S.Store conn.new) }
-    ensures failed { HasCleanDisk (state S.Store conn.new) → result ≡ Err Fault.Disk → HasFailed (state S.Store conn.old) (state S.Store conn.new) }
+    ensures failed { HasCleanDisk (state S.Store conn.new) → result ≡ Err Fault.Disk → HasFailedToRead (state S.Store conn.old) (state S.Store conn.new) }
     ensures same { HasCleanDisk (state S.Store conn.new) → OnOk result (Same (state S.Store conn.old) (state S.Store conn.new) × IsTrue (state S.Store conn.new).is_open) }
     ensures marked { HasCleanDisk (state S.Store conn.new) → IfOk result (λ found. IsListing (codes "mark") (1 ∷ []) (state S.Store conn.old).now (map stored_mark found.1.items) × HasMark (state S.Store conn.old).now found.0) }
     ensures known { IfOk result (λ found. IsVersion found.0) }
@@ -148,14 +148,14 @@ pub fn read_catalogue<S: Alter>(
     conn: &mut Connection<S>,
 ) -> Result<(u64, Summary, Indexes), Fault>
     requires { conn.old.in_transaction ≡ false }
-    ensures rests { HasCleanDisk (state S.Store conn.new) → IfOk result (λ found. (M : Catalogue) × Rests found.0 (state S.Store conn.new) M × (summary_of M ≡ summary_shown found.1) × IsIndexed found.0 (state S.Store conn.new).committed M found.2) }
+    ensures rests { HasCleanDisk (state S.Store conn.new) → IfOk result (λ found. (M : Catalogue) × Rests found.0 (state S.Store conn.new) M × (summary_of M ≡ summary_shown found.1) × IsHeldIndexed found.0 (state S.Store conn.new).committed M found.2) }
     ensures known { IfOk result (λ found. IsVersion found.0) }
     ensures damaged { HasCleanDisk (state S.Store conn.new) → result ≡ Err Fault.Damaged → HasKnownMark (state S.Store conn.old).now × HoldsNone (state S.Store conn.old).now }
     ensures newer { HasCleanDisk (state S.Store conn.new) → result ≡ Err Fault.NewerSchema → (version : ℕ) × HasMark (state S.Store conn.old).now version × (known < version) }
     ensures none { HasCleanDisk (state S.Store conn.new) → result ≡ Err Fault.NotACatalogue → (version : ℕ) → HasMark (state S.Store conn.old).now version → ⊥ }
     ensures lives { HasCleanDisk (state S.Store conn.new) → IsTrue (state S.Store conn.new).is_open → IsTrue (state S.Store conn.old).is_open }
     ensures kinds { IfErr result IsOfOpening }
-    ensures failed { HasCleanDisk (state S.Store conn.new) → result ≡ Err Fault.Disk → HasFailed (state S.Store conn.old) (state S.Store conn.new) }
+    ensures failed { HasCleanDisk (state S.Store conn.new) → result ≡ Err Fault.Disk → HasFailedToRead (state S.Store conn.old) (state S.Store conn.new) }
     ensures now { HasCleanDisk (state S.Store conn.new) → IsTrue (state S.Store conn.new).is_open → (state S.Store conn.new).now ≡ (state S.Store conn.old).now }
     ensures committed { HasCleanDisk (state S.Store conn.new) → IsTrue (state S.Store conn.new).is_open → (state S.Store conn.new).committed ≡ (state S.Store conn.old).committed }
     ensures autocommit { (state S.Store conn.new).in_transaction ≡ false }

@@ -10,18 +10,19 @@ ghost use Rattle.dict_rows.specs.Taken.{HasTaken, items_in};
 ghost use Rattle.dict_rows.specs.Versions.{layout_of as layout_at};
 ghost use Rattle.dict_catalogue.specs.Items.{edition_numbers};
 ghost use Rattle.dict_catalogue.specs.Views.{summary_shown};
-ghost use Rattle.dict_scans.specs.Reading.{Same, OnlyReads, IsExcused};
+ghost use Rattle.dict_scans.specs.Reading.{Same, OnlyReads, IsExcusedReading};
 ghost use Rattle.dict_opening.specs.Indexed.{HaveRowsIndexed};
-ghost use Rattle.dict_opening.specs.Opens.{HasVersionTables, KeepsNone, HoldsNoneAs, HasBegun, Fits, HasNamed, AreAllKnown, HasReplies, HasAll, HasSummary};
+ghost use Rattle.dict_opening.specs.Opens.{HasVersionTables, KeepsNone, HoldsNoneAs, HasBegun, AllGoOnFrom, HasNamed, AreAllKnown, HasReplies, HasAll, HasSummary};
 
 use crate::editions::read_numbered_editions;
 use crate::strays::test_strays;
 use dict_catalogue::Summary;
 use dict_lookup::Indexes;
-use dict_records::{Mark, Stored};
+use dict_records::{Mark, StoredRow};
 use dict_rows::Reader;
 use dict_scans::{
-    EditionIndex, EditionReader, ReadingFault, fault_of_read, fault_of_rows, read_replies, test_ids,
+    EditionIndex, IndexingReader, ReadingFault, fault_of_read, fault_of_rows, read_replies,
+    test_ids,
 };
 use dict_sql::read::{items, members};
 use sqlite::{Alter, Connection};
@@ -32,11 +33,11 @@ fn begin<S: Alter>(
     alloc: Global,
     conn: &mut Connection<S>,
     version: u64,
-    marks: &[Stored<Mark<String>>],
+    marks: &[StoredRow<Mark<String>>],
 ) -> Result<Reader, ReadingFault>
     requires { WhileOpen (state S.Store conn.old) (HasVersionTables version) }
     ensures reads { OnlyReads (state S.Store conn.old) (state S.Store conn.new) }
-    ensures failed { HasCleanDisk (state S.Store conn.new) → IfErr result (IsExcused (state S.Store conn.old) (state S.Store conn.new)) }
+    ensures failed { HasCleanDisk (state S.Store conn.new) → IfErr result (IsExcusedReading (state S.Store conn.old) (state S.Store conn.new)) }
     ensures same { HasCleanDisk (state S.Store conn.new) → OnOk result (Same (state S.Store conn.old) (state S.Store conn.new)) }
     ensures begun { HasCleanDisk (state S.Store conn.new) → IfOk result (λ reader. IsListing (codes "mark") (1 ∷ []) (state S.Store conn.old).now (map stored_mark marks.now) → (front : Tables) × HasTaken version reader front × HasBegun version (state S.Store conn.old).now front) }
     ensures damaged { HasCleanDisk (state S.Store conn.new) → IfErr result (λ fault. fault ≡ ReadingFault.Damaged → IsListing (codes "mark") (1 ∷ []) (state S.Store conn.old).now (map stored_mark marks.now) → HoldsNoneAs version (state S.Store conn.old).now) }
@@ -66,12 +67,12 @@ fn read_named<S: Alter>(
     alloc: Global,
     conn: &mut Connection<S>,
     version: u64,
-    reader: &mut EditionReader,
+    reader: &mut IndexingReader,
     indexes: &mut Indexes,
 ) -> Result<(), ReadingFault>
     requires { WhileOpen (state S.Store conn.old) (HasVersionTables version) }
     ensures reads { OnlyReads (state S.Store conn.old) (state S.Store conn.new) }
-    ensures failed { HasCleanDisk (state S.Store conn.new) → IfErr result (IsExcused (state S.Store conn.old) (state S.Store conn.new)) }
+    ensures failed { HasCleanDisk (state S.Store conn.new) → IfErr result (IsExcusedReading (state S.Store conn.old) (state S.Store conn.new)) }
     ensures same { HasCleanDisk (state S.Store conn.new) → OnOk result (Same (state S.Store conn.old) (state S.Store conn.new)) }
     ensures indexed { HasCleanDisk (state S.Store conn.new) → OnOk result (HaveRowsIndexed (layout_at version) (state S.Store conn.old).now (edition_numbers (items_in reader.old.reader)) indexes.new) }
     ensures named { HasCleanDisk (state S.Store conn.new) → OnOk result ((front : Tables) → HasTaken version reader.old.reader front → HasBegun version (state S.Store conn.old).now front → (after : Tables) × HasTaken version reader.new.reader after × HasNamed version (state S.Store conn.old).now reader.old.reader front after) }
@@ -93,10 +94,10 @@ fn read_kept<S: Alter>(
 ) -> Result<(), ReadingFault>
     requires { WhileOpen (state S.Store conn.old) (HasVersionTables version) }
     ensures reads { OnlyReads (state S.Store conn.old) (state S.Store conn.new) }
-    ensures failed { HasCleanDisk (state S.Store conn.new) → IfErr result (IsExcused (state S.Store conn.old) (state S.Store conn.new)) }
+    ensures failed { HasCleanDisk (state S.Store conn.new) → IfErr result (IsExcusedReading (state S.Store conn.old) (state S.Store conn.new)) }
     ensures same { HasCleanDisk (state S.Store conn.new) → OnOk result (Same (state S.Store conn.old) (state S.Store conn.new)) }
     ensures replies { HasCleanDisk (state S.Store conn.new) → OnOk result ((taken : Tables) → HasTaken version reader.old taken → (after : Tables) × HasTaken version reader.new after × HasReplies (state S.Store conn.old).now taken after) }
-    ensures damaged { HasCleanDisk (state S.Store conn.new) → IfErr result (λ fault. fault ≡ ReadingFault.Damaged → (taken : Tables) → HasTaken version reader.old taken → Fits version (state S.Store conn.old).now taken → taken.kept ≡ [] → KeepsNone version (state S.Store conn.old).now taken.members) }
+    ensures damaged { HasCleanDisk (state S.Store conn.new) → IfErr result (λ fault. fault ≡ ReadingFault.Damaged → (taken : Tables) → HasTaken version reader.old taken → AllGoOnFrom version (state S.Store conn.old).now taken → taken.kept ≡ [] → KeepsNone version (state S.Store conn.old).now taken.members) }
 {
     read_replies(alloc, conn, reader)?;
     test_ids(alloc, conn)
@@ -107,12 +108,12 @@ fn read_all<S: Alter>(
     alloc: Global,
     conn: &mut Connection<S>,
     version: u64,
-    reader: &mut EditionReader,
+    reader: &mut IndexingReader,
     indexes: &mut Indexes,
 ) -> Result<(), ReadingFault>
     requires { WhileOpen (state S.Store conn.old) (HasVersionTables version) }
     ensures reads { OnlyReads (state S.Store conn.old) (state S.Store conn.new) }
-    ensures failed { HasCleanDisk (state S.Store conn.new) → IfErr result (IsExcused (state S.Store conn.old) (state S.Store conn.new)) }
+    ensures failed { HasCleanDisk (state S.Store conn.new) → IfErr result (IsExcusedReading (state S.Store conn.old) (state S.Store conn.new)) }
     ensures same { HasCleanDisk (state S.Store conn.new) → OnOk result (Same (state S.Store conn.old) (state S.Store conn.new)) }
     ensures indexed { HasCleanDisk (state S.Store conn.new) → OnOk result (HaveRowsIndexed (layout_at version) (state S.Store conn.old).now (edition_numbers (items_in reader.old.reader)) indexes.new) }
     ensures all { HasCleanDisk (state S.Store conn.new) → OnOk result ((front : Tables) → HasTaken version reader.old.reader front → HasBegun version (state S.Store conn.old).now front → (after : Tables) × HasTaken version reader.new.reader after × HasAll version (state S.Store conn.old).now reader.old.reader front after) }
@@ -129,18 +130,18 @@ pub(crate) fn read_records<S: Alter>(
     alloc: Global,
     conn: &mut Connection<S>,
     version: u64,
-    marks: &[Stored<Mark<String>>],
+    marks: &[StoredRow<Mark<String>>],
 ) -> Result<(Summary, Indexes), ReadingFault>
     requires { WhileOpen (state S.Store conn.old) (HasVersionTables version) }
     ensures reads { OnlyReads (state S.Store conn.old) (state S.Store conn.new) }
-    ensures failed { HasCleanDisk (state S.Store conn.new) → IfErr result (IsExcused (state S.Store conn.old) (state S.Store conn.new)) }
+    ensures failed { HasCleanDisk (state S.Store conn.new) → IfErr result (IsExcusedReading (state S.Store conn.old) (state S.Store conn.new)) }
     ensures same { HasCleanDisk (state S.Store conn.new) → OnOk result (Same (state S.Store conn.old) (state S.Store conn.new)) }
     ensures stands { HasCleanDisk (state S.Store conn.new) → IfOk result (λ read. IsListing (codes "mark") (1 ∷ []) (state S.Store conn.old).now (map stored_mark marks.now) → HasSummary version (state S.Store conn.old).now (summary_shown read.0)) }
     ensures indexed { HasCleanDisk (state S.Store conn.new) → IfOk result (λ read. IsListing (codes "mark") (1 ∷ []) (state S.Store conn.old).now (map stored_mark marks.now) → HaveRowsIndexed (layout_at version) (state S.Store conn.old).now (edition_numbers (summary_shown read.0).items) read.1) }
     ensures damaged { HasCleanDisk (state S.Store conn.new) → IfErr result (λ fault. fault ≡ ReadingFault.Damaged → IsListing (codes "mark") (1 ∷ []) (state S.Store conn.old).now (map stored_mark marks.now) → HoldsNoneAs version (state S.Store conn.old).now) }
 {
     let reader = begin(alloc, conn, version, marks)?;
-    let mut reader = EditionReader {
+    let mut reader = IndexingReader {
         reader,
         index: EditionIndex::new(alloc),
     };
@@ -150,7 +151,7 @@ pub(crate) fn read_records<S: Alter>(
         drop(indexes);
         return Err(fault);
     }
-    let EditionReader { reader, index } = reader;
+    let IndexingReader { reader, index } = reader;
     drop(index);
     match reader.finish() {
         Ok(summary) => Ok((summary, indexes)),

@@ -4,10 +4,10 @@ ghost use Rattle.sqlite.specs.State.{HasCleanDisk};
 ghost use Rattle.sqlite.specs.Held.{state};
 ghost use Rattle.dict_sql.specs.Effects.{WhileOpen};
 ghost use Rattle.dict_rows.specs.Versions.{layout_of};
-ghost use Rattle.dict_scans.specs.Reading.{Same, OnlyReads, IsExcused};
+ghost use Rattle.dict_scans.specs.Reading.{Same, OnlyReads, IsExcusedReading};
 ghost use Rattle.dict_opening.specs.Opens.{HasVersionTables, HasReadableRows, HasOthersApart, IsApartFirst};
 
-use dict_records::{Item, Kept, Mark, Member, Stored};
+use dict_records::{ItemRecord, KeptRecord, Mark, Member, StoredRow};
 use dict_scans::{ReadingFault, test_rowids};
 use dict_tables::StoreTable;
 use sqlite::{Alter, Connection};
@@ -21,14 +21,14 @@ fn test_small<S: Alter>(
 ) -> Result<(), ReadingFault>
     requires { WhileOpen (state S.Store conn.old) (HasVersionTables version) }
     ensures reads { OnlyReads (state S.Store conn.old) (state S.Store conn.new) }
-    ensures failed { HasCleanDisk (state S.Store conn.new) → IfErr result (IsExcused (state S.Store conn.old) (state S.Store conn.new)) }
+    ensures failed { HasCleanDisk (state S.Store conn.new) → IfErr result (IsExcusedReading (state S.Store conn.old) (state S.Store conn.new)) }
     ensures same { HasCleanDisk (state S.Store conn.new) → OnOk result (Same (state S.Store conn.old) (state S.Store conn.new)) }
     ensures apart { HasCleanDisk (state S.Store conn.new) → OnOk result (IsApartFirst (state S.Store conn.old).now) }
     ensures damaged { HasCleanDisk (state S.Store conn.new) → IfErr result (λ fault. fault ≡ ReadingFault.Damaged → HasReadableRows (layout_of version) (state S.Store conn.old).now → IsApartFirst (state S.Store conn.old).now → ⊥) }
 {
-    test_rowids::<S, Stored<Mark<String>>>(alloc, conn, StoreTable::Mark)?;
-    test_rowids::<S, Stored<Item<String>>>(alloc, conn, StoreTable::Item)?;
-    test_rowids::<S, Stored<Member<String>>>(alloc, conn, StoreTable::Member)
+    test_rowids::<S, StoredRow<Mark<String>>>(alloc, conn, StoreTable::Mark)?;
+    test_rowids::<S, StoredRow<ItemRecord<String>>>(alloc, conn, StoreTable::Item)?;
+    test_rowids::<S, StoredRow<Member<String>>>(alloc, conn, StoreTable::Member)
 }
 
 /// Tests that no two rows of a table have one rowid, but for editions and what is kept of their entries.
@@ -39,11 +39,11 @@ pub(crate) fn test_other_rowids<S: Alter>(
 ) -> Result<(), ReadingFault>
     requires { WhileOpen (state S.Store conn.old) (HasVersionTables version) }
     ensures reads { OnlyReads (state S.Store conn.old) (state S.Store conn.new) }
-    ensures failed { HasCleanDisk (state S.Store conn.new) → IfErr result (IsExcused (state S.Store conn.old) (state S.Store conn.new)) }
+    ensures failed { HasCleanDisk (state S.Store conn.new) → IfErr result (IsExcusedReading (state S.Store conn.old) (state S.Store conn.new)) }
     ensures same { HasCleanDisk (state S.Store conn.new) → OnOk result (Same (state S.Store conn.old) (state S.Store conn.new)) }
     ensures apart { HasCleanDisk (state S.Store conn.new) → OnOk result (HasOthersApart (state S.Store conn.old).now) }
     ensures damaged { HasCleanDisk (state S.Store conn.new) → IfErr result (λ fault. fault ≡ ReadingFault.Damaged → HasReadableRows (layout_of version) (state S.Store conn.old).now → HasOthersApart (state S.Store conn.old).now → ⊥) }
 {
     test_small(alloc, conn, version)?;
-    test_rowids::<S, Stored<Kept<String>>>(alloc, conn, StoreTable::Kept)
+    test_rowids::<S, StoredRow<KeptRecord<String>>>(alloc, conn, StoreTable::Kept)
 }

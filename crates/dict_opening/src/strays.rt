@@ -6,11 +6,11 @@ ghost use Rattle.dict_sql.specs.Effects.{WhileOpen};
 ghost use Rattle.dict_rows.specs.Tables.{Tables};
 ghost use Rattle.dict_rows.specs.Taken.{HasTaken};
 ghost use Rattle.dict_rows.specs.Versions.{layout_of as layout_at};
-ghost use Rattle.dict_holdings.specs.Readings.{IsReadable, editions, contents, name_of};
-ghost use Rattle.dict_scans.specs.Reading.{Same, OnlyReads, IsExcused};
+ghost use Rattle.dict_holdings.specs.Readings.{IsReadable, editions, contents, table_name_of};
+ghost use Rattle.dict_scans.specs.Reading.{Same, OnlyReads, IsExcusedReading};
 ghost use Rattle.dict_scans.specs.Census.{AreKnownApart, AreNumberedApart, is_of_contents};
 ghost use Rattle.dict_opening.specs.Layouts.{layout_in};
-ghost use Rattle.dict_opening.specs.Opens.{HasVersionTables, HasTablesOf, KeepsNone, Fits, AreAllKnown, AreReadableEditions, numbers_in};
+ghost use Rattle.dict_opening.specs.Opens.{HasVersionTables, HasTablesOf, KeepsNone, AllGoOnFrom, AreAllKnown, AreReadableEditions, numbers_in};
 
 use crate::layout::{TableLayout, layout_of};
 use dict_rows::Reader;
@@ -29,10 +29,10 @@ fn test_records<S: Alter>(
 ) -> Result<(), ReadingFault>
     requires { WhileOpen (state S.Store conn.old) (HasTablesOf (layout_in layout)) }
     ensures reads { OnlyReads (state S.Store conn.old) (state S.Store conn.new) }
-    ensures failed { HasCleanDisk (state S.Store conn.new) → IfErr result (IsExcused (state S.Store conn.old) (state S.Store conn.new)) }
+    ensures failed { HasCleanDisk (state S.Store conn.new) → IfErr result (IsExcusedReading (state S.Store conn.old) (state S.Store conn.new)) }
     ensures same { HasCleanDisk (state S.Store conn.new) → OnOk result (Same (state S.Store conn.old) (state S.Store conn.new)) }
-    ensures known { HasCleanDisk (state S.Store conn.new) → OnOk result (AreNumberedApart numbers.now (name_of (editions (layout_in layout))) (state S.Store conn.old).now) }
-    ensures damaged { HasCleanDisk (state S.Store conn.new) → IfErr result (λ fault. fault ≡ ReadingFault.Damaged → IsReadable (editions (layout_in layout)) (state S.Store conn.old).now → AreNumberedApart numbers.now (name_of (editions (layout_in layout))) (state S.Store conn.old).now → ⊥) }
+    ensures known { HasCleanDisk (state S.Store conn.new) → OnOk result (AreNumberedApart numbers.now (table_name_of (editions (layout_in layout))) (state S.Store conn.old).now) }
+    ensures damaged { HasCleanDisk (state S.Store conn.new) → IfErr result (λ fault. fault ≡ ReadingFault.Damaged → IsReadable (editions (layout_in layout)) (state S.Store conn.old).now → AreNumberedApart numbers.now (table_name_of (editions (layout_in layout))) (state S.Store conn.old).now → ⊥) }
 {
     match layout {
         TableLayout::Plain => test_editions(alloc, conn, numbers),
@@ -51,10 +51,10 @@ fn test_contents<S: Alter>(
 ) -> Result<(), ReadingFault>
     requires { WhileOpen (state S.Store conn.old) (HasTablesOf (layout_in layout)) }
     ensures reads { OnlyReads (state S.Store conn.old) (state S.Store conn.new) }
-    ensures failed { HasCleanDisk (state S.Store conn.new) → IfErr result (IsExcused (state S.Store conn.old) (state S.Store conn.new)) }
+    ensures failed { HasCleanDisk (state S.Store conn.new) → IfErr result (IsExcusedReading (state S.Store conn.old) (state S.Store conn.new)) }
     ensures same { HasCleanDisk (state S.Store conn.new) → OnOk result (Same (state S.Store conn.old) (state S.Store conn.new)) }
-    ensures known { HasCleanDisk (state S.Store conn.new) → OnOk result (AreKnownApart (is_of_contents (layout_in layout) numbers.now) (name_of (contents (layout_in layout))) (state S.Store conn.old).now) }
-    ensures damaged { HasCleanDisk (state S.Store conn.new) → IfErr result (λ fault. fault ≡ ReadingFault.Damaged → IsReadable (contents (layout_in layout)) (state S.Store conn.old).now → AreKnownApart (is_of_contents (layout_in layout) numbers.now) (name_of (contents (layout_in layout))) (state S.Store conn.old).now → ⊥) }
+    ensures known { HasCleanDisk (state S.Store conn.new) → OnOk result (AreKnownApart (is_of_contents (layout_in layout) numbers.now) (table_name_of (contents (layout_in layout))) (state S.Store conn.old).now) }
+    ensures damaged { HasCleanDisk (state S.Store conn.new) → IfErr result (λ fault. fault ≡ ReadingFault.Damaged → IsReadable (contents (layout_in layout)) (state S.Store conn.old).now → AreKnownApart (is_of_contents (layout_in layout) numbers.now) (table_name_of (contents (layout_in layout))) (state S.Store conn.old).now → ⊥) }
 {
     match layout {
         TableLayout::Plain => test_rows(alloc, conn, EditionTable::PlainEntry, numbers),
@@ -73,7 +73,7 @@ fn test_numbers<S: Alter>(
 ) -> Result<(), ReadingFault>
     requires { WhileOpen (state S.Store conn.old) (HasTablesOf (layout_in layout)) }
     ensures reads { OnlyReads (state S.Store conn.old) (state S.Store conn.new) }
-    ensures failed { HasCleanDisk (state S.Store conn.new) → IfErr result (IsExcused (state S.Store conn.old) (state S.Store conn.new)) }
+    ensures failed { HasCleanDisk (state S.Store conn.new) → IfErr result (IsExcusedReading (state S.Store conn.old) (state S.Store conn.new)) }
     ensures same { HasCleanDisk (state S.Store conn.new) → OnOk result (Same (state S.Store conn.old) (state S.Store conn.new)) }
     ensures known { HasCleanDisk (state S.Store conn.new) → OnOk result (AreAllKnown (layout_in layout) (state S.Store conn.old).now numbers.now) }
     ensures damaged { HasCleanDisk (state S.Store conn.new) → IfErr result (λ fault. fault ≡ ReadingFault.Damaged → AreReadableEditions (layout_in layout) (state S.Store conn.old).now → AreAllKnown (layout_in layout) (state S.Store conn.old).now numbers.now → ⊥) }
@@ -92,10 +92,10 @@ pub(crate) fn test_strays<S: Alter>(
 ) -> Result<(), ReadingFault>
     requires { WhileOpen (state S.Store conn.old) (HasVersionTables version) }
     ensures reads { OnlyReads (state S.Store conn.old) (state S.Store conn.new) }
-    ensures failed { HasCleanDisk (state S.Store conn.new) → IfErr result (IsExcused (state S.Store conn.old) (state S.Store conn.new)) }
+    ensures failed { HasCleanDisk (state S.Store conn.new) → IfErr result (IsExcusedReading (state S.Store conn.old) (state S.Store conn.new)) }
     ensures same { HasCleanDisk (state S.Store conn.new) → OnOk result (Same (state S.Store conn.old) (state S.Store conn.new)) }
     ensures known { HasCleanDisk (state S.Store conn.new) → OnOk result (AreAllKnown (layout_at version) (state S.Store conn.old).now (numbers_in reader.now)) }
-    ensures damaged { HasCleanDisk (state S.Store conn.new) → IfErr result (λ fault. fault ≡ ReadingFault.Damaged → (taken : Tables) → HasTaken version reader.now taken → Fits version (state S.Store conn.old).now taken → KeepsNone version (state S.Store conn.old).now taken.members) }
+    ensures damaged { HasCleanDisk (state S.Store conn.new) → IfErr result (λ fault. fault ≡ ReadingFault.Damaged → (taken : Tables) → HasTaken version reader.now taken → AllGoOnFrom version (state S.Store conn.old).now taken → KeepsNone version (state S.Store conn.old).now taken.members) }
 {
     let numbers = match reader.numbers(alloc) {
         Ok(numbers) => numbers,

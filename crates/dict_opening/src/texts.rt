@@ -13,13 +13,13 @@ ghost use Rattle.dict_sql.specs.Effects.{Has, WhileOpen, equals_number};
 ghost use Rattle.dict_sql.specs.Encodings.{stored_edition};
 ghost use Rattle.dict_sql.specs.Reads.{IsSelection};
 ghost use Rattle.dict_rows.specs.Versions.{Parted};
-ghost use Rattle.dict_scans.specs.Reading.{Same, OnlyReads, IsExcused};
+ghost use Rattle.dict_scans.specs.Reading.{Same, OnlyReads, IsExcusedReading};
 ghost use Rattle.dict_opening.specs.Layouts.{layout_in};
 ghost use Rattle.dict_opening.specs.Opens.{HasTablesOf, HasRecord, HasWholeRecord, HasNoEdition, IsNotOne};
 
 use crate::layout::TableLayout;
 use dict_edition_sql::{StoredHeader, headers_numbered};
-use dict_records::{Edition, Header, Stored};
+use dict_records::{EditionRecord, HeaderRecord, StoredRow};
 use dict_scans::{ReadingFault, TEXT_FILE, fault_of_read, read_file};
 use dict_sql::read::editions_numbered;
 use sqlite::{Alter, Connection};
@@ -30,10 +30,10 @@ fn edition_numbered<S: Alter>(
     alloc: Global,
     conn: &mut Connection<S>,
     number: i64,
-) -> Result<Stored<Edition<String, Vec<u8>>>, ReadingFault>
+) -> Result<StoredRow<EditionRecord<String, Vec<u8>>>, ReadingFault>
     requires { WhileOpen (state S.Store conn.old) (Has edition_table) }
     ensures reads { OnlyReads (state S.Store conn.old) (state S.Store conn.new) }
-    ensures failed { HasCleanDisk (state S.Store conn.new) → IfErr result (IsExcused (state S.Store conn.old) (state S.Store conn.new)) }
+    ensures failed { HasCleanDisk (state S.Store conn.new) → IfErr result (IsExcusedReading (state S.Store conn.old) (state S.Store conn.new)) }
     ensures same { HasCleanDisk (state S.Store conn.new) → OnOk result (Same (state S.Store conn.old) (state S.Store conn.new)) }
     ensures one { HasCleanDisk (state S.Store conn.new) → IfOk result (λ row. IsSelection (codes "edition") (equals_number 1 number) (1 ∷ []) (state S.Store conn.old).now (stored_edition row ∷ [])) }
     ensures damaged { HasCleanDisk (state S.Store conn.new) → IfErr result (λ fault. fault ≡ ReadingFault.Damaged → IsNotOne stored_edition edition_columns (state S.Store conn.old).now number) }
@@ -59,7 +59,7 @@ fn header_numbered<S: Alter>(
 ) -> Result<StoredHeader, ReadingFault>
     requires { WhileOpen (state S.Store conn.old) (Has header_table) }
     ensures reads { OnlyReads (state S.Store conn.old) (state S.Store conn.new) }
-    ensures failed { HasCleanDisk (state S.Store conn.new) → IfErr result (IsExcused (state S.Store conn.old) (state S.Store conn.new)) }
+    ensures failed { HasCleanDisk (state S.Store conn.new) → IfErr result (IsExcusedReading (state S.Store conn.old) (state S.Store conn.new)) }
     ensures same { HasCleanDisk (state S.Store conn.new) → OnOk result (Same (state S.Store conn.old) (state S.Store conn.new)) }
     ensures one { HasCleanDisk (state S.Store conn.new) → IfOk result (λ row. IsSelection (codes "edition") (equals_number 1 number) (1 ∷ []) (state S.Store conn.old).now (stored_header row ∷ [])) }
     ensures damaged { HasCleanDisk (state S.Store conn.new) → IfErr result (λ fault. fault ≡ ReadingFault.Damaged → IsNotOne stored_header header_columns (state S.Store conn.old).now number) }
@@ -78,17 +78,17 @@ fn header_numbered<S: Alter>(
 }
 
 // The edition of this header with this text.
-fn with_text(header: Header<String>, body: Vec<u8>) -> Edition<String, Vec<u8>>
+fn with_text(header: HeaderRecord<String>, body: Vec<u8>) -> EditionRecord<String, Vec<u8>>
     ensures header { header_of (owned_edition result) ≡ owned_header header }
     ensures text { (owned_edition result).body ≡ body.items }
 {
-    let Header {
+    let HeaderRecord {
         number,
         owner,
         title,
         info,
     } = header;
-    Edition {
+    EditionRecord {
         number,
         owner,
         title,
@@ -102,10 +102,10 @@ fn whole_edition<S: Alter>(
     alloc: Global,
     conn: &mut Connection<S>,
     number: i64,
-) -> Result<Edition<String, Vec<u8>>, ReadingFault>
+) -> Result<EditionRecord<String, Vec<u8>>, ReadingFault>
     requires { WhileOpen (state S.Store conn.old) (Has edition_table) }
     ensures reads { OnlyReads (state S.Store conn.old) (state S.Store conn.new) }
-    ensures failed { HasCleanDisk (state S.Store conn.new) → IfErr result (IsExcused (state S.Store conn.old) (state S.Store conn.new)) }
+    ensures failed { HasCleanDisk (state S.Store conn.new) → IfErr result (IsExcusedReading (state S.Store conn.old) (state S.Store conn.new)) }
     ensures same { HasCleanDisk (state S.Store conn.new) → OnOk result (Same (state S.Store conn.old) (state S.Store conn.new)) }
     ensures one { HasCleanDisk (state S.Store conn.new) → IfOk result (λ edition. HasWholeRecord (state S.Store conn.old).now number (owned_edition edition)) }
     ensures damaged { HasCleanDisk (state S.Store conn.new) → IfErr result (λ fault. fault ≡ ReadingFault.Damaged → IsNotOne stored_edition edition_columns (state S.Store conn.old).now number) }
@@ -119,11 +119,11 @@ fn parted_edition<S: Alter>(
     alloc: Global,
     conn: &mut Connection<S>,
     number: i64,
-) -> Result<Edition<String, Vec<u8>>, ReadingFault>
+) -> Result<EditionRecord<String, Vec<u8>>, ReadingFault>
     requires headers { WhileOpen (state S.Store conn.old) (Has header_table) }
     requires parts { WhileOpen (state S.Store conn.old) (Has part) }
     ensures reads { OnlyReads (state S.Store conn.old) (state S.Store conn.new) }
-    ensures failed { HasCleanDisk (state S.Store conn.new) → IfErr result (IsExcused (state S.Store conn.old) (state S.Store conn.new)) }
+    ensures failed { HasCleanDisk (state S.Store conn.new) → IfErr result (IsExcusedReading (state S.Store conn.old) (state S.Store conn.new)) }
     ensures same { HasCleanDisk (state S.Store conn.new) → OnOk result (Same (state S.Store conn.old) (state S.Store conn.new)) }
     ensures one { HasCleanDisk (state S.Store conn.new) → IfOk result (λ edition. HasRecord Parted (state S.Store conn.old).now number (owned_edition edition)) }
     ensures damaged { HasCleanDisk (state S.Store conn.new) → IfErr result (λ fault. fault ≡ ReadingFault.Damaged → HasNoEdition Parted (state S.Store conn.old).now number) }
@@ -145,10 +145,10 @@ pub(crate) fn read_edition<S: Alter>(
     conn: &mut Connection<S>,
     layout: TableLayout,
     number: i64,
-) -> Result<Edition<String, Vec<u8>>, ReadingFault>
+) -> Result<EditionRecord<String, Vec<u8>>, ReadingFault>
     requires { WhileOpen (state S.Store conn.old) (HasTablesOf (layout_in layout)) }
     ensures reads { OnlyReads (state S.Store conn.old) (state S.Store conn.new) }
-    ensures failed { HasCleanDisk (state S.Store conn.new) → IfErr result (IsExcused (state S.Store conn.old) (state S.Store conn.new)) }
+    ensures failed { HasCleanDisk (state S.Store conn.new) → IfErr result (IsExcusedReading (state S.Store conn.old) (state S.Store conn.new)) }
     ensures same { HasCleanDisk (state S.Store conn.new) → OnOk result (Same (state S.Store conn.old) (state S.Store conn.new)) }
     ensures one { HasCleanDisk (state S.Store conn.new) → IfOk result (λ edition. HasRecord (layout_in layout) (state S.Store conn.old).now number (owned_edition edition)) }
     ensures damaged { HasCleanDisk (state S.Store conn.new) → IfErr result (λ fault. fault ≡ ReadingFault.Damaged → HasNoEdition (layout_in layout) (state S.Store conn.old).now number) }

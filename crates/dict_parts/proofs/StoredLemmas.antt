@@ -14,8 +14,8 @@ use Rattle.dict_index.proofs.CutLemmas.{one_cut}
 use Rattle.dict_index.proofs.LineLemmas.{one_said, columns_of_line, columns_from_line}
 use Rattle.dict_parts.specs.Spelling.{spelling}
 use Rattle.dict_parts.specs.Stored.{IsColumn, IsStorable, fourth_column, stored_line, saying}
-use Rattle.dict_parts.specs.Views.{line_of}
-use Rattle.dict_parts.specs.declared.reading.Columns.{Columns}
+use Rattle.dict_parts.specs.Views.{columns_line}
+use Rattle.dict_parts.specs.declared.reading.StoredColumns.{StoredColumns}
 use Rattle.dict_parts.proofs.SpellingLemmas.{spelled, spelling_is}
 use Rattle.dict_parts.proofs.OctetLemmas.{no_append, no_front, no_back, spelled_no_newline}
 
@@ -187,8 +187,8 @@ of_entries text said short within lawful = record {
 }
 
 -- what was said is read
-pub same_read : (octets : List ℕ) (found : Option (Columns × Bor (List ℕ)))
-    → MatchOption found ((said : Line) (rest : List ℕ) → IsStorable said → octets ≢ stored_line said ++ 10 ∷ rest) (λ read. IsStorable (line_of read.0) × (octets ≡ stored_line (line_of read.0) ++ 10 ∷ read.1.now))
-    → (said : Line) (rest : List ℕ) → IsStorable said → octets ≡ stored_line said ++ 10 ∷ rest → MatchOption found ⊥ (λ read. (line_of read.0 ≡ said) × (read.1.now ≡ rest))
+pub same_read : (octets : List ℕ) (found : Option (StoredColumns × Bor (List ℕ)))
+    → MatchOption found ((said : Line) (rest : List ℕ) → IsStorable said → octets ≢ stored_line said ++ 10 ∷ rest) (λ read. IsStorable (columns_line read.0) × (octets ≡ stored_line (columns_line read.0) ++ 10 ∷ read.1.now))
+    → (said : Line) (rest : List ℕ) → IsStorable said → octets ≡ stored_line said ++ 10 ∷ rest → MatchOption found ⊥ (λ read. (columns_line read.0 ≡ said) × (read.1.now ≡ rest))
 same_read octets None h said rest storable e = h said rest storable e
-same_read octets (Some read) h said rest storable e = one_first (line_of read.0) said read.1.now rest h.0 storable (sym h.1 ∙ e)
+same_read octets (Some read) h said rest storable e = one_first (columns_line read.0) said read.1.now rest h.0 storable (sym h.1 ∙ e)

@@ -10,6 +10,6 @@ pub record IsNext (octets : List ℕ) (number : ℕ) (part : List ℕ) : Type 0 
   pub follows : AreParts (parts_of octets ++ part ∷ [])
 
 -- for this reason the part isn't taken
-abbrev pub MayRefuse : List ℕ → ℕ → List ℕ → Refused → Type 0
-MayRefuse octets number part Wrong = ¬ IsNext octets number part
-MayRefuse octets number part Memory = IsNext octets number part
+abbrev pub MayRefusePart : List ℕ → ℕ → List ℕ → Refused → Type 0
+MayRefusePart octets number part Wrong = ¬ IsNext octets number part
+MayRefusePart octets number part Memory = IsNext octets number part

@@ -1,7 +1,7 @@
 // Parts taken one after another, and what they join to.
 ghost use Rattle.std.specs.Prelude.{◌≡◌, ◌≤◌, ◌++◌, ◌∷◌, ℕ, [], List, length, OnOk, IfOk, IfErr, OnErr, MatchBool};
 ghost use Rattle.dict_parts.specs.Parts.{parts_of, AreParts};
-ghost use Rattle.dict_parts.specs.Joining.{IsNext, MayRefuse};
+ghost use Rattle.dict_parts.specs.Joining.{IsNext, MayRefusePart};
 
 use crate::file::PART_SIZE;
 use std::alloc::{AllocError, Global};
@@ -53,7 +53,7 @@ impl Joiner {
         ensures taken { OnOk result (IsNext self.old number part.now) }
         ensures joined { OnOk result (self.new ≡ self.old ++ part.now) }
         ensures parts { OnOk result (parts_of self.new ≡ parts_of self.old ++ part.now ∷ []) }
-        ensures refused { IfErr result (MayRefuse self.old number part.now) }
+        ensures refused { IfErr result (MayRefusePart self.old number part.now) }
         ensures same { OnErr result (self.new ≡ self.old) }
     {
         if !is_next(&self.octets, number, part) {

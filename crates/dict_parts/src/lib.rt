@@ -17,5 +17,5 @@ pub use joiner::{Joiner, Refused};
 pub use laws::parts_laws;
 pub use line_laws::{stored_indexes, stored_lines};
 pub use memory::InMemory;
-pub use reading::{Columns, read_line};
+pub use reading::{StoredColumns, read_line};
 pub use writing::write_line;

@@ -5,14 +5,14 @@ ghost use Rattle.dict_index.specs.Cuts.{HasNo};
 ghost use Rattle.dict_index.specs.Line.{Line};
 ghost use Rattle.dict_index.specs.Views.{octets_of};
 ghost use Rattle.dict_parts.specs.Stored.{IsStorable, fourth_column, stored_line};
-ghost use Rattle.dict_parts.specs.Views.{line_of};
+ghost use Rattle.dict_parts.specs.Views.{columns_line};
 
 use crate::columns::{columns_of, cut_at};
 use dict_text::read_number;
 
 /// What a stored line says.
 #[derive(Clone, Copy)]
-pub struct Columns<'a> {
+pub struct StoredColumns<'a> {
     /// The headword.
     pub headword: &'a str,
     /// Where the body starts in the text, in octets.
@@ -41,10 +41,10 @@ fn shown_of<'a>(headword: &'a str, fourth: Option<&'a [u8]>) -> Option<&'a str>
 }
 
 // What a line says, without its LF, if it is a stored one.
-fn said_of(line: &[u8]) -> Option<Columns<'_>>
+fn said_of(line: &[u8]) -> Option<StoredColumns<'_>>
     requires { HasNo 10 line.now }
     ensures { MatchOption result ((said : Line) → IsStorable said → line.now ≢ stored_line said)
-        (λ columns. IsStorable (line_of columns) × (line.now ≡ stored_line (line_of columns))) }
+        (λ columns. IsStorable (columns_line columns) × (line.now ≡ stored_line (columns_line columns))) }
 {
     let Some(columns) = columns_of(line) else {
         return None;
@@ -61,7 +61,7 @@ fn said_of(line: &[u8]) -> Option<Columns<'_>>
     let Some(shown) = shown_of(headword, columns.shown) else {
         return None;
     };
-    Some(Columns {
+    Some(StoredColumns {
         headword,
         offset,
         size,
@@ -70,9 +70,9 @@ fn said_of(line: &[u8]) -> Option<Columns<'_>>
 }
 
 // What the first line says, if it is a stored one, and what stands behind its LF.
-fn first_line(octets: &[u8]) -> Option<(Columns<'_>, &[u8])>
+fn first_line(octets: &[u8]) -> Option<(StoredColumns<'_>, &[u8])>
     ensures { MatchOption result ((said : Line) (rest : List ℕ) → IsStorable said → octets.now ≢ stored_line said ++ 10 ∷ rest)
-        (λ read. IsStorable (line_of read.0) × (octets.now ≡ stored_line (line_of read.0) ++ 10 ∷ read.1.now)) }
+        (λ read. IsStorable (columns_line read.0) × (octets.now ≡ stored_line (columns_line read.0) ++ 10 ∷ read.1.now)) }
 {
     let Some((line, rest)) = cut_at(b'\n', octets) else {
         return None;
@@ -85,11 +85,11 @@ fn first_line(octets: &[u8]) -> Option<(Columns<'_>, &[u8])>
 
 /// What the first line of some octets says, and what stands behind its LF, if they begin with a stored line and its LF: of
 /// what was written, what was written.
-pub fn read_line(octets: &[u8]) -> Option<(Columns<'_>, &[u8])>
+pub fn read_line(octets: &[u8]) -> Option<(StoredColumns<'_>, &[u8])>
     ensures read { MatchOption result ((said : Line) (rest : List ℕ) → IsStorable said → octets.now ≢ stored_line said ++ 10 ∷ rest)
-        (λ read. IsStorable (line_of read.0) × (octets.now ≡ stored_line (line_of read.0) ++ 10 ∷ read.1.now)) }
+        (λ read. IsStorable (columns_line read.0) × (octets.now ≡ stored_line (columns_line read.0) ++ 10 ∷ read.1.now)) }
     ensures same { (said : Line) (rest : List ℕ) → IsStorable said → octets.now ≡ stored_line said ++ 10 ∷ rest →
-        MatchOption result ⊥ (λ read. (line_of read.0 ≡ said) × (read.1.now ≡ rest)) }
+        MatchOption result ⊥ (λ read. (columns_line read.0 ≡ said) × (read.1.now ≡ rest)) }
 {
     first_line(octets)
 }

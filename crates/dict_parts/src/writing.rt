@@ -1,7 +1,7 @@
 // A line, written as it is stored.
 ghost use Rattle.std.specs.Prelude.{◌≡◌, ◌^◌, ◌<◌, ◌++◌, ◌∷◌, [], OnOk};
 ghost use Rattle.dict_index.specs.Line.{behind_tab};
-ghost use Rattle.dict_parts.specs.Appended.{BeginsWith};
+ghost use Rattle.dict_parts.specs.Appended.{IsBeginningOf};
 ghost use Rattle.dict_parts.specs.Spelling.{spelling};
 ghost use Rattle.dict_parts.specs.Stored.{IsStorable, fourth_column, stored_line, saying};
 
@@ -12,7 +12,7 @@ use std::alloc::AllocError;
 fn put_number(number: u64, to: &mut Vec<u8>) -> Result<(), AllocError>
     requires { number < 64 ^ 6 }
     ensures put { OnOk result (to.new.items ≡ to.old.items ++ 9 ∷ spelling number) }
-    ensures kept { BeginsWith to.old.items to.new.items }
+    ensures kept { IsBeginningOf to.old.items to.new.items }
 {
     let mut digits = [0; MAX_DIGITS];
     let count = write_number(number, &mut digits).min(MAX_DIGITS);
@@ -24,7 +24,7 @@ fn put_number(number: u64, to: &mut Vec<u8>) -> Result<(), AllocError>
 // Appends a tab and what is shown, where that is another text than the headword.
 fn put_shown(headword: &str, shown: &str, to: &mut Vec<u8>) -> Result<(), AllocError>
     ensures put { OnOk result (to.new.items ≡ to.old.items ++ behind_tab (fourth_column headword.now shown.now)) }
-    ensures kept { BeginsWith to.old.items to.new.items }
+    ensures kept { IsBeginningOf to.old.items to.new.items }
 {
     if shown == headword {
         return Ok(());
@@ -46,7 +46,7 @@ pub fn write_line(
 ) -> Result<(), AllocError>
     requires { IsStorable (saying headword.now offset size shown.now) }
     ensures put { OnOk result (to.new.items ≡ to.old.items ++ (stored_line (saying headword.now offset size shown.now) ++ 10 ∷ [])) }
-    ensures kept { BeginsWith to.old.items to.new.items }
+    ensures kept { IsBeginningOf to.old.items to.new.items }
 {
     to.extend_from_slice(headword.as_bytes())?;
     put_number(offset, to)?;

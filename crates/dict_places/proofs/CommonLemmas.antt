@@ -7,7 +7,7 @@ use Rattle.std.proofs.lemmas.Bool.Decides.{nat_tests}
 use Rattle.std.proofs.lemmas.List.{get_or-drop, get_or-take, length-drop, length-take, take_all}
 use Rattle.std.proofs.lemmas.List.Kept.{IsStrictlyIncreasing-filter}
 use Rattle.std.proofs.lemmas.Map.Keys.{non_decreasing_from_sorted, sorted_from_strictly_increasing, below_from_sorted}
-use Rattle.dict_places.specs.Common.{is_below, is_from, begins_by}
+use Rattle.dict_places.specs.Common.{is_below, is_place_from, begins_by}
 use Rattle.dict_places.proofs.ListLemmas.{the_run, behind, at_front, filter_in}
 use Rattle.dict_places.proofs.PieceLemmas.{more_among}
 
@@ -19,19 +19,19 @@ less_too a b c le h = grind (arith, nat_tests)
 pub below_first : (xs : List ℕ) (place : ℕ) → IsStrictlyIncreasing xs → IsPartitionedBy (is_below place) xs
 below_first xs place up i j d le lt h = less_too (get_or xs i d) (get_or xs j d) place (non_decreasing_from_sorted xs (sorted_from_strictly_increasing xs up) i j d le lt) h
 
-pub from_is : (xs : List ℕ) (place count : ℕ) → count ≤ length xs → IsPartitionPoint (λ y. is_below place y ≡ true) (λ y. is_below place y ≡ false) xs count → drop count xs ≡ filter (is_from place) xs
+pub from_is : (xs : List ℕ) (place count : ℕ) → count ≤ length xs → IsPartitionPoint (λ y. is_below place y ≡ true) (λ y. is_below place y ≡ false) xs count → drop count xs ≡ filter (is_place_from place) xs
 from_is xs place count fits point =
     let rest = drop count xs in
     let size_rest = length-drop count xs in
     let all : take (length rest) rest ≡ rest = take_all (length rest) rest (omega arith) in
-    sym all ∙ the_run (is_from place) xs count (length rest)
+    sym all ∙ the_run (is_place_from place) xs count (length rest)
     (λ k d lt.
     let size = length-take count xs in
     let inside : k < count = omega (arith, lt, size) in
-    subst (λ x. is_from place x ≡ false) (sym (get_or-take count xs k d inside)) (ap not (point.0 k d (omega arith) inside)))
+    subst (λ x. is_place_from place x ≡ false) (sym (get_or-take count xs k d inside)) (ap not (point.0 k d (omega arith) inside)))
     (λ k d lt.
     let inside : k < length rest = subst (λ l. k < length l) all lt in
-    subst (λ l. is_from place (get_or l k d) ≡ true) (sym all) (subst (λ x. is_from place x ≡ true) (sym (get_or-drop count xs k d)) (ap not (point.1 (count + k) d (omega arith) (omega (arith, inside, size_rest, fits))))))
+    subst (λ l. is_place_from place (get_or l k d) ≡ true) (sym all) (subst (λ x. is_place_from place x ≡ true) (sym (get_or-drop count xs k d)) (ap not (point.1 (count + k) d (omega arith) (omega (arith, inside, size_rest, fits))))))
     (λ k d lt.
     let none = length-drop (length rest) rest in
     absurd (omega (arith, lt, none)))
@@ -47,18 +47,18 @@ other x z h = grind (arith, nat_tests)
 turned : (x z : ℕ) → nat_eq x z ≡ nat_eq z x
 turned x z = grind (arith, nat_tests)
 
-up_from : (x z : ℕ) → is_from x z ≡ true → x ≤ z
+up_from : (x z : ℕ) → is_place_from x z ≡ true → x ≤ z
 up_from x z h = grind (arith, nat_tests)
 
 or_none : (a : Bool) → (a || false) ≡ a
 or_none true = refl
 or_none false = refl
 
-any_from : (y x : ℕ) (xs : List ℕ) → x ≤ y → list_any (nat_eq y) (filter (is_from x) xs) ≡ list_any (nat_eq y) xs
+any_from : (y x : ℕ) (xs : List ℕ) → x ≤ y → list_any (nat_eq y) (filter (is_place_from x) xs) ≡ list_any (nat_eq y) xs
 any_from y x [] le = refl
 any_from y x (z ∷ zs) le = by (nat_lt z x) refl (any_from y x zs le)
   where
-    by : (b : Bool) → nat_lt z x ≡ b → list_any (nat_eq y) (filter (is_from x) zs) ≡ list_any (nat_eq y) zs → list_any (nat_eq y) (cond (not b) (z ∷ filter (is_from x) zs) (filter (is_from x) zs)) ≡ list_any (nat_eq y) (z ∷ zs)
+    by : (b : Bool) → nat_lt z x ≡ b → list_any (nat_eq y) (filter (is_place_from x) zs) ≡ list_any (nat_eq y) zs → list_any (nat_eq y) (cond (not b) (z ∷ filter (is_place_from x) zs) (filter (is_place_from x) zs)) ≡ list_any (nat_eq y) (z ∷ zs)
     by true e same = same ∙ ap (λ b. b || list_any (nat_eq y) zs) (sym (not_same x y z le e))
     by false e same = ap (λ b. nat_eq y z || b) same
 
@@ -87,12 +87,12 @@ none_gone fewer more rest both up is none = record {
 }
 
 pub one_gone : (fewer more : List ℕ) (i x : ℕ) (rest rest' both both' : List ℕ) (b : Bool) → IsStrictlyIncreasing fewer → GoesOn fewer more i rest both → i < length fewer → x ≡ get_or fewer i 0
-    → rest' ≡ filter (is_from x) rest → b ≡ begins_by x rest' → both' ≡ both ++ cond b (x ∷ []) [] → GoesOn fewer more (i + 1) rest' both'
+    → rest' ≡ filter (is_place_from x) rest → b ≡ begins_by x rest' → both' ≡ both ++ cond b (x ∷ []) [] → GoesOn fewer more (i + 1) rest' both'
 one_gone fewer more i x rest rest' both both' b up old lt at is tells put =
     let p : ℕ → Bool = λ place. list_any (nat_eq place) more in
-    let left = filter (is_from x) rest in
-    let rises : IsStrictlyIncreasing left = IsStrictlyIncreasing-filter (is_from x) rest old.rises in
-    let first : list_any (nat_eq x) left ≡ begins_by x left = any_first x left (sorted_from_strictly_increasing left rises) (λ z c. up_from x z (filter_in (is_from x) rest z c).1) in
+    let left = filter (is_place_from x) rest in
+    let rises : IsStrictlyIncreasing left = IsStrictlyIncreasing-filter (is_place_from x) rest old.rises in
+    let first : list_any (nat_eq x) left ≡ begins_by x left = any_first x left (sorted_from_strictly_increasing left rises) (λ z c. up_from x z (filter_in (is_place_from x) rest z c).1) in
     let among : p x ≡ b =
     ap p at ∙ sym (old.same i (omega arith) lt) ∙ ap (λ y. list_any (nat_eq y) rest) (sym at) ∙ sym (any_from x x rest (omega arith)) ∙ first ∙ ap (begins_by x) (sym is) ∙ sym tells in
     record {

@@ -9,25 +9,25 @@ use Rattle.dict_derived.specs.Derived.{grams}
 use Rattle.dict_derived.proofs.PieceLemmas.{gram_to_end, no_more}
 use Rattle.dict_places.specs.Places.{key_at, places_where}
 use Rattle.dict_places.specs.Selected.{has_piece, has_gram}
-use Rattle.dict_derived.specs.Kept.{is_kept, kept_grams}
+use Rattle.dict_derived.specs.KeptGrams.{is_kept_gram, kept_grams}
 
 -- ---- a run that is held is in a key where it is one of the key's that are held
 
-differs : (a b : List ℕ) → is_kept a ≡ true → is_kept b ≡ false → (e : Bool) → bytes_eq a b ≡ e → e ≡ false
+differs : (a b : List ℕ) → is_kept_gram a ≡ true → is_kept_gram b ≡ false → (e : Bool) → bytes_eq a b ≡ e → e ≡ false
 differs a b kept out true e =
     let same : a ≡ b = (bytes_eq-Decides a b).0 e in
-    absurd (false≢true (sym out ∙ ap is_kept (sym same) ∙ kept))
+    absurd (false≢true (sym out ∙ ap is_kept_gram (sym same) ∙ kept))
 differs a b kept out false e = refl
 
-any_kept : (g : List ℕ) (gs : List (List ℕ)) → is_kept g ≡ true → list_any (bytes_eq g) (filter is_kept gs) ≡ list_any (bytes_eq g) gs
+any_kept : (g : List ℕ) (gs : List (List ℕ)) → is_kept_gram g ≡ true → list_any (bytes_eq g) (filter is_kept_gram gs) ≡ list_any (bytes_eq g) gs
 any_kept g [] kept = refl
-any_kept g (x ∷ xs) kept = by (is_kept x) refl (any_kept g xs kept)
+any_kept g (x ∷ xs) kept = by (is_kept_gram x) refl (any_kept g xs kept)
   where
-    by : (b : Bool) → is_kept x ≡ b → list_any (bytes_eq g) (filter is_kept xs) ≡ list_any (bytes_eq g) xs → list_any (bytes_eq g) (cond b (x ∷ filter is_kept xs) (filter is_kept xs)) ≡ list_any (bytes_eq g) (x ∷ xs)
+    by : (b : Bool) → is_kept_gram x ≡ b → list_any (bytes_eq g) (filter is_kept_gram xs) ≡ list_any (bytes_eq g) xs → list_any (bytes_eq g) (cond b (x ∷ filter is_kept_gram xs) (filter is_kept_gram xs)) ≡ list_any (bytes_eq g) (x ∷ xs)
     by true e same = ap (λ b. bytes_eq g x || b) same
     by false e same = same ∙ ap (λ b. b || list_any (bytes_eq g) xs) (sym (differs g x kept e (bytes_eq g x) refl))
 
-pub kept_where : (g : List ℕ) (keys : List (List ℕ)) → is_kept g ≡ true → places_where (has_piece kept_grams g) keys ≡ places_where (has_gram g) keys
+pub kept_where : (g : List ℕ) (keys : List (List ℕ)) → is_kept_gram g ≡ true → places_where (has_piece kept_grams g) keys ≡ places_where (has_gram g) keys
 kept_where g keys kept = filter_agree _ _ (λ place. any_kept g (grams (key_at keys place)) kept) (range_with_len 0 (length keys))
 
 -- ---- one test behind another
@@ -45,22 +45,22 @@ where_both p q keys = twice (λ place. p (key_at keys place)) (λ place. q (key_
 
 -- ---- the runs of a key, one after another
 
-pub kept_next : (key : List ℕ) (end : ℕ) → 3 ≤ end → end < length key + 1 → is_kept (get_or key (end - 3) 0 ∷ get_or key (end - 2) 0 ∷ get_or key (end - 1) 0 ∷ []) ≡ true
+pub kept_next : (key : List ℕ) (end : ℕ) → 3 ≤ end → end < length key + 1 → is_kept_gram (get_or key (end - 3) 0 ∷ get_or key (end - 2) 0 ∷ get_or key (end - 1) 0 ∷ []) ≡ true
     → kept_grams (drop (end - 3) key) ≡ (get_or key (end - 3) 0 ∷ get_or key (end - 2) 0 ∷ get_or key (end - 1) 0 ∷ []) ∷ kept_grams (drop (end + 1 - 3) key)
 kept_next key end low fits kept =
     let g = get_or key (end - 3) 0 ∷ get_or key (end - 2) 0 ∷ get_or key (end - 1) 0 ∷ [] in
     let rest = kept_grams (drop (end + 1 - 3) key) in
-    ap (filter is_kept) (gram_to_end key end low fits) ∙ ap (λ b. cond b (g ∷ rest) rest) kept
+    ap (filter is_kept_gram) (gram_to_end key end low fits) ∙ ap (λ b. cond b (g ∷ rest) rest) kept
 
-pub left_out_next : (key : List ℕ) (end : ℕ) → 3 ≤ end → end < length key + 1 → is_kept (get_or key (end - 3) 0 ∷ get_or key (end - 2) 0 ∷ get_or key (end - 1) 0 ∷ []) ≡ false
+pub left_out_next : (key : List ℕ) (end : ℕ) → 3 ≤ end → end < length key + 1 → is_kept_gram (get_or key (end - 3) 0 ∷ get_or key (end - 2) 0 ∷ get_or key (end - 1) 0 ∷ []) ≡ false
     → kept_grams (drop (end - 3) key) ≡ kept_grams (drop (end + 1 - 3) key)
 left_out_next key end low fits out =
     let g = get_or key (end - 3) 0 ∷ get_or key (end - 2) 0 ∷ get_or key (end - 1) 0 ∷ [] in
     let rest = kept_grams (drop (end + 1 - 3) key) in
-    ap (filter is_kept) (gram_to_end key end low fits) ∙ ap (λ b. cond b (g ∷ rest) rest) out
+    ap (filter is_kept_gram) (gram_to_end key end low fits) ∙ ap (λ b. cond b (g ∷ rest) rest) out
 
 pub no_more_kept : (key : List ℕ) (n : ℕ) → length key < n + 3 → kept_grams (drop n key) ≡ []
-no_more_kept key n past = ap (filter is_kept) (no_more key n past)
+no_more_kept key n past = ap (filter is_kept_gram) (no_more key n past)
 
 -- ---- a run looked for among them
 

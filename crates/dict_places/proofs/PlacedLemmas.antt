@@ -14,7 +14,7 @@ use Rattle.std.proofs.lemmas.List.Kept.{Any-dedup, Contains-from_dedup, IsStrict
 use Rattle.std.proofs.lemmas.List.Sorted.{Contains-permutation, IsPermutation-map, IsPermutation-sym}
 use Rattle.std.proofs.lemmas.Map.Lookups.{exact_bytes, exact_pairs, exact_unsigned}
 use Rattle.dict_derived.specs.Derived.{octets_cmp}
-use Rattle.dict_places.specs.Pieces.{Placed, at_place, occurrences_from, pair_cmp, AreOccurrences}
+use Rattle.dict_places.specs.Pieces.{Placed, placed_at, occurrences_from, pair_cmp, AreOccurrences}
 use Rattle.dict_places.specs.PlacedPieces.{word_placed, gram_placed, gram_cmp}
 use Rattle.dict_places.specs.declared.placed.PlacedWord.{PlacedWord}
 use Rattle.dict_places.specs.declared.placed.PlacedGram.{PlacedGram}
@@ -36,20 +36,20 @@ pub none_left : {X Y : Type 0} (row : X → Y) (f : List ℕ → Y) (list : List
 none_left row f list left all none before = sym (append-nil (map row list)) ∙ ap (λ l. map row list ++ map f l) (sym none) ∙ before
 
 module _ (pieces_in : List ℕ → List (List ℕ)) where
-  push : (first : ℕ) (keys : List (List ℕ)) (key : List ℕ) → occurrences_from pieces_in first (keys ++ key ∷ []) ≡ occurrences_from pieces_in first keys ++ map (at_place (first + length keys)) (pieces_in key)
-  push first [] key = append-nil (map (at_place first) (pieces_in key)) ∙ ap (λ n. map (at_place n) (pieces_in key)) (omega arith)
+  push : (first : ℕ) (keys : List (List ℕ)) (key : List ℕ) → occurrences_from pieces_in first (keys ++ key ∷ []) ≡ occurrences_from pieces_in first keys ++ map (placed_at (first + length keys)) (pieces_in key)
+  push first [] key = append-nil (map (placed_at first) (pieces_in key)) ∙ ap (λ n. map (placed_at n) (pieces_in key)) (omega arith)
   push first (k ∷ keys) key =
       let more : first + 1 + length keys ≡ first + length (k ∷ keys) = omega arith in
-      let here = map (at_place first) (pieces_in k) in
-      ap (λ rows. here ++ rows) (push (first + 1) keys key ∙ ap (λ n. occurrences_from pieces_in (first + 1) keys ++ map (at_place n) (pieces_in key)) more)
-      ∙ sym (append_assoc here (occurrences_from pieces_in (first + 1) keys) (map (at_place (first + length (k ∷ keys))) (pieces_in key)))
+      let here = map (placed_at first) (pieces_in k) in
+      ap (λ rows. here ++ rows) (push (first + 1) keys key ∙ ap (λ n. occurrences_from pieces_in (first + 1) keys ++ map (placed_at n) (pieces_in key)) more)
+      ∙ sym (append_assoc here (occurrences_from pieces_in (first + 1) keys) (map (placed_at (first + length (k ∷ keys))) (pieces_in key)))
 
-  pub next_key : (keys : List (List ℕ)) (n : ℕ) (key : List ℕ) → n < length keys → key ≡ get_or keys n [] → occurrences_from pieces_in 0 (take (n + 1) keys) ≡ occurrences_from pieces_in 0 (take n keys) ++ map (at_place n) (pieces_in key)
+  pub next_key : (keys : List (List ℕ)) (n : ℕ) (key : List ℕ) → n < length keys → key ≡ get_or keys n [] → occurrences_from pieces_in 0 (take (n + 1) keys) ≡ occurrences_from pieces_in 0 (take n keys) ++ map (placed_at n) (pieces_in key)
   next_key keys n key lt is =
       let size : 0 + length (take n keys) ≡ n = omega (arith, length-take n keys) in
       ap (occurrences_from pieces_in 0) (take_more keys n [] lt ∙ ap (λ k. take n keys ++ k ∷ []) (sym is))
       ∙ push 0 (take n keys) key
-      ∙ ap (λ m. occurrences_from pieces_in 0 (take n keys) ++ map (at_place m) (pieces_in key)) size
+      ∙ ap (λ m. occurrences_from pieces_in 0 (take n keys) ++ map (placed_at m) (pieces_in key)) size
 
 -- ---- members
 
@@ -69,9 +69,9 @@ module _ {X Y : Type 0} (f : X → Y) where
 module _ (pieces_in : List ℕ → List (List ℕ)) where
   pub from_occurrences : (first : ℕ) (keys : List (List ℕ)) (w : List ℕ) (z : ℕ) → Contains (occurrences_from pieces_in first keys) (w, z) → (i : ℕ) × (i < length keys) × (z ≡ first + i) × Contains (pieces_in (get_or keys i [])) w
   from_occurrences first [] w z c = absurd (none_in (w, z) c)
-  from_occurrences first (k ∷ keys) w z c = elim (Contains-append_cases (map (at_place first) (pieces_in k)) (occurrences_from pieces_in (first + 1) keys) (w, z) c) [
+  from_occurrences first (k ∷ keys) w z c = elim (Contains-append_cases (map (placed_at first) (pieces_in k)) (occurrences_from pieces_in (first + 1) keys) (w, z) c) [
     | inl here ↦
-        let r = from_map (at_place first) (pieces_in k) (w, z) here in
+        let r = from_map (placed_at first) (pieces_in k) (w, z) here in
         let place : first ≡ z = ap (λ (o : Placed). o.1) r.2 in
         let word : r.0 ≡ w = ap (λ (o : Placed). o.0) r.2 in
         (0, omega arith, omega (arith, place), subst (Contains (pieces_in k)) word r.1)
@@ -84,11 +84,11 @@ module _ (pieces_in : List ℕ → List (List ℕ)) where
   to_occurrences first [] w i lt c = absurd (omega (arith, lt))
   to_occurrences first (k ∷ keys) w zero lt c =
       let same : first ≡ first + 0 = omega arith in
-      Contains-append_left (map (at_place first) (pieces_in k)) (occurrences_from pieces_in (first + 1) keys) (w, first + 0)
-      (subst (λ m. Contains (map (at_place first) (pieces_in k)) (w, m)) same (to_map (at_place first) (pieces_in k) w c))
+      Contains-append_left (map (placed_at first) (pieces_in k)) (occurrences_from pieces_in (first + 1) keys) (w, first + 0)
+      (subst (λ m. Contains (map (placed_at first) (pieces_in k)) (w, m)) same (to_map (placed_at first) (pieces_in k) w c))
   to_occurrences first (k ∷ keys) w (suc i) lt c =
       let same : first + 1 + i ≡ first + suc i = omega arith in
-      Contains-append_right (map (at_place first) (pieces_in k)) (occurrences_from pieces_in (first + 1) keys) (w, first + suc i)
+      Contains-append_right (map (placed_at first) (pieces_in k)) (occurrences_from pieces_in (first + 1) keys) (w, first + suc i)
       (subst (λ m. Contains (occurrences_from pieces_in (first + 1) keys) (w, m)) same (to_occurrences (first + 1) keys w i (omega arith) c))
 
 -- ---- sorted, and each left once

@@ -16,7 +16,7 @@ use Rattle.dict_match.specs.declared.strategy.Strategy.{Strategy}
 use Rattle.dict_match.specs.declared.strategy.Strategy.TheVariants.{Exact, Prefix, Suffix, Substring, Word, First, Last}
 use Rattle.dict_match.proofs.DecideLemmas.{hit_law}
 use Rattle.dict_derived.specs.Derived.{grams, octets_cmp, IsGramOf}
-use Rattle.dict_derived.specs.Search.{Rows, NoRows, AllRows, WithKey, BetweenKeys, BetweenReversed, WithGrams, WithWord, Selects, by_first, rows_for}
+use Rattle.dict_derived.specs.Search.{Rows, NoRows, AllRows, WithKey, BetweenKeys, BetweenReversed, WithGrams, WithWord, SelectsKey, by_first, rows_for}
 use Rattle.dict_derived.proofs.PieceLemmas.{grams_are}
 use Rattle.dict_derived.proofs.SearchLemmas.{among, only, some_query, not_empty}
 use Rattle.dict_places.specs.Places.{key_at, places_where}
@@ -39,7 +39,7 @@ gram_told g k =
 both_told : (a b : Bool) → Decides (a && b) (IsTrue a × IsTrue b)
 both_told a b = and_both a b (IsTrue a) (IsTrue b) ((λ h. h), (λ h. h)) ((λ h. h), (λ h. h))
 
-pub selects : (rows : Rows) (k : List ℕ) → IsTrue (is_selected rows k) ↔ Selects rows k
+pub selects : (rows : Rows) (k : List ℕ) → IsTrue (is_selected rows k) ↔ SelectsKey rows k
 selects NoRows k = ((λ h. absurd (false≢true h)), (λ h. absurd h))
 selects AllRows k = ((λ h. tt), (λ h. refl))
 selects (WithKey q) k = bytes_eq-Decides k q
@@ -48,7 +48,7 @@ selects (BetweenReversed low high) k = both_told (is_le (octets_cmp low (reverse
 selects (WithGrams a b) k = and_both (has_gram a k) (has_gram b k) (IsGramOf k a) (IsGramOf k b) (gram_told a k) (gram_told b k)
 selects (WithWord w) k = has words_between_blanks w k
 
-pub selects_decided : (rows : Rows) (k : List ℕ) → Decides (is_selected rows k) (Selects rows k)
+pub selects_decided : (rows : Rows) (k : List ℕ) → Decides (is_selected rows k) (SelectsKey rows k)
 selects_decided rows k = selects rows k
 
 -- ---- what is found among what is looked at
@@ -60,7 +60,7 @@ pub hit_decided : (strategy : Strategy) (q k : List ℕ) → Decides (is_hit str
 hit_decided strategy q k = hit_law strategy q k
 
 -- where all that is looked at is a hit, that is what is found
-all_hit : (strategy : Strategy) (q : List ℕ) (keys : List (List ℕ)) → All IsUtf8 keys → ((k : List ℕ) → IsUtf8 k → Selects (rows_for strategy q) k → Hits strategy q k) → places_where (is_selected (rows_for strategy q)) keys ≡ places_where (is_hit strategy q) keys
+all_hit : (strategy : Strategy) (q : List ℕ) (keys : List (List ℕ)) → All IsUtf8 keys → ((k : List ℕ) → IsUtf8 k → SelectsKey (rows_for strategy q) k → Hits strategy q k) → places_where (is_selected (rows_for strategy q)) keys ≡ places_where (is_hit strategy q) keys
 all_hit strategy q keys text only_hits =
     let sel = is_selected (rows_for strategy q) in
     let hit = is_hit strategy q in
@@ -89,11 +89,11 @@ one_word (w ∷ []) h = (w, refl)
 one_word (w ∷ x ∷ words) h = absurd (omega (arith, (Decides-eqb (length (w ∷ x ∷ words)) 1).0 h))
 
 -- of a query that is one word no more is looked at than found
-word_hits : (q k : List ℕ) → finds_all Word q ≡ true → Selects (rows_for Word q) k → Hits Word q k
+word_hits : (q k : List ℕ) → finds_all Word q ≡ true → SelectsKey (rows_for Word q) k → Hits Word q k
 word_hits q k one h =
     let word = one_word (words_between_blanks q) one in
     let some : q ≢ [] = some_query Word q k h in
-    let here : Contains (words_between_blanks k) word.0 = subst (λ rows. Selects rows k) (not_empty Word q some ∙ ap by_first word.1) h in
+    let here : Contains (words_between_blanks k) word.0 = subst (λ rows. SelectsKey rows k) (not_empty Word q some ∙ ap by_first word.1) h in
     (some, subst (HasWords (words_between_blanks k)) (sym word.1) (run_of_one (words_between_blanks k) word.0 here))
 
 -- no test follows: all that is looked at is found

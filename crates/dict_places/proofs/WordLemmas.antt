@@ -20,8 +20,8 @@ use Rattle.dict_match.specs.Words.{words_between_blanks}
 use Rattle.dict_derived.specs.Derived.{octets_cmp}
 use Rattle.dict_places.specs.Orders.{IsOrderOf}
 use Rattle.dict_places.specs.Places.{key_at}
-use Rattle.dict_places.specs.Pieces.{Placed, at_place, occurrences_from, pair_cmp, AreOccurrences}
-use Rattle.dict_places.specs.Wording.{row_of, rows_of, row_cmp}
+use Rattle.dict_places.specs.Pieces.{Placed, placed_at, occurrences_from, pair_cmp, AreOccurrences}
+use Rattle.dict_places.specs.Wording.{word_with_place, words_with_places, row_cmp}
 use Rattle.dict_places.proofs.PieceLemmas.{from_range}
 use Rattle.dict_places.proofs.PlacedLemmas.{from_occurrences, once_sorted, pieces_tie}
 
@@ -34,32 +34,32 @@ zip_more (a ∷ xs) [] x y same = absurd (omega (arith, same))
 zip_more (a ∷ xs) (b ∷ ys) x y same = ap (λ l. (a, b) ∷ l) (zip_more xs ys x y (omega (arith, same)))
 
 pub put_one : (place : ℕ) (found found' : List (List ℕ)) (places places' : List ℕ) (w : List ℕ) (left rest : List (List ℕ)) (all : List Placed) → length found ≡ length places → found' ≡ found ++ w ∷ [] → places' ≡ places ++ place ∷ [] → left ≡ w ∷ rest
-    → zip found places ++ map (at_place place) left ≡ all → zip found' places' ++ map (at_place place) rest ≡ all
+    → zip found places ++ map (placed_at place) left ≡ all → zip found' places' ++ map (placed_at place) rest ≡ all
 put_one place found found' places places' w left rest all same one two next before =
-    ap (λ l. zip l places' ++ map (at_place place) rest) one
-    ∙ ap (λ l. zip (found ++ w ∷ []) l ++ map (at_place place) rest) two
-    ∙ ap (λ l. l ++ map (at_place place) rest) (zip_more found places w place same)
-    ∙ append_assoc (zip found places) ((w, place) ∷ []) (map (at_place place) rest)
-    ∙ ap (λ l. zip found places ++ map (at_place place) l) (sym next)
+    ap (λ l. zip l places' ++ map (placed_at place) rest) one
+    ∙ ap (λ l. zip (found ++ w ∷ []) l ++ map (placed_at place) rest) two
+    ∙ ap (λ l. l ++ map (placed_at place) rest) (zip_more found places w place same)
+    ∙ append_assoc (zip found places) ((w, place) ∷ []) (map (placed_at place) rest)
+    ∙ ap (λ l. zip found places ++ map (placed_at place) l) (sym next)
     ∙ before
 
 pub as_many : (place : ℕ) (found found' : List (List ℕ)) (places places' : List ℕ) (w : List ℕ) → length found ≡ length places → found' ≡ found ++ w ∷ [] → places' ≡ places ++ place ∷ [] → length found' ≡ length places'
 as_many place found found' places places' w same one two = omega (arith, same, ap length one, ap length two, length-append found (w ∷ []), length-append places (place ∷ []))
 
-pub all_put : (place : ℕ) (found : List (List ℕ)) (places : List ℕ) (left : List (List ℕ)) (all : List Placed) → left ≡ [] → zip found places ++ map (at_place place) left ≡ all → zip found places ≡ all
-all_put place found places left all none before = sym (append-nil (zip found places)) ∙ ap (λ l. zip found places ++ map (at_place place) l) (sym none) ∙ before
+pub all_put : (place : ℕ) (found : List (List ℕ)) (places : List ℕ) (left : List (List ℕ)) (all : List Placed) → left ≡ [] → zip found places ++ map (placed_at place) left ≡ all → zip found places ≡ all
+all_put place found places left all none before = sym (append-nil (zip found places)) ∙ ap (λ l. zip found places ++ map (placed_at place) l) (sym none) ∙ before
 
 -- ---- the words by their indexes
 
-rows_from : (found : List (List ℕ)) (places : List ℕ) (from n : ℕ) → length found ≡ length places → from + n ≡ length found → map (row_of found places) (range_with_len from n) ≡ zip (drop from found) (drop from places)
+rows_from : (found : List (List ℕ)) (places : List ℕ) (from n : ℕ) → length found ≡ length places → from + n ≡ length found → map (word_with_place found places) (range_with_len from n) ≡ zip (drop from found) (drop from places)
 rows_from found places from zero same all = sym (ap (λ l. zip l (drop from places)) (drop_all from found (omega (arith, all))))
 rows_from found places from (suc n) same all =
     let here : drop from found ≡ get_or found from [] ∷ drop (from + 1) found = drop_more found from [] (omega (arith, all)) in
     let there : drop from places ≡ get_or places from 0 ∷ drop (from + 1) places = drop_more places from 0 (omega (arith, same, all)) in
-    ap (λ l. row_of found places from ∷ l) (rows_from found places (from + 1) n same (omega (arith, all)))
+    ap (λ l. word_with_place found places from ∷ l) (rows_from found places (from + 1) n same (omega (arith, all)))
     ∙ sym (ap (λ l. zip l (drop from places)) here ∙ ap (zip (get_or found from [] ∷ drop (from + 1) found)) there)
 
-rows_all : (found : List (List ℕ)) (places : List ℕ) → length found ≡ length places → map (row_of found places) (range_with_len 0 (length found)) ≡ zip found places
+rows_all : (found : List (List ℕ)) (places : List ℕ) → length found ≡ length places → map (word_with_place found places) (range_with_len 0 (length found)) ≡ zip found places
 rows_all found places same = rows_from found places 0 (length found) same (omega arith)
 
 -- ---- their places don't fall
@@ -100,8 +100,8 @@ module _ (pieces_in : List ℕ → List (List ℕ)) where
   places_rise first [] = λ i j d le lt. absurd (omega (arith, lt))
   places_rise first (key ∷ keys) =
       let mine = pieces_in key in
-      joined_rise (map (at_place first) mine) (occurrences_from pieces_in (first + 1) keys) first
-      (λ i d lt. ap place_of (get_or-map (at_place first) mine i [] d (omega (arith, lt, length-map mine (at_place first)))))
+      joined_rise (map (placed_at first) mine) (occurrences_from pieces_in (first + 1) keys) first
+      (λ i d lt. ap place_of (get_or-map (placed_at first) mine i [] d (omega (arith, lt, length-map mine (placed_at first)))))
       (λ p c. omega (arith, from_first (first + 1) keys p c))
       (places_rise (first + 1) keys)
 
@@ -110,7 +110,7 @@ no_row = ([], 0)
 
 rising : (keys found : List (List ℕ)) (places : List ℕ) → length found ≡ length places → zip found places ≡ occurrences_from words_between_blanks 0 keys → (i j : ℕ) → i ≤ j → j < length found → get_or places i 0 ≤ get_or places j 0
 rising keys found places same are i j le lt =
-    let row = row_of found places in
+    let row = word_with_place found places in
     let n = length found in
     let all : map row (range_with_len 0 n) ≡ occurrences_from words_between_blanks 0 keys = rows_all found places same ∙ are in
     let up : IsNonDecreasingBy place_of (map row (range_with_len 0 n)) = subst (IsNonDecreasingBy place_of) (sym all) (places_rise words_between_blanks 0 keys) in
@@ -140,9 +140,9 @@ pair_total : IsTotalOrder pair_cmp
 pair_total = then_total (on_total (λ (p : Placed). p.0) nat_list_cmp_total) (on_total (λ (p : Placed). p.1) nat_cmp_total)
 
 pub words_once : (keys found : List (List ℕ)) (places sorted last : List ℕ) → length found ≡ length places → zip found places ≡ occurrences_from words_between_blanks 0 keys → IsOrderOf found sorted → last ≡ dedup (eq_by_cmp (row_cmp found places)) sorted
-    → AreOccurrences words_between_blanks keys (rows_of found places last)
+    → AreOccurrences words_between_blanks keys (words_with_places found places last)
 words_once keys found places sorted last same are order kept =
-    let row = row_of found places in
+    let row = word_with_place found places in
     let range = range_with_len 0 (length found) in
     let all : map row range ≡ occurrences_from words_between_blanks 0 keys = rows_all found places same ∙ are in
     once_sorted row (row_cmp found places) (on_total row pair_total) (λ x y. refl) words_between_blanks keys sorted last

@@ -6,8 +6,8 @@ use Rattle.dict_places.specs.Places.{places_where}
 abbrev pub is_below : ℕ → ℕ → Bool
 is_below place other = nat_lt other place
 
-abbrev pub is_from : ℕ → ℕ → Bool
-is_from place other = not (nat_lt other place)
+abbrev pub is_place_from : ℕ → ℕ → Bool
+is_place_from place other = not (nat_lt other place)
 
 -- the first of the places is this one
 abbrev pub begins_by : ℕ → List ℕ → Bool

@@ -1,7 +1,7 @@
 -- What is made of the runs of three octets of keys, slice by slice.
 use Rattle.std.specs.Prelude.{◌≡◌, ℕ, List, take}
 use Rattle.std.specs.List.Sorted.{IsPermutation}
-use Rattle.dict_derived.specs.Kept.{kept_grams}
+use Rattle.dict_derived.specs.KeptGrams.{kept_grams}
 use Rattle.dict_places.specs.Grouped.{GoesOnGrouping}
 use Rattle.dict_places.specs.Merging.{elements, AreWithin}
 use Rattle.dict_places.specs.Pieces.{occurrences_from, AreOccurrences, ArePlaced}
@@ -14,8 +14,8 @@ use Rattle.dict_places.specs.declared.merging.Merging.{Merging}
 use Rattle.dict_places.specs.declared.placed.PlacedGram.{PlacedGram}
 
 -- those that stand in the first keys
-abbrev pub AreTaken : List (List ℕ) → TakenRuns → Type 0
-AreTaken keys taken = grams_placed taken.runs.items ≡ occurrences_from kept_grams 0 (take taken.place keys)
+abbrev pub AreRunsTaken : List (List ℕ) → TakenRuns → Type 0
+AreRunsTaken keys taken = grams_placed taken.runs.items ≡ occurrences_from kept_grams 0 (take taken.place keys)
 
 -- those of all keys, in some order
 pub record AreSorted (keys : List (List ℕ)) (m : Merging PlacedGram) : Type 0 where
@@ -29,7 +29,7 @@ pub record AreGroupedOf (keys : List (List ℕ)) (grouped : GroupedRuns) : Type 
 
 -- what is made is of these keys
 abbrev pub AreListed : List (List ℕ) → Listing → Type 0
-AreListed keys (Taken taken) = AreTaken keys taken
+AreListed keys (Taken taken) = AreRunsTaken keys taken
 AreListed keys (Sorted merging) = AreSorted keys merging
 AreListed keys (Grouped grouped) = AreGroupedOf keys grouped
 AreListed keys (Made pieces) = ArePlaced kept_grams keys pieces.texts pieces.lists

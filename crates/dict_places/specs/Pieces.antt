@@ -12,13 +12,13 @@ use Rattle.dict_places.specs.Selected.{has_piece}
 abbrev pub Placed : Type 0
 Placed = List ℕ × ℕ
 
-abbrev pub at_place : ℕ → List ℕ → Placed
-at_place place piece = (piece, place)
+abbrev pub placed_at : ℕ → List ℕ → Placed
+placed_at place piece = (piece, place)
 
 -- each piece of each key, as often as it stands there, with the place of its key
 abbrev pub occurrences_from : (List ℕ → List (List ℕ)) → ℕ → List (List ℕ) → List Placed
 occurrences_from pieces_in place [] = []
-occurrences_from pieces_in place (key ∷ keys) = map (at_place place) (pieces_in key) ++ occurrences_from pieces_in (place + 1) keys
+occurrences_from pieces_in place (key ∷ keys) = map (placed_at place) (pieces_in key) ++ occurrences_from pieces_in (place + 1) keys
 
 abbrev pub with_piece : List ℕ → ℕ → Placed
 with_piece piece place = (piece, place)

@@ -14,6 +14,6 @@ pub record ArePlacesOf (texts : List (List ℕ)) (m : Merging ℕ) : Type 0 wher
   pub within : AreWithin m
 
 -- what is made is the order of these texts
-abbrev pub AreOrdered : List (List ℕ) → Places → Type 0
-AreOrdered texts (Sorted sorting) = ArePlacesOf texts sorting.places
-AreOrdered texts (Made places) = IsOrderOf texts places.items
+abbrev pub MakesOrderOf : List (List ℕ) → Places → Type 0
+MakesOrderOf texts (Sorted sorting) = ArePlacesOf texts sorting.places
+MakesOrderOf texts (Made places) = IsOrderOf texts places.items

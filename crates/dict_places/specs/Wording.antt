@@ -13,15 +13,15 @@ use Rattle.dict_places.specs.declared.wording.Wording.{Wording}
 use Rattle.dict_places.specs.declared.wording.Wording.TheVariants.{Taken, Sorted, Grouped, Made}
 
 -- the word at an index, with the place of its key
-abbrev pub row_of : List (List ℕ) → List ℕ → ℕ → Placed
-row_of found places i = (slice_index_or found i [], slice_index_or places i 0)
+abbrev pub word_with_place : List (List ℕ) → List ℕ → ℕ → Placed
+word_with_place found places i = (slice_index_or found i [], slice_index_or places i 0)
 
-abbrev pub rows_of : List (List ℕ) → List ℕ → List ℕ → List Placed
-rows_of found places order = map (row_of found places) order
+abbrev pub words_with_places : List (List ℕ) → List ℕ → List ℕ → List Placed
+words_with_places found places order = map (word_with_place found places) order
 
 -- by the words, and by the places where words are the same
 abbrev pub row_cmp : List (List ℕ) → List ℕ → ℕ → ℕ → Ordering
-row_cmp found places i j = pair_cmp (row_of found places i) (row_of found places j)
+row_cmp found places i j = pair_cmp (word_with_place found places i) (word_with_place found places j)
 
 -- those that stand in the first keys
 pub record AreWordsTaken (keys : List (List ℕ)) (taken : TakenWords) : Type 0 where
@@ -36,8 +36,8 @@ pub record AreWordsSorted (keys : List (List ℕ)) (sorted : SortedWords) : Type
 
 -- all of them in order, of which the first are grouped
 pub record AreWordsGrouped (keys : List (List ℕ)) (grouped : GroupedWords) : Type 0 where
-  pub all : AreOccurrences words_between_blanks keys (rows_of grouped.found grouped.places.items grouped.order.items)
-  pub first : GoesOnGrouping (rows_of grouped.found grouped.places.items grouped.order.items) grouped.at grouped.texts grouped.lists
+  pub all : AreOccurrences words_between_blanks keys (words_with_places grouped.found grouped.places.items grouped.order.items)
+  pub first : GoesOnGrouping (words_with_places grouped.found grouped.places.items grouped.order.items) grouped.at grouped.texts grouped.lists
 
 -- what is made is of these keys
 abbrev pub AreWorded : List (List ℕ) → Wording → Type 0

@@ -2,7 +2,7 @@
 ghost use Rattle.std.specs.Prelude.{◌≡◌, ◌<◌, ◌≤◌, ◌&&◌, ℕ, Bool, false, List, IfOk, length, filter, slice_index_or};
 ghost use Rattle.std.specs.List.Sorted.{IsStrictlyIncreasing};
 ghost use Rattle.dict_places.specs.Places.{places_where};
-ghost use Rattle.dict_places.specs.Common.{is_below, is_from, begins_by};
+ghost use Rattle.dict_places.specs.Common.{is_below, is_place_from, begins_by};
 
 use std::alloc::{AllocError, Global};
 
@@ -24,7 +24,7 @@ pub fn common_places(alloc: Global, fewer: &[u32], more: &[u32]) -> Result<Vec<u
 
 /// Of places that rise those from this one on.
 fn from_place(places: &[u32], place: u32) -> &[u32]
-    ensures { IsStrictlyIncreasing places.now → result.now ≡ filter (is_from place) places.now }
+    ensures { IsStrictlyIncreasing places.now → result.now ≡ filter (is_place_from place) places.now }
 {
     let (near, _) = places.split_at(reach(places, place));
     let below = near.partition_point(|other| *other < place);

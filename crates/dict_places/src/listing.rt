@@ -1,6 +1,6 @@
 //! The runs of three octets of keys, which are listed in slices.
 ghost use Rattle.std.specs.Prelude.{◌≡◌, IfOk, IfSome, length};
-ghost use Rattle.dict_places.specs.Listing.{AreListed, AreTaken, AreSorted, AreGroupedOf};
+ghost use Rattle.dict_places.specs.Listing.{AreListed, AreRunsTaken, AreSorted, AreGroupedOf};
 
 use crate::merging::{Compares, Merging};
 use crate::pieces::{Pieces, pieces_of, put};
@@ -89,7 +89,7 @@ fn take_more(
     taken: TakenRuns,
 ) -> Result<Listing, AllocError>
     requires count { count ≡ length keys.now }
-    requires taken { AreTaken keys.now taken }
+    requires taken { AreRunsTaken keys.now taken }
     ensures { IfOk result (AreListed keys.now) }
 {
     let TakenRuns { mut runs, place } = taken;

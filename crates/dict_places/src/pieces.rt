@@ -6,7 +6,7 @@ ghost use Rattle.dict_match.specs.Words.{words_between_blanks};
 ghost use Rattle.dict_derived.specs.Derived.{octets_cmp};
 ghost use Rattle.dict_places.specs.Places.{places_where};
 ghost use Rattle.dict_places.specs.Selected.{has_piece};
-ghost use Rattle.dict_derived.specs.Kept.{kept_grams};
+ghost use Rattle.dict_derived.specs.KeptGrams.{kept_grams};
 ghost use Rattle.dict_places.specs.Pieces.{pairs_of, ends_with_piece, AreOccurrences, ArePlaced};
 ghost use Rattle.dict_places.specs.Common.{HasAllWith};
 ghost use Rattle.dict_places.specs.PlacedPieces.{words_placed, grams_placed};

@@ -3,8 +3,8 @@ ghost use Rattle.std.specs.Prelude.{◌≡◌, ◌+◌, ◌-◌, ◌<◌, ◌≤
 ghost use Rattle.std.specs.List.{Contains};
 ghost use Rattle.std.specs.List.Sorted.{IsPermutation, IsStrictlySortedBy};
 ghost use Rattle.dict_match.specs.Words.{words_between_blanks};
-ghost use Rattle.dict_derived.specs.Kept.{kept_grams};
-ghost use Rattle.dict_places.specs.Pieces.{Placed, at_place, occurrences_from, pair_cmp, AreOccurrences};
+ghost use Rattle.dict_derived.specs.KeptGrams.{kept_grams};
+ghost use Rattle.dict_places.specs.Pieces.{Placed, placed_at, occurrences_from, pair_cmp, AreOccurrences};
 ghost use Rattle.dict_places.specs.PlacedPieces.{words_placed, grams_placed, gram_cmp, gram_rank, FitsRank};
 
 use dict_derived::{Texts, is_kept};
@@ -51,7 +51,7 @@ fn add_words<'a>(
     key: &'a [u8],
     place: u32,
 ) -> Result<(), AllocError>
-    ensures { OnOk result (words_placed list.new.items ≡ words_placed list.old.items ++ map (at_place place) (words_between_blanks key.now)) }
+    ensures { OnOk result (words_placed list.new.items ≡ words_placed list.old.items ++ map (placed_at place) (words_between_blanks key.now)) }
 {
     for word in words(key) {
         list.push(PlacedWord { word, place })?;
@@ -65,7 +65,7 @@ pub(crate) fn add_grams(
     key: &[u8],
     place: u32,
 ) -> Result<(), AllocError>
-    ensures { OnOk result (grams_placed list.new.items ≡ grams_placed list.old.items ++ map (at_place place) (kept_grams key.now)) }
+    ensures { OnOk result (grams_placed list.new.items ≡ grams_placed list.old.items ++ map (placed_at place) (kept_grams key.now)) }
 {
     for end in 3..key.len() + 1 {
         let gram = [key[end - 3], key[end - 2], key[end - 1]];

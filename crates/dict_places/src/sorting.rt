@@ -1,7 +1,7 @@
 //! Places that are brought into the order of their texts in slices.
 ghost use Rattle.std.specs.Prelude.{◌≡◌, IfOk, IfSome, length, map, reverse, take};
 ghost use Rattle.dict_places.specs.Orders.{IsOrderOf};
-ghost use Rattle.dict_places.specs.Sorting.{ArePlacesOf, AreOrdered};
+ghost use Rattle.dict_places.specs.Sorting.{ArePlacesOf, MakesOrderOf};
 
 use crate::heads::all_heads;
 use crate::merging::{Compares, Merging};
@@ -92,8 +92,8 @@ pub fn place_more(
     begun: Option<Places>,
 ) -> Result<Places, AllocError>
     requires count { count ≡ length texts.now }
-    requires begun { IfSome begun (AreOrdered texts.now) }
-    ensures { IfOk result (AreOrdered texts.now) }
+    requires begun { IfSome begun (MakesOrderOf texts.now) }
+    ensures { IfOk result (MakesOrderOf texts.now) }
 {
     match begun {
         None => Ok(Places::Sorted(Sorting::of(alloc, texts, count)?)),
@@ -105,7 +105,7 @@ pub fn place_more(
 /// Sorts the next of them.
 fn sort_more(texts: &Texts, sorting: Sorting) -> Result<Places, AllocError>
     requires { ArePlacesOf texts.now sorting.places }
-    ensures { IfOk result (AreOrdered texts.now) }
+    ensures { IfOk result (MakesOrderOf texts.now) }
 {
     let mut sorting = sorting;
     if sorting.step(texts)? {

@@ -4,8 +4,8 @@ ghost use Rattle.std.specs.List.{zip};
 ghost use Rattle.std.specs.Ordering.{is_eq};
 ghost use Rattle.dict_match.specs.Words.{words_between_blanks};
 ghost use Rattle.dict_places.specs.Orders.{IsOrderOf};
-ghost use Rattle.dict_places.specs.Pieces.{at_place, occurrences_from, AreOccurrences};
-ghost use Rattle.dict_places.specs.Wording.{AreWorded, AreWordsTaken, AreWordsSorted, AreWordsGrouped, row_of, rows_of, row_cmp};
+ghost use Rattle.dict_places.specs.Pieces.{placed_at, occurrences_from, AreOccurrences};
+ghost use Rattle.dict_places.specs.Wording.{AreWorded, AreWordsTaken, AreWordsSorted, AreWordsGrouped, word_with_place, words_with_places, row_cmp};
 
 use crate::pieces::{Pieces, pieces_of, put, words_of};
 use crate::sorting::Sorting;
@@ -129,7 +129,7 @@ fn put_words(
 ) -> Result<(), AllocError>
     requires { length found.old ≡ length places.old.items }
     ensures same { OnOk result (length found.new ≡ length places.new.items) }
-    ensures put { OnOk result (zip found.new places.new.items ≡ zip found.old places.old.items ++ map (at_place place) (words_between_blanks key.now)) }
+    ensures put { OnOk result (zip found.new places.new.items ≡ zip found.old places.old.items ++ map (placed_at place) (words_between_blanks key.now)) }
 {
     for word in words(key) {
         found.push(word)?;
@@ -196,7 +196,7 @@ fn each_once(keys: &Texts, found: &Texts, places: &[u32], order: Vec<u32>) -> Ve
     requires same { length found.now ≡ length places.now }
     requires all { zip found.now places.now ≡ occurrences_from words_between_blanks 0 keys.now }
     requires order { IsOrderOf found.now order.items }
-    ensures { AreOccurrences words_between_blanks keys.now (rows_of found.now places.now result.items) }
+    ensures { AreOccurrences words_between_blanks keys.now (words_with_places found.now places.now result.items) }
 {
     let mut once = order;
     once.dedup_by(|one, other| is_same(found, places, *one, *other));

@@ -9,7 +9,7 @@ use Rattle.dict_driver.specs.declared.binding.Network as network
 use Rattle.dict_driver.specs.declared.sockets.SystemSockets.{SystemSockets}
 use Rattle.dict_proto.specs.Streams.{StreamChange}
 use Rattle.dict_serving.specs.declared.desks.DeskOpener as desks
-use Rattle.dict_messages.specs.Asked.{Asks}
+use Rattle.dict_messages.specs.Asked.{AskForTask}
 use Rattle.dict_session.specs.Desks.{Stays as DeskStays}
 use Rattle.dict_messages.specs.declared.task.ItemChange.{ItemChange as AskedChange}
 use Rattle.dict_messages.specs.declared.task.ItemChange.TheVariants as changes
@@ -24,7 +24,7 @@ use Rattle.dict_program.specs.Working.{EndsOn, SessionEnds}
 use Rattle.dict_program.proofs.ServingLemmas.{memory_by_status}
 use Rattle.dict_program.proofs.WritingLemmas.{list_spoils, audit_spoils, task_spoils, serves_refused, serves_memory, serves_failed, spoils_not_3, spoiled_failed}
 use Rattle.dict_program.specs.declared.catalogues.Catalogues as catalogues
-use Rattle.dict_program.specs.Program.{ChangeTaskEnds, CommandEnds, IsCutOff, IsDone, IsExhausted, IsFailed, IsUnchanged, Shows, TaskEnds}
+use Rattle.dict_program.specs.Program.{ChangeTaskEnds, CommandEnds, IsCutOff, IsDone, IsExhausted, IsFailed, IsUnchanged, ShowsText, TaskEnds}
 
 status_at_most_4 : (fault : ProgramFault) → status_of fault ≤ 4
 status_at_most_4 (Line refusal line) = omega arith
@@ -64,7 +64,7 @@ never_2 CannotWait e = omega (arith, e)
 never_2 Memory e = omega (arith, e)
 
 -- no text that is shown is refused
-never_refused : (fault : ProgramFault) (writer : StreamChange) → Shows (Err fault) writer → 1 ≡ status_of fault → ⊥
+never_refused : (fault : ProgramFault) (writer : StreamChange) → ShowsText (Err fault) writer → 1 ≡ status_of fault → ⊥
 never_refused (Line refusal line) writer h e = h
 never_refused (Edition refusal) writer h e = h
 never_refused (Refused refusal) writer h e = h
@@ -77,7 +77,7 @@ never_refused CannotWait writer h e = h
 never_refused Memory writer h e = omega (arith, e)
 
 -- memory ran out before a text was shown
-shown_memory : (fault : ProgramFault) (reader writer : StreamChange) → IsUntouched reader → Shows (Err fault) writer → 4 ≡ status_of fault → IsUntouched reader × IsUntouched writer
+shown_memory : (fault : ProgramFault) (reader writer : StreamChange) → IsUntouched reader → ShowsText (Err fault) writer → 4 ≡ status_of fault → IsUntouched reader × IsUntouched writer
 shown_memory (Line refusal line) reader writer r h e = absurd h
 shown_memory (Edition refusal) reader writer r h e = absurd h
 shown_memory (Refused refusal) reader writer r h e = absurd h
@@ -159,7 +159,7 @@ module _ {K D B L : Type 0} (k : lookup.Ghosts K) (d : desks.Ghosts D K) (c : ca
   misread files words reader writer faults (inr (h, same)) = (h.2, h.3)
 
   -- a session over a file that was told as broken
-  spoken_failed : (words : List (List ℕ)) (file : _) (fault : ProgramFault) (reader writer : StreamChange) → Asks words (SpeaksOver file) → SessionEnds k d c file.now old new (Err fault) reader writer → IsFailed k d c expects prepares plain old new words reader writer
+  spoken_failed : (words : List (List ℕ)) (file : _) (fault : ProgramFault) (reader writer : StreamChange) → AskForTask words (SpeaksOver file) → SessionEnds k d c file.now old new (Err fault) reader writer → IsFailed k d c expects prepares plain old new words reader writer
   spoken_failed words file (Line refusal line) reader writer asks h = inl h.1
   spoken_failed words file (Edition refusal) reader writer asks h = inl h.1
   spoken_failed words file (Refused refusal) reader writer asks h = inl h.1
@@ -173,7 +173,7 @@ module _ {K D B L : Type 0} (k : lookup.Ghosts K) (d : desks.Ghosts D K) (c : ca
 
   -- a task that failed
   task_failed : (files : List ℕ → Option (List ℕ)) (words : List (List ℕ)) (task : Task) (fault : ProgramFault) (reader writer : StreamChange)
-      → Asks words task → TaskEnds k d c n expects prepares files plain old new task (Err fault) reader writer → 3 ≡ status_of fault → IsFailed k d c expects prepares plain old new words reader writer
+      → AskForTask words task → TaskEnds k d c n expects prepares files plain old new task (Err fault) reader writer → 3 ≡ status_of fault → IsFailed k d c expects prepares plain old new words reader writer
   unfolding Rattle.dict_program.specs.Plain.FilesEnd
   task_failed files words (Plain name index text) (Line refusal line) reader writer asks h e = absurd (omega (arith, e))
   task_failed files words (Plain name index text) (Edition refusal) reader writer asks h e = absurd (omega (arith, e))
@@ -200,7 +200,7 @@ module _ {K D B L : Type 0} (k : lookup.Ghosts K) (d : desks.Ghosts D K) (c : ca
   task_failed files words (SpeaksOver file) fault reader writer asks h e = spoken_failed words file fault reader writer asks h
 
   -- a text that was not shown
-  shown_failed : (words : List (List ℕ)) (fault : ProgramFault) (reader writer : StreamChange) → IsUntouched reader → Shows (Err fault) writer → 3 ≡ status_of fault
+  shown_failed : (words : List (List ℕ)) (fault : ProgramFault) (reader writer : StreamChange) → IsUntouched reader → ShowsText (Err fault) writer → 3 ≡ status_of fault
       → IsFailed k d c expects prepares plain old new words reader writer
   shown_failed words (Line refusal line) reader writer r h e = absurd h
   shown_failed words (Edition refusal) reader writer r h e = absurd h
@@ -225,7 +225,7 @@ module _ {K D B L : Type 0} (k : lookup.Ghosts K) (d : desks.Ghosts D K) (c : ca
 
   -- memory ran out in a task
   task_memory : (files : List ℕ → Option (List ℕ)) (words : List (List ℕ)) (task : Task) (fault : ProgramFault) (reader writer : StreamChange)
-      → Asks words task → TaskEnds k d c n expects prepares files plain old new task (Err fault) reader writer → 4 ≡ status_of fault
+      → AskForTask words task → TaskEnds k d c n expects prepares files plain old new task (Err fault) reader writer → 4 ≡ status_of fault
       → (IsUntouched reader × IsUntouched writer) ⊎ IsCutOff k d c expects prepares old new words Memory reader writer
   unfolding Rattle.dict_program.specs.Plain.FilesEnd
   task_memory files words (Plain name index text) (Line refusal line) reader writer asks h e = absurd (omega (arith, e))
@@ -273,7 +273,7 @@ module _ {K D B L : Type 0} (k : lookup.Ghosts K) (d : desks.Ghosts D K) (c : ca
   task_unchanged files (SpeaksOver file) reader writer h = tt
 
   task_exhausted : (files : List ℕ → Option (List ℕ)) (words : List (List ℕ)) (task : Task) (fault : ProgramFault) (reader writer : StreamChange)
-      → Asks words task → TaskEnds k d c n expects prepares files plain old new task (Err fault) reader writer → 4 ≡ status_of fault → IsExhausted k d c expects prepares old new words reader writer
+      → AskForTask words task → TaskEnds k d c n expects prepares files plain old new task (Err fault) reader writer → 4 ≡ status_of fault → IsExhausted k d c expects prepares old new words reader writer
   task_exhausted files words task fault reader writer asks ends e = elim (task_memory files words task fault reader writer asks ends e) [
     | inl untouched ↦ inl (
       untouched.0,

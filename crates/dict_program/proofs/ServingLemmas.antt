@@ -8,7 +8,7 @@ use Rattle.dict_messages.specs.Faults.{status_of}
 use Rattle.dict_messages.specs.declared.fault.ProgramFault.{ProgramFault}
 use Rattle.dict_messages.specs.declared.fault.ProgramFault.TheVariants.{Line, Edition, Refused, Store, CannotRead, SessionEnded, CannotWrite, CannotBind, CannotWait, Memory}
 use Rattle.dict_serving.specs.Listening.{TellsKind}
-use Rattle.dict_serving.specs.Serving.{Ends, HasGivenOut, IsOfFile, Stretch}
+use Rattle.dict_serving.specs.Serving.{EndsServing, HasGivenOut, IsOfFile, Stretch}
 
 -- no fault of a file is a refusal
 file_not_1 : (fault : ProgramFault) → IsOfFile fault → 1 ≡ status_of fault → ⊥
@@ -35,7 +35,7 @@ module _ {K : Type 0} (is_closed : K → Bool) (Shut : K → Type 0) (Unreopened
   given_not_1 (one ∷ []) fault h e = file_not_1 fault h.1.1 e
   given_not_1 (one ∷ other ∷ others) fault h e = given_not_1 (other ∷ others) fault h e
 
-  pub ends_not_1 : (stretches : List (Stretch K)) (driver : Driver) (fault : ProgramFault) → Ends {A = Unit {0}} is_closed Shut Unreopened stretches driver (Err fault) → 1 ≡ status_of fault → ⊥
+  pub ends_not_1 : (stretches : List (Stretch K)) (driver : Driver) (fault : ProgramFault) → EndsServing {A = Unit {0}} is_closed Shut Unreopened stretches driver (Err fault) → 1 ≡ status_of fault → ⊥
   ends_not_1 stretches driver fault (inl ((kind, is, tells), shut)) e = waiting_not_1 kind fault tells e
   ends_not_1 stretches driver fault (inr given) e = given_not_1 stretches fault given e
 

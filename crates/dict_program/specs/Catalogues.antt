@@ -13,13 +13,13 @@ IsSpared (Err faults.SessionEnded) reader writer = ⊤
 IsSpared (Err fault) reader writer = IsUntouched reader × IsUntouched writer
 
 -- a desk shows the empty catalogue, which was made, and a stop leaves that one alone
-pub record IsMade {K : Type 0} (Shows : K → Catalogue → Type 0) (LeavesOneOf : K → List (Option Catalogue) → Type 0) (IsNew : K → Type 0) (desk : K) : Type 0 where
+pub record IsMadeEmpty {K : Type 0} (Shows : K → Catalogue → Type 0) (LeavesOneOf : K → List (Option Catalogue) → Type 0) (IsNew : K → Type 0) (desk : K) : Type 0 where
   pub new : IsNew desk
   pub shows : Shows desk empty_catalogue
   pub only : LeavesOneOf desk (Some empty_catalogue ∷ [])
 
 -- a desk shows what it showed, and a stop may leave nothing that it couldn't leave before
-pub record Stays {K : Type 0} (Shows : K → Catalogue → Type 0) (LeavesOneOf : K → List (Option Catalogue) → Type 0) (IsTrusted : K → Type 0) (old new : K) : Type 0 where
+pub record StaysTrusted {K : Type 0} (Shows : K → Catalogue → Type 0) (LeavesOneOf : K → List (Option Catalogue) → Type 0) (IsTrusted : K → Type 0) (old new : K) : Type 0 where
   pub trust : IsTrusted new → IsTrusted old
   pub shows : IsTrusted new → (M : Catalogue) → Shows old M → Shows new M
   pub leaves : (ms : List (Option Catalogue)) → LeavesOneOf old ms → LeavesOneOf new ms

@@ -2,7 +2,7 @@
 use Rattle.std.specs.Prelude.{◌⊎◌, ℕ, List, [], ◌∷◌, None, Result, Err, ⊤}
 use Rattle.dict_proto.specs.Streams.{StreamChange}
 use Rattle.clap.specs.declared.error.kind.ErrorKind.{ErrorKind}
-use Rattle.dict_messages.specs.Asked.{Asks, Fails}
+use Rattle.dict_messages.specs.Asked.{AskForTask, Fails}
 use Rattle.dict_messages.specs.declared.task.ItemChange.{ItemChange as AskedChange}
 use Rattle.dict_messages.specs.declared.task.ItemChange.TheVariants as changes
 use Rattle.dict_messages.specs.declared.task.Task.{Task}
@@ -41,5 +41,5 @@ module _ {K D : Type 0} (d : desks.Ghosts D K) (old new : D) (Reads : List ℕ �
   -- the words ask for a task that ends so, which is told; or they ask for none
   abbrev pub TellsInOrder : List (List ℕ) → ℕ → StreamChange → Type 0
   TellsInOrder words status faults =
-      ((task : Task) × Asks words task × ((end : Result (Unit {0}) ProgramFault) × EndsInOrder task end × Closes end status faults))
+      ((task : Task) × AskForTask words task × ((end : Result (Unit {0}) ProgramFault) × EndsInOrder task end × Closes end status faults))
       ⊎ ((kind : ErrorKind) × Fails words kind)

@@ -14,7 +14,7 @@ use Rattle.dict_session.specs.declared.session.run.SessionEnd.{SessionEnd}
 use Rattle.dict_session.specs.declared.session.run.SessionFault.{SessionFault}
 use Rattle.dict_session.specs.declared.session.run.SessionFault.TheVariants as session_faults
 use Rattle.dict_messages.specs.Writing.{IsUntouched}
-use Rattle.dict_messages.specs.Files.{IsReadFrom, IsUnread}
+use Rattle.dict_messages.specs.Files.{IsReadFrom, AreUnreadFiles}
 use Rattle.dict_messages.specs.declared.fault.ProgramFault.{ProgramFault}
 use Rattle.dict_messages.specs.declared.fault.ProgramFault.TheVariants as faults
 
@@ -28,8 +28,8 @@ catalogue_of name edition = (step empty_catalogue (codes "plain") (install name 
 
 -- a session over the edition that an index and a text say, installed under this lawful name, greeted as the first at
 -- localhost, ended so; how its desk stands then is told
-abbrev pub EndsOver : Condition → List ℕ → List ℕ → List ℕ → Result SessionEnd SessionFault → StreamChange → StreamChange → Type 0
-EndsOver desk name index text end reader writer =
+abbrev pub EndsOverEdition : Condition → List ℕ → List ℕ → List ℕ → Result SessionEnd SessionFault → StreamChange → StreamChange → Type 0
+EndsOverEdition desk name index text end reader writer =
     (edition : Edition) × IsTrue (is_name name) × IsEdition index text edition
     × Ends (catalogue_of name edition) (codes "localhost") 1 desk end reader writer
 
@@ -77,13 +77,13 @@ Installs Shows name index text (Err faults.CannotWait) = ⊥
 
 -- what comes of an index, a text and a name
 abbrev pub PlainEnds : {A : Type 0} → Condition → List ℕ → List ℕ → List ℕ → Result A ProgramFault → StreamChange → StreamChange → Type 0
-PlainEnds desk name index text (Ok _) reader writer = (end : SessionEnd) × EndsOver desk name index text (Ok end) reader writer
+PlainEnds desk name index text (Ok _) reader writer = (end : SessionEnd) × EndsOverEdition desk name index text (Ok end) reader writer
 PlainEnds desk name index text (Err (faults.Line refusal line)) reader writer = IsFault index text refusal (Some line) × IsUntouched reader × IsUntouched writer
 PlainEnds desk name index text (Err (faults.Edition refusal)) reader writer = IsFault index text refusal None × IsUntouched reader × IsUntouched writer
 PlainEnds desk name index text (Err (faults.Refused refusal)) reader writer =
     (refusal ≡ BadName) × (is_name name ≡ false) × ((edition : Edition) × IsEdition index text edition) × IsUntouched reader × IsUntouched writer
 PlainEnds desk name index text (Err faults.SessionEnded) reader writer =
-    (fault : SessionFault) × (fault ≢ session_faults.Memory) × EndsOver desk name index text (Err fault) reader writer
+    (fault : SessionFault) × (fault ≢ session_faults.Memory) × EndsOverEdition desk name index text (Err fault) reader writer
 PlainEnds desk name index text (Err faults.Memory) reader writer = IsUntouched reader × IsUntouched writer
 PlainEnds desk name index text (Err (faults.Store fault)) reader writer = ⊥
 PlainEnds desk name index text (Err (faults.CannotRead path)) reader writer = ⊥
@@ -95,4 +95,4 @@ PlainEnds desk name index text (Err faults.CannotWait) reader writer = ⊥
 unfoldable pub FilesEnd : {A : Type 0} → Condition → (List ℕ → Option (List ℕ)) → List ℕ → List ℕ → List ℕ → Result A ProgramFault → StreamChange → StreamChange → Type 0
 FilesEnd desk files name index text result reader writer =
     ((i : List ℕ) × (t : List ℕ) × IsReadFrom (files index) i × IsReadFrom (files text) t × PlainEnds desk name i t result reader writer)
-    ⊎ (IsUnread files index text result × IsUntouched reader × IsUntouched writer)
+    ⊎ (AreUnreadFiles files index text result × IsUntouched reader × IsUntouched writer)

@@ -16,39 +16,39 @@ use Rattle.dict_session.specs.Desks.{Stays as DeskStays}
 use Rattle.dict_session.specs.declared.session.run.SessionFault.{SessionFault}
 use Rattle.dict_session.specs.declared.session.run.SessionFault.TheVariants as session_faults
 use Rattle.dict_serving.specs.declared.desks.DeskOpener as desks
-use Rattle.dict_messages.specs.Asked.{Asks, Fails, mistakes_in, words_shown}
+use Rattle.dict_messages.specs.Asked.{AskForTask, Fails, mistakes_in, words_shown}
 use Rattle.dict_messages.specs.declared.task.ItemChange.{ItemChange as AskedChange}
 use Rattle.dict_messages.specs.declared.task.ItemChange.TheVariants as changes
 use Rattle.dict_messages.specs.declared.task.Task.{Task}
 use Rattle.dict_messages.specs.declared.task.Task.TheVariants as tasks
-use Rattle.dict_messages.specs.Faults.{line_of, status_of}
+use Rattle.dict_messages.specs.Faults.{fault_line, status_of}
 use Rattle.dict_messages.specs.declared.fault.ProgramFault.{ProgramFault}
 use Rattle.dict_messages.specs.declared.fault.ProgramFault.TheVariants as faults
 use Rattle.dict_messages.specs.Writing.{IsUntouched}
-use Rattle.dict_program.specs.Plain.{EndsOver, FilesEnd, standing}
+use Rattle.dict_program.specs.Plain.{EndsOverEdition, FilesEnd, standing}
 use Rattle.dict_program.specs.Serving.{IsServedUntil}
 use Rattle.dict_program.specs.Working.{AuditEnds, ChangeEnds, CreateEnds, EndsOn, InstallsOn, ListEnds, ServesOn, SessionEnds}
 use Rattle.dict_program.specs.declared.catalogues.Catalogues as catalogues
 
 -- a text was put, or a front of it where the sink failed
-abbrev pub IsTold : List ℕ → StreamChange → Type 0
-IsTold text faults = (put : Result (Unit {0}) SinkFault) × Puts put faults.old faults.new text
+abbrev pub PutsTextOrFront : List ℕ → StreamChange → Type 0
+PutsTextOrFront text faults = (put : Result (Unit {0}) SinkFault) × Puts put faults.old faults.new text
 
 -- a line tells the fault, which has the status
-abbrev pub Tells : ProgramFault → ℕ → StreamChange → Type 0
-Tells fault status faults = (status ≡ status_of fault) × IsTold (line_of fault ++ codes "\n") faults
+abbrev pub TellsFault : ProgramFault → ℕ → StreamChange → Type 0
+TellsFault fault status faults = (status ≡ status_of fault) × PutsTextOrFront (fault_line fault ++ codes "\n") faults
 
 -- what is done has status 0, and nothing is told; else the fault is
 abbrev pub Closes : Result (Unit {0}) ProgramFault → ℕ → StreamChange → Type 0
 Closes (Ok _) status faults = (status ≡ 0) × IsUntouched faults
-Closes (Err fault) status faults = Tells fault status faults
+Closes (Err fault) status faults = TellsFault fault status faults
 
 -- a text for people was written, or memory for it ran out
-abbrev pub Shows : Result (Unit {0}) ProgramFault → StreamChange → Type 0
-Shows (Ok end) writer = (text : List ℕ) × PutsAll writer.old writer.new text
-Shows (Err faults.CannotWrite) writer = (text : List ℕ) × PutsFront writer.old writer.new text
-Shows (Err faults.Memory) writer = IsUntouched writer
-Shows (Err fault) writer = ⊥
+abbrev pub ShowsText : Result (Unit {0}) ProgramFault → StreamChange → Type 0
+ShowsText (Ok end) writer = (text : List ℕ) × PutsAll writer.old writer.new text
+ShowsText (Err faults.CannotWrite) writer = (text : List ℕ) × PutsFront writer.old writer.new text
+ShowsText (Err faults.Memory) writer = IsUntouched writer
+ShowsText (Err fault) writer = ⊥
 
 -- help or the version was asked for
 abbrev pub AsksForText : List (List ℕ) → Type 0
@@ -68,23 +68,23 @@ not_text = codes "error: invalid UTF-8 was detected in one or more arguments\n\n
 
 -- a mistake in the words is told in a text, with status 2, or memory for it ran out
 abbrev pub TellsMistake : ℕ → StreamChange → Type 0
-TellsMistake status told = ((status ≡ 2) × ((text : List ℕ) × IsTold text told)) ⊎ Tells faults.Memory status told
+TellsMistake status told = ((status ≡ 2) × ((text : List ℕ) × PutsTextOrFront text told)) ⊎ TellsFault faults.Memory status told
 
 -- the words have a mistake or ask for nothing, and that is told
 abbrev pub Misreads : List (List ℕ) → ℕ → StreamChange → StreamChange → StreamChange → Type 0
 Misreads words status reader writer faults =
-    (status ≡ 2) × IsMisread words × IsUntouched reader × IsUntouched writer × ((text : List ℕ) × IsTold text faults)
+    (status ≡ 2) × IsMisread words × IsUntouched reader × IsUntouched writer × ((text : List ℕ) × PutsTextOrFront text faults)
 
 -- help or the version was asked for, and shown or not; or memory ran out before
-abbrev pub IsShown : List (List ℕ) → Result (Unit {0}) ProgramFault → StreamChange → StreamChange → Type 0
-IsShown words end reader writer =
-    (AsksForText words × IsUntouched reader × Shows end writer)
+abbrev pub IsHelpShown : List (List ℕ) → Result (Unit {0}) ProgramFault → StreamChange → StreamChange → Type 0
+IsHelpShown words end reader writer =
+    (AsksForText words × IsUntouched reader × ShowsText end writer)
     ⊎ ((end ≡ Err faults.Memory) × IsUntouched reader × IsUntouched writer)
 
 -- how the program ends on words that ask for no task
 abbrev pub AnswerEnds : List (List ℕ) → ℕ → StreamChange → StreamChange → StreamChange → Type 0
 AnswerEnds words status reader writer faults =
-    ((end : Result (Unit {0}) ProgramFault) × IsShown words end reader writer × Closes end status faults)
+    ((end : Result (Unit {0}) ProgramFault) × IsHelpShown words end reader writer × Closes end status faults)
     ⊎ Misreads words status reader writer faults
 
 -- By what is known of desks, and of what makes, opens and closes them, and what desks were told of and prepared; of the catalogue in memory as
@@ -94,8 +94,8 @@ module _ {K D : Type 0} (k : lookup.Ghosts K) (d : desks.Ghosts D K) (c : catalo
   -- writer or its desk
   abbrev pub IsBroken : PlainState → D → D → List (List ℕ) → StreamChange → StreamChange → Type 0
   IsBroken plain old new words reader writer =
-      ((name : List ℕ) × (index : List ℕ) × (text : List ℕ) × (fault : SessionFault) × (fault ≢ session_faults.Memory) × EndsOver (standing plain) name index text (Err fault) reader writer)
-      ⊎ ((file : _) × Asks words (tasks.Session file) × SessionEnds k d c file.now old new (Err faults.SessionEnded) reader writer)
+      ((name : List ℕ) × (index : List ℕ) × (text : List ℕ) × (fault : SessionFault) × (fault ≢ session_faults.Memory) × EndsOverEdition (standing plain) name index text (Err fault) reader writer)
+      ⊎ ((file : _) × AskForTask words (tasks.Session file) × SessionEnds k d c file.now old new (Err faults.SessionEnded) reader writer)
 
   -- the task is to serve, and its catalogue was served until this fault ended it
   abbrev pub WasServed : D → D → Task → ProgramFault → StreamChange → Type 0
@@ -104,7 +104,7 @@ module _ {K D : Type 0} (k : lookup.Ghosts K) (d : desks.Ghosts D K) (c : catalo
 
   -- the words ask for a server, which read nothing, listened at its two addresses, told them, and served until this fault ended it
   abbrev pub IsCutOff : D → D → List (List ℕ) → ProgramFault → StreamChange → StreamChange → Type 0
-  IsCutOff old new words fault reader writer = (task : Task) × Asks words task × WasServed old new task fault writer × IsUntouched reader
+  IsCutOff old new words fault reader writer = (task : Task) × AskForTask words task × WasServed old new task fault writer × IsUntouched reader
 
   -- nothing was read or written, or a session was broken, or the writer failed where nothing was read, or a server was cut off by such a fault
   abbrev pub IsFailed : PlainState → D → D → List (List ℕ) → StreamChange → StreamChange → Type 0
@@ -123,7 +123,7 @@ module _ {K D : Type 0} (k : lookup.Ghosts K) (d : desks.Ghosts D K) (c : catalo
   -- nothing was read or written, and no change was made; or memory ran out in a server
   abbrev pub IsExhausted : D → D → List (List ℕ) → StreamChange → StreamChange → Type 0
   IsExhausted old new words reader writer =
-      (IsUntouched reader × IsUntouched writer × ((new ≡ old) ⊎ ((task : Task) × Asks words task × IsUnchanged old new task writer)))
+      (IsUntouched reader × IsUntouched writer × ((new ≡ old) ⊎ ((task : Task) × AskForTask words task × IsUnchanged old new task writer)))
       ⊎ IsCutOff old new words faults.Memory reader writer
 
 -- Over files of these octets, by their paths.
@@ -150,7 +150,7 @@ module _ {K D B L : Type 0} (k : lookup.Ghosts K) (d : desks.Ghosts D K) (c : ca
   -- what was asked for was done or not: a task, or help or the version, for which no file was opened; or memory ran out before
   abbrev pub Attempts : List (List ℕ) → Result (Unit {0}) ProgramFault → StreamChange → StreamChange → Type 0
   Attempts words end reader writer =
-      ((task : Task) × Asks words task × TaskEnds task end reader writer) ⊎ (IsShown words end reader writer × (new ≡ old))
+      ((task : Task) × AskForTask words task × TaskEnds task end reader writer) ⊎ (IsHelpShown words end reader writer × (new ≡ old))
 
   -- how the program ends on words, of which the first is its own name
   abbrev pub CommandEnds : List (List ℕ) → ℕ → StreamChange → StreamChange → StreamChange → Type 0
@@ -160,5 +160,5 @@ module _ {K D B L : Type 0} (k : lookup.Ghosts K) (d : desks.Ghosts D K) (c : ca
 
   -- a task was done, or help or the version was shown
   abbrev pub IsDone : List (List ℕ) → StreamChange → StreamChange → Type 0
-  IsDone words reader writer = ((task : Task) × Asks words task × TaskEnds task (Ok tt) reader writer)
+  IsDone words reader writer = ((task : Task) × AskForTask words task × TaskEnds task (Ok tt) reader writer)
       ⊎ (AsksForText words × IsUntouched reader × ((text : List ℕ) × PutsAll writer.old writer.new text) × (new ≡ old))

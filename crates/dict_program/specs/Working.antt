@@ -22,7 +22,7 @@ use Rattle.dict_serving.specs.declared.desks.DeskOpener as desks
 use Rattle.dict_messages.specs.Changing.{IsChanged}
 use Rattle.dict_messages.specs.Installing.{InstallEnds}
 use Rattle.dict_messages.specs.Listed.{IsListed}
-use Rattle.dict_program.specs.Catalogues.{IsSpared, IsMade, Stays}
+use Rattle.dict_program.specs.Catalogues.{IsSpared, IsMadeEmpty, StaysTrusted}
 use Rattle.dict_program.specs.Serving.{WasShutBy}
 use Rattle.dict_program.specs.declared.catalogues.Catalogues as catalogues
 
@@ -75,15 +75,15 @@ module _ {K D : Type 0} (k : lookup.Ghosts K) (d : desks.Ghosts D K) where
 
   module _ (c : catalogues.Ghosts D K) where
     -- the file that was closed holds alone a catalogue that the desk showed: this is told where it returned what was written to it
-    abbrev pub IsAlone : K → D → Type 0
-    IsAlone desk new = d.is_safe new → (M : Catalogue) × k.shows desk M × d.holds_alone new M
+    abbrev pub IsLeftShownAlone : K → D → Type 0
+    IsLeftShownAlone desk new = d.is_safe new → (M : Catalogue) × k.shows desk M × d.holds_alone new M
 
     -- The file was read whole, the desk shows what it showed, and the file was closed. It is sound, and that is told where it holds its
     -- catalogue alone
     abbrev pub IsAudited : K → K → Result (Unit {0}) ProgramFault → D → Result (Unit {0}) ProgramFault → StreamChange → Type 0
     IsAudited desk left closed new result writer =
-        (audited : Result (Unit {0}) ProgramFault) × MatchResult audited (λ _. c.is_sound desk left) (c.is_unsound desk left) × Stays k.shows k.leaves_one_of k.is_trusted desk left
-        × TellsSound audited closed result writer × IfOk closed (λ _. IsAlone desk new)
+        (audited : Result (Unit {0}) ProgramFault) × MatchResult audited (λ _. c.is_sound desk left) (c.is_unsound desk left) × StaysTrusted k.shows k.leaves_one_of k.is_trusted desk left
+        × TellsSound audited closed result writer × IfOk closed (λ _. IsLeftShownAlone desk new)
 
     -- the catalogue was read whole
     abbrev pub AuditEnds : List ℕ → D → D → Result (Unit {0}) ProgramFault → StreamChange → Type 0
@@ -93,7 +93,7 @@ module _ {K D : Type 0} (k : lookup.Ghosts K) (d : desks.Ghosts D K) where
     abbrev pub CreateEnds : List ℕ → D → D → Result (Unit {0}) ProgramFault → Type 0
     CreateEnds path old new result =
         ((fault : ProgramFault) × (result ≡ Err fault) × c.is_unmade path old new fault × Does (d.history old) (d.history new) (Makes path None ∷ []))
-        ⊎ ((desk : K) × (closed : Result (Unit {0}) ProgramFault) × (result ≡ Ok tt) × IsMade k.shows k.leaves_one_of c.is_made desk
+        ⊎ ((desk : K) × (closed : Result (Unit {0}) ProgramFault) × (result ≡ Ok tt) × IsMadeEmpty k.shows k.leaves_one_of c.is_made desk
         × Does (d.history old) (d.history new) (Makes path (Some desk) ∷ Closes desk ∷ []) × IsShutBy desk closed new)
 
     -- a session was run over the catalogue of the file with a path, and the desk that it left was closed, if there was one. Nothing else was

@@ -3,7 +3,7 @@ ghost use Rattle.std.specs.Prelude.{◌≡◌, ◌∷◌, [], ℕ, List, Option,
 ghost use Rattle.dict_proto.specs.Streams.{StreamChange, change};
 ghost use Rattle.dict_messages.specs.declared.fault.ProgramFault.{ProgramFault as PrintedFault};
 ghost use Rattle.dict_serving.specs.Deeds.{Does, IsShut, Makes, Speaks, got};
-ghost use Rattle.dict_program.specs.Catalogues.{IsMade, IsSpared, Stays};
+ghost use Rattle.dict_program.specs.Catalogues.{IsMadeEmpty, IsSpared, StaysTrusted};
 
 use dict_desk::Keeper;
 use dict_messages::ProgramFault;
@@ -30,13 +30,13 @@ pub trait Catalogues<K: Keeper>: DeskOpener<K> {
 
     /// Makes an empty catalogue in the file with this path, and opens its desk. A stop leaves that catalogue alone.
     fn make<'w>(&mut self, path: &'w str) -> Result<K, ProgramFault<'w>>
-        ensures made { MatchResult result (IsMade K.shows K.leaves_one_of is_made) (is_unmade path.entry.now self.old self.new) }
+        ensures made { MatchResult result (IsMadeEmpty K.shows K.leaves_one_of is_made) (is_unmade path.entry.now self.old self.new) }
         ensures history { Does (Self.history self.old) (Self.history self.new) (Makes path.entry.now (got result) ∷ []) };
 
     /// Reads the file of a desk whole again. Nothing is written.
     fn audit(&mut self, desk: &mut K) -> Result<(), ProgramFault<'static>>
         ensures sound { MatchResult result (λ _. is_sound desk.old desk.new) (is_unsound desk.old desk.new) }
-        ensures stays { Stays K.shows K.leaves_one_of K.is_trusted desk.old desk.new }
+        ensures stays { StaysTrusted K.shows K.leaves_one_of K.is_trusted desk.old desk.new }
         ensures history { Self.history self.new ≡ Self.history self.old };
 
     /// Runs a session over the catalogue of the file with this path, which is opened for it and closed.

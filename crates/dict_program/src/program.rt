@@ -5,7 +5,7 @@ ghost use Rattle.std.specs.declared.io.ErrorKind.TheVariants.{OutOfMemory};
 ghost use Rattle.clap.specs.Values.{kind_of};
 ghost use Rattle.dict_messages.specs.Asked.{Fails};
 ghost use Rattle.dict_program.specs.Order.{TellsInOrder};
-ghost use Rattle.dict_program.specs.Program.{AnswerEnds, CommandEnds, Closes, IsTold, Shows, Tells, TellsMistake, not_text};
+ghost use Rattle.dict_program.specs.Program.{AnswerEnds, CommandEnds, Closes, PutsTextOrFront, ShowsText, TellsFault, TellsMistake, not_text};
 ghost use Rattle.dict_messages.specs.Writing.{IsUntouched};
 ghost use Rattle.dict_proto.specs.Streams.{StreamChange, change};
 
@@ -68,8 +68,8 @@ pub fn command<
 
 /// Says why the program's words can't be had: they are no texts, or memory ran out.
 pub fn refuse_words<F: Sink>(fault: &io::Error, faults: &mut F) -> u8
-    ensures memory { error_kind fault.now ≡ OutOfMemory → Tells ProgramFault.Memory result (change F.stream faults.old faults.new) }
-    ensures not_text { error_kind fault.now ≢ OutOfMemory → (result ≡ 2) × IsTold not_text (change F.stream faults.old faults.new) }
+    ensures memory { error_kind fault.now ≡ OutOfMemory → TellsFault ProgramFault.Memory result (change F.stream faults.old faults.new) }
+    ensures not_text { error_kind fault.now ≢ OutOfMemory → (result ≡ 2) × PutsTextOrFront not_text (change F.stream faults.old faults.new) }
 {
     if fault.kind() == io::ErrorKind::OutOfMemory {
         return tell_fault(&ProgramFault::Memory, faults);
@@ -104,7 +104,7 @@ fn answer_words<K: Sink, F: Sink>(
 
 // Shows help or the version.
 fn show<K: Sink>(alloc: Global, error: &Error, writer: &mut K) -> Result<(), ProgramFault<'static>>
-    ensures { Shows result (change K.stream writer.old writer.new) }
+    ensures { ShowsText result (change K.stream writer.old writer.new) }
 {
     let Ok(text) = error.to_string(alloc) else {
         return Err(ProgramFault::Memory);
@@ -138,7 +138,7 @@ fn status_of_end<F: Sink>(end: &Result<(), ProgramFault<'_>>, faults: &mut F) ->
 
 // Tells a fault in a line of its own.
 fn tell_fault<F: Sink>(fault: &ProgramFault<'_>, faults: &mut F) -> u8
-    ensures { Tells fault.now result (change F.stream faults.old faults.new) }
+    ensures { TellsFault fault.now result (change F.stream faults.old faults.new) }
 {
     let _ = fault.put_line(faults);
     fault.status()

@@ -3,7 +3,7 @@ use Rattle.std.proofs.Common.{◌≡◌, ◌≢◌, ℕ, inl, inr, List, [], ◌
 use Rattle.std.specs.Prelude.{Option, None, Some, if◌then◌else◌, ◌==◌, ⊤}
 use Rattle.std.specs.List.{flat_map, AllByRecursion}
 use Rattle.dict_text.specs.Characters.{is_blank, is_control}
-use Rattle.dict_proto.specs.Words.{is_atom_character, is_quoting, is_quote_sign, StandsFor, IsPart, EndsWord, AreWords}
+use Rattle.dict_proto.specs.Words.{is_atom_character, is_quoting, is_quote_sign, StandsForCharacter, IsPart, EndsWord, AreWords}
 use Rattle.dict_proto.specs.LineWords.{Place, line_words, words_from, place_after, between, within, in_string, escaped, escaped_in, stuck, onto_first, end_before, with_character}
 use Rattle.dict_proto.proofs.LineWordsLemmas.{line_words-blank, within-blank, within-atom}
 
@@ -20,7 +20,7 @@ GoesOn cs word words = (text : List ℕ) × (rest : List ℕ) × (cs ≡ text ++
 
 -- the same in a string
 abbrev GoesOnIn : ℕ → List ℕ → List ℕ → List (List ℕ) → Type 0
-GoesOnIn quote cs word words = (pieces : List (List ℕ × ℕ)) × (more : List ℕ) × (others : List ℕ) × AllByRecursion (λ p. StandsFor quote p.0 p.1) pieces
+GoesOnIn quote cs word words = (pieces : List (List ℕ × ℕ)) × (more : List ℕ) × (others : List ℕ) × AllByRecursion (λ p. StandsForCharacter quote p.0 p.1) pieces
     × (cs ≡ flat_map (λ p. p.0) pieces ++ (quote ∷ more)) × GoesOn more others words × (word ≡ map (λ p. p.1) pieces ++ others)
 
 -- after a backslash
@@ -60,7 +60,7 @@ more_part text content cs word words part (spelled, rest, whole, (parts, each, i
   more,
 )
 
-more_piece : (quote : ℕ) (text : List ℕ) (c : ℕ) (cs word : List ℕ) (words : List (List ℕ)) → StandsFor quote text c → GoesOnIn quote cs word words → GoesOnIn quote (text ++ cs) (c ∷ word) words
+more_piece : (quote : ℕ) (text : List ℕ) (c : ℕ) (cs word : List ℕ) (words : List (List ℕ)) → StandsForCharacter quote text c → GoesOnIn quote cs word words → GoesOnIn quote (text ++ cs) (c ∷ word) words
 more_piece quote text c cs word words stands (pieces, more, others, each, whole, goes, means) = (
   (text, c) ∷ pieces,
   more,

@@ -8,7 +8,7 @@ use Rattle.std.proofs.lemmas.List.{take_rest}
 use Rattle.dict_text.specs.Characters.{is_blank, is_control}
 use Rattle.dict_proto.specs.Words.{is_quoting, is_quote_sign}
 use Rattle.dict_proto.specs.LineWords.{Place, line_words, words_from, next_place, place_after, at_end, between, within, in_string, escaped, escaped_in, stuck, onto_first, end_before}
-use Rattle.dict_proto.specs.Places.{is_content, ends_word, AreTexts}
+use Rattle.dict_proto.specs.Places.{is_content, ends_word, AreUtf8Words}
 use Rattle.dict_proto.proofs.LineWordsLemmas.{line_words-blank, line_words-found, line_words-none, within-blank, drop_past, onto_all, onto_all-word}
 use Rattle.dict_proto.proofs.EncodingLemmas.{words_from-stuck, onto_all-none}
 use Rattle.dict_proto.proofs.WordsLemmas.{onto_all-append}
@@ -248,11 +248,11 @@ some-word line e words f none =
 
 -- ---- words that are texts
 
-pub texts-some : (r : Option (List (List ℕ))) → AreTexts r → is_some r ≡ true
+pub texts-some : (r : Option (List (List ℕ))) → AreUtf8Words r → is_some r ≡ true
 texts-some None h = absurd h
 texts-some (Some words) h = refl
 
-pub texts-first : (word : List ℕ) (r : Option (List (List ℕ))) → AreTexts (option_map (λ words. word ∷ words) r) → IsUtf8 word × AreTexts r
+pub texts-first : (word : List ℕ) (r : Option (List (List ℕ))) → AreUtf8Words (option_map (λ words. word ∷ words) r) → IsUtf8 word × AreUtf8Words r
 texts-first word None h = absurd h
 texts-first word (Some words) h = (h.0, h.1)
 
@@ -262,9 +262,9 @@ pub found-at : (line : List ℕ) (i : ℕ) → position (λ octet. not (is_blank
 found-at line i e = line_words-found line i e ∙ ap (words_from within) (sym (take_rest line i))
 
 -- it is a text, and the others are texts
-pub first-text : (line word rest : List ℕ) (i : ℕ) → position (λ octet. not (is_blank octet)) line ≡ Some i → AreTexts (line_words line)
-    → words_from within (take (length line - i) (drop i line)) ≡ option_map (λ words. word ∷ words) (line_words rest) → IsUtf8 word × AreTexts (line_words rest)
-first-text line word rest i e texts is = texts-first word (line_words rest) (subst AreTexts (found-at line i e ∙ is) texts)
+pub first-text : (line word rest : List ℕ) (i : ℕ) → position (λ octet. not (is_blank octet)) line ≡ Some i → AreUtf8Words (line_words line)
+    → words_from within (take (length line - i) (drop i line)) ≡ option_map (λ words. word ∷ words) (line_words rest) → IsUtf8 word × AreUtf8Words (line_words rest)
+first-text line word rest i e texts is = texts-first word (line_words rest) (subst AreUtf8Words (found-at line i e ∙ is) texts)
 
 -- ---- a first word, and the others
 
@@ -273,11 +273,11 @@ pub after-word : (r rest : Option (List (List ℕ))) (word : List ℕ) (words : 
 after-word r None word words e f = cc
 after-word r (Some more) word words e f = (more, refl, cc)
 
-pub texts-known : (r : Option (List (List ℕ))) → AreTexts r → (words : List (List ℕ)) × (r ≡ Some words)
+pub texts-known : (r : Option (List (List ℕ))) → AreUtf8Words r → (words : List (List ℕ)) × (r ≡ Some words)
 texts-known None h = absurd h
 texts-known (Some words) h = (words, refl)
 
-pub some-texts : (r : Option (List (List ℕ))) → is_some r ≡ true → ((words : List (List ℕ)) → r ≡ Some words → AllByRecursion IsUtf8 words) → AreTexts r
+pub some-texts : (r : Option (List (List ℕ))) → is_some r ≡ true → ((words : List (List ℕ)) → r ≡ Some words → AllByRecursion IsUtf8 words) → AreUtf8Words r
 some-texts None e h = cc
 some-texts (Some words) e h = h words refl
 

@@ -4,7 +4,7 @@ use Rattle.std.specs.Prelude.{Option, Some, ◌==◌}
 use Rattle.std.specs.List.{flat_map, AllByRecursion}
 use Rattle.std.proofs.lemmas.Bool.Decides.{nat_tests}
 use Rattle.dict_text.specs.Characters.{is_blank, is_control}
-use Rattle.dict_proto.specs.Words.{is_atom_character, is_quote_sign, StandsFor, IsPart, IsWord, AreBlanks, EndsWord, AreWords}
+use Rattle.dict_proto.specs.Words.{is_atom_character, is_quote_sign, StandsForCharacter, IsPart, IsWord, AreBlanks, EndsWord, AreWords}
 use Rattle.dict_proto.specs.LineWords.{line_words, words_from, within, in_string, onto_first, end_before}
 use Rattle.dict_proto.proofs.LineWordsLemmas.{line_words-blank, within-blank, within-atom, atom_parts, onto_all, onto_all-word}
 
@@ -48,14 +48,14 @@ string-character quote c rest e f g = rw (e, not_equal c quote f, not_equal c 92
 string-pair : (quote c : ℕ) (rest : List ℕ) → is_control c ≡ false → (92 == quote) ≡ false → words_from (in_string quote) (92 ∷ c ∷ rest) ≡ onto_first c (words_from (in_string quote) rest)
 string-pair quote c rest e f = rw (f, e) refl
 
-string-piece : (quote : ℕ) (text : List ℕ) (c : ℕ) (rest : List ℕ) → (92 == quote) ≡ false → StandsFor quote text c → words_from (in_string quote) (text ++ rest) ≡ onto_first c (words_from (in_string quote) rest)
+string-piece : (quote : ℕ) (text : List ℕ) (c : ℕ) (rest : List ℕ) → (92 == quote) ≡ false → StandsForCharacter quote text c → words_from (in_string quote) (text ++ rest) ≡ onto_first c (words_from (in_string quote) rest)
 string-piece quote text c rest f (e, inl (is, other, plain)) = ap (λ t. words_from (in_string quote) (t ++ rest)) is ∙ string-character quote c rest e other plain
 string-piece quote text c rest f (e, inr is) = ap (λ t. words_from (in_string quote) (t ++ rest)) is ∙ string-pair quote c rest e f
 
 string-end : (quote : ℕ) (rest : List ℕ) → is_control quote ≡ false → (quote == quote) ≡ true → words_from (in_string quote) (quote ∷ rest) ≡ words_from within rest
 string-end quote rest e f = rw (e, f) refl
 
-string-pieces : (quote : ℕ) (pieces : List (List ℕ × ℕ)) (rest : List ℕ) → SignFacts quote → AllByRecursion (λ p. StandsFor quote p.0 p.1) pieces
+string-pieces : (quote : ℕ) (pieces : List (List ℕ × ℕ)) (rest : List ℕ) → SignFacts quote → AllByRecursion (λ p. StandsForCharacter quote p.0 p.1) pieces
     → words_from (in_string quote) (flat_map (λ p. p.0) pieces ++ (quote ∷ rest)) ≡ onto_all (map (λ p. p.1) pieces) (words_from within rest)
 unfolding SignFacts
 string-pieces quote [] rest (blank, control, same, other, opens) h = string-end quote rest control same
@@ -66,7 +66,7 @@ string-pieces quote ((text, c) ∷ pieces) rest sign h =
 pair-alone : (c : ℕ) (rest : List ℕ) → is_control c ≡ false → words_from within (92 ∷ c ∷ rest) ≡ onto_first c (words_from within rest)
 pair-alone c rest e = rw e refl
 
-string-whole : (quote : ℕ) (pieces : List (List ℕ × ℕ)) (rest : List ℕ) → SignFacts quote → AllByRecursion (λ p. StandsFor quote p.0 p.1) pieces
+string-whole : (quote : ℕ) (pieces : List (List ℕ × ℕ)) (rest : List ℕ) → SignFacts quote → AllByRecursion (λ p. StandsForCharacter quote p.0 p.1) pieces
     → words_from within ((quote ∷ (flat_map (λ p. p.0) pieces ++ (quote ∷ []))) ++ rest) ≡ onto_all (map (λ p. p.1) pieces) (words_from within rest)
 unfolding SignFacts
 string-whole quote pieces rest sign h =

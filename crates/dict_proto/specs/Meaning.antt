@@ -37,8 +37,8 @@ is_readable line = nat_le (length line + 2) 6144 && (is_utf8 line
     && (nat_le (length (chars line) + 2) 1024 && list_all (λ c. (c == 9) || not (is_control c)) (chars line)))
 
 -- a word is this name, without regard to ASCII case
-abbrev pub is_named : List ℕ → List ℕ → Bool
-is_named word name = str_eq_ignore_ascii_case word name
+abbrev pub is_word_named : List ℕ → List ℕ → Bool
+is_word_named word name = str_eq_ignore_ascii_case word name
 
 -- this is asked, if no parameters are left
 abbrev pub without_more : Meaning → List (List ℕ) → Meaning
@@ -59,34 +59,34 @@ match_of (database ∷ strategy ∷ []) = illegal_parameters
 match_of (database ∷ strategy ∷ word ∷ others) = without_more (matching database strategy word) others
 
 -- the parameter of SHOW INFO: a database
-abbrev pub info_of : List (List ℕ) → Meaning
-info_of [] = illegal_parameters
-info_of (database ∷ others) = without_more (show_info database) others
+abbrev pub show_info_meaning : List (List ℕ) → Meaning
+show_info_meaning [] = illegal_parameters
+show_info_meaning (database ∷ others) = without_more (show_info database) others
 
 -- SHOW, its second word, and the parameters after that
-abbrev pub shown_of : List ℕ → List (List ℕ) → Meaning
-shown_of what parameters =
-    if is_named what (codes "DB") || is_named what (codes "DATABASES") then without_more show_databases parameters
-    else (if is_named what (codes "STRAT") || is_named what (codes "STRATEGIES") then without_more show_strategies parameters
-    else (if is_named what (codes "SERVER") then without_more show_server parameters
-    else (if is_named what (codes "INFO") then info_of parameters
+abbrev pub show_meaning : List ℕ → List (List ℕ) → Meaning
+show_meaning what parameters =
+    if is_word_named what (codes "DB") || is_word_named what (codes "DATABASES") then without_more show_databases parameters
+    else (if is_word_named what (codes "STRAT") || is_word_named what (codes "STRATEGIES") then without_more show_strategies parameters
+    else (if is_word_named what (codes "SERVER") then without_more show_server parameters
+    else (if is_word_named what (codes "INFO") then show_info_meaning parameters
     else illegal_parameters)))
 
 abbrev pub show_of : List (List ℕ) → Meaning
 show_of [] = illegal_parameters
-show_of (what ∷ parameters) = shown_of what parameters
+show_of (what ∷ parameters) = show_meaning what parameters
 
 -- a command and its parameters
 abbrev pub command_of : List ℕ → List (List ℕ) → Meaning
 command_of name parameters =
-    if is_named name (codes "DEFINE") then define_of parameters
-    else (if is_named name (codes "MATCH") then match_of parameters
-    else (if is_named name (codes "SHOW") then show_of parameters
-    else (if is_named name (codes "CLIENT") then client
-    else (if is_named name (codes "STATUS") then without_more status parameters
-    else (if is_named name (codes "HELP") then without_more help parameters
-    else (if is_named name (codes "QUIT") then without_more quit parameters
-    else (if is_named name (codes "OPTION") || (is_named name (codes "AUTH") || is_named name (codes "SASLAUTH")) then not_implemented
+    if is_word_named name (codes "DEFINE") then define_of parameters
+    else (if is_word_named name (codes "MATCH") then match_of parameters
+    else (if is_word_named name (codes "SHOW") then show_of parameters
+    else (if is_word_named name (codes "CLIENT") then client
+    else (if is_word_named name (codes "STATUS") then without_more status parameters
+    else (if is_word_named name (codes "HELP") then without_more help parameters
+    else (if is_word_named name (codes "QUIT") then without_more quit parameters
+    else (if is_word_named name (codes "OPTION") || (is_word_named name (codes "AUTH") || is_word_named name (codes "SASLAUTH")) then not_implemented
     else not_recognized)))))))
 
 -- what the words of a line ask for

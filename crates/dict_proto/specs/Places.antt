@@ -6,11 +6,11 @@ use Rattle.std.specs.Str.{IsUtf8}
 use Rattle.dict_text.specs.Characters.{is_blank}
 use Rattle.dict_proto.specs.Words.{is_quoting}
 use Rattle.dict_proto.specs.LineWords.{Place, between, within, in_string, escaped, escaped_in, stuck}
-use Rattle.dict_proto.specs.Meaning.{Meaning, define_of, match_of, show_of, info_of, without_more, show_databases, show_strategies, show_server, client, status, help, quit, not_recognized, illegal_parameters, not_implemented}
+use Rattle.dict_proto.specs.Meaning.{Meaning, define_of, match_of, show_of, show_info_meaning, without_more, show_databases, show_strategies, show_server, client, status, help, quit, not_recognized, illegal_parameters, not_implemented}
 use Rattle.dict_proto.specs.declared.place.Place as kept
 use Rattle.dict_proto.specs.declared.place.Place.TheVariants.{Between, Within, InString, Escaped, EscapedIn, Stuck}
-use Rattle.dict_proto.specs.declared.command.Command.{Command}
-use Rattle.dict_proto.specs.declared.command.Command.TheVariants.{Define, Match, Show, Client, Status, Help, Quit, LeftOut}
+use Rattle.dict_proto.specs.declared.command.CommandName.{CommandName}
+use Rattle.dict_proto.specs.declared.command.CommandName.TheVariants.{Define, Match, Show, Client, Status, Help, Quit, LeftOut}
 use Rattle.dict_proto.specs.declared.command.Shown.{Shown}
 use Rattle.dict_proto.specs.declared.command.Shown.TheVariants.{Databases, Strategies, Server, Info}
 
@@ -41,11 +41,11 @@ ends_word (escaped_in quote) c = false
 ends_word stuck c = false
 
 -- the words are there, and each is UTF-8
-abbrev pub AreTexts : Option (List (List ℕ)) → Type 0
-AreTexts words = IsSomeAnd words (AllByRecursion IsUtf8)
+abbrev pub AreUtf8Words : Option (List (List ℕ)) → Type 0
+AreUtf8Words words = IsSomeAnd words (AllByRecursion IsUtf8)
 
 -- what a command asks for with these parameters
-abbrev pub asked_with : Option Command → List (List ℕ) → Meaning
+abbrev pub asked_with : Option CommandName → List (List ℕ) → Meaning
 asked_with (Some Define) parameters = define_of parameters
 asked_with (Some Match) parameters = match_of parameters
 asked_with (Some Show) parameters = show_of parameters
@@ -61,5 +61,5 @@ abbrev pub shown_with : Option Shown → List (List ℕ) → Meaning
 shown_with (Some Databases) parameters = without_more show_databases parameters
 shown_with (Some Strategies) parameters = without_more show_strategies parameters
 shown_with (Some Server) parameters = without_more show_server parameters
-shown_with (Some Info) parameters = info_of parameters
+shown_with (Some Info) parameters = show_info_meaning parameters
 shown_with None parameters = illegal_parameters

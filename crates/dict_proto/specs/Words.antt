@@ -18,8 +18,8 @@ is_atom_character c = not (is_blank c || (is_control c || is_quoting c))
 
 -- within a string that ends at the quote sign, text stands for the character c: the character itself, if it is
 -- neither the quote sign nor a backslash, or a backslash and then the character
-abbrev pub StandsFor : ℕ → List ℕ → ℕ → Type 0
-StandsFor quote text c = (is_control c ≡ false) × (((text ≡ c ∷ []) × (c ≢ quote) × (c ≢ 92)) ⊎ (text ≡ 92 ∷ c ∷ []))
+abbrev pub StandsForCharacter : ℕ → List ℕ → ℕ → Type 0
+StandsForCharacter quote text c = (is_control c ≡ false) × (((text ≡ c ∷ []) × (c ≢ quote) × (c ≢ 92)) ⊎ (text ≡ 92 ∷ c ∷ []))
 
 -- an atom: one or more atom characters, which stand for themselves
 abbrev pub IsAtom : List ℕ → List ℕ → Type 0
@@ -28,7 +28,7 @@ IsAtom text content = (text ≡ content) × (content ≢ []) × AllByRecursion (
 -- a string: a quote sign, what stands for its characters, and the same quote sign
 abbrev pub IsString : List ℕ → List ℕ → Type 0
 IsString text content = (quote : ℕ) × (pieces : List (List ℕ × ℕ)) × (is_quote_sign quote ≡ true)
-    × AllByRecursion (λ p. StandsFor quote p.0 p.1) pieces
+    × AllByRecursion (λ p. StandsForCharacter quote p.0 p.1) pieces
     × (text ≡ quote ∷ (flat_map (λ p. p.0) pieces ++ quote ∷ [])) × (content ≡ map (λ p. p.1) pieces)
 
 -- a quoted pair: a backslash, and one character that is no control character

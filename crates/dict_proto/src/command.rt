@@ -1,6 +1,6 @@
 // The names of commands, and of what SHOW shows.
 ghost use Rattle.std.specs.Prelude.{◌≡◌, ◌||◌, ℕ, List, codes};
-ghost use Rattle.dict_proto.specs.Meaning.{is_named, command_of, shown_of};
+ghost use Rattle.dict_proto.specs.Meaning.{is_word_named, command_of, show_meaning};
 ghost use Rattle.dict_proto.specs.Content.{content_of};
 ghost use Rattle.dict_proto.specs.Places.{asked_with, shown_with};
 
@@ -8,7 +8,7 @@ use crate::word::Word;
 
 // A command by its name.
 #[derive(Clone, Copy, Debug, PartialEq, Eq)]
-pub(crate) enum Command {
+pub(crate) enum CommandName {
     Define,
     Match,
     Show,
@@ -20,26 +20,26 @@ pub(crate) enum Command {
     LeftOut,
 }
 
-impl Command {
-    pub(crate) fn by_name(name: &Word) -> Option<Command>
+impl CommandName {
+    pub(crate) fn by_name(name: &Word) -> Option<CommandName>
         ensures { (parameters : List (List ℕ)) → asked_with result parameters ≡ command_of (content_of name.now) parameters }
     {
         if name.is_named("DEFINE") {
-            Some(Command::Define)
+            Some(CommandName::Define)
         } else if name.is_named("MATCH") {
-            Some(Command::Match)
+            Some(CommandName::Match)
         } else if name.is_named("SHOW") {
-            Some(Command::Show)
+            Some(CommandName::Show)
         } else if name.is_named("CLIENT") {
-            Some(Command::Client)
+            Some(CommandName::Client)
         } else if name.is_named("STATUS") {
-            Some(Command::Status)
+            Some(CommandName::Status)
         } else if name.is_named("HELP") {
-            Some(Command::Help)
+            Some(CommandName::Help)
         } else if name.is_named("QUIT") {
-            Some(Command::Quit)
+            Some(CommandName::Quit)
         } else if is_left_out(name) {
-            Some(Command::LeftOut)
+            Some(CommandName::LeftOut)
         } else {
             None
         }
@@ -57,7 +57,7 @@ pub(crate) enum Shown {
 
 impl Shown {
     pub(crate) fn by_name(name: &Word) -> Option<Shown>
-        ensures { (parameters : List (List ℕ)) → shown_with result parameters ≡ shown_of (content_of name.now) parameters }
+        ensures { (parameters : List (List ℕ)) → shown_with result parameters ≡ show_meaning (content_of name.now) parameters }
     {
         if name.is_named("DB") || name.is_named("DATABASES") {
             Some(Shown::Databases)
@@ -75,7 +75,7 @@ impl Shown {
 
 // Whether the command is one that this server leaves out.
 fn is_left_out(name: &Word) -> bool
-    ensures { result ≡ is_named (content_of name.now) (codes "OPTION") || (is_named (content_of name.now) (codes "AUTH") || is_named (content_of name.now) (codes "SASLAUTH")) }
+    ensures { result ≡ is_word_named (content_of name.now) (codes "OPTION") || (is_word_named (content_of name.now) (codes "AUTH") || is_word_named (content_of name.now) (codes "SASLAUTH")) }
 {
     name.is_named("OPTION") || name.is_named("AUTH") || name.is_named("SASLAUTH")
 }

@@ -12,15 +12,15 @@ const ROOM: usize = 1024;
 
 /// Octets on their way to a sink, so that it takes a line by one call. It takes no memory.
 #[derive(Drop)]
-pub struct Gathered {
+pub struct GatheredOctets {
     octets: ArrayVec<u8, ROOM>,
 }
 
-impl Gathered {
+impl GatheredOctets {
     pub fn new() -> Self
         ensures { result.octets.items ≡ [] }
     {
-        Gathered {
+        GatheredOctets {
             octets: ArrayVec::new(),
         }
     }

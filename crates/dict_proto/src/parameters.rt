@@ -2,48 +2,48 @@
 ghost use Rattle.std.specs.Prelude.{◌≡◌, ◌≢◌, Some, [], OnOk, OnErr, IfErr};
 ghost use Rattle.std.specs.Option.{ForSome};
 ghost use Rattle.dict_proto.specs.LineWords.{line_words};
-ghost use Rattle.dict_proto.specs.Meaning.{asked, define_of, match_of, show_of, info_of, without_more};
-ghost use Rattle.dict_proto.specs.Places.{AreTexts, asked_with, shown_with};
+ghost use Rattle.dict_proto.specs.Meaning.{asked, define_of, match_of, show_of, show_info_meaning, without_more};
+ghost use Rattle.dict_proto.specs.Places.{AreUtf8Words, asked_with, shown_with};
 ghost use Rattle.dict_proto.specs.Told.{Tells, requested};
 ghost use Rattle.dict_proto.specs.declared.request.LineFault.TheVariants.{IllegalParameters};
 
-use crate::command::{Command, Shown};
+use crate::command::{CommandName, Shown};
 use crate::request::{LineFault, Request};
 use crate::words::{has_word, next_word};
 use std::alloc::Global;
 
 // What a line asks for that can be cut into words.
 pub(crate) fn parse_words(alloc: Global, line: &[u8]) -> Result<Request, LineFault>
-    requires texts { AreTexts (line_words line.now) }
+    requires texts { AreUtf8Words (line_words line.now) }
     ensures { Tells result (asked (line_words line.now)) }
 {
     let Some((name, rest)) = next_word(line) else {
         return Err(LineFault::NotRecognized);
     };
-    match Command::by_name(&name) {
+    match CommandName::by_name(&name) {
         Some(command) => parse_command(alloc, command, rest),
         None => Err(LineFault::NotRecognized),
     }
 }
 
-fn parse_command(alloc: Global, command: Command, rest: &[u8]) -> Result<Request, LineFault>
-    requires texts { AreTexts (line_words rest.now) }
+fn parse_command(alloc: Global, command: CommandName, rest: &[u8]) -> Result<Request, LineFault>
+    requires texts { AreUtf8Words (line_words rest.now) }
     ensures { ForSome (line_words rest.now) (λ words. Tells result (asked_with (Some command) words)) }
 {
     match command {
-        Command::Define => parse_define(alloc, rest),
-        Command::Match => parse_match(alloc, rest),
-        Command::Show => parse_show(alloc, rest),
-        Command::Client => Ok(Request::Client),
-        Command::Status => without_more(Request::Status, rest),
-        Command::Help => without_more(Request::Help, rest),
-        Command::Quit => without_more(Request::Quit, rest),
-        Command::LeftOut => Err(LineFault::NotImplemented),
+        CommandName::Define => parse_define(alloc, rest),
+        CommandName::Match => parse_match(alloc, rest),
+        CommandName::Show => parse_show(alloc, rest),
+        CommandName::Client => Ok(Request::Client),
+        CommandName::Status => without_more(Request::Status, rest),
+        CommandName::Help => without_more(Request::Help, rest),
+        CommandName::Quit => without_more(Request::Quit, rest),
+        CommandName::LeftOut => Err(LineFault::NotImplemented),
     }
 }
 
 fn parse_define(alloc: Global, rest: &[u8]) -> Result<Request, LineFault>
-    requires texts { AreTexts (line_words rest.now) }
+    requires texts { AreUtf8Words (line_words rest.now) }
     ensures { ForSome (line_words rest.now) (λ words. Tells result (define_of words)) }
 {
     let Some((database, rest)) = next_word(rest) else {
@@ -60,7 +60,7 @@ fn parse_define(alloc: Global, rest: &[u8]) -> Result<Request, LineFault>
 }
 
 fn parse_match(alloc: Global, rest: &[u8]) -> Result<Request, LineFault>
-    requires texts { AreTexts (line_words rest.now) }
+    requires texts { AreUtf8Words (line_words rest.now) }
     ensures { ForSome (line_words rest.now) (λ words. Tells result (match_of words)) }
 {
     let Some((database, rest)) = next_word(rest) else {
@@ -81,7 +81,7 @@ fn parse_match(alloc: Global, rest: &[u8]) -> Result<Request, LineFault>
 }
 
 fn parse_show(alloc: Global, rest: &[u8]) -> Result<Request, LineFault>
-    requires texts { AreTexts (line_words rest.now) }
+    requires texts { AreUtf8Words (line_words rest.now) }
     ensures { ForSome (line_words rest.now) (λ words. Tells result (show_of words)) }
 {
     let Some((name, rest)) = next_word(rest) else {
@@ -94,7 +94,7 @@ fn parse_show(alloc: Global, rest: &[u8]) -> Result<Request, LineFault>
 }
 
 fn parse_shown(alloc: Global, shown: Shown, rest: &[u8]) -> Result<Request, LineFault>
-    requires texts { AreTexts (line_words rest.now) }
+    requires texts { AreUtf8Words (line_words rest.now) }
     ensures { ForSome (line_words rest.now) (λ words. Tells result (shown_with (Some shown) words)) }
 {
     match shown {
@@ -106,8 +106,8 @@ fn parse_shown(alloc: Global, shown: Shown, rest: &[u8]) -> Result<Request, Line
 }
 
 fn parse_info(alloc: Global, rest: &[u8]) -> Result<Request, LineFault>
-    requires texts { AreTexts (line_words rest.now) }
-    ensures { ForSome (line_words rest.now) (λ words. Tells result (info_of words)) }
+    requires texts { AreUtf8Words (line_words rest.now) }
+    ensures { ForSome (line_words rest.now) (λ words. Tells result (show_info_meaning words)) }
 {
     let Some((database, rest)) = next_word(rest) else {
         return Err(LineFault::IllegalParameters);

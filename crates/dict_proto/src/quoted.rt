@@ -5,7 +5,7 @@ ghost use Rattle.dict_proto.specs.Streams.{Puts};
 ghost use Rattle.dict_proto.specs.Gathering.{Gathers};
 ghost use Rattle.dict_proto.specs.Text.{escaped, needs_backslash, quoted};
 
-use crate::gathered::Gathered;
+use crate::gathered::GatheredOctets;
 use crate::sink::{Sink, SinkFault};
 
 const QUOTE: &[u8] = b"\"";
@@ -18,14 +18,14 @@ const BACKSLASH: &[u8] = b"\\";
 pub fn put_quoted<K: Sink>(sink: &mut K, text: &str) -> Result<(), SinkFault>
     ensures { Puts result (K.stream sink.old) (K.stream sink.new) (quoted text.now) }
 {
-    let mut gathered = Gathered::new();
+    let mut gathered = GatheredOctets::new();
     add_quoted(&mut gathered, sink, text)?;
     gathered.put(sink)
 }
 
 /// Adds a text between quote signs, in the same way.
 pub fn add_quoted<K: Sink>(
-    gathered: &mut Gathered,
+    gathered: &mut GatheredOctets,
     sink: &mut K,
     text: &str,
 ) -> Result<(), SinkFault>

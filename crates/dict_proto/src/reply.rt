@@ -7,7 +7,7 @@ ghost use Rattle.dict_proto.specs.Text.{block, crlf};
 ghost use Rattle.dict_proto.specs.ReplyLines.{AreShortLines, IsWithinLimits};
 ghost use Rattle.dict_proto.specs.Replies.{reply_octets, banner_octets, definition_octets, definition_line, list_row, list_line_octets, list_end_octets, help_octets, server_information_octets};
 
-use crate::part::{Part, put_parts};
+use crate::part::{ReplyPart, put_parts};
 use crate::sink::{Sink, SinkFault};
 use crate::text::{put_text, stuffing};
 
@@ -127,13 +127,13 @@ fn put_banner<K: Sink>(sink: &mut K, host: &str, connection: u64) -> Result<(), 
     put_parts(
         sink,
         &[
-            Part::Octets(b"220 "),
-            Part::Octets(host.as_bytes()),
-            Part::Octets(b" dictcat ready <"),
-            Part::Number(connection),
-            Part::Octets(b"@"),
-            Part::Octets(host.as_bytes()),
-            Part::Octets(b">\r\n"),
+            ReplyPart::Octets(b"220 "),
+            ReplyPart::Octets(host.as_bytes()),
+            ReplyPart::Octets(b" dictcat ready <"),
+            ReplyPart::Number(connection),
+            ReplyPart::Octets(b"@"),
+            ReplyPart::Octets(host.as_bytes()),
+            ReplyPart::Octets(b">\r\n"),
         ],
     )
 }
@@ -151,12 +151,12 @@ fn put_count<'a, K: Sink>(
     put_parts(
         sink,
         &[
-            Part::Octets(code),
-            Part::Octets(b" "),
-            Part::Number(count),
-            Part::Octets(b" "),
-            Part::Octets(what),
-            Part::Octets(b"\r\n"),
+            ReplyPart::Octets(code),
+            ReplyPart::Octets(b" "),
+            ReplyPart::Number(count),
+            ReplyPart::Octets(b" "),
+            ReplyPart::Octets(what),
+            ReplyPart::Octets(b"\r\n"),
         ],
     )
 }
@@ -187,13 +187,13 @@ fn put_definition_line<'a, K: Sink>(
     put_parts(
         sink,
         &[
-            Part::Octets(b"151 "),
-            Part::Quoted(headword),
-            Part::Octets(b" "),
-            Part::Octets(name.as_bytes()),
-            Part::Octets(b" "),
-            Part::Quoted(title),
-            Part::Octets(b"\r\n"),
+            ReplyPart::Octets(b"151 "),
+            ReplyPart::Quoted(headword),
+            ReplyPart::Octets(b" "),
+            ReplyPart::Octets(name.as_bytes()),
+            ReplyPart::Octets(b" "),
+            ReplyPart::Quoted(title),
+            ReplyPart::Octets(b"\r\n"),
         ],
     )
 }
@@ -205,11 +205,11 @@ fn put_list_line<'a, K: Sink>(sink: &mut K, name: &'a str, text: &'a str) -> Res
     put_parts(
         sink,
         &[
-            Part::Octets(stuffing(name.as_bytes())),
-            Part::Octets(name.as_bytes()),
-            Part::Octets(b" "),
-            Part::Quoted(text),
-            Part::Octets(b"\r\n"),
+            ReplyPart::Octets(stuffing(name.as_bytes())),
+            ReplyPart::Octets(name.as_bytes()),
+            ReplyPart::Octets(b" "),
+            ReplyPart::Quoted(text),
+            ReplyPart::Octets(b"\r\n"),
         ],
     )
 }
@@ -220,18 +220,18 @@ fn put_help<K: Sink>(sink: &mut K) -> Result<(), SinkFault>
     put_parts(
         sink,
         &[
-            Part::Octets(b"113 help text\r\n"),
-            Part::Octets(b"DEFINE database word\r\n"),
-            Part::Octets(b"MATCH database strategy word\r\n"),
-            Part::Octets(b"SHOW DB\r\n"),
-            Part::Octets(b"SHOW STRAT\r\n"),
-            Part::Octets(b"SHOW INFO database\r\n"),
-            Part::Octets(b"SHOW SERVER\r\n"),
-            Part::Octets(b"CLIENT text\r\n"),
-            Part::Octets(b"STATUS\r\n"),
-            Part::Octets(b"HELP\r\n"),
-            Part::Octets(b"QUIT\r\n"),
-            Part::Octets(b".\r\n"),
+            ReplyPart::Octets(b"113 help text\r\n"),
+            ReplyPart::Octets(b"DEFINE database word\r\n"),
+            ReplyPart::Octets(b"MATCH database strategy word\r\n"),
+            ReplyPart::Octets(b"SHOW DB\r\n"),
+            ReplyPart::Octets(b"SHOW STRAT\r\n"),
+            ReplyPart::Octets(b"SHOW INFO database\r\n"),
+            ReplyPart::Octets(b"SHOW SERVER\r\n"),
+            ReplyPart::Octets(b"CLIENT text\r\n"),
+            ReplyPart::Octets(b"STATUS\r\n"),
+            ReplyPart::Octets(b"HELP\r\n"),
+            ReplyPart::Octets(b"QUIT\r\n"),
+            ReplyPart::Octets(b".\r\n"),
         ],
     )
 }
@@ -247,12 +247,12 @@ fn put_server_information<K: Sink>(
     put_parts(
         sink,
         &[
-            Part::Octets(b"114 server information\r\n"),
-            Part::Octets(b"dictcat on "),
-            Part::Octets(host.as_bytes()),
-            Part::Octets(b"\r\ndatabases "),
-            Part::Number(databases),
-            Part::Octets(b"\r\n.\r\n"),
+            ReplyPart::Octets(b"114 server information\r\n"),
+            ReplyPart::Octets(b"dictcat on "),
+            ReplyPart::Octets(host.as_bytes()),
+            ReplyPart::Octets(b"\r\ndatabases "),
+            ReplyPart::Number(databases),
+            ReplyPart::Octets(b"\r\n.\r\n"),
         ],
     )
 }

@@ -6,7 +6,7 @@ ghost use Rattle.dict_proto.specs.Streams.{Puts};
 ghost use Rattle.dict_proto.specs.Gathering.{Gathers};
 ghost use Rattle.dict_proto.specs.Text.{block, sent_line};
 
-use crate::gathered::Gathered;
+use crate::gathered::GatheredOctets;
 use crate::sink::{Sink, SinkFault};
 use dict_text::text_lines;
 
@@ -29,13 +29,17 @@ pub fn stuffing(line: &[u8]) -> &[u8]
 pub fn put_text<K: Sink>(sink: &mut K, text: &[u8]) -> Result<(), SinkFault>
     ensures { Puts result (K.stream sink.old) (K.stream sink.new) (block (text_lines text.now)) }
 {
-    let mut gathered = Gathered::new();
+    let mut gathered = GatheredOctets::new();
     add_text(&mut gathered, sink, text)?;
     gathered.put(sink)
 }
 
 // Adds a text.
-fn add_text<K: Sink>(gathered: &mut Gathered, sink: &mut K, text: &[u8]) -> Result<(), SinkFault>
+fn add_text<K: Sink>(
+    gathered: &mut GatheredOctets,
+    sink: &mut K,
+    text: &[u8],
+) -> Result<(), SinkFault>
     ensures { Gathers result (K.stream sink.old) (K.stream sink.new) gathered.old.octets.items
         gathered.new.octets.items (block (text_lines text.now)) }
 {
@@ -44,7 +48,11 @@ fn add_text<K: Sink>(gathered: &mut Gathered, sink: &mut K, text: &[u8]) -> Resu
 }
 
 // Adds the lines of a text.
-fn add_lines<K: Sink>(gathered: &mut Gathered, sink: &mut K, text: &[u8]) -> Result<(), SinkFault>
+fn add_lines<K: Sink>(
+    gathered: &mut GatheredOctets,
+    sink: &mut K,
+    text: &[u8],
+) -> Result<(), SinkFault>
     ensures { Gathers result (K.stream sink.old) (K.stream sink.new) gathered.old.octets.items
         gathered.new.octets.items (flat_map sent_line (text_lines text.now)) }
 {
@@ -55,7 +63,11 @@ fn add_lines<K: Sink>(gathered: &mut Gathered, sink: &mut K, text: &[u8]) -> Res
 }
 
 // Adds one line of a text, its front period doubled.
-fn add_line<K: Sink>(gathered: &mut Gathered, sink: &mut K, line: &[u8]) -> Result<(), SinkFault>
+fn add_line<K: Sink>(
+    gathered: &mut GatheredOctets,
+    sink: &mut K,
+    line: &[u8],
+) -> Result<(), SinkFault>
     ensures { Gathers result (K.stream sink.old) (K.stream sink.new) gathered.old.octets.items
         gathered.new.octets.items (sent_line line.now) }
 {

@@ -2,7 +2,7 @@
 ghost use Rattle.std.specs.Prelude.{◌≡◌, IfOk};
 ghost use Rattle.std.specs.Str.{IsUtf8};
 ghost use Rattle.std.specs.String.{string_bytes};
-ghost use Rattle.dict_proto.specs.Meaning.{is_named};
+ghost use Rattle.dict_proto.specs.Meaning.{is_word_named};
 
 use crate::place::Place;
 use std::alloc::{AllocError, Global};
@@ -24,7 +24,7 @@ impl<'a> Word<'a> {
 
     // Whether the word is this name, without regard to ASCII case.
     pub(crate) fn is_named(&self, name: &str) -> bool
-        ensures { result ≡ is_named (content_of self.now) name.now }
+        ensures { result ≡ is_word_named (content_of self.now) name.now }
     {
         let mut place = Place::Within;
         let mut left = name.as_bytes();

@@ -6,7 +6,7 @@ ghost use Rattle.std.specs.Str.{IsUtf8};
 ghost use Rattle.dict_text.specs.Characters.{is_blank};
 ghost use Rattle.dict_proto.specs.LineWords.{line_words, words_from, within};
 ghost use Rattle.dict_proto.specs.Content.{content_of};
-ghost use Rattle.dict_proto.specs.Places.{AreTexts};
+ghost use Rattle.dict_proto.specs.Places.{AreUtf8Words};
 
 use crate::place::Place;
 use crate::word::Word;
@@ -33,10 +33,10 @@ pub(crate) fn has_word(line: &[u8]) -> bool
 
 // The first word of a line that can be cut into words, and what follows it.
 pub(crate) fn next_word(line: &[u8]) -> Option<(Word, &[u8])>
-    requires texts { AreTexts (line_words line.now) }
+    requires texts { AreUtf8Words (line_words line.now) }
     ensures { MatchOption result (line_words line.now ≡ Some [])
         (λ x. (line_words line.now ≡ option_map (λ words. content_of x.0 ∷ words) (line_words x.1.now))
-        × IsUtf8 (content_of x.0) × AreTexts (line_words x.1.now)) }
+        × IsUtf8 (content_of x.0) × AreUtf8Words (line_words x.1.now)) }
 {
     let start = first_word_octet(line)?;
     Some(first_word(&line[start..]))

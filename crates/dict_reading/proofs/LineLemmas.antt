@@ -10,7 +10,7 @@ use Rattle.dict_index.specs.Tests.{PassesWhole, PassesLine, line_at}
 use Rattle.dict_index.specs.Refusals.{whole_tests, line_tests}
 use Rattle.dict_index.specs.Order.{rank, IsOfLine}
 use Rattle.dict_index.specs.Meaning.{IsReadEdition, IsFault}
-use Rattle.dict_index.specs.Refused.{PassesEach, FailsFirst, PassWholes}
+use Rattle.dict_index.specs.Refused.{PassesEach, LineFailsFirst, PassWholes}
 use Rattle.dict_index.specs.declared.fault.EditionRefusal.{EditionRefusal}
 use Rattle.dict_index.specs.declared.fault.EditionRefusal.TheVariants.{IndexNotUtf8, NoTitle, BadTitle, TooManyEntries, TextTooLong, LastLine}
 use Rattle.dict_text.proofs.AllLemmas.{all_of}
@@ -45,18 +45,18 @@ wholes_alone text line none short utf8 =
 
 module _ (text line : List ℕ) (none : HasNo 10 line) (short : length text ≤ most_octets) (utf8 : IsUtf8 (line ++ 10 ∷ [])) where
   -- its first test that fails is what it is refused for
-  fault_alone : (g : EditionRefusal) → FailsFirst line_tests g text [] line → IsFault (line ++ 10 ∷ []) text g (Some 1)
+  fault_alone : (g : EditionRefusal) → LineFailsFirst line_tests g text [] line → IsFault (line ++ 10 ∷ []) text g (Some 1)
   fault_alone g first = stop_fault g (line ++ 10 ∷ []) text 0 (wholes_alone text line none short utf8) (record {
     there = (let one : length (text_lines (line ++ 10 ∷ [])) ≡ 1 = ap length (one_line line none) in omega (arith, one));
     before = λ k lt. absurd (omega arith);
-    first = subst (λ l. FailsFirst line_tests g text [] l) (sym (first_line_at line none)) first;
+    first = subst (λ l. LineFailsFirst line_tests g text [] l) (sym (first_line_at line none)) first;
   })
 
-  verdict : ((g : EditionRefusal) × FailsFirst line_tests g text [] line) ⊎ PassesEach line_tests text [] line
+  verdict : ((g : EditionRefusal) × LineFailsFirst line_tests g text [] line) ⊎ PassesEach line_tests text [] line
   verdict = try_each (λ f. PassesLine f text [] line) line_tests (all_of (λ f. Decided (PassesLine f text [] line)) (λ f. line_test f text [] line) line_tests)
 
   -- unless one fails, all pass
-  unless : ((g : EditionRefusal) → FailsFirst line_tests g text [] line → ⊥) → PassesEach line_tests text [] line
+  unless : ((g : EditionRefusal) → LineFailsFirst line_tests g text [] line → ⊥) → PassesEach line_tests text [] line
   unless never = elim verdict [ inl failing ↦ absurd (never failing.0 failing.1) | inr all ↦ all ]
 
   pub read_passes : (reading : ReadEdition) → IsReadEdition (line ++ 10 ∷ []) text reading → PassesEach line_tests text [] line
@@ -65,9 +65,9 @@ module _ (text line : List ℕ) (none : HasNo 10 line) (short : length text ≤ 
   pub whole_passes : (refusal : EditionRefusal) → IsFault (line ++ 10 ∷ []) text refusal None → PassesEach line_tests text [] line
   whole_passes refusal is = unless (λ g first. let same : (let none : Option ℕ = None in none) ≡ Some 1 = (one_fault (line ++ 10 ∷ []) text refusal g None (Some 1) is (fault_alone g first)).1 in cc)
 
-  pub line_fails : (refusal : EditionRefusal) (number : ℕ) → IsFault (line ++ 10 ∷ []) text refusal (Some number) → FailsFirst line_tests refusal text [] line
+  pub line_fails : (refusal : EditionRefusal) (number : ℕ) → IsFault (line ++ 10 ∷ []) text refusal (Some number) → LineFailsFirst line_tests refusal text [] line
   line_fails refusal number is = elim verdict [
-    | inl failing ↦ subst (λ f. FailsFirst line_tests f text [] line) (one_fault (line ++ 10 ∷ []) text failing.0 refusal (Some 1) (Some number) (fault_alone failing.0 failing.1) is).0 failing.1
+    | inl failing ↦ subst (λ f. LineFailsFirst line_tests f text [] line) (one_fault (line ++ 10 ∷ []) text failing.0 refusal (Some 1) (Some number) (fault_alone failing.0 failing.1) is).0 failing.1
     | inr all ↦ absurd (by_place is.tells all)
   ]
     where

@@ -7,18 +7,18 @@ use Rattle.std.specs.Str.{IsUtf8}
 use Rattle.dict_text.specs.Lines.{text_lines}
 use Rattle.dict_index.specs.Cuts.{HasNo, IsCutAt}
 use Rattle.dict_index.specs.Refusals.{line_tests}
-use Rattle.dict_index.specs.Refused.{PassesEach, FailsFirst, IsIndexFault}
+use Rattle.dict_index.specs.Refused.{PassesEach, LineFailsFirst, IsIndexFault}
 use Rattle.dict_index.specs.Tests.{EndsByLineFeed, line_at}
 use Rattle.dict_index.specs.declared.fault.IndexFault.{IndexFault}
 use Rattle.dict_index.proofs.CutLemmas.{utf8_parts, behind_seam}
 use Rattle.dict_index.proofs.TextLemmas.{first_line_cut}
 use Rattle.dict_index.proofs.PassLemmas.{IsNext, next_of, pass_more}
 use Rattle.dict_index.proofs.MeaningLemmas.{stop_fault}
-use Rattle.dict_reading.specs.Gathered.{HasGathered}
-use Rattle.dict_reading.specs.Lines.{FailsBehind, told_at}
+use Rattle.dict_reading.specs.Gathered.{HasGatheredPlaces}
+use Rattle.dict_reading.specs.Lines.{FailsBehind, line_told_at}
 use Rattle.dict_reading.specs.Reading.{HasRead}
-use Rattle.dict_reading.specs.declared.line.LineFault.{LineFault}
-use Rattle.dict_reading.specs.declared.line.LineFault.TheVariants.{Refused, Memory}
+use Rattle.dict_reading.specs.declared.line.EditionLineFault.{EditionLineFault}
+use Rattle.dict_reading.specs.declared.line.EditionLineFault.TheVariants.{Refused, Memory}
 use Rattle.dict_reading.specs.declared.reader.EditionReader.{EditionReader}
 
 no_seam : (b : ℕ) (xs ys : List ℕ) → HasNo b (xs ++ b ∷ ys) → ⊥
@@ -56,7 +56,7 @@ module _ (index text : List ℕ) (reader : EditionReader) (h : HasRead index tex
   this_line = next.at
 
   pub read_more : (after : EditionReader) → after.place ≡ reader.place + (length line + 1) → after.number ≡ reader.number + 1 →
-      HasGathered index text (take reader.number (text_lines index) ++ line ∷ []) after.gathered → PassesEach line_tests text (take reader.number (text_lines index)) line → HasRead index text after
+      HasGatheredPlaces index text (take reader.number (text_lines index) ++ line ∷ []) after.gathered → PassesEach line_tests text (take reader.number (text_lines index)) line → HasRead index text after
   read_more after place number gathers passes =
       let further : drop after.place index ≡ behind = ap (λ n. drop n index) place ∙ (sym (drop-drop (length line + 1) reader.place index) ∙ (ap (drop (length line + 1)) c.whole ∙ behind_seam line 10 behind)) in
       let there = next.there in
@@ -68,13 +68,13 @@ module _ (index text : List ℕ) (reader : EditionReader) (h : HasRead index tex
         within = omega (arith, place, within);
         rest = ap text_lines further ∙ (next.left ∙ ap (λ n. drop n (text_lines index)) (sym number));
         utf8 = subst IsUtf8 (sym further) (utf8_parts (drop reader.place index) line behind 10 c.whole (omega arith) h.utf8).1;
-        gathers = subst (λ ls. HasGathered index text ls after.gathered) (sym next.front ∙ ap (λ n. take n (text_lines index)) (sym number)) gathers;
+        gathers = subst (λ ls. HasGatheredPlaces index text ls after.gathered) (sym next.front ∙ ap (λ n. take n (text_lines index)) (sym number)) gathers;
       }
 
-  pub line_told : (fault : LineFault) (told : IndexFault) → told ≡ told_at fault (reader.number + 1) → FailsBehind fault text (take reader.number (text_lines index)) line → IsIndexFault told index text
+  pub line_told : (fault : EditionLineFault) (told : IndexFault) → told ≡ line_told_at fault (reader.number + 1) → FailsBehind fault text (take reader.number (text_lines index)) line → IsIndexFault told index text
   line_told (Refused refusal) told e f = subst (λ t. IsIndexFault t index text) (sym e) (stop_fault refusal index text reader.number h.wholes (record {
     there = next.there;
     before = h.passes;
-    first = subst (FailsFirst line_tests refusal text (take reader.number (text_lines index))) (sym next.at) f;
+    first = subst (LineFailsFirst line_tests refusal text (take reader.number (text_lines index))) (sym next.at) f;
   }))
   line_told Memory told e f = subst (λ t. IsIndexFault t index text) (sym e) tt

@@ -3,7 +3,7 @@ use Rattle.std.specs.Prelude.{◌≡◌, ◌≤◌, ℕ, List, length, take, dro
 use Rattle.std.specs.Str.{IsUtf8}
 use Rattle.dict_text.specs.Lines.{text_lines}
 use Rattle.dict_index.specs.Refused.{PassLines, PassWholes}
-use Rattle.dict_reading.specs.Gathered.{HasGathered}
+use Rattle.dict_reading.specs.Gathered.{HasGatheredPlaces}
 use Rattle.dict_reading.specs.declared.reader.EditionReader.{EditionReader}
 
 -- the files pass the tests of the whole; so many lines of this index were read over this text, and each passes its tests;
@@ -15,7 +15,7 @@ pub record HasRead (index text : List ℕ) (reader : EditionReader) : Type 0 whe
   pub within : reader.place ≤ length index
   pub rest : text_lines (drop reader.place index) ≡ drop reader.number (text_lines index)
   pub utf8 : IsUtf8 (drop reader.place index)
-  pub gathers : HasGathered index text (take reader.number (text_lines index)) reader.gathered
+  pub gathers : HasGatheredPlaces index text (take reader.number (text_lines index)) reader.gathered
 
 -- no line is left
 abbrev pub IsAtEnd : List ℕ → EditionReader → Type 0

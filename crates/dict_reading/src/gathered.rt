@@ -16,7 +16,7 @@ ghost use Rattle.dict_reading.specs.Lines.{FailsBehind};
 ghost use Rattle.dict_reading.specs.Places.{line_in, octets_at, LiesBelow};
 
 use crate::columns::said_in;
-use crate::line::{LineFault, test_line};
+use crate::line::{EditionLineFault, test_line};
 use crate::places::{EntryPlace, place_of};
 use dict_index::{EditionRefusal, cut_out};
 use dict_match::reserved_key_of;
@@ -26,7 +26,7 @@ use std::str;
 
 /// Where the lines so far say their entries, and the texts of the known reserved keys.
 #[derive(Drop)]
-pub(crate) struct Gathered {
+pub(crate) struct GatheredPlaces {
     pub entries: Vec<EntryPlace>,
     pub reserved: BTreeMap<String, EntryPlace>,
 }
@@ -49,47 +49,52 @@ pub(crate) fn as_text(octets: &[u8]) -> &str
     }
 }
 
-impl Gathered {
-    ghost use Rattle.dict_reading.specs.Gathered.{HasGathered, HasTextIn, IsTwice};
+impl GatheredPlaces {
+    ghost use Rattle.dict_reading.specs.Gathered.{HasGatheredPlaces, HasTextIn, IsTwice};
 
     /// Nothing yet.
     pub(crate) fn new(alloc: Global) -> Self
-        ensures { (index text : List ℕ) → HasGathered index text [] result }
+        ensures { (index text : List ℕ) → HasGatheredPlaces index text [] result }
     {
-        Gathered {
+        GatheredPlaces {
             entries: Vec::new(alloc),
             reserved: BTreeMap::new(alloc),
         }
     }
 
     // Adds where a line says its entry, or its text where its key is reserved. The line passes the tests of a first line.
-    fn add(&mut self, alloc: Global, headword: &str, place: EntryPlace) -> Result<(), LineFault>
+    fn add(
+        &mut self,
+        alloc: Global,
+        headword: &str,
+        place: EntryPlace,
+    ) -> Result<(), EditionLineFault>
         ensures added { OnOk result ((index text : List ℕ) (lines : List (List ℕ)) (line : List ℕ) → IsLine line (line_in index place) → (line_in index place).headword ≡ headword.now → LiesBelow (length index) place
-            → PassesEach line_tests text [] line → HasGathered index text lines self.old → HasGathered index text (lines ++ line ∷ []) self.new) }
+            → PassesEach line_tests text [] line → HasGatheredPlaces index text lines self.old → HasGatheredPlaces index text (lines ++ line ∷ []) self.new) }
         ensures once { OnOk result ((index text : List ℕ) (lines : List (List ℕ)) (line : List ℕ) → IsLine line (line_in index place) → (line_in index place).headword ≡ headword.now
-            → PassesEach line_tests text [] line → HasGathered index text lines self.old → PassesLine ReservedTwice text lines line) }
+            → PassesEach line_tests text [] line → HasGatheredPlaces index text lines self.old → PassesLine ReservedTwice text lines line) }
         ensures refused { IfErr result (λ fault. (index text : List ℕ) (lines : List (List ℕ)) (line : List ℕ) → IsLine line (line_in index place) → (line_in index place).headword ≡ headword.now
-            → PassesEach line_tests text [] line → HasGathered index text lines self.old → IsTwice fault text lines line) }
-        ensures kept { OnErr result ((index text : List ℕ) (lines : List (List ℕ)) → HasGathered index text lines self.old → HasGathered index text lines self.new) }
+            → PassesEach line_tests text [] line → HasGatheredPlaces index text lines self.old → IsTwice fault text lines line) }
+        ensures kept { OnErr result ((index text : List ℕ) (lines : List (List ℕ)) → HasGatheredPlaces index text lines self.old → HasGatheredPlaces index text lines self.new) }
     {
         let Ok(key) = reserved_key_of(alloc, headword) else {
-            return Err(LineFault::Memory);
+            return Err(EditionLineFault::Memory);
         };
         if !is_reserved_key(key.as_bytes()) {
             let Ok(()) = self.entries.push(place) else {
-                return Err(LineFault::Memory);
+                return Err(EditionLineFault::Memory);
             };
             return Ok(());
         }
         let name = as_text(key.as_bytes());
         if self.reserved.contains_key(name) {
-            return Err(LineFault::Refused(EditionRefusal::ReservedTwice));
+            return Err(EditionLineFault::Refused(EditionRefusal::ReservedTwice));
         }
         let Ok(owned) = String::from_str(alloc, name) else {
-            return Err(LineFault::Memory);
+            return Err(EditionLineFault::Memory);
         };
         let Ok(_) = self.reserved.insert(owned, place) else {
-            return Err(LineFault::Memory);
+            return Err(EditionLineFault::Memory);
         };
         Ok(())
     }
@@ -103,17 +108,17 @@ impl Gathered {
         line: &[u8],
         whole: &[u8],
         text: &[u8],
-    ) -> Result<usize, LineFault>
+    ) -> Result<usize, EditionLineFault>
         requires room { start + length line.now < 2 ^ 64 }
         requires whole { whole.now ≡ line.now ++ 10 ∷ [] }
         requires none { HasNo 10 line.now }
         requires utf8 { IsUtf8 whole.now }
         requires short { length text.now ≤ most_octets }
         ensures added { OnOk result ((index behind : List ℕ) (lines : List (List ℕ)) → drop start index ≡ line.now ++ behind → start + length line.now ≤ length index
-            → HasGathered index text.now lines self.old → HasGathered index text.now (lines ++ line.now ∷ []) self.new) }
-        ensures passes { OnOk result ((index behind : List ℕ) (lines : List (List ℕ)) → drop start index ≡ line.now ++ behind → HasGathered index text.now lines self.old → PassesEach line_tests text.now lines line.now) }
-        ensures refused { IfErr result (λ fault. (index behind : List ℕ) (lines : List (List ℕ)) → drop start index ≡ line.now ++ behind → HasGathered index text.now lines self.old → FailsBehind fault text.now lines line.now) }
-        ensures kept { OnErr result ((index text : List ℕ) (lines : List (List ℕ)) → HasGathered index text lines self.old → HasGathered index text lines self.new) }
+            → HasGatheredPlaces index text.now lines self.old → HasGatheredPlaces index text.now (lines ++ line.now ∷ []) self.new) }
+        ensures passes { OnOk result ((index behind : List ℕ) (lines : List (List ℕ)) → drop start index ≡ line.now ++ behind → HasGatheredPlaces index text.now lines self.old → PassesEach line_tests text.now lines line.now) }
+        ensures refused { IfErr result (λ fault. (index behind : List ℕ) (lines : List (List ℕ)) → drop start index ≡ line.now ++ behind → HasGatheredPlaces index text.now lines self.old → FailsBehind fault text.now lines line.now) }
+        ensures kept { OnErr result ((index text : List ℕ) (lines : List (List ℕ)) → HasGatheredPlaces index text lines self.old → HasGatheredPlaces index text lines self.new) }
         ensures size { IfOk result (λ size. ((said : Line) → IsLine line.now said → said.size ≡ size) × (size < 64 ^ 6)) }
     {
         if let Err(fault) = test_line(alloc, whole, text) {

@@ -12,13 +12,13 @@ use std::alloc::Global;
 
 /// Why a line is no line of an edition.
 #[derive(Clone, Copy, Debug, PartialEq, Eq)]
-pub(crate) enum LineFault {
+pub(crate) enum EditionLineFault {
     Refused(EditionRefusal),
     Memory,
 }
 
 // Whether a line, with its LF, passes the tests of a line, as if it were the first.
-pub(crate) fn test_line(alloc: Global, whole: &[u8], text: &[u8]) -> Result<(), LineFault>
+pub(crate) fn test_line(alloc: Global, whole: &[u8], text: &[u8]) -> Result<(), EditionLineFault>
     requires text { length text.now ≤ most_octets }
     requires utf8 { IsUtf8 whole.now }
     ensures passes { OnOk result ((line : List ℕ) → whole.now ≡ line ++ 10 ∷ [] → HasNo 10 line → PassesEach line_tests text.now [] line) }
@@ -26,13 +26,13 @@ pub(crate) fn test_line(alloc: Global, whole: &[u8], text: &[u8]) -> Result<(), 
 {
     match read_edition(alloc, whole, text) {
         Ok(_edition) => Ok(()),
-        Err(IndexFault::Memory) => Err(LineFault::Memory),
+        Err(IndexFault::Memory) => Err(EditionLineFault::Memory),
         Err(IndexFault::Refused { line: None, .. }) => Ok(()),
         Err(
             IndexFault::Refused {
                 refusal,
                 line: Some(_),
             },
-        ) => Err(LineFault::Refused(refusal)),
+        ) => Err(EditionLineFault::Refused(refusal)),
     }
 }

@@ -2,10 +2,10 @@
 ghost use Rattle.std.specs.Prelude.{◌≡◌, ◌↔◌, ◌+◌, ◌-◌, ◌<◌, ◌^◌, ℕ, List, IfErr, IfOk, OnErr, OnOk, IsTrue, length};
 ghost use Rattle.dict_index.specs.Meaning.{IsReadEdition};
 ghost use Rattle.dict_index.specs.Refused.{IsIndexFault};
-ghost use Rattle.dict_reading.specs.Lines.{told_at};
+ghost use Rattle.dict_reading.specs.Lines.{line_told_at};
 
-use crate::gathered::Gathered;
-use crate::line::LineFault;
+use crate::gathered::GatheredPlaces;
+use crate::line::EditionLineFault;
 use crate::reading::Reading;
 use crate::title::title_and_info;
 use dict_index::{IndexFault, cut_at, whole_refusal};
@@ -25,16 +25,16 @@ pub struct EditionReader {
     place: usize,
     // So many lines.
     number: usize,
-    gathered: Gathered,
+    gathered: GatheredPlaces,
 }
 
 // A line's fault, told with the line's number.
-fn at_line(fault: LineFault, number: usize) -> IndexFault
-    ensures { result ≡ told_at fault number }
+fn at_line(fault: EditionLineFault, number: usize) -> IndexFault
+    ensures { result ≡ line_told_at fault number }
 {
     match fault {
-        LineFault::Memory => IndexFault::Memory,
-        LineFault::Refused(refusal) => IndexFault::Refused {
+        EditionLineFault::Memory => IndexFault::Memory,
+        EditionLineFault::Refused(refusal) => IndexFault::Refused {
             refusal,
             line: Some(number),
         },
@@ -64,7 +64,7 @@ impl EditionReader {
             alloc,
             place: 0,
             number: 0,
-            gathered: Gathered::new(alloc),
+            gathered: GatheredPlaces::new(alloc),
         })
     }
 

@@ -2,11 +2,11 @@
 use denote.Ref.{Bor}
 use Rattle.std.specs.Prelude.{ℕ, ℤ, List, String, Vec, string_bytes}
 use Rattle.std.specs.declared.alloc.Global.{Global}
-use Rattle.dict_records.specs.Records.{Entry}
+use Rattle.dict_records.specs.Records.{EntryRecord}
 use Rattle.dict_records.specs.Typed.{lent}
 use Rattle.dict_records.specs.declared.keyed.KeyedEntry.{KeyedEntry as TypedEntry}
 use Rattle.dict_records.specs.declared.keyed.OldEntry.{OldEntry as TypedOld}
-use Rattle.dict_records.specs.declared.keyed.Word.{Word as TypedWord}
+use Rattle.dict_records.specs.declared.keyed.WordRecord.{WordRecord as TypedWord}
 use Rattle.dict_records.specs.declared.keyed.Gram.{Gram as TypedGram}
 
 -- a headword of an edition, where its body stands in the edition's text, its key, the key's octets in reverse order, and the
@@ -38,7 +38,7 @@ pub record Piece : Type 0 where
   pub ord : ℤ
 
 -- an entry without what was derived of it: its headword is shown
-abbrev pub plain_entry : OldEntry → Entry
+abbrev pub plain_entry : OldEntry → EntryRecord
 plain_entry e = record { edition = e.edition; ord = e.ord; headword = e.headword; start = e.start; length = e.length; shown = e.headword }
 
 -- Each takes what the octets of a text and of a blob are.

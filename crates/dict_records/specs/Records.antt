@@ -9,7 +9,7 @@ pub record Mark : Type 0 where
   pub installs : ℤ
 
 -- a database of the list; a virtual one has a title, and a regular one has editions
-pub record Item : Type 0 where
+pub record ItemRecord : Type 0 where
   pub place : ℤ
   pub name : List ℕ
   pub kind : ℤ
@@ -24,7 +24,7 @@ pub record Member : Type 0 where
   pub name : List ℕ
 
 -- an edition, with the text that its entries are cut from
-pub record Edition : Type 0 where
+pub record EditionRecord : Type 0 where
   pub number : ℤ
   pub owner : List ℕ
   pub title : List ℕ
@@ -32,13 +32,13 @@ pub record Edition : Type 0 where
   pub body : List ℕ
 
 -- an edition without its text
-pub record Header : Type 0 where
+pub record HeaderRecord : Type 0 where
   pub number : ℤ
   pub owner : List ℕ
   pub title : List ℕ
   pub info : List ℕ
 
-abbrev pub header_of : Edition → Header
+abbrev pub header_of : EditionRecord → HeaderRecord
 header_of e = record { number = e.number; owner = e.owner; title = e.title; info = e.info }
 
 -- a part of one of the two files of an edition: of which edition and which file it is, its number, and its octets
@@ -49,7 +49,7 @@ pub record Part : Type 0 where
   pub octets : List ℕ
 
 -- a headword of an edition, where its body stands in the edition's text, and the headword that is shown
-pub record Entry : Type 0 where
+pub record EntryRecord : Type 0 where
   pub edition : ℤ
   pub ord : ℤ
   pub headword : List ℕ
@@ -58,15 +58,15 @@ pub record Entry : Type 0 where
   pub shown : List ℕ
 
 -- it is shown by its headword, as each is in a table that has no column for what is shown
-abbrev pub ShowsHeadword : Entry → Type 0
+abbrev pub ShowsHeadword : EntryRecord → Type 0
 ShowsHeadword e = e.shown ≡ e.headword
 
 -- the same with what is shown
-abbrev pub shown_as : Entry → List ℕ → Entry
+abbrev pub shown_as : EntryRecord → List ℕ → EntryRecord
 shown_as e shown = record e { shown = shown }
 
 -- a reply that is kept for the id of its request
-pub record Kept : Type 0 where
+pub record KeptRecord : Type 0 where
   pub id : List ℕ
   pub number : ℤ
   pub verb : List ℕ

@@ -4,36 +4,36 @@ use Rattle.std.specs.Prelude.{ℕ, List, option_map, String, Vec, string_bytes}
 use Rattle.std.specs.declared.alloc.Global.{Global}
 use Rattle.dict_records.specs.Records as spec
 use Rattle.dict_records.specs.declared.records.Mark.{Mark}
-use Rattle.dict_records.specs.declared.records.Item.{Item}
+use Rattle.dict_records.specs.declared.records.ItemRecord.{ItemRecord}
 use Rattle.dict_records.specs.declared.records.Member.{Member}
-use Rattle.dict_records.specs.declared.records.Edition.{Edition}
-use Rattle.dict_records.specs.declared.records.Entry.{Entry}
-use Rattle.dict_records.specs.declared.records.Kept.{Kept}
-use Rattle.dict_records.specs.declared.records.Stored.{Stored}
-use Rattle.dict_records.specs.declared.headers.Header.{Header}
+use Rattle.dict_records.specs.declared.records.EditionRecord.{EditionRecord}
+use Rattle.dict_records.specs.declared.records.EntryRecord.{EntryRecord}
+use Rattle.dict_records.specs.declared.records.KeptRecord.{KeptRecord}
+use Rattle.dict_records.specs.declared.records.StoredRow.{StoredRow}
+use Rattle.dict_records.specs.declared.headers.HeaderRecord.{HeaderRecord}
 
 -- Each takes what the octets of a text are.
 
 abbrev pub mark_of : {T : Type 0} → (T → List ℕ) → Mark T → spec.Mark
 mark_of text r = record { id = r.id; magic = text r.magic; version = r.version; installs = r.installs }
 
-abbrev pub item_of : {T : Type 0} → (T → List ℕ) → Item T → spec.Item
+abbrev pub item_of : {T : Type 0} → (T → List ℕ) → ItemRecord T → spec.ItemRecord
 item_of text r = record { place = r.place; name = text r.name; kind = r.kind; title = option_map text r.title; current = r.current; former = r.former }
 
 abbrev pub member_of : {T : Type 0} → (T → List ℕ) → Member T → spec.Member
 member_of text r = record { owner = text r.owner; ord = r.ord; name = text r.name }
 
-abbrev pub edition_of : {T : Type 0} → {B : Type 0} → (T → List ℕ) → (B → List ℕ) → Edition T B → spec.Edition
-edition_of text octets r = record { number = r.number; owner = text r.owner; title = text r.title; info = text r.info; body = octets r.body }
+abbrev pub edition_record_of : {T : Type 0} → {B : Type 0} → (T → List ℕ) → (B → List ℕ) → EditionRecord T B → spec.EditionRecord
+edition_record_of text octets r = record { number = r.number; owner = text r.owner; title = text r.title; info = text r.info; body = octets r.body }
 
-abbrev pub header_with : {T : Type 0} → (T → List ℕ) → Header T → spec.Header
+abbrev pub header_with : {T : Type 0} → (T → List ℕ) → HeaderRecord T → spec.HeaderRecord
 header_with text r = record { number = r.number; owner = text r.owner; title = text r.title; info = text r.info }
 
 -- what is shown is the headword, since the record has no other
-abbrev pub entry_of : {T : Type 0} → (T → List ℕ) → Entry T → spec.Entry
-entry_of text r = record { edition = r.edition; ord = r.ord; headword = text r.headword; start = r.start; length = r.length; shown = text r.headword }
+abbrev pub entry_record_of : {T : Type 0} → (T → List ℕ) → EntryRecord T → spec.EntryRecord
+entry_record_of text r = record { edition = r.edition; ord = r.ord; headword = text r.headword; start = r.start; length = r.length; shown = text r.headword }
 
-abbrev pub kept_of : {T : Type 0} → (T → List ℕ) → Kept T → spec.Kept
+abbrev pub kept_of : {T : Type 0} → (T → List ℕ) → KeptRecord T → spec.KeptRecord
 kept_of text r = record { id = text r.id; number = r.number; verb = text r.verb; name = text r.name; edition = r.edition }
 
 -- a record that was read, whose texts are its own
@@ -41,22 +41,22 @@ kept_of text r = record { id = text r.id; number = r.number; verb = text r.verb;
 abbrev pub owned_mark : Mark (String Global) → spec.Mark
 owned_mark = mark_of string_bytes
 
-abbrev pub owned_item : Item (String Global) → spec.Item
+abbrev pub owned_item : ItemRecord (String Global) → spec.ItemRecord
 owned_item = item_of string_bytes
 
 abbrev pub owned_member : Member (String Global) → spec.Member
 owned_member = member_of string_bytes
 
-abbrev pub owned_edition : Edition (String Global) (Vec ℕ Global) → spec.Edition
-owned_edition = edition_of string_bytes (λ b. b.items)
+abbrev pub owned_edition : EditionRecord (String Global) (Vec ℕ Global) → spec.EditionRecord
+owned_edition = edition_record_of string_bytes (λ b. b.items)
 
-abbrev pub owned_header : Header (String Global) → spec.Header
+abbrev pub owned_header : HeaderRecord (String Global) → spec.HeaderRecord
 owned_header = header_with string_bytes
 
-abbrev pub owned_entry : Entry (String Global) → spec.Entry
-owned_entry = entry_of string_bytes
+abbrev pub owned_entry : EntryRecord (String Global) → spec.EntryRecord
+owned_entry = entry_record_of string_bytes
 
-abbrev pub owned_kept : Kept (String Global) → spec.Kept
+abbrev pub owned_kept : KeptRecord (String Global) → spec.KeptRecord
 owned_kept = kept_of string_bytes
 
 -- a record whose texts are borrowed
@@ -67,25 +67,25 @@ lent t = t.now
 abbrev pub lent_mark : Mark (Bor (List ℕ)) → spec.Mark
 lent_mark = mark_of lent
 
-abbrev pub lent_item : Item (Bor (List ℕ)) → spec.Item
+abbrev pub lent_item : ItemRecord (Bor (List ℕ)) → spec.ItemRecord
 lent_item = item_of lent
 
 abbrev pub lent_member : Member (Bor (List ℕ)) → spec.Member
 lent_member = member_of lent
 
-abbrev pub lent_edition : Edition (Bor (List ℕ)) (Bor (List ℕ)) → spec.Edition
-lent_edition = edition_of lent lent
+abbrev pub lent_edition : EditionRecord (Bor (List ℕ)) (Bor (List ℕ)) → spec.EditionRecord
+lent_edition = edition_record_of lent lent
 
-abbrev pub lent_header : Header (Bor (List ℕ)) → spec.Header
+abbrev pub lent_header : HeaderRecord (Bor (List ℕ)) → spec.HeaderRecord
 lent_header = header_with lent
 
-abbrev pub lent_entry : Entry (Bor (List ℕ)) → spec.Entry
-lent_entry = entry_of lent
+abbrev pub lent_entry : EntryRecord (Bor (List ℕ)) → spec.EntryRecord
+lent_entry = entry_record_of lent
 
-abbrev pub lent_kept : Kept (Bor (List ℕ)) → spec.Kept
+abbrev pub lent_kept : KeptRecord (Bor (List ℕ)) → spec.KeptRecord
 lent_kept = kept_of lent
 
 -- beside its rowid
 
-abbrev pub stored_as : {A : Type 0} → {B : Type 0} → (A → B) → Stored A → Stored B
-stored_as f s = record { rowid = s.rowid; value = f s.value }
+abbrev pub stored_row_as : {A : Type 0} → {B : Type 0} → (A → B) → StoredRow A → StoredRow B
+stored_row_as f s = record { rowid = s.rowid; value = f s.value }

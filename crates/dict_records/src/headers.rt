@@ -5,19 +5,19 @@ ghost use Rattle.dict_records.specs.Typed.{lent_header, owned_header};
 
 /// What is said of an edition, without its text.
 #[derive(Debug, PartialEq, Eq, Drop)]
-pub struct Header<T> {
+pub struct HeaderRecord<T> {
     pub number: i64,
     pub owner: T,
     pub title: T,
     pub info: T,
 }
 
-impl Header<String> {
+impl HeaderRecord<String> {
     /// The same, with its texts lent.
-    pub fn lend(&self) -> Header<&str>
+    pub fn lend(&self) -> HeaderRecord<&str>
         ensures { lent_header result ≡ owned_header self.now }
     {
-        Header {
+        HeaderRecord {
             number: self.number,
             owner: &self.owner,
             title: &self.title,

@@ -4,7 +4,7 @@ ghost use Rattle.std.specs.Prelude.{◌≡◌};
 ghost use Rattle.dict_records.specs.Keyed.{owned_old_entry, plain_entry};
 ghost use Rattle.dict_records.specs.Typed.{lent_entry};
 
-use crate::records::Entry;
+use crate::records::EntryRecord;
 
 /// A headword of an edition, where its body stands in the edition's text, its key, the key's octets in reverse order, and the headword that replies show.
 #[derive(Debug, PartialEq, Eq, Drop)]
@@ -33,7 +33,7 @@ pub struct OldEntry<T, B> {
 
 /// A word of the key of the entry at a place of an edition.
 #[derive(Debug, PartialEq, Eq, Drop)]
-pub struct Word<B> {
+pub struct WordRecord<B> {
     pub edition: i64,
     pub word: B,
     pub ord: i64,
@@ -49,10 +49,10 @@ pub struct Gram<B> {
 
 impl OldEntry<String, Vec<u8>> {
     /// The entry without what was derived of it, with its text lent.
-    pub fn lend_plain(&self) -> Entry<&str>
+    pub fn lend_plain(&self) -> EntryRecord<&str>
         ensures { lent_entry result ≡ plain_entry (owned_old_entry self.now) }
     {
-        Entry {
+        EntryRecord {
             edition: self.edition,
             ord: self.ord,
             headword: &self.headword,

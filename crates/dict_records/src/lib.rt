@@ -5,6 +5,6 @@ mod headers;
 mod keyed;
 mod records;
 
-pub use headers::Header;
-pub use keyed::{Gram, KeyedEntry, OldEntry, Word};
-pub use records::{Edition, Entry, Item, Kept, Mark, Member, Stored};
+pub use headers::HeaderRecord;
+pub use keyed::{Gram, KeyedEntry, OldEntry, WordRecord};
+pub use records::{EditionRecord, EntryRecord, ItemRecord, KeptRecord, Mark, Member, StoredRow};

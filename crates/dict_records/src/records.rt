@@ -5,7 +5,7 @@ ghost use Rattle.dict_records.specs.Typed.{lent_mark, lent_item, lent_member, le
 
 /// A record beside the rowid of the row that it stands in.
 #[derive(Debug, PartialEq, Eq, Drop)]
-pub struct Stored<R> {
+pub struct StoredRow<R> {
     pub rowid: i64,
     pub value: R,
 }
@@ -21,7 +21,7 @@ pub struct Mark<T> {
 
 /// A database of the list: a regular one, of kind 0, has its current and perhaps its former edition, a virtual one, of kind 1, its title.
 #[derive(Debug, PartialEq, Eq, Drop)]
-pub struct Item<T> {
+pub struct ItemRecord<T> {
     pub place: i64,
     pub name: T,
     pub kind: i64,
@@ -40,7 +40,7 @@ pub struct Member<T> {
 
 /// An edition, with the text that its entries are cut from: `&[u8]` where it is written, `Vec<u8>` where it was read.
 #[derive(Debug, PartialEq, Eq, Drop)]
-pub struct Edition<T, B> {
+pub struct EditionRecord<T, B> {
     pub number: i64,
     pub owner: T,
     pub title: T,
@@ -50,7 +50,7 @@ pub struct Edition<T, B> {
 
 /// A headword of an edition, and where its body stands in the edition's text.
 #[derive(Debug, PartialEq, Eq, Drop)]
-pub struct Entry<T> {
+pub struct EntryRecord<T> {
     pub edition: i64,
     pub ord: i64,
     pub headword: T,
@@ -60,7 +60,7 @@ pub struct Entry<T> {
 
 /// A reply that is kept for the id of its request.
 #[derive(Debug, PartialEq, Eq, Drop)]
-pub struct Kept<T> {
+pub struct KeptRecord<T> {
     pub id: T,
     pub number: i64,
     pub verb: T,
@@ -82,12 +82,12 @@ impl Mark<String> {
     }
 }
 
-impl Item<String> {
+impl ItemRecord<String> {
     /// The same record, with its texts lent.
-    pub fn lend(&self) -> Item<&str>
+    pub fn lend(&self) -> ItemRecord<&str>
         ensures { lent_item result ≡ owned_item self.now }
     {
-        Item {
+        ItemRecord {
             place: self.place,
             name: &self.name,
             kind: self.kind,
@@ -111,12 +111,12 @@ impl Member<String> {
     }
 }
 
-impl Edition<String, Vec<u8>> {
+impl EditionRecord<String, Vec<u8>> {
     /// The same record, with its texts lent.
-    pub fn lend(&self) -> Edition<&str, &[u8]>
+    pub fn lend(&self) -> EditionRecord<&str, &[u8]>
         ensures { lent_edition result ≡ owned_edition self.now }
     {
-        Edition {
+        EditionRecord {
             number: self.number,
             owner: &self.owner,
             title: &self.title,
@@ -126,12 +126,12 @@ impl Edition<String, Vec<u8>> {
     }
 }
 
-impl Entry<String> {
+impl EntryRecord<String> {
     /// The same record, with its text lent.
-    pub fn lend(&self) -> Entry<&str>
+    pub fn lend(&self) -> EntryRecord<&str>
         ensures { lent_entry result ≡ owned_entry self.now }
     {
-        Entry {
+        EntryRecord {
             edition: self.edition,
             ord: self.ord,
             headword: &self.headword,
@@ -141,12 +141,12 @@ impl Entry<String> {
     }
 }
 
-impl Kept<String> {
+impl KeptRecord<String> {
     /// The same record, with its texts lent.
-    pub fn lend(&self) -> Kept<&str>
+    pub fn lend(&self) -> KeptRecord<&str>
         ensures { lent_kept result ≡ owned_kept self.now }
     {
-        Kept {
+        KeptRecord {
             id: &self.id,
             number: self.number,
             verb: &self.verb,

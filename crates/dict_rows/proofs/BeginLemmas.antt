@@ -13,7 +13,7 @@ use Rattle.dict_rows.specs.Written.{numbered, mark_record, item_record}
 use Rattle.dict_rows.specs.Stands.{HoldsMembers, Stands}
 use Rattle.dict_rows.specs.Tests.{has_lawful_items}
 use Rattle.dict_rows.specs.Given.{AreRead, IsUnread}
-use Rattle.dict_rows.specs.Taken.{GoesOn, StandsForNone, begun, HoldsTitle, HoldsTitles, items_in, HasTaken}
+use Rattle.dict_rows.specs.Taken.{GoesOnFrom, StandsForNone, begun, HoldsTitle, HoldsTitles, items_in, HasTaken}
 use Rattle.dict_rows.specs.declared.reader.Reader.{Reader}
 use Rattle.dict_rows.proofs.OnceLemmas.{head_same}
 use Rattle.dict_rows.proofs.LawfulLemmas.{bare, pos_same, items_bare, lawful_alike, known_alike, each_itself, itself_each, AreLawful, true_lawful}
@@ -33,7 +33,7 @@ known_weaker : {A : Type 0} (xs : List (Item A)) (ys : List (Item Edition)) → 
 known_weaker xs ys e [] h = tt
 known_weaker xs ys e (row ∷ rows) h = (known_alike xs ys row.owner e ∙ h.0, known_weaker xs ys e rows h.1)
 
-pub begun_refused : (version installs : ℕ) (marks : List spec.Mark) (rows : List spec.Item) (members : List spec.Member) (items : List (Item (List ℕ))) →
+pub begun_refused : (version installs : ℕ) (marks : List spec.Mark) (rows : List spec.ItemRecord) (members : List spec.Member) (items : List (Item (List ℕ))) →
     marks ≡ mark_record version installs ∷ [] → AreRead 0 rows members items → (has_lawful_items installs items && list_all (λ row. is_known items row.owner) members) ≡ false → StandsForNone version (begun marks rows members)
 begun_refused version installs marks rows members items told read refused tables M goes stands =
     let held : AllByRecursion (HoldsMembers tables.members) items = subst (λ (ms : List spec.Member). AllByRecursion (HoldsMembers ms) items) (sym goes.members) read.held in
@@ -45,16 +45,16 @@ begun_refused version installs marks rows members items told read refused tables
     (itself_each (λ (row : spec.Member). is_known items row.owner) tables.members (known_weaker items M.items same tables.members stands.owners)) in
     false≢true (sym refused ∙ (λ i. lawful i && owned i))
 
-titles_unread : (marks : List spec.Mark) (rows : List spec.Item) (members : List spec.Member) (item : Item (List ℕ)) → IsUnread item → HoldsTitles (begun marks rows members) item
+titles_unread : (marks : List spec.Mark) (rows : List spec.ItemRecord) (members : List spec.Member) (item : Item (List ℕ)) → IsUnread item → HoldsTitles (begun marks rows members) item
 titles_unread marks rows members (regular name current None) h = (inl (h.0, (refl, refl)), tt)
 titles_unread marks rows members (regular name current (Some former)) h = (inl (h.0, (refl, refl)), (inl (h.1.0, (refl, refl)), tt))
 titles_unread marks rows members (virtual name title names) h = tt
 
-all_unread : (marks : List spec.Mark) (rows : List spec.Item) (members : List spec.Member) (items : List (Item (List ℕ))) → AllByRecursion IsUnread items → AllByRecursion (HoldsTitles (begun marks rows members)) items
+all_unread : (marks : List spec.Mark) (rows : List spec.ItemRecord) (members : List spec.Member) (items : List (Item (List ℕ))) → AllByRecursion IsUnread items → AllByRecursion (HoldsTitles (begun marks rows members)) items
 all_unread marks rows members [] h = tt
 all_unread marks rows members (item ∷ items) h = (titles_unread marks rows members item h.0, all_unread marks rows members items h.1)
 
-pub begun_taken : (version : ℕ) (reader : Reader) (marks : List spec.Mark) (rows : List spec.Item) (members : List spec.Member) → marks ≡ mark_record version reader.installs ∷ [] → AreRead 0 rows members (items_in reader) →
+pub begun_taken : (version : ℕ) (reader : Reader) (marks : List spec.Mark) (rows : List spec.ItemRecord) (members : List spec.Member) → marks ≡ mark_record version reader.installs ∷ [] → AreRead 0 rows members (items_in reader) →
     has_lawful_items reader.installs (items_in reader) ≡ true → list_all (λ row. is_known (items_in reader) row.owner) members ≡ true → reader.edition ≡ None → reader.accepted ≡ 0 → reader.installed ≡ 0 →
     HasTaken version reader (begun marks rows members)
 begun_taken version reader marks rows members told read lawful owned none zero zero' = record {

@@ -22,7 +22,7 @@ use Rattle.dict_catalogue.proofs.WellFormedLemmas.{step_well_formed}
 use Rattle.dict_rows.specs.Tables.{Tables, same_number, editions_numbered, entries_of}
 use Rattle.dict_rows.specs.Written.{numbered, mark_record, item_record, edition_record, entry_record, kept_record}
 use Rattle.dict_rows.specs.Stands.{HoldsMembers, IsWithin, HoldsEdition, HoldsEditions, has_number, Stands}
-use Rattle.dict_rows.specs.After.{all_members, Installed, TableChange, is_gone, installed_editions, installed_entries, tables_after, IsInstalledBy, IsChange}
+use Rattle.dict_rows.specs.After.{all_members, Installed, TableChange, is_gone, installed_editions, installed_entries, tables_after, IsInstalledBy, IsTableChange}
 use Rattle.dict_rows.proofs.TakenLemmas.{SameAt, holds_same, same_number_is, same_itself, nat_same, nat_itself}
 use Rattle.dict_rows.proofs.LawfulLemmas.{names_are, true_once}
 use Rattle.dict_rows.proofs.MemberLemmas.{all_with, own_members, own_owners, items_same, members_as}
@@ -54,55 +54,55 @@ fit_of number (place name at) edition h = fit_none number edition h
 
 editions_apart : (number n : ℕ) (edition : Option Installed) → IsFit number edition → n < number → editions_numbered (pos n) (installed_editions edition) ≡ []
 editions_apart number n None fit lt = refl
-editions_apart number n (Some new) fit lt = filter_none (λ (row : spec.Edition). same_number row.number (pos n)) (edition_record new.owner new.number new.reading ∷ []) (ap (λ m. same_number (pos m) (pos n)) fit.0 ∙ apart_numbers n number lt, tt)
+editions_apart number n (Some new) fit lt = filter_none (λ (row : spec.EditionRecord). same_number row.number (pos n)) (edition_record new.owner new.number new.reading ∷ []) (ap (λ m. same_number (pos m) (pos n)) fit.0 ∙ apart_numbers n number lt, tt)
 
 entries_apart : (number n : ℕ) (edition : Option Installed) → IsFit number edition → n < number → entries_of (pos n) (installed_entries edition) ≡ []
 entries_apart number n None fit lt = refl
 entries_apart number n (Some new) fit lt =
-    filter_none (λ (row : spec.Entry). same_number row.edition (pos n)) (numbered (entry_record new.number) 0 new.reading.lines)
-    (numbered_apart (entry_record new.number) (λ (row : spec.Entry). row.edition) new.number n (λ k x. refl) (ap (λ m. same_number (pos m) (pos n)) fit.0 ∙ apart_numbers n number lt) 0 new.reading.lines)
+    filter_none (λ (row : spec.EntryRecord). same_number row.edition (pos n)) (numbered (entry_record new.number) 0 new.reading.lines)
+    (numbered_apart (entry_record new.number) (λ (row : spec.EntryRecord). row.edition) new.number n (λ k x. refl) (ap (λ m. same_number (pos m) (pos n)) fit.0 ∙ apart_numbers n number lt) 0 new.reading.lines)
 
 -- ---- each edition after
 
 same_at : (version : ℕ) (change : TableChange) (old : Tables) (number n : ℕ) → IsFit number change.edition → n < number → is_gone change.gone (pos n) ≡ false → SameAt n old (tables_after version change old)
 same_at version change old number n fit lt stay = record {
-  editions = filter-append (λ (row : spec.Edition). same_number row.number (pos n)) (filter (λ (row : spec.Edition). not (is_gone change.gone row.number)) old.editions) (installed_editions change.edition)
-      ∙ (λ i. staying (λ (row : spec.Edition). row.number) change.gone (pos n) old.editions stay i ++ editions_apart number n change.edition fit lt i) ∙ append-nil (editions_numbered (pos n) old.editions);
-  entries = filter-append (λ (row : spec.Entry). same_number row.edition (pos n)) (filter (λ (row : spec.Entry). not (is_gone change.gone row.edition)) old.entries) (installed_entries change.edition)
-      ∙ (λ i. staying (λ (row : spec.Entry). row.edition) change.gone (pos n) old.entries stay i ++ entries_apart number n change.edition fit lt i) ∙ append-nil (entries_of (pos n) old.entries);
+  editions = filter-append (λ (row : spec.EditionRecord). same_number row.number (pos n)) (filter (λ (row : spec.EditionRecord). not (is_gone change.gone row.number)) old.editions) (installed_editions change.edition)
+      ∙ (λ i. staying (λ (row : spec.EditionRecord). row.number) change.gone (pos n) old.editions stay i ++ editions_apart number n change.edition fit lt i) ∙ append-nil (editions_numbered (pos n) old.editions);
+  entries = filter-append (λ (row : spec.EntryRecord). same_number row.edition (pos n)) (filter (λ (row : spec.EntryRecord). not (is_gone change.gone row.edition)) old.entries) (installed_entries change.edition)
+      ∙ (λ i. staying (λ (row : spec.EntryRecord). row.edition) change.gone (pos n) old.entries stay i ++ entries_apart number n change.edition fit lt i) ∙ append-nil (entries_of (pos n) old.entries);
 }
 
 -- no record before has the number of the edition that is installed
 abbrev pub IsFree : ℕ → Tables → Type 0
-IsFree number old = AllByRecursion (λ (row : spec.Edition). same_number row.number (pos number) ≡ false) old.editions × AllByRecursion (λ (row : spec.Entry). same_number row.edition (pos number) ≡ false) old.entries
+IsFree number old = AllByRecursion (λ (row : spec.EditionRecord). same_number row.number (pos number) ≡ false) old.editions × AllByRecursion (λ (row : spec.EntryRecord). same_number row.edition (pos number) ≡ false) old.entries
 
 new_holds : (version : ℕ) (change : TableChange) (old : Tables) (number : ℕ) (owner : List ℕ) (stored : Stored Edition) (edition : Option Installed) → change.edition ≡ edition → IsFit number edition → IsFree number old → IsNewOf edition owner stored → HoldsEdition (tables_after version change old) owner stored
 new_holds version change old number owner stored None e fit free new = absurd new
 new_holds version change old number owner stored (Some one) e fit free new =
     let is : stored.number ≡ number = new.1 ∙ fit.0 in
-    let staying_editions = filter (λ (row : spec.Edition). not (is_gone change.gone row.number)) old.editions in
-    let staying_entries = filter (λ (row : spec.Entry). not (is_gone change.gone row.edition)) old.entries in
-    let none : filter (λ (row : spec.Edition). same_number row.number (pos stored.number)) staying_editions ≡ [] =
-    filter_none (λ (row : spec.Edition). same_number row.number (pos stored.number)) staying_editions
-    (all_filter (λ (row : spec.Edition). same_number row.number (pos stored.number) ≡ false) (λ (row : spec.Edition). not (is_gone change.gone row.number)) old.editions
-    (subst (λ (n : ℕ). AllByRecursion (λ (row : spec.Edition). same_number row.number (pos n) ≡ false) old.editions) (sym is) free.0)) in
-    let none_too : filter (λ (row : spec.Entry). same_number row.edition (pos stored.number)) staying_entries ≡ [] =
-    filter_none (λ (row : spec.Entry). same_number row.edition (pos stored.number)) staying_entries
-    (all_filter (λ (row : spec.Entry). same_number row.edition (pos stored.number) ≡ false) (λ (row : spec.Entry). not (is_gone change.gone row.edition)) old.entries
-    (subst (λ (n : ℕ). AllByRecursion (λ (row : spec.Entry). same_number row.edition (pos n) ≡ false) old.entries) (sym is) free.1)) in
+    let staying_editions = filter (λ (row : spec.EditionRecord). not (is_gone change.gone row.number)) old.editions in
+    let staying_entries = filter (λ (row : spec.EntryRecord). not (is_gone change.gone row.edition)) old.entries in
+    let none : filter (λ (row : spec.EditionRecord). same_number row.number (pos stored.number)) staying_editions ≡ [] =
+    filter_none (λ (row : spec.EditionRecord). same_number row.number (pos stored.number)) staying_editions
+    (all_filter (λ (row : spec.EditionRecord). same_number row.number (pos stored.number) ≡ false) (λ (row : spec.EditionRecord). not (is_gone change.gone row.number)) old.editions
+    (subst (λ (n : ℕ). AllByRecursion (λ (row : spec.EditionRecord). same_number row.number (pos n) ≡ false) old.editions) (sym is) free.0)) in
+    let none_too : filter (λ (row : spec.EntryRecord). same_number row.edition (pos stored.number)) staying_entries ≡ [] =
+    filter_none (λ (row : spec.EntryRecord). same_number row.edition (pos stored.number)) staying_entries
+    (all_filter (λ (row : spec.EntryRecord). same_number row.edition (pos stored.number) ≡ false) (λ (row : spec.EntryRecord). not (is_gone change.gone row.edition)) old.entries
+    (subst (λ (n : ℕ). AllByRecursion (λ (row : spec.EntryRecord). same_number row.edition (pos n) ≡ false) old.entries) (sym is) free.1)) in
     record {
       reading = one.reading;
       says = new.2;
       short = fit.2;
       within = fit.1;
-      row = filter-append (λ (row : spec.Edition). same_number row.number (pos stored.number)) staying_editions (installed_editions change.edition)
+      row = filter-append (λ (row : spec.EditionRecord). same_number row.number (pos stored.number)) staying_editions (installed_editions change.edition)
           ∙ (λ i. none i ++ editions_numbered (pos stored.number) (installed_editions (e i)))
           ∙ ap (λ b. cond b (edition_record one.owner one.number one.reading ∷ []) []) (ap (λ n. same_number (pos one.number) (pos n)) new.1 ∙ same_itself (pos one.number))
           ∙ (λ i. edition_record (sym new.0 i) (sym new.1 i) one.reading ∷ []);
-      entries = filter-append (λ (row : spec.Entry). same_number row.edition (pos stored.number)) staying_entries (installed_entries change.edition)
+      entries = filter-append (λ (row : spec.EntryRecord). same_number row.edition (pos stored.number)) staying_entries (installed_entries change.edition)
           ∙ (λ i. none_too i ++ entries_of (pos stored.number) (installed_entries (e i)))
           ∙ ap (λ n. entries_of (pos n) (numbered (entry_record one.number) 0 one.reading.lines)) new.1
-          ∙ numbered_mine (entry_record one.number) (λ (row : spec.Entry). row.edition) (pos one.number) (λ k x. refl) 0 one.reading.lines
+          ∙ numbered_mine (entry_record one.number) (λ (row : spec.EntryRecord). row.edition) (pos one.number) (λ k x. refl) 0 one.reading.lines
           ∙ ap (λ n. numbered (entry_record n) 0 one.reading.lines) (sym new.1);
     }
 
@@ -195,8 +195,8 @@ old_each old installs items h range =
 
 pub free_of : (version : ℕ) (old : Tables) (M : Catalogue) → Stands version old M → IsFree (M.installs + 1) old
 free_of version old M h = (
-  all_weaker (λ (row : spec.Edition). IsTrue (has_number M.items row.number)) (λ (row : spec.Edition). same_number row.number (pos (M.installs + 1)) ≡ false) (λ row k. above_all M.installs (edition_numbers M.items) row.number h.well_formed.edition_range k) old.editions h.numbers,
-  all_weaker (λ (row : spec.Entry). IsTrue (has_number M.items row.edition)) (λ (row : spec.Entry). same_number row.edition (pos (M.installs + 1)) ≡ false) (λ row k. above_all M.installs (edition_numbers M.items) row.edition h.well_formed.edition_range k) old.entries h.entries,
+  all_weaker (λ (row : spec.EditionRecord). IsTrue (has_number M.items row.number)) (λ (row : spec.EditionRecord). same_number row.number (pos (M.installs + 1)) ≡ false) (λ row k. above_all M.installs (edition_numbers M.items) row.number h.well_formed.edition_range k) old.editions h.numbers,
+  all_weaker (λ (row : spec.EntryRecord). IsTrue (has_number M.items row.edition)) (λ (row : spec.EntryRecord). same_number row.edition (pos (M.installs + 1)) ≡ false) (λ row k. above_all M.installs (edition_numbers M.items) row.edition h.well_formed.edition_range k) old.entries h.entries,
 )
 
 -- the records that stay have numbers of the catalogue after
@@ -234,18 +234,18 @@ there number (retire name) edition M passed h = there_none _ edition h
 there number (put_virtual name title members) edition M passed h = there_none _ edition h
 there number (place name at) edition M passed h = there_none _ edition h
 
-editions_there : (after : List ℕ) (edition : Option Installed) → IsThere after edition → AllByRecursion (λ (row : spec.Edition). IsTrue (list_any (λ one. same_number (pos one) row.number) after)) (installed_editions edition)
+editions_there : (after : List ℕ) (edition : Option Installed) → IsThere after edition → AllByRecursion (λ (row : spec.EditionRecord). IsTrue (list_any (λ one. same_number (pos one) row.number) after)) (installed_editions edition)
 unfolding IsThere
 editions_there after None h = tt
 editions_there after (Some new) h = (h, tt)
 
-entries_there : (after : List ℕ) (edition : Option Installed) → IsThere after edition → AllByRecursion (λ (row : spec.Entry). IsTrue (list_any (λ one. same_number (pos one) row.edition) after)) (installed_entries edition)
+entries_there : (after : List ℕ) (edition : Option Installed) → IsThere after edition → AllByRecursion (λ (row : spec.EntryRecord). IsTrue (list_any (λ one. same_number (pos one) row.edition) after)) (installed_entries edition)
 unfolding IsThere
 entries_there after None h = tt
-entries_there after (Some new) h = numbered_all (λ (row : spec.Entry). IsTrue (list_any (λ one. same_number (pos one) row.edition) after)) (entry_record new.number) (λ n x. h) 0 new.reading.lines
+entries_there after (Some new) h = numbered_all (λ (row : spec.EntryRecord). IsTrue (list_any (λ one. same_number (pos one) row.edition) after)) (entry_record new.number) (λ n x. h) 0 new.reading.lines
 
 pub after_stands : (version : ℕ) (old : Tables) (M : Catalogue) (id : List ℕ) (command : Command Edition) (change : TableChange) → Stands version old M → IsLawfulCommand command → IsTrue (is_request_id id) → kept_under M.kept id ≡ None → refusal_of (holdings M) command ≡ None →
-    IsChange M id command change → Stands version (tables_after version change old) (with_effect M id command)
+    IsTableChange M id command change → Stands version (tables_after version change old) (with_effect M id command)
 after_stands version old M id command change h lawful named new passed is =
     let after = with_effect M id command in
     let well : IsWellFormed after = subst IsWellFormed (acted M id command named new passed) (step_well_formed M id command lawful h.well_formed) in
@@ -268,11 +268,11 @@ after_stands version old M id command change h lawful named new passed is =
           (λ item p q. all_with (λ stored. IsOld old M.installs (name_of item) stored ⊎ IsNewOf change.edition (name_of item) stored) (λ (stored : Stored Edition). is_gone change.gone (pos stored.number) ≡ false) (HoldsEdition (tables_after version change old) (name_of item))
           (λ stored a b. one_after version change old M.installs (name_of item) stored fit (free_of version old M h) b a) (editions_of item) p q)
           after.items each (by_edition (λ n. is_gone change.gone (pos n) ≡ false) after.items stay);
-      numbers = all_append (λ (row : spec.Edition). IsTrue (has_number after.items row.number)) (filter (λ (row : spec.Edition). not (is_gone change.gone row.number)) old.editions) (installed_editions change.edition)
-          (subst (λ (g : List ℕ). AllByRecursion (λ (row : spec.Edition). IsTrue (has_number after.items row.number)) (filter (λ (row : spec.Edition). not (is_gone g row.number)) old.editions)) (sym gone) (known_after (λ (row : spec.Edition). row.number) (edition_numbers M.items) numbers old.editions h.numbers))
+      numbers = all_append (λ (row : spec.EditionRecord). IsTrue (has_number after.items row.number)) (filter (λ (row : spec.EditionRecord). not (is_gone change.gone row.number)) old.editions) (installed_editions change.edition)
+          (subst (λ (g : List ℕ). AllByRecursion (λ (row : spec.EditionRecord). IsTrue (has_number after.items row.number)) (filter (λ (row : spec.EditionRecord). not (is_gone g row.number)) old.editions)) (sym gone) (known_after (λ (row : spec.EditionRecord). row.number) (edition_numbers M.items) numbers old.editions h.numbers))
           (editions_there numbers change.edition (there (M.installs + 1) command change.edition M passed is.edition));
-      entries = all_append (λ (row : spec.Entry). IsTrue (has_number after.items row.edition)) (filter (λ (row : spec.Entry). not (is_gone change.gone row.edition)) old.entries) (installed_entries change.edition)
-          (subst (λ (g : List ℕ). AllByRecursion (λ (row : spec.Entry). IsTrue (has_number after.items row.edition)) (filter (λ (row : spec.Entry). not (is_gone g row.edition)) old.entries)) (sym gone) (known_after (λ (row : spec.Entry). row.edition) (edition_numbers M.items) numbers old.entries h.entries))
+      entries = all_append (λ (row : spec.EntryRecord). IsTrue (has_number after.items row.edition)) (filter (λ (row : spec.EntryRecord). not (is_gone change.gone row.edition)) old.entries) (installed_entries change.edition)
+          (subst (λ (g : List ℕ). AllByRecursion (λ (row : spec.EntryRecord). IsTrue (has_number after.items row.edition)) (filter (λ (row : spec.EntryRecord). not (is_gone g row.edition)) old.entries)) (sym gone) (known_after (λ (row : spec.EntryRecord). row.edition) (edition_numbers M.items) numbers old.entries h.entries))
           (entries_there numbers change.edition (there (M.installs + 1) command change.edition M passed is.edition));
       kept = (λ i. h.kept i ++ kept_record (is.kept i) ∷ []) ∙ sym (map-append kept_record M.kept (record { id = id; reply = reply_to command (effect command (holdings M)) } ∷ []));
     }

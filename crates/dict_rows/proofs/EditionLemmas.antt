@@ -38,16 +38,16 @@ others : {A : Type 0} (items : List (Item A)) (number : ℕ) → count number (e
 others items number h = all_flat_map_parts (λ one. (one == number) ≡ false) numbers_of items (none_passes (λ one. one == number) (edition_numbers items) (none_of_sum (λ one. one == number) (edition_numbers items) h))
 
 -- one more record leaves what has another number
-same_beside : (taken : Tables) (row : spec.Edition) (number one : ℕ) → row.number ≡ pos number → (one == number) ≡ false → SameAt one taken (with_edition taken row)
+same_beside : (taken : Tables) (row : spec.EditionRecord) (number one : ℕ) → row.number ≡ pos number → (one == number) ≡ false → SameAt one taken (with_edition taken row)
 same_beside taken row number one e apart = record {
-  editions = filter_passes_not (λ (r : spec.Edition). same_number r.number (pos one)) taken.editions row (ap (λ n. same_number n (pos one)) e ∙ turned number one apart);
+  editions = filter_passes_not (λ (r : spec.EditionRecord). same_number r.number (pos one)) taken.editions row (ap (λ n. same_number n (pos one)) e ∙ turned number one apart);
   entries = refl;
 }
   where
     turned : (a b : ℕ) → (b == a) ≡ false → (a == b) ≡ false
     turned a b h = grind (arith, Rattle.std.proofs.lemmas.Bool.Decides.nat_tests)
 
-titles_beside : (taken : Tables) (row : spec.Edition) (number : ℕ) (items : List (Item (List ℕ))) → row.number ≡ pos number → count number (edition_numbers items) ≡ 0 →
+titles_beside : (taken : Tables) (row : spec.EditionRecord) (number : ℕ) (items : List (Item (List ℕ))) → row.number ≡ pos number → count number (edition_numbers items) ≡ 0 →
     AllByRecursion (HoldsTitles taken) items → AllByRecursion (HoldsTitles (with_edition taken row)) items
 titles_beside taken row number items e none h =
     both items (others items number none) h
@@ -59,7 +59,7 @@ titles_beside taken row number items e none h =
 -- ---- the edition itself
 
 -- what is read of an edition before its entries
-pub record IsNew (owner : List ℕ) (number : ℕ) (title : List ℕ) (row : spec.Edition) : Type 0 where
+pub record IsNew (owner : List ℕ) (number : ℕ) (title : List ℕ) (row : spec.EditionRecord) : Type 0 where
   pub reading : ReadEdition
   pub empty : reading.lines ≡ []
   pub is : row ≡ edition_record owner number reading
@@ -67,7 +67,7 @@ pub record IsNew (owner : List ℕ) (number : ℕ) (title : List ℕ) (row : spe
   pub short : length reading.text < 64 ^ 6
   pub lawful : IsWellFormedEdition (edition_of reading)
 
-taken_now : (taken : Tables) (owner : List ℕ) (number : ℕ) (title : List ℕ) (row : spec.Edition) → HasNone taken number → IsNew owner number title row → IsTaken (with_edition taken row) owner number title
+taken_now : (taken : Tables) (owner : List ℕ) (number : ℕ) (title : List ℕ) (row : spec.EditionRecord) → HasNone taken number → IsNew owner number title row → IsTaken (with_edition taken row) owner number title
 taken_now taken owner number title row none new = record {
   edition = edition_of new.reading;
   holds = record {
@@ -75,7 +75,7 @@ taken_now taken owner number title row none new = record {
     says = refl;
     short = new.short;
     within = subst (AllByRecursion (Rattle.dict_rows.specs.Stands.IsWithin new.reading.text)) (sym new.empty) tt;
-    row = filter_passes (λ (r : spec.Edition). same_number r.number (pos number)) taken.editions row (ap (λ (r : spec.Edition). same_number r.number (pos number)) new.is ∙ nat_itself number number refl)
+    row = filter_passes (λ (r : spec.EditionRecord). same_number r.number (pos number)) taken.editions row (ap (λ (r : spec.EditionRecord). same_number r.number (pos number)) new.is ∙ nat_itself number number refl)
         ∙ (λ i. none.0 i ++ new.is i ∷ []);
     entries = none.1 ∙ ap (numbered (entry_record number) 0) (sym new.empty);
   };
@@ -84,7 +84,7 @@ taken_now taken owner number title row none new = record {
 }
 
 -- the item that awaited it has it
-module _ (taken : Tables) (owner : List ℕ) (number : ℕ) (title : List ℕ) (row : spec.Edition) where
+module _ (taken : Tables) (owner : List ℕ) (number : ℕ) (title : List ℕ) (row : spec.EditionRecord) where
   one_titled : (name : List ℕ) (stored : Stored (List ℕ)) → IsNew name number title row → HoldsTitle taken name stored → is_awaited number stored ≡ true → HoldsTitle (with_edition taken row) name (with_title title stored)
   one_titled name stored new h awaited =
       let parts = and_parts (stored.number == number) (length stored.content == 0) awaited in
@@ -96,7 +96,7 @@ module _ (taken : Tables) (owner : List ℕ) (number : ℕ) (title : List ℕ) (
   other_kept name stored e apart h = title_same taken (with_edition taken row) name stored (same_beside taken row number stored.number e apart) h
 
   number_is : (name : List ℕ) → IsNew name number title row → row.number ≡ pos number
-  number_is name new = ap (λ (r : spec.Edition). r.number) new.is
+  number_is name new = ap (λ (r : spec.EditionRecord). r.number) new.is
 
   renamed : (name : List ℕ) → name ≡ owner → IsNew owner number title row → IsNew name number title row
   renamed name e new = subst (λ (n : List ℕ). IsNew n number title row) (sym e) new
@@ -159,7 +159,7 @@ awaited_counted owner number (regular name current (Some former)) waits = either
 awaited_counted owner number (virtual name title members) waits = absurd (false≢true waits)
 
 -- the items, of which one has the title now
-pub titles_taken : (taken : Tables) (owner : List ℕ) (number : ℕ) (title : List ℕ) (row : spec.Edition) (front : List (Item (List ℕ))) (item : Item (List ℕ)) (behind : List (Item (List ℕ))) →
+pub titles_taken : (taken : Tables) (owner : List ℕ) (number : ℕ) (title : List ℕ) (row : spec.EditionRecord) (front : List (Item (List ℕ))) (item : Item (List ℕ)) (behind : List (Item (List ℕ))) →
     IsNew owner number title row → awaits owner number item ≡ true → IsEachNumberOnce (edition_numbers (front ++ item ∷ behind)) → AllByRecursion (HoldsTitles taken) (front ++ item ∷ behind) →
     AllByRecursion (HoldsTitles (with_edition taken row)) (front ++ item_titled number title item ∷ behind)
 titles_taken taken owner number title row front item behind new waits once h =
@@ -167,7 +167,7 @@ titles_taken taken owner number title row front item behind new waits once h =
     let cut = numbers_cut front item behind number in
     let few : count number (edition_numbers front) + (count number (numbers_of item) + count number (edition_numbers behind)) ≤ 1 = subst (λ (n : ℕ). n ≤ 1) cut (once number) in
     let there : 1 ≤ count number (numbers_of item) = awaited_counted owner number item waits in
-    let e : row.number ≡ pos number = ap (λ (r : spec.Edition). r.number) new.is in
+    let e : row.number ≡ pos number = ap (λ (r : spec.EditionRecord). r.number) new.is in
     all_append (HoldsTitles (with_edition taken row)) front (item_titled number title item ∷ behind)
     (titles_beside taken row number front e (omega arith) parts.0)
     (item_taken taken owner number title row item new waits (omega arith) parts.1.0, titles_beside taken row number behind e (omega arith) parts.1.1)

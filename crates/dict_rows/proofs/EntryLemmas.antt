@@ -15,7 +15,7 @@ use Rattle.dict_rows.specs.Tables.{Tables, same_number, editions_numbered, entri
 use Rattle.dict_rows.specs.Written.{numbered, edition_record, entry_record}
 use Rattle.dict_rows.specs.Stands.{IsWithin, has_number, Stands}
 use Rattle.dict_rows.specs.Given.{IsEntry, IsNoEntry, IsLawfulLine}
-use Rattle.dict_rows.specs.Taken.{GoesOn, StandsForNone, IsTaken, HoldsTitle, HoldsTitles, IsLast, IsInHand, IsOfLast, items_in, HasTaken, with_edition, with_entry, next_entry}
+use Rattle.dict_rows.specs.Taken.{GoesOnFrom, StandsForNone, IsTaken, HoldsTitle, HoldsTitles, IsLast, IsInHand, IsOfLast, items_in, HasTaken, with_edition, with_entry, next_entry}
 use Rattle.dict_rows.specs.declared.reader.Reader.{Reader}
 use Rattle.dict_rows.specs.declared.reader.InHand.{InHand}
 use Rattle.dict_rows.proofs.OnceLemmas.{head_same, line_same}
@@ -26,9 +26,9 @@ use Rattle.dict_rows.proofs.FoundLemmas.{row_found}
 
 -- ---- an entry of the edition in hand
 
-module _ (taken : Tables) (row : spec.Entry) (hand : InHand) (is : IsEntry hand.number hand.entries hand.text.items row) (few : hand.entries < most_entries) (last : IsLast hand taken) where
+module _ (taken : Tables) (row : spec.EntryRecord) (hand : InHand) (is : IsEntry hand.number hand.entries hand.text.items row) (few : hand.entries < most_entries) (last : IsLast hand taken) where
   of_hand : row.edition ≡ pos hand.number
-  of_hand = ap (λ (r : spec.Entry). r.edition) is.is
+  of_hand = ap (λ (r : spec.EntryRecord). r.edition) is.is
 
   turned : (a b : ℕ) → (b == a) ≡ false → (a == b) ≡ false
   turned a b h = grind (arith, Rattle.std.proofs.lemmas.Bool.Decides.nat_tests)
@@ -36,18 +36,18 @@ module _ (taken : Tables) (row : spec.Entry) (hand : InHand) (is : IsEntry hand.
   beside : (number : ℕ) → (number == hand.number) ≡ false → SameAt number taken (with_entry taken row)
   beside number apart = record {
     editions = refl;
-    entries = filter_passes_not (λ (r : spec.Entry). same_number r.edition (pos number)) taken.entries row (ap (λ n. same_number n (pos number)) of_hand ∙ turned hand.number number apart);
+    entries = filter_passes_not (λ (r : spec.EntryRecord). same_number r.edition (pos number)) taken.entries row (ap (λ n. same_number n (pos number)) of_hand ∙ turned hand.number number apart);
   }
 
   -- the records of the edition in hand are not none
   shown : editions_numbered (pos hand.number) taken.editions ≡ editions_numbered (pos hand.number) last.front ++ last.row ∷ []
-  shown = ap (editions_numbered (pos hand.number)) last.last ∙ filter_passes (λ (r : spec.Edition). same_number r.number (pos hand.number)) last.front last.row (ap (λ n. same_number n (pos hand.number)) last.number ∙ same_itself (pos hand.number))
+  shown = ap (editions_numbered (pos hand.number)) last.last ∙ filter_passes (λ (r : spec.EditionRecord). same_number r.number (pos hand.number)) last.front last.row (ap (λ n. same_number n (pos hand.number)) last.number ∙ same_itself (pos hand.number))
 
-  not_none : (xs : List spec.Edition) (x : spec.Edition) → xs ++ x ∷ [] ≡ [] → ⊥
+  not_none : (xs : List spec.EditionRecord) (x : spec.EditionRecord) → xs ++ x ∷ [] ≡ [] → ⊥
   not_none [] x e = cc
   not_none (y ∷ xs) x e = cc
 
-  last_is : (xs : List spec.Edition) (x y : spec.Edition) → xs ++ x ∷ [] ≡ y ∷ [] → x ≡ y
+  last_is : (xs : List spec.EditionRecord) (x y : spec.EditionRecord) → xs ++ x ∷ [] ≡ y ∷ [] → x ≡ y
   last_is [] x y e = head_same _ _ _ _ e
   last_is (z ∷ []) x y e = absurd (cc)
   last_is (z ∷ w ∷ xs) x y e = absurd (cc)
@@ -56,7 +56,7 @@ module _ (taken : Tables) (row : spec.Entry) (hand : InHand) (is : IsEntry hand.
   longer owner title h =
       let reading = h.holds.reading in
       let same : last.row ≡ edition_record owner hand.number reading = last_is (editions_numbered (pos hand.number) last.front) last.row _ (sym shown ∙ h.holds.row) in
-      let text : reading.text ≡ hand.text.items = sym (ap (λ (r : spec.Edition). r.body) same) ∙ last.text in
+      let text : reading.text ≡ hand.text.items = sym (ap (λ (r : spec.EditionRecord). r.body) same) ∙ last.text in
       let many : length reading.lines ≡ hand.entries = sym (numbered_length (entry_record hand.number) 0 reading.lines) ∙ ap length (sym h.holds.entries) ∙ last.entries in
       let line = is.line in
       let more : ReadEdition = record { title = reading.title; info = reading.info; text = reading.text; lines = reading.lines ++ line ∷ [] } in
@@ -72,7 +72,7 @@ module _ (taken : Tables) (row : spec.Entry) (hand : InHand) (is : IsEntry hand.
           short = h.holds.short;
           within = all_push (IsWithin reading.text) reading.lines line h.holds.within within;
           row = h.holds.row;
-          entries = filter_passes (λ (r : spec.Entry). same_number r.edition (pos hand.number)) taken.entries row (ap (λ n. same_number n (pos hand.number)) of_hand ∙ same_itself (pos hand.number))
+          entries = filter_passes (λ (r : spec.EntryRecord). same_number r.edition (pos hand.number)) taken.entries row (ap (λ n. same_number n (pos hand.number)) of_hand ∙ same_itself (pos hand.number))
               ∙ (λ i. h.holds.entries i ++ is.is i ∷ [])
               ∙ ap (λ k. numbered (entry_record hand.number) 0 reading.lines ++ entry_record hand.number k line ∷ []) (sym many)
               ∙ sym (numbered_push (entry_record hand.number) reading.lines line);
@@ -103,13 +103,13 @@ module _ (taken : Tables) (row : spec.Entry) (hand : InHand) (is : IsEntry hand.
   all_titles [] h = tt
   all_titles (item ∷ items) h = (item_titles item h.0, all_titles items h.1)
 
-pub entry_taken : (version : ℕ) (old new : Reader) (taken : Tables) (row : spec.Entry) (hand hand' : InHand) → IsInHand (Some hand) taken → new.edition ≡ Some hand' →
+pub entry_taken : (version : ℕ) (old new : Reader) (taken : Tables) (row : spec.EntryRecord) (hand hand' : InHand) → IsInHand (Some hand) taken → new.edition ≡ Some hand' →
     items_in new ≡ items_in old → new.installs ≡ old.installs → new.accepted ≡ old.accepted → new.installed ≡ old.installed →
     hand'.number ≡ hand.number → hand'.text.items ≡ hand.text.items → hand'.entries ≡ hand.entries + 1 → IsEntry hand.number hand.entries hand.text.items row → hand.entries < most_entries →
     HasTaken version old taken → HasTaken version new (with_entry taken row)
 entry_taken version old new taken row hand hand' last held items installs accepted installed hn ht he is few h =
-    let known : has_number (items_in old) last.row.number ≡ true = (all_append_parts (λ (r : spec.Edition). IsTrue (has_number (items_in old) r.number)) last.front (last.row ∷ []) (subst (AllByRecursion (λ (r : spec.Edition). IsTrue (has_number (items_in old) r.number))) last.last h.numbers)).1.0 in
-    let here : has_number (items_in old) row.edition ≡ true = ap (has_number (items_in old)) (ap (λ (r : spec.Entry). r.edition) is.is ∙ sym last.number) ∙ known in
+    let known : has_number (items_in old) last.row.number ≡ true = (all_append_parts (λ (r : spec.EditionRecord). IsTrue (has_number (items_in old) r.number)) last.front (last.row ∷ []) (subst (AllByRecursion (λ (r : spec.EditionRecord). IsTrue (has_number (items_in old) r.number))) last.last h.numbers)).1.0 in
+    let here : has_number (items_in old) row.edition ≡ true = ap (has_number (items_in old)) (ap (λ (r : spec.EntryRecord). r.edition) is.is ∙ sym last.number) ∙ known in
     record {
       marks = h.marks ∙ ap (λ n. Rattle.dict_rows.specs.Written.mark_record version n ∷ []) (sym installs);
       items = h.items ∙ ap (numbered Rattle.dict_rows.specs.Written.item_record 0) (sym items);
@@ -117,9 +117,9 @@ entry_taken version old new taken row hand hand' last held items installs accept
       owners = subst (λ xs. AllByRecursion (λ (r : spec.Member). IsTrue (Rattle.dict_catalogue.specs.Items.is_known xs r.owner)) taken.members) (sym items) h.owners;
       lawful = (λ i. Rattle.dict_rows.specs.Tests.has_lawful_items (installs i) (items i)) ∙ h.lawful;
       titles = subst (AllByRecursion (HoldsTitles (with_entry taken row))) (sym items) (all_titles taken row hand is few last (items_in old) h.titles);
-      numbers = subst (λ xs. AllByRecursion (λ (r : spec.Edition). IsTrue (has_number xs r.number)) taken.editions) (sym items) h.numbers;
-      entries = subst (λ xs. AllByRecursion (λ (r : spec.Entry). IsTrue (has_number xs r.edition)) (taken.entries ++ row ∷ [])) (sym items)
-          (all_append (λ (r : spec.Entry). IsTrue (has_number (items_in old) r.edition)) taken.entries (row ∷ []) h.entries (here, tt));
+      numbers = subst (λ xs. AllByRecursion (λ (r : spec.EditionRecord). IsTrue (has_number xs r.number)) taken.editions) (sym items) h.numbers;
+      entries = subst (λ xs. AllByRecursion (λ (r : spec.EntryRecord). IsTrue (has_number xs r.edition)) (taken.entries ++ row ∷ [])) (sym items)
+          (all_append (λ (r : spec.EntryRecord). IsTrue (has_number (items_in old) r.edition)) taken.entries (row ∷ []) h.entries (here, tt));
       hand = subst (λ x. IsInHand x (with_entry taken row)) (sym held) (record {
         front = last.front;
         row = last.row;
@@ -127,7 +127,7 @@ entry_taken version old new taken row hand hand' last held items installs accept
         number = last.number ∙ ap pos (sym hn);
         text = last.text ∙ sym ht;
         entries = ap (λ n. length (entries_of (pos n) (taken.entries ++ row ∷ []))) hn
-            ∙ ap length (filter_passes (λ (r : spec.Entry). same_number r.edition (pos hand.number)) taken.entries row (ap (λ (r : spec.Entry). same_number r.edition (pos hand.number)) is.is ∙ same_itself (pos hand.number)))
+            ∙ ap length (filter_passes (λ (r : spec.EntryRecord). same_number r.edition (pos hand.number)) taken.entries row (ap (λ (r : spec.EntryRecord). same_number r.edition (pos hand.number)) is.is ∙ same_itself (pos hand.number)))
             ∙ length-append (entries_of (pos hand.number) taken.entries) (row ∷ []) ∙ ap (λ n. n + 1) last.entries ∙ sym he;
       });
       kept = subst (λ n. Rattle.dict_rows.specs.Taken.AreKept n new.installed taken.kept) (sym accepted) (subst (λ n. Rattle.dict_rows.specs.Taken.AreKept old.accepted n taken.kept) (sym installed) h.kept);
@@ -135,7 +135,7 @@ entry_taken version old new taken row hand hand' last held items installs accept
 
 -- ---- an entry that no tables have
 
-ends_same : (xs ys : List spec.Edition) (x y : spec.Edition) → xs ++ x ∷ [] ≡ ys ++ y ∷ [] → x ≡ y
+ends_same : (xs ys : List spec.EditionRecord) (x y : spec.EditionRecord) → xs ++ x ∷ [] ≡ ys ++ y ∷ [] → x ≡ y
 ends_same [] [] x y e = head_same _ _ _ _ e
 ends_same [] (b ∷ []) x y e = absurd (cc)
 ends_same [] (b ∷ d ∷ ys) x y e = absurd (cc)
@@ -151,26 +151,26 @@ lines_lawful text (line ∷ lines) w h = ((w.0, h.0), lines_lawful text lines w.
 as_long : {X : Type 0} (xs ys : List X) (x : X) → length ((xs ++ x ∷ []) ++ ys) ≡ (length xs + 1) + length ys
 as_long xs ys x = length-append (xs ++ x ∷ []) ys ∙ ap (λ n. n + length ys) (length-append xs (x ∷ []))
 
-pub entry_refused : (version : ℕ) (reader : Reader) (taken : Tables) (row : spec.Entry) (hand : InHand) → IsInHand (Some hand) taken → HasTaken version reader taken → IsOfLast taken row →
+pub entry_refused : (version : ℕ) (reader : Reader) (taken : Tables) (row : spec.EntryRecord) (hand : InHand) → IsInHand (Some hand) taken → HasTaken version reader taken → IsOfLast taken row →
     (IsNoEntry hand.number hand.entries hand.text.items row) ⊎ (most_entries ≤ hand.entries) → StandsForNone version (with_entry taken row)
 entry_refused version reader taken row hand last h of why tables M goes stands =
     let same : of.1 ≡ last.row = ends_same of.0 last.front of.1 last.row (sym of.2 ∙ last.last) in
-    let edition : row.edition ≡ pos hand.number = of.3 ∙ ap (λ (r : spec.Edition). r.number) same ∙ last.number in
+    let edition : row.edition ≡ pos hand.number = of.3 ∙ ap (λ (r : spec.EditionRecord). r.number) same ∙ last.number in
     let before : Tables = record { marks = taken.marks; items = taken.items; members = taken.members; editions = last.front; entries = taken.entries ++ row ∷ []; kept = taken.kept } in
-    let goes' : GoesOn (with_edition before last.row) tables = record {
+    let goes' : GoesOnFrom (with_edition before last.row) tables = record {
       marks = goes.marks;
       items = goes.items;
       members = goes.members;
-      editions = (λ number. subst (λ (es : List spec.Edition). Rattle.dict_rows.specs.Taken.BeginsWith (editions_numbered number tables.editions) (editions_numbered number es)) last.last (goes.editions number));
+      editions = (λ number. subst (λ (es : List spec.EditionRecord). Rattle.dict_rows.specs.Taken.BeginsWith (editions_numbered number tables.editions) (editions_numbered number es)) last.last (goes.editions number));
       entries = goes.entries;
       kept = goes.kept;
     } in
     let f = row_found version tables M before last.row stands goes' in
     let reading = f.found.holds.reading in
     let n : f.found.stored.number ≡ hand.number = pos_same _ _ (f.found.is ∙ last.number) in
-    let text : reading.text ≡ hand.text.items = sym (ap (λ (r : spec.Edition). r.body) f.is) ∙ last.text in
+    let text : reading.text ≡ hand.text.items = sym (ap (λ (r : spec.EditionRecord). r.body) f.is) ∙ last.text in
     let begins = goes.entries (pos hand.number) in
-    let push : entries_of (pos hand.number) (taken.entries ++ row ∷ []) ≡ entries_of (pos hand.number) taken.entries ++ row ∷ [] = filter_passes (λ (r : spec.Entry). same_number r.edition (pos hand.number)) taken.entries row (ap (λ k. same_number k (pos hand.number)) edition ∙ same_itself (pos hand.number)) in
+    let push : entries_of (pos hand.number) (taken.entries ++ row ∷ []) ≡ entries_of (pos hand.number) taken.entries ++ row ∷ [] = filter_passes (λ (r : spec.EntryRecord). same_number r.edition (pos hand.number)) taken.entries row (ap (λ k. same_number k (pos hand.number)) edition ∙ same_itself (pos hand.number)) in
     let whole : (entries_of (pos hand.number) taken.entries ++ row ∷ []) ++ begins.0 ≡ numbered (entry_record hand.number) 0 reading.lines =
     ap (λ xs. xs ++ begins.0) (sym push) ∙ sym begins.1 ∙ ap (λ k. entries_of (pos k) tables.entries) (sym n) ∙ f.found.holds.entries ∙ ap (λ k. numbered (entry_record k) 0 reading.lines) n in
     let lawful : IsWellFormedEdition (edition_of reading) = subst IsWellFormedEdition f.found.holds.says f.found.lawful in
@@ -190,7 +190,7 @@ entry_refused version reader taken row hand last h of why tables M goes stands =
 next_is : (taken : Tables) (number : ℕ) (line : Line) (hand : InHand) → IsLast hand taken → IsOfLast taken (next_entry taken number line) → next_entry taken number line ≡ entry_record hand.number hand.entries line
 next_is taken number line hand last of =
     let same : of.1 ≡ last.row = ends_same of.0 last.front of.1 last.row (sym of.2 ∙ last.last) in
-    let n : number ≡ hand.number = pos_same _ _ (of.3 ∙ ap (λ (r : spec.Edition). r.number) same ∙ last.number) in
+    let n : number ≡ hand.number = pos_same _ _ (of.3 ∙ ap (λ (r : spec.EditionRecord). r.number) same ∙ last.number) in
     let many : length (entries_of (pos number) taken.entries) ≡ hand.entries = ap (λ k. length (entries_of (pos k) taken.entries)) n ∙ last.entries in
     λ i. entry_record (n i) (many i) line
 

@@ -91,7 +91,7 @@ titles_records : (place : ℕ) (items : List (Item Edition)) → numbered item_r
 titles_records place [] = refl
 titles_records place (item ∷ items) = λ i. titles_record place item i ∷ titles_records (place + 1) items i
 
-pub ids_same : (replies : List KeptFor) → map (λ (row : spec.Kept). row.id) (map kept_record replies) ≡ map (λ kept. kept.id) replies
+pub ids_same : (replies : List KeptFor) → map (λ (row : spec.KeptRecord). row.id) (map kept_record replies) ≡ map (λ kept. kept.id) replies
 ids_same [] = refl
 ids_same (reply ∷ replies) = ap (λ ids. reply.id ∷ ids) (ids_same replies)
 
@@ -112,7 +112,7 @@ standing version reader taken h counted titled ids =
     let same : map bare (items_in reader) ≡ map bare m.whole = items_bare 0 taken.members (items_in reader) m.whole (sym h.items ∙ records) h.members members in
     let lawful = lawful_true reader.installs m.whole (sym (lawful_alike reader.installs (items_in reader) m.whole same) ∙ h.lawful) in
     let M : Catalogue = record { items = m.whole; kept = h.kept.replies; installs = reader.installs } in
-    let once : IsEachOnce (map (λ kept. kept.id) h.kept.replies) = subst IsEachOnce (ap (map (λ (row : spec.Kept). row.id)) h.kept.are ∙ ids_same h.kept.replies) ids in
+    let once : IsEachOnce (map (λ kept. kept.id) h.kept.replies) = subst IsEachOnce (ap (map (λ (row : spec.KeptRecord). row.id)) h.kept.are ∙ ids_same h.kept.replies) ids in
     record {
       catalogue = M;
       stands = record {
@@ -135,8 +135,8 @@ standing version reader taken h counted titled ids =
         members = members;
         owners = all_weaker (λ (row : spec.Member). IsTrue (is_known (items_in reader) row.owner)) (λ (row : spec.Member). IsTrue (is_known m.whole row.owner)) (λ row k. sym (known_alike (items_in reader) m.whole row.owner same) ∙ k) taken.members h.owners;
         editions = m.holds;
-        numbers = all_weaker (λ (row : spec.Edition). IsTrue (has_number (items_in reader) row.number)) (λ (row : spec.Edition). IsTrue (has_number m.whole row.number)) (λ row k. still (items_in reader) m.whole row.number same k) taken.editions h.numbers;
-        entries = all_weaker (λ (row : spec.Entry). IsTrue (has_number (items_in reader) row.edition)) (λ (row : spec.Entry). IsTrue (has_number m.whole row.edition)) (λ row k. still (items_in reader) m.whole row.edition same k) taken.entries h.entries;
+        numbers = all_weaker (λ (row : spec.EditionRecord). IsTrue (has_number (items_in reader) row.number)) (λ (row : spec.EditionRecord). IsTrue (has_number m.whole row.number)) (λ row k. still (items_in reader) m.whole row.number same k) taken.editions h.numbers;
+        entries = all_weaker (λ (row : spec.EntryRecord). IsTrue (has_number (items_in reader) row.edition)) (λ (row : spec.EntryRecord). IsTrue (has_number m.whole row.edition)) (λ row k. still (items_in reader) m.whole row.edition same k) taken.entries h.entries;
         kept = h.kept.are;
       };
       items = m.same;
@@ -161,11 +161,11 @@ counts version reader taken M h stands =
 present : (taken : Tables) (item : Item Edition) → HoldsEditions taken item → AllByRecursion (λ number. editions_numbered (pos number) taken.editions ≡ [] → ⊥) (numbers_of item)
 present taken (regular name current None) h = ((λ none. shown _ (sym h.0.row ∙ none)), tt)
   where
-    shown : (row : spec.Edition) → row ∷ [] ≡ [] → ⊥
+    shown : (row : spec.EditionRecord) → row ∷ [] ≡ [] → ⊥
     shown row e = cc
 present taken (regular name current (Some former)) h = ((λ none. shown _ (sym h.0.row ∙ none)), ((λ none. shown _ (sym h.1.0.row ∙ none)), tt))
   where
-    shown : (row : spec.Edition) → row ∷ [] ≡ [] → ⊥
+    shown : (row : spec.EditionRecord) → row ∷ [] ≡ [] → ⊥
     shown row e = cc
 present taken (virtual name title members) h = tt
 

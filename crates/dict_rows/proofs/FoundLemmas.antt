@@ -17,7 +17,7 @@ use Rattle.dict_rows.specs.Tables.{Tables, same_number, editions_numbered}
 use Rattle.dict_rows.specs.Written.{edition_record}
 use Rattle.dict_rows.specs.Stands.{HoldsEdition, HoldsEditions, has_number, Stands}
 use Rattle.dict_rows.specs.Titles.{is_awaited, awaits}
-use Rattle.dict_rows.specs.Taken.{GoesOn, HoldsTitle, HoldsTitles, with_edition}
+use Rattle.dict_rows.specs.Taken.{GoesOnFrom, HoldsTitle, HoldsTitles, with_edition}
 use Rattle.dict_rows.proofs.OnceLemmas.{head_same}
 use Rattle.dict_rows.proofs.LawfulLemmas.{bare}
 use Rattle.dict_rows.proofs.TakenLemmas.{same_number_is, same_itself, nat_same, nat_itself, filter_passes}
@@ -155,7 +155,7 @@ awaited_there taken owner number (item ∷ items) h none there =
 
 -- ---- a record among those of its number
 
-pub record IsFoundRow (tables : Tables) (taken : Tables) (row : spec.Edition) (items : List (Item Edition)) : Type 0 where
+pub record IsFoundRow (tables : Tables) (taken : Tables) (row : spec.EditionRecord) (items : List (Item Edition)) : Type 0 where
   pub found : Found tables items row.number
   pub none : editions_numbered row.number taken.editions ≡ []
   pub is : row ≡ edition_record found.owner found.stored.number found.holds.reading
@@ -165,14 +165,14 @@ alone [] more x y e = (refl, head_same _ _ _ _ e)
 alone (z ∷ []) more x y e = absurd (cc)
 alone (z ∷ w ∷ xs) more x y e = absurd (cc)
 
-pub row_found : (version : ℕ) (tables : Tables) (M : Catalogue) (taken : Tables) (row : spec.Edition) → Stands version tables M → GoesOn (with_edition taken row) tables → IsFoundRow tables taken row M.items
+pub row_found : (version : ℕ) (tables : Tables) (M : Catalogue) (taken : Tables) (row : spec.EditionRecord) → Stands version tables M → GoesOnFrom (with_edition taken row) tables → IsFoundRow tables taken row M.items
 row_found version tables M taken row stands goes =
-    let push : editions_numbered row.number (taken.editions ++ row ∷ []) ≡ editions_numbered row.number taken.editions ++ row ∷ [] = filter_passes (λ (r : spec.Edition). same_number r.number row.number) taken.editions row (same_itself row.number) in
+    let push : editions_numbered row.number (taken.editions ++ row ∷ []) ≡ editions_numbered row.number taken.editions ++ row ∷ [] = filter_passes (λ (r : spec.EditionRecord). same_number r.number row.number) taken.editions row (same_itself row.number) in
     let begins = goes.editions row.number in
     let whole : editions_numbered row.number tables.editions ≡ (editions_numbered row.number taken.editions ++ row ∷ []) ++ begins.0 = begins.1 ∙ ap (λ xs. xs ++ begins.0) push in
-    let all = subst (AllByRecursion (λ (r : spec.Edition). IsTrue (has_number M.items r.number))) whole (all_filter (λ (r : spec.Edition). IsTrue (has_number M.items r.number)) (λ (r : spec.Edition). same_number r.number row.number) tables.editions stands.numbers) in
-    let known : has_number M.items row.number ≡ true = (all_append_parts (λ (r : spec.Edition). IsTrue (has_number M.items r.number)) (editions_numbered row.number taken.editions) (row ∷ [])
-    (all_append_parts (λ (r : spec.Edition). IsTrue (has_number M.items r.number)) (editions_numbered row.number taken.editions ++ row ∷ []) begins.0 all).0).1.0 in
+    let all = subst (AllByRecursion (λ (r : spec.EditionRecord). IsTrue (has_number M.items r.number))) whole (all_filter (λ (r : spec.EditionRecord). IsTrue (has_number M.items r.number)) (λ (r : spec.EditionRecord). same_number r.number row.number) tables.editions stands.numbers) in
+    let known : has_number M.items row.number ≡ true = (all_append_parts (λ (r : spec.EditionRecord). IsTrue (has_number M.items r.number)) (editions_numbered row.number taken.editions) (row ∷ [])
+    (all_append_parts (λ (r : spec.EditionRecord). IsTrue (has_number M.items r.number)) (editions_numbered row.number taken.editions ++ row ∷ []) begins.0 all).0).1.0 in
     let found : Found tables M.items row.number = found_in tables M.items row.number known stands.editions stands.well_formed.editions in
     let one : editions_numbered row.number tables.editions ≡ edition_record found.owner found.stored.number found.holds.reading ∷ [] = ap (λ n. editions_numbered n tables.editions) (sym found.is) ∙ found.holds.row in
     let is = alone (editions_numbered row.number taken.editions) begins.0 row (edition_record found.owner found.stored.number found.holds.reading) (sym whole ∙ one) in

@@ -5,7 +5,7 @@ use Rattle.std.specs.declared.alloc.Global.{Global}
 use Rattle.dict_records.specs.Records as spec
 use Rattle.dict_records.specs.Typed.{owned_member}
 use Rattle.dict_records.specs.declared.records.Member.{Member}
-use Rattle.dict_records.specs.declared.records.Stored.{Stored as Row}
+use Rattle.dict_records.specs.declared.records.StoredRow.{StoredRow as Row}
 use Rattle.dict_rows.specs.Tables.{members_of_owner}
 use Rattle.dict_rows.specs.Written.{numbered, member_record}
 use Rattle.dict_rows.specs.Given.{members_given, OnDamage}

@@ -5,15 +5,15 @@ use Rattle.std.specs.declared.alloc.Global.{Global}
 use Rattle.std.proofs.lemmas.List.{length-map}
 use Rattle.dict_records.specs.Records as spec
 use Rattle.dict_records.specs.Typed.{owned_item}
-use Rattle.dict_records.specs.declared.records.Item.{Item as ItemRow}
-use Rattle.dict_records.specs.declared.records.Stored.{Stored as Row}
+use Rattle.dict_records.specs.declared.records.ItemRecord.{ItemRecord as ItemRow}
+use Rattle.dict_records.specs.declared.records.StoredRow.{StoredRow as Row}
 use Rattle.dict_index.specs.Edition.{Edition}
 use Rattle.dict_text.proofs.AllLemmas.{all_push}
 use Rattle.dict_catalogue.specs.Items.{Stored, Item, regular, virtual}
 use Rattle.dict_rows.specs.Tables.{members_of_owner}
 use Rattle.dict_rows.specs.Written.{numbered, item_record, member_record}
 use Rattle.dict_rows.specs.Stands.{HoldsMembers}
-use Rattle.dict_rows.specs.Given.{items_given, OnDamage, IsUnread, IsRead, AreRead, IsNotRegular, IsNotVirtual, IsNoItem, AreNoItems}
+use Rattle.dict_rows.specs.Given.{items_given, OnDamage, IsUnread, IsItemRead, AreRead, IsNotRegular, IsNotVirtual, IsNoItem, AreNoItems}
 use Rattle.dict_rows.specs.declared.fault.RowsFault.{RowsFault}
 use Rattle.dict_rows.specs.declared.fault.RowsFault.TheVariants.{Damaged, Memory}
 use Rattle.dict_rows.proofs.ListLemmas.{numbered_length, numbered_push, next_of_all, map_cut, map_next}
@@ -24,37 +24,37 @@ former_number : (former : Option (Stored Edition)) → option_map (λ stored. po
 former_number None = refl
 former_number (Some former) = refl
 
-pub former_told : (fault : RowsFault) (place : ℕ) (row : spec.Item) → OnDamage fault ((number : Option ℕ) → row.former ≡ option_map pos number → ⊥) → OnDamage fault (IsNotRegular place row)
-former_told Damaged place row h = λ name current former e. h (option_map (λ stored. stored.number) former) (ap (λ (r : spec.Item). r.former) e ∙ former_number former)
+pub former_told : (fault : RowsFault) (place : ℕ) (row : spec.ItemRecord) → OnDamage fault ((number : Option ℕ) → row.former ≡ option_map pos number → ⊥) → OnDamage fault (IsNotRegular place row)
+former_told Damaged place row h = λ name current former e. h (option_map (λ stored. stored.number) former) (ap (λ (r : spec.ItemRecord). r.former) e ∙ former_number former)
 former_told Memory place row h = tt
 
 zero_one : pos 0 ≡ pos 1 → ⊥
 zero_one e = cc
 
-not_virtual : (place : ℕ) (row : spec.Item) (members : List spec.Member) → (row.kind ≡ pos 0 → ⊥) → IsNotVirtual place row → IsNoItem place row members
-not_virtual place row members kind h (regular name current former) e held = kind (ap (λ (r : spec.Item). r.kind) e)
+not_virtual : (place : ℕ) (row : spec.ItemRecord) (members : List spec.Member) → (row.kind ≡ pos 0 → ⊥) → IsNotVirtual place row → IsNoItem place row members
+not_virtual place row members kind h (regular name current former) e held = kind (ap (λ (r : spec.ItemRecord). r.kind) e)
 not_virtual place row members kind h (virtual name title names) e held = h name title names e
 
-not_regular : (place : ℕ) (row : spec.Item) (members : List spec.Member) → row.kind ≡ pos 0 → IsNotRegular place row → IsNoItem place row members
+not_regular : (place : ℕ) (row : spec.ItemRecord) (members : List spec.Member) → row.kind ≡ pos 0 → IsNotRegular place row → IsNoItem place row members
 not_regular place row members kind h (regular name current former) e held = h name current former e
-not_regular place row members kind h (virtual name title names) e held = zero_one (sym kind ∙ ap (λ (r : spec.Item). r.kind) e)
+not_regular place row members kind h (virtual name title names) e held = zero_one (sym kind ∙ ap (λ (r : spec.ItemRecord). r.kind) e)
 
-pub virtual_told : (place : ℕ) (row : spec.Item) (members : List spec.Member) → (row.kind ≡ pos 0 → ⊥) → (fault : RowsFault) → OnDamage fault (IsNotVirtual place row) → OnDamage fault (IsNoItem place row members)
+pub virtual_told : (place : ℕ) (row : spec.ItemRecord) (members : List spec.Member) → (row.kind ≡ pos 0 → ⊥) → (fault : RowsFault) → OnDamage fault (IsNotVirtual place row) → OnDamage fault (IsNoItem place row members)
 virtual_told place row members kind Damaged h = not_virtual place row members kind h
 virtual_told place row members kind Memory h = tt
 
-pub regular_told : (place : ℕ) (row : spec.Item) (members : List spec.Member) → row.kind ≡ pos 0 → (fault : RowsFault) → OnDamage fault (IsNotRegular place row) → OnDamage fault (IsNoItem place row members)
+pub regular_told : (place : ℕ) (row : spec.ItemRecord) (members : List spec.Member) → row.kind ≡ pos 0 → (fault : RowsFault) → OnDamage fault (IsNotRegular place row) → OnDamage fault (IsNoItem place row members)
 regular_told place row members kind Damaged h = not_regular place row members kind h
 regular_told place row members kind Memory h = tt
 
 -- a regular item has no members
-pub members_told : (place : ℕ) (row : spec.Item) (members : List spec.Member) (names : List (List ℕ)) → row.kind ≡ pos 0 →
+pub members_told : (place : ℕ) (row : spec.ItemRecord) (members : List spec.Member) (names : List (List ℕ)) → row.kind ≡ pos 0 →
     members_of_owner row.name members ≡ numbered (member_record row.name) 0 names → (length names ≡ 0 → ⊥) → IsNoItem place row members
 members_told place row members names kind found many (regular name current former) e held =
-    let named : row.name ≡ name = ap (λ (r : spec.Item). r.name) e in
+    let named : row.name ≡ name = ap (λ (r : spec.ItemRecord). r.name) e in
     let none : members_of_owner row.name members ≡ [] = subst (λ (n : List ℕ). members_of_owner n members ≡ []) (sym named) held in
     many (sym (numbered_length (member_record row.name) 0 names) ∙ ap length (sym found ∙ none))
-members_told place row members names kind found many (virtual name title list) e held = zero_one (sym kind ∙ ap (λ (r : spec.Item). r.kind) e)
+members_told place row members names kind found many (virtual name title list) e held = zero_one (sym kind ∙ ap (λ (r : spec.ItemRecord). r.kind) e)
 
 -- all records
 
@@ -69,7 +69,7 @@ no_item_told Memory rows members i row lt is many h = tt
 
 pub next_item : (rows : List (Row (ItemRow (String Global)))) (members : List spec.Member) (i : ℕ) (row : Row (ItemRow (String Global))) (items after : List (Item (List ℕ))) (item : Item (List ℕ)) →
     i < length rows → row ≡ get_or rows i row → length items ≡ i → after ≡ items ++ item ∷ [] →
-    AreRead 0 (items_given (take i rows)) members items → IsRead i (owned_item row.value) members item → AreRead 0 (items_given (take (i + 1) rows)) members after
+    AreRead 0 (items_given (take i rows)) members items → IsItemRead i (owned_item row.value) members item → AreRead 0 (items_given (take (i + 1) rows)) members after
 next_item rows members i row items after item lt is many push done one = subst (AreRead 0 (items_given (take (i + 1) rows)) members) (sym push) (record {
   are = map_next (λ (r : Row (ItemRow (String Global))). owned_item r.value) rows i row lt is
       ∙ (λ j. done.are j ++ one.is j ∷ [])

@@ -13,7 +13,7 @@ use Rattle.dict_rows.specs.Tables.{Tables}
 use Rattle.dict_rows.specs.Written.{kept_record}
 use Rattle.dict_rows.specs.Stands.{Stands}
 use Rattle.dict_rows.specs.Given.{IsReply, IsNoReply}
-use Rattle.dict_rows.specs.Taken.{GoesOn, StandsForNone, AreKept, HasTaken, with_kept}
+use Rattle.dict_rows.specs.Taken.{GoesOnFrom, StandsForNone, AreKept, HasTaken, with_kept}
 use Rattle.dict_rows.specs.declared.reader.Reader.{Reader}
 use Rattle.dict_rows.proofs.OnceLemmas.{head_same, tail_same}
 
@@ -24,7 +24,7 @@ numbered_more n (one ∷ replies) reply h e = (h.0, numbered_more (n + 1) replie
 counted : (installed : ℕ) (verb : Verb) (b : Bool) → is_install verb ≡ b → installed + (cond (is_install verb) 1 0 + 0) ≡ installed + cond b 1 0
 counted installed verb b e = ap (λ c. installed + (cond c 1 0 + 0)) e ∙ (let z : cond b 1 0 + 0 ≡ cond b 1 0 = omega arith in ap (λ n. installed + n) z)
 
-pub kept_more : (accepted installed : ℕ) (rows : List spec.Kept) (row : spec.Kept) (verb : Verb) (b : Bool) → AreKept accepted installed rows → accepted < 9223372036854775807 → IsReply (accepted + 1) verb row → is_install verb ≡ b → AreKept (accepted + 1) (installed + cond b 1 0) (rows ++ row ∷ [])
+pub kept_more : (accepted installed : ℕ) (rows : List spec.KeptRecord) (row : spec.KeptRecord) (verb : Verb) (b : Bool) → AreKept accepted installed rows → accepted < 9223372036854775807 → IsReply (accepted + 1) verb row → is_install verb ≡ b → AreKept (accepted + 1) (installed + cond b 1 0) (rows ++ row ∷ [])
 kept_more accepted installed rows row verb b h few is e = record {
   replies = h.replies ++ is.reply ∷ [];
   are = (λ i. h.are i ++ is.is i ∷ []) ∙ sym (map-append kept_record h.replies (is.reply ∷ []));
@@ -35,7 +35,7 @@ kept_more accepted installed rows row verb b h few is e = record {
   installs = sum_append (λ kept. cond (is_install kept.reply.verb) 1 0) h.replies (is.reply ∷ []) ∙ (λ i. h.installs i + (cond (is_install (is.did i)) 1 0 + 0)) ∙ counted installed verb b e;
 }
 
-pub kept_taken : (version : ℕ) (old new : Reader) (taken : Tables) (row : spec.Kept) → new.edition ≡ old.edition → new.items ≡ old.items → new.installs ≡ old.installs →
+pub kept_taken : (version : ℕ) (old new : Reader) (taken : Tables) (row : spec.KeptRecord) → new.edition ≡ old.edition → new.items ≡ old.items → new.installs ≡ old.installs →
     AreKept new.accepted new.installed (taken.kept ++ row ∷ []) → HasTaken version old taken → HasTaken version new (with_kept taken row)
 kept_taken version old new taken row edition items installs kept h =
     let shown = ap (λ xs. map Rattle.dict_catalogue.specs.Views.item_shown xs.items) items in
@@ -46,8 +46,8 @@ kept_taken version old new taken row edition items installs kept h =
       owners = subst (λ xs. AllByRecursion (λ (r : spec.Member). Rattle.std.specs.Prelude.IsTrue (Rattle.dict_catalogue.specs.Items.is_known xs r.owner)) taken.members) (sym shown) h.owners;
       lawful = (λ i. Rattle.dict_rows.specs.Tests.has_lawful_items (installs i) (shown i)) ∙ h.lawful;
       titles = subst (AllByRecursion (Rattle.dict_rows.specs.Taken.HoldsTitles (with_kept taken row))) (sym shown) (titles_same (Rattle.dict_rows.specs.Taken.items_in old) h.titles);
-      numbers = subst (λ xs. AllByRecursion (λ (r : spec.Edition). Rattle.std.specs.Prelude.IsTrue (Rattle.dict_rows.specs.Stands.has_number xs r.number)) taken.editions) (sym shown) h.numbers;
-      entries = subst (λ xs. AllByRecursion (λ (r : spec.Entry). Rattle.std.specs.Prelude.IsTrue (Rattle.dict_rows.specs.Stands.has_number xs r.edition)) taken.entries) (sym shown) h.entries;
+      numbers = subst (λ xs. AllByRecursion (λ (r : spec.EditionRecord). Rattle.std.specs.Prelude.IsTrue (Rattle.dict_rows.specs.Stands.has_number xs r.number)) taken.editions) (sym shown) h.numbers;
+      entries = subst (λ xs. AllByRecursion (λ (r : spec.EntryRecord). Rattle.std.specs.Prelude.IsTrue (Rattle.dict_rows.specs.Stands.has_number xs r.edition)) taken.entries) (sym shown) h.entries;
       hand = subst (λ x. Rattle.dict_rows.specs.Taken.IsInHand x (with_kept taken row)) (sym edition) (same_hand old.edition h.hand);
       kept = kept;
     }
@@ -67,7 +67,7 @@ kept_taken version old new taken row edition items installs kept h =
     titles_same [] h = tt
     titles_same (item ∷ items) h = (item_same item h.0, titles_same items h.1)
 
-next_reply : (n : ℕ) (replies : List KeptFor) (zs more : List spec.Kept) (row : spec.Kept) → AllByRecursion IsLawfulReply replies → IsNumberedFrom n replies → zs ++ row ∷ more ≡ map kept_record replies →
+next_reply : (n : ℕ) (replies : List KeptFor) (zs more : List spec.KeptRecord) (row : spec.KeptRecord) → AllByRecursion IsLawfulReply replies → IsNumberedFrom n replies → zs ++ row ∷ more ≡ map kept_record replies →
     (reply : KeptFor) × (row ≡ kept_record reply) × IsLawfulReply reply × (reply.reply.number ≡ n + length zs)
 next_reply n [] [] more row h k e = absurd (cc)
 next_reply n [] (z ∷ zs) more row h k e = absurd (cc)
@@ -76,7 +76,7 @@ next_reply n (reply ∷ replies) (z ∷ zs) more row h k e =
     let rest = next_reply (n + 1) replies zs more row h.1 k.1 (tail_same _ _ _ _ e) in
     (rest.0, rest.1, rest.2, rest.3 ∙ (let z : (n + 1) + length zs ≡ n + suc (length zs) = omega arith in z))
 
-pub kept_refused : (version : ℕ) (reader : Reader) (taken : Tables) (row : spec.Kept) → HasTaken version reader taken → (IsNoReply (reader.accepted + 1) row) ⊎ (9223372036854775807 ≤ reader.accepted) → StandsForNone version (with_kept taken row)
+pub kept_refused : (version : ℕ) (reader : Reader) (taken : Tables) (row : spec.KeptRecord) → HasTaken version reader taken → (IsNoReply (reader.accepted + 1) row) ⊎ (9223372036854775807 ≤ reader.accepted) → StandsForNone version (with_kept taken row)
 kept_refused version reader taken row h why tables M goes stands =
     let whole : (taken.kept ++ row ∷ []) ++ goes.kept.0 ≡ map kept_record M.kept = sym goes.kept.1 ∙ stands.kept in
     let next = next_reply 1 M.kept taken.kept goes.kept.0 row stands.well_formed.replies stands.well_formed.numbered (sym (append_assoc taken.kept (row ∷ []) goes.kept.0) ∙ whole) in

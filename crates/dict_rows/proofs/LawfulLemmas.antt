@@ -96,15 +96,15 @@ former_bare (Some x) (Some y) e = let n : x.number ≡ y.number = pos_same _ _ (
 
 item_bare : {A B : Type 0} (place : ℕ) (members : List spec.Member) (x : Item A) (y : Item B) → item_record place x ≡ item_record place y → HoldsMembers members x → HoldsMembers members y → bare x ≡ bare y
 item_bare place members (regular m c f) (regular n d g) e a b =
-    let names : m ≡ n = ap (λ (r : spec.Item). r.name) e in
-    let numbers : c.number ≡ d.number = pos_same _ _ (some_same _ _ (ap (λ (r : spec.Item). r.current) e)) in
-    let formers = former_bare f g (ap (λ (r : spec.Item). r.former) e) in
+    let names : m ≡ n = ap (λ (r : spec.ItemRecord). r.name) e in
+    let numbers : c.number ≡ d.number = pos_same _ _ (some_same _ _ (ap (λ (r : spec.ItemRecord). r.current) e)) in
+    let formers = former_bare f g (ap (λ (r : spec.ItemRecord). r.former) e) in
     λ i. regular (names i) (record { number = numbers i; content = tt }) (formers i)
-item_bare place members (regular m c f) (virtual n t ms) e a b = absurd (let kinds : pos 0 ≡ pos 1 = ap (λ (r : spec.Item). r.kind) e in cc)
-item_bare place members (virtual m t ms) (regular n d g) e a b = absurd (let kinds : pos 1 ≡ pos 0 = ap (λ (r : spec.Item). r.kind) e in cc)
+item_bare place members (regular m c f) (virtual n t ms) e a b = absurd (let kinds : pos 0 ≡ pos 1 = ap (λ (r : spec.ItemRecord). r.kind) e in cc)
+item_bare place members (virtual m t ms) (regular n d g) e a b = absurd (let kinds : pos 1 ≡ pos 0 = ap (λ (r : spec.ItemRecord). r.kind) e in cc)
 item_bare {A} {B} place members (virtual m s ls) (virtual n t ms) e a b =
-    let names : m ≡ n = ap (λ (r : spec.Item). r.name) e in
-    let titles : s ≡ t = some_same _ _ (ap (λ (r : spec.Item). r.title) e) in
+    let names : m ≡ n = ap (λ (r : spec.ItemRecord). r.name) e in
+    let titles : s ≡ t = some_same _ _ (ap (λ (r : spec.ItemRecord). r.title) e) in
     let there : HoldsMembers {A = B} members (virtual m t ms) = subst (λ (name : List ℕ). HoldsMembers {A = B} members (virtual name t ms)) (sym names) b in
     let lists : ls ≡ ms = numbered_same (member_record m) (λ k x y h. ap (λ (r : spec.Member). r.name) h) 0 ls ms (sym a ∙ there) in
     λ i. virtual (names i) (titles i) (lists i)

@@ -3,7 +3,7 @@ use Rattle.std.proofs.Common.{◌≡◌, ℕ, ◌+◌, ◌*◌, false, List, [],
 use Rattle.std.proofs.lemmas.Bool.{false≢true}
 use Rattle.std.specs.Prelude.{pos, map, option_map}
 use Rattle.std.specs.List.{AllByRecursion}
-use Rattle.dict_records.specs.Records.{Mark, Item as ItemRecord, Member, Edition as EditionRecord, Entry as EntryRecord, Kept}
+use Rattle.dict_records.specs.Records.{Mark, ItemRecord, Member, EditionRecord, EntryRecord, KeptRecord}
 use Rattle.dict_index.specs.Line.{Line}
 use Rattle.dict_index.specs.Edition.{Edition, ReadEdition, edition_of}
 use Rattle.dict_catalogue.specs.Items.{Stored, Item, regular, virtual, editions_of}
@@ -107,12 +107,12 @@ verb_same Place Place e = refl
 
 pub kept_same : (x y : KeptFor) → kept_record x ≡ kept_record y → x ≡ y
 kept_same x y e =
-    let numbers : x.reply.number ≡ y.reply.number = pos_same _ _ (ap (λ (r : Kept). r.number) e) in
-    let verbs : x.reply.verb ≡ y.reply.verb = verb_same _ _ (ap (λ (r : Kept). r.verb) e) in
-    let editions : x.reply.edition ≡ y.reply.edition = number_same _ _ (ap (λ (r : Kept). r.edition) e) in
+    let numbers : x.reply.number ≡ y.reply.number = pos_same _ _ (ap (λ (r : KeptRecord). r.number) e) in
+    let verbs : x.reply.verb ≡ y.reply.verb = verb_same _ _ (ap (λ (r : KeptRecord). r.verb) e) in
+    let editions : x.reply.edition ≡ y.reply.edition = number_same _ _ (ap (λ (r : KeptRecord). r.edition) e) in
     λ i. record {
-      id = ap (λ (r : Kept). r.id) e i;
-      reply = record { number = numbers i; verb = verbs i; name = ap (λ (r : Kept). r.name) e i; edition = editions i };
+      id = ap (λ (r : KeptRecord). r.id) e i;
+      reply = record { number = numbers i; verb = verbs i; name = ap (λ (r : KeptRecord). r.name) e i; edition = editions i };
     }
 
 -- an edition, an item, all items

@@ -250,13 +250,13 @@ kept_from : (n : ℕ) (replies : List KeptFor) → IsNumberedFrom n replies → 
 kept_from n [] h = tt
 kept_from n (one ∷ replies) h = (
   (n, ap pos h.0, let le : n ≤ n = omega arith in le),
-  all_weaker (λ (row : spec.Kept). (m : ℕ) × (row.number ≡ pos m) × (n + 1 ≤ m)) (λ row. (m : ℕ) × (row.number ≡ pos m) × (n ≤ m)) (λ row g. (g.0, g.1, let above : n + 1 ≤ g.0 = g.2 in omega arith)) (map kept_record replies) (kept_from (n + 1) replies h.1),
+  all_weaker (λ (row : spec.KeptRecord). (m : ℕ) × (row.number ≡ pos m) × (n + 1 ≤ m)) (λ row. (m : ℕ) × (row.number ≡ pos m) × (n ≤ m)) (λ row g. (g.0, g.1, let above : n + 1 ≤ g.0 = g.2 in omega arith)) (map kept_record replies) (kept_from (n + 1) replies h.1),
 )
 
-pub kept_rise : (n : ℕ) (replies : List KeptFor) → IsNumberedFrom n replies → InOrder (λ (a b : spec.Kept). Below a.number b.number) (map kept_record replies)
+pub kept_rise : (n : ℕ) (replies : List KeptFor) → IsNumberedFrom n replies → InOrder (λ (a b : spec.KeptRecord). Below a.number b.number) (map kept_record replies)
 kept_rise n [] h = tt
 kept_rise n (one ∷ replies) h = (
-  all_weaker (λ (row : spec.Kept). (m : ℕ) × (row.number ≡ pos m) × (n + 1 ≤ m)) (λ row. Below (pos one.reply.number) row.number) (λ row g. below_from (pos one.reply.number) n row.number (ap pos h.0) g) (map kept_record replies) (kept_from (n + 1) replies h.1),
+  all_weaker (λ (row : spec.KeptRecord). (m : ℕ) × (row.number ≡ pos m) × (n + 1 ≤ m)) (λ row. Below (pos one.reply.number) row.number) (λ row g. below_from (pos one.reply.number) n row.number (ap pos h.0) g) (map kept_record replies) (kept_from (n + 1) replies h.1),
   kept_rise (n + 1) replies h.1,
 )
 
@@ -276,23 +276,23 @@ members_same old new item same order h =
     let strict = subst (InOrder (λ (a b : spec.Member). Below a.ord b.ord)) (sym h) (numbered_rise (member_record owner) (λ (row : spec.Member). row.ord) (λ n x. refl) 0 (members_of item)) in
     sym (ordered_once (λ (row : spec.Member). row.ord) (members_of_owner owner old) (members_of_owner owner new) mine strict rising) ∙ h
 
-edition_same : (old new : Tables) (owner : List ℕ) (stored : Stored Edition) → Same old.editions new.editions → Same old.entries new.entries → InOrder (λ (a b : spec.Entry). a.edition ≡ b.edition → a.ord ≤ℤ b.ord) new.entries →
+edition_same : (old new : Tables) (owner : List ℕ) (stored : Stored Edition) → Same old.editions new.editions → Same old.entries new.entries → InOrder (λ (a b : spec.EntryRecord). a.edition ≡ b.edition → a.ord ≤ℤ b.ord) new.entries →
     HoldsEdition old owner stored → HoldsEdition new owner stored
 edition_same old new owner stored editions entries order h =
     let number = pos stored.number in
-    let rows = same_passed (λ (row : spec.Edition). same_number row.number number) old.editions new.editions editions in
-    let mine = same_passed (λ (row : spec.Entry). same_number row.edition number) old.entries new.entries entries in
-    let rising : InOrder (λ (a b : spec.Entry). a.ord ≤ℤ b.ord) (entries_of number new.entries) =
-    order_given (λ (row : spec.Entry). same_number row.edition number ≡ true) (λ (a b : spec.Entry). a.edition ≡ b.edition → a.ord ≤ℤ b.ord) (λ (a b : spec.Entry). a.ord ≤ℤ b.ord) (λ a b x y r. r (same_number_is a.edition number x ∙ sym (same_number_is b.edition number y)))
-    (entries_of number new.entries) (all_passed (λ (row : spec.Entry). same_number row.edition number) new.entries) (order_passed (λ (a b : spec.Entry). a.edition ≡ b.edition → a.ord ≤ℤ b.ord) (λ (row : spec.Entry). same_number row.edition number) new.entries order) in
-    let strict = subst (InOrder (λ (a b : spec.Entry). Below a.ord b.ord)) (sym h.entries) (numbered_rise (entry_record stored.number) (λ (row : spec.Entry). row.ord) (λ n x. refl) 0 h.reading.lines) in
+    let rows = same_passed (λ (row : spec.EditionRecord). same_number row.number number) old.editions new.editions editions in
+    let mine = same_passed (λ (row : spec.EntryRecord). same_number row.edition number) old.entries new.entries entries in
+    let rising : InOrder (λ (a b : spec.EntryRecord). a.ord ≤ℤ b.ord) (entries_of number new.entries) =
+    order_given (λ (row : spec.EntryRecord). same_number row.edition number ≡ true) (λ (a b : spec.EntryRecord). a.edition ≡ b.edition → a.ord ≤ℤ b.ord) (λ (a b : spec.EntryRecord). a.ord ≤ℤ b.ord) (λ a b x y r. r (same_number_is a.edition number x ∙ sym (same_number_is b.edition number y)))
+    (entries_of number new.entries) (all_passed (λ (row : spec.EntryRecord). same_number row.edition number) new.entries) (order_passed (λ (a b : spec.EntryRecord). a.edition ≡ b.edition → a.ord ≤ℤ b.ord) (λ (row : spec.EntryRecord). same_number row.edition number) new.entries order) in
+    let strict = subst (InOrder (λ (a b : spec.EntryRecord). Below a.ord b.ord)) (sym h.entries) (numbered_rise (entry_record stored.number) (λ (row : spec.EntryRecord). row.ord) (λ n x. refl) 0 h.reading.lines) in
     record {
       reading = h.reading;
       says = h.says;
       short = h.short;
       within = h.within;
       row = one_once _ _ (subst (λ rows. Same rows (editions_numbered number new.editions)) h.row rows);
-      entries = sym (ordered_once (λ (row : spec.Entry). row.ord) (entries_of number old.entries) (entries_of number new.entries) mine strict rising) ∙ h.entries;
+      entries = sym (ordered_once (λ (row : spec.EntryRecord). row.ord) (entries_of number old.entries) (entries_of number new.entries) mine strict rising) ∙ h.entries;
     }
 
 pub all_same : {X : Type 0} (P : X → Type 0) (xs ys : List X) → IsPermutation xs ys → AllByRecursion P xs → AllByRecursion P ys
@@ -302,15 +302,15 @@ pub ordered_stands : (version : ℕ) (old new : Tables) (M : Catalogue) → Have
 ordered_stands version old new M same order h = record {
   well_formed = h.well_formed;
   marks = one_once _ _ (subst (λ rows. Same rows new.marks) h.marks (same_from old.marks new.marks same.marks));
-  items = sym (ordered_once (λ (row : spec.Item). row.place) old.items new.items (same_from old.items new.items same.items)
-      (subst (InOrder (λ (a b : spec.Item). Below a.place b.place)) (sym h.items) (numbered_rise item_record (λ (row : spec.Item). row.place) item_placed 0 M.items)) order.items) ∙ h.items;
+  items = sym (ordered_once (λ (row : spec.ItemRecord). row.place) old.items new.items (same_from old.items new.items same.items)
+      (subst (InOrder (λ (a b : spec.ItemRecord). Below a.place b.place)) (sym h.items) (numbered_rise item_record (λ (row : spec.ItemRecord). row.place) item_placed 0 M.items)) order.items) ∙ h.items;
   members = all_weaker (HoldsMembers old.members) (HoldsMembers new.members) (λ item g. members_same old.members new.members item (same_from old.members new.members same.members) order.members g) M.items h.members;
   owners = all_same (λ (row : spec.Member). IsTrue (is_known M.items row.owner)) old.members new.members same.members h.owners;
   editions = all_weaker (HoldsEditions old) (HoldsEditions new)
       (λ item g. all_weaker (HoldsEdition old (name_of item)) (HoldsEdition new (name_of item)) (λ stored k. edition_same old new (name_of item) stored (same_from old.editions new.editions same.editions) (same_from old.entries new.entries same.entries) order.entries k)
       (editions_of item) g) M.items h.editions;
-  numbers = all_same (λ (row : spec.Edition). IsTrue (has_number M.items row.number)) old.editions new.editions same.editions h.numbers;
-  entries = all_same (λ (row : spec.Entry). IsTrue (has_number M.items row.edition)) old.entries new.entries same.entries h.entries;
-  kept = sym (ordered_once (λ (row : spec.Kept). row.number) old.kept new.kept (same_from old.kept new.kept same.kept)
-      (subst (InOrder (λ (a b : spec.Kept). Below a.number b.number)) (sym h.kept) (kept_rise 1 M.kept h.well_formed.numbered)) order.kept) ∙ h.kept;
+  numbers = all_same (λ (row : spec.EditionRecord). IsTrue (has_number M.items row.number)) old.editions new.editions same.editions h.numbers;
+  entries = all_same (λ (row : spec.EntryRecord). IsTrue (has_number M.items row.edition)) old.entries new.entries same.entries h.entries;
+  kept = sym (ordered_once (λ (row : spec.KeptRecord). row.number) old.kept new.kept (same_from old.kept new.kept same.kept)
+      (subst (InOrder (λ (a b : spec.KeptRecord). Below a.number b.number)) (sym h.kept) (kept_rise 1 M.kept h.well_formed.numbered)) order.kept) ∙ h.kept;
 }

@@ -75,8 +75,8 @@ numbers_more key numbers number all read part new done next =
     subst (λ xs. IsPermutation xs (read ++ part)) (sym (filter_alike (λ x. is_of (numbers ++ number ∷ []) (key x)) (λ x. is_of numbers (key x) || same_number (key x) number) (λ x. of_more numbers number (key x)) all))
     (parts_together (λ x. is_of numbers (key x)) (λ x. same_number (key x) number) (λ x. of_apart numbers number (key x) new) all read part done next)
 
-pub editions_more : (numbers : List ℤ) (number : ℤ) (all read part : List spec.Edition) → is_of numbers number ≡ false → IsPermutation (editions_of_numbers numbers all) read → IsPermutation (editions_numbered number all) part → IsPermutation (editions_of_numbers (numbers ++ number ∷ []) all) (read ++ part)
-editions_more = numbers_more (λ (row : spec.Edition). row.number)
+pub editions_more : (numbers : List ℤ) (number : ℤ) (all read part : List spec.EditionRecord) → is_of numbers number ≡ false → IsPermutation (editions_of_numbers numbers all) read → IsPermutation (editions_numbered number all) part → IsPermutation (editions_of_numbers (numbers ++ number ∷ []) all) (read ++ part)
+editions_more = numbers_more (λ (row : spec.EditionRecord). row.number)
 
-pub entries_more : (numbers : List ℤ) (number : ℤ) (all read part : List spec.Entry) → is_of numbers number ≡ false → IsPermutation (entries_of_numbers numbers all) read → IsPermutation (entries_of number all) part → IsPermutation (entries_of_numbers (numbers ++ number ∷ []) all) (read ++ part)
-entries_more = numbers_more (λ (row : spec.Entry). row.edition)
+pub entries_more : (numbers : List ℤ) (number : ℤ) (all read part : List spec.EntryRecord) → is_of numbers number ≡ false → IsPermutation (entries_of_numbers numbers all) read → IsPermutation (entries_of number all) part → IsPermutation (entries_of_numbers (numbers ++ number ∷ []) all) (read ++ part)
+entries_more = numbers_more (λ (row : spec.EntryRecord). row.edition)

@@ -6,7 +6,7 @@ use Rattle.dict_text.specs.Names.{is_name, is_request_id}
 use Rattle.dict_records.specs.Records as spec
 use Rattle.dict_records.specs.Typed.{owned_mark}
 use Rattle.dict_records.specs.declared.records.Mark.{Mark}
-use Rattle.dict_records.specs.declared.records.Stored.{Stored as Row}
+use Rattle.dict_records.specs.declared.records.StoredRow.{StoredRow as Row}
 use Rattle.dict_index.specs.Line.{Line}
 use Rattle.dict_index.specs.WellFormed.{IsEntryHeadword, IsEntryShown, IsEditionText}
 use Rattle.dict_catalogue.specs.WellFormed.{tells_edition}
@@ -23,7 +23,7 @@ line_told text body line within cut lawful headword shown = record {
   lawful = record { headword = headword; shown = shown; body = subst IsEditionText cut lawful };
 }
 
-pub entry_told : (number ord start size : ℕ) (text : List ℕ) (row : spec.Entry) → row.edition ≡ pos number → row.ord ≡ pos ord → row.start ≡ pos start → row.length ≡ pos size →
+pub entry_told : (number ord start size : ℕ) (text : List ℕ) (row : spec.EntryRecord) → row.edition ≡ pos number → row.ord ≡ pos ord → row.start ≡ pos start → row.length ≡ pos size →
     IsLawfulLine text (line_with row.headword start size row.shown) → IsEntry number ord text row
 entry_told number ord start size text row e o s l lawful = record {
   line = line_with row.headword start size row.shown;
@@ -32,7 +32,7 @@ entry_told number ord start size text row e o s l lawful = record {
   lawful = lawful.lawful;
 }
 
-pub reply_told : (number : ℕ) (verb : Verb) (edition : Option ℕ) (row : spec.Kept) → row.verb ≡ verb_name verb → row.number ≡ pos number → is_request_id row.id ≡ true → is_name row.name ≡ true →
+pub reply_told : (number : ℕ) (verb : Verb) (edition : Option ℕ) (row : spec.KeptRecord) → row.verb ≡ verb_name verb → row.number ≡ pos number → is_request_id row.id ≡ true → is_name row.name ≡ true →
     row.edition ≡ option_map pos edition → is_some edition ≡ tells_edition verb → IsReply number verb row
 reply_told number verb edition row v n id name e tells = record {
   reply = record { id = row.id; reply = record { number = number; verb = verb; name = row.name; edition = edition } };

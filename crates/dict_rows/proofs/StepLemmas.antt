@@ -17,7 +17,7 @@ use Rattle.dict_rows.specs.Written.{numbered, item_record, member_record, editio
 use Rattle.dict_rows.specs.Stands.{HoldsMembers, has_number, Stands}
 use Rattle.dict_rows.specs.Tests.{has_lawful_items}
 use Rattle.dict_rows.specs.Titles.{is_awaited, awaits, item_titled}
-use Rattle.dict_rows.specs.Taken.{GoesOn, StandsForNone, HasNone, HoldsTitle, HoldsTitles, IsInHand, items_in, HasTaken, with_edition}
+use Rattle.dict_rows.specs.Taken.{GoesOnFrom, StandsForNone, HasNone, HoldsTitle, HoldsTitles, IsInHand, items_in, HasTaken, with_edition}
 use Rattle.dict_rows.specs.declared.reader.Reader.{Reader}
 use Rattle.dict_rows.specs.declared.reader.InHand.{InHand}
 use Rattle.dict_rows.proofs.ListLemmas.{numbered_append}
@@ -30,41 +30,41 @@ use Rattle.dict_rows.proofs.FoundLemmas.{or_split, has_stored, stored_alike, awa
 -- ---- a record that no tables have
 
 -- the items of the reader are those of the catalogue
-pub same_items : (version : ℕ) (reader : Reader) (taken front tables : Tables) (M : Catalogue) → HasTaken version reader taken → front.items ≡ taken.items → front.members ≡ taken.members → GoesOn front tables → Stands version tables M → map bare (items_in reader) ≡ map bare M.items
+pub same_items : (version : ℕ) (reader : Reader) (taken front tables : Tables) (M : Catalogue) → HasTaken version reader taken → front.items ≡ taken.items → front.members ≡ taken.members → GoesOnFrom front tables → Stands version tables M → map bare (items_in reader) ≡ map bare M.items
 same_items version reader taken front tables M h fi fm goes stands =
     bare_of version reader.installs tables M (items_in reader) stands (goes.items ∙ fi ∙ h.items)
     (subst (λ (ms : List spec.Member). AllByRecursion (HoldsMembers ms) (items_in reader)) (sym (goes.members ∙ fm)) h.members)
 
-pub number_refused : (version : ℕ) (taken : Tables) (row : spec.Edition) → ((number : ℕ) → row.number ≡ pos number → ⊥) → StandsForNone version (with_edition taken row)
+pub number_refused : (version : ℕ) (taken : Tables) (row : spec.EditionRecord) → ((number : ℕ) → row.number ≡ pos number → ⊥) → StandsForNone version (with_edition taken row)
 number_refused version taken row h tables M goes stands = let f = row_found version tables M taken row stands goes in h f.found.stored.number (sym f.found.is)
 
-pub place_refused : (version : ℕ) (reader : Reader) (taken : Tables) (row : spec.Edition) (number : ℕ) → HasTaken version reader taken → row.number ≡ pos number → list_any (awaits row.owner number) (items_in reader) ≡ false → StandsForNone version (with_edition taken row)
+pub place_refused : (version : ℕ) (reader : Reader) (taken : Tables) (row : spec.EditionRecord) (number : ℕ) → HasTaken version reader taken → row.number ≡ pos number → list_any (awaits row.owner number) (items_in reader) ≡ false → StandsForNone version (with_edition taken row)
 place_refused version reader taken row number h e none tables M goes stands =
     let f = row_found version tables M taken row stands goes in
     let same = same_items version reader taken (with_edition taken row) tables M h refl refl goes stands in
-    let owner : f.found.owner ≡ row.owner = sym (ap (λ (r : spec.Edition). r.owner) f.is) in
+    let owner : f.found.owner ≡ row.owner = sym (ap (λ (r : spec.EditionRecord). r.owner) f.is) in
     let n : f.found.stored.number ≡ number = pos_same _ _ (f.found.is ∙ e) in
     let there : has_stored row.owner number (items_in reader) ≡ true =
     stored_alike row.owner number (items_in reader) M.items same ∙ (λ i. has_stored (sym owner i) (sym n i) M.items) ∙ f.found.there in
     let untaken : editions_numbered (pos number) taken.editions ≡ [] = ap (λ z. editions_numbered z taken.editions) (sym e) ∙ f.none in
     false≢true (sym none ∙ awaited_there taken row.owner number (items_in reader) h.titles untaken there)
 
-pub title_refused : (version : ℕ) (taken : Tables) (row : spec.Edition) → is_title row.title ≡ false → StandsForNone version (with_edition taken row)
+pub title_refused : (version : ℕ) (taken : Tables) (row : spec.EditionRecord) → is_title row.title ≡ false → StandsForNone version (with_edition taken row)
 title_refused version taken row h tables M goes stands =
     let f = row_found version tables M taken row stands goes in
-    let title : row.title ≡ f.found.stored.content.title = ap (λ (r : spec.Edition). r.title) f.is ∙ sym (ap (λ (x : Edition). x.title) f.found.holds.says) in
+    let title : row.title ≡ f.found.stored.content.title = ap (λ (r : spec.EditionRecord). r.title) f.is ∙ sym (ap (λ (x : Edition). x.title) f.found.holds.says) in
     false≢true (sym h ∙ ap is_title title ∙ f.found.lawful.title.1)
 
-pub info_refused : (version : ℕ) (taken : Tables) (row : spec.Edition) → (IsEditionText row.info → ⊥) → StandsForNone version (with_edition taken row)
+pub info_refused : (version : ℕ) (taken : Tables) (row : spec.EditionRecord) → (IsEditionText row.info → ⊥) → StandsForNone version (with_edition taken row)
 info_refused version taken row h tables M goes stands =
     let f = row_found version tables M taken row stands goes in
-    let info : row.info ≡ f.found.stored.content.info = ap (λ (r : spec.Edition). r.info) f.is ∙ sym (ap (λ (x : Edition). x.info) f.found.holds.says) in
+    let info : row.info ≡ f.found.stored.content.info = ap (λ (r : spec.EditionRecord). r.info) f.is ∙ sym (ap (λ (x : Edition). x.info) f.found.holds.says) in
     h (subst IsEditionText (sym info) f.found.lawful.info)
 
-pub text_refused : (version : ℕ) (taken : Tables) (row : spec.Edition) → (length row.body < 64 ^ 6 → ⊥) → StandsForNone version (with_edition taken row)
+pub text_refused : (version : ℕ) (taken : Tables) (row : spec.EditionRecord) → (length row.body < 64 ^ 6 → ⊥) → StandsForNone version (with_edition taken row)
 text_refused version taken row h tables M goes stands =
     let f = row_found version tables M taken row stands goes in
-    h (subst (λ (t : List ℕ). length t < 64 ^ 6) (sym (ap (λ (r : spec.Edition). r.body) f.is)) f.found.holds.short)
+    h (subst (λ (t : List ℕ). length t < 64 ^ 6) (sym (ap (λ (r : spec.EditionRecord). r.body) f.is)) f.found.holds.short)
 
 -- ---- a record that is taken
 
@@ -122,7 +122,7 @@ known_still xs ys e rows h = all_weaker (λ (row : spec.Member). IsTrue (is_know
 has_number_still : (xs ys : List (Item (List ℕ))) (number : ℤ) → map bare xs ≡ map bare ys → has_number xs number ≡ true → has_number ys number ≡ true
 has_number_still xs ys number e h = ap (list_any (λ one. same_number (pos one) number)) (sym (numbers_alike xs ys e)) ∙ h
 
-in_hand : (taken : Tables) (row : spec.Edition) (number : ℕ) (edition : Option InHand) → IfSome edition (λ hand. (hand.number ≡ number) × (hand.text.items ≡ row.body) × (hand.entries ≡ 0)) × IsSome edition →
+in_hand : (taken : Tables) (row : spec.EditionRecord) (number : ℕ) (edition : Option InHand) → IfSome edition (λ hand. (hand.number ≡ number) × (hand.text.items ≡ row.body) × (hand.entries ≡ 0)) × IsSome edition →
     row.number ≡ pos number → HasNone taken number → IsInHand edition (with_edition taken row)
 in_hand taken row number None held e none = absurd (false≢true held.1)
 in_hand taken row number (Some hand) held e none = record {
@@ -134,7 +134,7 @@ in_hand taken row number (Some hand) held e none = record {
   entries = ap length (ap (λ n. entries_of (pos n) taken.entries) held.0.0 ∙ none.1) ∙ sym held.0.2;
 }
 
-pub edition_taken : (version : ℕ) (old new : Reader) (taken : Tables) (row : spec.Edition) (number : ℕ) (front : List (Item (List ℕ))) (item : Item (List ℕ)) (behind : List (Item (List ℕ))) →
+pub edition_taken : (version : ℕ) (old new : Reader) (taken : Tables) (row : spec.EditionRecord) (number : ℕ) (front : List (Item (List ℕ))) (item : Item (List ℕ)) (behind : List (Item (List ℕ))) →
     items_in old ≡ front ++ item ∷ behind → items_in new ≡ front ++ item_titled number row.title item ∷ behind → new.installs ≡ old.installs → new.accepted ≡ old.accepted → new.installed ≡ old.installed →
     IfSome new.edition (λ hand. (hand.number ≡ number) × (hand.text.items ≡ row.body) × (hand.entries ≡ 0)) × IsSome new.edition →
     row.number ≡ pos number → awaits row.owner number item ≡ true → IsUtf8 row.title → is_title row.title ≡ true → IsEditionText row.info → length row.body < 64 ^ 6 →
@@ -164,10 +164,10 @@ edition_taken version old new taken row number front item behind was now install
       lawful = (λ i. has_lawful_items (installs i) (items_in new)) ∙ sym (lawful_alike old.installs (items_in old) (items_in new) same) ∙ h.lawful;
       titles = subst (AllByRecursion (HoldsTitles (with_edition taken row))) (sym now)
           (titles_taken taken row.owner number row.title row front item behind new' waits (subst Rattle.dict_catalogue.specs.WellFormed.IsEachNumberOnce once (lawful_true_numbers old.installs (items_in old) h.lawful)) titles');
-      numbers = all_append (λ (r : spec.Edition). IsTrue (has_number (items_in new) r.number)) taken.editions (row ∷ [])
-          (all_weaker (λ (r : spec.Edition). IsTrue (has_number (items_in old) r.number)) (λ (r : spec.Edition). IsTrue (has_number (items_in new) r.number)) (λ r k. has_number_still (items_in old) (items_in new) r.number same k) taken.editions h.numbers)
+      numbers = all_append (λ (r : spec.EditionRecord). IsTrue (has_number (items_in new) r.number)) taken.editions (row ∷ [])
+          (all_weaker (λ (r : spec.EditionRecord). IsTrue (has_number (items_in old) r.number)) (λ (r : spec.EditionRecord). IsTrue (has_number (items_in new) r.number)) (λ r k. has_number_still (items_in old) (items_in new) r.number same k) taken.editions h.numbers)
           (ap (has_number (items_in new)) e ∙ known, tt);
-      entries = all_weaker (λ (r : spec.Entry). IsTrue (has_number (items_in old) r.edition)) (λ (r : spec.Entry). IsTrue (has_number (items_in new) r.edition)) (λ r k. has_number_still (items_in old) (items_in new) r.edition same k) taken.entries h.entries;
+      entries = all_weaker (λ (r : spec.EntryRecord). IsTrue (has_number (items_in old) r.edition)) (λ (r : spec.EntryRecord). IsTrue (has_number (items_in new) r.edition)) (λ r k. has_number_still (items_in old) (items_in new) r.edition same k) taken.entries h.entries;
       hand = in_hand taken row number new.edition held e none;
       kept = subst (λ n. Rattle.dict_rows.specs.Taken.AreKept n new.installed taken.kept) (sym accepted) (subst (λ n. Rattle.dict_rows.specs.Taken.AreKept old.accepted n taken.kept) (sym installed) h.kept);
     }

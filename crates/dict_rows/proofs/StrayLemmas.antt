@@ -11,14 +11,14 @@ use Rattle.dict_rows.specs.Tables.{Tables}
 use Rattle.dict_rows.specs.Stands.{HoldsMembers, Stands}
 use Rattle.dict_rows.specs.Tests.{is_lawful_item, is_from_one_to, has_lawful_numbers, has_lawful_items, has_known_members, has_names_once, has_numbers_once}
 use Rattle.dict_rows.specs.Given.{OnDamage}
-use Rattle.dict_rows.specs.Taken.{GoesOn, HasTaken, items_in}
+use Rattle.dict_rows.specs.Taken.{GoesOnFrom, HasTaken, items_in}
 use Rattle.dict_rows.specs.declared.reader.Reader.{Reader}
 use Rattle.dict_rows.specs.declared.fault.RowsFault.{RowsFault}
 use Rattle.dict_rows.specs.declared.fault.RowsFault.TheVariants.{Damaged, Memory}
 use Rattle.dict_rows.proofs.LawfulLemmas.{items_bare, numbers_alike, each_itself}
 
 -- the numbers of a catalogue's items are those of the items that were taken
-pub numbers_taken : (version : ℕ) (reader : Reader) (taken tables : Tables) (M : Catalogue) → HasTaken version reader taken → GoesOn taken tables → Stands version tables M → edition_numbers M.items ≡ edition_numbers (items_in reader)
+pub numbers_taken : (version : ℕ) (reader : Reader) (taken tables : Tables) (M : Catalogue) → HasTaken version reader taken → GoesOnFrom taken tables → Stands version tables M → edition_numbers M.items ≡ edition_numbers (items_in reader)
 numbers_taken version reader taken tables M h goes stands =
     numbers_alike M.items (items_in reader)
     (items_bare 0 tables.members M.items (items_in reader) (sym stands.items ∙ goes.items ∙ h.items) stands.members (subst (λ members. AllByRecursion (HoldsMembers members) (items_in reader)) (sym goes.members) h.members))

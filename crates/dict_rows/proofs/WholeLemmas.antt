@@ -10,17 +10,17 @@ use Rattle.std.proofs.lemmas.List.Elements.{filter-append}
 use Rattle.std.proofs.lemmas.Grind.{flat_map-append}
 use Rattle.dict_records.specs.Records as spec
 use Rattle.dict_records.specs.Typed.{owned_entry, owned_kept}
-use Rattle.dict_records.specs.declared.records.Entry.{Entry}
-use Rattle.dict_records.specs.declared.records.Kept.{Kept}
-use Rattle.dict_records.specs.declared.records.Stored.{Stored as Row}
+use Rattle.dict_records.specs.declared.records.EntryRecord.{EntryRecord}
+use Rattle.dict_records.specs.declared.records.KeptRecord.{KeptRecord}
+use Rattle.dict_records.specs.declared.records.StoredRow.{StoredRow as Row}
 use Rattle.dict_catalogue.specs.Steps.{Catalogue}
 use Rattle.dict_text.proofs.AllLemmas.{all_append_parts}
 use Rattle.dict_rows.specs.Tables.{Tables, same_number, editions_numbered, entries_of}
 use Rattle.dict_rows.specs.Stands.{Stands}
 use Rattle.dict_rows.specs.Tests.{has_once}
 use Rattle.dict_rows.specs.Given.{entries_given, kept_given, OnDamage}
-use Rattle.dict_rows.specs.Taken.{BeginsWith, GoesOn, StandsForNone, IsOfLast, HasTaken, begun, with_edition, with_entry, with_kept}
-use Rattle.dict_rows.specs.Whole.{with_entries, with_replies, with_group, with_groups, edition_in, entries_in, AreOf, AreAllOf, tables_given}
+use Rattle.dict_rows.specs.Taken.{BeginsWith, GoesOnFrom, StandsForNone, IsOfLast, HasTaken, begun, with_edition, with_entry, with_kept}
+use Rattle.dict_rows.specs.Whole.{with_entries, with_replies, with_group, with_groups, edition_in, entries_in, AreOfLast, AreAllOf, tables_given}
 use Rattle.dict_rows.specs.declared.reader.Reader.{Reader}
 use Rattle.dict_rows.specs.declared.summary.EditionRows.{EditionRows}
 use Rattle.dict_rows.specs.declared.summary.Tables.{Tables as AllRows}
@@ -41,10 +41,10 @@ begins_then xs ys zs a b = (a.0 ++ b.0, b.1 ∙ ap (λ l. l ++ b.0) a.1 ∙ appe
 begins_filter : {X : Type 0} (p : X → Bool) (xs ys : List X) → BeginsWith (filter p (xs ++ ys)) (filter p xs)
 begins_filter p xs ys = (filter p ys, filter-append p xs ys)
 
-pub goes_same : (tables : Tables) → GoesOn tables tables
+pub goes_same : (tables : Tables) → GoesOnFrom tables tables
 goes_same tables = record { marks = refl; items = refl; members = refl; editions = (λ n. begins_same (editions_numbered n tables.editions)); entries = (λ n. begins_same (entries_of n tables.entries)); kept = begins_same tables.kept }
 
-goes_then : (a b d : Tables) → GoesOn a b → GoesOn b d → GoesOn a d
+goes_then : (a b d : Tables) → GoesOnFrom a b → GoesOnFrom b d → GoesOnFrom a d
 goes_then a b d g h = record {
   marks = h.marks ∙ g.marks;
   items = h.items ∙ g.items;
@@ -54,30 +54,30 @@ goes_then a b d g h = record {
   kept = begins_then a.kept b.kept d.kept g.kept h.kept;
 }
 
-pub none_longer : (version : ℕ) (a b : Tables) → GoesOn a b → StandsForNone version a → StandsForNone version b
+pub none_longer : (version : ℕ) (a b : Tables) → GoesOnFrom a b → StandsForNone version a → StandsForNone version b
 none_longer version a b g h tables M goes stands = h tables M (goes_then a b tables g goes) stands
 
 -- ---- entries
 
-entries_cut : (rows : List (Row (Entry (String Global)))) (i : ℕ) (row : Row (Entry (String Global))) → i < length rows → row ≡ get_or rows i row →
+entries_cut : (rows : List (Row (EntryRecord (String Global)))) (i : ℕ) (row : Row (EntryRecord (String Global))) → i < length rows → row ≡ get_or rows i row →
     entries_given rows ≡ entries_given (take i rows) ++ owned_entry row.value ∷ entries_given (drop (suc i) rows)
-entries_cut rows i row lt is = map_cut (λ (one : Row (Entry (String Global))). owned_entry one.value) rows i row lt is
+entries_cut rows i row lt is = map_cut (λ (one : Row (EntryRecord (String Global))). owned_entry one.value) rows i row lt is
 
-one_more_entry : (taken : Tables) (xs : List spec.Entry) (x : spec.Entry) → with_entry (with_entries taken xs) x ≡ with_entries taken (xs ++ x ∷ [])
+one_more_entry : (taken : Tables) (xs : List spec.EntryRecord) (x : spec.EntryRecord) → with_entry (with_entries taken xs) x ≡ with_entries taken (xs ++ x ∷ [])
 one_more_entry taken xs x = λ i. record { marks = taken.marks; items = taken.items; members = taken.members; editions = taken.editions; entries = append_assoc taken.entries xs (x ∷ []) i; kept = taken.kept }
 
-pub entries_next : (old new next : Reader) (rows : List (Row (Entry (String Global)))) (i : ℕ) (row : Row (Entry (String Global))) → i < length rows → row ≡ get_or rows i row →
+pub entries_next : (old new next : Reader) (rows : List (Row (EntryRecord (String Global)))) (i : ℕ) (row : Row (EntryRecord (String Global))) → i < length rows → row ≡ get_or rows i row →
     ((version : ℕ) (taken : Tables) → HasTaken version old taken → HasTaken version new (with_entries taken (entries_given (take i rows)))) →
     ((version : ℕ) (taken : Tables) → HasTaken version new taken → HasTaken version next (with_entry taken (owned_entry row.value))) →
     (version : ℕ) (taken : Tables) → HasTaken version old taken → HasTaken version next (with_entries taken (entries_given (take (i + 1) rows)))
 entries_next old new next rows i row lt is done step version taken h =
-    subst (HasTaken version next) (one_more_entry taken (entries_given (take i rows)) (owned_entry row.value) ∙ ap (with_entries taken) (sym (map_next (λ (one : Row (Entry (String Global))). owned_entry one.value) rows i row lt is)))
+    subst (HasTaken version next) (one_more_entry taken (entries_given (take i rows)) (owned_entry row.value) ∙ ap (with_entries taken) (sym (map_next (λ (one : Row (EntryRecord (String Global))). owned_entry one.value) rows i row lt is)))
     (step version (with_entries taken (entries_given (take i rows))) (done version taken h))
 
-pub entries_damage : (fault : RowsFault) (old new : Reader) (rows : List (Row (Entry (String Global)))) (i : ℕ) (row : Row (Entry (String Global))) → i < length rows → row ≡ get_or rows i row →
+pub entries_damage : (fault : RowsFault) (old new : Reader) (rows : List (Row (EntryRecord (String Global)))) (i : ℕ) (row : Row (EntryRecord (String Global))) → i < length rows → row ≡ get_or rows i row →
     ((version : ℕ) (taken : Tables) → HasTaken version old taken → HasTaken version new (with_entries taken (entries_given (take i rows)))) →
     OnDamage fault ((version : ℕ) (taken : Tables) → HasTaken version new taken → IsOfLast taken (owned_entry row.value) → StandsForNone version (with_entry taken (owned_entry row.value))) →
-    OnDamage fault ((version : ℕ) (taken : Tables) → HasTaken version old taken → AreOf taken (entries_given rows) → StandsForNone version (with_entries taken (entries_given rows)))
+    OnDamage fault ((version : ℕ) (taken : Tables) → HasTaken version old taken → AreOfLast taken (entries_given rows) → StandsForNone version (with_entries taken (entries_given rows)))
 entries_damage Damaged old new rows i row lt is done refused = λ version taken h of.
     let cut = entries_cut rows i row lt is in
     let front = entries_given (take i rows) in
@@ -90,20 +90,20 @@ entries_damage Damaged old new rows i row lt is done refused = λ version taken 
     (none_longer version (with_entry (with_entries taken front) (owned_entry row.value)) (with_entries (with_entry (with_entries taken front) (owned_entry row.value)) behind) (longer (with_entry (with_entries taken front) (owned_entry row.value)) behind)
     (refused version (with_entries taken front) (done version taken h) mine))
   where
-    longer : (taken : Tables) (rows : List spec.Entry) → GoesOn taken (with_entries taken rows)
+    longer : (taken : Tables) (rows : List spec.EntryRecord) → GoesOnFrom taken (with_entries taken rows)
     longer taken rows = record {
       marks = refl;
       items = refl;
       members = refl;
       editions = (λ n. begins_same (editions_numbered n taken.editions));
-      entries = (λ n. begins_filter (λ (r : spec.Entry). same_number r.edition n) taken.entries rows);
+      entries = (λ n. begins_filter (λ (r : spec.EntryRecord). same_number r.edition n) taken.entries rows);
       kept = begins_same taken.kept;
     }
 entries_damage Memory old new rows i row lt is done refused = tt
 
 -- ---- an edition with its entries
 
-pub edition_damage : (fault : RowsFault) (old : Reader) (rows : EditionRows) (row : spec.Edition) → row ≡ edition_in rows →
+pub edition_damage : (fault : RowsFault) (old : Reader) (rows : EditionRows) (row : spec.EditionRecord) → row ≡ edition_in rows →
     ((version : ℕ) (taken : Tables) → HasTaken version old taken → StandsForNone version (with_edition taken row)) →
     OnDamage fault ((version : ℕ) (taken : Tables) → HasTaken version old taken → AreAllOf rows → StandsForNone version (with_group taken rows))
 edition_damage Damaged old rows row e refused = λ version taken h of.
@@ -113,19 +113,19 @@ edition_damage Damaged old rows row e refused = λ version taken h of.
       items = refl;
       members = refl;
       editions = (λ n. begins_same (editions_numbered n (taken.editions ++ edition_in rows ∷ [])));
-      entries = (λ n. begins_filter (λ (r : spec.Entry). same_number r.edition n) taken.entries (entries_in rows));
+      entries = (λ n. begins_filter (λ (r : spec.EntryRecord). same_number r.edition n) taken.entries (entries_in rows));
       kept = begins_same taken.kept;
     })
-    (subst (λ (r : spec.Edition). StandsForNone version (with_edition taken r)) e (refused version taken h))
+    (subst (λ (r : spec.EditionRecord). StandsForNone version (with_edition taken r)) e (refused version taken h))
 edition_damage Memory old rows row e refused = tt
 
-of_last : (taken : Tables) (edition : spec.Edition) (rows : List spec.Entry) → AllByRecursion (λ row. row.edition ≡ edition.number) rows → AreOf (with_edition taken edition) rows
+of_last : (taken : Tables) (edition : spec.EditionRecord) (rows : List spec.EntryRecord) → AllByRecursion (λ row. row.edition ≡ edition.number) rows → AreOfLast (with_edition taken edition) rows
 of_last taken edition [] h = tt
 of_last taken edition (row ∷ rows) h = ((taken.editions, edition, refl, h.0), of_last taken edition rows h.1)
 
 pub group_damage : (fault : RowsFault) (old new : Reader) (rows : EditionRows) →
     ((version : ℕ) (taken : Tables) → HasTaken version old taken → HasTaken version new (with_edition taken (edition_in rows))) →
-    OnDamage fault ((version : ℕ) (taken : Tables) → HasTaken version new taken → AreOf taken (entries_in rows) → StandsForNone version (with_entries taken (entries_in rows))) →
+    OnDamage fault ((version : ℕ) (taken : Tables) → HasTaken version new taken → AreOfLast taken (entries_in rows) → StandsForNone version (with_entries taken (entries_in rows))) →
     OnDamage fault ((version : ℕ) (taken : Tables) → HasTaken version old taken → AreAllOf rows → StandsForNone version (with_group taken rows))
 group_damage Damaged old new rows step refused = λ version taken h of. refused version (with_edition taken (edition_in rows)) (step version taken h) (of_last taken (edition_in rows) (entries_in rows) of)
 group_damage Memory old new rows step refused = tt
@@ -151,13 +151,13 @@ groups_join taken xs ys = λ i. record {
   kept = taken.kept;
 }
 
-goes_groups : (taken : Tables) (rows : List EditionRows) → GoesOn taken (with_groups taken rows)
+goes_groups : (taken : Tables) (rows : List EditionRows) → GoesOnFrom taken (with_groups taken rows)
 goes_groups taken rows = record {
   marks = refl;
   items = refl;
   members = refl;
-  editions = (λ n. begins_filter (λ (r : spec.Edition). same_number r.number n) taken.editions (map edition_in rows));
-  entries = (λ n. begins_filter (λ (r : spec.Entry). same_number r.edition n) taken.entries (flat_map entries_in rows));
+  editions = (λ n. begins_filter (λ (r : spec.EditionRecord). same_number r.number n) taken.editions (map edition_in rows));
+  entries = (λ n. begins_filter (λ (r : spec.EntryRecord). same_number r.edition n) taken.entries (flat_map entries_in rows));
   kept = begins_same taken.kept;
 }
 
@@ -188,23 +188,23 @@ groups_damage Memory old new rows i row lt is done refused = tt
 
 -- ---- kept replies
 
-one_more_kept : (taken : Tables) (xs : List spec.Kept) (x : spec.Kept) → with_kept (with_replies taken xs) x ≡ with_replies taken (xs ++ x ∷ [])
+one_more_kept : (taken : Tables) (xs : List spec.KeptRecord) (x : spec.KeptRecord) → with_kept (with_replies taken xs) x ≡ with_replies taken (xs ++ x ∷ [])
 one_more_kept taken xs x = λ i. record { marks = taken.marks; items = taken.items; members = taken.members; editions = taken.editions; entries = taken.entries; kept = append_assoc taken.kept xs (x ∷ []) i }
 
-pub replies_next : (old new next : Reader) (rows : List (Row (Kept (String Global)))) (i : ℕ) (row : Row (Kept (String Global))) → i < length rows → row ≡ get_or rows i row →
+pub replies_next : (old new next : Reader) (rows : List (Row (KeptRecord (String Global)))) (i : ℕ) (row : Row (KeptRecord (String Global))) → i < length rows → row ≡ get_or rows i row →
     ((version : ℕ) (taken : Tables) → HasTaken version old taken → HasTaken version new (with_replies taken (kept_given (take i rows)))) →
     ((version : ℕ) (taken : Tables) → HasTaken version new taken → HasTaken version next (with_kept taken (owned_kept row.value))) →
     (version : ℕ) (taken : Tables) → HasTaken version old taken → HasTaken version next (with_replies taken (kept_given (take (i + 1) rows)))
 replies_next old new next rows i row lt is done step version taken h =
-    subst (HasTaken version next) (one_more_kept taken (kept_given (take i rows)) (owned_kept row.value) ∙ ap (with_replies taken) (sym (map_next (λ (one : Row (Kept (String Global))). owned_kept one.value) rows i row lt is)))
+    subst (HasTaken version next) (one_more_kept taken (kept_given (take i rows)) (owned_kept row.value) ∙ ap (with_replies taken) (sym (map_next (λ (one : Row (KeptRecord (String Global))). owned_kept one.value) rows i row lt is)))
     (step version (with_replies taken (kept_given (take i rows))) (done version taken h))
 
-pub replies_damage : (old new : Reader) (rows : List (Row (Kept (String Global)))) (i : ℕ) (row : Row (Kept (String Global))) → i < length rows → row ≡ get_or rows i row →
+pub replies_damage : (old new : Reader) (rows : List (Row (KeptRecord (String Global)))) (i : ℕ) (row : Row (KeptRecord (String Global))) → i < length rows → row ≡ get_or rows i row →
     ((version : ℕ) (taken : Tables) → HasTaken version old taken → HasTaken version new (with_replies taken (kept_given (take i rows)))) →
     ((version : ℕ) (taken : Tables) → HasTaken version new taken → StandsForNone version (with_kept taken (owned_kept row.value))) →
     (version : ℕ) (taken : Tables) → HasTaken version old taken → StandsForNone version (with_replies taken (kept_given rows))
 replies_damage old new rows i row lt is done refused version taken h =
-    let cut = map_cut (λ (one : Row (Kept (String Global))). owned_kept one.value) rows i row lt is in
+    let cut = map_cut (λ (one : Row (KeptRecord (String Global))). owned_kept one.value) rows i row lt is in
     let front = kept_given (take i rows) in
     let behind = kept_given (drop (suc i) rows) in
     let here : StandsForNone version (with_replies taken (front ++ owned_kept row.value ∷ [])) = subst (StandsForNone version) (one_more_kept taken front (owned_kept row.value)) (refused version (with_replies taken front) (done version taken h)) in
@@ -223,7 +223,7 @@ replies_damage old new rows i row lt is done refused version taken h =
 
 -- ---- all tables
 
-pub goes_begun : (rows : AllRows) → GoesOn (begun (tables_given rows).marks (tables_given rows).items (tables_given rows).members) (tables_given rows)
+pub goes_begun : (rows : AllRows) → GoesOnFrom (begun (tables_given rows).marks (tables_given rows).items (tables_given rows).members) (tables_given rows)
 goes_begun rows = record {
   marks = refl;
   items = refl;
@@ -233,7 +233,7 @@ goes_begun rows = record {
   kept = ((tables_given rows).kept, refl);
 }
 
-pub goes_read : (rows : AllRows) → GoesOn (with_groups (begun (tables_given rows).marks (tables_given rows).items (tables_given rows).members) rows.editions.now) (tables_given rows)
+pub goes_read : (rows : AllRows) → GoesOnFrom (with_groups (begun (tables_given rows).marks (tables_given rows).items (tables_given rows).members) rows.editions.now) (tables_given rows)
 goes_read rows = record {
   marks = refl;
   items = refl;
@@ -243,9 +243,9 @@ goes_read rows = record {
   kept = ((tables_given rows).kept, refl);
 }
 
-pub ids_refused : (version : ℕ) (tables : Tables) (M : Catalogue) → has_once (map (λ (row : spec.Kept). row.id) tables.kept) ≡ false → Stands version tables M → ⊥
+pub ids_refused : (version : ℕ) (tables : Tables) (M : Catalogue) → has_once (map (λ (row : spec.KeptRecord). row.id) tables.kept) ≡ false → Stands version tables M → ⊥
 ids_refused version tables M twice stands =
-    let same : map (λ (row : spec.Kept). row.id) tables.kept ≡ map (λ kept. kept.id) M.kept = ap (map (λ (row : spec.Kept). row.id)) stands.kept ∙ ids_same M.kept in
+    let same : map (λ (row : spec.KeptRecord). row.id) tables.kept ≡ map (λ kept. kept.id) M.kept = ap (map (λ (row : spec.KeptRecord). row.id)) stands.kept ∙ ids_same M.kept in
     false≢true (sym twice ∙ ap has_once same ∙ true_once (map (λ kept. kept.id) M.kept) stands.well_formed.ids)
 
 pub any_damage : (fault : RowsFault) (P : Type 0) → P → OnDamage fault P

@@ -18,7 +18,7 @@ use Rattle.dict_index.proofs.WellFormedLemmas.{said_well_formed}
 use Rattle.dict_index.proofs.WorkedLemmas.{worked}
 use Rattle.dict_catalogue.specs.WellFormed.{IsWellFormed}
 use Rattle.dict_rows.specs.Stands.{Stands}
-use Rattle.dict_rows.specs.Worked.{ore_reading, worked_catalogue, worked_tables}
+use Rattle.dict_rows.specs.Worked.{ore_reading, commanded_catalogue, worked_tables}
 use Rattle.dict_rows.proofs.LawfulLemmas.{AreLawful, lawful_true, once_true}
 
 not_true : (b : Bool) → not b ≡ true → ¬ IsTrue b
@@ -57,11 +57,11 @@ ores = record { title = (IsUtf8-from_is_utf8 (codes "Ores") refl, refl); info = 
 gems : IsWellFormedEdition (edition_of worked_reading)
 gems = said_well_formed worked_index worked_text (edition_of worked_reading) (worked_reading, worked, refl)
 
-lawful : AreLawful 2 worked_catalogue.items
+lawful : AreLawful 2 commanded_catalogue.items
 unfolding chars encode is_utf8 is_name is_title
-lawful = lawful_true 2 worked_catalogue.items refl
+lawful = lawful_true 2 commanded_catalogue.items refl
 
-well : IsWellFormed worked_catalogue
+well : IsWellFormed commanded_catalogue
 unfolding is_name is_request_id
 well = record {
   item_limit = lawful.limit;
@@ -71,14 +71,14 @@ well = record {
   members = lawful.members;
   accepted_limit = omega arith;
   replies = ((refl, refl, refl), ((refl, refl, refl), ((refl, refl, refl), tt)));
-  ids = once_true (map (λ kept. kept.id) worked_catalogue.kept) refl;
+  ids = once_true (map (λ kept. kept.id) commanded_catalogue.kept) refl;
   numbered = (refl, (refl, (refl, tt)));
   installs = refl;
   edition_range = lawful.range;
   edition_once = lawful.once;
 }
 
-pub worked_stands : Stands 1 worked_tables worked_catalogue
+pub worked_stands : Stands 1 worked_tables commanded_catalogue
 worked_stands = record {
   well_formed = well;
   marks = refl;

@@ -1,7 +1,7 @@
 -- Which records the tables hold after a command, from those before.
 use Rattle.std.specs.Prelude.{◌≡◌, ℕ, pos, ◌+◌, ◌<◌, ◌^◌, length, ℤ, Bool, not, List, [], ◌∷◌, ◌++◌, filter, flat_map, Option, Some, None}
 use Rattle.std.specs.List.{AllByRecursion, list_any}
-use Rattle.dict_records.specs.Records.{Member, Edition as EditionRecord, Entry as EntryRecord}
+use Rattle.dict_records.specs.Records.{Member, EditionRecord, EntryRecord}
 use Rattle.dict_index.specs.Edition.{Edition, ReadEdition, edition_of}
 use Rattle.dict_catalogue.specs.Items.{Item, name_of, members_of}
 use Rattle.dict_catalogue.specs.Commands.{Command, install, rollback, retire, put_virtual, place}
@@ -64,7 +64,7 @@ IsInstalledBy number (put_virtual name title members) new = new ≡ None
 IsInstalledBy number (place name at) new = new ≡ None
 
 -- this is what is written where the command acts on the catalogue
-pub record IsChange (M : Catalogue) (id : List ℕ) (command : Command Edition) (change : TableChange) : Type 0 where
+pub record IsTableChange (M : Catalogue) (id : List ℕ) (command : Command Edition) (change : TableChange) : Type 0 where
   pub summary : change.summary ≡ summary_of (with_effect M id command)
   pub gone : change.gone ≡ editions_gone M.items (with_effect M id command).items
   pub edition : IsInstalledBy (M.installs + 1) command change.edition

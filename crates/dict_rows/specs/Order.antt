@@ -1,7 +1,7 @@
 -- The same records in another order, and records in the order of their keys.
 use Rattle.std.specs.Prelude.{◌≡◌, ◌≤ℤ◌, ℤ, Bool, List, [], ◌∷◌, filter, IsPermutation}
 use Rattle.std.specs.List.{AllByRecursion, list_any}
-use Rattle.dict_records.specs.Records.{Edition, Entry}
+use Rattle.dict_records.specs.Records.{EditionRecord, EntryRecord}
 use Rattle.dict_rows.specs.Tables.{Tables, same_number}
 
 -- each element has the relation to each later one
@@ -30,8 +30,8 @@ pub record AreOrdered (tables : Tables) : Type 0 where
 abbrev pub is_of : List ℤ → ℤ → Bool
 is_of numbers number = list_any (same_number number) numbers
 
-abbrev pub editions_of_numbers : List ℤ → List Edition → List Edition
+abbrev pub editions_of_numbers : List ℤ → List EditionRecord → List EditionRecord
 editions_of_numbers numbers editions = filter (λ row. is_of numbers row.number) editions
 
-abbrev pub entries_of_numbers : List ℤ → List Entry → List Entry
+abbrev pub entries_of_numbers : List ℤ → List EntryRecord → List EntryRecord
 entries_of_numbers numbers entries = filter (λ row. is_of numbers row.edition) entries

@@ -24,7 +24,7 @@ BeginsWith {X} xs front = (more : List X) × (xs ≡ front ++ more)
 
 -- the mark, the items and the members are all taken; of the editions of each number, of the entries of each number, and of
 -- the kept replies, the first ones
-pub record GoesOn (front tables : Tables) : Type 0 where
+pub record GoesOnFrom (front tables : Tables) : Type 0 where
   pub marks : tables.marks ≡ front.marks
   pub items : tables.items ≡ front.items
   pub members : tables.members ≡ front.members
@@ -34,20 +34,20 @@ pub record GoesOn (front tables : Tables) : Type 0 where
 
 -- no tables that go on from these stand for a catalogue
 abbrev pub StandsForNone : ℕ → Tables → Type 0
-StandsForNone version front = (tables : Tables) (M : Catalogue) → GoesOn front tables → Stands version tables M → ⊥
+StandsForNone version front = (tables : Tables) (M : Catalogue) → GoesOnFrom front tables → Stands version tables M → ⊥
 
 -- nothing of the other tables
-abbrev pub begun : List spec.Mark → List spec.Item → List spec.Member → Tables
+abbrev pub begun : List spec.Mark → List spec.ItemRecord → List spec.Member → Tables
 begun marks items members = record { marks = marks; items = items; members = members; editions = []; entries = []; kept = [] }
 
 -- one record more
-abbrev pub with_edition : Tables → spec.Edition → Tables
+abbrev pub with_edition : Tables → spec.EditionRecord → Tables
 with_edition taken row = record taken { editions = taken.editions ++ row ∷ [] }
 
-abbrev pub with_entry : Tables → spec.Entry → Tables
+abbrev pub with_entry : Tables → spec.EntryRecord → Tables
 with_entry taken row = record taken { entries = taken.entries ++ row ∷ [] }
 
-abbrev pub with_kept : Tables → spec.Kept → Tables
+abbrev pub with_kept : Tables → spec.KeptRecord → Tables
 with_kept taken row = record taken { kept = taken.kept ++ row ∷ [] }
 
 -- no two of the kept replies have one id
@@ -55,11 +55,11 @@ abbrev pub HasIdsOnce : Tables → Type 0
 HasIdsOnce taken = IsEachOnce (map (λ row. row.id) taken.kept)
 
 -- the entry is one of the edition that was taken last
-abbrev pub IsOfLast : Tables → spec.Entry → Type 0
-IsOfLast taken row = (front : List spec.Edition) × (last : spec.Edition) × (taken.editions ≡ front ++ last ∷ []) × (row.edition ≡ last.number)
+abbrev pub IsOfLast : Tables → spec.EntryRecord → Type 0
+IsOfLast taken row = (front : List spec.EditionRecord) × (last : spec.EditionRecord) × (taken.editions ≡ front ++ last ∷ []) × (row.edition ≡ last.number)
 
 -- the line comes next of the edition of this number
-abbrev pub next_entry : Tables → ℕ → Line → spec.Entry
+abbrev pub next_entry : Tables → ℕ → Line → spec.EntryRecord
 next_entry taken number line = entry_record number (length (entries_of (pos number) taken.entries)) line
 
 -- ---- what the reader holds
@@ -84,8 +84,8 @@ HoldsTitles taken item = AllByRecursion (HoldsTitle taken (name_of item)) (editi
 
 -- the edition in hand is the one that was taken last, and so many entries of it were taken
 pub record IsLast (hand : InHand) (taken : Tables) : Type 0 where
-  pub front : List spec.Edition
-  pub row : spec.Edition
+  pub front : List spec.EditionRecord
+  pub row : spec.EditionRecord
   pub last : taken.editions ≡ front ++ row ∷ []
   pub number : row.number ≡ pos hand.number
   pub text : row.body ≡ hand.text.items
@@ -96,7 +96,7 @@ IsInHand None taken = taken.editions ≡ []
 IsInHand (Some hand) taken = IsLast hand taken
 
 -- the kept replies that were taken: so many, and so many of installs
-pub record AreKept (accepted installed : ℕ) (rows : List spec.Kept) : Type 0 where
+pub record AreKept (accepted installed : ℕ) (rows : List spec.KeptRecord) : Type 0 where
   pub replies : List KeptFor
   pub are : rows ≡ map kept_record replies
   pub lawful : AllByRecursion IsLawfulReply replies

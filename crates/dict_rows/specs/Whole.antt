@@ -9,17 +9,17 @@ use Rattle.dict_rows.specs.Taken.{with_edition, IsOfLast}
 use Rattle.dict_rows.specs.declared.summary.EditionRows.{EditionRows}
 use Rattle.dict_rows.specs.declared.summary.Tables.{Tables as AllRows}
 
-abbrev pub with_entries : Tables → List spec.Entry → Tables
+abbrev pub with_entries : Tables → List spec.EntryRecord → Tables
 with_entries taken rows = record taken { entries = taken.entries ++ rows }
 
-abbrev pub with_replies : Tables → List spec.Kept → Tables
+abbrev pub with_replies : Tables → List spec.KeptRecord → Tables
 with_replies taken rows = record taken { kept = taken.kept ++ rows }
 
 -- an edition, and then its entries
-abbrev pub edition_in : EditionRows → spec.Edition
+abbrev pub edition_in : EditionRows → spec.EditionRecord
 edition_in rows = owned_edition rows.edition.value
 
-abbrev pub entries_in : EditionRows → List spec.Entry
+abbrev pub entries_in : EditionRows → List spec.EntryRecord
 entries_in rows = entries_given rows.entries.items
 
 abbrev pub with_group : Tables → EditionRows → Tables
@@ -29,8 +29,8 @@ abbrev pub with_groups : Tables → List EditionRows → Tables
 with_groups taken rows = record taken { editions = taken.editions ++ map edition_in rows; entries = taken.entries ++ flat_map entries_in rows }
 
 -- the entries are of the edition that was taken last
-abbrev pub AreOf : Tables → List spec.Entry → Type 0
-AreOf taken rows = AllByRecursion (IsOfLast taken) rows
+abbrev pub AreOfLast : Tables → List spec.EntryRecord → Type 0
+AreOfLast taken rows = AllByRecursion (IsOfLast taken) rows
 
 -- the entries have the edition's number
 abbrev pub AreAllOf : EditionRows → Type 0

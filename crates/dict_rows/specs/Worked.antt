@@ -11,8 +11,8 @@ abbrev pub ore_reading : ReadEdition
 ore_reading = record { title = codes "Ores"; info = []; text = codes "00-database-short\nOres\niron\n  ore\n"; lines = record { headword = codes "iron"; offset = 23; size = 11; shown = codes "iron" } ∷ [] }
 
 -- the first command installed `ore`, the second `gem`, and the third put `all`
-abbrev pub worked_catalogue : Catalogue
-worked_catalogue = record {
+abbrev pub commanded_catalogue : Catalogue
+commanded_catalogue = record {
   items = regular (codes "ore") (record { number = 1; content = edition_of ore_reading }) None
       ∷ regular (codes "gem") (record { number = 2; content = edition_of worked_reading }) None
       ∷ virtual (codes "all") (codes "All") (codes "ore" ∷ codes "gem" ∷ []) ∷ [];

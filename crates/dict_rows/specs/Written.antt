@@ -1,6 +1,6 @@
 -- Which records the parts of a catalogue are written as.
 use Rattle.std.specs.Prelude.{ℕ, pos, ◌+◌, List, [], ◌∷◌, codes, Some, None, option_map}
-use Rattle.dict_records.specs.Records.{Mark, Item as ItemRecord, Member, Edition as EditionRecord, Entry as EntryRecord, Kept}
+use Rattle.dict_records.specs.Records.{Mark, ItemRecord, Member, EditionRecord, EntryRecord, KeptRecord}
 use Rattle.dict_index.specs.Line.{Line}
 use Rattle.dict_index.specs.Edition.{ReadEdition}
 use Rattle.dict_catalogue.specs.Items.{Item, regular, virtual}
@@ -44,5 +44,5 @@ verb_name Retire = codes "retire"
 verb_name Virtual = codes "virtual"
 verb_name Place = codes "place"
 
-abbrev pub kept_record : KeptFor → Kept
+abbrev pub kept_record : KeptFor → KeptRecord
 kept_record kept = record { id = kept.id; number = pos kept.reply.number; verb = verb_name kept.reply.verb; name = kept.reply.name; edition = option_map pos kept.reply.edition }

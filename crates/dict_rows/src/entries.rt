@@ -7,7 +7,7 @@ ghost use Rattle.dict_rows.specs.Given.{OnDamage, IsEntry, IsNoEntry, IsLawfulLi
 use crate::fault::RowsFault;
 use crate::items::{is_number, number_of};
 use dict_index::{cut_out, entry_key, is_edition_text, is_shown};
-use dict_records::Entry;
+use dict_records::EntryRecord;
 use std::alloc::Global;
 
 /// Whether a line's interval lies within the text, and its headword, what is shown and its body are lawful. Else it is `Damaged`.
@@ -44,7 +44,7 @@ pub(crate) fn test_entry(
     number: u64,
     ord: u64,
     text: &[u8],
-    row: &Entry<String>,
+    row: &EntryRecord<String>,
     shown: &str,
 ) -> Result<(), RowsFault>
     ensures is { OnOk result (IsEntry number ord text.now (shown_as (owned_entry row.now) shown.now)) }

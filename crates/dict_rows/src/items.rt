@@ -5,11 +5,11 @@ ghost use Rattle.dict_catalogue.specs.Items.{members_of};
 ghost use Rattle.dict_catalogue.specs.Views.{item_shown, stored_shown, texts_shown};
 ghost use Rattle.dict_rows.specs.Tables.{members_of_owner};
 ghost use Rattle.dict_rows.specs.Written.{numbered, item_record, member_record};
-ghost use Rattle.dict_rows.specs.Given.{items_given, members_given, OnDamage, IsUnread, IsRead, AreRead, IsNotRegular, IsNotVirtual, IsNoItem, AreNoItems};
+ghost use Rattle.dict_rows.specs.Given.{items_given, members_given, OnDamage, IsUnread, IsItemRead, AreRead, IsNotRegular, IsNotVirtual, IsNoItem, AreNoItems};
 
 use crate::fault::RowsFault;
 use dict_catalogue::{Item, StoredTitle};
-use dict_records::{Item as ItemRow, Member, Stored};
+use dict_records::{ItemRecord as ItemRow, Member, StoredRow};
 use std::alloc::Global;
 
 /// The number that stands in a column, where it isn't below 0.
@@ -76,7 +76,7 @@ fn add_member(
 /// The names of the members of this owner, whose places count from 0.
 fn members_of(
     alloc: Global,
-    rows: &[Stored<Member<String>>],
+    rows: &[StoredRow<Member<String>>],
     owner: &str,
 ) -> Result<Vec<String>, RowsFault>
     ensures members { IfOk result (λ members. members_of_owner owner.now (members_given rows.now) ≡ numbered (member_record owner.now) 0 (texts_shown members.items)) }
@@ -166,9 +166,9 @@ fn item_of(
     alloc: Global,
     place: u64,
     row: &ItemRow<String>,
-    members: &[Stored<Member<String>>],
+    members: &[StoredRow<Member<String>>],
 ) -> Result<Item, RowsFault>
-    ensures read { IfOk result (λ item. IsRead place (owned_item row.now) (members_given members.now) (item_shown item)) }
+    ensures read { IfOk result (λ item. IsItemRead place (owned_item row.now) (members_given members.now) (item_shown item)) }
     ensures damaged { IfErr result (λ fault. OnDamage fault (IsNoItem place (owned_item row.now) (members_given members.now))) }
 {
     let members = members_of(alloc, members, row.name.as_str())?;
@@ -184,8 +184,8 @@ fn item_of(
 /// The items that the records tell, whose editions have no title yet.
 pub(crate) fn items_of(
     alloc: Global,
-    rows: &[Stored<ItemRow<String>>],
-    members: &[Stored<Member<String>>],
+    rows: &[StoredRow<ItemRow<String>>],
+    members: &[StoredRow<Member<String>>],
 ) -> Result<Vec<Item>, RowsFault>
     ensures read { IfOk result (λ items. AreRead 0 (items_given rows.now) (members_given members.now) (map item_shown items.items)) }
     ensures damaged { IfErr result (λ fault. OnDamage fault (AreNoItems (items_given rows.now) (members_given members.now))) }

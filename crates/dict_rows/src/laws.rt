@@ -1,14 +1,14 @@
 // What holds of all tables.
 ghost use Rattle.std.specs.Prelude.{◌≡◌, ◌≤ℤ◌, ◌++◌, ◌∷◌, [], ℕ, ℤ, Bool, List, None, false, IsTrue, IsPermutation};
 ghost use Rattle.std.specs.List.{AllByRecursion};
-ghost use Rattle.dict_records.specs.Records.{Edition, Entry};
+ghost use Rattle.dict_records.specs.Records.{EditionRecord, EntryRecord};
 ghost use Rattle.dict_index.specs.Edition.{Edition as AnEdition};
 ghost use Rattle.dict_text.specs.Names.{is_request_id};
 ghost use Rattle.dict_catalogue.specs.Commands.{Command};
 ghost use Rattle.dict_catalogue.specs.Tests.{refusal_of};
 ghost use Rattle.dict_rows.specs.Written.{mark_record};
-ghost use Rattle.dict_rows.specs.Worked.{worked_tables, worked_catalogue};
-ghost use Rattle.dict_rows.specs.After.{TableChange, IsChange, tables_after};
+ghost use Rattle.dict_rows.specs.Worked.{worked_tables, commanded_catalogue};
+ghost use Rattle.dict_rows.specs.After.{TableChange, IsTableChange, tables_after};
 ghost use Rattle.dict_catalogue.specs.Steps.{Catalogue, empty_catalogue, holdings, kept_under, with_effect};
 ghost use Rattle.dict_rows.specs.Tables.{Tables, editions_numbered, entries_of};
 ghost use Rattle.dict_rows.specs.Stands.{Stands};
@@ -37,10 +37,10 @@ pub fn ordered_records()
 ///
 /// It does nothing. Its clauses are the law.
 pub fn records_by_number()
-    ensures editions { (numbers : List ℤ) (number : ℤ) (all read part : List Edition) → is_of numbers number ≡ false → IsPermutation (editions_of_numbers numbers all) read → IsPermutation (editions_numbered number all) part → IsPermutation (editions_of_numbers (numbers ++ number ∷ []) all) (read ++ part) }
-    ensures entries { (numbers : List ℤ) (number : ℤ) (all read part : List Entry) → is_of numbers number ≡ false → IsPermutation (entries_of_numbers numbers all) read → IsPermutation (entries_of number all) part → IsPermutation (entries_of_numbers (numbers ++ number ∷ []) all) (read ++ part) }
-    ensures all_editions { (numbers : List ℤ) (all : List Edition) → AllByRecursion (λ row. IsTrue (is_of numbers row.number)) all → editions_of_numbers numbers all ≡ all }
-    ensures all_entries { (numbers : List ℤ) (all : List Entry) → AllByRecursion (λ row. IsTrue (is_of numbers row.edition)) all → entries_of_numbers numbers all ≡ all }
+    ensures editions { (numbers : List ℤ) (number : ℤ) (all read part : List EditionRecord) → is_of numbers number ≡ false → IsPermutation (editions_of_numbers numbers all) read → IsPermutation (editions_numbered number all) part → IsPermutation (editions_of_numbers (numbers ++ number ∷ []) all) (read ++ part) }
+    ensures entries { (numbers : List ℤ) (number : ℤ) (all read part : List EntryRecord) → is_of numbers number ≡ false → IsPermutation (entries_of_numbers numbers all) read → IsPermutation (entries_of number all) part → IsPermutation (entries_of_numbers (numbers ++ number ∷ []) all) (read ++ part) }
+    ensures all_editions { (numbers : List ℤ) (all : List EditionRecord) → AllByRecursion (λ row. IsTrue (is_of numbers row.number)) all → editions_of_numbers numbers all ≡ all }
+    ensures all_entries { (numbers : List ℤ) (all : List EntryRecord) → AllByRecursion (λ row. IsTrue (is_of numbers row.edition)) all → entries_of_numbers numbers all ≡ all }
 {}
 
 /// Ids that were taken in an order, whichever it is, are each there once, and rowids that were taken in theirs are apart.
@@ -58,7 +58,7 @@ pub fn taken_in_order()
 /// It does nothing. Its clause is the law.
 pub fn records_after()
     ensures { (version : ℕ) (old : Tables) (M : Catalogue) (id : List ℕ) (command : Command AnEdition) (change : TableChange) → Stands version old M → IsLawfulCommand command → IsTrue (is_request_id id) → kept_under M.kept id ≡ None → refusal_of (holdings M) command ≡ None →
-        IsChange M id command change → Stands version (tables_after version change old) (with_effect M id command) }
+        IsTableChange M id command change → Stands version (tables_after version change old) (with_effect M id command) }
 {}
 
 /// The records of the empty catalogue, which are a mark alone.
@@ -72,5 +72,5 @@ pub fn empty_records()
 ///
 /// It does nothing. Its clause is the example, from the definitions alone.
 pub fn worked_records()
-    ensures { Stands 1 worked_tables worked_catalogue }
+    ensures { Stands 1 worked_tables commanded_catalogue }
 {}

@@ -10,7 +10,7 @@ ghost use Rattle.dict_rows.specs.Given.{marks_given, members_given, OnDamage};
 use crate::fault::RowsFault;
 use crate::items::{is_number, number_of};
 use dict_catalogue::{Item, is_known};
-use dict_records::{Mark, Member, Stored};
+use dict_records::{Mark, Member, StoredRow};
 
 /// The count of installs that a mark of this schema tells.
 fn installs_in(version: u64, mark: &Mark<String>) -> Result<u64, RowsFault>
@@ -28,7 +28,7 @@ fn installs_in(version: u64, mark: &Mark<String>) -> Result<u64, RowsFault>
 }
 
 /// The count of installs that the one mark of a file of this schema tells.
-pub(crate) fn installs_of(version: u64, marks: &[Stored<Mark<String>>]) -> Result<u64, RowsFault>
+pub(crate) fn installs_of(version: u64, marks: &[StoredRow<Mark<String>>]) -> Result<u64, RowsFault>
     ensures most { IfOk result (λ installs. installs ≤ 9223372036854775807) }
     ensures told { IfOk result (λ installs. marks_given marks.now ≡ mark_record version installs ∷ []) }
     ensures damaged { IfErr result (λ fault. OnDamage fault ((installs : ℕ) → marks_given marks.now ≢ mark_record version installs ∷ [])) }
@@ -40,7 +40,7 @@ pub(crate) fn installs_of(version: u64, marks: &[Stored<Mark<String>>]) -> Resul
 }
 
 /// Whether each member's owner is one of the items.
-pub(crate) fn are_owned(items: &[Item], members: &[Stored<Member<String>>]) -> bool
+pub(crate) fn are_owned(items: &[Item], members: &[StoredRow<Member<String>>]) -> bool
     ensures { result ≡ list_all (λ row. is_known (map item_shown items.now) row.owner) (members_given members.now) }
 {
     for member in members {

@@ -19,7 +19,9 @@ use crate::replies::{is_install, reply_of};
 use crate::titles::{are_titled, place_of, title_at};
 use dict_catalogue::{Item, MAX_ACCEPTED, Summary, edition_numbers};
 use dict_index::{MAX_LINES, is_edition_text};
-use dict_records::{Edition, Entry, Item as ItemRow, Kept, Mark, Member, Stored};
+use dict_records::{
+    EditionRecord, EntryRecord, ItemRecord as ItemRow, KeptRecord, Mark, Member, StoredRow,
+};
 use dict_text::is_title;
 use std::alloc::Global;
 
@@ -53,7 +55,7 @@ fn take_in_hand(edition: &mut Option<InHand>, number: u64, text: Vec<u8>)
 fn add_entry(
     alloc: Global,
     hand: &mut InHand,
-    row: &Entry<String>,
+    row: &EntryRecord<String>,
     shown: &str,
 ) -> Result<(), RowsFault>
     ensures is { OnOk result (IsEntry hand.old.number hand.old.entries hand.old.text.items (shown_as (owned_entry row.now) shown.now) × (hand.old.entries < most_entries)) }
@@ -136,9 +138,9 @@ impl Reader {
     pub fn begin(
         alloc: Global,
         version: u64,
-        marks: &[Stored<Mark<String>>],
-        items: &[Stored<ItemRow<String>>],
-        members: &[Stored<Member<String>>],
+        marks: &[StoredRow<Mark<String>>],
+        items: &[StoredRow<ItemRow<String>>],
+        members: &[StoredRow<Member<String>>],
     ) -> Result<Reader, RowsFault>
         ensures taken { IfOk result (λ reader. HasTaken version reader (begun (marks_given marks.now) (items_given items.now) (members_given members.now))) }
         ensures damaged { IfErr result (λ fault. OnDamage fault (StandsForNone version (begun (marks_given marks.now) (items_given items.now) (members_given members.now)))) }
@@ -178,7 +180,7 @@ impl Reader {
     /// Takes the record of an edition, whose entries come next. The editions come in any order.
     ///
     /// `Damaged`, the only fault, tells that no catalogue stands for tables that go on so.
-    pub fn edition(&mut self, row: Edition<String, Vec<u8>>) -> Result<(), RowsFault>
+    pub fn edition(&mut self, row: EditionRecord<String, Vec<u8>>) -> Result<(), RowsFault>
         ensures taken { OnOk result ((version : ℕ) (taken : Tables) → HasLetGo version self.old taken → HasTaken version self.new (with_edition taken (owned_edition row))) }
         ensures damaged { OnErr result ((version : ℕ) (taken : Tables) → HasLetGo version self.old taken → StandsForNone version (with_edition taken (owned_edition row))) }
         ensures only { IfErr result (λ fault. fault ≡ RowsFault.Damaged) }
@@ -196,7 +198,7 @@ impl Reader {
         if row.body.len() as u64 >= TEXT_END {
             return Err(RowsFault::Damaged);
         }
-        let Edition { title, body, .. } = row;
+        let EditionRecord { title, body, .. } = row;
         title_at(&mut self.items, place, number, title);
         take_in_hand(&mut self.edition, number, body);
         Ok(())
@@ -208,7 +210,7 @@ impl Reader {
     pub fn entry(
         &mut self,
         alloc: Global,
-        row: &Entry<String>,
+        row: &EntryRecord<String>,
         shown: &str,
     ) -> Result<(), RowsFault>
         ensures taken { OnOk result ((version : ℕ) (taken : Tables) → HasTaken version self.old taken → HasTaken version self.new (with_entry taken (shown_as (owned_entry row.now) shown.now))) }
@@ -246,7 +248,7 @@ impl Reader {
     /// Takes the record of a kept reply, in the order of their numbers, behind all editions.
     ///
     /// `Damaged`, the only fault, tells that no catalogue stands for tables that go on so.
-    pub fn kept(&mut self, row: &Kept<String>) -> Result<(), RowsFault>
+    pub fn kept(&mut self, row: &KeptRecord<String>) -> Result<(), RowsFault>
         ensures taken { OnOk result ((version : ℕ) (taken : Tables) → HasTaken version self.old taken → HasTaken version self.new (with_kept taken (owned_kept row.now))) }
         ensures damaged { OnErr result ((version : ℕ) (taken : Tables) → HasTaken version self.old taken → StandsForNone version (with_kept taken (owned_kept row.now))) }
     {

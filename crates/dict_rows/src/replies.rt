@@ -9,7 +9,7 @@ ghost use Rattle.dict_rows.specs.Given.{IsReply, IsNoReply};
 use crate::fault::RowsFault;
 use crate::items::{is_number, number_if};
 use dict_catalogue::Verb;
-use dict_records::Kept;
+use dict_records::KeptRecord;
 use dict_text::{is_name, is_request_id};
 
 /// What a command did, by the word for it, where it is one.
@@ -53,7 +53,7 @@ fn tells_edition(verb: Verb) -> bool
 }
 
 /// What the command did whose reply is kept in this record under this number. Else the record is `Damaged`.
-pub(crate) fn reply_of(number: u64, row: &Kept<String>) -> Result<Verb, RowsFault>
+pub(crate) fn reply_of(number: u64, row: &KeptRecord<String>) -> Result<Verb, RowsFault>
     ensures told { IfOk result (λ verb. IsReply number verb (owned_kept row.now)) }
     ensures damaged { OnErr result (IsNoReply number (owned_kept row.now)) }
 {

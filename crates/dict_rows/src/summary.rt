@@ -10,39 +10,39 @@ ghost use Rattle.dict_rows.specs.Stands.{Stands};
 ghost use Rattle.dict_rows.specs.Tests.{has_once};
 ghost use Rattle.dict_rows.specs.Given.{OnDamage, kept_given, entries_given};
 ghost use Rattle.dict_rows.specs.Taken.{HasTaken, StandsForNone};
-ghost use Rattle.dict_rows.specs.Whole.{with_entries, with_group, with_groups, with_replies, AreOf, AreAllOf, tables_given};
+ghost use Rattle.dict_rows.specs.Whole.{with_entries, with_group, with_groups, with_replies, AreOfLast, AreAllOf, tables_given};
 
 use crate::fault::RowsFault;
 use crate::reader::Reader;
 use dict_catalogue::Summary;
-use dict_records::{Edition, Entry, Item, Kept, Mark, Member, Stored};
+use dict_records::{EditionRecord, EntryRecord, ItemRecord, KeptRecord, Mark, Member, StoredRow};
 use std::alloc::{AllocError, Global};
 
 /// The record of an edition, with those of its entries in the order of their places.
 #[derive(Drop)]
 pub struct EditionRows {
-    pub edition: Stored<Edition<String, Vec<u8>>>,
-    pub entries: Vec<Stored<Entry<String>>>,
+    pub edition: StoredRow<EditionRecord<String, Vec<u8>>>,
+    pub entries: Vec<StoredRow<EntryRecord<String>>>,
 }
 
 /// The records of all tables: items, members and kept replies in the order of their keys, and editions in any order.
 #[derive(Clone, Copy)]
 pub struct Tables<'a> {
-    pub marks: &'a [Stored<Mark<String>>],
-    pub items: &'a [Stored<Item<String>>],
-    pub members: &'a [Stored<Member<String>>],
+    pub marks: &'a [StoredRow<Mark<String>>],
+    pub items: &'a [StoredRow<ItemRecord<String>>],
+    pub members: &'a [StoredRow<Member<String>>],
     pub editions: &'a [EditionRows],
-    pub kept: &'a [Stored<Kept<String>>],
+    pub kept: &'a [StoredRow<KeptRecord<String>>],
 }
 
 /// A record of an edition of its own.
 fn copied_edition(
     alloc: Global,
-    row: &Edition<String, Vec<u8>>,
-) -> Result<Edition<String, Vec<u8>>, AllocError>
+    row: &EditionRecord<String, Vec<u8>>,
+) -> Result<EditionRecord<String, Vec<u8>>, AllocError>
     ensures { IfOk result (λ copy. owned_edition copy ≡ owned_edition row.now) }
 {
-    Ok(Edition {
+    Ok(EditionRecord {
         number: row.number,
         owner: String::from_str(alloc, row.owner.as_str())?,
         title: String::from_str(alloc, row.title.as_str())?,
@@ -54,10 +54,10 @@ fn copied_edition(
 fn read_entries(
     alloc: Global,
     reader: &mut Reader,
-    rows: &[Stored<Entry<String>>],
+    rows: &[StoredRow<EntryRecord<String>>],
 ) -> Result<(), RowsFault>
     ensures taken { OnOk result ((version : ℕ) (taken : AllTables) → HasTaken version reader.old taken → HasTaken version reader.new (with_entries taken (entries_given rows.now))) }
-    ensures damaged { IfErr result (λ fault. OnDamage fault ((version : ℕ) (taken : AllTables) → HasTaken version reader.old taken → AreOf taken (entries_given rows.now) → StandsForNone version (with_entries taken (entries_given rows.now)))) }
+    ensures damaged { IfErr result (λ fault. OnDamage fault ((version : ℕ) (taken : AllTables) → HasTaken version reader.old taken → AreOfLast taken (entries_given rows.now) → StandsForNone version (with_entries taken (entries_given rows.now)))) }
 {
     for row in rows {
         reader.entry(alloc, &row.value, row.value.headword.as_str())?;
@@ -83,7 +83,10 @@ fn read_editions(alloc: Global, reader: &mut Reader, rows: &[EditionRows]) -> Re
     Ok(())
 }
 
-fn read_replies(reader: &mut Reader, rows: &[Stored<Kept<String>>]) -> Result<(), RowsFault>
+fn read_replies(
+    reader: &mut Reader,
+    rows: &[StoredRow<KeptRecord<String>>],
+) -> Result<(), RowsFault>
     ensures taken { OnOk result ((version : ℕ) (taken : AllTables) → HasTaken version reader.old taken → HasTaken version reader.new (with_replies taken (kept_given rows.now))) }
     ensures damaged { OnErr result ((version : ℕ) (taken : AllTables) → HasTaken version reader.old taken → StandsForNone version (with_replies taken (kept_given rows.now))) }
 {
@@ -93,7 +96,7 @@ fn read_replies(reader: &mut Reader, rows: &[Stored<Kept<String>>]) -> Result<()
     Ok(())
 }
 
-fn has_id(rows: &[Stored<Kept<String>>], id: &str) -> bool
+fn has_id(rows: &[StoredRow<KeptRecord<String>>], id: &str) -> bool
     ensures { result ≡ is_among (map (λ row. row.id) (kept_given rows.now)) id.now }
 {
     for row in rows {
@@ -105,7 +108,7 @@ fn has_id(rows: &[Stored<Kept<String>>], id: &str) -> bool
 }
 
 /// Whether no two kept replies have one id.
-fn has_ids_once(rows: &[Stored<Kept<String>>]) -> bool
+fn has_ids_once(rows: &[StoredRow<KeptRecord<String>>]) -> bool
     ensures { result ≡ has_once (map (λ row. row.id) (kept_given rows.now)) }
 {
     for (index, row) in rows.iter().enumerate() {

@@ -7,7 +7,7 @@ ghost use Rattle.dict_catalogue.specs.Views.{item_shown, kept_shown};
 ghost use Rattle.dict_rows.specs.Written.{mark_record, item_record, member_record, kept_record, verb_name};
 
 use dict_catalogue::{Item, Kept as Reply, Verb};
-use dict_records::{Item as ItemRow, Kept, Mark, Member};
+use dict_records::{ItemRecord as ItemRow, KeptRecord, Mark, Member};
 
 /// The version of the tables that is written, and the greatest that is opened.
 pub const KNOWN_VERSION: u64 = 5;
@@ -96,12 +96,12 @@ fn verb_word(verb: Verb) -> &'static str
 }
 
 /// The record of a reply that is kept for this id.
-pub fn kept_row<'a>(id: &'a str, reply: &'a Reply) -> Kept<&'a str>
+pub fn kept_row<'a>(id: &'a str, reply: &'a Reply) -> KeptRecord<&'a str>
     requires number { reply.now.number ≤ 9223372036854775807 }
     requires edition { IfSome reply.now.edition (λ number. number ≤ 9223372036854775807) }
     ensures { lent_kept result ≡ kept_record (record { id = id.now; reply = kept_shown reply.now }) }
 {
-    Kept {
+    KeptRecord {
         id,
         number: reply.number as i64,
         verb: verb_word(reply.verb),

@@ -12,7 +12,7 @@ use Rattle.dict_text.proofs.AllLemmas.{all_map, all_weaker}
 use Rattle.dict_sql.specs.Columns.{Content, HasColumns, edition_columns, number_columns}
 use Rattle.dict_sql.specs.Effects.{HasApartRowids, rows_of, same_value, equals_number}
 use Rattle.dict_sql.specs.Encodings.{stored_number}
-use Rattle.dict_sql.specs.Reads.{IsSelection, by_columns, numbered}
+use Rattle.dict_sql.specs.Reads.{IsSelection, by_columns, rowid_and_number}
 use Rattle.dict_sql.specs.Streams.Scan.{EditionNumbers}
 use Rattle.dict_edition_sql.specs.PartRecords.{part_columns, stored_part}
 use Rattle.dict_edition_sql.specs.declared.part_records.StoredPart.{StoredPart}
@@ -23,7 +23,7 @@ use Rattle.dict_rows.specs.Tables.{same_number}
 use Rattle.dict_rows.proofs.OrderLemmas.{all_same, all_with}
 use Rattle.dict_rows.proofs.TakenLemmas.{same_number_is, same_itself}
 use Rattle.dict_scans.specs.Census.{one_of, is_in_file, is_known_part, AreKnownApart, AreNumberedApart, TakesCensus, refuses_census, TakesPartCensus, refuses_part_census}
-use Rattle.dict_scans.specs.Cursors.{Cursor, IsWhole, IsFront}
+use Rattle.dict_scans.specs.Cursors.{Cursor, IsScannedToEnd, IsFrontOfScan}
 use Rattle.dict_scans.specs.Cursors.Cursor.{InStore, PartsByRowid}
 use Rattle.dict_scans.specs.Scans.{TakesAll, IsWrong}
 use Rattle.dict_scans.specs.declared.census.Census.{Census}
@@ -64,7 +64,7 @@ record ArePassedApart (test : Row → Bool) (all : List Row) : Type 0 where
   apart : HasApartRowids all
   known : AllByRecursion (λ row. test row ≡ true) all
 
-module _ {R : Type 0} (stored : R → Row) (columns : List Content) (what : Cursor) (all : List Row) (db : Database) (numbers : List ℤ) (first : Census) (same : first.numbers.now ≡ numbers) (none : HasTakenRowids first.rowids []) (lists : (rows : List Row) → IsWhole what db rows → IsPermutation all rows × IsSorted (by_columns (0 ∷ [])) rows) where
+module _ {R : Type 0} (stored : R → Row) (columns : List Content) (what : Cursor) (all : List Row) (db : Database) (numbers : List ℤ) (first : Census) (same : first.numbers.now ≡ numbers) (none : HasTakenRowids first.rowids []) (lists : (rows : List Row) → IsScannedToEnd what db rows → IsPermutation all rows × IsSorted (by_columns (0 ∷ [])) rows) where
   census_all : (last : Census) → TakesAll stored (TakesCensus stored) what db first last → ArePassedApart (one_of numbers) all
   census_all last h =
       let l = lists (map stored h.0) h.1 in
@@ -76,10 +76,10 @@ module _ {R : Type 0} (stored : R → Row) (columns : List Content) (what : Curs
       }
 
   -- the last of those that were read passes what all do
-  last_passes : (test : Row → Bool) → AllByRecursion (λ row. test row ≡ true) all → (given front : List R) (next : R) → given ≡ front ++ next ∷ [] → IsFront what db (map stored given) → test (stored next) ≡ false → ⊥
+  last_passes : (test : Row → Bool) → AllByRecursion (λ row. test row ≡ true) all → (given front : List R) (next : R) → given ≡ front ++ next ∷ [] → IsFrontOfScan what db (map stored given) → test (stored next) ≡ false → ⊥
   last_passes test known given front next is begins fails =
       let rows : map stored given ≡ map stored front ++ stored next ∷ [] = ap (map stored) is ∙ map-append stored front (next ∷ []) in
-      let passes = last_holds (λ row. test row ≡ true) all (map stored front) begins.0 (stored next) known (lists ((map stored front ++ stored next ∷ []) ++ begins.0) (subst (λ l. IsWhole what db (l ++ begins.0)) rows begins.1)).0 in
+      let passes = last_holds (λ row. test row ≡ true) all (map stored front) begins.0 (stored next) known (lists ((map stored front ++ stored next ∷ []) ++ begins.0) (subst (λ l. IsScannedToEnd what db (l ++ begins.0)) rows begins.1)).0 in
       false≢true (sym fails ∙ passes)
 
   census_none : AllByRecursion (HasColumns columns) all → ArePassedApart (one_of numbers) all → IsWrong stored columns (refuses_census stored) what db first → ⊥
@@ -87,7 +87,7 @@ module _ {R : Type 0} (stored : R → Row) (columns : List Content) (what : Curs
   census_none readable apart (inr (given, begins, inl twice)) = all_wrong stored all first.rowids none given begins.0 (lists (map stored given ++ begins.0) begins.1).0 twice apart.apart
   census_none readable apart (inr (given, begins, inr (front, next, is, unknown))) = last_passes (one_of numbers) apart.known given front next is begins (subst (λ ns. one_of ns (stored next) ≡ false) same unknown)
 
-module _ {R : Type 0} (stored : R → Row) (columns : List Content) (what : Cursor) (name : List ℕ) (db : Database) (numbers : List ℤ) (first : Census) (same : first.numbers.now ≡ numbers) (none : HasTakenRowids first.rowids []) (lists : (rows : List Row) → IsWhole what db rows → IsPermutation (rows_of name db) rows × IsSorted (by_columns (0 ∷ [])) rows) where
+module _ {R : Type 0} (stored : R → Row) (columns : List Content) (what : Cursor) (name : List ℕ) (db : Database) (numbers : List ℤ) (first : Census) (same : first.numbers.now ≡ numbers) (none : HasTakenRowids first.rowids []) (lists : (rows : List Row) → IsScannedToEnd what db rows → IsPermutation (rows_of name db) rows × IsSorted (by_columns (0 ∷ [])) rows) where
   pub census_whole : (last : Census) → TakesAll stored (TakesCensus stored) what db first last → AreNumberedApart numbers name db
   census_whole last h = let it = census_all stored columns what (rows_of name db) db numbers first same none lists last h in record { apart = it.apart; known = it.known }
 
@@ -96,7 +96,7 @@ module _ {R : Type 0} (stored : R → Row) (columns : List Content) (what : Curs
 
 -- ---- the numbers of editions, of which the texts aren't read
 
-first_two : (r : Row) → HasColumns edition_columns r → HasColumns number_columns (numbered r)
+first_two : (r : Row) → HasColumns edition_columns r → HasColumns number_columns (rowid_and_number r)
 first_two [] h = absurd h
 first_two (v ∷ []) h = absurd h.1
 first_two (v ∷ w ∷ r) h = (h.0, (h.1.0, tt))
@@ -107,12 +107,12 @@ module _ (db : Database) (numbers : List ℤ) (first : Census) (same : first.num
 
   pub numbers_whole : (last : Census) → TakesAll stored_number (TakesCensus stored_number) (InStore EditionNumbers) db first last → AreNumberedApart numbers (codes "edition") db
   numbers_whole last h =
-      let it = census_all stored_number number_columns (InStore EditionNumbers) (map numbered editions) db numbers first same none (λ rows l. (l.same, l.sorted)) last h in
-      record { apart = apart_from_numbered editions it.apart; known = all_of_map numbered (λ row. one_of numbers row ≡ true) (λ row. one_of numbers row ≡ true) (λ row p. p) editions it.known }
+      let it = census_all stored_number number_columns (InStore EditionNumbers) (map rowid_and_number editions) db numbers first same none (λ rows l. (l.same, l.sorted)) last h in
+      record { apart = apart_from_numbered editions it.apart; known = all_of_map rowid_and_number (λ row. one_of numbers row ≡ true) (λ row. one_of numbers row ≡ true) (λ row p. p) editions it.known }
 
   pub numbers_wrong : AllByRecursion (HasColumns edition_columns) editions → AreNumberedApart numbers (codes "edition") db → IsWrong stored_number number_columns (refuses_census stored_number) (InStore EditionNumbers) db first → ⊥
   numbers_wrong readable apart w =
-      census_none stored_number number_columns (InStore EditionNumbers) (map numbered editions) db numbers first same none (λ rows l. (l.same, l.sorted)) (all_numbered (HasColumns edition_columns) (HasColumns number_columns) first_two editions readable)
+      census_none stored_number number_columns (InStore EditionNumbers) (map rowid_and_number editions) db numbers first same none (λ rows l. (l.same, l.sorted)) (all_numbered (HasColumns edition_columns) (HasColumns number_columns) first_two editions readable)
       (record { apart = numbered_apart editions apart.apart; known = all_numbered (λ row. one_of numbers row ≡ true) (λ row. one_of numbers row ≡ true) (λ row p. p) editions apart.known }) w
 
 -- ---- the parts of files
@@ -125,7 +125,7 @@ module _ (db : Database) (numbers : List ℤ) (first : PartCensus) (same : first
   abbrev parts : List Row
   parts = rows_of (codes "dictcat_part") db
 
-  lists : (rows : List Row) → IsWhole PartsByRowid db rows → IsPermutation parts rows × IsSorted (by_columns (0 ∷ [])) rows
+  lists : (rows : List Row) → IsScannedToEnd PartsByRowid db rows → IsPermutation parts rows × IsSorted (by_columns (0 ∷ [])) rows
   lists rows h = selection_lists (codes "dictcat_part") db rows h
 
   pub parts_whole : (last : PartCensus) → TakesAll stored_part TakesPartCensus PartsByRowid db first last → AreKnownApart (is_known_part numbers) (codes "dictcat_part") db

@@ -12,7 +12,7 @@ use Rattle.dict_text.proofs.AllLemmas.{all_filter}
 use Rattle.dict_records.specs.Records as spec
 use Rattle.dict_records.specs.Typed.{owned_mark, owned_item, owned_member, owned_edition, owned_header, owned_kept}
 use Rattle.dict_records.specs.declared.records as typed
-use Rattle.dict_records.specs.declared.records.Stored.{Stored}
+use Rattle.dict_records.specs.declared.records.StoredRow.{StoredRow}
 use Rattle.dict_sql.specs.Effects.{rows_of}
 use Rattle.dict_sql.specs.Encodings.{mark_row, item_row, member_row, edition_row, kept_row, stored_mark, stored_item, stored_member, stored_edition, stored_kept}
 use Rattle.dict_sql.specs.Reads.{by_columns}
@@ -122,24 +122,24 @@ module _ {R W : Type 0} (k : Codec R W) where
 
 -- ---- the six tables
 
-abbrev pub mark_codec : Codec (Stored (typed.Mark.Mark (String Global))) spec.Mark
+abbrev pub mark_codec : Codec (StoredRow (typed.Mark.Mark (String Global))) spec.Mark
 mark_codec = record { stored = stored_mark; owned = (λ row. owned_mark row.value); encode = mark_row; decode = decode_mark; undo = mark_back; behind = (λ r. refl) }
 
-abbrev pub item_codec : Codec (Stored (typed.Item.Item (String Global))) spec.Item
+abbrev pub item_codec : Codec (StoredRow (typed.ItemRecord.ItemRecord (String Global))) spec.ItemRecord
 item_codec = record { stored = stored_item; owned = (λ row. owned_item row.value); encode = item_row; decode = decode_item; undo = item_back; behind = (λ r. refl) }
 
-abbrev pub member_codec : Codec (Stored (typed.Member.Member (String Global))) spec.Member
+abbrev pub member_codec : Codec (StoredRow (typed.Member.Member (String Global))) spec.Member
 member_codec = record { stored = stored_member; owned = (λ row. owned_member row.value); encode = member_row; decode = decode_member; undo = member_back; behind = (λ r. refl) }
 
-abbrev pub edition_codec : Codec (Stored (typed.Edition.Edition (String Global) (Vec ℕ Global))) spec.Edition
+abbrev pub edition_codec : Codec (StoredRow (typed.EditionRecord.EditionRecord (String Global) (Vec ℕ Global))) spec.EditionRecord
 edition_codec = record { stored = stored_edition; owned = (λ row. owned_edition row.value); encode = edition_row; decode = decode_edition; undo = edition_back; behind = (λ r. refl) }
 
-abbrev pub kept_codec : Codec (Stored (typed.Kept.Kept (String Global))) spec.Kept
+abbrev pub kept_codec : Codec (StoredRow (typed.KeptRecord.KeptRecord (String Global))) spec.KeptRecord
 kept_codec = record { stored = stored_kept; owned = (λ row. owned_kept row.value); encode = kept_row; decode = decode_kept; undo = kept_back; behind = (λ r. refl) }
 
 -- ---- headers, and parts
 
-abbrev pub header_codec : Codec StoredHeader spec.Header
+abbrev pub header_codec : Codec StoredHeader spec.HeaderRecord
 header_codec = record { stored = stored_header; owned = (λ row. owned_header row.value); encode = header_row; decode = decode_header; undo = header_back; behind = (λ r. refl) }
 
 abbrev pub part_codec : Codec StoredPart spec.Part

@@ -12,19 +12,19 @@ use Rattle.dict_sql.specs.Streams.{FailsToMove}
 use Rattle.dict_sql.specs.declared.records.ReadError.TheVariants.{NoRecord}
 use Rattle.dict_sql.proofs.StreamLemmas as store
 use Rattle.dict_older_sql.specs.Scans as scans
-use Rattle.dict_older_sql.specs.Scans.Scan.{Of, ByRowid, OldOf, OldByRowid}
+use Rattle.dict_older_sql.specs.Scans.OlderScan.{Of, ByRowid, OldOf, OldByRowid}
 use Rattle.dict_older_sql.proofs.ScanLemmas as keyed
 use Rattle.dict_tables.specs.declared.keyed.KeyedTable.TheVariants.{Entry}
 use Rattle.dict_edition_sql.specs.HeaderTexts as header_texts
 use Rattle.dict_edition_sql.proofs.HeaderScanLemmas as headers
 use Rattle.dict_edition_sql.specs.PartScans as part_scans
-use Rattle.dict_edition_sql.specs.PartScans.Scan.{OfFile, ByRowid as PartByRowid}
+use Rattle.dict_edition_sql.specs.PartScans.PartScan.{OfFile, ByRowid as PartByRowid}
 use Rattle.dict_edition_sql.proofs.PartScanLemmas as parts
-use Rattle.dict_scans.specs.Cursors.{Cursor, IsFront, HasGiven, GivesOn, GivesNoRecord}
+use Rattle.dict_scans.specs.Cursors.{Cursor, IsFrontOfScan, CursorHasGiven, CursorGivesOn, GivesNoRecord}
 use Rattle.dict_scans.specs.Cursors.Cursor.{InStore, ShownEntriesOf, ShownEntriesByRowid, OldEntriesOf, OldEntriesByRowid, PartsOf, PartsByRowid, HeadersByRowid}
 
 module _ {S : Type 0} (g : Ghosts S) where
-  pub front_of : (what : Cursor) (h : Held S) (given : List Row) → HasGiven g what h given → IsFront what (state g h).now given
+  pub front_of : (what : Cursor) (h : Held S) (given : List Row) → CursorHasGiven g what h given → IsFrontOfScan what (state g h).now given
   front_of (InStore scan) h given it = it.front
   front_of (ShownEntriesOf edition) h given it = it.front
   front_of ShownEntriesByRowid h given it = it.front
@@ -35,7 +35,7 @@ module _ {S : Type 0} (g : Ghosts S) where
   front_of HeadersByRowid h given it = it.front
 
   module _ (old new : Held S) (given : List Row) where
-    gives_all : (what : Cursor) → IsUnchanged (state g old) (state g new) → HasGiven g what old given → kit.Advances g old new None → GivesOn g what new given None
+    gives_all : (what : Cursor) → IsUnchanged (state g old) (state g new) → CursorHasGiven g what old given → kit.Advances g old new None → CursorGivesOn g what new given None
     gives_all (InStore scan) same h moved = store.gives_on g scan old new given None same h moved
     gives_all (ShownEntriesOf edition) same h moved = keyed.gives_on g (Of Entry edition) old new given None same h moved
     gives_all ShownEntriesByRowid same h moved = keyed.gives_on g (ByRowid Entry) old new given None same h moved
@@ -45,7 +45,7 @@ module _ {S : Type 0} (g : Ghosts S) where
     gives_all PartsByRowid same h moved = parts.gives_on g PartByRowid old new given None same h moved
     gives_all HeadersByRowid same h moved = headers.gives_on g old new given None same h moved
 
-    gives_one : (what : Cursor) (row : Row) → IsUnchanged (state g old) (state g new) → HasGiven g what old given → kit.Advances g old new (Some row) → HasGiven g what new (given ++ row ∷ [])
+    gives_one : (what : Cursor) (row : Row) → IsUnchanged (state g old) (state g new) → CursorHasGiven g what old given → kit.Advances g old new (Some row) → CursorHasGiven g what new (given ++ row ∷ [])
     gives_one (InStore scan) row same h moved = store.gives_on g scan old new given (Some row) same h moved
     gives_one (ShownEntriesOf edition) row same h moved = keyed.gives_on g (Of Entry edition) old new given (Some row) same h moved
     gives_one ShownEntriesByRowid row same h moved = keyed.gives_on g (ByRowid Entry) old new given (Some row) same h moved
@@ -55,21 +55,21 @@ module _ {S : Type 0} (g : Ghosts S) where
     gives_one PartsByRowid row same h moved = parts.gives_on g PartByRowid old new given (Some row) same h moved
     gives_one HeadersByRowid row same h moved = headers.gives_on g old new given (Some row) same h moved
 
-    pub gives_on : (what : Cursor) (row : Option Row) → IsUnchanged (state g old) (state g new) → HasGiven g what old given → kit.Advances g old new row → GivesOn g what new given row
+    pub gives_on : (what : Cursor) (row : Option Row) → IsUnchanged (state g old) (state g new) → CursorHasGiven g what old given → kit.Advances g old new row → CursorGivesOn g what new given row
     gives_on what None same h moved = gives_all what same h moved
     gives_on what (Some row) same h moved = gives_one what row same h moved
 
-    pub no_record : (columns : List Content) (what : Cursor) → HasGiven g what old given → FailsToMove g columns old new NoRecord → GivesNoRecord g columns what old new given
+    pub no_record : (columns : List Content) (what : Cursor) → CursorHasGiven g what old given → FailsToMove g columns old new NoRecord → GivesNoRecord g columns what old new given
     no_record columns what h (row, same, moved, none) = (row, same, gives_one what row same h moved, none)
 
   -- no further row was had
-  keyed_fails : (what : scans.Scan) (old new : Held S) (given : List Row) (e : Error) → scans.HasGiven g what old given → kit.FailsToAdvance g old new e → FailsToRead (state g old) (state g new) e
-  keyed_fails what old new given e h failed = keyed.fails_to_read what (state g old) (state g new) (λ _. h.has) e (failed (scans.scan_text what) (scans.scan_values what) given h.runs)
+  keyed_fails : (what : scans.OlderScan) (old new : Held S) (given : List Row) (e : Error) → scans.HasGivenOlder g what old given → kit.FailsToAdvance g old new e → FailsToRead (state g old) (state g new) e
+  keyed_fails what old new given e h failed = keyed.fails_to_read what (state g old) (state g new) (λ _. h.has) e (failed (scans.older_scan_text what) (scans.older_scan_values what) given h.runs)
 
-  part_fails : (what : part_scans.Scan) (old new : Held S) (given : List Row) (e : Error) → part_scans.HasGiven g what old given → kit.FailsToAdvance g old new e → FailsToRead (state g old) (state g new) e
-  part_fails what old new given e h failed = parts.fails_to_read what (state g old) (state g new) (λ _. h.has) e (failed (part_scans.scan_text what) (part_scans.scan_values what) given h.runs)
+  part_fails : (what : part_scans.PartScan) (old new : Held S) (given : List Row) (e : Error) → part_scans.HasGivenParts g what old given → kit.FailsToAdvance g old new e → FailsToRead (state g old) (state g new) e
+  part_fails what old new given e h failed = parts.fails_to_read what (state g old) (state g new) (λ _. h.has) e (failed (part_scans.part_scan_text what) (part_scans.part_scan_values what) given h.runs)
 
-  pub fails_to_move : (what : Cursor) (old new : Held S) (given : List Row) (e : Error) → HasGiven g what old given → kit.FailsToAdvance g old new e → FailsToRead (state g old) (state g new) e
+  pub fails_to_move : (what : Cursor) (old new : Held S) (given : List Row) (e : Error) → CursorHasGiven g what old given → kit.FailsToAdvance g old new e → FailsToRead (state g old) (state g new) e
   fails_to_move (InStore scan) old new given e h failed = store.fails_to_advance g scan old new given e h failed
   fails_to_move (ShownEntriesOf edition) old new given e h failed = keyed_fails (Of Entry edition) old new given e h failed
   fails_to_move ShownEntriesByRowid old new given e h failed = keyed_fails (ByRowid Entry) old new given e h failed
@@ -77,4 +77,4 @@ module _ {S : Type 0} (g : Ghosts S) where
   fails_to_move OldEntriesByRowid old new given e h failed = keyed_fails OldByRowid old new given e h failed
   fails_to_move (PartsOf edition file) old new given e h failed = part_fails (OfFile edition file) old new given e h failed
   fails_to_move PartsByRowid old new given e h failed = part_fails PartByRowid old new given e h failed
-  fails_to_move HeadersByRowid old new given e h failed = headers.fails_to_read (state g old) (state g new) (λ _. h.has) e (failed header_texts.rowid_text [] given h.runs)
+  fails_to_move HeadersByRowid old new given e h failed = headers.fails_to_read (state g old) (state g new) (λ _. h.has) e (failed header_texts.header_rowid_text [] given h.runs)

@@ -4,9 +4,9 @@ use Rattle.std.specs.List.{AllByRecursion, Contains}
 use Rattle.sqlite.specs.Effect.{Database, IsDatabase}
 use Rattle.sqlite.specs.Order.{Row}
 use Rattle.dict_text.proofs.AllLemmas.{all_filter}
-use Rattle.dict_records.specs.Records.{Entry, ShowsHeadword}
+use Rattle.dict_records.specs.Records.{EntryRecord, ShowsHeadword}
 use Rattle.dict_records.specs.Typed.{owned_entry}
-use Rattle.dict_tables.specs.Keyed.{entry as keyed_entry, old_entry}
+use Rattle.dict_tables.specs.Keyed.{entry_with_keys as keyed_entry, old_entry}
 use Rattle.dict_sql.specs.Columns.{Content, HasColumns, entry_columns}
 use Rattle.dict_sql.specs.Effects.{Has, rows_of, equals_number}
 use Rattle.dict_sql.specs.Encodings.{stored_entry}
@@ -17,13 +17,13 @@ use Rattle.dict_rows.specs.Given.{entries_given}
 use Rattle.dict_rows.specs.Versions.{Layout, Plain, Keyed, Shown}
 use Rattle.dict_rows.specs.declared.reader.Reader.{Reader}
 use Rattle.dict_holdings.specs.Readings.{AreShownIn, shown_columns, without_keys}
-use Rattle.dict_scans.specs.Cursors.{Cursor, IsWhole, IsFront}
+use Rattle.dict_scans.specs.Cursors.{Cursor, IsScannedToEnd, IsFrontOfScan}
 use Rattle.dict_scans.specs.Cursors.Cursor.{InStore, ShownEntriesOf, OldEntriesOf}
-use Rattle.dict_scans.specs.Entries.{behind, entry_cells, HasEntryRows, BeginsWithEntries, IsNoEntryRow, AreTaken, AreNextTaken, TakesEntries, HasWrongEntries}
-use Rattle.dict_scans.specs.Filing.{EntryRow, OldRow, old_entry_in, shown_entry_in, takes_plain, refuses_plain, takes_old, refuses_old, takes_shown, refuses_shown}
+use Rattle.dict_scans.specs.Entries.{looked_behind_rowid, entry_cells, HasEntryRows, BeginsWithEntries, IsNoEntryRow, AreTaken, AreNextTaken, TakesEntries, HasWrongEntries}
+use Rattle.dict_scans.specs.IndexingReader.{EntryRow, OldRow, old_entry_in, shown_entry_in, takes_plain, refuses_plain, takes_old, refuses_old, takes_shown, refuses_shown}
 use Rattle.dict_scans.specs.Indexing.{indexed_of}
 use Rattle.dict_scans.specs.Scans.{TakesAll, HasNoRecordIn, IsWrong}
-use Rattle.dict_scans.specs.declared.filing.EditionReader.{EditionReader}
+use Rattle.dict_scans.specs.declared.indexing_reader.IndexingReader.{IndexingReader}
 use Rattle.dict_scans.proofs.PlaceLemmas.{last_holds, last_there}
 use Rattle.dict_scans.proofs.TypedLemmas.{old_typed, shown_typed}
 
@@ -31,21 +31,21 @@ use Rattle.dict_scans.proofs.TypedLemmas.{old_typed, shown_typed}
 abbrev edition_rows : ℤ → Database → List Row
 edition_rows number db = filter (equals_number 1 number) (rows_of (codes "entry") db)
 
-next_taken : (number : ℤ) (first last : Reader) (all : List Entry) → AreTaken first last all → AreNextTaken number first last all
+next_taken : (number : ℤ) (first last : Reader) (all : List EntryRecord) → AreTaken first last all → AreNextTaken number first last all
 next_taken number first last all t version taken h fresh = t version taken h
 
 -- ---- whatever the layout
 
-module _ {R : Type 0} (stored : R → Row) (entry : R → Entry) (layout : Layout) (are : (r : R) → behind layout (stored r) ≡ entry_cells layout (entry r)) (shown : (given : List R) → AreShownIn layout (map entry given)) where
-  cells : (given : List R) → map (behind layout) (map stored given) ≡ map (entry_cells layout) (map entry given)
+module _ {R : Type 0} (stored : R → Row) (entry : R → EntryRecord) (layout : Layout) (are : (r : R) → looked_behind_rowid layout (stored r) ≡ entry_cells layout (entry r)) (shown : (given : List R) → AreShownIn layout (map entry given)) where
+  cells : (given : List R) → map (looked_behind_rowid layout) (map stored given) ≡ map (entry_cells layout) (map entry given)
   cells [] = refl
   cells (r ∷ given) = λ i. are r i ∷ cells given i
 
-  module _ (what : Cursor) (db : Database) (number : ℤ) (lists : (rows : List Row) → IsWhole what db rows → IsSelection (codes "entry") (equals_number 1 number) (2 ∷ []) db rows) where
-    has_entries : (given : List R) → IsWhole what db (map stored given) → HasEntryRows layout db number (map entry given)
+  module _ (what : Cursor) (db : Database) (number : ℤ) (lists : (rows : List Row) → IsScannedToEnd what db rows → IsSelection (codes "entry") (equals_number 1 number) (2 ∷ []) db rows) where
+    has_entries : (given : List R) → IsScannedToEnd what db (map stored given) → HasEntryRows layout db number (map entry given)
     has_entries given whole = (map stored given, lists (map stored given) whole, cells given, shown given)
 
-    begins_with : (given : List R) → IsFront what db (map stored given) → BeginsWithEntries layout db number (map entry given)
+    begins_with : (given : List R) → IsFrontOfScan what db (map stored given) → BeginsWithEntries layout db number (map entry given)
     begins_with given front = (map stored given, front.0, lists (map stored given ++ front.0) front.1, cells given, shown given)
 
     no_entry : (columns : List Content) → ((row : Row) → Contains (edition_rows number db) row → ¬ HasColumns columns row → IsNoEntryRow layout row) → HasNoRecordIn stored columns what db → (row : Row) × Contains (edition_rows number db) row × IsNoEntryRow layout row
@@ -59,8 +59,8 @@ plain_shown : (given : List EntryRow) → AllByRecursion ShowsHeadword (map (λ 
 plain_shown [] = tt
 plain_shown (row ∷ given) = (refl, plain_shown given)
 
-module _ (db : Database) (number : ℤ) (first : EditionReader) where
-  pub plain_whole : (last : EditionReader) → TakesAll stored_entry takes_plain (InStore (EntriesOf number)) db first last → (all : List Entry) × TakesEntries Plain db number first.reader last.reader all × (last.index ≡ first.index ++ map indexed_of all)
+module _ (db : Database) (number : ℤ) (first : IndexingReader) where
+  pub plain_whole : (last : IndexingReader) → TakesAll stored_entry takes_plain (InStore (EntriesOf number)) db first last → (all : List EntryRecord) × TakesEntries Plain db number first.reader last.reader all × (last.index ≡ first.index ++ map indexed_of all)
   plain_whole last h = (
     entries_given h.0,
     record {
@@ -80,8 +80,8 @@ old_shown : (given : List OldRow) → AllByRecursion ShowsHeadword (map old_entr
 old_shown [] = tt
 old_shown (row ∷ given) = (refl, old_shown given)
 
-module _ (db : Database) (number : ℤ) (first : EditionReader) where
-  pub old_whole : (last : EditionReader) → TakesAll stored_old_entry takes_old (OldEntriesOf number) db first last → (all : List Entry) × TakesEntries Keyed db number first.reader last.reader all × (last.index ≡ first.index ++ map indexed_of all)
+module _ (db : Database) (number : ℤ) (first : IndexingReader) where
+  pub old_whole : (last : IndexingReader) → TakesAll stored_old_entry takes_old (OldEntriesOf number) db first last → (all : List EntryRecord) × TakesEntries Keyed db number first.reader last.reader all × (last.index ≡ first.index ++ map indexed_of all)
   old_whole last h = (
     map old_entry_in h.0,
     record {
@@ -100,8 +100,8 @@ module _ (db : Database) (number : ℤ) (first : EditionReader) where
 
 -- ---- of schema 4
 
-module _ (db : Database) (number : ℤ) (first : EditionReader) where
-  pub shown_whole : (last : EditionReader) → TakesAll stored_keyed_entry takes_shown (ShownEntriesOf number) db first last → (all : List Entry) × TakesEntries Shown db number first.reader last.reader all × (last.index ≡ first.index ++ map indexed_of all)
+module _ (db : Database) (number : ℤ) (first : IndexingReader) where
+  pub shown_whole : (last : IndexingReader) → TakesAll stored_keyed_entry takes_shown (ShownEntriesOf number) db first last → (all : List EntryRecord) × TakesEntries Shown db number first.reader last.reader all × (last.index ≡ first.index ++ map indexed_of all)
   shown_whole last h = (
     map shown_entry_in h.0,
     record {

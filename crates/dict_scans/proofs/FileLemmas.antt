@@ -29,8 +29,8 @@ use Rattle.dict_holdings.specs.Files.{part_at, file_parts}
 use Rattle.dict_holdings.proofs.ReadLemmas.{one_le}
 use Rattle.dict_scans.specs.Cursors.Cursor.{PartsOf}
 use Rattle.dict_holdings.proofs.RiseLemmas.{order_weaker}
-use Rattle.dict_scans.specs.Cursors.{IsWhole}
-use Rattle.dict_scans.specs.Files.{file_rows, HasFile, HasNoFile, TakesParts, RefusesParts, AreNumbered, octets_in, number_in}
+use Rattle.dict_scans.specs.Cursors.{IsScannedToEnd}
+use Rattle.dict_scans.specs.Files.{file_rows, HasFile, HasNoFile, TakesParts, RefusesParts, AreNumbered, octets_of_part, number_of_part}
 use Rattle.dict_scans.specs.Scans.{TakesAll, IsWrong}
 use Rattle.dict_scans.proofs.CodecLemmas.{IsRow, read, read_stored, records_in, rows_order, part_codec}
 use Rattle.dict_scans.proofs.NumberLemmas.{int_is, behind_column}
@@ -42,23 +42,23 @@ parts_of_none : parts_of [] ≡ []
 unfolding parts_of
 parts_of_none = refl
 
-numbers_push : (n : ℕ) (given : List StoredPart) (next : StoredPart) → AreNumbered n given → number_in next ≡ pos (n + length given) → AreNumbered n (given ++ next ∷ [])
+numbers_push : (n : ℕ) (given : List StoredPart) (next : StoredPart) → AreNumbered n given → number_of_part next ≡ pos (n + length given) → AreNumbered n (given ++ next ∷ [])
 numbers_push n [] next h e = ap (λ z. z ∷ []) (e ∙ ap pos (let none : n + 0 ≡ n = omega arith in none))
 numbers_push n (r ∷ given) next h e =
-    let first : number_in r ≡ pos n = cc in
+    let first : number_of_part r ≡ pos n = cc in
     let rest : AreNumbered (n + 1) given = cc in
-    let later : number_in next ≡ pos (n + 1 + length given) = e ∙ ap pos (let same : n + length (r ∷ given) ≡ n + 1 + length given = omega arith in same) in
+    let later : number_of_part next ≡ pos (n + 1 + length given) = e ∙ ap pos (let same : n + length (r ∷ given) ≡ n + 1 + length given = omega arith in same) in
     λ i. first i ∷ numbers_push (n + 1) given next rest later i
 
-pub parts_next : (first : List ℕ) (given : List StoredPart) (next : StoredPart) (old new : List ℕ) (number : ℕ) → TakesParts first given old → number_in next ≡ pos number → IsNext old number (octets_in next) → parts_of new ≡ parts_of old ++ octets_in next ∷ []
+pub parts_next : (first : List ℕ) (given : List StoredPart) (next : StoredPart) (old new : List ℕ) (number : ℕ) → TakesParts first given old → number_of_part next ≡ pos number → IsNext old number (octets_of_part next) → parts_of new ≡ parts_of old ++ octets_of_part next ∷ []
     → TakesParts first (given ++ next ∷ []) new
 parts_next first given next old new number t is one more = record {
-  parts = more ∙ ap (λ l. l ++ octets_in next ∷ []) t.parts ∙ append_assoc (parts_of first) (map octets_in given) (octets_in next ∷ []) ∙ ap (λ l. parts_of first ++ l) (sym (map-append octets_in given (next ∷ [])));
+  parts = more ∙ ap (λ l. l ++ octets_of_part next ∷ []) t.parts ∙ append_assoc (parts_of first) (map octets_of_part given) (octets_of_part next ∷ []) ∙ ap (λ l. parts_of first ++ l) (sym (map-append octets_of_part given (next ∷ [])));
   numbers = numbers_push (length (parts_of first)) given next t.numbers (is ∙ ap pos (one.numbered ∙ many_parts));
 }
   where
     many_parts : length (parts_of old) ≡ length (parts_of first) + length given
-    many_parts = ap length t.parts ∙ length-append (parts_of first) (map octets_in given) ∙ ap (λ n. length (parts_of first) + n) (length-map given octets_in)
+    many_parts = ap length t.parts ∙ length-append (parts_of first) (map octets_of_part given) ∙ ap (λ n. length (parts_of first) + n) (length-map given octets_of_part)
 
 -- those that begin the parts of a file are parts
 front_parts : (size : ℕ) (ps : List (List ℕ)) (p : List ℕ) (more : List (List ℕ)) → AreOfSize size ((ps ++ p ∷ []) ++ more) → AreOfSize size (ps ++ p ∷ [])
@@ -67,27 +67,27 @@ front_parts size (q ∷ ps) p more h =
     let whole : 1 ≤ length ((ps ++ p ∷ []) ++ more) = omega (arith, length-append (ps ++ p ∷ []) more, length_push ps p) in
     (h.0, h.1, (λ some. h.2 whole), front_parts size ps p more h.3)
 
-last_number : (n : ℕ) (given : List StoredPart) (next : StoredPart) → AreNumbered n (given ++ next ∷ []) → number_in next ≡ pos (n + length given)
-last_number n [] next h = let one : number_in next ≡ pos n = cc in one ∙ ap pos (let none : n ≡ n + 0 = omega arith in none)
+last_number : (n : ℕ) (given : List StoredPart) (next : StoredPart) → AreNumbered n (given ++ next ∷ []) → number_of_part next ≡ pos (n + length given)
+last_number n [] next h = let one : number_of_part next ≡ pos n = cc in one ∙ ap pos (let none : n ≡ n + 0 = omega arith in none)
 last_number n (r ∷ given) next h =
     let rest : AreNumbered (n + 1) (given ++ next ∷ []) = cc in
     last_number (n + 1) given next rest ∙ ap pos (let same : n + 1 + length given ≡ n + length (r ∷ given) = omega arith in same)
 
-pub parts_refused : (first : List ℕ) (given : List StoredPart) (next : StoredPart) (old : List ℕ) → TakesParts first given old → ((number : ℕ) → number_in next ≡ pos number → IsNext old number (octets_in next) → ⊥) → RefusesParts first (given ++ next ∷ [])
+pub parts_refused : (first : List ℕ) (given : List StoredPart) (next : StoredPart) (old : List ℕ) → TakesParts first given old → ((number : ℕ) → number_of_part next ≡ pos number → IsNext old number (octets_of_part next) → ⊥) → RefusesParts first (given ++ next ∷ [])
 parts_refused first given next old t wrong numbers file more is =
     wrong (length (parts_of old)) (last_number (length (parts_of first)) given next numbers ∙ ap pos (sym many_parts)) (record {
       numbered = refl;
-      follows = front_parts 16384 (parts_of old) (octets_in next) more (subst AreParts (is ∙ shape) (parts_regular file));
+      follows = front_parts 16384 (parts_of old) (octets_of_part next) more (subst AreParts (is ∙ shape) (parts_regular file));
     })
   where
     many_parts : length (parts_of old) ≡ length (parts_of first) + length given
-    many_parts = ap length t.parts ∙ length-append (parts_of first) (map octets_in given) ∙ ap (λ n. length (parts_of first) + n) (length-map given octets_in)
+    many_parts = ap length t.parts ∙ length-append (parts_of first) (map octets_of_part given) ∙ ap (λ n. length (parts_of first) + n) (length-map given octets_of_part)
 
-    shape : parts_of first ++ (map octets_in (given ++ next ∷ []) ++ more) ≡ (parts_of old ++ octets_in next ∷ []) ++ more
+    shape : parts_of first ++ (map octets_of_part (given ++ next ∷ []) ++ more) ≡ (parts_of old ++ octets_of_part next ∷ []) ++ more
     shape =
-        sym (append_assoc (parts_of first) (map octets_in (given ++ next ∷ [])) more)
-        ∙ ap (λ l. (parts_of first ++ l) ++ more) (map-append octets_in given (next ∷ []))
-        ∙ ap (λ l. l ++ more) (sym (append_assoc (parts_of first) (map octets_in given) (octets_in next ∷ [])) ∙ ap (λ l. l ++ octets_in next ∷ []) (sym t.parts))
+        sym (append_assoc (parts_of first) (map octets_of_part (given ++ next ∷ [])) more)
+        ∙ ap (λ l. (parts_of first ++ l) ++ more) (map-append octets_of_part given (next ∷ []))
+        ∙ ap (λ l. l ++ more) (sym (append_assoc (parts_of first) (map octets_of_part given) (octets_of_part next ∷ [])) ∙ ap (λ l. l ++ octets_of_part next ∷ []) (sym t.parts))
 
 -- ---- all parts of a file
 
@@ -98,19 +98,19 @@ of_file number file r h =
     (int_is r.part.edition number both.0, int_is r.part.file file both.1)
 
 all_parts_are : (number file : ℤ) (n : ℕ) (given : List StoredPart) → AreNumbered n given → AllByRecursion (λ row. is_of_file number file row ≡ true) (map stored_part given)
-    → map (drop 1) (map stored_part given) ≡ map part_row (numbered (part_at number file) n (map octets_in given))
+    → map (drop 1) (map stored_part given) ≡ map part_row (numbered (part_at number file) n (map octets_of_part given))
 all_parts_are number file n [] h k = refl
 all_parts_are number file n (r ∷ given) h k =
-    let first : number_in r ≡ pos n = cc in
+    let first : number_of_part r ≡ pos n = cc in
     let rest : AreNumbered (n + 1) given = cc in
     let of = of_file number file r k.0 in
-    λ i. part_row (record { edition = of.0 i; file = of.1 i; number = first i; octets = octets_in r }) ∷ all_parts_are number file (n + 1) given rest k.1 i
+    λ i. part_row (record { edition = of.0 i; file = of.1 i; number = first i; octets = octets_of_part r }) ∷ all_parts_are number file (n + 1) given rest k.1 i
 
 pub file_whole : (db : Database) (number file : ℤ) (first last : List ℕ) → first ≡ [] → TakesAll stored_part TakesParts (PartsOf number file) db first last → HasFile db number file last
 file_whole db number file first last none h =
     let rows = filter (is_of_file number file) (rows_of (codes "dictcat_part") db) in
     let begun : parts_of first ≡ [] = ap parts_of none ∙ parts_of_none in
-    let parts : parts_of last ≡ map octets_in h.0 = h.2.parts ∙ ap (λ l. l ++ map octets_in h.0) begun in
+    let parts : parts_of last ≡ map octets_of_part h.0 = h.2.parts ∙ ap (λ l. l ++ map octets_of_part h.0) begun in
     let numbers : AreNumbered 0 h.0 = subst (λ n. AreNumbered n h.0) (ap length begun) h.2.numbers in
     let each = all_same (λ row. is_of_file number file row ≡ true) rows (map stored_part h.0) h.1.same (all_passed (is_of_file number file) (rows_of (codes "dictcat_part") db)) in
     let are : map (drop 1) (map stored_part h.0) ≡ map part_row (file_parts number file last) = all_parts_are number file 0 h.0 numbers each ∙ ap (λ l. map part_row (numbered (part_at number file) 0 l)) (sym parts) in
@@ -128,7 +128,7 @@ parts_rise : (number file : ℤ) (octets : List ℕ) → InOrder (λ (a b : Part
 parts_rise number file octets = numbered_rise (part_at number file) (λ (p : Part). p.number) (λ n o. refl) 0 (parts_of octets)
 
 -- rows that are read in the order of their numbers are those of the file's parts
-pub file_read : (db : Database) (number file : ℤ) (octets : List ℕ) → HasFile db number file octets → (rows : List Row) → IsWhole (PartsOf number file) db rows → map (read part_codec) rows ≡ file_parts number file octets
+pub file_read : (db : Database) (number file : ℤ) (octets : List ℕ) → HasFile db number file octets → (rows : List Row) → IsScannedToEnd (PartsOf number file) db rows → map (read part_codec) rows ≡ file_parts number file octets
 file_read db number file octets h rows s =
     let all = filter (is_of_file number file) (rows_of (codes "dictcat_part") db) in
     let mine = records_in part_codec (file_parts number file octets) all h in
@@ -157,7 +157,7 @@ file_told db number file x y h k =
 -- ---- the parts of none
 
 fronts : (number file : ℤ) (n : ℕ) (os : List (List ℕ)) (given : List StoredPart) (more : List Part) → numbered (part_at number file) n os ≡ map (λ (r : StoredPart). owned_part r.part) given ++ more
-    → AreNumbered n given × (os ≡ map octets_in given ++ map (λ (p : Part). p.octets) more)
+    → AreNumbered n given × (os ≡ map octets_of_part given ++ map (λ (p : Part). p.octets) more)
 fronts number file n os [] more e = (refl, sym (octets_back number file n os) ∙ ap (map (λ (p : Part). p.octets)) e)
 fronts number file n [] (r ∷ given) more e = absurd (cc)
 fronts number file n (o ∷ os) (r ∷ given) more e =
@@ -175,4 +175,4 @@ file_wrong db number file first none (inr (given, front, refused)) readable octe
     let whole : file_parts number file octets ≡ map (λ (r : StoredPart). owned_part r.part) given ++ tail =
     sym (file_read db number file octets h (map stored_part given ++ front.0) front.1) ∙ map-append (read part_codec) (map stored_part given) front.0 ∙ ap (λ l. l ++ tail) (read_stored part_codec given) in
     let it = fronts number file 0 (parts_of octets) given tail whole in
-    refused (subst (λ n. AreNumbered n given) (ap length (sym begun)) it.0) octets (map (λ (p : Part). p.octets) tail) (it.1 ∙ ap (λ l. l ++ (map octets_in given ++ map (λ (p : Part). p.octets) tail)) (sym begun))
+    refused (subst (λ n. AreNumbered n given) (ap length (sym begun)) it.0) octets (map (λ (p : Part). p.octets) tail) (it.1 ∙ ap (λ l. l ++ (map octets_of_part given ++ map (λ (p : Part). p.octets) tail)) (sym begun))

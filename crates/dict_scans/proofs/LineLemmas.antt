@@ -5,7 +5,7 @@ use Rattle.std.specs.List.{AllByRecursion}
 use Rattle.std.proofs.lemmas.List.{map-append, length-append}
 use Rattle.std.proofs.lemmas.List.Elements.{filter-append}
 use Rattle.dict_text.proofs.AllLemmas.{all_append}
-use Rattle.dict_records.specs.Records.{Entry}
+use Rattle.dict_records.specs.Records.{EntryRecord}
 use Rattle.dict_index.specs.Line.{Line}
 use Rattle.dict_parts.specs.Stored.{IsStorable, stored_index, stored_line}
 use Rattle.dict_parts.proofs.IndexLemmas.{goes_on, one_more, no_more}
@@ -16,10 +16,10 @@ use Rattle.dict_rows.specs.Written.{numbered, entry_record}
 use Rattle.dict_rows.specs.declared.reader.Reader.{Reader}
 use Rattle.dict_rows.proofs.TakenLemmas.{same_itself}
 use Rattle.dict_search.specs.Entries.{entry_of}
-use Rattle.dict_scans.specs.Entries.{AreLinesTaken, AreNoLines, AreNextTaken, IsIndexOf, IsWrongIndex, next_entries}
-use Rattle.dict_scans.specs.Filing.{AreLinesAdded}
+use Rattle.dict_scans.specs.Entries.{AreLinesTaken, AreNoLines, AreNextTaken, IsStoredIndexOf, IsWrongIndex, next_entries}
+use Rattle.dict_scans.specs.IndexingReader.{AreLinesAdded}
 use Rattle.dict_scans.specs.Indexing.{indexed_of}
-use Rattle.dict_scans.specs.declared.filing.EditionReader.{EditionReader}
+use Rattle.dict_scans.specs.declared.indexing_reader.IndexingReader.{IndexingReader}
 
 -- ---- one line
 
@@ -54,7 +54,7 @@ many : (taken : Tables) (number : ℕ) (lines : List Line) → length (entries_o
 many taken number lines =
     let had = entries_of (pos number) taken.entries in
     let given = next_entries taken number lines in
-    ap length (filter-append (λ (e : Entry). same_number e.edition (pos number)) taken.entries given)
+    ap length (filter-append (λ (e : EntryRecord). same_number e.edition (pos number)) taken.entries given)
     ∙ length-append had (entries_of (pos number) given)
     ∙ ap (λ (k : ℕ). length had + k) (ap length (of_number number (length had) lines) ∙ numbered_length number (length had) lines)
 
@@ -68,21 +68,21 @@ module _ (first old : Reader) (lines : List Line) (line : Line) (t : AreLinesTak
 
   pub lines_next : (new : Reader) → AreLinesTaken old new (line ∷ []) → AreLinesTaken first new (lines ++ line ∷ [])
   lines_next new more version taken number h last =
-      subst (λ (entries : List Entry). HasTaken version new (record taken { entries = entries })) (pushed taken number) (more version (with_entries taken (next_entries taken number lines)) number (t version taken number h last) last)
+      subst (λ (entries : List EntryRecord). HasTaken version new (record taken { entries = entries })) (pushed taken number) (more version (with_entries taken (next_entries taken number lines)) number (t version taken number h last) last)
 
   pub lines_refused : AreNoLines old (line ∷ []) → AreNoLines first (lines ++ line ∷ [])
   lines_refused wrong version taken number h last =
-      subst (λ (entries : List Entry). StandsForNone version (record taken { entries = entries })) (pushed taken number) (wrong version (with_entries taken (next_entries taken number lines)) number (t version taken number h last) last)
+      subst (λ (entries : List EntryRecord). StandsForNone version (record taken { entries = entries })) (pushed taken number) (wrong version (with_entries taken (next_entries taken number lines)) number (t version taken number h last) last)
 
-pub lines_added : (first old new : EditionReader) (lines : List Line) (line : Line) → AreLinesAdded first old lines → AreLinesAdded old new (line ∷ []) → AreLinesAdded first new (lines ++ line ∷ [])
+pub lines_added : (first old new : IndexingReader) (lines : List Line) (line : Line) → AreLinesAdded first old lines → AreLinesAdded old new (line ∷ []) → AreLinesAdded first new (lines ++ line ∷ [])
 lines_added first old new lines line t more = record {
   taken = lines_next first.reader old.reader lines line t.taken new.reader more.taken;
   index = more.index ∙ ap (λ l. l ++ entry_of line ∷ []) t.index ∙ append_assoc first.index (map entry_of lines) (entry_of line ∷ []) ∙ ap (λ l. first.index ++ l) (sym (map-append entry_of lines (line ∷ [])));
 }
 
-pub no_lines_added : (reader : EditionReader) → AreLinesAdded reader reader []
+pub no_lines_added : (reader : IndexingReader) → AreLinesAdded reader reader []
 no_lines_added reader = record {
-  taken = λ version taken number h last. subst (λ (entries : List Entry). HasTaken version reader.reader (record taken { entries = entries })) (sym (append-nil taken.entries)) h;
+  taken = λ version taken number h last. subst (λ (entries : List EntryRecord). HasTaken version reader.reader (record taken { entries = entries })) (sym (append-nil taken.entries)) h;
   index = sym (append-nil reader.index);
 }
 
@@ -112,8 +112,8 @@ indexed_lines : (number n : ℕ) (lines : List Line) → map entry_of lines ≡ 
 indexed_lines number n [] = refl
 indexed_lines number n (l ∷ lines) = ap (λ z. entry_of l ∷ z) (indexed_lines number (n + 1) lines)
 
-pub index_read : (number : ℕ) (first last : EditionReader) (octets : List ℕ) → (lines : List Line) × AllByRecursion IsStorable lines × (octets ≡ stored_index lines) × AreLinesAdded first last lines
-    → (all : List Entry) × IsIndexOf (pos number) octets all × AreNextTaken (pos number) first.reader last.reader all × (last.index ≡ first.index ++ map indexed_of all)
+pub index_read : (number : ℕ) (first last : IndexingReader) (octets : List ℕ) → (lines : List Line) × AllByRecursion IsStorable lines × (octets ≡ stored_index lines) × AreLinesAdded first last lines
+    → (all : List EntryRecord) × IsStoredIndexOf (pos number) octets all × AreNextTaken (pos number) first.reader last.reader all × (last.index ≡ first.index ++ map indexed_of all)
 index_read number first last octets (lines, storable, is, added) = (
   numbered (entry_record number) 0 lines,
   record { edition = number; is = refl; lines = lines; storable = storable; octets_are = is; entries = refl },

@@ -16,7 +16,7 @@ use Rattle.sqlite.specs.Order.{Row, column, value_cmp}
 use Rattle.dict_tables.specs.Tables.{table_of}
 use Rattle.dict_tables.specs.declared.tables.StoreTable.{StoreTable}
 use Rattle.dict_sql.specs.Effects.{HasApartRowids, rows_of, same_value}
-use Rattle.dict_sql.specs.Reads.{by_columns, numbered}
+use Rattle.dict_sql.specs.Reads.{by_columns, rowid_and_number}
 use Rattle.dict_sql.specs.Streams.Scan.{ByRowid}
 use Rattle.dict_scans.specs.Cursors.Cursor.{InStore}
 use Rattle.dict_sql.proofs.KitLemmas.{value_cmp_total}
@@ -117,16 +117,16 @@ rowids_wrong stored table db first none h = all_wrong stored (rows_of (table_of 
 abbrev HasRowid : Row → Type 0
 HasRowid r = (n : ℤ) × (column r 0 ≡ Int n)
 
-firsts : (rows : List Row) → map (λ (r : Row). column r 0) (map numbered rows) ≡ map (λ (r : Row). column r 0) rows
+firsts : (rows : List Row) → map (λ (r : Row). column r 0) (map rowid_and_number rows) ≡ map (λ (r : Row). column r 0) rows
 firsts [] = refl
 firsts (r ∷ rows) = ap (λ l. column r 0 ∷ l) (firsts rows)
 
-pub all_numbered : (P Q : Row → Type 0) → ((r : Row) → P r → Q (numbered r)) → (rows : List Row) → AllByRecursion P rows → AllByRecursion Q (map numbered rows)
+pub all_numbered : (P Q : Row → Type 0) → ((r : Row) → P r → Q (rowid_and_number r)) → (rows : List Row) → AllByRecursion P rows → AllByRecursion Q (map rowid_and_number rows)
 all_numbered P Q w [] h = tt
 all_numbered P Q w (r ∷ rows) h = (w r h.0, all_numbered P Q w rows h.1)
 
-pub apart_from_numbered : (rows : List Row) → HasApartRowids (map numbered rows) → HasApartRowids rows
-apart_from_numbered rows apart = record { integers = all_of_map numbered HasRowid HasRowid (λ r p. p) rows apart.integers; apart = subst (IsDistinct same_value) (firsts rows) apart.apart }
+pub apart_from_numbered : (rows : List Row) → HasApartRowids (map rowid_and_number rows) → HasApartRowids rows
+apart_from_numbered rows apart = record { integers = all_of_map rowid_and_number HasRowid HasRowid (λ r p. p) rows apart.integers; apart = subst (IsDistinct same_value) (firsts rows) apart.apart }
 
-pub numbered_apart : (rows : List Row) → HasApartRowids rows → HasApartRowids (map numbered rows)
+pub numbered_apart : (rows : List Row) → HasApartRowids rows → HasApartRowids (map rowid_and_number rows)
 numbered_apart rows apart = record { integers = all_numbered HasRowid HasRowid (λ r p. p) rows apart.integers; apart = subst (IsDistinct same_value) (sym (firsts rows)) apart.apart }

@@ -7,7 +7,7 @@ use Rattle.sqlite.specs.declared.error.Error.{Error}
 use Rattle.sqlite.specs.Effect.{Database}
 use Rattle.dict_sql.specs.Effects.{WhileOpen}
 use Rattle.dict_sql.specs.Reads.{FailsToRead}
-use Rattle.dict_scans.specs.Reading.{Same, Stays, OnlyReads}
+use Rattle.dict_scans.specs.Reading.{Same, StaysUnlessShut, OnlyReads}
 
 pub same_as : (old new : State) → IsUnchanged old new → Same old new
 same_as old new h = record { now = h.0.now_is; committed = h.0.committed_is; is_open = h.0.is_open ∙ sym h.0.was_open }
@@ -18,10 +18,10 @@ same_itself s = record { now = refl; committed = refl; is_open = refl }
 pub same_then : (old mid new : State) → Same old mid → Same mid new → Same old new
 same_then old mid new h k = record { now = k.now ∙ h.now; committed = k.committed ∙ h.committed; is_open = k.is_open ∙ h.is_open }
 
-pub same_stays : (old new : State) → Same old new → Stays old new
+pub same_stays : (old new : State) → Same old new → StaysUnlessShut old new
 same_stays old new h = record { was_open = (λ o. sym h.is_open ∙ o); now = (λ _ _. h.now); committed = (λ _ _. h.committed) }
 
-pub stays_then : (old mid new : State) → Stays old mid → Stays mid new → Stays old new
+pub stays_then : (old mid new : State) → StaysUnlessShut old mid → StaysUnlessShut mid new → StaysUnlessShut old new
 stays_then old mid new h k = record {
   was_open = (λ o. h.was_open (k.was_open o));
   now = (λ o s. k.now o (settled o s) ∙ h.now (k.was_open o) s);
@@ -31,7 +31,7 @@ stays_then old mid new h k = record {
     settled : IsTrue new.is_open → old.now ≡ old.committed → mid.now ≡ mid.committed
     settled o s = h.now (k.was_open o) s ∙ s ∙ sym (h.committed (k.was_open o) s)
 
-pub failed_stays : (old new : State) (e : Error) → FailsToRead old new e → Stays old new
+pub failed_stays : (old new : State) (e : Error) → FailsToRead old new e → StaysUnlessShut old new
 failed_stays old new e (inl h) = record {
   was_open = h.3.was_open;
   now = (λ o s. (h.3.undone o).0 ∙ sym s);

@@ -12,7 +12,7 @@ use Rattle.dict_catalogue.specs.WellFormed.{IsEachOnce}
 use Rattle.dict_rows.specs.Tables.{Tables}
 use Rattle.dict_rows.specs.Given.{OnDamage, kept_given}
 use Rattle.dict_rows.specs.Taken.{HasTaken, StandsForNone, with_entry, with_kept, IsOfLast}
-use Rattle.dict_rows.specs.Whole.{with_entries, with_replies, AreOf}
+use Rattle.dict_rows.specs.Whole.{with_entries, with_replies, AreOfLast}
 use Rattle.dict_rows.specs.Order.{InOrder}
 use Rattle.dict_rows.specs.Apart.{HasTakenIds, HasTakenRowids}
 use Rattle.dict_rows.specs.declared.reader.Reader.{Reader}
@@ -21,9 +21,9 @@ use Rattle.dict_rows.specs.declared.apart.RowidReader.{RowidReader}
 use Rattle.dict_rows.specs.declared.fault.RowsFault.{RowsFault}
 use Rattle.dict_rows.specs.declared.fault.RowsFault.TheVariants.{Damaged, Memory}
 use Rattle.dict_scans.specs.Entries.{AreTaken, AreNotTaken}
-use Rattle.dict_scans.specs.Filing.{AreAdded}
+use Rattle.dict_scans.specs.IndexingReader.{AreTakenAndIndexed}
 use Rattle.dict_scans.specs.Indexing.{indexed_of}
-use Rattle.dict_scans.specs.declared.filing.EditionReader.{EditionReader}
+use Rattle.dict_scans.specs.declared.indexing_reader.IndexingReader.{IndexingReader}
 use Rattle.dict_scans.specs.Takers.{KeptRow, AreRowids, takes_rowids, refuses_rowids, takes_replies, refuses_replies, ids_given, takes_ids, refuses_ids}
 
 -- ---- outcomes
@@ -63,28 +63,28 @@ module _ {R : Type 0} (stored : R → Row) (first : RowidReader) (given : List R
 -- ---- entries
 
 -- one entry that isn't taken
-pub one_refused : (old : Reader) (e : spec.Entry) → ((version : ℕ) (taken : Tables) → HasTaken version old taken → IsOfLast taken e → StandsForNone version (with_entry taken e)) → AreNotTaken old (e ∷ [])
+pub one_refused : (old : Reader) (e : spec.EntryRecord) → ((version : ℕ) (taken : Tables) → HasTaken version old taken → IsOfLast taken e → StandsForNone version (with_entry taken e)) → AreNotTaken old (e ∷ [])
 one_refused old e wrong version taken h are = wrong version taken h are.0
 
-module _ {R : Type 0} (entry : R → spec.Entry) (first : Reader) (given : List R) (next : R) (old : Reader) (t : AreTaken first old (map entry given)) where
-  entries_are : (entries : List spec.Entry) → (entries ++ map entry given) ++ entry next ∷ [] ≡ entries ++ map entry (given ++ next ∷ [])
+module _ {R : Type 0} (entry : R → spec.EntryRecord) (first : Reader) (given : List R) (next : R) (old : Reader) (t : AreTaken first old (map entry given)) where
+  entries_are : (entries : List spec.EntryRecord) → (entries ++ map entry given) ++ entry next ∷ [] ≡ entries ++ map entry (given ++ next ∷ [])
   entries_are entries = append_assoc entries (map entry given) (entry next ∷ []) ∙ ap (λ l. entries ++ l) (sym (map-append entry given (next ∷ [])))
 
   pub entries_next : (new : Reader) → AreTaken old new (entry next ∷ []) → AreTaken first new (map entry (given ++ next ∷ []))
-  entries_next new more version taken h = subst (λ (entries : List spec.Entry). HasTaken version new (record taken { entries = entries })) (entries_are taken.entries) (more version (with_entries taken (map entry given)) (t version taken h))
+  entries_next new more version taken h = subst (λ (entries : List spec.EntryRecord). HasTaken version new (record taken { entries = entries })) (entries_are taken.entries) (more version (with_entries taken (map entry given)) (t version taken h))
 
   pub entries_refused : AreNotTaken old (entry next ∷ []) → AreNotTaken first (map entry (given ++ next ∷ []))
   entries_refused wrong version taken h are =
-      let parts = all_append_parts (IsOfLast taken) (map entry given) (entry next ∷ []) (subst (AreOf taken) (map-append entry given (next ∷ [])) are) in
-      subst (λ (entries : List spec.Entry). StandsForNone version (record taken { entries = entries })) (entries_are taken.entries) (wrong version (with_entries taken (map entry given)) (t version taken h) parts.1)
+      let parts = all_append_parts (IsOfLast taken) (map entry given) (entry next ∷ []) (subst (AreOfLast taken) (map-append entry given (next ∷ [])) are) in
+      subst (λ (entries : List spec.EntryRecord). StandsForNone version (record taken { entries = entries })) (entries_are taken.entries) (wrong version (with_entries taken (map entry given)) (t version taken h) parts.1)
 
 -- ---- entries, and the index of them
 
-module _ {R : Type 0} (entry : R → spec.Entry) (first : EditionReader) (given : List R) (next : R) (old : EditionReader) (t : AreAdded first old (map entry given)) where
+module _ {R : Type 0} (entry : R → spec.EntryRecord) (first : IndexingReader) (given : List R) (next : R) (old : IndexingReader) (t : AreTakenAndIndexed first old (map entry given)) where
   indexed_more : map indexed_of (map entry (given ++ next ∷ [])) ≡ map indexed_of (map entry given) ++ indexed_of (entry next) ∷ []
   indexed_more = ap (map indexed_of) (map-append entry given (next ∷ [])) ∙ map-append indexed_of (map entry given) (entry next ∷ [])
 
-  pub added_next : (new : EditionReader) → AreAdded old new (entry next ∷ []) → AreAdded first new (map entry (given ++ next ∷ []))
+  pub added_next : (new : IndexingReader) → AreTakenAndIndexed old new (entry next ∷ []) → AreTakenAndIndexed first new (map entry (given ++ next ∷ []))
   added_next new more = record {
     taken = entries_next entry first.reader given next old.reader t.taken new.reader more.taken;
     index = more.index ∙ ap (λ l. l ++ indexed_of (entry next) ∷ []) t.index ∙ append_assoc first.index (map indexed_of (map entry given)) (indexed_of (entry next) ∷ []) ∙ ap (λ l. first.index ++ l) (sym indexed_more);
@@ -96,19 +96,19 @@ module _ {R : Type 0} (entry : R → spec.Entry) (first : EditionReader) (given 
 -- ---- kept replies
 
 module _ (first : Reader) (given : List KeptRow) (next : KeptRow) (old : Reader) (t : takes_replies first given old) where
-  replies_are : (kept : List spec.Kept) → (kept ++ kept_given given) ++ owned_kept next.value ∷ [] ≡ kept ++ kept_given (given ++ next ∷ [])
+  replies_are : (kept : List spec.KeptRecord) → (kept ++ kept_given given) ++ owned_kept next.value ∷ [] ≡ kept ++ kept_given (given ++ next ∷ [])
   replies_are kept = append_assoc kept (kept_given given) (owned_kept next.value ∷ []) ∙ ap (λ l. kept ++ l) (sym (map-append (λ (row : KeptRow). owned_kept row.value) given (next ∷ [])))
 
   pub replies_next : (new : Reader) → ((version : ℕ) (taken : Tables) → HasTaken version old taken → HasTaken version new (with_kept taken (owned_kept next.value))) → takes_replies first (given ++ next ∷ []) new
-  replies_next new more version taken h = subst (λ (kept : List spec.Kept). HasTaken version new (record taken { kept = kept })) (replies_are taken.kept) (more version (with_replies taken (kept_given given)) (t version taken h))
+  replies_next new more version taken h = subst (λ (kept : List spec.KeptRecord). HasTaken version new (record taken { kept = kept })) (replies_are taken.kept) (more version (with_replies taken (kept_given given)) (t version taken h))
 
   pub replies_refused : ((version : ℕ) (taken : Tables) → HasTaken version old taken → StandsForNone version (with_kept taken (owned_kept next.value))) → refuses_replies first (given ++ next ∷ [])
-  replies_refused wrong version taken h = subst (λ (kept : List spec.Kept). StandsForNone version (record taken { kept = kept })) (replies_are taken.kept) (wrong version (with_replies taken (kept_given given)) (t version taken h))
+  replies_refused wrong version taken h = subst (λ (kept : List spec.KeptRecord). StandsForNone version (record taken { kept = kept })) (replies_are taken.kept) (wrong version (with_replies taken (kept_given given)) (t version taken h))
 
 -- ---- ids
 
 pub ids_push : (given : List KeptRow) (next : KeptRow) → ids_given (given ++ next ∷ []) ≡ ids_given given ++ string_bytes next.value.id ∷ []
-ids_push given next = ap (map (λ (row : spec.Kept). row.id)) (map-append (λ (row : KeptRow). owned_kept row.value) given (next ∷ [])) ∙ map-append (λ (row : spec.Kept). row.id) (kept_given given) (owned_kept next.value ∷ [])
+ids_push given next = ap (map (λ (row : spec.KeptRecord). row.id)) (map-append (λ (row : KeptRow). owned_kept row.value) given (next ∷ [])) ∙ map-append (λ (row : spec.KeptRecord). row.id) (kept_given given) (owned_kept next.value ∷ [])
 
 module _ (first : IdReader) (given : List KeptRow) (next : KeptRow) (old : IdReader) (t : takes_ids first given old) where
   ids_are : (before : List (List ℕ)) → (before ++ ids_given given) ++ string_bytes next.value.id ∷ [] ≡ before ++ ids_given (given ++ next ∷ [])

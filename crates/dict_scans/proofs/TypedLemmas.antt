@@ -14,7 +14,7 @@ use Rattle.sqlite_schema.specs.declared.schema.Kind.TheVariants as kind
 use Rattle.sqlite_schema.specs.declared.schema.Constraint.TheVariants.{Datatype, NotNull}
 use Rattle.sqlite_schema.specs.Rules.{is_of, has_affinity, suits, are_typed, are_present, has_computed, passes}
 use Rattle.dict_tables.specs.Tables.{needed}
-use Rattle.dict_tables.specs.Keyed.{entry, old_entry}
+use Rattle.dict_tables.specs.Keyed.{entry_with_keys, old_entry}
 use Rattle.dict_sql.specs.Columns.{HasColumns, entry_columns}
 use Rattle.dict_sql.specs.Effects.{Has, rows_of, shown}
 use Rattle.dict_sql.specs.Keyed.{keyed_entry_columns, old_entry_columns}
@@ -127,25 +127,25 @@ abbrev last : List Column
 last = needed (codes "shown") kind.Text ∷ []
 
 module _ (tree : ℕ) (schema : Schema) (trees : Trees) where
-  one_shown : (r : Row) → passes Datatype schema trees (entry tree) r ≡ true → passes NotNull schema trees (entry tree) r ≡ true → IsShownTyped (shown (entry tree) r)
+  one_shown : (r : Row) → passes Datatype schema trees (entry_with_keys tree) r ≡ true → passes NotNull schema trees (entry_with_keys tree) r ≡ true → IsShownTyped (shown (entry_with_keys tree) r)
   one_shown r typed present h =
-      let fits = (and_parts (are_typed None 0 (columns last) (drop 1 r)) (has_computed (entry tree) r) typed).0 in
+      let fits = (and_parts (are_typed None 0 (columns last) (drop 1 r)) (has_computed (entry_with_keys tree) r) typed).0 in
       (h.0, (h.1.0, (h.1.1.0, (h.1.1.1.0, (h.1.1.1.1.0, (h.1.1.1.1.1.0, (key last r fits present, (reversed last r fits present, (h.1.1.1.1.1.1.0, tt)))))))))
 
-  rows_shown : (rows : List Row) → AllByRecursion (λ r. passes Datatype schema trees (entry tree) r ≡ true) rows → AllByRecursion (λ r. passes NotNull schema trees (entry tree) r ≡ true) rows → AllByRecursion IsShownTyped (map (shown (entry tree)) rows)
+  rows_shown : (rows : List Row) → AllByRecursion (λ r. passes Datatype schema trees (entry_with_keys tree) r ≡ true) rows → AllByRecursion (λ r. passes NotNull schema trees (entry_with_keys tree) r ≡ true) rows → AllByRecursion IsShownTyped (map (shown (entry_with_keys tree)) rows)
   rows_shown [] h k = tt
   rows_shown (r ∷ rows) h k = (one_shown r h.0 k.0, rows_shown rows h.1 k.1)
 
-shown_rows_are : (db : Database) (has : Has entry db) → rows_of (codes "entry") db ≡ map (shown (entry has.1)) (db.trees has.1)
+shown_rows_are : (db : Database) (has : Has entry_with_keys db) → rows_of (codes "entry") db ≡ map (shown (entry_with_keys has.1)) (db.trees has.1)
 shown_rows_are db has = let named = has.2.named in let is = has.2.is in rw (named, is) refl
 
-pub shown_typed : (db : Database) → IsDatabase db → Has entry db → AllByRecursion IsShownTyped (rows_of (codes "entry") db)
+pub shown_typed : (db : Database) → IsDatabase db → Has entry_with_keys db → AllByRecursion IsShownTyped (rows_of (codes "entry") db)
 shown_typed db sound has =
     let each = sound.obeys.rules in
     subst (AllByRecursion IsShownTyped) (sym (shown_rows_are db has))
     (rows_shown has.1 db.schema db.trees (db.trees has.1)
-    (all_got (λ t. AllByRecursion (λ r. passes Datatype db.schema db.trees t r ≡ true) (db.trees t.tree)) db.schema.tables has.0 (entry has.1) (each Datatype) has.2.is)
-    (all_got (λ t. AllByRecursion (λ r. passes NotNull db.schema db.trees t r ≡ true) (db.trees t.tree)) db.schema.tables has.0 (entry has.1) (each NotNull) has.2.is))
+    (all_got (λ t. AllByRecursion (λ r. passes Datatype db.schema db.trees t r ≡ true) (db.trees t.tree)) db.schema.tables has.0 (entry_with_keys has.1) (each Datatype) has.2.is)
+    (all_got (λ t. AllByRecursion (λ r. passes NotNull db.schema db.trees t r ≡ true) (db.trees t.tree)) db.schema.tables has.0 (entry_with_keys has.1) (each NotNull) has.2.is))
 
-pub shown_readable : (db : Database) → IsDatabase db → Has entry db → IsReadable (contents Shown) db → AllByRecursion (HasColumns keyed_entry_columns) (rows_of (codes "entry") db)
+pub shown_readable : (db : Database) → IsDatabase db → Has entry_with_keys db → IsReadable (contents Shown) db → AllByRecursion (HasColumns keyed_entry_columns) (rows_of (codes "entry") db)
 shown_readable db sound has all = both (λ row. HasColumns shown_columns (without_keys row)) (HasColumns keyed_entry_columns) (rows_of (codes "entry") db) (shown_typed db sound has) all

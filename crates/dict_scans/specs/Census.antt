@@ -7,7 +7,7 @@ use Rattle.dict_sql.specs.Effects.{HasApartRowids, rows_of, equals_number}
 use Rattle.dict_edition_sql.specs.PartRecords.{stored_part}
 use Rattle.dict_edition_sql.specs.declared.part_records.StoredPart.{StoredPart}
 use Rattle.dict_rows.specs.Versions.{Layout, Plain, Keyed, Shown, Parted}
-use Rattle.dict_holdings.specs.Readings.{Reading, contents}
+use Rattle.dict_holdings.specs.Readings.{TableReading, contents}
 use Rattle.dict_scans.specs.Takers.{takes_rowids, refuses_rowids}
 use Rattle.dict_scans.specs.declared.census.Census.{Census}
 use Rattle.dict_scans.specs.declared.census.PartCensus.{PartCensus}
@@ -43,7 +43,7 @@ abbrev pub AreNumberedApart : List ℤ → List ℕ → Database → Type 0
 AreNumberedApart numbers name db = AreKnownApart (one_of numbers) name db
 
 -- what is read of the table
-abbrev pub reading_of : EditionTable → Reading
+abbrev pub reading_of : EditionTable → TableReading
 reading_of typed.PlainEntry = contents Plain
 reading_of typed.OldEntry = contents Keyed
 reading_of typed.ShownEntry = contents Shown

@@ -3,7 +3,7 @@ use Rattle.std.specs.Prelude.{◌≡◌, ◌⊎◌, ℕ, ℤ, pos, List, [], ◌
 use Rattle.std.specs.List.{AllByRecursion, Contains}
 use Rattle.sqlite.specs.Order.{Row}
 use Rattle.sqlite.specs.Effect.{Database}
-use Rattle.dict_records.specs.Records.{Edition, Entry}
+use Rattle.dict_records.specs.Records.{EditionRecord, EntryRecord}
 use Rattle.dict_index.specs.Line.{Line}
 use Rattle.dict_parts.specs.Stored.{IsStorable, stored_index}
 use Rattle.dict_sql.specs.Columns.{HasColumns}
@@ -12,7 +12,7 @@ use Rattle.dict_sql.specs.Encodings.{entry_row}
 use Rattle.dict_sql.specs.Reads.{IsSelection}
 use Rattle.dict_rows.specs.Tables.{Tables, entries_of}
 use Rattle.dict_rows.specs.Taken.{HasTaken, StandsForNone}
-use Rattle.dict_rows.specs.Whole.{with_entries, AreOf}
+use Rattle.dict_rows.specs.Whole.{with_entries, AreOfLast}
 use Rattle.dict_rows.specs.Written.{numbered, entry_record}
 use Rattle.dict_rows.specs.Versions.{Layout, Plain, Keyed, Shown, Parted}
 use Rattle.dict_rows.specs.declared.reader.Reader.{Reader}
@@ -20,11 +20,11 @@ use Rattle.dict_holdings.specs.Readings.{AreShownIn, contents, shown_row}
 use Rattle.dict_scans.specs.Files.{HasFile, HasNoFile}
 
 -- of a row of `entry`, the columns behind its rowid that are looked at
-abbrev pub behind : Layout → Row → Row
-behind layout row = drop 1 ((contents layout).looked row)
+abbrev pub looked_behind_rowid : Layout → Row → Row
+looked_behind_rowid layout row = drop 1 ((contents layout).looked row)
 
 -- what these columns are to be for an entry, in the layouts that have such rows: those before the last
-abbrev pub entry_cells : Layout → Entry → Row
+abbrev pub entry_cells : Layout → EntryRecord → Row
 entry_cells Plain e = entry_row e
 entry_cells Keyed e = entry_row e
 entry_cells Shown e = shown_row e
@@ -32,19 +32,19 @@ entry_cells Parted e = shown_row e
 
 -- The rows of the edition, in the order of their places, are those of these entries; of a layout that has no column for what is
 -- shown, by their headwords.
-abbrev pub HasEntryRows : Layout → Database → ℤ → List Entry → Type 0
-HasEntryRows layout db number all = (rows : List Row) × IsSelection (codes "entry") (equals_number 1 number) (2 ∷ []) db rows × (map (behind layout) rows ≡ map (entry_cells layout) all) × AreShownIn layout all
+abbrev pub HasEntryRows : Layout → Database → ℤ → List EntryRecord → Type 0
+HasEntryRows layout db number all = (rows : List Row) × IsSelection (codes "entry") (equals_number 1 number) (2 ∷ []) db rows × (map (looked_behind_rowid layout) rows ≡ map (entry_cells layout) all) × AreShownIn layout all
 
 -- they begin with those of these entries
-abbrev pub BeginsWithEntries : Layout → Database → ℤ → List Entry → Type 0
-BeginsWithEntries layout db number first = (rows : List Row) × (tail : List Row) × IsSelection (codes "entry") (equals_number 1 number) (2 ∷ []) db (rows ++ tail) × (map (behind layout) rows ≡ map (entry_cells layout) first) × AreShownIn layout first
+abbrev pub BeginsWithEntries : Layout → Database → ℤ → List EntryRecord → Type 0
+BeginsWithEntries layout db number first = (rows : List Row) × (tail : List Row) × IsSelection (codes "entry") (equals_number 1 number) (2 ∷ []) db (rows ++ tail) × (map (looked_behind_rowid layout) rows ≡ map (entry_cells layout) first) × AreShownIn layout first
 
 -- the row is of another kind than a record, or that of no entry
 abbrev pub IsNoEntryRow : Layout → Row → Type 0
-IsNoEntryRow layout row = HasColumns (contents layout).columns ((contents layout).looked row) → (e : Entry) → behind layout row ≡ entry_cells layout e → ⊥
+IsNoEntryRow layout row = HasColumns (contents layout).columns ((contents layout).looked row) → (e : EntryRecord) → looked_behind_rowid layout row ≡ entry_cells layout e → ⊥
 
 -- these octets are an index of the edition: its lines say these entries, in the order of their places
-pub record IsIndexOf (number : ℤ) (octets : List ℕ) (all : List Entry) : Type 0 where
+pub record IsStoredIndexOf (number : ℤ) (octets : List ℕ) (all : List EntryRecord) : Type 0 where
   pub edition : ℕ
   pub is : number ≡ pos edition
   pub lines : List Line
@@ -53,11 +53,11 @@ pub record IsIndexOf (number : ℤ) (octets : List ℕ) (all : List Entry) : Typ
   pub entries : all ≡ numbered (entry_record edition) 0 lines
 
 -- the index of the edition says these entries, and no other
-abbrev pub HasIndexFile : Database → ℤ → List Entry → Type 0
-HasIndexFile db number all = (octets : List ℕ) × HasFile db number (pos 0) octets × IsIndexOf number octets all
+abbrev pub HasIndexFile : Database → ℤ → List EntryRecord → Type 0
+HasIndexFile db number all = (octets : List ℕ) × HasFile db number (pos 0) octets × IsStoredIndexOf number octets all
 
 -- the edition has these entries, in the order of their places, and no other
-abbrev pub HasEntries : Layout → Database → ℤ → List Entry → Type 0
+abbrev pub HasEntries : Layout → Database → ℤ → List EntryRecord → Type 0
 HasEntries Plain db number all = HasEntryRows Plain db number all
 HasEntries Keyed db number all = HasEntryRows Keyed db number all
 HasEntries Shown db number all = HasEntryRows Shown db number all
@@ -66,19 +66,19 @@ HasEntries Parted db number all = HasIndexFile db number all
 -- ---- what the reader takes
 
 -- behind what the first has taken, the last has taken these
-abbrev pub AreTaken : Reader → Reader → List Entry → Type 0
+abbrev pub AreTaken : Reader → Reader → List EntryRecord → Type 0
 AreTaken first last given = (version : ℕ) (taken : Tables) → HasTaken version first taken → HasTaken version last (with_entries taken given)
 
 -- no catalogue stands for tables that go on with these, where they are of the edition that was taken last
-abbrev pub AreNotTaken : Reader → List Entry → Type 0
-AreNotTaken first given = (version : ℕ) (taken : Tables) → HasTaken version first taken → AreOf taken given → StandsForNone version (with_entries taken given)
+abbrev pub AreNotTaken : Reader → List EntryRecord → Type 0
+AreNotTaken first given = (version : ℕ) (taken : Tables) → HasTaken version first taken → AreOfLast taken given → StandsForNone version (with_entries taken given)
 
 -- the edition of this number was taken last
 abbrev pub IsLastTaken : Tables → ℤ → Type 0
-IsLastTaken taken number = (front : List Edition) × (last : Edition) × (taken.editions ≡ front ++ last ∷ []) × (number ≡ last.number)
+IsLastTaken taken number = (front : List EditionRecord) × (last : EditionRecord) × (taken.editions ≡ front ++ last ∷ []) × (number ≡ last.number)
 
 -- the entries of these lines, behind those of the edition that were taken
-abbrev pub next_entries : Tables → ℕ → List Line → List Entry
+abbrev pub next_entries : Tables → ℕ → List Line → List EntryRecord
 next_entries taken number lines = numbered (entry_record number) (length (entries_of (pos number) taken.entries)) lines
 
 -- behind what the first has taken, the last has taken these lines of the edition that was taken last
@@ -99,11 +99,11 @@ pub record IsFresh (number : ℤ) (taken : Tables) : Type 0 where
   pub none : entries_of number taken.entries ≡ []
 
 -- behind what the first has taken, the last has taken these of that edition
-abbrev pub AreNextTaken : ℤ → Reader → Reader → List Entry → Type 0
+abbrev pub AreNextTaken : ℤ → Reader → Reader → List EntryRecord → Type 0
 AreNextTaken number first last all = (version : ℕ) (taken : Tables) → HasTaken version first taken → IsFresh number taken → HasTaken version last (with_entries taken all)
 
 -- all entries of the edition were taken
-pub record TakesEntries (layout : Layout) (db : Database) (number : ℤ) (first last : Reader) (all : List Entry) : Type 0 where
+pub record TakesEntries (layout : Layout) (db : Database) (number : ℤ) (first last : Reader) (all : List EntryRecord) : Type 0 where
   pub has : HasEntries layout db number all
   pub taken : AreNextTaken number first last all
 
@@ -111,7 +111,7 @@ pub record TakesEntries (layout : Layout) (db : Database) (number : ℤ) (first 
 abbrev pub HasWrongRows : Layout → Database → ℤ → Reader → Type 0
 HasWrongRows layout db number first =
     ((row : Row) × Contains (filter (equals_number 1 number) (rows_of (codes "entry") db)) row × IsNoEntryRow layout row)
-    ⊎ ((given : List Entry) × BeginsWithEntries layout db number given × AreNotTaken first given)
+    ⊎ ((given : List EntryRecord) × BeginsWithEntries layout db number given × AreNotTaken first given)
 
 -- the edition has no index, or a wrong one, or it has a number that none has
 abbrev pub HasWrongIndex : Database → ℤ → Reader → Type 0

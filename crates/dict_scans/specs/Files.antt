@@ -26,21 +26,21 @@ HasNoFile db number file = IsReadable (contents Parted) db → (octets : List �
 
 -- ---- as the joiner tells it
 
-abbrev pub octets_in : StoredPart → List ℕ
-octets_in row = row.part.octets.items
+abbrev pub octets_of_part : StoredPart → List ℕ
+octets_of_part row = row.part.octets.items
 
-abbrev pub number_in : StoredPart → ℤ
-number_in row = row.part.number
+abbrev pub number_of_part : StoredPart → ℤ
+number_of_part row = row.part.number
 
 -- the parts have the numbers from this one on
 abbrev pub AreNumbered : ℕ → List StoredPart → Type 0
-AreNumbered first given = map number_in given ≡ numbered (λ n (row : StoredPart). pos n) first given
+AreNumbered first given = map number_of_part given ≡ numbered (λ n (row : StoredPart). pos n) first given
 
 -- behind the octets of the first, the last has those of these parts, as its parts
 pub record TakesParts (first : List ℕ) (given : List StoredPart) (last : List ℕ) : Type 0 where
-  pub parts : parts_of last ≡ parts_of first ++ map octets_in given
+  pub parts : parts_of last ≡ parts_of first ++ map octets_of_part given
   pub numbers : AreNumbered (length (parts_of first)) given
 
 -- the parts of no file go on so
 abbrev pub RefusesParts : List ℕ → List StoredPart → Type 0
-RefusesParts first given = AreNumbered (length (parts_of first)) given → (file : List ℕ) (more : List (List ℕ)) → parts_of file ≡ parts_of first ++ (map octets_in given ++ more) → ⊥
+RefusesParts first given = AreNumbered (length (parts_of first)) given → (file : List ℕ) (more : List (List ℕ)) → parts_of file ≡ parts_of first ++ (map octets_of_part given ++ more) → ⊥

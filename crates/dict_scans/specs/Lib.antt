@@ -4,7 +4,7 @@ pub mod Scans
 pub mod Files
 pub mod Entries
 pub mod Indexing
-pub mod Filing
+pub mod IndexingReader
 pub mod Takers
 pub mod Census
 pub mod TakerLaws

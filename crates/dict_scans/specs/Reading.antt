@@ -25,7 +25,7 @@ pub record Same (old new : State) : Type 0 where
   pub is_open : new.is_open ≡ old.is_open
 
 -- The same where all was committed, unless it has shut itself.
-pub record Stays (old new : State) : Type 0 where
+pub record StaysUnlessShut (old new : State) : Type 0 where
   pub was_open : IsTrue new.is_open → IsTrue old.is_open
   pub now : IsTrue new.is_open → old.now ≡ old.committed → new.now ≡ old.now
   pub committed : IsTrue new.is_open → old.now ≡ old.committed → new.committed ≡ old.committed
@@ -34,7 +34,7 @@ pub record Stays (old new : State) : Type 0 where
 pub record OnlyReads (old new : State) : Type 0 where
   pub mode : old.in_transaction ≡ false → new.in_transaction ≡ false
   pub survives : Survives old new (λ _. ⊥)
-  pub stays : HasCleanDisk new → Stays old new
+  pub stays : HasCleanDisk new → StaysUnlessShut old new
 
 -- the fault that an error is
 
@@ -42,9 +42,9 @@ abbrev pub fault_of_store : Error → ReadingFault
 fault_of_store (SqliteFailure code.OutOfMemory) = Memory
 fault_of_store _ = Disk
 
-abbrev pub fault_of_read : ReadError → ReadingFault
-fault_of_read NoRecord = Damaged
-fault_of_read (Store e) = fault_of_store e
+abbrev pub reading_fault_of : ReadError → ReadingFault
+reading_fault_of NoRecord = Damaged
+reading_fault_of (Store e) = fault_of_store e
 
 abbrev pub fault_of_rows : RowsFault → ReadingFault
 fault_of_rows rows.Damaged = Damaged
@@ -63,13 +63,13 @@ IsVast db =
 
 -- Why a call that only reads gives `Disk`: the disk has failed meanwhile, or the connection was shut before, or the limit
 -- on steps was met, or a table is too large.
-abbrev pub HasFailed : State → State → Type 0
-HasFailed old new = MoreFaults old.faults new.faults ⊎ ((old.is_open ≡ false) ⊎ (IsSome old.step_limit ⊎ IsVast old.now))
+abbrev pub HasFailedToRead : State → State → Type 0
+HasFailedToRead old new = MoreFaults old.faults new.faults ⊎ ((old.is_open ≡ false) ⊎ (IsSome old.step_limit ⊎ IsVast old.now))
 
-abbrev pub IsExcused : State → State → ReadingFault → Type 0
-IsExcused old new Damaged = Unit {0}
-IsExcused old new Memory = Unit {0}
-IsExcused old new Disk = HasFailed old new
+abbrev pub IsExcusedReading : State → State → ReadingFault → Type 0
+IsExcusedReading old new Damaged = Unit {0}
+IsExcusedReading old new Memory = Unit {0}
+IsExcusedReading old new Disk = HasFailedToRead old new
 
 -- the faults of an opening
 abbrev pub IsOfOpening : Fault → Type 0

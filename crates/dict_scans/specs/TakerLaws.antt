@@ -11,10 +11,10 @@ use Rattle.dict_parts.specs.Parts.{parts_of}
 use Rattle.dict_edition_sql.specs.PartRecords.{stored_part}
 use Rattle.dict_scans.specs.declared.census.Census.{Census}
 use Rattle.dict_scans.specs.declared.census.PartCensus.{PartCensus}
-use Rattle.dict_scans.specs.declared.filing.EditionReader.{EditionReader}
+use Rattle.dict_scans.specs.declared.indexing_reader.IndexingReader.{IndexingReader}
 use Rattle.dict_scans.specs.Takers.{takes_rowids, takes_replies, takes_ids}
 use Rattle.dict_scans.specs.Entries.{AreTaken}
-use Rattle.dict_scans.specs.Filing.{AreAdded, takes_plain, takes_old, takes_shown}
+use Rattle.dict_scans.specs.IndexingReader.{AreTakenAndIndexed, takes_plain, takes_old, takes_shown}
 use Rattle.dict_scans.specs.Files.{TakesParts}
 use Rattle.dict_scans.specs.Census.{TakesCensus, TakesPartCensus}
 
@@ -22,22 +22,22 @@ pub no_rowids : {R : Type 0} (stored : R → Row) (rowids : RowidReader) → tak
 no_rowids stored rowids = ([], refl, λ before h. subst (HasTakenRowids rowids) (sym (append-nil before)) h)
 
 pub no_taken : (reader : Reader) → AreTaken reader reader []
-no_taken reader version taken h = subst (λ (entries : List spec.Entry). HasTaken version reader (record taken { entries = entries })) (sym (append-nil taken.entries)) h
+no_taken reader version taken h = subst (λ (entries : List spec.EntryRecord). HasTaken version reader (record taken { entries = entries })) (sym (append-nil taken.entries)) h
 
-pub no_added : (taker : EditionReader) → AreAdded taker taker []
+pub no_added : (taker : IndexingReader) → AreTakenAndIndexed taker taker []
 no_added taker = record { taken = no_taken taker.reader; index = sym (append-nil taker.index) }
 
-pub no_plain : (taker : EditionReader) → takes_plain taker [] taker
+pub no_plain : (taker : IndexingReader) → takes_plain taker [] taker
 no_plain = no_added
 
-pub no_old : (taker : EditionReader) → takes_old taker [] taker
+pub no_old : (taker : IndexingReader) → takes_old taker [] taker
 no_old = no_added
 
-pub no_shown : (taker : EditionReader) → takes_shown taker [] taker
+pub no_shown : (taker : IndexingReader) → takes_shown taker [] taker
 no_shown = no_added
 
 pub no_replies : (reader : Reader) → takes_replies reader [] reader
-no_replies reader version taken h = subst (λ (kept : List spec.Kept). HasTaken version reader (record taken { kept = kept })) (sym (append-nil taken.kept)) h
+no_replies reader version taken h = subst (λ (kept : List spec.KeptRecord). HasTaken version reader (record taken { kept = kept })) (sym (append-nil taken.kept)) h
 
 pub no_ids : (ids : IdReader) → takes_ids ids [] ids
 no_ids ids before h = subst (HasTakenIds ids) (sym (append-nil before)) h

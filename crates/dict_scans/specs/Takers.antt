@@ -5,11 +5,11 @@ use Rattle.sqlite.specs.Order.{Row, column}
 use Rattle.sqlite.specs.declared.types.Value.TheVariants.{Int}
 use Rattle.sqlite.specs.Effect.{Database}
 use Rattle.dict_sql.specs.Encodings.{stored_kept}
-use Rattle.dict_scans.specs.Cursors.{Cursor, IsWhole, IsFront}
+use Rattle.dict_scans.specs.Cursors.{Cursor, IsScannedToEnd, IsFrontOfScan}
 use Rattle.dict_scans.specs.Cursors.Cursor.{InStore}
 use Rattle.dict_sql.specs.Streams.Scan.{KeptById}
 use Rattle.dict_records.specs.declared.records as typed
-use Rattle.dict_records.specs.declared.records.Stored.{Stored}
+use Rattle.dict_records.specs.declared.records.StoredRow.{StoredRow}
 use Rattle.dict_catalogue.specs.WellFormed.{IsEachOnce}
 use Rattle.dict_rows.specs.Tables.{Tables}
 use Rattle.dict_rows.specs.Given.{kept_given}
@@ -22,10 +22,10 @@ use Rattle.dict_rows.specs.declared.apart.IdReader.{IdReader}
 use Rattle.dict_rows.specs.declared.apart.RowidReader.{RowidReader}
 
 abbrev pub EditionRow : Type 0
-EditionRow = Stored (typed.Edition.Edition (String Global) (Vec ℕ Global))
+EditionRow = StoredRow (typed.EditionRecord.EditionRecord (String Global) (Vec ℕ Global))
 
 abbrev pub KeptRow : Type 0
-KeptRow = Stored (typed.Kept.Kept (String Global))
+KeptRow = StoredRow (typed.KeptRecord.KeptRecord (String Global))
 
 -- ---- rowids
 
@@ -60,8 +60,8 @@ refuses_ids first given = (before : List (List ℕ)) → HasTakenIds first befor
 
 -- the kept replies in the order of their ids, no two of which are the same
 abbrev pub HasIdsApart : Database → Type 0
-HasIdsApart db = (given : List KeptRow) × IsWhole (InStore KeptById) db (map stored_kept given) × HaveApartNeighbours (ids_given given)
+HasIdsApart db = (given : List KeptRow) × IsScannedToEnd (InStore KeptById) db (map stored_kept given) × HaveApartNeighbours (ids_given given)
 
 -- the kept replies begin with such of which two have one id
 abbrev pub HasIdTwice : Database → Type 0
-HasIdTwice db = (given : List KeptRow) × IsFront (InStore KeptById) db (map stored_kept given) × (IsEachOnce (ids_given given) → ⊥)
+HasIdTwice db = (given : List KeptRow) × IsFrontOfScan (InStore KeptById) db (map stored_kept given) × (IsEachOnce (ids_given given) → ⊥)

@@ -5,15 +5,15 @@ ghost use Rattle.sqlite.specs.Held.{state};
 ghost use Rattle.sqlite.specs.Order.{column};
 ghost use Rattle.sqlite.specs.declared.types.Value.TheVariants.{Int};
 ghost use Rattle.dict_tables.specs.Tables.{entry};
-ghost use Rattle.dict_tables.specs.Keyed.{entry as keyed_entry, old_entry};
+ghost use Rattle.dict_tables.specs.Keyed.{entry_with_keys as keyed_entry, old_entry};
 ghost use Rattle.dict_sql.specs.Effects.{Has, WhileOpen};
 ghost use Rattle.dict_edition_sql.specs.PartRecords.{stored_part};
 ghost use Rattle.dict_rows.specs.Apart.{HasTakenRowids};
 ghost use Rattle.dict_rows.specs.Order.{InOrder, is_of};
 ghost use Rattle.dict_rows.specs.Tables.{same_number};
 ghost use Rattle.dict_rows.specs.Versions.{Plain, Keyed, Shown};
-ghost use Rattle.dict_holdings.specs.Readings.{IsReadable, contents, name_of};
-ghost use Rattle.dict_scans.specs.Reading.{Same, OnlyReads, IsExcused};
+ghost use Rattle.dict_holdings.specs.Readings.{IsReadable, contents, table_name_of};
+ghost use Rattle.dict_scans.specs.Reading.{Same, OnlyReads, IsExcusedReading};
 ghost use Rattle.dict_scans.specs.Census.{AreNumberedApart, is_in_file, reading_of, TakesCensus, refuses_census, TakesPartCensus, refuses_part_census};
 ghost use Rattle.dict_scans.specs.TakerLaws.{no_census, no_part_census};
 
@@ -23,7 +23,7 @@ use crate::files::{INDEX_FILE, TEXT_FILE};
 use crate::scan::{Taker, take_all};
 use dict_edition_sql::{StoredHeader, StoredPart};
 use dict_older_sql::{read_by_rowid as read_keyed_by_rowid, read_old_by_rowid};
-use dict_records::{Entry, KeyedEntry, OldEntry, Stored};
+use dict_records::{EntryRecord, KeyedEntry, OldEntry, StoredRow};
 use dict_rows::{RowidReader, RowsFault};
 use dict_sql::records::{EditionNumber, Record};
 use dict_sql::stream::read_by_rowid;
@@ -46,25 +46,25 @@ pub(crate) trait OfEdition: Record {
         ensures { column (Self.stored self.now) 1 ≡ Int result };
 }
 
-impl OfEdition for Stored<Entry<String>> {
+impl OfEdition for StoredRow<EntryRecord<String>> {
     fn edition(&self) -> i64 {
         self.value.edition
     }
 }
 
-impl OfEdition for Stored<OldEntry<String, Vec<u8>>> {
+impl OfEdition for StoredRow<OldEntry<String, Vec<u8>>> {
     fn edition(&self) -> i64 {
         self.value.edition
     }
 }
 
-impl OfEdition for Stored<KeyedEntry<String, Vec<u8>>> {
+impl OfEdition for StoredRow<KeyedEntry<String, Vec<u8>>> {
     fn edition(&self) -> i64 {
         self.value.edition
     }
 }
 
-impl OfEdition for Stored<EditionNumber> {
+impl OfEdition for StoredRow<EditionNumber> {
     fn edition(&self) -> i64 {
         self.value.number
     }
@@ -162,7 +162,7 @@ fn test_plain_rows<S: Alter>(
 ) -> Result<(), ReadingFault>
     requires { WhileOpen (state S.Store conn.old) (Has entry) }
     ensures reads { OnlyReads (state S.Store conn.old) (state S.Store conn.new) }
-    ensures failed { HasCleanDisk (state S.Store conn.new) → IfErr result (IsExcused (state S.Store conn.old) (state S.Store conn.new)) }
+    ensures failed { HasCleanDisk (state S.Store conn.new) → IfErr result (IsExcusedReading (state S.Store conn.old) (state S.Store conn.new)) }
     ensures same { HasCleanDisk (state S.Store conn.new) → OnOk result (Same (state S.Store conn.old) (state S.Store conn.new)) }
     ensures whole { HasCleanDisk (state S.Store conn.new) → OnOk result (AreNumberedApart numbers.now (codes "entry") (state S.Store conn.old).now) }
     ensures damaged { HasCleanDisk (state S.Store conn.new) → IfErr result (λ fault. fault ≡ ReadingFault.Damaged → IsReadable (contents Plain) (state S.Store conn.old).now → AreNumberedApart numbers.now (codes "entry") (state S.Store conn.old).now → ⊥) }
@@ -175,7 +175,7 @@ fn test_plain_rows<S: Alter>(
         numbers,
         rowids: RowidReader::new(),
     };
-    take_all::<S, Stored<Entry<String>>, Census<'_>>(alloc, &mut rows, &mut census)
+    take_all::<S, StoredRow<EntryRecord<String>>, Census<'_>>(alloc, &mut rows, &mut census)
 }
 
 /// Tests the entries of schemas 2 and 3.
@@ -186,7 +186,7 @@ fn test_old_rows<S: Alter>(
 ) -> Result<(), ReadingFault>
     requires { WhileOpen (state S.Store conn.old) (Has old_entry) }
     ensures reads { OnlyReads (state S.Store conn.old) (state S.Store conn.new) }
-    ensures failed { HasCleanDisk (state S.Store conn.new) → IfErr result (IsExcused (state S.Store conn.old) (state S.Store conn.new)) }
+    ensures failed { HasCleanDisk (state S.Store conn.new) → IfErr result (IsExcusedReading (state S.Store conn.old) (state S.Store conn.new)) }
     ensures same { HasCleanDisk (state S.Store conn.new) → OnOk result (Same (state S.Store conn.old) (state S.Store conn.new)) }
     ensures whole { HasCleanDisk (state S.Store conn.new) → OnOk result (AreNumberedApart numbers.now (codes "entry") (state S.Store conn.old).now) }
     ensures damaged { HasCleanDisk (state S.Store conn.new) → IfErr result (λ fault. fault ≡ ReadingFault.Damaged → IsReadable (contents Keyed) (state S.Store conn.old).now → AreNumberedApart numbers.now (codes "entry") (state S.Store conn.old).now → ⊥) }
@@ -200,7 +200,7 @@ fn test_old_rows<S: Alter>(
         numbers,
         rowids: RowidReader::new(),
     };
-    take_all::<S, Stored<OldEntry<String, Vec<u8>>>, Census<'_>>(alloc, &mut rows, &mut census)
+    take_all::<S, StoredRow<OldEntry<String, Vec<u8>>>, Census<'_>>(alloc, &mut rows, &mut census)
 }
 
 /// Tests the entries of schema 4.
@@ -211,7 +211,7 @@ fn test_shown_rows<S: Alter>(
 ) -> Result<(), ReadingFault>
     requires { WhileOpen (state S.Store conn.old) (Has keyed_entry) }
     ensures reads { OnlyReads (state S.Store conn.old) (state S.Store conn.new) }
-    ensures failed { HasCleanDisk (state S.Store conn.new) → IfErr result (IsExcused (state S.Store conn.old) (state S.Store conn.new)) }
+    ensures failed { HasCleanDisk (state S.Store conn.new) → IfErr result (IsExcusedReading (state S.Store conn.old) (state S.Store conn.new)) }
     ensures same { HasCleanDisk (state S.Store conn.new) → OnOk result (Same (state S.Store conn.old) (state S.Store conn.new)) }
     ensures whole { HasCleanDisk (state S.Store conn.new) → OnOk result (AreNumberedApart numbers.now (codes "entry") (state S.Store conn.old).now) }
     ensures damaged { HasCleanDisk (state S.Store conn.new) → IfErr result (λ fault. fault ≡ ReadingFault.Damaged → IsReadable (contents Shown) (state S.Store conn.old).now → AreNumberedApart numbers.now (codes "entry") (state S.Store conn.old).now → ⊥) }
@@ -225,7 +225,7 @@ fn test_shown_rows<S: Alter>(
         numbers,
         rowids: RowidReader::new(),
     };
-    take_all::<S, Stored<KeyedEntry<String, Vec<u8>>>, Census<'_>>(alloc, &mut rows, &mut census)
+    take_all::<S, StoredRow<KeyedEntry<String, Vec<u8>>>, Census<'_>>(alloc, &mut rows, &mut census)
 }
 
 /// Tests that no two rows of the table have one rowid, and that each is of an edition that has one of these numbers. One
@@ -240,10 +240,10 @@ pub fn test_rows<S: Alter>(
 ) -> Result<(), ReadingFault>
     requires { WhileOpen (state S.Store conn.old) (Has (reading_of table).table) }
     ensures reads { OnlyReads (state S.Store conn.old) (state S.Store conn.new) }
-    ensures failed { HasCleanDisk (state S.Store conn.new) → IfErr result (IsExcused (state S.Store conn.old) (state S.Store conn.new)) }
+    ensures failed { HasCleanDisk (state S.Store conn.new) → IfErr result (IsExcusedReading (state S.Store conn.old) (state S.Store conn.new)) }
     ensures same { HasCleanDisk (state S.Store conn.new) → OnOk result (Same (state S.Store conn.old) (state S.Store conn.new)) }
-    ensures whole { HasCleanDisk (state S.Store conn.new) → OnOk result (AreNumberedApart numbers.now (name_of (reading_of table)) (state S.Store conn.old).now) }
-    ensures damaged { HasCleanDisk (state S.Store conn.new) → IfErr result (λ fault. fault ≡ ReadingFault.Damaged → IsReadable (reading_of table) (state S.Store conn.old).now → AreNumberedApart numbers.now (name_of (reading_of table)) (state S.Store conn.old).now → ⊥) }
+    ensures whole { HasCleanDisk (state S.Store conn.new) → OnOk result (AreNumberedApart numbers.now (table_name_of (reading_of table)) (state S.Store conn.old).now) }
+    ensures damaged { HasCleanDisk (state S.Store conn.new) → IfErr result (λ fault. fault ≡ ReadingFault.Damaged → IsReadable (reading_of table) (state S.Store conn.old).now → AreNumberedApart numbers.now (table_name_of (reading_of table)) (state S.Store conn.old).now → ⊥) }
 {
     match table {
         EditionTable::PlainEntry => test_plain_rows(alloc, conn, numbers),

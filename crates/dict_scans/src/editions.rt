@@ -8,14 +8,14 @@ ghost use Rattle.dict_edition_sql.specs.PartTable.{part};
 ghost use Rattle.dict_sql.specs.Effects.{Has, WhileOpen};
 ghost use Rattle.dict_rows.specs.Versions.{Parted};
 ghost use Rattle.dict_holdings.specs.Readings.{IsReadable, whole_editions, editions, contents};
-ghost use Rattle.dict_scans.specs.Reading.{Same, OnlyReads, IsExcused};
+ghost use Rattle.dict_scans.specs.Reading.{Same, OnlyReads, IsExcusedReading};
 ghost use Rattle.dict_scans.specs.Census.{AreKnownApart, AreNumberedApart, is_known_part};
 
 use crate::census::{Census, PartCensus};
 use crate::fault::{ReadingFault, fault_of_store};
 use crate::scan::take_all;
 use dict_edition_sql::{StoredHeader, StoredPart, read_headers_by_rowid, read_parts_by_rowid};
-use dict_records::Stored;
+use dict_records::StoredRow;
 use dict_rows::RowidReader;
 use dict_sql::records::EditionNumber;
 use dict_sql::stream::read_edition_numbers;
@@ -32,7 +32,7 @@ pub fn test_editions<S: Alter>(
 ) -> Result<(), ReadingFault>
     requires { WhileOpen (state S.Store conn.old) (Has edition) }
     ensures reads { OnlyReads (state S.Store conn.old) (state S.Store conn.new) }
-    ensures failed { HasCleanDisk (state S.Store conn.new) → IfErr result (IsExcused (state S.Store conn.old) (state S.Store conn.new)) }
+    ensures failed { HasCleanDisk (state S.Store conn.new) → IfErr result (IsExcusedReading (state S.Store conn.old) (state S.Store conn.new)) }
     ensures same { HasCleanDisk (state S.Store conn.new) → OnOk result (Same (state S.Store conn.old) (state S.Store conn.new)) }
     ensures whole { HasCleanDisk (state S.Store conn.new) → OnOk result (AreNumberedApart numbers.now (codes "edition") (state S.Store conn.old).now) }
     ensures damaged { HasCleanDisk (state S.Store conn.new) → IfErr result (λ fault. fault ≡ ReadingFault.Damaged → IsReadable whole_editions (state S.Store conn.old).now → AreNumberedApart numbers.now (codes "edition") (state S.Store conn.old).now → ⊥) }
@@ -45,7 +45,7 @@ pub fn test_editions<S: Alter>(
         numbers,
         rowids: RowidReader::new(),
     };
-    take_all::<S, Stored<EditionNumber>, Census<'_>>(alloc, &mut rows, &mut census)
+    take_all::<S, StoredRow<EditionNumber>, Census<'_>>(alloc, &mut rows, &mut census)
 }
 
 /// The same of editions whose texts stand in parts.
@@ -56,7 +56,7 @@ pub fn test_headers<S: Alter>(
 ) -> Result<(), ReadingFault>
     requires { WhileOpen (state S.Store conn.old) (Has header) }
     ensures reads { OnlyReads (state S.Store conn.old) (state S.Store conn.new) }
-    ensures failed { HasCleanDisk (state S.Store conn.new) → IfErr result (IsExcused (state S.Store conn.old) (state S.Store conn.new)) }
+    ensures failed { HasCleanDisk (state S.Store conn.new) → IfErr result (IsExcusedReading (state S.Store conn.old) (state S.Store conn.new)) }
     ensures same { HasCleanDisk (state S.Store conn.new) → OnOk result (Same (state S.Store conn.old) (state S.Store conn.new)) }
     ensures whole { HasCleanDisk (state S.Store conn.new) → OnOk result (AreNumberedApart numbers.now (codes "edition") (state S.Store conn.old).now) }
     ensures damaged { HasCleanDisk (state S.Store conn.new) → IfErr result (λ fault. fault ≡ ReadingFault.Damaged → IsReadable (editions Parted) (state S.Store conn.old).now → AreNumberedApart numbers.now (codes "edition") (state S.Store conn.old).now → ⊥) }
@@ -83,7 +83,7 @@ pub fn test_parts<S: Alter>(
 ) -> Result<(), ReadingFault>
     requires { WhileOpen (state S.Store conn.old) (Has part) }
     ensures reads { OnlyReads (state S.Store conn.old) (state S.Store conn.new) }
-    ensures failed { HasCleanDisk (state S.Store conn.new) → IfErr result (IsExcused (state S.Store conn.old) (state S.Store conn.new)) }
+    ensures failed { HasCleanDisk (state S.Store conn.new) → IfErr result (IsExcusedReading (state S.Store conn.old) (state S.Store conn.new)) }
     ensures same { HasCleanDisk (state S.Store conn.new) → OnOk result (Same (state S.Store conn.old) (state S.Store conn.new)) }
     ensures whole { HasCleanDisk (state S.Store conn.new) → OnOk result (AreKnownApart (is_known_part numbers.now) (codes "dictcat_part") (state S.Store conn.old).now) }
     ensures damaged { HasCleanDisk (state S.Store conn.new) → IfErr result (λ fault. fault ≡ ReadingFault.Damaged → IsReadable (contents Parted) (state S.Store conn.old).now → AreKnownApart (is_known_part numbers.now) (codes "dictcat_part") (state S.Store conn.old).now → ⊥) }

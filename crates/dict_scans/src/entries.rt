@@ -3,22 +3,22 @@ ghost use Rattle.std.specs.Prelude.{◌≡◌, ◌++◌, List, map, IfErr, OnOk}
 ghost use Rattle.sqlite.specs.State.{HasCleanDisk, IsLive};
 ghost use Rattle.sqlite.specs.Held.{state};
 ghost use Rattle.dict_tables.specs.Tables.{entry};
-ghost use Rattle.dict_tables.specs.Keyed.{entry as keyed_entry, old_entry};
+ghost use Rattle.dict_tables.specs.Keyed.{entry_with_keys as keyed_entry, old_entry};
 ghost use Rattle.dict_edition_sql.specs.PartTable.{part};
-ghost use Rattle.dict_records.specs.Records.{Entry as AnEntry};
+ghost use Rattle.dict_records.specs.Records.{EntryRecord as AnEntry};
 ghost use Rattle.dict_sql.specs.Effects.{Has, WhileOpen};
 ghost use Rattle.dict_rows.specs.Versions.{Plain, Keyed, Shown, Parted};
-ghost use Rattle.dict_scans.specs.Reading.{Same, OnlyReads, IsExcused};
+ghost use Rattle.dict_scans.specs.Reading.{Same, OnlyReads, IsExcusedReading};
 ghost use Rattle.dict_scans.specs.Entries.{TakesEntries, HasWrongEntries};
 ghost use Rattle.dict_scans.specs.Indexing.{indexed_of};
 
 use crate::fault::{ReadingFault, fault_of_rows, fault_of_store};
 use crate::files::{INDEX_FILE, read_file};
-use crate::filing::EditionReader;
 use crate::index::read_index;
+use crate::indexing_reader::IndexingReader;
 use crate::scan::take_all;
 use dict_older_sql::{read_old_rows_of, read_rows_of};
-use dict_records::{Entry, KeyedEntry, OldEntry, Stored};
+use dict_records::{EntryRecord, KeyedEntry, OldEntry, StoredRow};
 use dict_sql::stream::read_entries_of;
 use dict_tables::KeyedTable;
 use sqlite::{Alter, Connection};
@@ -29,11 +29,11 @@ pub fn read_plain_entries<S: Alter>(
     alloc: Global,
     conn: &mut Connection<S>,
     number: i64,
-    reader: &mut EditionReader,
+    reader: &mut IndexingReader,
 ) -> Result<(), ReadingFault>
     requires { WhileOpen (state S.Store conn.old) (Has entry) }
     ensures reads { OnlyReads (state S.Store conn.old) (state S.Store conn.new) }
-    ensures failed { HasCleanDisk (state S.Store conn.new) → IfErr result (IsExcused (state S.Store conn.old) (state S.Store conn.new)) }
+    ensures failed { HasCleanDisk (state S.Store conn.new) → IfErr result (IsExcusedReading (state S.Store conn.old) (state S.Store conn.new)) }
     ensures same { HasCleanDisk (state S.Store conn.new) → OnOk result (Same (state S.Store conn.old) (state S.Store conn.new)) }
     ensures whole { HasCleanDisk (state S.Store conn.new) → OnOk result ((all : List AnEntry) × TakesEntries Plain (state S.Store conn.old).now number reader.old.reader reader.new.reader all × (reader.new.index ≡ reader.old.index ++ map indexed_of all)) }
     ensures damaged { HasCleanDisk (state S.Store conn.new) → IfErr result (λ fault. fault ≡ ReadingFault.Damaged → HasWrongEntries Plain (state S.Store conn.old).now number reader.old.reader) }
@@ -42,7 +42,7 @@ pub fn read_plain_entries<S: Alter>(
         Ok(rows) => rows,
         Err(error) => return Err(fault_of_store(error)),
     };
-    take_all::<S, Stored<Entry<String>>, EditionReader>(alloc, &mut rows, reader)
+    take_all::<S, StoredRow<EntryRecord<String>>, IndexingReader>(alloc, &mut rows, reader)
 }
 
 /// Takes the entries of the edition that was taken last, which has this number, from the tables of schemas 2 and 3, and adds
@@ -51,11 +51,11 @@ pub fn read_old_entries<S: Alter>(
     alloc: Global,
     conn: &mut Connection<S>,
     number: i64,
-    reader: &mut EditionReader,
+    reader: &mut IndexingReader,
 ) -> Result<(), ReadingFault>
     requires { WhileOpen (state S.Store conn.old) (Has old_entry) }
     ensures reads { OnlyReads (state S.Store conn.old) (state S.Store conn.new) }
-    ensures failed { HasCleanDisk (state S.Store conn.new) → IfErr result (IsExcused (state S.Store conn.old) (state S.Store conn.new)) }
+    ensures failed { HasCleanDisk (state S.Store conn.new) → IfErr result (IsExcusedReading (state S.Store conn.old) (state S.Store conn.new)) }
     ensures same { HasCleanDisk (state S.Store conn.new) → OnOk result (Same (state S.Store conn.old) (state S.Store conn.new)) }
     ensures whole { HasCleanDisk (state S.Store conn.new) → OnOk result ((all : List AnEntry) × TakesEntries Keyed (state S.Store conn.old).now number reader.old.reader reader.new.reader all × (reader.new.index ≡ reader.old.index ++ map indexed_of all)) }
     ensures damaged { HasCleanDisk (state S.Store conn.new) → IfErr result (λ fault. fault ≡ ReadingFault.Damaged → HasWrongEntries Keyed (state S.Store conn.old).now number reader.old.reader) }
@@ -65,7 +65,7 @@ pub fn read_old_entries<S: Alter>(
         Ok(rows) => rows,
         Err(error) => return Err(fault_of_store(error)),
     };
-    take_all::<S, Stored<OldEntry<String, Vec<u8>>>, EditionReader>(alloc, &mut rows, reader)
+    take_all::<S, StoredRow<OldEntry<String, Vec<u8>>>, IndexingReader>(alloc, &mut rows, reader)
 }
 
 /// Takes the entries of the edition that was taken last, which has this number, from the tables of schema 4, and adds them to the
@@ -74,11 +74,11 @@ pub fn read_shown_entries<S: Alter>(
     alloc: Global,
     conn: &mut Connection<S>,
     number: i64,
-    reader: &mut EditionReader,
+    reader: &mut IndexingReader,
 ) -> Result<(), ReadingFault>
     requires { WhileOpen (state S.Store conn.old) (Has keyed_entry) }
     ensures reads { OnlyReads (state S.Store conn.old) (state S.Store conn.new) }
-    ensures failed { HasCleanDisk (state S.Store conn.new) → IfErr result (IsExcused (state S.Store conn.old) (state S.Store conn.new)) }
+    ensures failed { HasCleanDisk (state S.Store conn.new) → IfErr result (IsExcusedReading (state S.Store conn.old) (state S.Store conn.new)) }
     ensures same { HasCleanDisk (state S.Store conn.new) → OnOk result (Same (state S.Store conn.old) (state S.Store conn.new)) }
     ensures whole { HasCleanDisk (state S.Store conn.new) → OnOk result ((all : List AnEntry) × TakesEntries Shown (state S.Store conn.old).now number reader.old.reader reader.new.reader all × (reader.new.index ≡ reader.old.index ++ map indexed_of all)) }
     ensures damaged { HasCleanDisk (state S.Store conn.new) → IfErr result (λ fault. fault ≡ ReadingFault.Damaged → HasWrongEntries Shown (state S.Store conn.old).now number reader.old.reader) }
@@ -88,7 +88,7 @@ pub fn read_shown_entries<S: Alter>(
         Ok(rows) => rows,
         Err(error) => return Err(fault_of_store(error)),
     };
-    take_all::<S, Stored<KeyedEntry<String, Vec<u8>>>, EditionReader>(alloc, &mut rows, reader)
+    take_all::<S, StoredRow<KeyedEntry<String, Vec<u8>>>, IndexingReader>(alloc, &mut rows, reader)
 }
 
 /// Takes the entries of the edition that was taken last, which has this number, from the parts of its index, and adds them to the
@@ -97,11 +97,11 @@ pub fn read_filed_entries<S: Alter>(
     alloc: Global,
     conn: &mut Connection<S>,
     number: i64,
-    reader: &mut EditionReader,
+    reader: &mut IndexingReader,
 ) -> Result<(), ReadingFault>
     requires { WhileOpen (state S.Store conn.old) (Has part) }
     ensures reads { OnlyReads (state S.Store conn.old) (state S.Store conn.new) }
-    ensures failed { HasCleanDisk (state S.Store conn.new) → IfErr result (IsExcused (state S.Store conn.old) (state S.Store conn.new)) }
+    ensures failed { HasCleanDisk (state S.Store conn.new) → IfErr result (IsExcusedReading (state S.Store conn.old) (state S.Store conn.new)) }
     ensures same { HasCleanDisk (state S.Store conn.new) → OnOk result (Same (state S.Store conn.old) (state S.Store conn.new)) }
     ensures whole { HasCleanDisk (state S.Store conn.new) → OnOk result ((all : List AnEntry) × TakesEntries Parted (state S.Store conn.old).now number reader.old.reader reader.new.reader all × (reader.new.index ≡ reader.old.index ++ map indexed_of all)) }
     ensures damaged { HasCleanDisk (state S.Store conn.new) → IfErr result (λ fault. fault ≡ ReadingFault.Damaged → HasWrongEntries Parted (state S.Store conn.old).now number reader.old.reader) }

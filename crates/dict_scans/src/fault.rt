@@ -1,6 +1,6 @@
 // Why a file isn't read.
 ghost use Rattle.std.specs.Prelude.{◌≡◌};
-ghost use Rattle.dict_scans.specs.Reading.{fault_of_store, fault_of_read, fault_of_rows};
+ghost use Rattle.dict_scans.specs.Reading.{fault_of_store, reading_fault_of, fault_of_rows};
 
 use dict_rows::RowsFault;
 use dict_sql::records::ReadError;
@@ -29,7 +29,7 @@ pub fn fault_of_store(error: Error) -> ReadingFault
 
 /// The fault that an error of a reading is.
 pub fn fault_of_read(error: ReadError) -> ReadingFault
-    ensures { result ≡ fault_of_read error }
+    ensures { result ≡ reading_fault_of error }
 {
     match error {
         ReadError::NoRecord => ReadingFault::Damaged,

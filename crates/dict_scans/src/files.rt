@@ -7,7 +7,7 @@ ghost use Rattle.dict_edition_sql.specs.PartRecords.{part_columns, stored_part};
 ghost use Rattle.dict_edition_sql.specs.PartTable.{part};
 ghost use Rattle.dict_scans.specs.Cursors.Cursor.{PartsOf};
 ghost use Rattle.dict_scans.specs.Files.{HasFile, HasNoFile, TakesParts, RefusesParts};
-ghost use Rattle.dict_scans.specs.Reading.{Same, OnlyReads, IsExcused};
+ghost use Rattle.dict_scans.specs.Reading.{Same, OnlyReads, IsExcusedReading};
 ghost use Rattle.dict_scans.specs.Scans.{TakesAll, IsWrong};
 ghost use Rattle.dict_scans.specs.TakerLaws.{no_parts};
 
@@ -64,7 +64,7 @@ fn join_parts<S: Alter>(
 ) -> Result<(), ReadingFault>
     requires { WhileOpen (state S.Store conn.old) (Has part) }
     ensures reads { OnlyReads (state S.Store conn.old) (state S.Store conn.new) }
-    ensures failed { HasCleanDisk (state S.Store conn.new) → IfErr result (IsExcused (state S.Store conn.old) (state S.Store conn.new)) }
+    ensures failed { HasCleanDisk (state S.Store conn.new) → IfErr result (IsExcusedReading (state S.Store conn.old) (state S.Store conn.new)) }
     ensures same { HasCleanDisk (state S.Store conn.new) → OnOk result (Same (state S.Store conn.old) (state S.Store conn.new)) }
     ensures whole { HasCleanDisk (state S.Store conn.new) → OnOk result (TakesAll stored_part TakesParts (PartsOf number file) (state S.Store conn.old).now joiner.old joiner.new) }
     ensures damaged { HasCleanDisk (state S.Store conn.new) → IfErr result (λ fault. fault ≡ ReadingFault.Damaged → IsWrong stored_part part_columns RefusesParts (PartsOf number file) (state S.Store conn.old).now joiner.old) }
@@ -87,7 +87,7 @@ pub fn read_file<S: Alter>(
 ) -> Result<Vec<u8>, ReadingFault>
     requires { WhileOpen (state S.Store conn.old) (Has part) }
     ensures reads { OnlyReads (state S.Store conn.old) (state S.Store conn.new) }
-    ensures failed { HasCleanDisk (state S.Store conn.new) → IfErr result (IsExcused (state S.Store conn.old) (state S.Store conn.new)) }
+    ensures failed { HasCleanDisk (state S.Store conn.new) → IfErr result (IsExcusedReading (state S.Store conn.old) (state S.Store conn.new)) }
     ensures same { HasCleanDisk (state S.Store conn.new) → OnOk result (Same (state S.Store conn.old) (state S.Store conn.new)) }
     ensures whole { HasCleanDisk (state S.Store conn.new) → IfOk result (λ octets. HasFile (state S.Store conn.old).now number file octets.items) }
     ensures damaged { HasCleanDisk (state S.Store conn.new) → IfErr result (λ fault. fault ≡ ReadingFault.Damaged → HasNoFile (state S.Store conn.old).now number file) }

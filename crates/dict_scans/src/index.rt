@@ -3,18 +3,18 @@ ghost use Rattle.std.specs.Prelude.{◌≡◌, ◌++◌, ℕ, pos, List, map, If
 ghost use Rattle.std.specs.List.{AllByRecursion};
 ghost use Rattle.dict_index.specs.Line.{Line};
 ghost use Rattle.dict_parts.specs.Stored.{IsStorable, stored_index};
-ghost use Rattle.dict_records.specs.Records.{Entry as AnEntry};
-ghost use Rattle.dict_scans.specs.Entries.{AreNextTaken, IsIndexOf, IsWrongIndex};
-ghost use Rattle.dict_scans.specs.Filing.{AreLinesAdded};
+ghost use Rattle.dict_records.specs.Records.{EntryRecord as AnEntry};
+ghost use Rattle.dict_scans.specs.Entries.{AreNextTaken, IsStoredIndexOf, IsWrongIndex};
+ghost use Rattle.dict_scans.specs.IndexingReader.{AreLinesAdded};
 ghost use Rattle.dict_scans.specs.Indexing.{indexed_of};
 
-use crate::filing::EditionReader;
+use crate::indexing_reader::IndexingReader;
 use dict_parts::read_line;
 use dict_rows::{RowsFault, number_in};
 use std::alloc::Global;
 
 // Takes the lines of the edition that was taken last, and adds their entries to the index in memory.
-fn read_lines(alloc: Global, octets: &[u8], reader: &mut EditionReader) -> Result<(), RowsFault>
+fn read_lines(alloc: Global, octets: &[u8], reader: &mut IndexingReader) -> Result<(), RowsFault>
     ensures read { OnOk result ((lines : List Line) × AllByRecursion IsStorable lines × (octets.now ≡ stored_index lines) × AreLinesAdded reader.old reader.new lines) }
     ensures damaged { IfErr result (λ fault. fault ≡ RowsFault.Damaged → IsWrongIndex reader.old.reader octets.now) }
 {
@@ -37,9 +37,9 @@ pub fn read_index(
     alloc: Global,
     number: i64,
     octets: &[u8],
-    reader: &mut EditionReader,
+    reader: &mut IndexingReader,
 ) -> Result<(), RowsFault>
-    ensures read { OnOk result ((all : List AnEntry) × IsIndexOf number octets.now all × AreNextTaken number reader.old.reader reader.new.reader all × (reader.new.index ≡ reader.old.index ++ map indexed_of all)) }
+    ensures read { OnOk result ((all : List AnEntry) × IsStoredIndexOf number octets.now all × AreNextTaken number reader.old.reader reader.new.reader all × (reader.new.index ≡ reader.old.index ++ map indexed_of all)) }
     ensures damaged { IfErr result (λ fault. fault ≡ RowsFault.Damaged → (n : ℕ) → number ≡ pos n → IsWrongIndex reader.old.reader octets.now) }
 {
     let Some(_number) = number_in(&number) else {

@@ -3,14 +3,14 @@ ghost use Rattle.std.specs.Prelude.{◌≡◌, ◌++◌, ◌∷◌, [], IfOk, If
 ghost use Rattle.dict_match.specs.Key.{key_of};
 ghost use Rattle.dict_records.specs.Records.{shown_as};
 ghost use Rattle.dict_records.specs.Typed.{owned_entry};
-ghost use Rattle.dict_parts.specs.Views.{line_of};
+ghost use Rattle.dict_parts.specs.Views.{columns_line};
 ghost use Rattle.dict_search.specs.Entries.{entry_of};
 ghost use Rattle.dict_holdings.specs.Files.{natural};
 ghost use Rattle.dict_scans.specs.Indexing.{indexed_of};
 
 use dict_index::MAX_LINES;
-use dict_parts::Columns;
-use dict_records::Entry;
+use dict_parts::StoredColumns;
+use dict_records::EntryRecord;
 use dict_rows::RowsFault;
 use dict_search::{Index, IndexBuilder};
 use std::alloc::{AllocError, Global};
@@ -74,7 +74,7 @@ impl EditionIndex {
     }
 
     /// Adds an entry, of which this is shown. The fault is that memory was refused.
-    pub(crate) fn add(&mut self, row: &Entry<String>, shown: &str) -> Result<(), RowsFault>
+    pub(crate) fn add(&mut self, row: &EntryRecord<String>, shown: &str) -> Result<(), RowsFault>
         ensures added { OnOk result (self.new ≡ self.old ++ indexed_of (shown_as (owned_entry row.now) shown.now) ∷ []) }
         ensures only { IfErr result (λ fault. fault ≡ RowsFault.Memory) }
     {
@@ -87,8 +87,8 @@ impl EditionIndex {
     }
 
     /// Adds the entry of a line. The fault is that memory was refused.
-    pub(crate) fn add_line(&mut self, line: &Columns<'_>) -> Result<(), RowsFault>
-        ensures added { OnOk result (self.new ≡ self.old ++ entry_of (line_of line.now) ∷ []) }
+    pub(crate) fn add_line(&mut self, line: &StoredColumns<'_>) -> Result<(), RowsFault>
+        ensures added { OnOk result (self.new ≡ self.old ++ entry_of (columns_line line.now) ∷ []) }
         ensures only { IfErr result (λ fault. fault ≡ RowsFault.Memory) }
     {
         self.put(

@@ -3,8 +3,8 @@ ghost use Rattle.std.specs.Prelude.{◌≡◌, true, false, List, [], ◌∷◌,
 ghost use Rattle.sqlite.specs.State.{HasCleanDisk, Survives};
 ghost use Rattle.sqlite.specs.Order.{Row as SqlRow};
 ghost use Rattle.sqlite.specs.Held.{state};
-ghost use Rattle.dict_scans.specs.Cursors.{Cursor, HasGiven, IsWhole};
-ghost use Rattle.dict_scans.specs.Reading.{Same, Stays, IsExcused};
+ghost use Rattle.dict_scans.specs.Cursors.{Cursor, CursorHasGiven, IsScannedToEnd};
+ghost use Rattle.dict_scans.specs.Reading.{Same, StaysUnlessShut, IsExcusedReading};
 ghost use Rattle.dict_scans.specs.Scans.{TakesSo, TakesAll, IsWrong};
 
 use crate::fault::{ReadingFault, fault_of_read, fault_of_rows};
@@ -39,13 +39,13 @@ fn take_next<S: Alter, R: Record + Drop, T: Taker<R>>(
     ensures same_reference { rows.new.conn.ghost_name ≡ rows.old.conn.ghost_name }
     ensures mode { rows.old.conn.now.in_transaction ≡ false → rows.new.conn.now.in_transaction ≡ false }
     ensures survives { Survives (state S.Store rows.old.conn.now) (state S.Store rows.new.conn.now) (λ _. ⊥) }
-    ensures failed { HasCleanDisk (state S.Store rows.new.conn.now) → IfErr result (λ fault. (what : Cursor) (given : List SqlRow) → HasGiven S.Store what rows.old.conn.now given → IsExcused (state S.Store rows.old.conn.now) (state S.Store rows.new.conn.now) fault) }
-    ensures stays { HasCleanDisk (state S.Store rows.new.conn.now) → (what : Cursor) (given : List SqlRow) → HasGiven S.Store what rows.old.conn.now given → Stays (state S.Store rows.old.conn.now) (state S.Store rows.new.conn.now) }
+    ensures failed { HasCleanDisk (state S.Store rows.new.conn.now) → IfErr result (λ fault. (what : Cursor) (given : List SqlRow) → CursorHasGiven S.Store what rows.old.conn.now given → IsExcusedReading (state S.Store rows.old.conn.now) (state S.Store rows.new.conn.now) fault) }
+    ensures stays { HasCleanDisk (state S.Store rows.new.conn.now) → (what : Cursor) (given : List SqlRow) → CursorHasGiven S.Store what rows.old.conn.now given → StaysUnlessShut (state S.Store rows.old.conn.now) (state S.Store rows.new.conn.now) }
     ensures same { HasCleanDisk (state S.Store rows.new.conn.now) → OnOk result (Same (state S.Store rows.old.conn.now) (state S.Store rows.new.conn.now)) }
     ensures more { HasCleanDisk (state S.Store rows.new.conn.now) → result ≡ Ok true → (what : Cursor) (first : T) (given : List R) → TakesSo S.Store R.Record.stored T.takes what first given rows.old.conn.now taker.old →
         (record' : R) × TakesSo S.Store R.Record.stored T.takes what first (given ++ record' ∷ []) rows.new.conn.now taker.new }
     ensures whole { HasCleanDisk (state S.Store rows.new.conn.now) → result ≡ Ok false → (what : Cursor) (first : T) (given : List R) → TakesSo S.Store R.Record.stored T.takes what first given rows.old.conn.now taker.old →
-        IsWhole what (state S.Store rows.old.conn.now).now (map R.Record.stored given) × T.takes first given taker.new }
+        IsScannedToEnd what (state S.Store rows.old.conn.now).now (map R.Record.stored given) × T.takes first given taker.new }
     ensures damaged { HasCleanDisk (state S.Store rows.new.conn.now) → IfErr result (λ fault. fault ≡ ReadingFault.Damaged → (what : Cursor) (first : T) (given : List R) → TakesSo S.Store R.Record.stored T.takes what first given rows.old.conn.now taker.old →
         IsWrong R.Record.stored R.Record.columns T.refuses what (state S.Store rows.old.conn.now).now first) }
 {
@@ -71,11 +71,11 @@ pub fn take_all<S: Alter, R: Record + Drop, T: Taker<R>>(
     ensures same_reference { rows.new.conn.ghost_name ≡ rows.old.conn.ghost_name }
     ensures mode { rows.old.conn.now.in_transaction ≡ false → rows.new.conn.now.in_transaction ≡ false }
     ensures survives { Survives (state S.Store rows.old.conn.now) (state S.Store rows.new.conn.now) (λ _. ⊥) }
-    ensures failed { HasCleanDisk (state S.Store rows.new.conn.now) → IfErr result (λ fault. (what : Cursor) → HasGiven S.Store what rows.old.conn.now [] → IsExcused (state S.Store rows.old.conn.now) (state S.Store rows.new.conn.now) fault) }
-    ensures stays { HasCleanDisk (state S.Store rows.new.conn.now) → (what : Cursor) → HasGiven S.Store what rows.old.conn.now [] → Stays (state S.Store rows.old.conn.now) (state S.Store rows.new.conn.now) }
+    ensures failed { HasCleanDisk (state S.Store rows.new.conn.now) → IfErr result (λ fault. (what : Cursor) → CursorHasGiven S.Store what rows.old.conn.now [] → IsExcusedReading (state S.Store rows.old.conn.now) (state S.Store rows.new.conn.now) fault) }
+    ensures stays { HasCleanDisk (state S.Store rows.new.conn.now) → (what : Cursor) → CursorHasGiven S.Store what rows.old.conn.now [] → StaysUnlessShut (state S.Store rows.old.conn.now) (state S.Store rows.new.conn.now) }
     ensures same { HasCleanDisk (state S.Store rows.new.conn.now) → OnOk result (Same (state S.Store rows.old.conn.now) (state S.Store rows.new.conn.now)) }
-    ensures whole { HasCleanDisk (state S.Store rows.new.conn.now) → OnOk result ((what : Cursor) → HasGiven S.Store what rows.old.conn.now [] → TakesAll R.Record.stored T.takes what (state S.Store rows.old.conn.now).now taker.old taker.new) }
-    ensures damaged { HasCleanDisk (state S.Store rows.new.conn.now) → IfErr result (λ fault. fault ≡ ReadingFault.Damaged → (what : Cursor) → HasGiven S.Store what rows.old.conn.now [] → IsWrong R.Record.stored R.Record.columns T.refuses what (state S.Store rows.old.conn.now).now taker.old) }
+    ensures whole { HasCleanDisk (state S.Store rows.new.conn.now) → OnOk result ((what : Cursor) → CursorHasGiven S.Store what rows.old.conn.now [] → TakesAll R.Record.stored T.takes what (state S.Store rows.old.conn.now).now taker.old taker.new) }
+    ensures damaged { HasCleanDisk (state S.Store rows.new.conn.now) → IfErr result (λ fault. fault ≡ ReadingFault.Damaged → (what : Cursor) → CursorHasGiven S.Store what rows.old.conn.now [] → IsWrong R.Record.stored R.Record.columns T.refuses what (state S.Store rows.old.conn.now).now taker.old) }
 {
     'rows: for _turn in 0..u64::MAX {
         if !take_next::<S, R, T>(alloc, rows, taker)? {

@@ -8,13 +8,13 @@ ghost use Rattle.dict_sql.specs.Columns.{kept_columns};
 ghost use Rattle.dict_sql.specs.Encodings.{stored_kept};
 ghost use Rattle.dict_sql.specs.Streams.Scan.{AllKept, KeptById, ByRowid};
 ghost use Rattle.dict_scans.specs.Cursors.Cursor.{InStore};
-ghost use Rattle.dict_scans.specs.Reading.{Same, OnlyReads, IsExcused};
+ghost use Rattle.dict_scans.specs.Reading.{Same, OnlyReads, IsExcusedReading};
 ghost use Rattle.dict_scans.specs.Scans.{TakesAll, HasNoRecordIn, IsWrong};
 ghost use Rattle.dict_scans.specs.Takers.{takes_replies, refuses_replies, HasIdsApart, HasIdTwice};
 
 use crate::fault::{ReadingFault, fault_of_store};
 use crate::scan::take_all;
-use dict_records::{Kept, Stored};
+use dict_records::{KeptRecord, StoredRow};
 use dict_rows::{IdReader, Reader, RowidReader};
 use dict_sql::records::Record;
 use dict_sql::stream::{read_by_rowid, read_kept_by_id, read_kept_replies};
@@ -30,7 +30,7 @@ pub fn read_replies<S: Alter>(
 ) -> Result<(), ReadingFault>
     requires { WhileOpen (state S.Store conn.old) (Has kept) }
     ensures reads { OnlyReads (state S.Store conn.old) (state S.Store conn.new) }
-    ensures failed { HasCleanDisk (state S.Store conn.new) → IfErr result (IsExcused (state S.Store conn.old) (state S.Store conn.new)) }
+    ensures failed { HasCleanDisk (state S.Store conn.new) → IfErr result (IsExcusedReading (state S.Store conn.old) (state S.Store conn.new)) }
     ensures same { HasCleanDisk (state S.Store conn.new) → OnOk result (Same (state S.Store conn.old) (state S.Store conn.new)) }
     ensures whole { HasCleanDisk (state S.Store conn.new) → OnOk result (TakesAll stored_kept takes_replies (InStore AllKept) (state S.Store conn.old).now reader.old reader.new) }
     ensures damaged { HasCleanDisk (state S.Store conn.new) → IfErr result (λ fault. fault ≡ ReadingFault.Damaged → IsWrong stored_kept kept_columns refuses_replies (InStore AllKept) (state S.Store conn.old).now reader.old) }
@@ -39,14 +39,14 @@ pub fn read_replies<S: Alter>(
         Ok(rows) => rows,
         Err(error) => return Err(fault_of_store(error)),
     };
-    take_all::<S, Stored<Kept<String>>, Reader>(alloc, &mut rows, reader)
+    take_all::<S, StoredRow<KeptRecord<String>>, Reader>(alloc, &mut rows, reader)
 }
 
 /// Tests that no two kept replies have one id.
 pub fn test_ids<S: Alter>(alloc: Global, conn: &mut Connection<S>) -> Result<(), ReadingFault>
     requires { WhileOpen (state S.Store conn.old) (Has kept) }
     ensures reads { OnlyReads (state S.Store conn.old) (state S.Store conn.new) }
-    ensures failed { HasCleanDisk (state S.Store conn.new) → IfErr result (IsExcused (state S.Store conn.old) (state S.Store conn.new)) }
+    ensures failed { HasCleanDisk (state S.Store conn.new) → IfErr result (IsExcusedReading (state S.Store conn.old) (state S.Store conn.new)) }
     ensures same { HasCleanDisk (state S.Store conn.new) → OnOk result (Same (state S.Store conn.old) (state S.Store conn.new)) }
     ensures whole { HasCleanDisk (state S.Store conn.new) → OnOk result (HasIdsApart (state S.Store conn.old).now) }
     ensures damaged { HasCleanDisk (state S.Store conn.new) → IfErr result (λ fault. fault ≡ ReadingFault.Damaged → HasNoRecordIn stored_kept kept_columns (InStore KeptById) (state S.Store conn.old).now ⊎ HasIdTwice (state S.Store conn.old).now) }
@@ -55,7 +55,7 @@ pub fn test_ids<S: Alter>(alloc: Global, conn: &mut Connection<S>) -> Result<(),
         Ok(rows) => rows,
         Err(error) => return Err(fault_of_store(error)),
     };
-    take_all::<S, Stored<Kept<String>>, IdReader>(alloc, &mut rows, &mut IdReader::new())
+    take_all::<S, StoredRow<KeptRecord<String>>, IdReader>(alloc, &mut rows, &mut IdReader::new())
 }
 
 /// Tests that no two rows of a table have one rowid.
@@ -66,7 +66,7 @@ pub fn test_rowids<S: Alter, R: Record + Drop>(
 ) -> Result<(), ReadingFault>
     requires { WhileOpen (state S.Store conn.old) (Has (table_of table)) }
     ensures reads { OnlyReads (state S.Store conn.old) (state S.Store conn.new) }
-    ensures failed { HasCleanDisk (state S.Store conn.new) → IfErr result (IsExcused (state S.Store conn.old) (state S.Store conn.new)) }
+    ensures failed { HasCleanDisk (state S.Store conn.new) → IfErr result (IsExcusedReading (state S.Store conn.old) (state S.Store conn.new)) }
     ensures same { HasCleanDisk (state S.Store conn.new) → OnOk result (Same (state S.Store conn.old) (state S.Store conn.new)) }
     ensures whole { HasCleanDisk (state S.Store conn.new) → OnOk result (HasApartRowids (rows_of (table_of table 0).name (state S.Store conn.old).now)) }
     ensures damaged { HasCleanDisk (state S.Store conn.new) → IfErr result (λ fault. fault ≡ ReadingFault.Damaged → HasNoRecordIn R.Record.stored R.Record.columns (InStore (ByRowid table)) (state S.Store conn.old).now ⊎ (HasApartRowids (rows_of (table_of table 0).name (state S.Store conn.old).now) → ⊥)) }

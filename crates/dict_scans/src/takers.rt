@@ -3,7 +3,7 @@ ghost use Rattle.dict_scans.specs.Takers.{takes_rowids, refuses_rowids, takes_re
 ghost use Rattle.dict_scans.specs.TakerLaws.{no_rowids, no_replies, no_ids};
 
 use crate::scan::Taker;
-use dict_records::{Kept, Stored};
+use dict_records::{KeptRecord, StoredRow};
 use dict_rows::{IdReader, Reader, RowidReader, RowsFault};
 use dict_sql::records::Record;
 use std::alloc::Global;
@@ -22,12 +22,12 @@ impl<R: Record + Drop> Taker<R> for RowidReader {
 }
 
 /// The kept replies, in the order of their numbers.
-impl Taker<Stored<Kept<String>>> for Reader {
+impl Taker<StoredRow<KeptRecord<String>>> for Reader {
     ghost takes = { takes_replies };
 
     ghost refuses = { refuses_replies };
 
-    fn take(&mut self, _: Global, next: Stored<Kept<String>>) -> Result<(), RowsFault> {
+    fn take(&mut self, _: Global, next: StoredRow<KeptRecord<String>>) -> Result<(), RowsFault> {
         self.kept(&next.value)
     }
 
@@ -35,12 +35,12 @@ impl Taker<Stored<Kept<String>>> for Reader {
 }
 
 /// The ids of the kept replies, which come in their order, are to be apart.
-impl Taker<Stored<Kept<String>>> for IdReader {
+impl Taker<StoredRow<KeptRecord<String>>> for IdReader {
     ghost takes = { takes_ids };
 
     ghost refuses = { refuses_ids };
 
-    fn take(&mut self, _: Global, next: Stored<Kept<String>>) -> Result<(), RowsFault> {
+    fn take(&mut self, _: Global, next: StoredRow<KeptRecord<String>>) -> Result<(), RowsFault> {
         self.id(next.value.id)
     }
 

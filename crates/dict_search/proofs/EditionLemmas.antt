@@ -13,7 +13,7 @@ use Rattle.dict_index.specs.Edition.{entry_in, ReadEdition, edition_of}
 use Rattle.dict_derived.specs.Search.{Rows}
 use Rattle.dict_desk.specs.Found.{found, is_found, shown_of as entry_shown, headwords, distinct}
 use Rattle.dict_desk.specs.Shown.{row_of, found_rows, headword_rows}
-use Rattle.dict_search.specs.Entries.{Indexed, entry_of, no_entry, entry_at, entries_at, key_in, keys_of, shown_of, row_in, headword_row}
+use Rattle.dict_search.specs.Entries.{Indexed, entry_of, no_entry, entry_at, entries_at, key_in, keys_of, indexed_shown, row_in, headword_row}
 use Rattle.dict_places.specs.Places.{key_at, places_where}
 use Rattle.dict_search.specs.Selected.{AreSelected}
 use Rattle.dict_places.specs.Selected.{is_selected}
@@ -84,10 +84,10 @@ rows_are strategy q reading =
     ap (map (row_in reading.text)) (entries_of strategy q reading) ∙ mapped_twice entry_of (row_in reading.text) lines
     ∙ sym (mapped_twice (entry_in reading.text) row_of lines) ∙ ap (map row_of) (sym (found_of strategy q reading))
 
-texts_are : (strategy : Strategy) (q : List ℕ) (reading : ReadEdition) → map shown_of (found_entries strategy q (map entry_of reading.lines)) ≡ map entry_shown (found strategy q (edition_of reading))
+texts_are : (strategy : Strategy) (q : List ℕ) (reading : ReadEdition) → map indexed_shown (found_entries strategy q (map entry_of reading.lines)) ≡ map entry_shown (found strategy q (edition_of reading))
 texts_are strategy q reading =
     let lines = filter (λ (line : Line). is_hit strategy q (key_of line.headword)) reading.lines in
-    ap (map shown_of) (entries_of strategy q reading) ∙ mapped_twice entry_of shown_of lines
+    ap (map indexed_shown) (entries_of strategy q reading) ∙ mapped_twice entry_of indexed_shown lines
     ∙ sym (mapped_twice (entry_in reading.text) entry_shown lines) ∙ ap (map entry_shown) (sym (found_of strategy q reading))
 
 pub headwords_are : (strategy : Strategy) (q : List ℕ) (reading : ReadEdition) → found_headwords strategy q (map entry_of reading.lines) ≡ headwords (found strategy q (edition_of reading))

@@ -7,7 +7,7 @@ use Rattle.std.proofs.lemmas.List.{take_more, map-append}
 use Rattle.std.proofs.lemmas.List.Folds.{list_any-append}
 use Rattle.std.proofs.lemmas.Slice.Eq.{bytes_eq-Decides}
 use Rattle.dict_desk.specs.Found.{distinct}
-use Rattle.dict_search.specs.Entries.{Indexed, entry_at, entries_at, shown_of}
+use Rattle.dict_search.specs.Entries.{Indexed, entry_at, entries_at, indexed_shown}
 
 abbrev pub Equal : Type 0
 Equal = Bor (List ℕ) → Bor (List ℕ) → Bool
@@ -57,10 +57,10 @@ one_seen eq keys keys' texts one old same put = record {
 }
 
 abbrev pub texts_of : List Indexed → List ℕ → List (List ℕ)
-texts_of entries places = map shown_of (entries_at entries places)
+texts_of entries places = map indexed_shown (entries_at entries places)
 
 pub texts_more : (entries : List Indexed) (places : List ℕ) (p : ℕ) → texts_of entries (places ++ p ∷ []) ≡ texts_of entries places ++ (entry_at entries p).shown ∷ []
-texts_more entries places p = ap (map shown_of) (map-append (entry_at entries) places (p ∷ [])) ∙ map-append shown_of (entries_at entries places) (entry_at entries p ∷ [])
+texts_more entries places p = ap (map indexed_shown) (map-append (entry_at entries) places (p ∷ [])) ∙ map-append indexed_shown (entries_at entries places) (entry_at entries p ∷ [])
 
 abbrev pub Law : Type 0
 Law = (texts : List (List ℕ)) (text : List ℕ) → distinct (texts ++ text ∷ []) ≡ cond (list_any (bytes_eq text) texts) (distinct texts) (distinct texts ++ text ∷ [])

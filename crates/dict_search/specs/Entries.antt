@@ -32,8 +32,8 @@ key_in entry = entry.key
 abbrev pub keys_of : List Indexed → List (List ℕ)
 keys_of entries = map key_in entries
 
-abbrev pub shown_of : Indexed → List ℕ
-shown_of entry = entry.shown
+abbrev pub indexed_shown : Indexed → List ℕ
+indexed_shown entry = entry.shown
 
 -- the row that replies have of it, where this is the text of its edition
 abbrev pub row_in : List ℕ → Indexed → Row

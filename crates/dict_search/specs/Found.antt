@@ -4,7 +4,7 @@ use Rattle.dict_match.specs.Matching.{is_hit}
 use Rattle.dict_match.specs.declared.strategy.Strategy.{Strategy}
 use Rattle.dict_derived.specs.Search.{rows_for}
 use Rattle.dict_desk.specs.Found.{distinct}
-use Rattle.dict_search.specs.Entries.{Indexed, keys_of, shown_of}
+use Rattle.dict_search.specs.Entries.{Indexed, keys_of, indexed_shown}
 use Rattle.dict_places.specs.Places.{places_where}
 use Rattle.dict_places.specs.Selected.{is_selected}
 
@@ -17,7 +17,7 @@ found_places strategy query entries = places_where (is_hit strategy query) (keys
 
 -- the headwords shown of them, each once, where it stands first
 abbrev pub found_headwords : Strategy → List ℕ → List Indexed → List (List ℕ)
-found_headwords strategy query entries = distinct (map shown_of (found_entries strategy query entries))
+found_headwords strategy query entries = distinct (map indexed_shown (found_entries strategy query entries))
 
 -- how many entries are looked at for it
 abbrev pub count_selected : Strategy → List ℕ → List Indexed → ℕ

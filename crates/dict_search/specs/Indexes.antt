@@ -3,7 +3,7 @@ use Rattle.std.specs.Prelude.{List, ℕ, ◌<◌, length, map, reverse}
 use Rattle.dict_match.specs.Words.{words_between_blanks}
 use Rattle.dict_search.specs.Entries.{Indexed, keys_of}
 use Rattle.dict_places.specs.Orders.{IsOrderOf}
-use Rattle.dict_derived.specs.Kept.{kept_grams}
+use Rattle.dict_derived.specs.KeptGrams.{kept_grams}
 use Rattle.dict_places.specs.Pieces.{ArePlaced}
 use Rattle.std.specs.List.{All}
 use Rattle.std.specs.Str.{IsUtf8}

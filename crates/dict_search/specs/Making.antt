@@ -2,7 +2,7 @@
 use Rattle.std.specs.Prelude.{◌≡◌, List, ℕ, ◌<◌, Option, IfSome, length, map, reverse, take}
 use Rattle.dict_search.specs.Entries.{Indexed, keys_of}
 use Rattle.dict_places.specs.Listing.{AreListed}
-use Rattle.dict_places.specs.Sorting.{AreOrdered}
+use Rattle.dict_places.specs.Sorting.{MakesOrderOf}
 use Rattle.dict_places.specs.Wording.{AreWorded}
 use Rattle.dict_places.specs.declared.listing.Listing.{Listing}
 use Rattle.dict_places.specs.declared.sorting.Places.{Places}
@@ -14,10 +14,10 @@ pub record Begun : Type 0 where
   pub left : ℕ
 
 -- each part that is made is that of these entries
-pub record ArePartsOf (entries : List Indexed) (by_key : Option Places) (turned : List (List ℕ)) (by_reversed : Option Places) (words : Option Wording) (trigrams : Option Listing) : Type 0 where
+pub record AreIndexPartsOf (entries : List Indexed) (by_key : Option Places) (turned : List (List ℕ)) (by_reversed : Option Places) (words : Option Wording) (trigrams : Option Listing) : Type 0 where
   pub few : length entries < 4294967296
-  pub keys : IfSome by_key (AreOrdered (keys_of entries))
+  pub keys : IfSome by_key (MakesOrderOf (keys_of entries))
   pub turned_keys : turned ≡ map reverse (take (length turned) (keys_of entries))
-  pub reversed : IfSome by_reversed (AreOrdered (map reverse (keys_of entries)))
+  pub reversed : IfSome by_reversed (MakesOrderOf (map reverse (keys_of entries)))
   pub words_placed : IfSome words (AreWorded (keys_of entries))
   pub grams_placed : IfSome trigrams (AreListed (keys_of entries))

@@ -3,8 +3,8 @@ ghost use Rattle.std.specs.Prelude.{◌≡◌, ◌&&◌, true, false, All, IfOk,
 ghost use Rattle.std.specs.Str.{IsUtf8, bytes_eq};
 ghost use Rattle.dict_match.specs.Matching.{is_hit};
 ghost use Rattle.dict_match.specs.declared.strategy.Strategy.TheVariants.{Substring};
-ghost use Rattle.dict_derived.specs.Search.{rows_of, rows_for};
-ghost use Rattle.dict_search.specs.Entries.{entry_at, entries_at, keys_of, shown_of};
+ghost use Rattle.dict_derived.specs.Search.{rows_selected, rows_for};
+ghost use Rattle.dict_search.specs.Entries.{entry_at, entries_at, keys_of, indexed_shown};
 ghost use Rattle.dict_places.specs.Places.{key_at, places_where};
 ghost use Rattle.dict_search.specs.Indexes.{IsIndexed};
 ghost use Rattle.dict_places.specs.Orders.{IsOrderOf};
@@ -86,13 +86,13 @@ pub(crate) struct Orders {
 
 /// The words of keys, and their runs of three octets, with their places.
 #[derive(Drop)]
-pub(crate) struct Lists {
+pub(crate) struct PieceLists {
     pub(crate) words: Pieces,
     pub(crate) grams: Pieces,
 }
 
 /// The index that holds this beside its entries.
-pub(crate) fn index_with(entries: Entries, orders: Orders, lists: Lists) -> Index
+pub(crate) fn index_with(entries: Entries, orders: Orders, lists: PieceLists) -> Index
     requires { IsIndexed entries orders.by_key.items orders.by_reversed_key.items lists.words lists.grams }
     ensures { result ≡ entries }
 {
@@ -144,14 +144,14 @@ impl Index {
 
     /// The places of the entries that a selection has, each once, rising. The only error is refused memory.
     pub fn candidates(&self, alloc: Global, selection: &Selection) -> Result<Vec<u32>, AllocError>
-        ensures value { IfOk result (λ places. places.items ≡ places_where (is_selected (rows_of selection.now)) (keys_of self.now)) }
-        ensures selected { IfOk result (λ places. AreSelected (rows_of selection.now) self.now places.items) }
+        ensures value { IfOk result (λ places. places.items ≡ places_where (is_selected (rows_selected selection.now)) (keys_of self.now)) }
+        ensures selected { IfOk result (λ places. AreSelected (rows_selected selection.now) self.now places.items) }
     {
         self.selected_places(alloc, selection)
     }
 
     fn selected_places(&self, alloc: Global, selection: &Selection) -> Result<Vec<u32>, AllocError>
-        ensures { IfOk result (λ places. places.items ≡ places_where (is_selected (rows_of selection.now)) (keys_of self.now)) }
+        ensures { IfOk result (λ places. places.items ≡ places_where (is_selected (rows_selected selection.now)) (keys_of self.now)) }
     {
         match selection {
             Selection::Nothing => Ok(Vec::new(alloc)),
@@ -319,7 +319,7 @@ impl Index {
         strategy: Strategy,
         query: &[u8],
     ) -> Result<Found, AllocError>
-        ensures shown { IfOk result (λ found. map shown_of (entries_at self.now found.places.items) ≡ found_headwords strategy query.now self.now) }
+        ensures shown { IfOk result (λ found. map indexed_shown (entries_at self.now found.places.items) ≡ found_headwords strategy query.now self.now) }
         ensures looked_at { IfOk result (λ found. found.looked_at ≡ count_selected strategy query.now self.now) }
     {
         let found = self.find(alloc, strategy, query)?;

@@ -2,7 +2,7 @@
 ghost use Rattle.std.specs.Prelude.{◌≡◌, ◌↔◌, IsTrue, List, ℕ, length, map};
 ghost use Rattle.dict_match.specs.declared.strategy.Strategy.{Strategy};
 ghost use Rattle.dict_index.specs.Edition.{ReadEdition, edition_of};
-ghost use Rattle.dict_derived.specs.Search.{Rows, Selects};
+ghost use Rattle.dict_derived.specs.Search.{Rows, SelectsKey};
 ghost use Rattle.dict_desk.specs.Shown.{found_rows, headword_rows, count_of};
 ghost use Rattle.dict_desk.specs.declared.lookup.What.TheVariants.{Entries, Headwords};
 ghost use Rattle.dict_search.specs.Entries.{entry_of, row_in, headword_row};
@@ -23,5 +23,5 @@ pub fn edition_laws()
 ///
 /// It does nothing. Its clause is the law.
 pub fn selection_law()
-    ensures { (rows : Rows) (k : List ℕ) → IsTrue (is_selected rows k) ↔ Selects rows k }
+    ensures { (rows : Rows) (k : List ℕ) → IsTrue (is_selected rows k) ↔ SelectsKey rows k }
 {}

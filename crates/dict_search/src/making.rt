@@ -3,17 +3,17 @@ ghost use Rattle.std.specs.Prelude.{◌≡◌, ◌≢◌, ◌<◌, ◌≤◌, �
 ghost use Rattle.std.specs.List.{All, AllByRecursion};
 ghost use Rattle.std.specs.Str.{IsUtf8};
 ghost use Rattle.dict_index.specs.Views.{line_of, HasItsKey};
-ghost use Rattle.dict_derived.specs.Kept.{kept_grams};
+ghost use Rattle.dict_derived.specs.KeptGrams.{kept_grams};
 ghost use Rattle.dict_match.specs.Words.{words_between_blanks};
 ghost use Rattle.dict_search.specs.Entries.{entry_of, keys_of};
 ghost use Rattle.dict_places.specs.Orders.{IsOrderOf};
 ghost use Rattle.dict_places.specs.Listing.{AreListed};
 ghost use Rattle.dict_places.specs.Pieces.{ArePlaced};
-ghost use Rattle.dict_places.specs.Sorting.{AreOrdered};
+ghost use Rattle.dict_places.specs.Sorting.{MakesOrderOf};
 ghost use Rattle.dict_places.specs.Wording.{AreWorded};
 
 use crate::entries::Entries;
-use crate::index::{Index, Lists, Orders, index_with, reversed_places};
+use crate::index::{Index, Orders, PieceLists, index_with, reversed_places};
 use crate::same::are_entries;
 use dict_derived::Texts;
 use dict_index::Entry;
@@ -59,13 +59,13 @@ impl Drop for IndexMaking {
 }
 
 impl Model for IndexMaking {
-    ghost use Rattle.dict_search.specs.Making.{Begun, ArePartsOf};
+    ghost use Rattle.dict_search.specs.Making.{Begun, AreIndexPartsOf};
 
     ghost Value = { Begun };
 
     ghost view = { λ making. record { entries = making.entries; left = making.left } };
 
-    ghost invariant = { λ making. ArePartsOf making.entries making.by_key making.turned making.by_reversed_key making.words making.grams };
+    ghost invariant = { λ making. AreIndexPartsOf making.entries making.by_key making.turned making.by_reversed_key making.words making.grams };
 }
 
 /// The places in the order of the keys: those that were made, or made now.
@@ -75,7 +75,7 @@ fn key_places(
     made: Option<Places>,
 ) -> Result<Vec<u32>, AllocError>
     requires few { length entries.now < 2 ^ 32 }
-    requires made { IfSome made (AreOrdered (keys_of entries.now)) }
+    requires made { IfSome made (MakesOrderOf (keys_of entries.now)) }
     ensures { IfOk result (λ places. IsOrderOf (keys_of entries.now) places.items) }
 {
     match made {
@@ -94,7 +94,7 @@ fn reversed_key_places(
     made: Option<Places>,
 ) -> Result<Vec<u32>, AllocError>
     requires few { length entries.now < 2 ^ 32 }
-    requires made { IfSome made (AreOrdered (map reverse (keys_of entries.now))) }
+    requires made { IfSome made (MakesOrderOf (map reverse (keys_of entries.now))) }
     ensures { IfOk result (λ places. IsOrderOf (map reverse (keys_of entries.now)) places.items) }
 {
     match made {
@@ -257,14 +257,14 @@ impl IndexMaking {
     }
 
     /// The words and the runs of three octets: those that were made, or made now. Of what was made none is left.
-    fn take_lists(&mut self) -> Result<Lists, AllocError>
+    fn take_lists(&mut self) -> Result<PieceLists, AllocError>
         ensures same { self.new ≡ self.old }
         ensures words { IfOk result (λ lists. ArePlaced words_between_blanks (keys_of self.old.entries) lists.words.texts lists.words.lists) }
         ensures trigrams { IfOk result (λ lists. ArePlaced kept_grams (keys_of self.old.entries) lists.grams.texts lists.grams.lists) }
     {
         let words = key_words(self.alloc, &self.entries, self.words.take())?;
         match key_grams(self.alloc, &self.entries, self.grams.take()) {
-            Ok(grams) => Ok(Lists { words, grams }),
+            Ok(grams) => Ok(PieceLists { words, grams }),
             Err(fault) => {
                 drop(words);
                 Err(fault)
@@ -273,7 +273,7 @@ impl IndexMaking {
     }
 
     /// Both, of which the lists are made once the orders are.
-    fn take_parts(&mut self) -> Result<(Orders, Lists), AllocError>
+    fn take_parts(&mut self) -> Result<(Orders, PieceLists), AllocError>
         ensures same { self.new ≡ self.old }
         ensures keys { IfOk result (λ parts. IsOrderOf (keys_of self.old.entries) parts.0.by_key.items) }
         ensures reversed { IfOk result (λ parts. IsOrderOf (map reverse (keys_of self.old.entries)) parts.0.by_reversed_key.items) }

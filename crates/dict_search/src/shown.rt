@@ -1,7 +1,7 @@
 //! What is shown of entries, each text once.
 ghost use Rattle.std.specs.Prelude.{◌≡◌, IfOk, map};
 ghost use Rattle.dict_desk.specs.Found.{distinct};
-ghost use Rattle.dict_search.specs.Entries.{entries_at, shown_of};
+ghost use Rattle.dict_search.specs.Entries.{entries_at, indexed_shown};
 
 use crate::entries::Entries;
 use dict_desk::distinct_law;
@@ -14,7 +14,7 @@ pub(crate) fn first_shown(
     entries: &Entries,
     places: &[u32],
 ) -> Result<Vec<u32>, AllocError>
-    ensures { IfOk result (λ firsts. map shown_of (entries_at entries.now firsts.items) ≡ distinct (map shown_of (entries_at entries.now places.now))) }
+    ensures { IfOk result (λ firsts. map indexed_shown (entries_at entries.now firsts.items) ≡ distinct (map indexed_shown (entries_at entries.now places.now))) }
 {
     distinct_law();
     let mut seen = HashSet::with_capacity(alloc, places.len())?;

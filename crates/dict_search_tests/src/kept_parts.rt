@@ -1,4 +1,4 @@
-use dict_lookup::{MAX_TEXTS, PartKey, Texts};
+use dict_lookup::{MAX_TEXTS, PartKey, TextParts};
 use std::alloc::Global;
 use std::process::Abort;
 use std::test::Fail;
@@ -18,7 +18,7 @@ fn is_same(found: Option<&[u8]>, wanted: Option<&[u8]>) -> bool {
 // The text under the key, which is kept still.
 fn same(
     rt: &impl Abort,
-    texts: &mut Texts,
+    texts: &mut TextParts,
     key: PartKey,
     wanted: Option<&[u8]>,
 ) -> Result<(), Fail> {
@@ -40,7 +40,7 @@ fn same(
 #[test]
 fn a_text_is_kept_under_its_key(rt: HostRuntime) -> Result<(), Fail> {
     let alloc = rt.alloc();
-    let mut texts = Texts::new(alloc);
+    let mut texts = TextParts::new(alloc);
     same(&rt, &mut texts, (1, 0), None)?;
     texts.put((1, 0), text(alloc, b"opal")?)?;
     texts.put((2, 0), text(alloc, b"")?)?;
@@ -59,7 +59,7 @@ fn a_text_is_kept_under_its_key(rt: HostRuntime) -> Result<(), Fail> {
 #[test]
 fn one_text_more_takes_the_place_of_the_last(rt: HostRuntime) -> Result<(), Fail> {
     let alloc = rt.alloc();
-    let mut texts = Texts::new(alloc);
+    let mut texts = TextParts::new(alloc);
     for part in 0..MAX_TEXTS as u64 {
         texts.put((1, part), text(alloc, b"o")?)?;
     }

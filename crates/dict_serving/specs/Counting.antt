@@ -7,9 +7,9 @@ AreMadeTo rounds left_of (Ok next) old new = old + rounds < 2 ^ 64 → new + lef
 AreMadeTo rounds left_of (Err fault) old new = old + rounds < 2 ^ 64 → new ≤ old + rounds
 
 -- so many rounds were made, and at a fault at most so many
-abbrev pub AreMade : {A E : Type 0} → ℕ → Result A E → ℕ → ℕ → Type 0
-AreMade rounds (Ok value) old new = old + rounds < 2 ^ 64 → new ≡ old + rounds
-AreMade rounds (Err fault) old new = old + rounds < 2 ^ 64 → new ≤ old + rounds
+abbrev pub HasMadeRounds : {A E : Type 0} → ℕ → Result A E → ℕ → ℕ → Type 0
+HasMadeRounds rounds (Ok value) old new = old + rounds < 2 ^ 64 → new ≡ old + rounds
+HasMadeRounds rounds (Err fault) old new = old + rounds < 2 ^ 64 → new ≤ old + rounds
 
 -- the same of a driver that had made none
 abbrev pub MakesAll : {A E : Type 0} → ℕ → Result A E → ℕ → Type 0

@@ -11,8 +11,8 @@ use Rattle.dict_serving.specs.Deeds.{Deed, Opens, Reopens, Closes, Does}
 use Rattle.dict_serving.specs.Serving.{HasServed, IsNew, IsNone, Stretch}
 
 -- over the last stretch: its desk is open still; or it was closed; or it was closed, and the file wasn't opened again
-abbrev pub IsLast : {K : Type 0} → List ℕ → K → Option K → List (Deed K) → Type 0
-IsLast path left last deeds =
+abbrev pub IsLastStretch : {K : Type 0} → List ℕ → K → Option K → List (Deed K) → Type 0
+IsLastStretch path left last deeds =
     ((last ≡ Some left) × (deeds ≡ [])) ⊎ (((last ≡ None) × (deeds ≡ Closes left ∷ [])) ⊎ ((last ≡ None) × (deeds ≡ Reopens path left None ∷ [])))
 
 -- its desk was closed, and the file opened again as another
@@ -24,7 +24,7 @@ HasReopened path left next old new = Does old new (Reopens path left (Some next)
 abbrev pub AreDone : {K : Type 0} → List ℕ → K → List (Stretch K) → Option K → List (Deed K) → Type 0
 AreDone path desk [] last deeds = (last ≡ Some desk) × (deeds ≡ [])
 AreDone path desk (one ∷ others) last deeds =
-    (one.opened ≡ desk) × (((others ≡ []) × IsLast path one.left last deeds)
+    (one.opened ≡ desk) × (((others ≡ []) × IsLastStretch path one.left last deeds)
     ⊎ ((next : _) × (more : List (Deed _)) × (deeds ≡ Reopens path one.left (Some next) ∷ more) × AreDone path next others last more))
 
 -- the same, of a history
@@ -33,7 +33,7 @@ HasDone {K} path desk stretches last old new = (deeds : List (Deed K)) × AreDon
 
 -- and of one stretch
 abbrev pub HasTurned : {K : Type 0} → List ℕ → K → Option K → Option (List (Deed K)) → Option (List (Deed K)) → Type 0
-HasTurned {K} path left last old new = ((deeds : List (Deed K)) × IsLast path left last deeds × Does old new deeds)
+HasTurned {K} path left last old new = ((deeds : List (Deed K)) × IsLastStretch path left last deeds × Does old new deeds)
     ⊎ ((next : K) × (last ≡ Some next) × HasReopened path left next old new)
 
 -- the desk that is open in the end is closed

@@ -13,8 +13,8 @@ use Rattle.dict_driver.specs.Binding.{IsAddress, AreTold}
 use Rattle.dict_driver.specs.Serving.{rounds_of}
 use Rattle.dict_driver.specs.Driving.{AreDriven}
 use Rattle.dict_driver.specs.declared.driver.Driver.{Driver}
-use Rattle.dict_driver.specs.declared.serving.Served.{Served}
-use Rattle.dict_driver.specs.declared.serving.Served.TheVariants.{Closed}
+use Rattle.dict_driver.specs.declared.serving.RoundsEnd.{RoundsEnd}
+use Rattle.dict_driver.specs.declared.serving.RoundsEnd.TheVariants.{Closed}
 use Rattle.dict_messages.specs.declared.fault.ProgramFault.{ProgramFault}
 use Rattle.dict_messages.specs.declared.fault.ProgramFault.TheVariants as faults
 use Rattle.dict_serving.specs.Counting.{MakesAll}
@@ -27,10 +27,10 @@ pub record Stretch (K : Type 0) : Type 0 where
   pub left : K
   pub asked : ℕ
   pub rounds : ℕ
-  pub ended : Result Served Error
+  pub ended : Result RoundsEnd Error
 
 -- rounds ended since the store of the desk had failed, and so many were left
-abbrev pub AreLeft : Result Served Error → ℕ → Type 0
+abbrev pub AreLeft : Result RoundsEnd Error → ℕ → Type 0
 AreLeft ended left = ended ≡ Ok (Closed left)
 
 -- the faults of a file and of its catalogue: the file can't be read, or its catalogue can't be had, or memory ran out. No refusal is one
@@ -105,9 +105,9 @@ HasShut Shut (one ∷ other ∷ others) = HasShut Shut (other ∷ others)
 
 -- all rounds were made; or the driver couldn't wait for its sockets, and the last desk was closed; or the store of that had failed, and
 -- the file isn't opened again
-abbrev pub Ends : {K A : Type 0} → (K → Bool) → (K → Type 0) → (K → ProgramFault → Type 0) → List (Stretch K) → Driver → Result A ProgramFault → Type 0
-Ends is_closed Shut Unreopened stretches driver (Ok _) = ⊤
-Ends is_closed Shut Unreopened stretches driver (Err fault) = (CannotWait driver fault × HasShut Shut stretches) ⊎ HasGivenOut is_closed Unreopened stretches fault
+abbrev pub EndsServing : {K A : Type 0} → (K → Bool) → (K → Type 0) → (K → ProgramFault → Type 0) → List (Stretch K) → Driver → Result A ProgramFault → Type 0
+EndsServing is_closed Shut Unreopened stretches driver (Ok _) = ⊤
+EndsServing is_closed Shut Unreopened stretches driver (Err fault) = (CannotWait driver fault × HasShut Shut stretches) ⊎ HasGivenOut is_closed Unreopened stretches fault
 
 -- By what a desk shows, what a stop may leave of it, that what it stands on has returned what was written, that it was opened, whether
 -- its last call failed and its store has, and what it was told of and prepared.
@@ -154,4 +154,4 @@ module _ {K : Type 0} (Shows : K → Catalogue → Type 0) (LeavesOneOf : K → 
     pub over : IsFirst (rounds_of rounds) desk stretches
     pub served : AreServed stretches first last
     pub made : MakesAll (rounds_of rounds) result last.event_loop.rounds
-    pub ends : Ends is_closed Shut Unreopened stretches last result
+    pub ends : EndsServing is_closed Shut Unreopened stretches last result

@@ -1,10 +1,10 @@
 // Rounds over the desk of a file, which is opened again where its store failed.
 ghost use Rattle.std.specs.Prelude.{◌≡◌, ◌<◌, ◌-◌, true, IfOk, MatchResult, Option, Some, None, Result, List, [], ◌∷◌};
 ghost use Rattle.std.specs.declared.io.Error.{Error};
-ghost use Rattle.dict_driver.specs.declared.serving.Served.{Served};
+ghost use Rattle.dict_driver.specs.declared.serving.RoundsEnd.{RoundsEnd};
 ghost use Rattle.dict_proto.specs.Streams.{change};
-ghost use Rattle.dict_serving.specs.Counting.{AreMade, AreMadeTo};
-ghost use Rattle.dict_serving.specs.Serving.{AreLeft, AreServed, Ends, Follows, IsFirst, IsNew, IsNotReopened, IsOpen, IsOver, Stretch, WasOpened};
+ghost use Rattle.dict_serving.specs.Counting.{HasMadeRounds, AreMadeTo};
+ghost use Rattle.dict_serving.specs.Serving.{AreLeft, AreServed, EndsServing, Follows, IsFirst, IsNew, IsNotReopened, IsOpen, IsOver, Stretch, WasOpened};
 ghost use Rattle.dict_serving.specs.Deeds.{WasShut, got};
 ghost use Rattle.dict_serving.specs.Listening.{Begins};
 ghost use Rattle.dict_serving.specs.Done.{HasDone, HasReopened, HasTurned, ServeEnds};
@@ -12,7 +12,7 @@ ghost use Rattle.dict_serving.specs.Done.{HasDone, HasReopened, HasTurned, Serve
 use crate::desks::DeskOpener;
 use crate::listening::{ServerOptions, listen, waiting_fault};
 use dict_desk::Preparer;
-use dict_driver::{Driver, Network, Served, SystemSockets, pace, serve};
+use dict_driver::{Driver, Network, RoundsEnd, SystemSockets, pace, serve};
 use dict_messages::ProgramFault;
 use dict_proto::Sink;
 use mio::net::TcpListener;
@@ -78,9 +78,9 @@ pub fn serve_rounds<'w, K: Preparer + Drop, D: DeskOpener<K>>(
     requires { IsNew K.shows K.leaves_one_of K.is_trusted (WasOpened D.is_opened) desk }
     ensures stands { IfOk result (IsOpen K.is_closed (IsNew K.shows K.leaves_one_of K.is_trusted (WasOpened D.is_opened))) }
     ensures served { (stretches : List (Stretch K)) × AreServed K.shows K.leaves_one_of K.is_trusted D.is_opened K.has_failed K.is_closed K.expects K.prepares stretches driver.old driver.new × IsFirst rounds desk stretches
-        × Ends K.is_closed (WasShut K.shows K.leaves_one_of K.is_trusted D.is_safe D.holds_alone D.still_leaves D.is_uncopied desks.new) (IsNotReopened K.leaves_one_of D.is_unreopened D.still_leaves desks.new path.entry.now) stretches driver.new result
+        × EndsServing K.is_closed (WasShut K.shows K.leaves_one_of K.is_trusted D.is_safe D.holds_alone D.still_leaves D.is_uncopied desks.new) (IsNotReopened K.leaves_one_of D.is_unreopened D.still_leaves desks.new path.entry.now) stretches driver.new result
         × HasDone path.entry.now desk stretches (got result) (D.history desks.old) (D.history desks.new) }
-    ensures made { AreMade rounds result driver.old.event_loop.rounds driver.new.event_loop.rounds }
+    ensures made { HasMadeRounds rounds result driver.old.event_loop.rounds driver.new.event_loop.rounds }
 {
     let mut pending = Pending { desk, left: rounds };
     while pending.left > 0 {
@@ -107,9 +107,9 @@ fn serve_stretch<'w, K: Preparer + Drop, D: DeskOpener<K>>(
 ) -> Result<Pending<K>, ProgramFault<'w>>
     requires opened { IsNew K.shows K.leaves_one_of K.is_trusted (WasOpened D.is_opened) pending.desk }
     requires some { 0 < pending.left }
-    ensures served { (left : K) × (ended : Result Served Error) × IsOver K.shows K.leaves_one_of K.is_trusted D.is_opened K.has_failed K.is_closed K.expects K.prepares
+    ensures served { (left : K) × (ended : Result RoundsEnd Error) × IsOver K.shows K.leaves_one_of K.is_trusted D.is_opened K.has_failed K.is_closed K.expects K.prepares
         (record { opened = pending.desk; left = left; asked = pending.left; rounds = driver.new.event_loop.rounds - driver.old.event_loop.rounds; ended = ended }) driver.old driver.new
-        × Ends K.is_closed (WasShut K.shows K.leaves_one_of K.is_trusted D.is_safe D.holds_alone D.still_leaves D.is_uncopied desks.new) (IsNotReopened K.leaves_one_of D.is_unreopened D.still_leaves desks.new path.entry.now) (record { opened = pending.desk; left = left; asked = pending.left; rounds = driver.new.event_loop.rounds - driver.old.event_loop.rounds; ended = ended } ∷ []) driver.new result
+        × EndsServing K.is_closed (WasShut K.shows K.leaves_one_of K.is_trusted D.is_safe D.holds_alone D.still_leaves D.is_uncopied desks.new) (IsNotReopened K.leaves_one_of D.is_unreopened D.still_leaves desks.new path.entry.now) (record { opened = pending.desk; left = left; asked = pending.left; rounds = driver.new.event_loop.rounds - driver.old.event_loop.rounds; ended = ended } ∷ []) driver.new result
         × IfOk result (λ next. 0 < next.left → (K.is_closed left ≡ true) × Follows K.shows K.leaves_one_of K.is_trusted left next.desk × D.is_opened (Some left) next.desk × AreLeft ended next.left
         × HasReopened path.entry.now left next.desk (D.history desks.old) (D.history desks.new))
         × MatchResult result (λ next. HasTurned path.entry.now left (Some next.desk) (D.history desks.old) (D.history desks.new)) (λ _. HasTurned path.entry.now left None (D.history desks.old) (D.history desks.new)) }
@@ -123,8 +123,8 @@ fn serve_stretch<'w, K: Preparer + Drop, D: DeskOpener<K>>(
         left: rounds,
     } = pending;
     match serve(&mut driver.event_loop, &mut desk, rounds, wait) {
-        Ok(Served::Whole) => Ok(Pending { desk, left: 0 }),
-        Ok(Served::Closed(left)) => {
+        Ok(RoundsEnd::Whole) => Ok(Pending { desk, left: 0 }),
+        Ok(RoundsEnd::Closed(left)) => {
             let desk = desks.reopen(path, desk)?;
             Ok(Pending { desk, left })
         }

@@ -9,7 +9,7 @@ use Rattle.dict_catalogue.specs.Items.{Item, regular, virtual, name_of, is_named
 use Rattle.dict_catalogue.specs.Steps.{Catalogue}
 use Rattle.dict_catalogue.specs.WellFormed.{IsWellFormed, IsEachOnce, IsLawfulItem, how_many}
 use Rattle.dict_desk.specs.Asked.{Database, databases, databases_named, databases_of, first_finding, searched}
-use Rattle.dict_session.specs.Places.{places_from, places_named, places_by, places_under, asked_in, is_regular_named, Asking}
+use Rattle.dict_session.specs.Places.{places_from, places_named, places_by, places_under, asked_in, is_regular_named, AskedPlaces}
 use Rattle.dict_session.specs.Rows.{at_place, regular_as, answering}
 use Rattle.dict_session.specs.declared.query.Query.{Query}
 use Rattle.dict_session.proofs.FoundLemmas.{at_places, first_over}
@@ -59,10 +59,10 @@ module _ {A B : Type 0} (f : A → B) where
       ap (λ (l : List ℕ). by_word l (option_map of_name (places_under (map (item_as f) items) word 0 (map (item_as f) items)))) (places_as is_regular is_regular regular_as_well 0 items)
       ∙ ap (λ (o : Option (List ℕ)). by_word (places_from is_regular 0 items) (option_map of_name o)) (under_as items word 0 items)
     where
-      of_name : List ℕ → Asking
+      of_name : List ℕ → AskedPlaces
       of_name places = record { places = places; is_first = false }
 
-      by_word : List ℕ → Option Asking → Option Asking
+      by_word : List ℕ → Option AskedPlaces → Option AskedPlaces
       by_word l o = if bytes_eq word (codes "*") then Some (record { places = l; is_first = false }) else if bytes_eq word (codes "!") then Some (record { places = l; is_first = true }) else o
 
 -- ---- what stands at the places
@@ -189,7 +189,7 @@ under_few all word n (item ∷ items) places once lawful e = by_test (is_named w
     by_test true later e = let same : places_by all n item ≡ places = cc in subst (λ (l : List ℕ). length l ≤ 64) same (by_few all n item once lawful.0)
     by_test false later e = later e
 
-pub asked_few : (M : Catalogue) (word : List ℕ) (asking : Asking) → IsWellFormed M → asked_in M.items word ≡ Some asking → length asking.places ≤ 64
+pub asked_few : (M : Catalogue) (word : List ℕ) (asking : AskedPlaces) → IsWellFormed M → asked_in M.items word ≡ Some asking → length asking.places ≤ 64
 asked_few M word asking w e = by_tests (bytes_eq word (codes "*")) (bytes_eq word (codes "!")) (places_under M.items word 0 M.items) refl e
   where
     all : List ℕ
@@ -199,7 +199,7 @@ asked_few M word asking w e = by_tests (bytes_eq word (codes "*")) (bytes_eq wor
     all_few = omega (arith, places_few is_regular 0 M.items, w.item_limit)
 
     by_tests : (a b : Bool) (o : Option (List ℕ)) → places_under M.items word 0 M.items ≡ o
-        → (if a then Some (record { places = all; is_first = false }) else if b then Some (record { places = all; is_first = true }) else option_map (λ (places : List ℕ). let made : Asking = record { places = places; is_first = false } in made) o) ≡ Some asking
+        → (if a then Some (record { places = all; is_first = false }) else if b then Some (record { places = all; is_first = true }) else option_map (λ (places : List ℕ). let made : AskedPlaces = record { places = places; is_first = false } in made) o) ≡ Some asking
         → length asking.places ≤ 64
     by_tests true b o is e = let same : all ≡ asking.places = cc in subst (λ (l : List ℕ). length l ≤ 64) same all_few
     by_tests false true o is e = let same : all ≡ asking.places = cc in subst (λ (l : List ℕ). length l ≤ 64) same all_few
@@ -209,22 +209,22 @@ asked_few M word asking w e = by_tests (bytes_eq word (codes "*")) (bytes_eq wor
 -- ---- the databases that a word asks
 
 pub searched_are : (M : Catalogue) (word : List ℕ) (query : Query) → searched M word query.strategy query.key
-    ≡ option_map (λ (asking : Asking). at_places M.items (answering query M.items asking.places asking.is_first)) (asked_in M.items word)
+    ≡ option_map (λ (asking : AskedPlaces). at_places M.items (answering query M.items asking.places asking.is_first)) (asked_in M.items word)
 unfolding searched
 searched_are M word query = by_tests (bytes_eq word (codes "*")) (bytes_eq word (codes "!"))
   where
     all : List ℕ
     all = places_from is_regular 0 M.items
 
-    given : Asking → List Database
+    given : AskedPlaces → List Database
     given asking = at_places M.items (answering query M.items asking.places asking.is_first)
 
-    named : (o : Option (List ℕ)) → option_map (at_places M.items) o ≡ option_map given (option_map (λ (places : List ℕ). let made : Asking = record { places = places; is_first = false } in made) o)
+    named : (o : Option (List ℕ)) → option_map (at_places M.items) o ≡ option_map given (option_map (λ (places : List ℕ). let made : AskedPlaces = record { places = places; is_first = false } in made) o)
     named None = refl
     named (Some places) = refl
 
     by_tests : (a b : Bool) → (if a then Some (databases M.items) else if b then Some (first_finding query.strategy query.key (databases M.items)) else option_map (databases_of M.items) (find (is_named word) M.items))
-        ≡ option_map given (if a then Some (record { places = all; is_first = false }) else if b then Some (record { places = all; is_first = true }) else option_map (λ (places : List ℕ). let made : Asking = record { places = places; is_first = false } in made) (places_under M.items word 0 M.items))
+        ≡ option_map given (if a then Some (record { places = all; is_first = false }) else if b then Some (record { places = all; is_first = true }) else option_map (λ (places : List ℕ). let made : AskedPlaces = record { places = places; is_first = false } in made) (places_under M.items word 0 M.items))
     by_tests true b = ap Some (sym (all_stand M.items))
     by_tests false true = ap Some (ap (first_finding query.strategy query.key) (sym (all_stand M.items)) ∙ sym (first_over query M.items all))
     by_tests false false = sym (under_stands M.items word 0 M.items refl) ∙ named (places_under M.items word 0 M.items)

@@ -27,8 +27,8 @@ use Rattle.dict_desk.specs.declared.lookup.What.TheVariants.{Entries, Headwords}
 use Rattle.dict_proto.specs.Replies.{no_match_octets, definition_count_octets, match_count_octets, list_end_octets, done_octets}
 use Rattle.dict_session.specs.Answers.{definition_of, definitions_answer, match_line, matches_answer}
 use Rattle.dict_session.specs.Places.{IsHeading}
-use Rattle.dict_session.specs.Rows.{rows_by, row_octets, octets_in, count_in, regular_as, at_place, octets_at, count_at, first_counted, count_octets, end_octets, counted_octets, found_octets, giving, IsCounted}
-use Rattle.dict_session.specs.declared.found.Counted.{Counted}
+use Rattle.dict_session.specs.Rows.{rows_given, row_octets, octets_in, count_in, regular_as, at_place, octets_at_place, count_at, first_counted, count_octets, end_octets, counted_octets, found_octets, giving, IsCounted}
+use Rattle.dict_session.specs.declared.found.CountedRows.{CountedRows}
 use Rattle.dict_session.specs.declared.query.Query.{Query}
 use Rattle.dict_session.specs.declared.asked.Heading.{Heading}
 
@@ -49,7 +49,7 @@ flat_map-flat_map f g (x ∷ xs) = flat_map-append f (g x) (flat_map g xs) ∙ a
 
 pub found_over : (query : Query) (items : List (Item Edition)) (places : List ℕ) → found_octets query items places ≡ answer_over query (at_places items places)
 found_over query items places =
-    ap (λ (n : ℕ). if n == 0 then no_match_octets else count_octets query.what n ++ (flat_map (octets_at query items) places ++ end_octets query.what)) (sym (sum_flat_map (count_in query) (at_place items) places))
+    ap (λ (n : ℕ). if n == 0 then no_match_octets else count_octets query.what n ++ (flat_map (octets_at_place query items) places ++ end_octets query.what)) (sym (sum_flat_map (count_in query) (at_place items) places))
     ∙ ap (λ (l : List ℕ). if total (count_in query) (at_places items places) == 0 then no_match_octets else count_octets query.what (total (count_in query) (at_places items places)) ++ (l ++ end_octets query.what))
     (sym (flat_map-flat_map (octets_in query) (at_place items) places))
 
@@ -248,8 +248,8 @@ module _ (M : Catalogue) (place : ℕ) where
 
   -- what a heading heads
   pub rows_here : (query : Query) (heading : Heading) (P : List ℕ → Type 0) → IsWellFormed M → IsHeading (Some heading) (slice_get (summary_of M).items place)
-      → ((edition : Edition) → HasEdition M heading.number edition → P (flat_map (row_octets query.what heading.name.bytes heading.title.bytes) (rows_by query.what query.strategy query.key edition)))
-      → P (octets_at query M.items place)
+      → ((edition : Edition) → HasEdition M heading.number edition → P (flat_map (row_octets query.what heading.name.bytes heading.title.bytes) (rows_given query.what query.strategy query.key edition)))
+      → P (octets_at_place query M.items place)
   rows_here query heading P w is told = by_item (slice_get M.items place) refl (subst (IsHeading (Some heading)) (shown_item M place) is)
     where
       by_item : (o : Option (Item Edition)) → slice_get M.items place ≡ o → IsHeading (Some heading) (option_map (item_as (λ (edition : Edition). edition.title)) o)
@@ -257,7 +257,7 @@ module _ (M : Catalogue) (place : ℕ) where
       by_item None e h = absurd h
       by_item (Some (virtual name title members)) e h = absurd h
       by_item (Some (regular name current former)) e h =
-          let rows = rows_by query.what query.strategy query.key current.content in
+          let rows = rows_given query.what query.strategy query.key current.content in
           let well = current_well name current former (item_at HasWellFormedEditions M.items place (regular name current former) w.editions e) in
           let same_name : heading.name.bytes ≡ name = h.1 (name_few name (item_at IsLawfulItem M.items place (regular name current former) w.items e)) in
           let same_title : heading.title.bytes ≡ current.content.title = h.2 (title_few current.content.title well.title.1) in
@@ -287,13 +287,13 @@ no_elements [] e = refl
 no_elements (x ∷ xs) e = cc
 
 -- a database of which nothing is counted gives no rows
-none_by : (what : What) (strategy : Strategy) (key : List ℕ) (edition : Edition) → count_of what strategy key edition ≡ 0 → rows_by what strategy key edition ≡ []
+none_by : (what : What) (strategy : Strategy) (key : List ℕ) (edition : Edition) → count_of what strategy key edition ≡ 0 → rows_given what strategy key edition ≡ []
 none_by Entries strategy key edition e = no_elements (map row_of (found strategy key edition)) (length-map (found strategy key edition) row_of ∙ e)
 none_by Headwords strategy key edition e =
     let shown = headwords (found strategy key edition) in
     no_elements (map (λ (text : List ℕ). row text []) shown) (length-map shown (λ (text : List ℕ). row text []) ∙ e)
 
-none_at : (query : Query) (items : List (Item Edition)) (place : ℕ) → count_at query items place ≡ 0 → octets_at query items place ≡ []
+none_at : (query : Query) (items : List (Item Edition)) (place : ℕ) → count_at query items place ≡ 0 → octets_at_place query items place ≡ []
 none_at query items place e = by_item (slice_get items place) e
   where
     by_item : (o : Option (Item Edition)) → total (count_in query) (regular_as o) ≡ 0 → flat_map (octets_in query) (regular_as o) ≡ []
@@ -303,14 +303,14 @@ none_at query items place e = by_item (slice_get items place) e
         ap (λ (rows : List Row). flat_map (row_octets query.what name current.content.title) rows ++ []) (none_by query.what query.strategy query.key current.content (omega (arith, f)))
 
 -- the places that give rows give all of them
-pub giving_all : (query : Query) (items : List (Item Edition)) (places : List ℕ) → flat_map (octets_at query items) (giving query items places) ≡ flat_map (octets_at query items) places
+pub giving_all : (query : Query) (items : List (Item Edition)) (places : List ℕ) → flat_map (octets_at_place query items) (giving query items places) ≡ flat_map (octets_at_place query items) places
 giving_all query items [] = refl
 giving_all query items (place ∷ places) = by_test (count_at query items place == 0) refl (giving_all query items places)
   where
-    by_test : (b : Bool) → (count_at query items place == 0) ≡ b → flat_map (octets_at query items) (giving query items places) ≡ flat_map (octets_at query items) places
-        → flat_map (octets_at query items) (if not b then place ∷ giving query items places else giving query items places) ≡ octets_at query items place ++ flat_map (octets_at query items) places
-    by_test true e h = h ∙ ap (λ (octets : List ℕ). octets ++ flat_map (octets_at query items) places) (sym (none_at query items place (eqb-true (count_at query items place) 0 e)))
-    by_test false e h = ap (λ (octets : List ℕ). octets_at query items place ++ octets) h
+    by_test : (b : Bool) → (count_at query items place == 0) ≡ b → flat_map (octets_at_place query items) (giving query items places) ≡ flat_map (octets_at_place query items) places
+        → flat_map (octets_at_place query items) (if not b then place ∷ giving query items places else giving query items places) ≡ octets_at_place query items place ++ flat_map (octets_at_place query items) places
+    by_test true e h = h ∙ ap (λ (octets : List ℕ). octets ++ flat_map (octets_at_place query items) places) (sym (none_at query items place (eqb-true (count_at query items place) 0 e)))
+    by_test false e h = ap (λ (octets : List ℕ). octets_at_place query items place ++ octets) h
 
 -- the places that give rows, with one place more
 pub giving_more : (query : Query) (items : List (Item Edition)) (places : List ℕ) (i count : ℕ) → i < length places → count ≡ count_at query items (get_or places i 0)
@@ -334,7 +334,7 @@ giving_first query items place some =
 
 -- ---- an answer by its count
 
-module _ (query : Query) (items : List (Item Edition)) (all : List ℕ) (counted : Counted) (is : IsCounted query items all counted) where
+module _ (query : Query) (items : List (Item Edition)) (all : List ℕ) (counted : CountedRows) (is : IsCounted query items all counted) where
   pub found_none : counted.count ≡ 0 → no_match_octets ≡ found_octets query items all
   found_none e =
       let test : (total (count_at query items) all == 0) ≡ true = grind (arith, nat_tests, e, is.count) in
@@ -343,7 +343,7 @@ module _ (query : Query) (items : List (Item Edition)) (all : List ℕ) (counted
   pub found_some : counted.count ≢ 0 → counted_octets query items counted.places.items counted.count ≡ found_octets query items all
   found_some some =
       let test : (total (count_at query items) all == 0) ≡ false = grind (arith, nat_tests, some, is.count) in
-      ap (λ (octets : List ℕ). count_octets query.what counted.count ++ (octets ++ end_octets query.what)) (ap (flat_map (octets_at query items)) is.places ∙ giving_all query items all)
+      ap (λ (octets : List ℕ). count_octets query.what counted.count ++ (octets ++ end_octets query.what)) (ap (flat_map (octets_at_place query items)) is.places ∙ giving_all query items all)
       ∙ (ap (counted_octets query items all) is.count ∙ sym (ap (λ b. if b then no_match_octets else counted_octets query items all (total (count_at query items) all)) test))
 
 -- ---- the lines before and after the rows

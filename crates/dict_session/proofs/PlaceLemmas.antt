@@ -4,7 +4,7 @@ use Rattle.std.proofs.lemmas.List.{drop_more, get_or-map, length-map}
 use Rattle.std.specs.List.{flat_map}
 use Rattle.std.specs.Prelude.{Option, Some, if◌then◌else◌}
 use Rattle.dict_catalogue.specs.Items.{Item, is_named}
-use Rattle.dict_session.specs.Places.{places_from, places_by, places_under, Holds}
+use Rattle.dict_session.specs.Places.{places_from, places_by, places_under, HoldsPlaces}
 
 module _ {X : Type 0} (test : X → Bool) (all : List ℕ) (held new : List ℕ) (i : ℕ) (xs : List X) (x : X) (rest : List X) where
   -- one place more
@@ -21,7 +21,7 @@ module _ {X : Type 0} (test : X → Bool) (all : List ℕ) (held new : List ℕ)
   place_out e is same before few = ap (λ l. l ++ places_from test (i + 1) rest) same ∙ rw (e, is) at (before few)
 
 -- the places of one more name
-pub places_in : {X : Type 0} (f : X → List ℕ) (all held new : List ℕ) (xs : List X) (x : X) (rest : List X) → xs ≡ x ∷ rest → Holds new (held ++ f x)
+pub places_in : {X : Type 0} (f : X → List ℕ) (all held new : List ℕ) (xs : List X) (x : X) (rest : List X) → xs ≡ x ∷ rest → HoldsPlaces new (held ++ f x)
     → (length all ≤ 64 → held ++ flat_map f xs ≡ all) → (length all ≤ 64 → new ++ flat_map f rest ≡ all)
 places_in f all held new xs x rest e grown before few =
     let whole : held ++ (f x ++ flat_map f rest) ≡ all = rw e at (before few) in

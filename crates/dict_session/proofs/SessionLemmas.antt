@@ -7,7 +7,7 @@ use Rattle.dict_session.specs.Lines.{cut, HasNoLineEnd}
 use Rattle.dict_session.specs.Answers.{is_quit}
 use Rattle.dict_session.specs.Desks.{Condition}
 use Rattle.dict_session.specs.Ending.{Finishes, Wrote}
-use Rattle.dict_session.specs.Session.{HasUnfinished, Keeps, Leaves, EndsLine}
+use Rattle.dict_session.specs.Session.{HasUnfinished, KeepsRest, LeavesSession, EndsLine}
 use Rattle.dict_session.specs.declared.session.Session.{Session}
 use Rattle.dict_session.specs.declared.step.Course.{Course}
 use Rattle.dict_session.specs.declared.step.Course.TheVariants.{More, Quit, SinkFailed, DeskFailed}
@@ -23,11 +23,11 @@ wrote_line d f SinkFailed a b l (inl h) = (d (meaning l), is_quit l, speaks_one 
 wrote_line d f SinkFailed a b l (inr h) = (_, false, speaks_unavailable d f.closed l h.0, h.1)
 wrote_line d f DeskFailed a b l (failed, (part, begins, told, put)) = (failed, (part, breaks_one d f.closed l part begins told, put))
 
-pub leaves_line : (d : Meaning → List ℕ) (f : Condition) (course : Course) (s : Session) (a b : Stream) (bs l : List ℕ) → cut bs ≡ record { lines = l ∷ []; rest = [] } → EndsLine d f course s a b l → Leaves d f course s a b bs
+pub leaves_line : (d : Meaning → List ℕ) (f : Condition) (course : Course) (s : Session) (a b : Stream) (bs l : List ℕ) → cut bs ≡ record { lines = l ∷ []; rest = [] } → EndsLine d f course s a b l → LeavesSession d f course s a b bs
 leaves_line d f course s a b bs l e h = rw e (wrote_line d f course a b l h.0, h.1)
 
 -- no line was ended
-pub leaves_held : (d : Meaning → List ℕ) (f : Condition) (s : Session) (a : Stream) (bs : List ℕ) → HasNoLineEnd bs → HasUnfinished s bs → Leaves d f More s a a bs
+pub leaves_held : (d : Meaning → List ℕ) (f : Condition) (s : Session) (a : Stream) (bs : List ℕ) → HasNoLineEnd bs → HasUnfinished s bs → LeavesSession d f More s a a bs
 leaves_held d f s a bs none held =
     let e = cut_is bs [] bs (record { whole = refl; each = tt; unfinished = none }) in
     rw e (([], (refl, refl), puts_none a), held)
@@ -43,7 +43,7 @@ wrote_more d f g later SinkFailed a b c ls ms (o, spoken, h) (p, ended, more, k)
 wrote_more d f g later DeskFailed a b c ls ms (o, spoken, h) (failed, (p, breaks, k)) =
     (failed, (o ++ p, breaks_append d g.closed ls ms o p (speaks_wider d f.closed g.closed later ls o false spoken) breaks, all_after a b c o p h k))
 
-pub leaves_more : (d : Meaning → List ℕ) (f g : Condition) → (f.closed ≡ true → g.closed ≡ true) → (course : Course) (s t : Session) (a b c : Stream) (p q : List ℕ) → Leaves d f More s a b p → Leaves d g course t b c ((cut p).rest ++ q) → Leaves d g course t a c (p ++ q)
+pub leaves_more : (d : Meaning → List ℕ) (f g : Condition) → (f.closed ≡ true → g.closed ≡ true) → (course : Course) (s t : Session) (a b c : Stream) (p q : List ℕ) → LeavesSession d f More s a b p → LeavesSession d g course t b c ((cut p).rest ++ q) → LeavesSession d g course t a c (p ++ q)
 leaves_more d f g later course s t a b c p q h k = rw (cut_append p q) (wrote_more d f g later course a b c (cut p).lines (cut ((cut p).rest ++ q)).lines h.0 k.0, k.1)
 
 -- after the end nothing is answered
@@ -55,23 +55,23 @@ wrote_ended d f SinkFailed a b ls ms none (o, ended, spoken, h) =
     (o ++ more, later, longer, front_longer a b o more h)
 wrote_ended d f DeskFailed a b ls ms none (failed, (o, breaks, h)) = (failed, (o, breaks_end d f.closed ls ms o breaks, h))
 
-pub kept_ended : (course : Course) (s : Session) (rest other : List ℕ) → (course ≡ More → ⊥) → Keeps course s rest → Keeps course s other
+pub kept_ended : (course : Course) (s : Session) (rest other : List ℕ) → (course ≡ More → ⊥) → KeepsRest course s rest → KeepsRest course s other
 kept_ended More s rest other none h = absurd (none refl)
 kept_ended Quit s rest other none h = h
 kept_ended SinkFailed s rest other none h = h
 kept_ended DeskFailed s rest other none h = h
 
-pub leaves_ended : (d : Meaning → List ℕ) (f : Condition) (course : Course) (s : Session) (a b : Stream) (p q : List ℕ) → (course ≡ More → ⊥) → Leaves d f course s a b p → Leaves d f course s a b (p ++ q)
+pub leaves_ended : (d : Meaning → List ℕ) (f : Condition) (course : Course) (s : Session) (a b : Stream) (p q : List ℕ) → (course ≡ More → ⊥) → LeavesSession d f course s a b p → LeavesSession d f course s a b (p ++ q)
 leaves_ended d f course s a b p q none h = rw (cut_append p q) (wrote_ended d f course a b (cut p).lines (cut ((cut p).rest ++ q)).lines none h.0, kept_ended course s _ _ none h.1)
 
-pub keeps_none : (course : Course) (s : Session) → (course ≡ More → ⊥) → Keeps course s []
+pub keeps_none : (course : Course) (s : Session) → (course ≡ More → ⊥) → KeepsRest course s []
 keeps_none More s none = absurd (none refl)
 keeps_none Quit s none = tt
 keeps_none SinkFailed s none = tt
 keeps_none DeskFailed s none = tt
 
 -- a session that has read the same goes on alike
-pub keeps_by : (course : Course) (s t : Session) (rest : List ℕ) → (HasUnfinished s rest → HasUnfinished t rest) → Keeps course s rest → Keeps course t rest
+pub keeps_by : (course : Course) (s t : Session) (rest : List ℕ) → (HasUnfinished s rest → HasUnfinished t rest) → KeepsRest course s rest → KeepsRest course t rest
 keeps_by More s t rest so h = so h
 keeps_by Quit s t rest so h = tt
 keeps_by SinkFailed s t rest so h = tt

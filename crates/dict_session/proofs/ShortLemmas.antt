@@ -13,7 +13,7 @@ use Rattle.dict_index.specs.Edition.{Edition, Entry}
 use Rattle.dict_index.specs.Tests.{IsTextOctet}
 use Rattle.dict_index.specs.WellFormed.{IsEditionText, IsWellFormedEntry, IsWellFormedEdition}
 use Rattle.dict_match.specs.Key.{key_of}
-use Rattle.dict_match.specs.StrategyText.{name_of, title_of, strategies}
+use Rattle.dict_match.specs.StrategyText.{strategy_name, strategy_title, strategies}
 use Rattle.dict_match.specs.declared.strategy.Strategy.{Strategy}
 use Rattle.dict_match.specs.declared.strategy.Strategy.TheVariants.{Exact, Prefix, Suffix, Substring, Word, First, Last}
 use Rattle.dict_proto.specs.Meaning.{Meaning, meaning, define, matching, show_databases, show_strategies, show_server, show_info, client, status, help, quit, not_recognized, illegal_parameters, not_implemented}
@@ -33,8 +33,8 @@ use Rattle.dict_desk.specs.declared.lookup.What.TheVariants.{Entries, Headwords}
 use Rattle.dict_session.specs.Shows.{databases_answer, strategies_answer, strategy_line, server_answer, info_answer, info_found, info_of, item_line, database_line, status_answer, help_answer}
 use Rattle.dict_session.specs.Answers.{answer_to, define_answer, match_answer, is_quit}
 use Rattle.dict_session.specs.Spoken.{Speaks}
-use Rattle.dict_session.specs.Places.{Asking, asked_in}
-use Rattle.dict_session.specs.Rows.{rows_by, row_octets, octets_in, octets_at, count_at, regular_as, first_counted, answering, count_octets, end_octets, counted_octets, found_octets}
+use Rattle.dict_session.specs.Places.{AskedPlaces, asked_in}
+use Rattle.dict_session.specs.Rows.{rows_given, row_octets, octets_in, octets_at_place, count_at, regular_as, first_counted, answering, count_octets, end_octets, counted_octets, found_octets}
 use Rattle.dict_session.specs.declared.query.Query.{Query}
 use Rattle.dict_session.specs.Limits.{is_host_octet, is_host}
 use Rattle.dict_session.proofs.FoundLemmas.{item_at, current_well, counts_few, for_definitions, for_matches}
@@ -174,7 +174,7 @@ entry-short db w entry h = reply_octets-short (Definition (lent (shown_of entry)
 found_all : (s : Strategy) (q : List ℕ) (edition : Edition) → IsWellFormedEdition edition → AllByRecursion IsWellFormedEntry (found s q edition)
 found_all s q edition w = all_filter IsWellFormedEntry (is_found s q) edition.entries w.entries
 
-rows-short : (query : Query) (what : What) (db : Database) → IsLawful db → AreShortLines (flat_map (row_octets what db.name db.edition.title) (rows_by what query.strategy query.key db.edition))
+rows-short : (query : Query) (what : What) (db : Database) → IsLawful db → AreShortLines (flat_map (row_octets what db.name db.edition.title) (rows_given what query.strategy query.key db.edition))
 rows-short query Entries db w =
     let entries = found query.strategy query.key db.edition in
     short_all (row_octets Entries db.name db.edition.title) (map row_of entries)
@@ -186,7 +186,7 @@ rows-short query Headwords db w =
     short_all (row_octets Headwords db.name db.edition.title) (map (λ (shown : List ℕ). row shown []) (distinct words))
     (all_map (IsShort 255) (λ (r : Row). AreShortLines (row_octets Headwords db.name db.edition.title r)) (λ (shown : List ℕ). row shown []) (λ shown h. line-short db.name shown w.name h) (distinct words) (distinct_all (IsShort 255) words all))
 
-at-short : (M : Catalogue) → IsWellFormed M → (query : Query) (place : ℕ) → AreShortLines (octets_at query M.items place)
+at-short : (M : Catalogue) → IsWellFormed M → (query : Query) (place : ℕ) → AreShortLines (octets_at_place query M.items place)
 at-short M w query place = by_item (slice_get M.items place) refl
   where
     by_item : (o : Option (Item Edition)) → slice_get M.items place ≡ o → AreShortLines (flat_map (octets_in query) (regular_as o))
@@ -208,16 +208,16 @@ ending-short : (what : What) → AreShortLines (end_octets what)
 ending-short Entries = reply_octets-short Done tt
 ending-short Headwords = end-short
 
-places-short : (M : Catalogue) → IsWellFormed M → (query : Query) (places : List ℕ) → AreShortLines (flat_map (octets_at query M.items) places)
-places-short M w query places = short_all (octets_at query M.items) places (all_of (λ place. AreShortLines (octets_at query M.items place)) (at-short M w query) places)
+places-short : (M : Catalogue) → IsWellFormed M → (query : Query) (places : List ℕ) → AreShortLines (flat_map (octets_at_place query M.items) places)
+places-short M w query places = short_all (octets_at_place query M.items) places (all_of (λ place. AreShortLines (octets_at_place query M.items place)) (at-short M w query) places)
 
 found-short : (M : Catalogue) → IsWellFormed M → (query : Query) (places : List ℕ) → length places ≤ 64 → AreShortLines (found_octets query M.items places)
 found-short M w query places few =
     let n = total (count_at query M.items) places in
     let below : n < 2 ^ 64 = omega (arith, counts_few query M places w, few) in
     short_either (n == 0) no_match_octets (counted_octets query M.items places n) (reply_octets-short NoMatch tt)
-    (short_append (count_octets query.what n) (flat_map (octets_at query M.items) places ++ end_octets query.what) (count-short query.what n below)
-    (short_append (flat_map (octets_at query M.items) places) (end_octets query.what) (places-short M w query places) (ending-short query.what)))
+    (short_append (count_octets query.what n) (flat_map (octets_at_place query M.items) places ++ end_octets query.what) (count-short query.what n below)
+    (short_append (flat_map (octets_at_place query M.items) places) (end_octets query.what) (places-short M w query places) (ending-short query.what)))
 
 first_few : (count : ℕ → ℕ) (places : List ℕ) → length places ≤ 64 → length (first_counted count places) ≤ 64
 first_few count [] few = omega arith
@@ -234,7 +234,7 @@ answering-short M w query places false few = found-short M w query places few
 define-short : (M : Catalogue) → IsWellFormed M → (name word : List ℕ) → AreShortLines (define_answer M name word)
 define-short M w name word = by_asked (asked_in M.items name) refl
   where
-    by_asked : (o : Option Asking) → asked_in M.items name ≡ o → AreShortLines (define_answer M name word)
+    by_asked : (o : Option AskedPlaces) → asked_in M.items name ≡ o → AreShortLines (define_answer M name word)
     by_asked None e = subst AreShortLines (sym (define_unknown M name word e)) (reply_octets-short InvalidDatabase tt)
     by_asked (Some asking) e = subst AreShortLines (sym (define_known M name word asking e))
         (answering-short M w (for_definitions (key_of word)) asking.places asking.is_first (asked_few M name asking w e))
@@ -242,7 +242,7 @@ define-short M w name word = by_asked (asked_in M.items name) refl
 match-short : (M : Catalogue) → IsWellFormed M → (name strategy word : List ℕ) → AreShortLines (match_answer M name strategy word)
 match-short M w name strategy word = by_asked (asked_in M.items name) refl (strategy_of strategy) refl
   where
-    by_asked : (o : Option Asking) → asked_in M.items name ≡ o → (s : Option Strategy) → s ≡ strategy_of strategy → AreShortLines (match_answer M name strategy word)
+    by_asked : (o : Option AskedPlaces) → asked_in M.items name ≡ o → (s : Option Strategy) → s ≡ strategy_of strategy → AreShortLines (match_answer M name strategy word)
     by_asked None e s is = subst AreShortLines (sym (match_unknown M name strategy word e)) (reply_octets-short InvalidDatabase tt)
     by_asked (Some asking) e None is = subst AreShortLines (sym (match_by M name strategy word asking None e is)) (reply_octets-short InvalidStrategy tt)
     by_asked (Some asking) e (Some s) is = subst AreShortLines (sym (match_known M name strategy word s asking e is))
@@ -303,7 +303,7 @@ unfolding is_other
 written-short name title h k e f = reply_octets-short (ListLine (lent name) (lent title)) ((h, passing is_other refl name e), (k, passing is_other refl title f))
 
 strategy_line-short : (s : Strategy) → AreShortLines (strategy_line s)
-unfolding is_other name_of title_of
+unfolding is_other strategy_name strategy_title
 strategy_line-short Exact = written-short (codes "exact") (codes "Equal keys") (omega arith) (omega arith) refl refl
 strategy_line-short Prefix = written-short (codes "prefix") (codes "Key begins with the query") (omega arith) (omega arith) refl refl
 strategy_line-short Suffix = written-short (codes "suffix") (codes "Key ends with the query") (omega arith) (omega arith) refl refl

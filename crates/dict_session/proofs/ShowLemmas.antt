@@ -16,11 +16,11 @@ use Rattle.dict_desk.specs.Asked.{Database, databases_named}
 use Rattle.dict_desk.specs.Shown.{Row, HasEdition, info_rows, row}
 use Rattle.dict_proto.specs.declared.reply.Reply.TheVariants.{ListEnd, Help, ServerInformation, Done}
 use Rattle.dict_proto.specs.Replies.{reply_octets, list_end_octets, done_octets, invalid_database_octets, info_heading_octets, info_text_octets, no_databases_octets, database_count_octets, unavailable_octets, status_octets}
-use Rattle.dict_session.specs.Answers.{Need, no_rows, one_row}
+use Rattle.dict_session.specs.Answers.{AnswerNeed, no_rows, one_row}
 use Rattle.dict_session.specs.Through.{has_edition}
 use Rattle.dict_session.specs.Ending.{PutsBeginning, PutsAnswer}
-use Rattle.dict_session.specs.declared.step.Answered.{Answered}
-use Rattle.dict_session.specs.declared.step.Answered.TheVariants.{Whole, Unavailable}
+use Rattle.dict_session.specs.declared.step.LineAnswer.{LineAnswer}
+use Rattle.dict_session.specs.declared.step.LineAnswer.TheVariants.{Whole, Unavailable}
 use Rattle.dict_session.specs.declared.step.PutFault.{PutFault}
 use Rattle.dict_session.specs.declared.step.PutFault.TheVariants.{Sink, Desk}
 use Rattle.dict_desk.specs.Faults.{IsOfLookup, is_failure}
@@ -205,14 +205,14 @@ none_begun a b (row ∷ front) e h = cc
 
 -- ---- what was put, and then an answer
 
-pub whole_after : (need : Need) (failed : Bool) (r : Result Answered PutFault) (a b c : Stream) (xs ys : List ℕ) → PutsAll a b xs → PutsAnswer failed r b c ys no_rows false → PutsAnswer failed r a c (xs ++ ys) need true
+pub whole_after : (need : AnswerNeed) (failed : Bool) (r : Result LineAnswer PutFault) (a b c : Stream) (xs ys : List ℕ) → PutsAll a b xs → PutsAnswer failed r b c ys no_rows false → PutsAnswer failed r a c (xs ++ ys) need true
 whole_after need failed (Ok Whole) a b c xs ys h k = all_after a b c xs ys h k
 whole_after need failed (Ok Unavailable) a b c xs ys h (e, k) = cc
 whole_after need failed (Err Sink) a b c xs ys h (inl k) = inl (front_after a b c xs ys h k)
 whole_after need failed (Err Sink) a b c xs ys h (inr (e, k)) = cc
 whole_after need failed (Err Desk) a b c xs ys h (e, (part, begins, far, k)) = absurd far
 
-pub none_before : (failed : Bool) (r : Result Answered PutFault) (a b c : Stream) (answer : List ℕ) (need : Need) (may : Bool) → PutsAll a b [] → PutsAnswer failed r b c answer need may → PutsAnswer failed r a c answer need may
+pub none_before : (failed : Bool) (r : Result LineAnswer PutFault) (a b c : Stream) (answer : List ℕ) (need : AnswerNeed) (may : Bool) → PutsAll a b [] → PutsAnswer failed r b c answer need may → PutsAnswer failed r a c answer need may
 none_before failed (Ok Whole) a b c answer need may h k = all_after a b c [] answer h k
 none_before failed (Ok Unavailable) a b c answer need may h (e, k) = (e, all_after a b c [] unavailable_octets h k)
 none_before failed (Err Sink) a b c answer need may h (inl k) = inl (front_after a b c [] answer h k)

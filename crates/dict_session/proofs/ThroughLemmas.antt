@@ -10,7 +10,7 @@ use Rattle.dict_session.specs.Lines.{cut, HasNoLineEnd}
 use Rattle.dict_session.specs.Answers.{is_quit, need_of, MayBreak, may_be_unavailable}
 use Rattle.dict_session.specs.Desks.{Condition}
 use Rattle.dict_session.specs.Ending.{Wrote}
-use Rattle.dict_session.specs.Session.{HasUnfinished, Keeps, Leaves}
+use Rattle.dict_session.specs.Session.{HasUnfinished, KeepsRest, LeavesSession}
 use Rattle.dict_session.specs.Spoken.{Speaks, IsBeginning, answers, has_quit}
 use Rattle.dict_session.specs.Through.{StandsOn, SpeaksThrough, BreaksThrough, WroteThrough, LeavesThrough, AnswersLine}
 use Rattle.dict_session.specs.declared.session.Session.{Session}
@@ -226,5 +226,5 @@ module _ (d : Meaning → List ℕ) (looks : Meaning → Bool) where
     ),
   )
 
-  pub leaves_of : (j : Bool) (f : Condition) (course : Course) (s : Session) (a b : Stream) (bs : List ℕ) → LeavesThrough d looks j f course s a b bs → Leaves d f course s a b bs
+  pub leaves_of : (j : Bool) (f : Condition) (course : Course) (s : Session) (a b : Stream) (bs : List ℕ) → LeavesThrough d looks j f course s a b bs → LeavesSession d f course s a b bs
   leaves_of j f course s a b bs h = (wrote_of j f course a b (cut bs).lines h.0, h.1)

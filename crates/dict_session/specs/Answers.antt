@@ -84,12 +84,12 @@ count_octets Headwords count = match_count_octets count
 
 -- what an answer needs of a desk beside the catalogue's summary: nothing; rows, and first how many; or the one row in which an
 -- edition tells of itself
-pub data Need : Type 0 where
-  no_rows : Need
-  counted_rows : What → Need
-  one_row : Need
+pub data AnswerNeed : Type 0 where
+  no_rows : AnswerNeed
+  counted_rows : What → AnswerNeed
+  one_row : AnswerNeed
 
-abbrev pub need_of : Meaning → Need
+abbrev pub need_of : Meaning → AnswerNeed
 need_of (define name word) = counted_rows Entries
 need_of (matching name strategy word) = counted_rows Headwords
 need_of show_databases = no_rows
@@ -106,7 +106,7 @@ need_of not_implemented = no_rows
 
 -- An answer may end in a failure of the desk between these two parts of it: the desk has told how many rows there are, and that
 -- line stands whole; or it has told the one row, and the last line alone is to come. Before that nothing of the answer stands.
-abbrev pub MayBreak : Need → List ℕ → List ℕ → Type 0
+abbrev pub MayBreak : AnswerNeed → List ℕ → List ℕ → Type 0
 MayBreak no_rows part rest = ⊥
 MayBreak (counted_rows what) part rest = (count : ℕ) × (rows : List ℕ) × (part ≡ count_octets what count ++ rows)
 MayBreak one_row part rest = rest ≡ done_octets

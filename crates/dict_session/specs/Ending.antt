@@ -3,11 +3,11 @@ use Rattle.std.specs.Prelude.{◌≡◌, ℕ, ◌⊎◌, List, Bool, true, false
 use Rattle.dict_proto.specs.Streams.{Stream, AppendsFront, PutsAll, PutsFront}
 use Rattle.dict_proto.specs.Meaning.{Meaning}
 use Rattle.dict_proto.specs.Replies.{unavailable_octets}
-use Rattle.dict_session.specs.Answers.{Need, need_of, MayBreak, ends_session, may_be_unavailable}
+use Rattle.dict_session.specs.Answers.{AnswerNeed, need_of, MayBreak, ends_session, may_be_unavailable}
 use Rattle.dict_session.specs.Spoken.{Speaks, IsBeginning, BreaksOff}
 use Rattle.dict_session.specs.Desks.{Condition}
-use Rattle.dict_session.specs.declared.step.Answered.{Answered}
-use Rattle.dict_session.specs.declared.step.Answered.TheVariants.{Whole, Unavailable}
+use Rattle.dict_session.specs.declared.step.LineAnswer.{LineAnswer}
+use Rattle.dict_session.specs.declared.step.LineAnswer.TheVariants.{Whole, Unavailable}
 use Rattle.dict_session.specs.declared.step.PutFault.{PutFault}
 use Rattle.dict_session.specs.declared.step.PutFault.TheVariants.{Sink, Desk}
 use Rattle.dict_session.specs.declared.step.Course.{Course}
@@ -22,7 +22,7 @@ pub record PutsPart (old new : Stream) (octets : List ℕ) : Type 0 where
 
 -- a beginning of an answer with this need was put, at least one of its octets and not all, so far that it may end there, and no
 -- call of the sink failed
-abbrev pub PutsBeginning : Need → Stream → Stream → List ℕ → Type 0
+abbrev pub PutsBeginning : AnswerNeed → Stream → Stream → List ℕ → Type 0
 PutsBeginning need old new answer = (part : List ℕ) × (begins : IsBeginning part answer) × MayBreak need part begins.rest × PutsAll old new part
 
 -- the sink failed, and a front of these rows was put; or the desk did, of whose last call `failed` tells it, and so
@@ -38,7 +38,7 @@ Delivers failed (Err fault) old new octets = Breaks failed fault old new octets
 -- the answer was put, or where it may be unavailable the 420 line in its place; or the sink failed, and a front of either
 -- was put; or the desk did, of whose last call `failed` tells it, and a beginning of the answer was put, so far as its need
 -- has it
-abbrev pub PutsAnswer : Bool → Result Answered PutFault → Stream → Stream → List ℕ → Need → Bool → Type 0
+abbrev pub PutsAnswer : Bool → Result LineAnswer PutFault → Stream → Stream → List ℕ → AnswerNeed → Bool → Type 0
 PutsAnswer failed (Ok Whole) old new answer need may = PutsAll old new answer
 PutsAnswer failed (Ok Unavailable) old new answer need may = (may ≡ true) × PutsAll old new unavailable_octets
 PutsAnswer failed (Err Sink) old new answer need may = PutsFront old new answer ⊎ ((may ≡ true) × PutsFront old new unavailable_octets)

@@ -30,34 +30,34 @@ places_under items name place [] = None
 places_under items name place (item ∷ others) = if is_named name item then Some (places_by items place item) else places_under items name (place + 1) others
 
 -- places that are asked, all of them or the first alone in which an entry is found
-pub record Asking : Type 0 where
+pub record AskedPlaces : Type 0 where
   pub places : List ℕ
   pub is_first : Bool
 
 -- what a word asks
-abbrev pub asked_in : {A : Type 0} → List (Item A) → List ℕ → Option Asking
+abbrev pub asked_in : {A : Type 0} → List (Item A) → List ℕ → Option AskedPlaces
 asked_in items word =
     if bytes_eq word (codes "*") then Some (record { places = places_from is_regular 0 items; is_first = false })
     else if bytes_eq word (codes "!") then Some (record { places = places_from is_regular 0 items; is_first = true })
     else option_map (λ places. record { places = places; is_first = false }) (places_under items word 0 items)
 
 -- there is room for 64 places, and these are held where they fit
-abbrev pub Holds : List ℕ → List ℕ → Type 0
-Holds held places = length places ≤ 64 → held ≡ places
+abbrev pub HoldsPlaces : List ℕ → List ℕ → Type 0
+HoldsPlaces held places = length places ≤ 64 → held ≡ places
 
 -- the same where there are none
 abbrev pub HoldsUnder : Option (ArrayVec ℕ) → Option (List ℕ) → Type 0
 HoldsUnder None None = Unit {0}
 HoldsUnder None (Some places) = ⊥
 HoldsUnder (Some held) None = ⊥
-HoldsUnder (Some held) (Some places) = Holds held.items places
+HoldsUnder (Some held) (Some places) = HoldsPlaces held.items places
 
 -- the same of what is asked
-abbrev pub HoldsAsked : Option Asked → Option Asking → Type 0
+abbrev pub HoldsAsked : Option Asked → Option AskedPlaces → Type 0
 HoldsAsked None None = Unit {0}
 HoldsAsked None (Some asking) = ⊥
 HoldsAsked (Some asked) None = ⊥
-HoldsAsked (Some asked) (Some asking) = (asked.is_first ≡ asking.is_first) × Holds asked.places.items asking.places
+HoldsAsked (Some asked) (Some asking) = (asked.is_first ≡ asking.is_first) × HoldsPlaces asked.places.items asking.places
 
 -- a database's name and title, as far as they are lawful, and its current edition's number; there is none of any other
 -- item or of none

@@ -14,12 +14,12 @@ use Rattle.dict_proto.specs.Replies.{definition_octets, list_line_octets, list_e
 pub use Rattle.dict_session.specs.Answers.{count_octets}
 use Rattle.dict_session.specs.Places.{is_regular_named}
 use Rattle.dict_session.specs.declared.query.Query.{Query}
-use Rattle.dict_session.specs.declared.found.Counted.{Counted}
+use Rattle.dict_session.specs.declared.found.CountedRows.{CountedRows}
 
 -- the rows that a query gives of an edition: those of the entries found, or of the headwords shown of them
-abbrev pub rows_by : What → Strategy → List ℕ → Edition → List Row
-rows_by Entries strategy key edition = found_rows strategy key edition
-rows_by Headwords strategy key edition = headword_rows strategy key edition
+abbrev pub rows_given : What → Strategy → List ℕ → Edition → List Row
+rows_given Entries strategy key edition = found_rows strategy key edition
+rows_given Headwords strategy key edition = headword_rows strategy key edition
 
 -- a row of the database with this name and title: a definition, or a line of a list
 abbrev pub row_octets : What → List ℕ → List ℕ → Row → List ℕ
@@ -28,7 +28,7 @@ row_octets Headwords name title row = list_line_octets name row.shown
 
 -- what a query gives of a database, and how many rows these are
 abbrev pub octets_in : Query → Database → List ℕ
-octets_in query database = flat_map (row_octets query.what database.name database.edition.title) (rows_by query.what query.strategy query.key database.edition)
+octets_in query database = flat_map (row_octets query.what database.name database.edition.title) (rows_given query.what query.strategy query.key database.edition)
 
 abbrev pub count_in : Query → Database → ℕ
 count_in query database = count_of query.what query.strategy query.key database.edition
@@ -42,8 +42,8 @@ regular_as (Some (virtual name title members)) = []
 abbrev pub at_place : List (Item Edition) → ℕ → List Database
 at_place items place = regular_as (slice_get items place)
 
-abbrev pub octets_at : Query → List (Item Edition) → ℕ → List ℕ
-octets_at query items place = flat_map (octets_in query) (at_place items place)
+abbrev pub octets_at_place : Query → List (Item Edition) → ℕ → List ℕ
+octets_at_place query items place = flat_map (octets_in query) (at_place items place)
 
 abbrev pub count_at : Query → List (Item Edition) → ℕ → ℕ
 count_at query items place = total (count_in query) (at_place items place)
@@ -63,7 +63,7 @@ end_octets Headwords = list_end_octets ++ done_octets
 
 -- an answer with so many rows, from these places
 abbrev pub counted_octets : Query → List (Item Edition) → List ℕ → ℕ → List ℕ
-counted_octets query items places count = count_octets query.what count ++ (flat_map (octets_at query items) places ++ end_octets query.what)
+counted_octets query items places count = count_octets query.what count ++ (flat_map (octets_at_place query items) places ++ end_octets query.what)
 
 -- the answer, where these places are asked
 abbrev pub found_octets : Query → List (Item Edition) → List ℕ → List ℕ
@@ -93,7 +93,7 @@ abbrev pub giving : Query → List (Item Edition) → List ℕ → List ℕ
 giving query items places = filter (λ place. not (count_at query items place == 0)) places
 
 -- the places are those of these that give rows, and the rows are counted
-pub record IsCounted (query : Query) (items : List (Item Edition)) (all : List ℕ) (counted : Counted) : Type 0 where
+pub record IsCounted (query : Query) (items : List (Item Edition)) (all : List ℕ) (counted : CountedRows) : Type 0 where
   pub places : counted.places.items ≡ giving query items all
   pub count : counted.count ≡ total (count_at query items) all
 

@@ -24,8 +24,8 @@ abbrev pub step_of : Session → Step
 step_of s = step_at s.last
 
 -- the host that the session tells, and its connection's number
-abbrev pub host_of : Session → List ℕ
-host_of s = s.host.now
+abbrev pub session_host : Session → List ℕ
+session_host s = s.host.now
 
 abbrev pub connection_of : Session → ℕ
 connection_of s = s.connection
@@ -37,16 +37,16 @@ pub record IsSameSession (old new : Session) : Type 0 where
   pub room : vec_capacity new.held ≡ vec_capacity old.held
 
 -- a session that goes on has read this
-abbrev pub Keeps : Course → Session → List ℕ → Type 0
-Keeps More s rest = HasUnfinished s rest
-Keeps Quit s rest = Unit {0}
-Keeps SinkFailed s rest = Unit {0}
-Keeps DeskFailed s rest = Unit {0}
+abbrev pub KeepsRest : Course → Session → List ℕ → Type 0
+KeepsRest More s rest = HasUnfinished s rest
+KeepsRest Quit s rest = Unit {0}
+KeepsRest SinkFailed s rest = Unit {0}
+KeepsRest DeskFailed s rest = Unit {0}
 
 -- the call answered the lines that end in b, and keeps the rest of b; the desk stands so after it
-abbrev pub Leaves : (Meaning → List ℕ) → Condition → Course → Session → Stream → Stream → List ℕ → Type 0
-Leaves answer desk course s old new b = Wrote answer desk course old new (cut b).lines × Keeps course s (cut b).rest
+abbrev pub LeavesSession : (Meaning → List ℕ) → Condition → Course → Session → Stream → Stream → List ℕ → Type 0
+LeavesSession answer desk course s old new b = Wrote answer desk course old new (cut b).lines × KeepsRest course s (cut b).rest
 
 -- the call answered this line, and keeps nothing
 abbrev pub EndsLine : (Meaning → List ℕ) → Condition → Course → Session → Stream → Stream → List ℕ → Type 0
-EndsLine answer desk course s old new line = Finishes answer desk course old new (meaning line) × Keeps course s []
+EndsLine answer desk course s old new line = Finishes answer desk course old new (meaning line) × KeepsRest course s []

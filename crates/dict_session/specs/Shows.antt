@@ -1,7 +1,7 @@
 -- The answers to SHOW, STATUS and HELP. RFC 2229, sections 3.5, 3.7 and 3.8.
 use Rattle.std.specs.Prelude.{ℕ, List, ◌++◌, ◌==◌, length, find, if◌then◌else◌, Option, Some, None}
 use Rattle.std.specs.List.{flat_map}
-use Rattle.dict_match.specs.StrategyText.{name_of as strategy_name, title_of as strategy_title, strategies}
+use Rattle.dict_match.specs.StrategyText.{strategy_name, strategy_title, strategies}
 use Rattle.dict_match.specs.declared.strategy.Strategy.{Strategy}
 use Rattle.dict_index.specs.Edition.{Edition}
 use Rattle.dict_catalogue.specs.Items.{Item, regular, virtual, name_of, is_named}
@@ -10,12 +10,12 @@ use Rattle.dict_desk.specs.Asked.{Database, databases_of}
 use Rattle.dict_proto.specs.Replies.{database_count_octets, strategy_count_octets, list_line_octets, list_end_octets, info_heading_octets, info_text_octets, help_octets, server_information_octets, status_octets, done_octets, invalid_database_octets, no_databases_octets}
 
 -- a database's title is its current edition's
-abbrev pub title_of : Item Edition → List ℕ
-title_of (regular name current former) = current.content.title
-title_of (virtual name title members) = title
+abbrev pub title_of_item : Item Edition → List ℕ
+title_of_item (regular name current former) = current.content.title
+title_of_item (virtual name title members) = title
 
 abbrev pub item_line : Item Edition → List ℕ
-item_line item = list_line_octets (name_of item) (title_of item)
+item_line item = list_line_octets (name_of item) (title_of_item item)
 
 -- the answer to SHOW DB where these items stand
 abbrev pub items_answer : List (Item Edition) → List ℕ

@@ -12,7 +12,7 @@ use Rattle.dict_session.specs.Answers.{answer_to, is_quit, names_databases, need
 use Rattle.dict_session.specs.Desks.{Condition}
 use Rattle.dict_session.specs.Ending.{Finishes}
 use Rattle.dict_session.specs.Lines.{cut}
-use Rattle.dict_session.specs.Session.{Keeps}
+use Rattle.dict_session.specs.Session.{KeepsRest}
 use Rattle.dict_session.specs.Spoken.{IsBeginning}
 use Rattle.dict_session.specs.declared.session.Session.{Session}
 use Rattle.dict_session.specs.declared.session.run.SessionEnd.{SessionEnd}
@@ -92,12 +92,12 @@ WroteThrough answer looks before desk courses.DeskFailed old new lines = (desk.f
 
 -- the call answered the lines that end in b, and keeps the rest of b
 abbrev pub LeavesThrough : (Meaning → List ℕ) → (Meaning → Bool) → Bool → Condition → Course → Session → Stream → Stream → List ℕ → Type 0
-LeavesThrough answer looks before desk course s old new b = WroteThrough answer looks before desk course old new (cut b).lines × Keeps course s (cut b).rest
+LeavesThrough answer looks before desk course s old new b = WroteThrough answer looks before desk course old new (cut b).lines × KeepsRest course s (cut b).rest
 
 -- the call answered this line, by how the desk stood before it, and keeps nothing
 pub record AnswersLine (answer : Meaning → List ℕ) (looks : Meaning → Bool) (before : Bool) (desk : Condition) (course : Course) (s : Session) (old new : Stream) (line : List ℕ) : Type 0 where
   pub finishes : Finishes answer (record { failed = desk.failed; closed = before }) course old new (meaning line)
-  pub keeps : Keeps course s []
+  pub keeps : KeepsRest course s []
   pub stands : StandsOn (looks (meaning line)) before desk.closed
   pub breaks : course ≡ courses.DeskFailed → looks (meaning line) ≡ true
 

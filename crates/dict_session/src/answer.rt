@@ -6,7 +6,7 @@ ghost use Rattle.dict_proto.specs.Told.{Tells, requested};
 ghost use Rattle.dict_catalogue.specs.Steps.{Catalogue};
 ghost use Rattle.dict_proto.specs.Replies.{reply_octets};
 ghost use Rattle.dict_desk.specs.Asked.{strategy_of};
-ghost use Rattle.dict_session.specs.Answers.{answer_to, counted_rows, define_answer, match_answer, names_databases, Need, need_of, ends_session, may_be_unavailable};
+ghost use Rattle.dict_session.specs.Answers.{answer_to, counted_rows, define_answer, match_answer, names_databases, AnswerNeed, need_of, ends_session, may_be_unavailable};
 ghost use Rattle.dict_session.specs.Desks.{Condition, across, Stays};
 ghost use Rattle.dict_session.specs.Places.{asked_in, HoldsAsked};
 ghost use Rattle.dict_session.specs.Ending.{Finishes, PutsAnswer, PutsLine};
@@ -16,7 +16,7 @@ use crate::asked::{Asked, asked_places};
 use crate::found::put_found;
 use crate::query::Query;
 use crate::show::{put_databases, put_help, put_info, put_server, put_status, put_strategies};
-use crate::step::{Answered, Course, PutFault};
+use crate::step::{Course, LineAnswer, PutFault};
 use dict_desk::{Fault, Lookup, What};
 use dict_match::{Strategy, key_of};
 use dict_proto::{LineFault, Reply, Request, Sink, SinkFault, write_reply};
@@ -82,7 +82,7 @@ fn answer_request<L: Lookup, K: Sink>(
     ensures breaks { result ≡ Course.DeskFailed → (M : Catalogue) → L.shows desk.old M → looks_up M (requested request.now) ≡ true }
 {
     match put_answer(alloc, desk, host, request, sink) {
-        Ok(Answered::Whole) if is_quit(request) => Course::Quit,
+        Ok(LineAnswer::Whole) if is_quit(request) => Course::Quit,
         Ok(_) => Course::More,
         Err(PutFault::Sink) => Course::SinkFailed,
         Err(PutFault::Desk) => Course::DeskFailed,
@@ -103,7 +103,7 @@ fn put_answer<L: Lookup, K: Sink>(
     host: &str,
     request: &Request,
     sink: &mut K,
-) -> Result<Answered, PutFault>
+) -> Result<LineAnswer, PutFault>
     ensures value { L.is_trusted desk.new → (M : Catalogue) → L.shows desk.old M
         → PutsAnswer (L.has_failed desk.new) result (K.stream sink.old) (K.stream sink.new) (answer_to M host.now (requested request.now)) (need_of (requested request.now)) (may_be_unavailable (L.is_closed desk.old) (requested request.now)) }
     ensures desk { Stays L.shows L.leaves_one_of L.is_trusted L.is_closed desk.old desk.new }
@@ -137,29 +137,29 @@ fn put_answer<L: Lookup, K: Sink>(
 }
 
 // An answer that was put whole, or that the sink broke off.
-pub(crate) fn whole(put: Result<(), SinkFault>) -> Result<Answered, PutFault>
-    ensures { (old new : Stream) (answer : List ℕ) (failed : Bool) (need : Need) (may : Bool) → Puts put old new answer → PutsAnswer failed result old new answer need may }
+pub(crate) fn whole(put: Result<(), SinkFault>) -> Result<LineAnswer, PutFault>
+    ensures { (old new : Stream) (answer : List ℕ) (failed : Bool) (need : AnswerNeed) (may : Bool) → Puts put old new answer → PutsAnswer failed result old new answer need may }
 {
     match put {
-        Ok(()) => Ok(Answered::Whole),
+        Ok(()) => Ok(LineAnswer::Whole),
         Err(_) => Err(PutFault::Sink),
     }
 }
 
-pub(crate) fn put_whole<K: Sink>(reply: &Reply, sink: &mut K) -> Result<Answered, PutFault>
-    ensures { (failed : Bool) (need : Need) (may : Bool) → PutsAnswer failed result (K.stream sink.old) (K.stream sink.new) (reply_octets reply.now) need may }
+pub(crate) fn put_whole<K: Sink>(reply: &Reply, sink: &mut K) -> Result<LineAnswer, PutFault>
+    ensures { (failed : Bool) (need : AnswerNeed) (may : Bool) → PutsAnswer failed result (K.stream sink.old) (K.stream sink.new) (reply_octets reply.now) need may }
 {
     match write_reply(sink, reply) {
-        Ok(()) => Ok(Answered::Whole),
+        Ok(()) => Ok(LineAnswer::Whole),
         Err(_) => Err(PutFault::Sink),
     }
 }
 
-pub(crate) fn put_unavailable<K: Sink>(sink: &mut K) -> Result<Answered, PutFault>
-    ensures { (answer : List ℕ) (failed : Bool) (need : Need) → PutsAnswer failed result (K.stream sink.old) (K.stream sink.new) answer need true }
+pub(crate) fn put_unavailable<K: Sink>(sink: &mut K) -> Result<LineAnswer, PutFault>
+    ensures { (answer : List ℕ) (failed : Bool) (need : AnswerNeed) → PutsAnswer failed result (K.stream sink.old) (K.stream sink.new) answer need true }
 {
     match write_reply(sink, &Reply::Unavailable) {
-        Ok(()) => Ok(Answered::Unavailable),
+        Ok(()) => Ok(LineAnswer::Unavailable),
         Err(_) => Err(PutFault::Sink),
     }
 }
@@ -182,7 +182,7 @@ fn put_define<L: Lookup, K: Sink>(
     name: &str,
     word: &str,
     sink: &mut K,
-) -> Result<Answered, PutFault>
+) -> Result<LineAnswer, PutFault>
     ensures value { L.is_trusted desk.new → (M : Catalogue) → L.shows desk.old M
         → PutsAnswer (L.has_failed desk.new) result (K.stream sink.old) (K.stream sink.new) (define_answer M name.now word.now) (counted_rows What.Entries) true }
     ensures desk { Stays L.shows L.leaves_one_of L.is_trusted L.is_closed desk.old desk.new }
@@ -223,7 +223,7 @@ fn put_match<L: Lookup, K: Sink>(
     strategy: &str,
     word: &str,
     sink: &mut K,
-) -> Result<Answered, PutFault>
+) -> Result<LineAnswer, PutFault>
     ensures value { L.is_trusted desk.new → (M : Catalogue) → L.shows desk.old M
         → PutsAnswer (L.has_failed desk.new) result (K.stream sink.old) (K.stream sink.new) (match_answer M name.now strategy.now word.now) (counted_rows What.Headwords) true }
     ensures desk { Stays L.shows L.leaves_one_of L.is_trusted L.is_closed desk.old desk.new }

@@ -3,7 +3,7 @@ ghost use Rattle.std.specs.Prelude.{◌≡◌, ◌≤◌, ◌<◌, [], ◌∷◌
 ghost use Rattle.std.specs.List.{flat_map};
 ghost use Rattle.dict_catalogue.specs.Items.{is_regular};
 ghost use Rattle.dict_catalogue.specs.Views.{item_shown, texts_shown};
-ghost use Rattle.dict_session.specs.Places.{places_from, is_regular_named, places_named, places_by, places_under, asked_in, Holds, HoldsUnder, HoldsAsked, IsHeading};
+ghost use Rattle.dict_session.specs.Places.{places_from, is_regular_named, places_named, places_by, places_under, asked_in, HoldsPlaces, HoldsUnder, HoldsAsked, IsHeading};
 
 use arrayvec::{ArrayString, ArrayVec};
 use dict_catalogue::Item;
@@ -71,7 +71,7 @@ fn is_regular(item: &Item) -> bool
 
 // The places of the regular items.
 fn regular_places(items: &[Item]) -> ArrayVec<usize, MAX_PLACES>
-    ensures { Holds result.items (places_from is_regular 0 (map item_shown items.now)) }
+    ensures { HoldsPlaces result.items (places_from is_regular 0 (map item_shown items.now)) }
 {
     let mut places = ArrayVec::new();
     for place in 0..items.len() {
@@ -91,7 +91,7 @@ pub(crate) fn is_regular_named(item: &Item, name: &str) -> bool
 
 // Adds the places of the regular items of this name.
 fn add_named(places: &mut ArrayVec<usize, MAX_PLACES>, items: &[Item], name: &str)
-    ensures { Holds places.new.items (places.old.items ++ places_named (map item_shown items.now) name.now) }
+    ensures { HoldsPlaces places.new.items (places.old.items ++ places_named (map item_shown items.now) name.now) }
 {
     for place in 0..items.len() {
         if is_regular_named(&items[place], name) {
@@ -102,7 +102,7 @@ fn add_named(places: &mut ArrayVec<usize, MAX_PLACES>, items: &[Item], name: &st
 
 // The places of the regular items of these names.
 fn member_places(items: &[Item], members: &[String]) -> ArrayVec<usize, MAX_PLACES>
-    ensures { Holds result.items (flat_map (places_named (map item_shown items.now)) (texts_shown members.now)) }
+    ensures { HoldsPlaces result.items (flat_map (places_named (map item_shown items.now)) (texts_shown members.now)) }
 {
     let mut places = ArrayVec::new();
     for member in members {
@@ -121,7 +121,7 @@ pub(crate) fn one_place(place: usize) -> ArrayVec<usize, MAX_PLACES>
 
 // The places that the item asks, which stands at this one.
 fn places_by(items: &[Item], place: usize, item: &Item) -> ArrayVec<usize, MAX_PLACES>
-    ensures { Holds result.items (places_by (map item_shown items.now) place (item_shown item.now)) }
+    ensures { HoldsPlaces result.items (places_by (map item_shown items.now) place (item_shown item.now)) }
 {
     match item {
         Item::Regular { .. } => one_place(place),

@@ -11,37 +11,37 @@ ghost use Rattle.dict_session.specs.Answers.{counted_rows};
 ghost use Rattle.dict_session.specs.Desks.{Stays};
 ghost use Rattle.dict_session.specs.Ending.{Delivers, PutsAnswer};
 ghost use Rattle.dict_session.specs.Places.{IsHeading};
-ghost use Rattle.dict_session.specs.Rows.{rows_by, row_octets, count_octets, end_octets, count_at, octets_at, first_counted, answering, counted_octets, found_octets, IsCounted};
+ghost use Rattle.dict_session.specs.Rows.{rows_given, row_octets, count_octets, end_octets, count_at, octets_at_place, first_counted, answering, counted_octets, found_octets, IsCounted};
 
 use crate::answer::{put_unavailable, put_whole, whole};
 use crate::asked::{Asked, Heading, add_place, heading_at, one_place};
 use crate::query::Query;
 use crate::rows::FoundRows;
 use crate::show::put_list_end;
-use crate::step::{Answered, PutFault};
+use crate::step::{LineAnswer, PutFault};
 use arrayvec::ArrayVec;
 use dict_desk::{End, Fault, Lookup, RowSink, What};
 use dict_proto::{Reply, Sink, SinkFault, write_reply};
 
 /// The places of the databases that give an answer's rows, each at least one, and how many rows there are.
 #[derive(Drop)]
-pub(crate) struct Counted {
+pub(crate) struct CountedRows {
     pub places: ArrayVec<usize, 64>,
     pub count: u64,
 }
 
 // No rows, of no place.
-fn nothing() -> Counted
+fn nothing() -> CountedRows
     ensures places { result.places.items ≡ [] }
     ensures count { result.count ≡ 0 }
 {
-    Counted {
+    CountedRows {
         places: ArrayVec::new(),
         count: 0,
     }
 }
 
-impl Counted {
+impl CountedRows {
     // Adds so many rows that the database at a place gives. One that gives none is not asked again.
     fn add(&mut self, place: usize, count: u64)
         ensures places { length self.old.places.items < 64 → self.new.places.items ≡ self.old.places.items ++ (if count == 0 then [] else place ∷ []) }
@@ -79,7 +79,7 @@ fn count_at<L: Lookup>(desk: &mut L, place: usize, query: &Query) -> Result<u64,
 }
 
 // Those of the places that give rows, and how many they give.
-fn count_all<L: Lookup>(desk: &mut L, places: &[usize], query: &Query) -> Result<Counted, Fault>
+fn count_all<L: Lookup>(desk: &mut L, places: &[usize], query: &Query) -> Result<CountedRows, Fault>
     ensures value { L.is_trusted desk.new → (M : Catalogue) → L.shows desk.old M → length places.now ≤ 64 → IfOk result (IsCounted query.now M.items places.now) }
     ensures desk { Stays L.shows L.leaves_one_of L.is_trusted L.is_closed desk.old desk.new }
     ensures open { L.is_closed desk.old ≡ false → OnOk result (L.is_closed desk.new ≡ false) }
@@ -95,7 +95,11 @@ fn count_all<L: Lookup>(desk: &mut L, places: &[usize], query: &Query) -> Result
 }
 
 // The first place of whose database a query gives rows, and how many.
-fn count_first<L: Lookup>(desk: &mut L, places: &[usize], query: &Query) -> Result<Counted, Fault>
+fn count_first<L: Lookup>(
+    desk: &mut L,
+    places: &[usize],
+    query: &Query,
+) -> Result<CountedRows, Fault>
     ensures value { L.is_trusted desk.new → (M : Catalogue) → L.shows desk.old M → IfOk result (IsCounted query.now M.items (first_counted (count_at query.now M.items) places.now)) }
     ensures desk { Stays L.shows L.leaves_one_of L.is_trusted L.is_closed desk.old desk.new }
     ensures open { L.is_closed desk.old ≡ false → OnOk result (L.is_closed desk.new ≡ false) }
@@ -104,7 +108,7 @@ fn count_first<L: Lookup>(desk: &mut L, places: &[usize], query: &Query) -> Resu
         match count_at(desk, *place, query) {
             Ok(0) => {}
             Ok(count) => {
-                return Ok(Counted {
+                return Ok(CountedRows {
                     places: one_place(*place),
                     count,
                 });
@@ -116,7 +120,7 @@ fn count_first<L: Lookup>(desk: &mut L, places: &[usize], query: &Query) -> Resu
 }
 
 // Which of the databases asked give rows, and how many.
-fn count_asked<L: Lookup>(desk: &mut L, asked: Asked, query: &Query) -> Result<Counted, Fault>
+fn count_asked<L: Lookup>(desk: &mut L, asked: Asked, query: &Query) -> Result<CountedRows, Fault>
     ensures value { L.is_trusted desk.new → (M : Catalogue) → L.shows desk.old M → length asked.places.items ≤ 64 → IfOk result (IsCounted query.now M.items (answering query.now M.items asked.places.items asked.is_first)) }
     ensures desk { Stays L.shows L.leaves_one_of L.is_trusted L.is_closed desk.old desk.new }
     ensures open { L.is_closed desk.old ≡ false → OnOk result (L.is_closed desk.new ≡ false) }
@@ -136,7 +140,7 @@ fn hand_out<L: Lookup, T: RowSink>(
     sink: &mut T,
 ) -> Result<End, Fault>
     ensures value { L.is_trusted desk.new → (M : Catalogue) (edition : Edition) → L.shows desk.old M → HasEdition M number edition
-        → Hands T.takes T.stops sink.old sink.new (rows_by query.now.what query.now.strategy query.now.key edition) result }
+        → Hands T.takes T.stops sink.old sink.new (rows_given query.now.what query.now.strategy query.now.key edition) result }
     ensures handed { (rows : List Row) × Hands T.takes T.stops sink.old sink.new rows result }
     ensures desk { Stays L.shows L.leaves_one_of L.is_trusted L.is_closed desk.old desk.new }
     ensures open { OnOk result (L.is_closed desk.new ≡ false) }
@@ -157,7 +161,7 @@ fn deliver<L: Lookup, K: Sink>(
 ) -> Result<(), PutFault>
     ensures value { L.is_trusted desk.new → (M : Catalogue) (edition : Edition) → L.shows desk.old M → HasEdition M number edition
         → Delivers (L.has_failed desk.new) result (K.stream rows.old.sink.now) (K.stream rows.new.sink.now)
-        (flat_map (row_octets rows.old.what rows.old.heading.now.name.bytes rows.old.heading.now.title.bytes) (rows_by query.now.what query.now.strategy query.now.key edition)) }
+        (flat_map (row_octets rows.old.what rows.old.heading.now.name.bytes rows.old.heading.now.title.bytes) (rows_given query.now.what query.now.strategy query.now.key edition)) }
     ensures same_reference { rows.new.sink.ghost_name ≡ rows.old.sink.ghost_name }
     ensures desk { Stays L.shows L.leaves_one_of L.is_trusted L.is_closed desk.old desk.new }
     ensures open { OnOk result (L.is_closed desk.new ≡ false) }
@@ -178,7 +182,7 @@ fn put_rows<L: Lookup, K: Sink>(
 ) -> Result<(), PutFault>
     ensures value { L.is_trusted desk.new → (M : Catalogue) (edition : Edition) → L.shows desk.old M → HasEdition M heading.now.number edition
         → Delivers (L.has_failed desk.new) result (K.stream sink.old) (K.stream sink.new)
-        (flat_map (row_octets query.now.what heading.now.name.bytes heading.now.title.bytes) (rows_by query.now.what query.now.strategy query.now.key edition)) }
+        (flat_map (row_octets query.now.what heading.now.name.bytes heading.now.title.bytes) (rows_given query.now.what query.now.strategy query.now.key edition)) }
     ensures desk { Stays L.shows L.leaves_one_of L.is_trusted L.is_closed desk.old desk.new }
     ensures open { OnOk result (L.is_closed desk.new ≡ false) }
 {
@@ -200,7 +204,7 @@ fn put_at<L: Lookup, K: Sink>(
 ) -> Result<(), PutFault>
     requires { L.is_closed desk.old ≡ false }
     ensures value { L.is_trusted desk.new → (M : Catalogue) → L.shows desk.old M
-        → Delivers (L.has_failed desk.new) result (K.stream sink.old) (K.stream sink.new) (octets_at query.now M.items place) }
+        → Delivers (L.has_failed desk.new) result (K.stream sink.old) (K.stream sink.new) (octets_at_place query.now M.items place) }
     ensures desk { Stays L.shows L.leaves_one_of L.is_trusted L.is_closed desk.old desk.new }
     ensures open { OnOk result (L.is_closed desk.new ≡ false) }
 {
@@ -221,7 +225,7 @@ fn put_places<L: Lookup, K: Sink>(
 ) -> Result<(), PutFault>
     requires { L.is_closed desk.old ≡ false }
     ensures value { L.is_trusted desk.new → (M : Catalogue) → L.shows desk.old M
-        → Delivers (L.has_failed desk.new) result (K.stream sink.old) (K.stream sink.new) (flat_map (octets_at query.now M.items) places.now) }
+        → Delivers (L.has_failed desk.new) result (K.stream sink.old) (K.stream sink.new) (flat_map (octets_at_place query.now M.items) places.now) }
     ensures desk { Stays L.shows L.leaves_one_of L.is_trusted L.is_closed desk.old desk.new }
 {
     for place in places {
@@ -256,10 +260,10 @@ fn put_end<K: Sink>(what: What, sink: &mut K) -> Result<(), SinkFault>
 // Puts an answer of so many rows, from these places.
 fn put_counted<L: Lookup, K: Sink>(
     desk: &mut L,
-    counted: &Counted,
+    counted: &CountedRows,
     query: &Query,
     sink: &mut K,
-) -> Result<Answered, PutFault>
+) -> Result<LineAnswer, PutFault>
     requires { L.is_closed desk.old ≡ false }
     ensures value { L.is_trusted desk.new → (M : Catalogue) → L.shows desk.old M
         → PutsAnswer (L.has_failed desk.new) result (K.stream sink.old) (K.stream sink.new) (counted_octets query.now M.items counted.now.places.items counted.now.count) (counted_rows query.now.what) true }
@@ -282,7 +286,7 @@ pub(crate) fn put_found<L: Lookup, K: Sink>(
     asked: Asked,
     query: &Query,
     sink: &mut K,
-) -> Result<Answered, PutFault>
+) -> Result<LineAnswer, PutFault>
     requires { L.is_closed desk.old ≡ false }
     ensures value { L.is_trusted desk.new → (M : Catalogue) → L.shows desk.old M → length asked.places.items ≤ 64
         → PutsAnswer (L.has_failed desk.new) result (K.stream sink.old) (K.stream sink.new) (found_octets query.now M.items (answering query.now M.items asked.places.items asked.is_first)) (counted_rows query.now.what) true }

@@ -30,7 +30,7 @@ pub struct Session<'h> {
 }
 
 impl<'h> Session<'h> {
-    ghost use Rattle.dict_session.specs.Session.{HasUnfinished, Leaves, IsSameSession, course_of, step_of, host_of, connection_of};
+    ghost use Rattle.dict_session.specs.Session.{HasUnfinished, LeavesSession, IsSameSession, course_of, step_of, session_host, connection_of};
     ghost use Rattle.dict_session.specs.Ending.{PutsLine};
     ghost use Rattle.dict_session.specs.Through.{AnswersLine, LeavesThrough, looks_up};
     ghost use Rattle.dict_session.specs.Lines.{HasNoLineEnd, cut};
@@ -40,7 +40,7 @@ impl<'h> Session<'h> {
     pub fn new(alloc: Global, host: &'h str, connection: u64) -> Result<Session<'h>, AllocError>
         ensures line { IfOk result (λ s. HasUnfinished s []) }
         ensures step { IfOk result (λ s. step_of s ≡ More) }
-        ensures host { IfOk result (λ s. host_of s ≡ host.now) }
+        ensures host { IfOk result (λ s. session_host s ≡ host.now) }
         ensures connection { IfOk result (λ s. connection_of s ≡ connection) }
     {
         let held = Vec::with_capacity(alloc, MAX_LINE_OCTETS)?;
@@ -57,7 +57,7 @@ impl<'h> Session<'h> {
     /// Puts the greeting. Once a call of the session ended by `Quit` or `Broken`, it answers the same and puts nothing.
     pub fn greet<K: Sink>(&mut self, sink: &mut K) -> Step
         ensures greeting { step_of self.old ≡ More
-            → PutsLine (course_of self.new) (K.stream sink.old) (K.stream sink.new) (banner_octets (host_of self.old) (connection_of self.old)) }
+            → PutsLine (course_of self.new) (K.stream sink.old) (K.stream sink.new) (banner_octets (session_host self.old) (connection_of self.old)) }
         ensures line { (rest : List ℕ) → HasUnfinished self.old rest → HasUnfinished self.new rest }
         ensures step { step_of self.new ≡ result }
         ensures same { IsSameSession self.old self.new }
@@ -86,9 +86,9 @@ impl<'h> Session<'h> {
         sink: &mut K,
     ) -> Step
         ensures answers { step_of self.old ≡ More → L.is_trusted desk.new → (M : Catalogue) → L.shows desk.old M → (rest : List ℕ) → HasUnfinished self.old rest
-            → Leaves (answer_to M (host_of self.old)) (condition L.has_failed L.is_closed desk.new) (course_of self.new) self.new (K.stream sink.old) (K.stream sink.new) (rest ++ piece.now) }
+            → LeavesSession (answer_to M (session_host self.old)) (condition L.has_failed L.is_closed desk.new) (course_of self.new) self.new (K.stream sink.old) (K.stream sink.new) (rest ++ piece.now) }
         ensures through { step_of self.old ≡ More → L.is_trusted desk.new → (M : Catalogue) → L.shows desk.old M → (rest : List ℕ) → HasUnfinished self.old rest
-            → LeavesThrough (answer_to M (host_of self.old)) (looks_up M) (L.is_closed desk.old) (condition L.has_failed L.is_closed desk.new) (course_of self.new) self.new (K.stream sink.old) (K.stream sink.new) (rest ++ piece.now) }
+            → LeavesThrough (answer_to M (session_host self.old)) (looks_up M) (L.is_closed desk.old) (condition L.has_failed L.is_closed desk.new) (course_of self.new) self.new (K.stream sink.old) (K.stream sink.new) (rest ++ piece.now) }
         ensures quiet { step_of self.old ≡ More → L.is_trusted desk.new → (M : Catalogue) → L.shows desk.old M → (rest : List ℕ) → HasUnfinished self.old rest
             → All (λ line. looks_up M (meaning line) ≡ false) (cut (rest ++ piece.now)).lines → desk.new ≡ desk.old }
         ensures desk { Stays L.shows L.leaves_one_of L.is_trusted L.is_closed desk.old desk.new }
@@ -108,9 +108,9 @@ impl<'h> Session<'h> {
         sink: &mut K,
     ) -> Course
         ensures answers { step_of self.old ≡ More → L.is_trusted desk.new → (M : Catalogue) → L.shows desk.old M → (rest : List ℕ) → HasUnfinished self.old rest
-            → Leaves (answer_to M (host_of self.old)) (condition L.has_failed L.is_closed desk.new) result self.new (K.stream sink.old) (K.stream sink.new) (rest ++ piece.now) }
+            → LeavesSession (answer_to M (session_host self.old)) (condition L.has_failed L.is_closed desk.new) result self.new (K.stream sink.old) (K.stream sink.new) (rest ++ piece.now) }
         ensures through { step_of self.old ≡ More → L.is_trusted desk.new → (M : Catalogue) → L.shows desk.old M → (rest : List ℕ) → HasUnfinished self.old rest
-            → LeavesThrough (answer_to M (host_of self.old)) (looks_up M) (L.is_closed desk.old) (condition L.has_failed L.is_closed desk.new) result self.new (K.stream sink.old) (K.stream sink.new) (rest ++ piece.now) }
+            → LeavesThrough (answer_to M (session_host self.old)) (looks_up M) (L.is_closed desk.old) (condition L.has_failed L.is_closed desk.new) result self.new (K.stream sink.old) (K.stream sink.new) (rest ++ piece.now) }
         ensures quiet { step_of self.old ≡ More → L.is_trusted desk.new → (M : Catalogue) → L.shows desk.old M → (rest : List ℕ) → HasUnfinished self.old rest
             → All (λ line. looks_up M (meaning line) ≡ false) (cut (rest ++ piece.now)).lines → desk.new ≡ desk.old }
         ensures desk { Stays L.shows L.leaves_one_of L.is_trusted L.is_closed desk.old desk.new }
@@ -144,7 +144,7 @@ impl<'h> Session<'h> {
         sink: &mut K,
     ) -> Course
         ensures answers { L.is_trusted desk.new → (M : Catalogue) → L.shows desk.old M → (rest : List ℕ) → HasUnfinished self.old rest
-            → LeavesThrough (answer_to M (host_of self.old)) (looks_up M) (L.is_closed desk.old) (condition L.has_failed L.is_closed desk.new) result self.new (K.stream sink.old) (K.stream sink.new) (rest ++ piece.now) }
+            → LeavesThrough (answer_to M (session_host self.old)) (looks_up M) (L.is_closed desk.old) (condition L.has_failed L.is_closed desk.new) result self.new (K.stream sink.old) (K.stream sink.new) (rest ++ piece.now) }
         ensures quiet { L.is_trusted desk.new → (M : Catalogue) → L.shows desk.old M → (rest : List ℕ) → HasUnfinished self.old rest
             → All (λ line. looks_up M (meaning line) ≡ false) (cut (rest ++ piece.now)).lines → desk.new ≡ desk.old }
         ensures desk { Stays L.shows L.leaves_one_of L.is_trusted L.is_closed desk.old desk.new }
@@ -168,7 +168,7 @@ impl<'h> Session<'h> {
         sink: &mut K,
     ) -> Course
         ensures answers { L.is_trusted desk.new → (M : Catalogue) → L.shows desk.old M → (rest : List ℕ) → HasUnfinished self.old rest
-            → LeavesThrough (answer_to M (host_of self.old)) (looks_up M) (L.is_closed desk.old) (condition L.has_failed L.is_closed desk.new) result self.new (K.stream sink.old) (K.stream sink.new) (rest ++ octet ∷ []) }
+            → LeavesThrough (answer_to M (session_host self.old)) (looks_up M) (L.is_closed desk.old) (condition L.has_failed L.is_closed desk.new) result self.new (K.stream sink.old) (K.stream sink.new) (rest ++ octet ∷ []) }
         ensures quiet { L.is_trusted desk.new → (M : Catalogue) → L.shows desk.old M → (rest : List ℕ) → HasUnfinished self.old rest
             → All (λ line. looks_up M (meaning line) ≡ false) (cut (rest ++ octet ∷ [])).lines → desk.new ≡ desk.old }
         ensures desk { Stays L.shows L.leaves_one_of L.is_trusted L.is_closed desk.old desk.new }
@@ -217,7 +217,7 @@ impl<'h> Session<'h> {
     // Answers the line whose CR was read last, at its LF.
     fn end_line<L: Lookup, K: Sink>(&mut self, alloc: Global, desk: &mut L, sink: &mut K) -> Course
         ensures answers { L.is_trusted desk.new → (M : Catalogue) → L.shows desk.old M → (rest : List ℕ) → HasUnfinished self.old rest
-            → AnswersLine (answer_to M (host_of self.old)) (looks_up M) (L.is_closed desk.old) (condition L.has_failed L.is_closed desk.new) result self.new (K.stream sink.old) (K.stream sink.new) (take (length rest - 1) rest) }
+            → AnswersLine (answer_to M (session_host self.old)) (looks_up M) (L.is_closed desk.old) (condition L.has_failed L.is_closed desk.new) result self.new (K.stream sink.old) (K.stream sink.new) (take (length rest - 1) rest) }
         ensures quiet { (M : Catalogue) → L.shows desk.old M → (rest : List ℕ) → HasUnfinished self.old rest → looks_up M (meaning (take (length rest - 1) rest)) ≡ false → desk.new ≡ desk.old }
         ensures desk { Stays L.shows L.leaves_one_of L.is_trusted L.is_closed desk.old desk.new }
         ensures same { IsSameSession self.old self.new }

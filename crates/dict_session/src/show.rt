@@ -19,7 +19,7 @@ ghost use Rattle.dict_session.specs.Shows.{databases_answer, strategies_answer, 
 use crate::answer::{put_unavailable, put_whole, whole};
 use crate::asked::is_regular_named;
 use crate::rows::InfoRow;
-use crate::step::{Answered, PutFault};
+use crate::step::{LineAnswer, PutFault};
 use dict_catalogue::Item;
 use dict_desk::{End, Fault, Lookup};
 use dict_match::Strategy;
@@ -80,7 +80,7 @@ fn put_items<K: Sink>(items: &[Item], sink: &mut K) -> Result<(), SinkFault>
 pub(crate) fn put_databases<L: Lookup, K: Sink>(
     desk: &L,
     sink: &mut K,
-) -> Result<Answered, PutFault>
+) -> Result<LineAnswer, PutFault>
     ensures { (M : Catalogue) → L.shows desk.now M → (failed : Bool) → PutsAnswer failed result (K.stream sink.old) (K.stream sink.new) (databases_answer M) no_rows (L.is_closed desk.now) }
 {
     match desk.summary() {
@@ -124,7 +124,7 @@ pub(crate) fn put_server<L: Lookup, K: Sink>(
     desk: &L,
     host: &str,
     sink: &mut K,
-) -> Result<Answered, PutFault>
+) -> Result<LineAnswer, PutFault>
     ensures { (M : Catalogue) → L.shows desk.now M → (failed : Bool) → PutsAnswer failed result (K.stream sink.old) (K.stream sink.new) (server_answer M host.now) no_rows (L.is_closed desk.now) }
 {
     match count_items(desk) {
@@ -184,7 +184,7 @@ fn put_row<L: Lookup, K: Sink>(
     desk: &mut L,
     number: u64,
     row: &mut InfoRow<K>,
-) -> Result<Answered, PutFault>
+) -> Result<LineAnswer, PutFault>
     requires { row.old.has_begun ≡ false }
     ensures value { L.is_trusted desk.new → (M : Catalogue) (edition : Edition) → L.shows desk.old M → HasEdition M number edition
         → PutsAnswer (L.has_failed desk.new) result (K.stream row.old.sink.now) (K.stream row.new.sink.now) (info_heading_octets ++ (info_text_octets edition.info ++ done_octets)) one_row true }
@@ -209,7 +209,7 @@ fn put_edition<L: Lookup, K: Sink>(
     desk: &mut L,
     number: u64,
     sink: &mut K,
-) -> Result<Answered, PutFault>
+) -> Result<LineAnswer, PutFault>
     ensures value { L.is_trusted desk.new → (M : Catalogue) (edition : Edition) → L.shows desk.old M → HasEdition M number edition
         → PutsAnswer (L.has_failed desk.new) result (K.stream sink.old) (K.stream sink.new) (info_heading_octets ++ (info_text_octets edition.info ++ done_octets)) one_row true }
     ensures desk { Stays L.shows L.leaves_one_of L.is_trusted L.is_closed desk.old desk.new }
@@ -247,7 +247,7 @@ pub(crate) fn put_info<L: Lookup, K: Sink>(
     desk: &mut L,
     name: &str,
     sink: &mut K,
-) -> Result<Answered, PutFault>
+) -> Result<LineAnswer, PutFault>
     ensures value { L.is_trusted desk.new → (M : Catalogue) → L.shows desk.old M
         → PutsAnswer (L.has_failed desk.new) result (K.stream sink.old) (K.stream sink.new) (info_answer M name.now) one_row true }
     ensures desk { Stays L.shows L.leaves_one_of L.is_trusted L.is_closed desk.old desk.new }
@@ -268,7 +268,7 @@ pub(crate) fn put_info<L: Lookup, K: Sink>(
 }
 
 // Puts the answer to STATUS.
-pub(crate) fn put_status<L: Lookup, K: Sink>(desk: &L, sink: &mut K) -> Result<Answered, PutFault>
+pub(crate) fn put_status<L: Lookup, K: Sink>(desk: &L, sink: &mut K) -> Result<LineAnswer, PutFault>
     ensures { (M : Catalogue) → L.shows desk.now M → (failed : Bool) → PutsAnswer failed result (K.stream sink.old) (K.stream sink.new) (status_answer M) no_rows (L.is_closed desk.now) }
 {
     match count_items(desk) {

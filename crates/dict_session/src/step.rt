@@ -37,7 +37,7 @@ impl Course {
 
 // Whether a line got its answer, or the 420 line in its place.
 #[derive(Clone, Copy, Debug, PartialEq, Eq)]
-pub(crate) enum Answered {
+pub(crate) enum LineAnswer {
     Whole,
     Unavailable,
 }

@@ -11,7 +11,7 @@ use Rattle.sqlite.specs.State.{State, Executes}
 use Rattle.sqlite.proofs.Callers.{statement_of, runs_as}
 use Rattle.dict_tables.specs.Tables.{mark, item, member, edition, kept}
 use Rattle.dict_sql.specs.Inserts.{insert_mark, insert_item, insert_member, insert_kept}
-use Rattle.dict_records.specs.Records.{Mark, Item, Member, Kept}
+use Rattle.dict_records.specs.Records.{Mark, ItemRecord, Member, KeptRecord}
 use Rattle.dict_sql.specs.Encodings.{number_or_null, text_or_null, mark_row, item_row, member_row, kept_row}
 use Rattle.dict_sql.specs.Effects.{Has, IsAdded}
 use Rattle.dict_sql.proofs.InsertLemmas.{adds_chosen, adds_given, cast_int, cast_null}
@@ -44,7 +44,7 @@ adds_mark old new m count has h =
     adds_given old new at (codes "mark") tree (mark tree).columns (mark tree).key (mark tree).primary (mark tree).uniques (mark tree).orders has.2.named has.2.is mark_terms 5 (statement_of insert_mark (understood s insert_mark)) (mark_row m)
     (Int m.id ∷ Null ∷ Text m.magic ∷ Int m.version ∷ Int m.installs ∷ []) count refl m.id (Null ∷ Text m.magic ∷ Int m.version ∷ Int m.installs ∷ []) (mark_row m) refl (rw (cast_int m.version, cast_int m.installs) refl) w
 
-pub adds_item : (old new : State) (i : Item) (count : ℕ) → Has item old.now → Executes insert_item (item_row i) old new (Ok count) → IsAdded (codes "item") (item_row i) old.now new.now
+pub adds_item : (old new : State) (i : ItemRecord) (count : ℕ) → Has item old.now → Executes insert_item (item_row i) old new (Ok count) → IsAdded (codes "item") (item_row i) old.now new.now
 adds_item old new i count has h =
     let at = has.0 in
     let tree = has.1 in
@@ -62,7 +62,7 @@ adds_member old new m count has h =
     adds_chosen old new at (codes "member") tree (member tree).columns (member tree).key (member tree).primary (member tree).uniques (member tree).orders has.2.named has.2.is member_terms 4 (statement_of insert_member (understood s insert_member)) (member_row m)
     (Null ∷ Text m.owner ∷ Int m.ord ∷ Text m.name ∷ []) count refl (Text m.owner ∷ Int m.ord ∷ Text m.name ∷ []) (member_row m) refl (λ id. (rw (cast_int m.ord) refl)) w
 
-pub adds_kept : (old new : State) (k : Kept) (count : ℕ) → Has kept old.now → Executes insert_kept (kept_row k) old new (Ok count) → IsAdded (codes "kept") (kept_row k) old.now new.now
+pub adds_kept : (old new : State) (k : KeptRecord) (count : ℕ) → Has kept old.now → Executes insert_kept (kept_row k) old new (Ok count) → IsAdded (codes "kept") (kept_row k) old.now new.now
 adds_kept old new k count has h =
     let at = has.0 in
     let tree = has.1 in

@@ -14,7 +14,7 @@ use Rattle.sqlite_typing.specs.Types.{accepts_terms}
 use Rattle.sqlite_tied.specs.Compute.{everything}
 use Rattle.dict_tables.specs.Tables.{mark, item, member, edition, kept}
 use Rattle.dict_sql.specs.Inserts.{insert_mark, insert_item, insert_member, insert_kept}
-use Rattle.dict_records.specs.Records.{Mark, Item, Member, Kept}
+use Rattle.dict_records.specs.Records.{Mark, ItemRecord, Member, KeptRecord}
 use Rattle.dict_sql.specs.Encodings.{number_or_null, text_or_null, mark_row, item_row, member_row, kept_row}
 use Rattle.dict_sql.specs.Effects.{Has}
 use Rattle.dict_sql.specs.Refusals.{RefusesToAdd, IsTooBig}
@@ -70,7 +70,7 @@ whole_item : (length insert_item ≤ read_item.tail) × (6 ≡ length read_item.
 unfolding everything read_item
 whole_item = (lit≤ tt, refl)
 
-pub item_fails : (old new : State) (i : Item) (e : Error) → Has item old.now → ExecutesInside 0 insert_item (item_row i) old new (Err e)
+pub item_fails : (old new : State) (i : ItemRecord) (e : Error) → Has item old.now → ExecutesInside 0 insert_item (item_row i) old new (Err e)
     → (RefusesToAdd (codes "item") (item_row i) old e × IsUnchanged old new) ⊎ Fails old new (IsTooBig (codes "item") (item_row i) old.now) e
 item_fails old new i e has h =
     let at = has.0 in
@@ -102,7 +102,7 @@ whole_kept : (length insert_kept ≤ read_kept.tail) × (5 ≡ length read_kept.
 unfolding everything read_kept
 whole_kept = (lit≤ tt, refl)
 
-pub kept_fails : (old new : State) (k : Kept) (e : Error) → Has kept old.now → ExecutesInside 0 insert_kept (kept_row k) old new (Err e)
+pub kept_fails : (old new : State) (k : KeptRecord) (e : Error) → Has kept old.now → ExecutesInside 0 insert_kept (kept_row k) old new (Err e)
     → (RefusesToAdd (codes "kept") (kept_row k) old e × IsUnchanged old new) ⊎ Fails old new (IsTooBig (codes "kept") (kept_row k) old.now) e
 kept_fails old new k e has h =
     let at = has.0 in

@@ -32,7 +32,7 @@ use Rattle.sqlite_typing.specs.Types.{accepts_program}
 use Rattle.dict_tables.specs.Found.{HasTable}
 use Rattle.dict_tables.specs.Tables.{needed, edition}
 use Rattle.dict_sql.specs.Effects.{Has, rows_of, shown}
-use Rattle.dict_sql.specs.Reads.{IsNumbering, numbered, select_numbers}
+use Rattle.dict_sql.specs.Reads.{IsNumbering, rowid_and_number, select_numbers}
 use Rattle.dict_sql.proofs.DeleteLemmas.{column_expr, out_column, lower_column}
 use Rattle.dict_sql.proofs.ListingLemmas.{all_pass}
 use Rattle.dict_sql.proofs.QueryLemmas.{IsQuery, ShowsRow, command_with, TakesValues, read_rows, shown_answers}
@@ -150,7 +150,7 @@ pub takes_numbers : TakesValues select_numbers read_numbers edition numbers_of [
 unfolding everything read_numbers
 takes_numbers = record { whole = lit≤ tt; names = refl; typed = takes_any }
 
-shows_numbers : ShowsRow edition numbers_of (key_at 0 ∷ []) (0 ∷ []) (λ tree row. numbered (shown (edition tree) row))
+shows_numbers : ShowsRow edition numbers_of (key_at 0 ∷ []) (0 ∷ []) (λ tree row. rowid_and_number (shown (edition tree) row))
 unfolding everything
 shows_numbers = record { shows = λ at tree params r. refl; keyed = λ tree params r. refl; compares = λ a b. refl }
 
@@ -162,8 +162,8 @@ both f g (x ∷ xs) = ap (λ rest. f (g x) ∷ rest) (both f g xs)
 
 pub shows_numbering : (old new : State) (rows : List Row) → Has edition old.now → Shown select_numbers [] old new rows → IsNumbering old.now rows
 shows_numbering old new rows has h =
-    let it = shown_answers select_numbers read_numbers edition numbers_of [] (key_at 0 ∷ []) query_numbers (0 ∷ []) (λ tree row. numbered (shown (edition tree) row)) shows_numbers [] old new rows has h in
+    let it = shown_answers select_numbers read_numbers edition numbers_of [] (key_at 0 ∷ []) query_numbers (0 ∷ []) (λ tree row. rowid_and_number (shown (edition tree) row)) shows_numbers [] old new rows has h in
     let all = old.now.trees (edition has.1).tree in
-    let is : map (λ row. numbered (shown (edition has.1) row)) (filter (λ _. true) all) ≡ map numbered (rows_of (codes "edition") old.now) =
-    ap (map (λ row. numbered (shown (edition has.1) row))) (all_pass all) ∙ both numbered (shown (edition has.1)) all ∙ ap (map numbered) (sym (read_rows old.now.schema has.0 (edition has.1) has.2 old.now.trees)) in
+    let is : map (λ row. rowid_and_number (shown (edition has.1) row)) (filter (λ _. true) all) ≡ map rowid_and_number (rows_of (codes "edition") old.now) =
+    ap (map (λ row. rowid_and_number (shown (edition has.1) row))) (all_pass all) ∙ both rowid_and_number (shown (edition has.1)) all ∙ ap (map rowid_and_number) (sym (read_rows old.now.schema has.0 (edition has.1) has.2 old.now.trees)) in
     record { same = subst (λ l. IsPermutation l rows) is it.0.0; sorted = it.0.1 }

@@ -34,7 +34,7 @@ use Rattle.dict_sql.specs.declared.records.ReadError.{ReadError}
 use Rattle.dict_sql.specs.declared.records.ReadError.TheVariants.{NoRecord, Store}
 use Rattle.dict_sql.proofs.SilentLemmas.{commits_none, never_returns}
 use Rattle.dict_sql.specs.Reads.{IsListing, FailsToRead, FailsToList, FailsToDecode, FailsToDecodeAll, HasNoRecord, select_some_entries}
-use Rattle.dict_sql.specs.Streams.{Scan, scan_table, scan_text, scan_values, IsWhole, IsFront, HasGiven, GivesOn, Passes, FailsToGive, FailsToMove, IsNotBegun}
+use Rattle.dict_sql.specs.Streams.{Scan, scan_table, scan_text, scan_values, IsWhole, IsFront, HasGiven, GivesOn, PassesRow, FailsToGive, FailsToMove, IsNotBegun}
 use Rattle.dict_sql.specs.Streams.Scan.{AllEditions, AllEntries, EntriesOf, AllKept, KeptById, ByRowid, EditionNumbers}
 use Rattle.dict_sql.proofs.Callers.{still_has}
 use Rattle.dict_sql.proofs.ListLemmas.{passes}
@@ -152,7 +152,7 @@ module _ {S : Type 0} (g : Ghosts S) (what : Scan) where
   pub fails_to_advance : (old new : Held S) (given : List Row) (e : Error) → HasGiven g what old given → kit.FailsToAdvance g old new e → FailsToRead (state g old) (state g new) e
   fails_to_advance old new given e h failed = fails_to_read what (state g old) (state g new) (λ _. h.has) e (failed (scan_text what) (scan_values what) given h.runs)
 
-  pub fails_to_decode : (columns : List Content) (old new : Held S) (given : List Row) (row : Row) (e : ReadError) → Passes g what old new given row → FailsToDecode columns row e → FailsToGive g columns what old new given e
+  pub fails_to_decode : (columns : List Content) (old new : Held S) (given : List Row) (row : Row) (e : ReadError) → PassesRow g what old new given row → FailsToDecode columns row e → FailsToGive g columns what old new given e
   fails_to_decode columns old new given row NoRecord passed none = (row, passed, none)
   fails_to_decode columns old new given row (Store e) passed refused = inr (refused, row, passed)
 

@@ -17,14 +17,14 @@ abbrev pub IsNumber : Value → Type 0
 IsNumber v = (n : ℤ) × (v ≡ Int n)
 
 -- a text in UTF-8
-abbrev pub IsText : Value → Type 0
-IsText v = (t : List ℕ) × (v ≡ Words t) × IsUtf8 t
+abbrev pub IsTextValue : Value → Type 0
+IsTextValue v = (t : List ℕ) × (v ≡ Words t) × IsUtf8 t
 
 abbrev pub IsOf : Content → Value → Type 0
 IsOf Number v = IsNumber v
 IsOf NumberOrNull v = (v ≡ Null) ⊎ IsNumber v
-IsOf Name v = IsText v
-IsOf NameOrNull v = (v ≡ Null) ⊎ IsText v
+IsOf Name v = IsTextValue v
+IsOf NameOrNull v = (v ≡ Null) ⊎ IsTextValue v
 IsOf Octets v = (b : List ℕ) × (v ≡ Bytes b)
 
 -- the row has these columns and no others

@@ -4,8 +4,8 @@ use Rattle.std.specs.declared.alloc.Global.{Global}
 use Rattle.sqlite.specs.declared.types.Value.TheVariants.{Int, Text as Words, Blob as Bytes}
 use Rattle.sqlite.specs.Order.{Row}
 use Rattle.dict_records.specs.Keyed.{KeyedEntry, OldEntry, Piece, owned_keyed_entry, owned_old_entry, owned_word, owned_gram}
-use Rattle.dict_records.specs.Typed.{stored_as}
-use Rattle.dict_records.specs.declared.records.Stored.{Stored}
+use Rattle.dict_records.specs.Typed.{stored_row_as}
+use Rattle.dict_records.specs.declared.records.StoredRow.{StoredRow}
 use Rattle.dict_records.specs.declared.keyed as typed
 use Rattle.dict_sql.specs.Columns.{Content, Number, Name, Octets}
 use Rattle.dict_sql.specs.Encodings.{stored_row}
@@ -38,14 +38,14 @@ piece_columns = Number ∷ Number ∷ Octets ∷ Number ∷ []
 
 -- of a record that was read
 
-abbrev pub stored_keyed_entry : Stored (typed.KeyedEntry.KeyedEntry (String Global) (Vec ℕ Global)) → Row
-stored_keyed_entry r = stored_row keyed_entry_row (stored_as owned_keyed_entry r)
+abbrev pub stored_keyed_entry : StoredRow (typed.KeyedEntry.KeyedEntry (String Global) (Vec ℕ Global)) → Row
+stored_keyed_entry r = stored_row keyed_entry_row (stored_row_as owned_keyed_entry r)
 
-abbrev pub stored_old_entry : Stored (typed.OldEntry.OldEntry (String Global) (Vec ℕ Global)) → Row
-stored_old_entry r = stored_row old_entry_row (stored_as owned_old_entry r)
+abbrev pub stored_old_entry : StoredRow (typed.OldEntry.OldEntry (String Global) (Vec ℕ Global)) → Row
+stored_old_entry r = stored_row old_entry_row (stored_row_as owned_old_entry r)
 
-abbrev pub stored_word : Stored (typed.Word.Word (Vec ℕ Global)) → Row
-stored_word r = stored_row piece_row (stored_as owned_word r)
+abbrev pub stored_word : StoredRow (typed.WordRecord.WordRecord (Vec ℕ Global)) → Row
+stored_word r = stored_row piece_row (stored_row_as owned_word r)
 
-abbrev pub stored_gram : Stored (typed.Gram.Gram (Vec ℕ Global)) → Row
-stored_gram r = stored_row piece_row (stored_as owned_gram r)
+abbrev pub stored_gram : StoredRow (typed.Gram.Gram (Vec ℕ Global)) → Row
+stored_gram r = stored_row piece_row (stored_row_as owned_gram r)

@@ -62,12 +62,12 @@ pub record IsListing (name : List ℕ) (columns : List ℕ) (db : Database) (row
   pub sorted : IsSorted (by_columns columns) rows
 
 -- of the row of an edition, its rowid and its number
-abbrev pub numbered : Row → Row
-numbered r = column r 0 ∷ column r 1 ∷ []
+abbrev pub rowid_and_number : Row → Row
+rowid_and_number r = column r 0 ∷ column r 1 ∷ []
 
 -- the rowid and the number of each edition, and nothing else, in the order of the rowids
 pub record IsNumbering (db : Database) (rows : List Row) : Type 0 where
-  pub same : IsPermutation (map numbered (rows_of (codes "edition") db)) rows
+  pub same : IsPermutation (map rowid_and_number (rows_of (codes "edition") db)) rows
   pub sorted : IsSorted (by_columns (0 ∷ [])) rows
 
 abbrev pub select_one_edition : List ℕ

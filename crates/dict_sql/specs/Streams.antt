@@ -79,14 +79,14 @@ module _ {S : Type 0} (g : Ghosts S) where
   GivesOn what new given None = IsWhole what (state g new).now given
 
   -- the next row was taken, behind which the reading stands now
-  abbrev pub Passes : Scan → Held S → Held S → List Row → Row → Type 0
-  Passes what old new given row = IsUnchanged (state g old) (state g new) × HasGiven what new (given ++ row ∷ [])
+  abbrev pub PassesRow : Scan → Held S → Held S → List Row → Row → Type 0
+  PassesRow what old new given row = IsUnchanged (state g old) (state g new) × HasGiven what new (given ++ row ∷ [])
 
   -- The next row is no record; or memory was refused for its record; or the store failed or the limit was met, and nothing more is given.
   abbrev pub FailsToGive : List Content → Scan → Held S → Held S → List Row → ReadError → Type 0
-  FailsToGive columns what old new given NoRecord = (row : Row) × Passes what old new given row × ¬ HasColumns columns row
+  FailsToGive columns what old new given NoRecord = (row : Row) × PassesRow what old new given row × ¬ HasColumns columns row
   FailsToGive columns what old new given (Store e) =
-      (FailsToRead (state g old) (state g new) e × kit.IsEnded new) ⊎ ((e ≡ SqliteFailure OutOfMemory) × (row : Row) × Passes what old new given row)
+      (FailsToRead (state g old) (state g new) e × kit.IsEnded new) ⊎ ((e ≡ SqliteFailure OutOfMemory) × (row : Row) × PassesRow what old new given row)
 
   -- what a connection is left as where a scan does not begin
   pub record IsNotBegun {X : Type 0} (old : Held S) (result : Result X Error) (new : Held S) : Type 0 where

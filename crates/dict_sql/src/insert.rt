@@ -10,7 +10,7 @@ ghost use Rattle.dict_sql.specs.Effects.{Has, WhileOpen};
 ghost use Rattle.dict_sql.specs.Inserts.{Inserts, FailsToInsert};
 
 use crate::transaction::OpenTransaction;
-use dict_records::{Item, Kept, Mark, Member};
+use dict_records::{ItemRecord, KeptRecord, Mark, Member};
 use sqlite::{Alter, Error, params};
 
 /// Inserts the mark. It answers the count of written rows that `sqlite` reports.
@@ -36,7 +36,7 @@ pub fn insert_mark<S: Alter, T: OpenTransaction<S>>(
 /// Inserts an item of the list of databases. It answers the count of written rows that `sqlite` reports.
 pub fn insert_item<S: Alter, T: OpenTransaction<S>>(
     tx: &mut T,
-    given: &Item<&str>,
+    given: &ItemRecord<&str>,
 ) -> Result<usize, Error>
     requires { WhileOpen (state S.Store (T.held tx.old)) (Has item) }
     ensures same_reference { T.reference tx.new ≡ T.reference tx.old }
@@ -80,7 +80,7 @@ pub fn insert_member<S: Alter, T: OpenTransaction<S>>(
 /// Inserts a reply that is kept for its id. It answers the count of written rows that `sqlite` reports.
 pub fn insert_kept<S: Alter, T: OpenTransaction<S>>(
     tx: &mut T,
-    given: &Kept<&str>,
+    given: &KeptRecord<&str>,
 ) -> Result<usize, Error>
     requires { WhileOpen (state S.Store (T.held tx.old)) (Has kept) }
     ensures same_reference { T.reference tx.new ≡ T.reference tx.old }

@@ -8,7 +8,7 @@ ghost use Rattle.dict_sql.specs.Reads.{FailsToDecode};
 ghost use Rattle.dict_sql.specs.Keyed.{keyed_entry_row, keyed_entry_cells, keyed_entry_columns, old_entry_row, old_entry_cells, old_entry_columns, piece_columns, stored_keyed_entry, stored_old_entry, stored_word, stored_gram};
 
 use crate::records::{ReadError, Record, cell};
-use dict_records::{Gram, KeyedEntry, OldEntry, Stored, Word};
+use dict_records::{Gram, KeyedEntry, OldEntry, StoredRow, WordRecord};
 use sqlite::Row;
 
 // What stands behind the rowid, or that it is no entry.
@@ -30,7 +30,7 @@ fn keyed_entry(row: &Row) -> Result<KeyedEntry<String, Vec<u8>>, ReadError>
     })
 }
 
-impl Record for Stored<KeyedEntry<String, Vec<u8>>> {
+impl Record for StoredRow<KeyedEntry<String, Vec<u8>>> {
     ghost stored = { stored_keyed_entry };
 
     ghost columns = { keyed_entry_columns };
@@ -41,7 +41,7 @@ impl Record for Stored<KeyedEntry<String, Vec<u8>>> {
         }
         let rowid = cell(row, 0)?;
         let value = keyed_entry(row)?;
-        Ok(Stored { rowid, value })
+        Ok(StoredRow { rowid, value })
     }
 
     fn rowid(&self) -> i64 {
@@ -67,7 +67,7 @@ fn old_entry(row: &Row) -> Result<OldEntry<String, Vec<u8>>, ReadError>
     })
 }
 
-impl Record for Stored<OldEntry<String, Vec<u8>>> {
+impl Record for StoredRow<OldEntry<String, Vec<u8>>> {
     ghost stored = { stored_old_entry };
 
     ghost columns = { old_entry_columns };
@@ -78,7 +78,7 @@ impl Record for Stored<OldEntry<String, Vec<u8>>> {
         }
         let rowid = cell(row, 0)?;
         let value = old_entry(row)?;
-        Ok(Stored { rowid, value })
+        Ok(StoredRow { rowid, value })
     }
 
     fn rowid(&self) -> i64 {
@@ -86,7 +86,7 @@ impl Record for Stored<OldEntry<String, Vec<u8>>> {
     }
 }
 
-impl Record for Stored<Word<Vec<u8>>> {
+impl Record for StoredRow<WordRecord<Vec<u8>>> {
     ghost stored = { stored_word };
 
     ghost columns = { piece_columns };
@@ -95,9 +95,9 @@ impl Record for Stored<Word<Vec<u8>>> {
         if row.column_count() != 4 {
             return Err(ReadError::NoRecord);
         }
-        Ok(Stored {
+        Ok(StoredRow {
             rowid: cell(row, 0)?,
-            value: Word {
+            value: WordRecord {
                 edition: cell(row, 1)?,
                 word: cell(row, 2)?,
                 ord: cell(row, 3)?,
@@ -110,7 +110,7 @@ impl Record for Stored<Word<Vec<u8>>> {
     }
 }
 
-impl Record for Stored<Gram<Vec<u8>>> {
+impl Record for StoredRow<Gram<Vec<u8>>> {
     ghost stored = { stored_gram };
 
     ghost columns = { piece_columns };
@@ -119,7 +119,7 @@ impl Record for Stored<Gram<Vec<u8>>> {
         if row.column_count() != 4 {
             return Err(ReadError::NoRecord);
         }
-        Ok(Stored {
+        Ok(StoredRow {
             rowid: cell(row, 0)?,
             value: Gram {
                 edition: cell(row, 1)?,

@@ -10,7 +10,7 @@ ghost use Rattle.dict_sql.specs.Effects.{Has, WhileOpen, equals_number, equals_t
 ghost use Rattle.dict_sql.specs.Reads.{Lists, Selects, FailsToRead, FailsToList, FailsToDecodeAll};
 
 use crate::records::{ReadError, Record};
-use dict_records::{Edition, Item, Kept, Member, Stored};
+use dict_records::{EditionRecord, ItemRecord, KeptRecord, Member, StoredRow};
 use sqlite::{Alter, Connection, Error, Row, params};
 use std::alloc::Global;
 
@@ -41,7 +41,7 @@ fn item_rows<S: Alter>(conn: &mut Connection<S>) -> Result<Vec<Row>, Error>
 pub fn items<S: Alter>(
     alloc: Global,
     conn: &mut Connection<S>,
-) -> Result<Vec<Stored<Item<String>>>, ReadError>
+) -> Result<Vec<StoredRow<ItemRecord<String>>>, ReadError>
     requires { WhileOpen (state S.Store conn.old) (Has item) }
     ensures listed { HasCleanDisk (state S.Store conn.new) → IfOk result (λ all. Lists (codes "item") (1 ∷ []) (state S.Store conn.old) (state S.Store conn.new) (map stored_item all.items)) }
     ensures failed { HasCleanDisk (state S.Store conn.new) → IfErr result (FailsToList item_columns (rows_of (codes "item") (state S.Store conn.old).now) (state S.Store conn.old) (state S.Store conn.new)) }
@@ -66,7 +66,7 @@ fn member_rows<S: Alter>(conn: &mut Connection<S>) -> Result<Vec<Row>, Error>
 pub fn members<S: Alter>(
     alloc: Global,
     conn: &mut Connection<S>,
-) -> Result<Vec<Stored<Member<String>>>, ReadError>
+) -> Result<Vec<StoredRow<Member<String>>>, ReadError>
     requires { WhileOpen (state S.Store conn.old) (Has member) }
     ensures listed { HasCleanDisk (state S.Store conn.new) → IfOk result (λ all. Lists (codes "member") (1 ∷ 2 ∷ []) (state S.Store conn.old) (state S.Store conn.new) (map stored_member all.items)) }
     ensures failed { HasCleanDisk (state S.Store conn.new) → IfErr result (FailsToList member_columns (rows_of (codes "member") (state S.Store conn.old).now) (state S.Store conn.old) (state S.Store conn.new)) }
@@ -95,7 +95,7 @@ pub fn editions_numbered<S: Alter>(
     alloc: Global,
     conn: &mut Connection<S>,
     number: i64,
-) -> Result<Vec<Stored<Edition<String, Vec<u8>>>>, ReadError>
+) -> Result<Vec<StoredRow<EditionRecord<String, Vec<u8>>>>, ReadError>
     requires { WhileOpen (state S.Store conn.old) (Has edition_table) }
     ensures selected { HasCleanDisk (state S.Store conn.new) → IfOk result (λ all. Selects (codes "edition") (equals_number 1 number) (1 ∷ []) (state S.Store conn.old) (state S.Store conn.new) (map stored_edition all.items)) }
     ensures failed { HasCleanDisk (state S.Store conn.new) → IfErr result (FailsToList edition_columns (filter (equals_number 1 number) (rows_of (codes "edition") (state S.Store conn.old).now)) (state S.Store conn.old) (state S.Store conn.new)) }
@@ -124,7 +124,7 @@ pub fn kept_replies_of<S: Alter>(
     alloc: Global,
     conn: &mut Connection<S>,
     id: &str,
-) -> Result<Vec<Stored<Kept<String>>>, ReadError>
+) -> Result<Vec<StoredRow<KeptRecord<String>>>, ReadError>
     requires { WhileOpen (state S.Store conn.old) (Has kept) }
     ensures selected { HasCleanDisk (state S.Store conn.new) → IfOk result (λ all. Selects (codes "kept") (equals_text 1 id.now) (2 ∷ []) (state S.Store conn.old) (state S.Store conn.new) (map stored_kept all.items)) }
     ensures failed { HasCleanDisk (state S.Store conn.new) → IfErr result (FailsToList kept_columns (filter (equals_text 1 id.now) (rows_of (codes "kept") (state S.Store conn.old).now)) (state S.Store conn.old) (state S.Store conn.new)) }

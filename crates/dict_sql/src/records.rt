@@ -9,7 +9,7 @@ ghost use Rattle.dict_sql.specs.Encodings.{stored_mark, stored_item, stored_memb
 ghost use Rattle.dict_sql.specs.Columns.{Content, HasColumns, mark_columns, item_columns, member_columns, edition_columns, entry_columns, kept_columns, number_columns};
 ghost use Rattle.dict_sql.specs.Reads.{FailsToDecode};
 
-use dict_records::{Edition, Entry, Item, Kept, Mark, Member, Stored};
+use dict_records::{EditionRecord, EntryRecord, ItemRecord, KeptRecord, Mark, Member, StoredRow};
 use sqlite::types::FromSql;
 use sqlite::{Error, ErrorCode, Row};
 use std::alloc::{AllocError, AllocFailed};
@@ -111,7 +111,7 @@ pub(crate) fn cell<T: FromSql>(row: &Row, at: usize) -> Result<T, ReadError>
     }
 }
 
-impl Record for Stored<Mark<String>> {
+impl Record for StoredRow<Mark<String>> {
     ghost stored = { stored_mark };
 
     ghost columns = { mark_columns };
@@ -120,7 +120,7 @@ impl Record for Stored<Mark<String>> {
         if row.column_count() != 5 {
             return Err(ReadError::NoRecord);
         }
-        Ok(Stored {
+        Ok(StoredRow {
             rowid: cell(row, 0)?,
             value: Mark {
                 id: cell(row, 1)?,
@@ -136,7 +136,7 @@ impl Record for Stored<Mark<String>> {
     }
 }
 
-impl Record for Stored<Item<String>> {
+impl Record for StoredRow<ItemRecord<String>> {
     ghost stored = { stored_item };
 
     ghost columns = { item_columns };
@@ -145,9 +145,9 @@ impl Record for Stored<Item<String>> {
         if row.column_count() != 7 {
             return Err(ReadError::NoRecord);
         }
-        Ok(Stored {
+        Ok(StoredRow {
             rowid: cell(row, 0)?,
-            value: Item {
+            value: ItemRecord {
                 place: cell(row, 1)?,
                 name: cell(row, 2)?,
                 kind: cell(row, 3)?,
@@ -163,7 +163,7 @@ impl Record for Stored<Item<String>> {
     }
 }
 
-impl Record for Stored<Member<String>> {
+impl Record for StoredRow<Member<String>> {
     ghost stored = { stored_member };
 
     ghost columns = { member_columns };
@@ -172,7 +172,7 @@ impl Record for Stored<Member<String>> {
         if row.column_count() != 4 {
             return Err(ReadError::NoRecord);
         }
-        Ok(Stored {
+        Ok(StoredRow {
             rowid: cell(row, 0)?,
             value: Member {
                 owner: cell(row, 1)?,
@@ -187,7 +187,7 @@ impl Record for Stored<Member<String>> {
     }
 }
 
-impl Record for Stored<Edition<String, Vec<u8>>> {
+impl Record for StoredRow<EditionRecord<String, Vec<u8>>> {
     ghost stored = { stored_edition };
 
     ghost columns = { edition_columns };
@@ -196,9 +196,9 @@ impl Record for Stored<Edition<String, Vec<u8>>> {
         if row.column_count() != 6 {
             return Err(ReadError::NoRecord);
         }
-        Ok(Stored {
+        Ok(StoredRow {
             rowid: cell(row, 0)?,
-            value: Edition {
+            value: EditionRecord {
                 number: cell(row, 1)?,
                 owner: cell(row, 2)?,
                 title: cell(row, 3)?,
@@ -213,7 +213,7 @@ impl Record for Stored<Edition<String, Vec<u8>>> {
     }
 }
 
-impl Record for Stored<Entry<String>> {
+impl Record for StoredRow<EntryRecord<String>> {
     ghost stored = { stored_entry };
 
     ghost columns = { entry_columns };
@@ -222,9 +222,9 @@ impl Record for Stored<Entry<String>> {
         if row.column_count() != 6 {
             return Err(ReadError::NoRecord);
         }
-        Ok(Stored {
+        Ok(StoredRow {
             rowid: cell(row, 0)?,
-            value: Entry {
+            value: EntryRecord {
                 edition: cell(row, 1)?,
                 ord: cell(row, 2)?,
                 headword: cell(row, 3)?,
@@ -239,7 +239,7 @@ impl Record for Stored<Entry<String>> {
     }
 }
 
-impl Record for Stored<Kept<String>> {
+impl Record for StoredRow<KeptRecord<String>> {
     ghost stored = { stored_kept };
 
     ghost columns = { kept_columns };
@@ -248,9 +248,9 @@ impl Record for Stored<Kept<String>> {
         if row.column_count() != 6 {
             return Err(ReadError::NoRecord);
         }
-        Ok(Stored {
+        Ok(StoredRow {
             rowid: cell(row, 0)?,
-            value: Kept {
+            value: KeptRecord {
                 id: cell(row, 1)?,
                 number: cell(row, 2)?,
                 verb: cell(row, 3)?,
@@ -265,7 +265,7 @@ impl Record for Stored<Kept<String>> {
     }
 }
 
-impl Record for Stored<EditionNumber> {
+impl Record for StoredRow<EditionNumber> {
     ghost stored = { stored_number };
 
     ghost columns = { number_columns };
@@ -276,7 +276,7 @@ impl Record for Stored<EditionNumber> {
         }
         let rowid = cell(row, 0)?;
         let number = cell(row, 1)?;
-        Ok(Stored {
+        Ok(StoredRow {
             rowid,
             value: EditionNumber { number },
         })

@@ -14,7 +14,7 @@ use dict_edition_sql::{
     StoredHeader, create_header_table, delete_header, has_header_table, headers_numbered,
     infos_numbered, insert_header, next_header, read_headers_by_rowid,
 };
-use dict_records::Header;
+use dict_records::HeaderRecord;
 use dict_sql::records::ReadError;
 use dict_sql::transaction::{OpenTransaction, begin, commit_open};
 use dict_tables::{StoreTable, has_table, is_name_used, lacks_counting_table};
@@ -52,7 +52,7 @@ fn put<S: Alter, T: OpenTransaction<S>>(
     requires { WhileOpen (state S.Store (T.held tx.old)) (HasToRemove header) }
     ensures { OnOk result (WhileOpen (state S.Store (T.held tx.new)) (HasToRemove header)) }
 {
-    let row = Header {
+    let row = HeaderRecord {
         number,
         owner,
         title,

@@ -5,7 +5,7 @@ use crate::opened::open;
 use crate::rest::told_rest;
 use crate::texts::{compare_numbers, raw};
 use dict_older_sql::{drop_keyed_table, has_keyed_table, read_by_rowid, read_rows_of};
-use dict_records::{Gram, KeyedEntry, Stored, Word};
+use dict_records::{Gram, KeyedEntry, StoredRow, WordRecord};
 use dict_sql::records::ReadError;
 use dict_sql::transaction::commit_open;
 use dict_tables::{KeyedTable, is_name_used};
@@ -77,9 +77,9 @@ fn told_of<S: Alter>(
     table: KeyedTable,
 ) -> Result<String, ReadError> {
     match table {
-        KeyedTable::Entry => told_rest::<S, Stored<KeyedEntry<String, Vec<u8>>>>(alloc, rows),
-        KeyedTable::Word => told_rest::<S, Stored<Word<Vec<u8>>>>(alloc, rows),
-        KeyedTable::Gram => told_rest::<S, Stored<Gram<Vec<u8>>>>(alloc, rows),
+        KeyedTable::Entry => told_rest::<S, StoredRow<KeyedEntry<String, Vec<u8>>>>(alloc, rows),
+        KeyedTable::Word => told_rest::<S, StoredRow<WordRecord<Vec<u8>>>>(alloc, rows),
+        KeyedTable::Gram => told_rest::<S, StoredRow<Gram<Vec<u8>>>>(alloc, rows),
     }
 }
 

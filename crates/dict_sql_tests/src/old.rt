@@ -4,7 +4,7 @@ use crate::checks::same_text;
 use crate::rest::told_rest;
 use crate::texts::raw;
 use dict_older_sql::{has_old_entry, read_old_by_rowid, read_old_rows_of};
-use dict_records::{OldEntry, Stored};
+use dict_records::{OldEntry, StoredRow};
 use dict_sql::records::ReadError;
 use sqlite::{Alter, Connection, Error, Rows};
 use std::alloc::Global;
@@ -49,7 +49,7 @@ fn read<S: Alter>(
     edition: Option<i64>,
 ) -> Result<String, ReadError> {
     let mut rows = begin(conn, edition)?;
-    let told = told_rest::<S, Stored<OldEntry<String, Vec<u8>>>>(alloc, &mut rows);
+    let told = told_rest::<S, StoredRow<OldEntry<String, Vec<u8>>>>(alloc, &mut rows);
     drop(rows);
     told
 }

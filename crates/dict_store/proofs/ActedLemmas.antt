@@ -22,20 +22,20 @@ use Rattle.dict_catalogue.specs.declared.fault.CommandRefusal.{CommandRefusal}
 use Rattle.dict_commands.specs.Answers.{summary_after}
 use Rattle.dict_commands.specs.Filing.{rested}
 use Rattle.dict_commands.specs.Installed.{HasInstalled, HasTextOf}
-use Rattle.dict_commands.specs.Kept.{KeepsTexts}
+use Rattle.dict_commands.specs.KeptRecords.{KeepsTextRows}
 use Rattle.dict_commands.specs.declared.applied.Applied.{Applied}
 use Rattle.dict_commands.specs.declared.applied.Applied.TheVariants.{Repeated, Done}
 use Rattle.dict_desk.specs.declared.fault.Fault.{Fault}
 use Rattle.dict_holdings.specs.Holds.{Holds, Rests}
 use Rattle.dict_lookup.specs.Indexes.{entries_under}
-use Rattle.dict_lookup.specs.Texts.{ArePartsOf, AreMade}
-use Rattle.dict_lookup.specs.KeptTexts.{Key}
+use Rattle.dict_lookup.specs.Texts.{ArePartsOf, AreOfInstalls}
+use Rattle.dict_lookup.specs.KeptTexts.{PartNumbers}
 use Rattle.dict_rows.specs.Versions.{known}
 use Rattle.dict_search.specs.Entries.{Indexed}
 use Rattle.dict_store.specs.Applied.{AppliesOver}
-use Rattle.dict_store.specs.Desk.{DeskState, IsServed, AreServed, Shows, is_closed, last_by}
-use Rattle.dict_store.specs.Indexed.{HasPut, HasSettled, index_coming}
-use Rattle.dict_store.specs.Kept.{texts_after}
+use Rattle.dict_store.specs.Desk.{DeskState, ServesEdition, ServesEditions, Shows, is_closed, last_by}
+use Rattle.dict_store.specs.Indexed.{HasPutIfSome, HasSettled, index_coming}
+use Rattle.dict_store.specs.KeptParts.{texts_after}
 use Rattle.dict_store.specs.declared.last.LastCall.{LastCall}
 use Rattle.dict_store.specs.declared.last.LastCall.TheVariants.{Fine}
 use Rattle.dict_store.proofs.DeskLemmas.{parts_after}
@@ -67,8 +67,8 @@ record_at (PutVirtual name title members) installs n db is there = tt
 record_at (Place name at) installs n db is there = tt
 
 module _ {S : Type 0} (g : Ghosts S) (old new : Held S) (summary : Holdings (List ℕ)) (before : LastCall) (id : List ℕ) (typed : Typed) (open_before : is_closed before ≡ false)
-    (indexes mid settled : List (ℕ × List Indexed)) (kept texts : List (Key × List ℕ)) (made : AreMade summary.installs kept)
-    (number : ℕ) (next : number ≡ min (summary.installs + 1) (2 ^ 64 - 1)) (put : HasPut number (index_coming typed) indexes mid) (M : Catalogue)
+    (indexes mid settled : List (ℕ × List Indexed)) (kept texts : List (PartNumbers × List ℕ)) (made : AreOfInstalls summary.installs kept)
+    (number : ℕ) (next : number ≡ min (summary.installs + 1) (2 ^ 64 - 1)) (put : HasPutIfSome number (index_coming typed) indexes mid) (M : Catalogue)
     (shown : Shows g (record { conn = old; summary = summary; last = before; indexes = indexes; texts = kept }) M) (clean : HasCleanDisk (state g new)) (first : HasCleanDisk (state g old)) where
   abbrev was : DeskState S
   was = record { conn = old; summary = summary; last = before; indexes = indexes; texts = kept }
@@ -79,11 +79,11 @@ module _ {S : Type 0} (g : Ghosts S) (old new : Held S) (summary : Holdings (Lis
   number_is : number ≡ M.installs + 1
   number_is = next_number M shown.well_formed number (next ∙ ap (λ (n : ℕ). min (n + 1) (2 ^ 64 - 1)) installs_is)
 
-  put_next : HasPut (M.installs + 1) (index_coming typed) indexes mid
-  put_next = subst (λ (n : ℕ). HasPut n (index_coming typed) indexes mid) number_is put
+  put_next : HasPutIfSome (M.installs + 1) (index_coming typed) indexes mid
+  put_next = subst (λ (n : ℕ). HasPutIfSome n (index_coming typed) indexes mid) number_is put
 
-  made_next : AreMade M.installs kept
-  made_next = subst (λ (n : ℕ). AreMade n kept) installs_is made
+  made_next : AreOfInstalls M.installs kept
+  made_next = subst (λ (n : ℕ). AreOfInstalls n kept) installs_is made
 
   abbrev then_by : Holdings (List ℕ) → LastCall → DeskState S
   then_by after last = record { conn = new; summary = after; last = last; indexes = settled; texts = texts }
@@ -91,22 +91,22 @@ module _ {S : Type 0} (g : Ghosts S) (old new : Held S) (summary : Holdings (Lis
   -- it failed, or was refused
   failed_served : (fault : Fault) → (IsTrue (state g new).is_open → IsTrue (state g old).is_open) → (IsTrue (state g new).is_open → (state g new).committed ≡ (state g old).committed)
       → HasSettled number (Err fault) mid settled → texts ≡ texts_after (last_by {T = Applied} (Err fault)) kept
-      → AreServed g (then_by summary (last_by {T = Applied} (Err fault))) M
+      → ServesEditions g (then_by summary (last_by {T = Applied} (Err fault))) M
   failed_served fault lives stays goes is =
       all_stay g was new typed mid settled M shown.well_formed put_next (then_by summary (last_by {T = Applied} (Err fault))) (λ _. open_before) lives stays (λ q apart. goes q (λ e. apart (e ∙ number_is)))
       (λ stored one. subst (ArePartsOf stored.number one.text) (sym is) (parts_after (last_by {T = Applied} (Err fault)) stored.number one.text kept one.kept)) (shown.served first)
 
   module _ (over_lives : IsTrue (state g new).is_open → IsTrue (state g old).is_open) where
     -- its reply was kept
-    repeated_served : Holds known (state g new).committed M → KeepsTexts summary.installs (edition_numbers summary.items) (state g old).committed (state g new).committed
+    repeated_served : Holds known (state g new).committed M → KeepsTextRows summary.installs (edition_numbers summary.items) (state g old).committed (state g new).committed
         → ((q : ℕ) → q ≢ number → entries_under q settled ≡ entries_under q mid) → texts ≡ kept
-        → AreServed g (then_by summary Fine) M
+        → ServesEditions g (then_by summary Fine) M
     repeated_served holds stay goes is =
-        subst (λ (t : List (Key × List ℕ)). AreServed g (record { conn = new; summary = summary; last = Fine; indexes = settled; texts = t }) M) (sym is)
+        subst (λ (t : List (PartNumbers × List ℕ)). ServesEditions g (record { conn = new; summary = summary; last = Fine; indexes = settled; texts = t }) M) (sym is)
         (all_then g was new typed mid settled M shown.well_formed put_next made_next summary open_before over_lives M holds
-        (each_both (IsServed g was) (λ (stored : Stored Edition). stored.number ≤ M.installs) (Is g was new typed mid settled M shown.well_formed put_next)
+        (each_both (ServesEdition g was) (λ (stored : Stored Edition). stored.number ≤ M.installs) (Is g was new typed mid settled M shown.well_formed put_next)
         (λ stored a b. stays_is g was new typed mid settled M shown.well_formed put_next stored a b) M.items (shown.served first) (each_low M shown.well_formed))
-        (texts_stay M summary (sym shown.summary) M.installs (state g old).committed (state g new).committed (subst (λ (n : ℕ). KeepsTexts n (edition_numbers summary.items) (state g old).committed (state g new).committed) installs_is stay))
+        (texts_stay M summary (sym shown.summary) M.installs (state g old).committed (state g new).committed (subst (λ (n : ℕ). KeepsTextRows n (edition_numbers summary.items) (state g old).committed (state g new).committed) installs_is stay))
         (each_both (λ (stored : Stored Edition). stored.number ≤ M.installs) (λ (stored : Stored Edition). stored.number ≤ M.installs) (λ (stored : Stored Edition). entries_under stored.number settled ≡ entries_under stored.number mid)
         (λ stored low _. goes stored.number (λ e. let no : ⊥ = omega (arith, low, e, number_is) in no)) M.items (each_low M shown.well_formed) (each_low M shown.well_formed)))
 
@@ -116,17 +116,17 @@ module _ {S : Type 0} (g : Ghosts S) (old new : Held S) (summary : Holdings (Lis
     -- it acted
     done_served : (after : Summary) (reply : Kept) → kept_under M.kept id ≡ None → outcome.reply ≡ accepted (kept_shown reply) → summary_of outcome.catalogue ≡ summary_shown after
         → Holds known (state g new).committed outcome.catalogue → HasTextOf typed after.installs (state g new).committed
-        → KeepsTexts summary.installs (edition_numbers (summary_shown after).items) (state g old).committed (state g new).committed → HasSettled number (Ok (Done reply after)) mid settled
-        → texts ≡ kept → AreServed g (then_by (summary_shown after) Fine) outcome.catalogue
+        → KeepsTextRows summary.installs (edition_numbers (summary_shown after).items) (state g old).committed (state g new).committed → HasSettled number (Ok (Done reply after)) mid settled
+        → texts ≡ kept → ServesEditions g (then_by (summary_shown after) Fine) outcome.catalogue
     done_served after reply free told sums holds there stay goes is =
         let did : outcome.catalogue ≡ with_effect M id (command_meant typed) = acted M id (command_meant typed) (kept_shown reply) free told in
         let installs : after.installs ≡ installs_after (command_meant typed) M.installs = ap (λ (h : Holdings (List ℕ)). h.installs) (sym sums) ∙ ap (λ (c : Catalogue). c.installs) did in
-        subst (λ (t : List (Key × List ℕ)). AreServed g (record { conn = new; summary = summary_shown after; last = Fine; indexes = settled; texts = t }) outcome.catalogue) (sym is)
+        subst (λ (t : List (PartNumbers × List ℕ)). ServesEditions g (record { conn = new; summary = summary_shown after; last = Fine; indexes = settled; texts = t }) outcome.catalogue) (sym is)
         (all_then g was new typed mid settled M shown.well_formed put_next made_next (summary_shown after) open_before over_lives outcome.catalogue holds
         (subst (λ (c : Catalogue). AllByRecursion (λ item. AllByRecursion (Is g was new typed mid settled M shown.well_formed put_next) (editions_of item)) c.items) (sym did)
         (all_is g was new typed mid settled M shown.well_formed put_next id (record_at typed M.installs after.installs (state g new).committed installs there) (shown.served first)))
         (texts_stay outcome.catalogue (summary_shown after) sums M.installs (state g old).committed (state g new).committed
-        (subst (λ (n : ℕ). KeepsTexts n (edition_numbers (summary_shown after).items) (state g old).committed (state g new).committed) installs_is stay))
+        (subst (λ (n : ℕ). KeepsTextRows n (edition_numbers (summary_shown after).items) (state g old).committed (state g new).committed) installs_is stay))
         (each_numbered (λ n. entries_under n settled ≡ entries_under n mid) outcome.catalogue after sums goes))
 
   live_before : {A : Type 0} (b : Bool) → (state g old).is_open ≡ b → (IsTrue (state g old).is_open → A) → ((state g old).is_open ≡ false → ⊥) → A
@@ -138,7 +138,7 @@ module _ {S : Type 0} (g : Ghosts S) (old new : Held S) (summary : Holdings (Lis
 
   pub served_by : (result : Result Applied Fault) → AppliesOver g summary id (command_meant typed) old new result → HasSettled number result mid settled → texts ≡ texts_after (last_by result) kept
       → (IsTrue (state g new).is_open → HasInstalled typed result (state g new).committed)
-      → (IsTrue (state g new).is_open → OnErr result ((state g new).committed ≡ (state g old).committed)) → AreServed g (then_by (summary_after summary result) (last_by result)) (catalogue_by M (step M id (command_meant typed)) result)
+      → (IsTrue (state g new).is_open → OnErr result ((state g new).committed ≡ (state g old).committed)) → ServesEditions g (then_by (summary_after summary result) (last_by result)) (catalogue_by M (step M id (command_meant typed)) result)
   served_by (Ok (Repeated reply)) over goes is installed stays =
       live_before (state g old).is_open refl
       (λ live. let rests = (over.value clean M (rests_before live) (sym shown.summary)).2 in repeated_served (over.lives clean) rests.holds (over.above clean rests.is_open) goes is) (λ dead. over.shut clean dead)

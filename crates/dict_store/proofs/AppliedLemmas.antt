@@ -20,7 +20,7 @@ use Rattle.dict_desk.specs.declared.fault.Fault.TheVariants.{Refused, Memory, Di
 use Rattle.dict_rows.specs.Versions.{known}
 use Rattle.dict_holdings.specs.Holds.{Holds, Rests, IsLeftAs}
 use Rattle.dict_commands.specs.Committed.{IsTreesOf}
-use Rattle.dict_commands.specs.Kept.{KeepsTexts, SparesOthers}
+use Rattle.dict_commands.specs.KeptRecords.{KeepsTextRows, SparesTablesOfOthers}
 use Rattle.dict_commands.specs.Changes.{IsInRange}
 use Rattle.dict_commands.specs.Filing.{rested}
 use Rattle.dict_commands.specs.Finishing.{IsAppliedOver, IsFinished, FailsToApplyFiled}
@@ -94,9 +94,9 @@ module _ {S : Type 0} (g : Ghosts S) (summary : Holdings (List ℕ)) (id : List 
         → (has_written result ≡ false → Survives (state g old) (state g new) (λ _. ⊥))
         → (HasCleanDisk (state g new) → (state g old).is_open ≡ false → IsOfShut id result)
         → (HasCleanDisk (state g new) → IfErr result (λ fault. is_failure fault ≡ true → FailsToApply g summary id command old new fault))
-        → (HasCleanDisk (state g new) → OnOk result (KeepsTexts summary.installs (numbers_after summary result) (state g old).now (state g new).now))
+        → (HasCleanDisk (state g new) → OnOk result (KeepsTextRows summary.installs (numbers_after summary result) (state g old).now (state g new).now))
         → (HasCleanDisk (state g new) → IfErr result (λ fault. is_failure fault ≡ false → (state g new).now ≡ (state g old).now))
-        → (HasCleanDisk (state g new) → OnOk result (SparesOthers (state g old).now (state g new).now)) → Survives (state g old) (state g new) (IsTreesOf (SparesOthers (state g old).now))
+        → (HasCleanDisk (state g new) → OnOk result (SparesTablesOfOthers (state g old).now (state g new).now)) → Survives (state g old) (state g new) (IsTreesOf (SparesTablesOfOthers (state g old).now))
         → summary.installs ≤ (summary_after summary result).installs → IfErr result IsOfApply → IsInRange (summary_after summary result) → new.in_transaction ≡ false → AppliesOver g summary id command old new result
     applied_alone value spares shut failed above refused others beside grows kinds range ended = record {
       value = λ clean M rests is. answers_rested (state g new) M id (step M id command) result (value clean M (rests_before clean M rests) is);
@@ -106,12 +106,12 @@ module _ {S : Type 0} (g : Ghosts S) (summary : Holdings (List ℕ)) (id : List 
       lives = lives;
       failed = λ clean. err_weaker (λ fault. is_failure fault ≡ true → FailsToApply g summary id command old new fault) (λ fault. is_failure fault ≡ true → FailsToApplyOver g summary id command old new fault) result
           (λ fault h failure. inl (none, h failure)) (failed clean);
-      above = λ clean live. as_committed (λ (a b : Database). OnOk result (KeepsTexts summary.installs (numbers_after summary result) a b)) clean live (above clean);
-      others = λ clean live. as_committed (λ (a b : Database). OnOk result (SparesOthers a b)) clean live (others clean);
-      beside = survives_weaker (state g old) (state g new) (λ trees. Left (Rests known (state g old)) trees × IsTreesOf (SparesOthers (state g old).now) trees)
-          (λ trees. IsTrue (state g old).is_open × IsTreesOf (SparesOthers (state g old).committed) trees)
-          (λ clean trees h. (h.0.0, subst (λ (db : Database). IsTreesOf (SparesOthers db) trees) (settled (first clean) h.0.0 none) h.1))
-          (both_left (state g old) (state g new) (Left (Rests known (state g old))) (IsTreesOf (SparesOthers (state g old).now)) crash beside);
+      above = λ clean live. as_committed (λ (a b : Database). OnOk result (KeepsTextRows summary.installs (numbers_after summary result) a b)) clean live (above clean);
+      others = λ clean live. as_committed (λ (a b : Database). OnOk result (SparesTablesOfOthers a b)) clean live (others clean);
+      beside = survives_weaker (state g old) (state g new) (λ trees. Left (Rests known (state g old)) trees × IsTreesOf (SparesTablesOfOthers (state g old).now) trees)
+          (λ trees. IsTrue (state g old).is_open × IsTreesOf (SparesTablesOfOthers (state g old).committed) trees)
+          (λ clean trees h. (h.0.0, subst (λ (db : Database). IsTreesOf (SparesTablesOfOthers db) trees) (settled (first clean) h.0.0 none) h.1))
+          (both_left (state g old) (state g new) (Left (Rests known (state g old))) (IsTreesOf (SparesTablesOfOthers (state g old).now)) crash beside);
       refused = λ clean live. as_committed (λ (a b : Database). IfErr result (λ fault. is_failure fault ≡ false → b ≡ a)) clean live (refused clean);
       grows = grows;
       kinds = kinds;
@@ -158,10 +158,10 @@ module _ {S : Type 0} (g : Ghosts S) (summary : Holdings (List ℕ)) (id : List 
       shut = λ clean shut. subst (IsOfShut id) (sym told) (other, refl);
       lives = λ clean live. subst (λ (h : Held S). IsTrue (state g h).is_open) same live;
       failed = fails;
-      above = λ clean live. subst (λ (r : Result Applied Fault). OnOk r (KeepsTexts summary.installs (numbers_after summary r) (state g old).committed (state g new).committed)) (sym told) tt;
-      others = λ clean live. subst (λ (r : Result Applied Fault). OnOk r (SparesOthers (state g old).committed (state g new).committed)) (sym told) tt;
-      beside = subst (λ (h : Held S). Survives (state g old) (state g h) (λ trees. IsTrue (state g old).is_open × IsTreesOf (SparesOthers (state g old).committed) trees)) (sym same)
-          (survives_itself (state g old) (λ trees. IsTrue (state g old).is_open × IsTreesOf (SparesOthers (state g old).committed) trees));
+      above = λ clean live. subst (λ (r : Result Applied Fault). OnOk r (KeepsTextRows summary.installs (numbers_after summary r) (state g old).committed (state g new).committed)) (sym told) tt;
+      others = λ clean live. subst (λ (r : Result Applied Fault). OnOk r (SparesTablesOfOthers (state g old).committed (state g new).committed)) (sym told) tt;
+      beside = subst (λ (h : Held S). Survives (state g old) (state g h) (λ trees. IsTrue (state g old).is_open × IsTreesOf (SparesTablesOfOthers (state g old).committed) trees)) (sym same)
+          (survives_itself (state g old) (λ trees. IsTrue (state g old).is_open × IsTreesOf (SparesTablesOfOthers (state g old).committed) trees));
       refused = λ clean live. subst (λ (r : Result Applied Fault). IfErr r (λ fault. is_failure fault ≡ false → (state g new).committed ≡ (state g old).committed)) (sym told) (λ _. ap (λ (h : Held S). (state g h).committed) same);
       grows = subst (λ (r : Result Applied Fault). summary.installs ≤ (summary_after summary r).installs) (sym told) (omega arith);
       kinds = subst (λ (r : Result Applied Fault). IfErr r IsOfApply) (sym told) tt;
@@ -191,7 +191,7 @@ applied_never g summary id command h never range = record {
   failed = λ clean. absurd (never clean);
   above = λ clean live. tt;
   others = λ clean live. tt;
-  beside = survives_itself (state g h) (λ trees. IsTrue (state g h).is_open × IsTreesOf (SparesOthers (state g h).committed) trees);
+  beside = survives_itself (state g h) (λ trees. IsTrue (state g h).is_open × IsTreesOf (SparesTablesOfOthers (state g h).committed) trees);
   refused = λ clean live. absurd (never clean);
   grows = omega arith;
   kinds = tt;

@@ -16,7 +16,7 @@ use Rattle.dict_desk.specs.Faults.{is_failure}
 use Rattle.dict_desk.specs.declared.fault.Fault.{Fault}
 use Rattle.dict_desk.specs.declared.fault.Fault.TheVariants.{Refused, Memory, Disk, Closed, NotACatalogue, Damaged, NewerSchema}
 use Rattle.dict_rows.specs.Versions.{known}
-use Rattle.dict_holdings.specs.Faults.{fault_of, IsUnread, FailsToLookUp}
+use Rattle.dict_holdings.specs.Faults.{fault_of, IsUnreadCatalogue, FailsToReadCatalogue}
 use Rattle.dict_holdings.specs.Holds.{Holds}
 use Rattle.dict_lookup.specs.Searches as search
 use Rattle.dict_lookup.specs.Searches.{IsOfStore}
@@ -26,7 +26,7 @@ use Rattle.dict_commands.specs.declared.filing.Filing.{Filing}
 use Rattle.dict_commands.specs.declared.applied.Applied.{Applied}
 use Rattle.dict_commands.specs.declared.applied.Applied.TheVariants.{Repeated, Done}
 use Rattle.dict_search.specs.Entries.{Indexed}
-use Rattle.dict_lookup.specs.KeptTexts.{Key}
+use Rattle.dict_lookup.specs.KeptTexts.{PartNumbers}
 use Rattle.dict_store.specs.Desk.{DeskState, IsAtRest, is_closed, reply_of}
 use Rattle.dict_store.specs.Causes.{GivesWay, FailsToApplyOver, FailsToApplyTo}
 use Rattle.dict_store.specs.Prepared.{IsAlike, Undoes}
@@ -37,24 +37,24 @@ no_limit limit is some = false≢true (sym (ap is_some is) ∙ some)
 
 -- a lookup, or a reading of a kept reply, behind what was undone of what was prepared
 module _ {S : Type 0} (g : Ghosts S) (first : DeskState S) (old new : Held S) (summary : Holdings (List ℕ)) (filing : Option Filing) (indexes : List (ℕ × List Indexed))
-    (texts : List (Key × List ℕ)) (before after : LastCall) (open_before : is_closed before ≡ false) (rest : IsAtRest g before summary filing old)
+    (texts : List (PartNumbers × List ℕ)) (before after : LastCall) (open_before : is_closed before ≡ false) (rest : IsAtRest g before summary filing old)
     (survives : Survives (state g old) (state g new) (λ _. ⊥)) (undone : HasCleanDisk (state g new) → Undoes g first.conn old) where
   -- what an open desk has committed is a catalogue's, and it has no limit on steps
   read_holds : HasCleanDisk (state g new) → IsUnchanged (state g old) (state g new) → (M : Catalogue) × Holds known (state g old).committed M
   read_holds clean same = let it = rest.holds open_before (omega (arith, survives.clean)) same.0.was_open in (it.0, it.1)
 
-  reply_read : old.in_transaction ≡ false → HasCleanDisk (state g new) → IsUnchanged (state g old) (state g new) → IsUnread (state g old) Disk → ⊥
+  reply_read : old.in_transaction ≡ false → HasCleanDisk (state g new) → IsUnchanged (state g old) (state g new) → IsUnreadCatalogue (state g old) Disk → ⊥
   reply_read alone clean same (inl limited) = no_limit old.step_limit rest.limit limited
   reply_read alone clean same (inr none) =
       let it = read_holds clean same in
       none it.0 (subst (λ (db : Database). Holds known db it.0) (sym (rest.settled open_before (omega (arith, survives.clean)) same.0.was_open alone)) it.1)
 
   rows_read : (number : ℕ) → (HasCleanDisk (state g old) → IsTrue (state g old).is_open → IsAlike number (state g old).committed (state g old).now) → HasCleanDisk (state g new) → IsUnchanged (state g old) (state g new)
-      → search.IsUnread (search.column_of number) (state g old) Disk → ⊥
+      → search.IsUnreadEdition (search.number_in_column number) (state g old) Disk → ⊥
   rows_read number alike clean same (inl limited) = no_limit old.step_limit rest.limit limited
   rows_read number alike clean same (inr unreadable) =
       let it = read_holds clean same in
-      unreadable ((alike (omega (arith, survives.clean)) same.0.was_open).readable (held_readable (state g old).committed it.0 (search.column_of number) it.1))
+      unreadable ((alike (omega (arith, survives.clean)) same.0.was_open).readable (held_readable (state g old).committed it.0 (search.number_in_column number) it.1))
 
   -- why it isn't read, where its store doesn't fail
   module _ (Why : Fault → Type 0) (never : HasCleanDisk (state g new) → IsUnchanged (state g old) (state g new) → Why Disk → ⊥) where
@@ -77,25 +77,25 @@ module _ {S : Type 0} (g : Ghosts S) (first : DeskState S) (old new : Held S) (s
     gives_for (Err fault) kind failed clean = fails_for clean fault kind (failed clean)
 
   pub lookup_gives_way : {T : Type 0} (number : ℕ) → (HasCleanDisk (state g old) → IsTrue (state g old).is_open → IsAlike number (state g old).committed (state g old).now) → (result : Result T Fault) → IfErr result IsOfStore
-      → (HasCleanDisk (state g new) → IfErr result (search.FailsToLookUp (search.column_of number) (state g old) (state g new)))
+      → (HasCleanDisk (state g new) → IfErr result (search.FailsToLookUp (search.number_in_column number) (state g old) (state g new)))
       → HasCleanDisk (state g new) → IfErr result (GivesWay g first (record { conn = new; summary = summary; last = after; indexes = indexes; texts = texts }))
-  lookup_gives_way number alike result kind failed = gives_for (search.IsUnread (search.column_of number) (state g old)) (rows_read number alike) result kind failed
+  lookup_gives_way number alike result kind failed = gives_for (search.IsUnreadEdition (search.number_in_column number) (state g old)) (rows_read number alike) result kind failed
 
   -- and of a lookup that asks the store for a text at most
   found_for : (number : ℕ) → (HasCleanDisk (state g old) → IsTrue (state g old).is_open → IsAlike number (state g old).committed (state g old).now) → HasCleanDisk (state g new) → (fault : Fault) → IsOfStore fault
-      → ((fault ≡ Memory) × (new ≡ old)) ⊎ search.FailsToLookUp (search.column_of number) (state g old) (state g new) fault → GivesWay g first (record { conn = new; summary = summary; last = after; indexes = indexes; texts = texts }) fault
+      → ((fault ≡ Memory) × (new ≡ old)) ⊎ search.FailsToLookUp (search.number_in_column number) (state g old) (state g new) fault → GivesWay g first (record { conn = new; summary = summary; last = after; indexes = indexes; texts = texts }) fault
   found_for number alike clean fault kind (inl h) = subst (GivesWay g first (record { conn = new; summary = summary; last = after; indexes = indexes; texts = texts })) (sym h.0) (old, undone clean, inl h.1)
-  found_for number alike clean fault kind (inr h) = fails_for (search.IsUnread (search.column_of number) (state g old)) (rows_read number alike) clean fault kind h
+  found_for number alike clean fault kind (inr h) = fails_for (search.IsUnreadEdition (search.number_in_column number) (state g old)) (rows_read number alike) clean fault kind h
 
   pub found_gives_way : {T : Type 0} (number : ℕ) → (HasCleanDisk (state g old) → IsTrue (state g old).is_open → IsAlike number (state g old).committed (state g old).now) → (result : Result T Fault) → IfErr result IsOfStore
-      → (HasCleanDisk (state g new) → IfErr result (λ fault. ((fault ≡ Memory) × (new ≡ old)) ⊎ search.FailsToLookUp (search.column_of number) (state g old) (state g new) fault))
+      → (HasCleanDisk (state g new) → IfErr result (λ fault. ((fault ≡ Memory) × (new ≡ old)) ⊎ search.FailsToLookUp (search.number_in_column number) (state g old) (state g new) fault))
       → HasCleanDisk (state g new) → IfErr result (GivesWay g first (record { conn = new; summary = summary; last = after; indexes = indexes; texts = texts }))
   found_gives_way number alike (Ok value) kind failed clean = tt
   found_gives_way number alike (Err fault) kind failed clean = found_for number alike clean fault kind (failed clean)
 
-  pub reply_gives_way : {T : Type 0} → old.in_transaction ≡ false → (result : Result T Fault) → IfErr result IsOfStore → (HasCleanDisk (state g new) → IfErr result (FailsToLookUp (state g old) (state g new)))
+  pub reply_gives_way : {T : Type 0} → old.in_transaction ≡ false → (result : Result T Fault) → IfErr result IsOfStore → (HasCleanDisk (state g new) → IfErr result (FailsToReadCatalogue (state g old) (state g new)))
       → HasCleanDisk (state g new) → IfErr result (GivesWay g first (record { conn = new; summary = summary; last = after; indexes = indexes; texts = texts }))
-  reply_gives_way alone result kind failed = gives_for (IsUnread (state g old)) (reply_read alone) result kind failed
+  reply_gives_way alone result kind failed = gives_for (IsUnreadCatalogue (state g old)) (reply_read alone) result kind failed
 
 -- a desk that was closed is as it was
 pub closed_gives_way : {S : Type 0} (g : Ghosts S) (old new : DeskState S) (fault : Fault) → (fault ≡ Closed) × (is_closed old.last ≡ true) × (new ≡ old) → GivesWay g old new fault

@@ -24,10 +24,10 @@ use Rattle.dict_store.specs.Desk.{DeskState, LeavesOneOf, Shows, is_closed}
 use Rattle.dict_store.specs.declared.last.LastCall.{LastCall}
 use Rattle.std.proofs.Common.{ℕ}
 use Rattle.dict_holdings.proofs.OneLemmas.{held_known}
-use Rattle.dict_lookup.specs.KeptTexts.{Key}
+use Rattle.dict_lookup.specs.KeptTexts.{PartNumbers}
 
 -- what is shown is committed
-pub committed_holds : {S : Type 0} (g : store.Ghosts S) (conn : Held S) (summary : Holdings (List ℕ)) (last : LastCall) (indexes : List (ℕ × List Indexed)) (texts : List (Key × List ℕ)) → IsLive (state g conn)
+pub committed_holds : {S : Type 0} (g : store.Ghosts S) (conn : Held S) (summary : Holdings (List ℕ)) (last : LastCall) (indexes : List (ℕ × List Indexed)) (texts : List (PartNumbers × List ℕ)) → IsLive (state g conn)
     → is_closed last ≡ false → HasCleanDisk (state g conn) → IsTrue (state g conn).is_open → (M : Catalogue) → Shows g (record { conn = conn; summary = summary; last = last; indexes = indexes; texts = texts }) M
     → IsLeft M (state g conn).committed.trees
 committed_holds g conn summary last indexes texts whole fine clean live M shown = ((state g conn).committed, refl, (whole live).1, held_known (state g conn).committed M (shown.holds fine clean live))

@@ -15,16 +15,16 @@ use Rattle.dict_desk.specs.declared.fault.Fault.TheVariants.{Refused, Memory, Di
 use Rattle.dict_holdings.specs.Holds.{IsLeft}
 use Rattle.dict_holdings.proofs.OneLemmas.{held_known, one_left}
 use Rattle.dict_lookup.specs.Texts.{ArePartsOf}
-use Rattle.dict_lookup.specs.KeptTexts.{Key}
+use Rattle.dict_lookup.specs.KeptTexts.{PartNumbers}
 use Rattle.dict_search.specs.Entries.{Indexed}
 use Rattle.dict_commands.specs.Answers.{HoldsBy}
-use Rattle.dict_commands.specs.Committed.{IsOfStore, IsTreesOf, Stays}
+use Rattle.dict_commands.specs.Committed.{IsOfStore, IsTreesOf, StaysCommitted}
 use Rattle.dict_commands.specs.Marking.{Remains}
 use Rattle.dict_commands.specs.declared.filing.Filing.{Filing}
 use Rattle.dict_commands.proofs.WriteLemmas.{others_none}
 use Rattle.dict_store.specs.Causes.{FailsToPrepare}
-use Rattle.dict_store.specs.Desk.{DeskState, HasCommitted, HasFiled, IsAtRest, IsServed, Shows, LeavesOneOf, StandsFor, is_closed}
-use Rattle.dict_store.specs.Kept.{KeepsTexts, texts_behind}
+use Rattle.dict_store.specs.Desk.{DeskState, HasCommitted, HasFiled, IsAtRest, ServesEdition, Shows, LeavesOneOf, StandsFor, is_closed}
+use Rattle.dict_store.specs.KeptParts.{KeepsTexts, texts_behind}
 use Rattle.dict_store.specs.Prepared.{last_behind}
 use Rattle.dict_store.specs.declared.last.LastCall.{LastCall}
 use Rattle.dict_store.proofs.DeskLemmas.{at_rest}
@@ -37,7 +37,7 @@ pub remains_itself : (summary : Holdings (List ℕ)) (db : Database) → Remains
 remains_itself summary db = record { holds = λ M held is. held; texts = λ number text held. held; others = others_none db }
 
 -- what was committed is so still
-pub remains_still : (summary : Holdings (List ℕ)) (old new : State) → Stays old new → IsTrue new.is_open → Remains summary old.committed new.committed
+pub remains_still : (summary : Holdings (List ℕ)) (old new : State) → StaysCommitted old new → IsTrue new.is_open → Remains summary old.committed new.committed
 remains_still summary old new stays live = subst (λ (db : Database). Remains summary old.committed db) (sym (stays.committed live)) (remains_itself summary old.committed)
 
 -- a store that shows what is committed, by what is true of every desk
@@ -70,13 +70,13 @@ module _ {S : Type 0} (g : Ghosts S) (old new : Held S) (summary : Holdings (Lis
   pub copied_rests : (after : LastCall) → (HasCleanDisk (state g new) → IsTrue (state g new).is_open → (state g new).now ≡ (state g new).committed) → new.in_transaction ≡ false → IsAtRest g after summary filing new
   copied_rests after settled ended = at_rest g after summary filing new (crash.limit ∙ rest.limit) rest.range (λ _. copied_committed) (λ _ clean live _. settled clean live) (λ _. copied_filed ended filing (rest.filed fine))
 
-  pub copied_shows : {T : Type 0} (result : Result T Fault) (after : LastCall) (indexes : List (ℕ × List Indexed)) (kept texts : List (Key × List ℕ)) → texts ≡ texts_behind result kept → (M : Catalogue)
+  pub copied_shows : {T : Type 0} (result : Result T Fault) (after : LastCall) (indexes : List (ℕ × List Indexed)) (kept texts : List (PartNumbers × List ℕ)) → texts ≡ texts_behind result kept → (M : Catalogue)
       → Shows g (record { conn = old; summary = summary; last = before; indexes = indexes; texts = kept }) M → Shows g (record { conn = new; summary = summary; last = after; indexes = indexes; texts = texts }) M
   copied_shows result after indexes kept texts is M shown = record {
     summary = shown.summary;
     well_formed = shown.well_formed;
     holds = λ open' clean live. (remains clean live).holds M (shown.holds fine (copied_first clean) (lives clean live)) (sym shown.summary);
-    served = λ clean. each_edition (IsServed g (record { conn = old; summary = summary; last = before; indexes = indexes; texts = kept })) (IsServed g (record { conn = new; summary = summary; last = after; indexes = indexes; texts = texts }))
+    served = λ clean. each_edition (ServesEdition g (record { conn = old; summary = summary; last = before; indexes = indexes; texts = kept })) (ServesEdition g (record { conn = new; summary = summary; last = after; indexes = indexes; texts = texts }))
         (λ stored one. record {
           index = one.index;
           stands = one.stands;
@@ -89,13 +89,13 @@ module _ {S : Type 0} (g : Ghosts S) (old new : Held S) (summary : Holdings (Lis
   }
 
 -- the texts that are kept
-pub copied_keeps : {T : Type 0} (summary : Holdings (List ℕ)) (before : LastCall) (result : Result T Fault) (after : LastCall) → after ≡ last_behind before result → (kept texts : List (Key × List ℕ)) → texts ≡ texts_behind result kept
+pub copied_keeps : {T : Type 0} (summary : Holdings (List ℕ)) (before : LastCall) (result : Result T Fault) (after : LastCall) → after ≡ last_behind before result → (kept texts : List (PartNumbers × List ℕ)) → texts ≡ texts_behind result kept
     → KeepsTexts before summary kept → KeepsTexts after summary texts
 copied_keeps summary before (Ok value) after by kept texts is keeps = subst (KeepsTexts after summary) (sym is) (subst (λ (l : LastCall). KeepsTexts l summary kept) (sym by) keeps)
 copied_keeps summary before (Err fault) after by kept texts is keeps = subst (KeepsTexts after summary) (sym is) (record { made = tt; none = λ failed. refl })
 
 -- of the desk the connection alone is another
-pub copied_same : {S : Type 0} (old : DeskState S) (conn : Held S) (last : LastCall) (texts : List (Key × List ℕ)) (result : Result Bool Fault) → last ≡ last_behind old.last result → texts ≡ texts_behind result old.texts → result ≡ Ok true
+pub copied_same : {S : Type 0} (old : DeskState S) (conn : Held S) (last : LastCall) (texts : List (PartNumbers × List ℕ)) (result : Result Bool Fault) → last ≡ last_behind old.last result → texts ≡ texts_behind result old.texts → result ≡ Ok true
     → record { conn = conn; summary = old.summary; last = last; indexes = old.indexes; texts = texts } ≡ record old { conn = conn }
 copied_same old conn last texts (Ok more) by is ok = λ i. record { conn = conn; summary = old.summary; last = by i; indexes = old.indexes; texts = is i }
 copied_same old conn last texts (Err fault) by is ok = absurd (let e = ok in cc)

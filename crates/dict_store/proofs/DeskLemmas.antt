@@ -20,13 +20,13 @@ use Rattle.dict_desk.proofs.HandingLemmas.{hands_front}
 use Rattle.dict_holdings.specs.Faults as reading
 use Rattle.dict_holdings.specs.Holds.{HasLayout, Holds, IsLeft}
 use Rattle.dict_lookup.specs.Searches.{FailsToLookUp}
-use Rattle.dict_lookup.specs.Texts.{ArePartsOf, AreMade, IsAtMostRead}
-use Rattle.dict_lookup.specs.KeptTexts.{Key}
+use Rattle.dict_lookup.specs.Texts.{ArePartsOf, AreOfInstalls, IsAtMostRead}
+use Rattle.dict_lookup.specs.KeptTexts.{PartNumbers}
 use Rattle.dict_commands.specs.Changes.{IsInRange}
 use Rattle.dict_commands.specs.Filing.{IsAhead}
 use Rattle.dict_commands.specs.declared.filing.Filing.{Filing}
-use Rattle.dict_store.specs.Desk.{DeskState, HasCommitted, HasFiled, IsAtRest, IsServed, Shows, LeavesOneOf, is_closed}
-use Rattle.dict_store.specs.Kept.{KeepsTexts, texts_after}
+use Rattle.dict_store.specs.Desk.{DeskState, HasCommitted, HasFiled, IsAtRest, ServesEdition, Shows, LeavesOneOf, is_closed}
+use Rattle.dict_store.specs.KeptParts.{KeepsTexts, texts_after}
 use Rattle.dict_store.specs.Prepared.{Continues, LetsGo, Undoes}
 use Rattle.dict_store.specs.declared.last.LastCall.{LastCall}
 use Rattle.dict_store.specs.declared.last.LastCall.TheVariants.{Fine, Failed, Closed}
@@ -63,11 +63,11 @@ found_continues g number old new (Ok value) (inr same) failed = unchanged_contin
 found_continues g number old new (Err fault) same (inl h) = subst (λ (h : Held _). Continues (state g old) (state g h)) (sym h.1) (same_continues (state g old))
 found_continues g number old new (Err fault) same (inr h) = fails_continues number (state g old) (state g new) fault h
 
-pub reply_continues : (old new : State) (fault : Fault) → reading.FailsToLookUp old new fault → Continues old new
+pub reply_continues : (old new : State) (fault : Fault) → reading.FailsToReadCatalogue old new fault → Continues old new
 reply_continues old new fault (inl same) = unchanged_continues old new same.0
 reply_continues old new fault (inr h) = rolled_continues old new h.2.3
 
-pub replies_continue : {T : Type 0} (old new : State) (result : Result T Fault) → OnOk result (IsUnchanged old new) → IfErr result (reading.FailsToLookUp old new) → Continues old new
+pub replies_continue : {T : Type 0} (old new : State) (result : Result T Fault) → OnOk result (IsUnchanged old new) → IfErr result (reading.FailsToReadCatalogue old new) → Continues old new
 replies_continue old new (Ok value) same failed = unchanged_continues old new same
 replies_continue old new (Err fault) same failed = reply_continues old new fault failed
 
@@ -162,12 +162,12 @@ module _ {S : Type 0} (g : Ghosts S) (old new : Held S) (first : HasCleanDisk (s
 
 -- ---- the texts that are kept
 
-pub texts_keep : (last : LastCall) (summary : Holdings (List ℕ)) (texts : List (Key × List ℕ)) → AreMade summary.installs texts → KeepsTexts last summary (texts_after last texts)
+pub texts_keep : (last : LastCall) (summary : Holdings (List ℕ)) (texts : List (PartNumbers × List ℕ)) → AreOfInstalls summary.installs texts → KeepsTexts last summary (texts_after last texts)
 texts_keep Fine summary texts made = record { made = made; none = λ failed. absurd (false≢true failed) }
 texts_keep Failed summary texts made = record { made = tt; none = λ failed. refl }
 texts_keep Closed summary texts made = record { made = tt; none = λ failed. refl }
 
-pub parts_after : (last : LastCall) (number : ℕ) (text : List ℕ) (texts : List (Key × List ℕ)) → ArePartsOf number text texts → ArePartsOf number text (texts_after last texts)
+pub parts_after : (last : LastCall) (number : ℕ) (text : List ℕ) (texts : List (PartNumbers × List ℕ)) → ArePartsOf number text texts → ArePartsOf number text (texts_after last texts)
 parts_after Fine number text texts are = are
 parts_after Failed number text texts are = tt
 parts_after Closed number text texts are = tt
@@ -193,14 +193,14 @@ module _ {S : Type 0} (g : Ghosts S) (old new : Held S) (summary : Holdings (Lis
   rests_on mode = at_rest g after summary filing new (survives.limit ∙ rest.limit) rest.range (λ fine. committed_on) (λ fine. settled_on) (λ fine. filed_still g old new clean_first goes mode filing (rest.filed open_before))
 
   -- the desk, which keeps these texts now
-  pub desk_on : (old.in_transaction ≡ false → new.in_transaction ≡ false) → (kept texts : List (Key × List ℕ)) → texts ≡ texts_after after kept → AreMade summary.installs kept
+  pub desk_on : (old.in_transaction ≡ false → new.in_transaction ≡ false) → (kept texts : List (PartNumbers × List ℕ)) → texts ≡ texts_after after kept → AreOfInstalls summary.installs kept
       → IsAtRest g after summary filing new × KeepsTexts after summary texts
   desk_on mode kept texts is made = (rests_on mode, subst (KeepsTexts after summary) (sym is) (texts_keep after summary kept made))
 
-  module _ (indexes : List (ℕ × List Indexed)) (kept : List (Key × List ℕ)) (M : Catalogue) (shown : Shows g (record { conn = old; summary = summary; last = before; indexes = indexes; texts = kept }) M) where
+  module _ (indexes : List (ℕ × List Indexed)) (kept : List (PartNumbers × List ℕ)) (M : Catalogue) (shown : Shows g (record { conn = old; summary = summary; last = before; indexes = indexes; texts = kept }) M) where
     -- what is shown, with these texts
-    pub shows_with : (texts : List (Key × List ℕ))
-        → (HasCleanDisk (state g new) → (stored : Stored Edition) (one : IsServed g (record { conn = old; summary = summary; last = before; indexes = indexes; texts = kept }) stored) → ArePartsOf stored.number one.text texts)
+    pub shows_with : (texts : List (PartNumbers × List ℕ))
+        → (HasCleanDisk (state g new) → (stored : Stored Edition) (one : ServesEdition g (record { conn = old; summary = summary; last = before; indexes = indexes; texts = kept }) stored) → ArePartsOf stored.number one.text texts)
         → Shows g (record { conn = new; summary = summary; last = after; indexes = indexes; texts = texts }) M
     shows_with texts cut = record {
       summary = shown.summary;
@@ -210,7 +210,7 @@ module _ {S : Type 0} (g : Ghosts S) (old new : Held S) (summary : Holdings (Lis
           (λ q. refl) (λ _. open_before) (goes clean).was_open (goes clean).committed (cut clean) M (shown.served (clean_first clean));
     }
 
-    pub shows_on : (texts : List (Key × List ℕ)) → texts ≡ texts_after after kept → Shows g (record { conn = new; summary = summary; last = after; indexes = indexes; texts = texts }) M
+    pub shows_on : (texts : List (PartNumbers × List ℕ)) → texts ≡ texts_after after kept → Shows g (record { conn = new; summary = summary; last = after; indexes = indexes; texts = texts }) M
     shows_on texts is = shows_with texts (λ clean stored one. subst (ArePartsOf stored.number one.text) (sym is) (parts_after after stored.number one.text kept one.kept))
 
     pub held : HasCleanDisk (state g new) → IsTrue (state g old).is_open → Holds known (state g old).committed M

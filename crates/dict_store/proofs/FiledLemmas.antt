@@ -22,10 +22,10 @@ use Rattle.dict_rows.proofs.PartLemmas.{filter_filter}
 use Rattle.dict_holdings.specs.AllTables.{AllTables, with_derived}
 use Rattle.dict_holdings.specs.Holds.{HasLayout, Holds, Keeps}
 use Rattle.dict_holdings.specs.Texts.{HoldsText, text_rows}
-use Rattle.dict_lookup.specs.Searches.{HoldsOne, IsReadable, rows_under}
+use Rattle.dict_lookup.specs.Searches.{HoldsOne, IsEditionReadable, rows_under}
 use Rattle.dict_lookup.proofs.RowLemmas.{column_behind, filter_map}
 use Rattle.sqlite_trees.proofs.ListLemmas.{IsPermutation-filter}
-use Rattle.dict_commands.specs.Kept.{HasRecords, IsUsable, HoldsReplies}
+use Rattle.dict_commands.specs.KeptRecords.{HasRecords, IsUsable, HoldsReplies}
 use Rattle.dict_commands.specs.Filing.{IsAhead, KeepsEdition}
 use Rattle.dict_commands.specs.declared.filing.Filing.{Filing}
 use Rattle.dict_commands.proofs.TableLemmas.{editions_kept, kept_kept, parts_kept}
@@ -82,7 +82,7 @@ module _ (number : ℕ) (committed now : Database) (keeps : KeepsEdition number 
   pub text_still : (text : List ℕ) → HoldsText committed number text → HoldsText now number text
   text_still text held = text_carried committed now number text text_rows_still held
 
-  pub readable_still : IsUsable now → IsReadable committed number → IsReadable now number
+  pub readable_still : IsUsable now → IsEditionReadable committed number → IsEditionReadable now number
   readable_still usable h =
       let of_number : Row → Bool = equals_number 1 (pos number) in
       let of_text : Row → Bool = is_of_file (pos number) (pos 1) in

@@ -22,7 +22,7 @@ use Rattle.dict_holdings.specs.Holds.{Holds}
 use Rattle.dict_holdings.specs.Texts.{HoldsText}
 use Rattle.dict_lookup.specs.Indexes.{entries_under}
 use Rattle.dict_lookup.specs.Texts.{ArePartsOf}
-use Rattle.dict_lookup.specs.KeptTexts.{Key}
+use Rattle.dict_lookup.specs.KeptTexts.{PartNumbers}
 use Rattle.dict_search.specs.Entries.{Indexed, entry_of}
 use Rattle.dict_commands.specs.Answers.{IsOfApply}
 use Rattle.dict_commands.specs.Filing.{IsAhead, IsUnderway}
@@ -33,8 +33,8 @@ use Rattle.dict_commands.specs.declared.applied.Applied.TheVariants.{Repeated, D
 use Rattle.dict_commands.specs.declared.filing.Filing.{Filing}
 use Rattle.dict_commands.specs.declared.reads.ReadInstall.{ReadInstall}
 use Rattle.dict_store.specs.Causes.{IsAppliedTo}
-use Rattle.dict_store.specs.Desk.{DeskState, HasFiled, IsAtRest, IsServed, AreServed, Shows, has_failed, is_closed, reply_of}
-use Rattle.dict_store.specs.Indexed.{HasPut}
+use Rattle.dict_store.specs.Desk.{DeskState, HasFiled, IsAtRest, ServesEdition, ServesEditions, Shows, has_failed, is_closed, reply_of}
+use Rattle.dict_store.specs.Indexed.{HasPutIfSome}
 use Rattle.dict_store.specs.Prepared.{Undoes}
 use Rattle.dict_store.specs.declared.last.LastCall.{LastCall}
 use Rattle.dict_store.specs.declared.last.LastCall.TheVariants.{Fine, Failed, Closed}
@@ -50,9 +50,9 @@ some_with (Some value) p = p
 
 -- of just this name and these files
 pub finished_of : {S : Type 0} (g : Ghosts S) (summary : Holdings (List ℕ)) (id name index text : List ℕ) (whole : ReadInstall) (old new : Held S) (number : ℕ) (before after : List (ℕ × List Indexed)) → IsInstallOf name index text whole
-    → ((reading : ReadEdition) → IsReadEdition whole.came.items whole.filing.text.items reading → HasPut number (Some (map entry_of reading.lines)) before after) → (result : Option (Result Applied Fault))
+    → ((reading : ReadEdition) → IsReadEdition whole.came.items whole.filing.text.items reading → HasPutIfSome number (Some (map entry_of reading.lines)) before after) → (result : Option (Result Applied Fault))
     → IfSome result (λ outcome. (reading : ReadEdition) × IsReadEdition whole.came.items whole.filing.text.items reading × IsFinished g summary id (string_bytes whole.name) reading old new outcome)
-    → IfSome result (λ outcome. (reading : ReadEdition) × IsReadEdition index text reading × IsFinished g summary id name reading old new outcome × HasPut number (Some (map entry_of reading.lines)) before after)
+    → IfSome result (λ outcome. (reading : ReadEdition) × IsReadEdition index text reading × IsFinished g summary id name reading old new outcome × HasPutIfSome number (Some (map entry_of reading.lines)) before after)
 finished_of g summary id name index text whole old new number before after is put None h = tt
 finished_of g summary id name index text whole old new number before after is put (Some outcome) h = (
   h.0,
@@ -86,11 +86,11 @@ module _ {S : Type 0} (g : Ghosts S) (old new : Held S) where
 pub served_below : {S : Type 0} (g : Ghosts S) (old new : DeskState S) (M : Catalogue) → IsWellFormed M → (number : ℕ) → number ≡ M.installs + 1 → ((q : ℕ) → q ≢ number → entries_under q new.indexes ≡ entries_under q old.indexes)
     → (is_closed new.last ≡ false → is_closed old.last ≡ false) → (IsTrue (state g new.conn).is_open → IsTrue (state g old.conn).is_open)
     → (IsTrue (state g new.conn).is_open → (state g new.conn).committed ≡ (state g old.conn).committed)
-    → ((stored : Stored Edition) (one : IsServed g old stored) → ArePartsOf stored.number one.text new.texts) → AreServed g old M → AreServed g new M
+    → ((stored : Stored Edition) (one : ServesEdition g old stored) → ArePartsOf stored.number one.text new.texts) → ServesEditions g old M → ServesEditions g new M
 served_below g old new M well number next same fine was_open committed parts served =
-    each_both (IsServed g old) (λ (stored : Stored Edition). stored.number ≤ M.installs) (IsServed g new) stay M.items served (each_low M well)
+    each_both (ServesEdition g old) (λ (stored : Stored Edition). stored.number ≤ M.installs) (ServesEdition g new) stay M.items served (each_low M well)
   where
-    stay : (stored : Stored Edition) → IsServed g old stored → stored.number ≤ M.installs → IsServed g new stored
+    stay : (stored : Stored Edition) → ServesEdition g old stored → stored.number ≤ M.installs → ServesEdition g new stored
     stay stored one low = record {
       index = one.index;
       stands = same stored.number (λ e. (let no : ⊥ = omega (arith, low, e, next) in no)) ∙ one.stands;
@@ -109,7 +109,7 @@ module _ {S : Type 0} (g : Ghosts S) (old new : Held S) (summary : Holdings (Lis
       (subst (λ (f : Option Filing). HasFiled g f new) (sym same) (undone_filed g old new filing (clean_behind (state g old) (state g new) survives) undone (rest.filed fine)))
 
   pub unfinished_shows : (number : ℕ) → number ≡ min (summary.installs + 1) (2 ^ 64 - 1) → (indexes after : List (ℕ × List Indexed)) → ((q : ℕ) → q ≢ number → entries_under q after ≡ entries_under q indexes)
-      → (texts : List (Key × List ℕ)) (M : Catalogue) → Shows g (record { conn = old; summary = summary; last = last; indexes = indexes; texts = texts }) M
+      → (texts : List (PartNumbers × List ℕ)) (M : Catalogue) → Shows g (record { conn = old; summary = summary; last = last; indexes = indexes; texts = texts }) M
       → Shows g (record { conn = new; summary = summary; last = last; indexes = after; texts = texts }) M
   unfinished_shows number next indexes after same texts M shown =
       let goes = λ (clean : HasCleanDisk (state g new)). undone_continues g old new (undone clean) in

@@ -19,7 +19,7 @@ use Rattle.sqlite.specs.declared.file.Leftover.TheVariants as left_of
 use Rattle.dict_catalogue.specs.Steps.{Catalogue}
 use Rattle.dict_desk.specs.declared.fault.Fault.{Fault}
 use Rattle.dict_opening.specs.Reading.{IsOfOpening}
-use Rattle.dict_store.specs.Unopened.{fault_of_files, IsOneIn, StandsIn, HaveOctets, IsUnopened, WasSealed}
+use Rattle.dict_store.specs.Unopened.{fault_of_files, IsOneIn, StandsInImage, HaveOctets, IsUnopened, WasSealed}
 use Rattle.dict_store.specs.declared.reopening.Unopened.TheVariants as left
 use Rattle.dict_store.proofs.UnopenedLemmas.{IsReady, IsSealedOneIn, rest_leaves}
 
@@ -53,7 +53,7 @@ octets_by {D} {g} files image log db log_only db_only log_clean db_clean = recor
 
 -- what stands in the octets is there where `sqlite` had begun to write them
 ready_by : {D : Type 0} {g : Ghosts D} (files : Files D) (image : Image) (m : Option Catalogue) (each : (left : Image) → outcomes g files.log files.db left → ∥ IsOneIn (m ∷ []) left ∥₁)
-    (stay : outcomes g files.log files.db (image_of g files)) → image_of g files ≡ image → StandsIn m image → (now : Leftover D g) → WasSealed image now → IsReady files (m ∷ []) each stay now
+    (stay : outcomes g files.log files.db (image_of g files)) → image_of g files ≡ image → StandsInImage m image → (now : Leftover D g) → WasSealed image now → IsReady files (m ∷ []) each stay now
 ready_by {D} {g} files image m each stay seen stands (left_of.Files now) was = tt
 ready_by {D} {g} files image m each stay seen stands (left_of.Unopened now) was =
     subst (λ i. ∥ IsSealedOneIn (m ∷ []) i ∥₁) (sym seen) ∣ (m, (0, omega arith, refl), (stands.0, (stands.1, was stands.0 stands.1), stands.2)) ∣₁
@@ -71,7 +71,7 @@ module _ {D : Type 0} {g : Ghosts D} (image : Image) (stays : SeenMayStay g) (er
         octets = octets;
         why = record { error = error; named = named; told = told; kind = kind; cause = λ still. (some.2 still).0; unharmed = λ still. (some.2 still).1 };
         leaves = λ m stands was still.
-            let each : (left : Image) → outcomes g files.log files.db left → ∥ IsOneIn (m ∷ []) left ∥₁ = λ left out. ∣ (m, (0, omega arith, refl), subst (StandsIn m) (sym (octets.only left out)) stands) ∣₁ in
+            let each : (left : Image) → outcomes g files.log files.db left → ∥ IsOneIn (m ∷ []) left ∥₁ = λ left out. ∣ (m, (0, omega arith, refl), subst (StandsInImage m) (sym (octets.only left out)) stands) ∣₁ in
             let stay : outcomes g files.log files.db (image_of g files) = (stays files.log, stays files.db) in
             rest_leaves files (m ∷ []) each stay now (ready_by files image m each stay octets.seen stands now was) (some.2 still).1;
       }

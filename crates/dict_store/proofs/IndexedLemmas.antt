@@ -24,14 +24,14 @@ use Rattle.dict_desk.specs.Shown.{HasEdition}
 use Rattle.dict_holdings.specs.Holds.{Holds}
 use Rattle.dict_lookup.specs.Indexes.{entries_under}
 use Rattle.dict_holdings.specs.Texts.{HoldsText, text_rows}
-use Rattle.dict_lookup.specs.Texts.{ArePartsOf, AreMade, Cuts}
-use Rattle.dict_lookup.specs.KeptTexts.{Key}
+use Rattle.dict_lookup.specs.Texts.{ArePartsOf, AreOfInstalls, Cuts}
+use Rattle.dict_lookup.specs.KeptTexts.{PartNumbers}
 use Rattle.dict_lookup.proofs.ListLemmas.{all_unmapped}
 use Rattle.dict_rows.specs.Versions.{known}
 use Rattle.dict_rows.proofs.OrderLemmas.{all_with}
 use Rattle.dict_search.specs.Entries.{Indexed, entry_of}
-use Rattle.dict_store.specs.Desk.{DeskState, IsServed, AreServed, is_closed}
-use Rattle.dict_store.specs.Indexed.{HasPut, index_coming}
+use Rattle.dict_store.specs.Desk.{DeskState, ServesEdition, ServesEditions, is_closed}
+use Rattle.dict_store.specs.Indexed.{HasPutIfSome, index_coming}
 use Rattle.dict_store.specs.declared.last.LastCall.TheVariants.{Fine}
 use Rattle.dict_store.proofs.TextLemmas.{text_carried, text_short}
 
@@ -100,7 +100,7 @@ put_same : (number q : ℕ) (b : Bool) (x y : Option (List Indexed)) → nat_eq 
 put_same number q true x y e apart = absurd (apart (eqb-true number q e))
 put_same number q false x y e apart = refl
 
-pub put_beside : (number : ℕ) (coming : Option (List Indexed)) (old new : List (ℕ × List Indexed)) → HasPut number coming old new → (q : ℕ) → number ≢ q → entries_under q new ≡ entries_under q old
+pub put_beside : (number : ℕ) (coming : Option (List Indexed)) (old new : List (ℕ × List Indexed)) → HasPutIfSome number coming old new → (q : ℕ) → number ≢ q → entries_under q new ≡ entries_under q old
 put_beside number (Some index) old new h q apart = h q ∙ put_same number q (nat_eq number q) (Some index) (entries_under q old) refl apart
 put_beside number None old new h q apart = ap (entries_under q) h
 
@@ -111,21 +111,21 @@ put_there number false x y e t = absurd (false≢true t)
 itself : (n : ℕ) → nat_eq n n ≡ true
 itself n = grind arith
 
-pub put_at : (number : ℕ) (index : List Indexed) (old new : List (ℕ × List Indexed)) → HasPut number (Some index) old new → entries_under number new ≡ Some index
+pub put_at : (number : ℕ) (index : List Indexed) (old new : List (ℕ × List Indexed)) → HasPutIfSome number (Some index) old new → entries_under number new ≡ Some index
 put_at number index old new h = h number ∙ put_there number (nat_eq number number) (Some index) (entries_under number old) refl (itself number)
 
 -- ---- the editions after a command
 
 -- nothing is kept under the number that comes
-none_kept : (installs : ℕ) (number : ℕ) (text : List ℕ) (texts : List (Key × List ℕ)) → number ≡ installs + 1 → AreMade installs texts → ArePartsOf number text texts
+none_kept : (installs : ℕ) (number : ℕ) (text : List ℕ) (texts : List (PartNumbers × List ℕ)) → number ≡ installs + 1 → AreOfInstalls installs texts → ArePartsOf number text texts
 none_kept installs number text [] is made = tt
 none_kept installs number text (kept ∷ texts) is made = ((λ same. absurd (let low = made.0 in let no : ⊥ = omega (arith, low, same, is) in no)), none_kept installs number text texts is made.1)
 
 module _ {S : Type 0} (g : Ghosts S) (before : DeskState S) (new : Held S) (command : Typed) (mid after : List (ℕ × List Indexed)) (M : Catalogue) (well : IsWellFormed M)
-    (put : HasPut (M.installs + 1) (index_coming command) before.indexes mid) where
+    (put : HasPutIfSome (M.installs + 1) (index_coming command) before.indexes mid) where
   -- an edition that was there, or the one that comes
   Stays : Stored Edition → Type 0
-  Stays stored = IsServed g before stored × (stored.number ≤ M.installs)
+  Stays stored = ServesEdition g before stored × (stored.number ≤ M.installs)
 
   pub record Comes (stored : Stored Edition) : Type 0 where
     pub reading : ReadEdition
@@ -137,7 +137,7 @@ module _ {S : Type 0} (g : Ghosts S) (before : DeskState S) (new : Held S) (comm
   pub Is : Stored Edition → Type 0
   Is stored = Stays stored ⊎ Comes stored
 
-  pub stays_is : (stored : Stored Edition) → IsServed g before stored → stored.number ≤ M.installs → Is stored
+  pub stays_is : (stored : Stored Edition) → ServesEdition g before stored → stored.number ≤ M.installs → Is stored
   unfolding Stays Is
   stays_is stored one low = inl (one, low)
 
@@ -149,14 +149,14 @@ module _ {S : Type 0} (g : Ghosts S) (before : DeskState S) (new : Held S) (comm
   if_comes (PutVirtual name title members) same there = tt
   if_comes (Place name at) same there = tt
 
-  pub all_is : (id : List ℕ) → HasTextOf command (M.installs + 1) (state g new).committed → AreServed g before M → AllByRecursion (λ item. AllByRecursion Is (editions_of item)) (with_effect M id (command_meant command)).items
+  pub all_is : (id : List ℕ) → HasTextOf command (M.installs + 1) (state g new).committed → ServesEditions g before M → AllByRecursion (λ item. AllByRecursion Is (editions_of item)) (with_effect M id (command_meant command)).items
   unfolding Stays Is
   all_is id there served =
       each_after Stays Is (M.installs + 1) (command_meant command) M.items (λ one h. inl h) (if_comes command refl there)
-      (each_both (IsServed g before) (λ (stored : Stored Edition). stored.number ≤ M.installs) Stays (λ stored a b. (a, b)) M.items served (each_low M well))
+      (each_both (ServesEdition g before) (λ (stored : Stored Edition). stored.number ≤ M.installs) Stays (λ stored a b. (a, b)) M.items served (each_low M well))
 
   -- how it stands then
-  module _ (made : AreMade M.installs before.texts) (summary : Holdings (List ℕ)) (fine : is_closed before.last ≡ false) (was_open : IsTrue (state g new).is_open → IsTrue (state g before.conn).is_open)
+  module _ (made : AreOfInstalls M.installs before.texts) (summary : Holdings (List ℕ)) (fine : is_closed before.last ≡ false) (was_open : IsTrue (state g new).is_open → IsTrue (state g before.conn).is_open)
       (M' : Catalogue) (holds : Holds known (state g new).committed M') where
     abbrev desk_then : DeskState S
     desk_then = record { conn = new; summary = summary; last = Fine; indexes = after; texts = before.texts }
@@ -165,7 +165,7 @@ module _ {S : Type 0} (g : Ghosts S) (before : DeskState S) (new : Held S) (comm
     abbrev TextStays : Stored Edition → Type 0
     TextStays stored = stored.number ≤ M.installs → IsPermutation (text_rows stored.number (state g before.conn).committed) (text_rows stored.number (state g new).committed)
 
-    one_then : (stored : Stored Edition) → Is stored → HasEdition M' stored.number stored.content → TextStays stored → entries_under stored.number after ≡ entries_under stored.number mid → IsServed g desk_then stored
+    one_then : (stored : Stored Edition) → Is stored → HasEdition M' stored.number stored.content → TextStays stored → entries_under stored.number after ≡ entries_under stored.number mid → ServesEdition g desk_then stored
     unfolding Stays Is
     one_then stored (inl stays) has text same =
         let one = stays.0 in
@@ -183,7 +183,7 @@ module _ {S : Type 0} (g : Ghosts S) (before : DeskState S) (new : Held S) (comm
         let there : HoldsText (state g new).committed stored.number comes.reading.text = subst (λ (n : ℕ). HoldsText (state g new).committed n comes.reading.text) (sym comes.number) comes.there in
         let short = text_short (state g new).committed M' stored.number stored.content holds has comes.reading.text there in
         let cuts : Cuts index stored.content comes.reading.text = record { lines = comes.reading.lines; entries = refl; cut = ap (λ (e : Edition). e.entries) comes.says; short = short } in
-        let stands : entries_under (M.installs + 1) mid ≡ Some index = put_at (M.installs + 1) index before.indexes mid (subst (λ (coming : Option (List Indexed)). HasPut (M.installs + 1) coming before.indexes mid) comes.coming put) in
+        let stands : entries_under (M.installs + 1) mid ≡ Some index = put_at (M.installs + 1) index before.indexes mid (subst (λ (coming : Option (List Indexed)). HasPutIfSome (M.installs + 1) coming before.indexes mid) comes.coming put) in
         record {
           index = index;
           stands = same ∙ subst (λ (n : ℕ). entries_under n mid ≡ Some index) (sym comes.number) stands;
@@ -194,10 +194,10 @@ module _ {S : Type 0} (g : Ghosts S) (before : DeskState S) (new : Held S) (comm
         }
 
     pub all_then : AllByRecursion (λ item. AllByRecursion Is (editions_of item)) M'.items → AllByRecursion (λ item. AllByRecursion TextStays (editions_of item)) M'.items
-        → AllByRecursion (λ item. AllByRecursion (λ (stored : Stored Edition). entries_under stored.number after ≡ entries_under stored.number mid) (editions_of item)) M'.items → AreServed g desk_then M'
+        → AllByRecursion (λ item. AllByRecursion (λ (stored : Stored Edition). entries_under stored.number after ≡ entries_under stored.number mid) (editions_of item)) M'.items → ServesEditions g desk_then M'
     all_then is stay same =
         each_both (λ stored. Is stored × HasEdition M' stored.number stored.content × TextStays stored) (λ (stored : Stored Edition). entries_under stored.number after ≡ entries_under stored.number mid)
-        (IsServed g desk_then) (λ stored all e. one_then stored all.0 all.1 all.2 e) M'.items
+        (ServesEdition g desk_then) (λ stored all e. one_then stored all.0 all.1 all.2 e) M'.items
         (each_both Is (λ (stored : Stored Edition). HasEdition M' stored.number stored.content × TextStays stored) (λ stored. Is stored × HasEdition M' stored.number stored.content × TextStays stored)
         (λ stored a b. (a, b.0, b.1)) M'.items is
         (each_both (λ (stored : Stored Edition). HasEdition M' stored.number stored.content) TextStays (λ stored. HasEdition M' stored.number stored.content × TextStays stored) (λ stored a b. (a, b)) M'.items (each_has M') stay)) same
@@ -206,11 +206,11 @@ module _ {S : Type 0} (g : Ghosts S) (before : DeskState S) (new : Held S) (comm
   module _ (new_desk : DeskState S) (fine : is_closed new_desk.last ≡ false → is_closed before.last ≡ false) (was_open : IsTrue (state g new_desk.conn).is_open → IsTrue (state g before.conn).is_open)
       (committed : IsTrue (state g new_desk.conn).is_open → (state g new_desk.conn).committed ≡ (state g before.conn).committed)
       (settled : (q : ℕ) → q ≢ M.installs + 1 → entries_under q new_desk.indexes ≡ entries_under q mid) where
-    pub all_stay : ((stored : Stored Edition) (one : IsServed g before stored) → ArePartsOf stored.number one.text new_desk.texts) → AreServed g before M → AreServed g new_desk M
+    pub all_stay : ((stored : Stored Edition) (one : ServesEdition g before stored) → ArePartsOf stored.number one.text new_desk.texts) → ServesEditions g before M → ServesEditions g new_desk M
     all_stay parts served =
-        each_both (IsServed g before) (λ (stored : Stored Edition). stored.number ≤ M.installs) (IsServed g new_desk) stay M.items served (each_low M well)
+        each_both (ServesEdition g before) (λ (stored : Stored Edition). stored.number ≤ M.installs) (ServesEdition g new_desk) stay M.items served (each_low M well)
       where
-        stay : (stored : Stored Edition) → IsServed g before stored → stored.number ≤ M.installs → IsServed g new_desk stored
+        stay : (stored : Stored Edition) → ServesEdition g before stored → stored.number ≤ M.installs → ServesEdition g new_desk stored
         stay stored one low =
             let apart : M.installs + 1 ≢ stored.number = λ e. (let no : ⊥ = omega (arith, low, e) in no) in
             record {

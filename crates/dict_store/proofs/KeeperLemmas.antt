@@ -24,22 +24,22 @@ use Rattle.dict_desk.proofs.LeavesLemmas.{contains_later}
 use Rattle.dict_holdings.specs.Holds.{Rests, IsLeftAs}
 use Rattle.dict_commands.specs.Answers.{Answers, has_written, summary_after, IsOfShut}
 use Rattle.dict_commands.specs.Filing.{IsUnderway, rested}
-use Rattle.dict_commands.specs.Kept.{SparesOthers}
+use Rattle.dict_commands.specs.KeptRecords.{SparesTablesOfOthers}
 use Rattle.dict_commands.proofs.WriteLemmas.{others_none}
 use Rattle.sqlite.specs.Effect.{Database}
 use Rattle.dict_commands.specs.declared.filing.Filing.{Filing}
 use Rattle.dict_commands.specs.declared.applied.Applied.{Applied}
 use Rattle.dict_commands.specs.declared.applied.Applied.TheVariants.{Repeated, Done}
 use Rattle.dict_store.specs.Applied.{AppliesOver}
-use Rattle.dict_store.specs.Desk.{DeskState, HasFiled, IsAtRest, Shows, AreServed, LeavesOneOf, StandsFor, is_closed, has_failed, last_by, reply_of}
+use Rattle.dict_store.specs.Desk.{DeskState, HasFiled, IsAtRest, Shows, ServesEditions, LeavesOneOf, StandsFor, is_closed, has_failed, last_by, reply_of}
 use Rattle.dict_store.specs.Prepared.{LetsGo}
-use Rattle.dict_store.specs.Kept.{KeepsTexts, texts_after}
+use Rattle.dict_store.specs.KeptParts.{KeepsTexts, texts_after}
 use Rattle.dict_store.proofs.TextLemmas.{more_installs}
 use Rattle.dict_store.specs.declared.last.LastCall.{LastCall}
 use Rattle.dict_store.proofs.DeskLemmas.{at_rest, filed_less, texts_keep}
 use Rattle.dict_rows.specs.Versions.{known}
 use Rattle.dict_holdings.proofs.OneLemmas.{left_known}
-use Rattle.dict_lookup.specs.KeptTexts.{Key}
+use Rattle.dict_lookup.specs.KeptTexts.{PartNumbers}
 
 -- ---- kept replies
 
@@ -67,21 +67,21 @@ catalogue_by M outcome (Ok (Done kept summary)) = outcome.catalogue
 catalogue_by M outcome (Err fault) = M
 
 -- tables of others, where nothing is committed of a command that isn't answered
-pub others_by : (result : Result Applied Fault) (a b : Database) → OnOk result (SparesOthers a b) → OnErr result (b ≡ a) → SparesOthers a b
+pub others_by : (result : Result Applied Fault) (a b : Database) → OnOk result (SparesTablesOfOthers a b) → OnErr result (b ≡ a) → SparesTablesOfOthers a b
 others_by (Ok applied) a b spares same = spares
-others_by (Err fault) a b spares same = subst (SparesOthers a) (sym same) (others_none a)
+others_by (Err fault) a b spares same = subst (SparesTablesOfOthers a) (sym same) (others_none a)
 
 -- what a command answers over a store that is open
-module _ {S : Type 0} (g : Ghosts S) (new : Held S) (M : Catalogue) (id : List ℕ) (outcome : Outcome) (indexes : List (ℕ × List Indexed)) (texts : List (Key × List ℕ)) where
+module _ {S : Type 0} (g : Ghosts S) (new : Held S) (M : Catalogue) (id : List ℕ) (outcome : Outcome) (indexes : List (ℕ × List Indexed)) (texts : List (PartNumbers × List ℕ)) where
   abbrev desk_by : Holdings (List ℕ) → LastCall → DeskState S
   desk_by summary last = record { conn = new; summary = summary; last = last; indexes = indexes; texts = texts }
 
   shown_by : (summary : Holdings (List ℕ)) (last : LastCall) (N : Catalogue) → summary ≡ summary_of N → IsWellFormed N → (IsTrue (state g new).is_open → Rests known (rested (state g new)) N)
-      → (HasCleanDisk (state g new) → AreServed g (desk_by summary last) N) → Shows g (desk_by summary last) N
+      → (HasCleanDisk (state g new) → ServesEditions g (desk_by summary last) N) → Shows g (desk_by summary last) N
   shown_by summary last N is well rests served = record { summary = is; well_formed = well; holds = λ fine clean live. (rests live).holds; served = served }
 
   pub applies_open : (summary : Holdings (List ℕ)) (result : Result Applied Fault) → summary ≡ summary_of M → IsWellFormed M → Answers (rested (state g new)) M id outcome result
-      → (HasCleanDisk (state g new) → AreServed g (desk_by (summary_after summary result) (last_by result)) (catalogue_by M outcome result))
+      → (HasCleanDisk (state g new) → ServesEditions g (desk_by (summary_after summary result) (last_by result)) (catalogue_by M outcome result))
       → Applies (Shows g (desk_by (summary_after summary result) (last_by result))) M outcome (reply_of result)
   applies_open summary (Ok (Repeated kept)) is well h served = (
     ap (λ (o : Outcome). o.reply) h.1,
@@ -103,9 +103,9 @@ unlawful_step : (M : Catalogue) (id : List ℕ) (command : Command Edition) → 
 unlawful_step M id command unlawful = rw unlawful refl
 
 -- and over one that is shut
-pub applies_shut : {S : Type 0} (g : Ghosts S) (new : Held S) (M : Catalogue) (id : List ℕ) (command : Command Edition) (indexes : List (ℕ × List Indexed)) (texts : List (Key × List ℕ)) (summary : Holdings (List ℕ)) (result : Result Applied Fault) → IsOfShut id result
-    → (HasCleanDisk (state g new) → AreServed g (desk_by g new M id (step M id command) indexes texts (summary_after summary result) (last_by result)) (catalogue_by M (step M id command) result))
-    → ((last : LastCall) → (HasCleanDisk (state g new) → AreServed g (desk_by g new M id (step M id command) indexes texts summary last) M) → Shows g (desk_by g new M id (step M id command) indexes texts summary last) M)
+pub applies_shut : {S : Type 0} (g : Ghosts S) (new : Held S) (M : Catalogue) (id : List ℕ) (command : Command Edition) (indexes : List (ℕ × List Indexed)) (texts : List (PartNumbers × List ℕ)) (summary : Holdings (List ℕ)) (result : Result Applied Fault) → IsOfShut id result
+    → (HasCleanDisk (state g new) → ServesEditions g (desk_by g new M id (step M id command) indexes texts (summary_after summary result) (last_by result)) (catalogue_by M (step M id command) result))
+    → ((last : LastCall) → (HasCleanDisk (state g new) → ServesEditions g (desk_by g new M id (step M id command) indexes texts summary last) M) → Shows g (desk_by g new M id (step M id command) indexes texts summary last) M)
     → Applies (Shows g (desk_by g new M id (step M id command) indexes texts (summary_after summary result) (last_by result))) M (step M id command) (reply_of result)
 applies_shut g new M id command indexes texts summary (Ok applied) h served shown = absurd h
 applies_shut g new M id command indexes texts summary (Err (Refused refusal)) h served shown =
@@ -182,7 +182,7 @@ closed_by (Err NewerSchema) = refl
 -- ---- a desk
 
 module _ {S : Type 0} (g : Ghosts S) (old new : Held S) (summary : Holdings (List ℕ)) (filing : Option Filing) (before : LastCall) (id : List ℕ) (command : Command Edition) (result : Result Applied Fault)
-    (open_before : is_closed before ≡ false) (rest : IsAtRest g before summary filing old) (over : AppliesOver g summary id command old new result) (indexes mid settled : List (ℕ × List Indexed)) (kept texts : List (Key × List ℕ)) where
+    (open_before : is_closed before ≡ false) (rest : IsAtRest g before summary filing old) (over : AppliesOver g summary id command old new result) (indexes mid settled : List (ℕ × List Indexed)) (kept texts : List (PartNumbers × List ℕ)) where
   clean_first : HasCleanDisk (state g new) → HasCleanDisk (state g old)
   clean_first clean = omega (arith, over.crash.clean)
 
@@ -214,7 +214,7 @@ module _ {S : Type 0} (g : Ghosts S) (old new : Held S) (summary : Holdings (Lis
   by_open A true if_open if_shut = if_open refl
   by_open A false if_open if_shut = if_shut refl
 
-  pub applies : HasCleanDisk (state g new) → (M : Catalogue) → Shows g desk_before M → (HasCleanDisk (state g new) → AreServed g desk_after (catalogue_by M (step M id command) result))
+  pub applies : HasCleanDisk (state g new) → (M : Catalogue) → Shows g desk_before M → (HasCleanDisk (state g new) → ServesEditions g desk_after (catalogue_by M (step M id command) result))
       → Applies (Shows g desk_after) M (step M id command) (reply_of result)
   applies clean M shown served = by_open (Applies (Shows g desk_after) M (step M id command) (reply_of result)) (state g old).is_open
       (λ live. applies_open g new M id (step M id command) settled texts summary result shown.summary shown.well_formed (over.value clean M (rests_before M shown clean live) (sym shown.summary)) served)
@@ -265,7 +265,7 @@ module _ {S : Type 0} (g : Ghosts S) (old new : Held S) (summary : Holdings (Lis
           subst (KeepsTexts last after) (sym is) (texts_keep last after kept (more_installs summary.installs after.installs more kept keeps.made)),
         )
 
-    pub told_applies : HasCleanDisk (state g new) → (M : Catalogue) → Shows g desk_before M → (HasCleanDisk (state g new) → AreServed g desk_after (catalogue_by M (step M id command) result))
+    pub told_applies : HasCleanDisk (state g new) → (M : Catalogue) → Shows g desk_before M → (HasCleanDisk (state g new) → ServesEditions g desk_after (catalogue_by M (step M id command) result))
         → Applies (Shows g desk_told) M (step M id command) told
     told_applies clean M shown served = subst (λ (r : Result Kept Fault). Applies (Shows g desk_told) M (step M id command) r) (sym told_is)
         (subst (λ (d : DeskState S). Applies (Shows g d) M (step M id command) (reply_of result)) desk_is (applies clean M shown served))

@@ -11,7 +11,7 @@ use Rattle.dict_commands.specs.Filing.{HasSameRows}
 use Rattle.dict_commands.specs.Installs.{IsReadInstall}
 use Rattle.dict_commands.specs.declared.filing.Filing.{Filing}
 use Rattle.dict_commands.specs.declared.reads.ReadInstall.{ReadInstall}
-use Rattle.dict_store.specs.Coming.{IsIndexOf}
+use Rattle.dict_store.specs.Coming.{IsIndexOfInstall}
 use Rattle.dict_store.specs.declared.making.IndexPart.{IndexPart}
 use Rattle.dict_store.specs.declared.making.IndexPart.TheVariants.{Entries, Parts, Lost}
 use Rattle.dict_store.proofs.StandingLemmas.{one_more}
@@ -50,10 +50,10 @@ install_same r after same known =
       stored = known.stored;
     })
 
-pub index_same : (r : ReadInstall) (after : Filing) (part : IndexPart) → HasSameRows r.filing after → IsIndexOf r part → IsIndexOf (record r { filing = after }) part
-index_same r after part same is = subst (λ (f : Filing). IsIndexOf (record r { filing = f }) part) (sym same) (by part is)
+pub index_same : (r : ReadInstall) (after : Filing) (part : IndexPart) → HasSameRows r.filing after → IsIndexOfInstall r part → IsIndexOfInstall (record r { filing = after }) part
+index_same r after part same is = subst (λ (f : Filing). IsIndexOfInstall (record r { filing = f }) part) (sym same) (by part is)
   where
-    by : (p : IndexPart) → IsIndexOf r p → IsIndexOf (record r { filing = record r.filing { parts_taken = after.parts_taken; parts_filed = after.parts_filed } }) p
+    by : (p : IndexPart) → IsIndexOfInstall r p → IsIndexOfInstall (record r { filing = record r.filing { parts_taken = after.parts_taken; parts_filed = after.parts_filed } }) p
     by (Entries builder) k = k
     by (Parts making) k = k
     by Lost k = k

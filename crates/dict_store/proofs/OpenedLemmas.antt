@@ -13,7 +13,7 @@ use Rattle.dict_migration.specs.Migrated.{IsMigrated}
 use Rattle.dict_rows.specs.Tables.{Tables}
 use Rattle.dict_rows.specs.Versions.{Parted, known}
 use Rattle.dict_search.specs.Entries.{Indexed, entry_of}
-use Rattle.dict_opening.specs.Indexed.{HasIndex, IsIndexed}
+use Rattle.dict_opening.specs.Indexed.{HasIndex, IsHeldIndexed}
 use Rattle.dict_store.specs.Indexed.{AreHeldCut, IsHeldCut}
 use Rattle.dict_store.proofs.IndexedLemmas.{each_has}
 use Rattle.dict_text.proofs.AllLemmas.{all_weaker}
@@ -39,7 +39,7 @@ module _ (db : Database) (T : Tables) (k : KeepsAll Parted db (with_derived T)) 
       (λ item a b. all_with (HasIndex T (name_of item) indexes) (λ (stored : Stored Edition). HasEdition M stored.number stored.content) (IsHeldCut db indexes)
       (held_cut db T k M indexes (name_of item) well) (editions_of item) a b) M.items h (each_has M)
 
-pub indexed_known : (db : Database) (M : Catalogue) (indexes : List (ℕ × List Indexed)) → IsIndexed known db M indexes → AreHeldCut db M indexes
+pub indexed_known : (db : Database) (M : Catalogue) (indexes : List (ℕ × List Indexed)) → IsHeldIndexed known db M indexes → AreHeldCut db M indexes
 indexed_known db M indexes it = all_cut db it.holds.tables it.holds.keeps M indexes (number_few M it.holds.stands.well_formed) it.each
 
 -- a migration has the same records of editions, and the same entries
@@ -49,7 +49,7 @@ moved_index T owner indexes stored one = record {
   stands = one.stands;
 }
 
-pub indexed_moved : (version : ℕ) (old new : Database) → IsMigrated version old new → (M : Catalogue) (indexes : List (ℕ × List Indexed)) → IsIndexed version old M indexes → AreHeldCut new M indexes
+pub indexed_moved : (version : ℕ) (old new : Database) → IsMigrated version old new → (M : Catalogue) (indexes : List (ℕ × List Indexed)) → IsHeldIndexed version old M indexes → AreHeldCut new M indexes
 indexed_moved version old new migrated M indexes it =
     let T = it.holds.tables in
     let keeps = migrated.keeps T M it.holds.keeps it.holds.shown it.holds.stands in

@@ -7,10 +7,10 @@ use Rattle.sqlite_trees.specs.declared.store.Store.{Ghosts}
 use Rattle.dict_catalogue.specs.Steps.{Catalogue}
 use Rattle.dict_migration.specs.Migrated.{MayMigrate}
 use Rattle.dict_migration.proofs.StopLemmas.{stopped}
-use Rattle.dict_store.specs.Over.{Leaves}
+use Rattle.dict_store.specs.Over.{ConnectionLeavesOneOf}
 
 module _ {S : Type 0} (g : Ghosts S) (old new : Held S) (live : IsLive (state g old)) (stays : IsTrue (state g old).is_open → (state g old).may_leave (state g old).committed.trees)
     (survives : Survives (state g (record old { step_limit = None })) (state g new) (MayMigrate (state g old))) where
   -- what was opened leaves no catalogue more
-  pub leaves_after : (ms : List (Option Catalogue)) → Leaves g old ms → Leaves g new ms
+  pub leaves_after : (ms : List (Option Catalogue)) → ConnectionLeavesOneOf g old ms → ConnectionLeavesOneOf g new ms
   leaves_after ms leaves = stopped (state g (record old { step_limit = None })) (state g new) (λ open'. (live open').1) stays survives ms leaves

@@ -18,8 +18,8 @@ use Rattle.dict_holdings.specs.Holds.{HasLayout, Holds}
 use Rattle.dict_sql.specs.Effects.{Has}
 use Rattle.dict_tables.specs.Tables.{kept}
 use Rattle.dict_holdings.specs.Texts.{HoldsText}
-use Rattle.dict_lookup.specs.Searches.{HoldsOne, IsReadable, column_of}
-use Rattle.dict_commands.specs.Kept.{IsUsable, HoldsReplies}
+use Rattle.dict_lookup.specs.Searches.{HoldsOne, IsEditionReadable, number_in_column}
+use Rattle.dict_commands.specs.KeptRecords.{IsUsable, HoldsReplies}
 use Rattle.dict_commands.specs.Filing.{IsAhead, KeepsEdition, ShowsStill}
 use Rattle.dict_commands.specs.declared.filing.Filing.{Filing}
 use Rattle.dict_commands.proofs.KeptLemmas.{holds_replies}
@@ -49,42 +49,42 @@ pub same_alike : (number : ℕ) (committed now : Database) → now ≡ committed
 same_alike number committed now same = record {
   one = λ reading one. subst (λ (db : Database). HoldsOne db number reading) (sym same) one;
   text = λ text held. subst (λ (db : Database). HoldsText db number text) (sym same) held;
-  readable = λ readable. subst (λ (db : Database). IsReadable db (column_of number)) (sym same) readable;
+  readable = λ readable. subst (λ (db : Database). IsEditionReadable db (number_in_column number)) (sym same) readable;
 }
 
 module _ (law : (f : Filing) (committed now : Database) → IsUsable committed → IsAhead f committed now → ShowsStill f committed now) where
   still_alike : (f : Filing) (committed now : Database) (M : Catalogue) → Holds known committed M → IsAhead f committed now → (number : ℕ) → AllByRecursion (λ one. one ≢ number) f.gone.items × (f.number ≢ number)
-      → AllByRecursion (λ one. one ≢ column_of number) f.gone.items × (f.number ≢ column_of number) → IsAlike number committed now
+      → AllByRecursion (λ one. one ≢ number_in_column number) f.gone.items × (f.number ≢ number_in_column number) → IsAlike number committed now
   still_alike f committed now M holds ahead number apart as_column =
       let still = law f committed now (usable committed M holds) ahead in
       let keeps : (n : ℕ) → AllByRecursion (λ one. one ≢ n) f.gone.items × (f.number ≢ n) → KeepsEdition n committed now = λ n others. still.editions n (stays n f.gone.items others.0) (λ same. others.1 (sym same)) in
       record {
         one = one_still number committed now (keeps number apart);
         text = text_still number committed now (keeps number apart);
-        readable = readable_still (column_of number) committed now (keeps (column_of number) as_column) still.usable;
+        readable = readable_still (number_in_column number) committed now (keeps (number_in_column number) as_column) still.usable;
       }
 
   -- what is seen under a number that has nothing to do with what is filed
   pub alike_by : {S : Type 0} (g : Ghosts S) (last : LastCall) (summary : Holdings (List ℕ)) (filing : Option Filing) (h : Held S) → is_closed last ≡ false → IsAtRest g last summary filing h
-      → (number : ℕ) → IsApart filing number h → IsApart filing (column_of number) h → HasCleanDisk (state g h) → IsTrue (state g h).is_open → IsAlike number (state g h).committed (state g h).now
+      → (number : ℕ) → IsApart filing number h → IsApart filing (number_in_column number) h → HasCleanDisk (state g h) → IsTrue (state g h).is_open → IsAlike number (state g h).committed (state g h).now
   alike_by g last summary filing h fine rest number apart as_column clean live = by_filing filing (rest.filed fine) apart as_column
     where
       settled : h.in_transaction ≡ false → IsAlike number (state g h).committed (state g h).now
       settled none = same_alike number (state g h).committed (state g h).now (rest.settled fine clean live none)
 
-      inside_by : (f : Filing) → HasFiled g (Some f) h → AllByRecursion (λ one. one ≢ number) f.gone.items × (f.number ≢ number) → AllByRecursion (λ one. one ≢ column_of number) f.gone.items × (f.number ≢ column_of number)
+      inside_by : (f : Filing) → HasFiled g (Some f) h → AllByRecursion (λ one. one ≢ number) f.gone.items × (f.number ≢ number) → AllByRecursion (λ one. one ≢ number_in_column number) f.gone.items × (f.number ≢ number_in_column number)
           → (b : Bool) → h.in_transaction ≡ b → IsAlike number (state g h).committed (state g h).now
       inside_by f some here there false none = settled none
       inside_by f some here there true inside =
           let it = rest.holds fine clean live in
           still_alike f (state g h).committed (state g h).now it.0 it.1 (some.1 clean live inside) number here there
 
-      both_by : (f : Filing) → HasFiled g (Some f) h → IsApart (Some f) number h → IsApart (Some f) (column_of number) h → IsAlike number (state g h).committed (state g h).now
+      both_by : (f : Filing) → HasFiled g (Some f) h → IsApart (Some f) number h → IsApart (Some f) (number_in_column number) h → IsAlike number (state g h).committed (state g h).now
       both_by f some (inl none) there = settled none
       both_by f some (inr here) (inl none) = settled none
       both_by f some (inr here) (inr there) = inside_by f some here there h.in_transaction refl
 
-      by_filing : (it : Option Filing) → HasFiled g it h → IsApart it number h → IsApart it (column_of number) h → IsAlike number (state g h).committed (state g h).now
+      by_filing : (it : Option Filing) → HasFiled g it h → IsApart it number h → IsApart it (number_in_column number) h → IsAlike number (state g h).committed (state g h).now
       by_filing None none here there = settled here
       by_filing (Some f) some here there = both_by f some here there
 

@@ -14,10 +14,10 @@ use Rattle.dict_desk.specs.Faults.{is_disk, is_failure, has_failed_by, has_close
 use Rattle.dict_desk.specs.declared.fault.Fault.{Fault}
 use Rattle.dict_desk.specs.declared.fault.Fault.TheVariants.{Refused, Memory, Disk, Closed as Shut, NotACatalogue, Damaged, NewerSchema}
 use Rattle.dict_rows.specs.Versions.{known}
-use Rattle.dict_holdings.specs.Faults.{FailsToLookUp}
+use Rattle.dict_holdings.specs.Faults.{FailsToReadCatalogue}
 use Rattle.dict_holdings.specs.Holds.{Holds}
 use Rattle.dict_lookup.specs.Texts.{ArePartsOf}
-use Rattle.dict_lookup.specs.KeptTexts.{Key}
+use Rattle.dict_lookup.specs.KeptTexts.{PartNumbers}
 use Rattle.dict_search.specs.Entries.{Indexed}
 use Rattle.dict_commands.specs.Committed.{IsOfStore}
 use Rattle.dict_commands.specs.Filing.{IsDrawnUp}
@@ -25,7 +25,7 @@ use Rattle.dict_commands.specs.declared.filing.Filing.{Filing}
 use Rattle.dict_lookup.specs.Indexes.{entries_under}
 use Rattle.dict_store.specs.Causes.{FailsToPrepare}
 use Rattle.dict_store.specs.Desk.{DeskState, HasCommitted, HasFiled, IsAtRest, Shows, has_failed, is_closed}
-use Rattle.dict_store.specs.Kept.{KeepsTexts, texts_after, texts_behind}
+use Rattle.dict_store.specs.KeptParts.{KeepsTexts, texts_after, texts_behind}
 use Rattle.dict_store.specs.Prepared.{Undoes, last_behind}
 use Rattle.dict_store.specs.declared.last.LastCall.{LastCall}
 use Rattle.dict_store.specs.declared.last.LastCall.TheVariants.{Closed}
@@ -41,7 +41,7 @@ or_false false = refl
 or_false true = refl
 
 -- the texts that are kept behind what was prepared
-pub parts_behind : {T : Type 0} (result : Result T Fault) (number : ℕ) (text : List ℕ) (texts : List (Key × List ℕ)) → ArePartsOf number text texts → ArePartsOf number text (texts_behind result texts)
+pub parts_behind : {T : Type 0} (result : Result T Fault) (number : ℕ) (text : List ℕ) (texts : List (PartNumbers × List ℕ)) → ArePartsOf number text texts → ArePartsOf number text (texts_behind result texts)
 parts_behind (Ok value) number text texts are = are
 parts_behind (Err fault) number text texts are = tt
 
@@ -60,7 +60,7 @@ module _ {S : Type 0} (g : Ghosts S) where
   rests_as summary filing before after h fine rest left filed = at_rest g after summary left h rest.limit rest.range (λ _. rest.holds fine) (λ _. rest.settled fine) (λ _. filed)
 
   pub shows_as : (summary : Holdings (List ℕ)) (before after : LastCall) (h : Held S) → is_closed before ≡ false → (old new : List (ℕ × List Indexed)) → ((q : ℕ) → entries_under q new ≡ entries_under q old)
-      → (kept texts : List (Key × List ℕ)) → texts ≡ texts_after after kept
+      → (kept texts : List (PartNumbers × List ℕ)) → texts ≡ texts_after after kept
       → (M : Catalogue) → Shows g (record { conn = h; summary = summary; last = before; indexes = old; texts = kept }) M → Shows g (record { conn = h; summary = summary; last = after; indexes = new; texts = texts }) M
   shows_as summary before after h fine old new same kept texts is M shown = record {
     summary = shown.summary;
@@ -87,7 +87,7 @@ module _ {S : Type 0} (g : Ghosts S) where
   read_filed before after h (inr drawn) none filed = planned_filed after h drawn none
 
   -- there is more to prepare: a transaction is open, or all that is seen of the desk is as it was
-  pub more_prepared : (old : DeskState S) (conn : Held S) (last : LastCall) (texts : List (Key × List ℕ)) (result : Result Bool Fault) → last ≡ last_behind old.last result → texts ≡ texts_behind result old.texts → result ≡ Ok true
+  pub more_prepared : (old : DeskState S) (conn : Held S) (last : LastCall) (texts : List (PartNumbers × List ℕ)) (result : Result Bool Fault) → last ≡ last_behind old.last result → texts ≡ texts_behind result old.texts → result ≡ Ok true
       → (conn.in_transaction ≡ true) ⊎ (conn ≡ old.conn) → (conn.in_transaction ≡ true) ⊎ (record { conn = conn; summary = old.summary; last = last; indexes = old.indexes; texts = texts } ≡ old)
   more_prepared old conn last texts (Ok more) by is ok (inl inside) = inl inside
   more_prepared old conn last texts (Ok more) by is ok (inr same) = inr (λ i. record { conn = same i; summary = old.summary; last = by i; indexes = old.indexes; texts = is i })
@@ -112,7 +112,7 @@ module _ {S : Type 0} (g : Ghosts S) (old new : Held S) (summary : Holdings (Lis
       (λ _. settled_on g old new summary filing last last fine rest survives (λ clean. undone_continues g old new (undone clean)))
       (λ _. filed)
 
-  pub undone_shows : (after : LastCall) (indexes : List (ℕ × List Indexed)) (texts : List (Key × List ℕ)) (M : Catalogue) → Shows g (record { conn = old; summary = summary; last = last; indexes = indexes; texts = texts }) M
+  pub undone_shows : (after : LastCall) (indexes : List (ℕ × List Indexed)) (texts : List (PartNumbers × List ℕ)) (M : Catalogue) → Shows g (record { conn = old; summary = summary; last = last; indexes = indexes; texts = texts }) M
       → Shows g (record { conn = new; summary = summary; last = after; indexes = indexes; texts = texts }) M
   undone_shows after indexes texts M shown = shows_with g old new summary filing last after fine rest survives (λ clean. undone_continues g old new (undone clean)) indexes texts M shown texts (λ clean stored one. one.kept)
 
@@ -122,7 +122,7 @@ module _ {S : Type 0} (g : Ghosts S) (old mid new : Held S) (inside : old.in_tra
   pub survives_both : Survives (state g old) (state g new) (λ _. ⊥)
   survives_both = survives_then (state g old) (state g mid) (state g new) (λ _. ⊥) (λ _. ⊥) (λ _. ⊥) (λ _ db none. none) (λ _ db none. none) one two
 
-  pub undone_behind : (fault : Fault) → FailsToLookUp (state g old) (state g mid) fault → Undoes g mid new → new.in_transaction ≡ false → Undoes g old new
+  pub undone_behind : (fault : Fault) → FailsToReadCatalogue (state g old) (state g mid) fault → Undoes g mid new → new.in_transaction ≡ false → Undoes g old new
   undone_behind fault (inl same) (inl is) none = absurd (false≢true (sym none ∙ (ap (λ (h : Held S). h.in_transaction) is ∙ (same.0.0.mode ∙ inside))))
   undone_behind fault (inl same) (inr back) none = inr (
     inside,
@@ -159,12 +159,12 @@ module _ {S : Type 0} (g : Ghosts S) (old new : Held S) (summary : Holdings (Lis
       → HasFiled g left new → IsAtRest g after summary left new
   prepared_rests after left settled filed = at_rest g after summary left new (survives.limit ∙ rest.limit) rest.range (λ _. prepared_committed) (λ _. settled) (λ _. filed)
 
-  pub prepared_keeps : {T : Type 0} (result : Result T Fault) (after : LastCall) → after ≡ last_behind before result → (kept texts : List (Key × List ℕ)) → texts ≡ texts_behind result kept
+  pub prepared_keeps : {T : Type 0} (result : Result T Fault) (after : LastCall) → after ≡ last_behind before result → (kept texts : List (PartNumbers × List ℕ)) → texts ≡ texts_behind result kept
       → KeepsTexts before summary kept → KeepsTexts after summary texts
   prepared_keeps (Ok value) after by kept texts is keeps = subst (KeepsTexts after summary) (sym is) (subst (λ (l : LastCall). KeepsTexts l summary kept) (sym by) keeps)
   prepared_keeps (Err fault) after by kept texts is keeps = subst (KeepsTexts after summary) (sym is) (record { made = tt; none = λ failed. refl })
 
-  pub prepared_shows : {T : Type 0} (result : Result T Fault) (after : LastCall) (indexes : List (ℕ × List Indexed)) (kept texts : List (Key × List ℕ)) → texts ≡ texts_behind result kept → (M : Catalogue)
+  pub prepared_shows : {T : Type 0} (result : Result T Fault) (after : LastCall) (indexes : List (ℕ × List Indexed)) (kept texts : List (PartNumbers × List ℕ)) → texts ≡ texts_behind result kept → (M : Catalogue)
       → Shows g (record { conn = old; summary = summary; last = before; indexes = indexes; texts = kept }) M → Shows g (record { conn = new; summary = summary; last = after; indexes = indexes; texts = texts }) M
   prepared_shows result after indexes kept texts is M shown = record {
     summary = shown.summary;

@@ -7,7 +7,7 @@ use Rattle.sqlite.specs.Tree.{Trees}
 use Rattle.sqlite.specs.State.{HasCleanDisk}
 use Rattle.sqlite.specs.Held.{state}
 use Rattle.sqlite_trees.specs.declared.store.Store.{Ghosts}
-use Rattle.dict_catalogue.specs.Steps.{Catalogue, Request, after, acts, step}
+use Rattle.dict_catalogue.specs.Steps.{Catalogue, CommandRequest, after, acts, step}
 use Rattle.dict_catalogue.specs.declared.fault.CommandRefusal.{CommandRefusal}
 use Rattle.dict_catalogue.specs.declared.reply.Kept.{Kept}
 use Rattle.dict_catalogue.proofs.StepLemmas.{idle_leaves}
@@ -31,7 +31,7 @@ second_none : (a b : Bool) → (a || b) ≡ false → b ≡ false
 second_none false b e = e
 second_none true b e = absurd (true≢false e)
 
-none_acted : (M : Catalogue) (requests : List Request) → has_acted M requests ≡ false → after M requests ≡ M
+none_acted : (M : Catalogue) (requests : List CommandRequest) → has_acted M requests ≡ false → after M requests ≡ M
 none_acted M [] e = refl
 none_acted M (request ∷ requests) e =
     let idle = first_none (acts M request.id request.command) (has_acted (step M request.id request.command).catalogue requests) e in
@@ -49,12 +49,12 @@ either one other x (zero, below, is) = inl is
 either one other x (suc zero, below, is) = inr is
 either one other x (suc (suc k), below, is) = absurd (omega arith)
 
-module _ {S : Type 0} (g : Ghosts S) (old new : DeskState S) (M : Catalogue) (requests : List Request) (first : LeavesOneOf g old (Some M ∷ [])) where
-  left_by : (front : List Request) (b : Bool) → has_acted M front ≡ b → MatchBool b (Some (after M front) ∷ [] ≡ Some (after M front) ∷ []) (LeavesOneOf g old (Some (after M front) ∷ []))
+module _ {S : Type 0} (g : Ghosts S) (old new : DeskState S) (M : Catalogue) (requests : List CommandRequest) (first : LeavesOneOf g old (Some M ∷ [])) where
+  left_by : (front : List CommandRequest) (b : Bool) → has_acted M front ≡ b → MatchBool b (Some (after M front) ∷ [] ≡ Some (after M front) ∷ []) (LeavesOneOf g old (Some (after M front) ∷ []))
   left_by front true e = refl
   left_by front false e = subst (λ m. LeavesOneOf g old (Some m ∷ [])) (sym (none_acted M front e)) first
 
-  pub left_after : (front : List Request) → LeftAfter (LeavesOneOf g old) M front (Some (after M front) ∷ [])
+  pub left_after : (front : List CommandRequest) → LeftAfter (LeavesOneOf g old) M front (Some (after M front) ∷ [])
   left_after front = left_by front (has_acted M front) refl
 
   alone_left : (N : Catalogue) (trees : Trees) → IsLeft N trees → IsLeftAlone N trees
@@ -111,7 +111,7 @@ module _ {S : Type 0} (g : Ghosts S) (old new : DeskState S) (M : Catalogue) (re
       so_many answered (subst (λ front. LeavesOneOf g new (Some (after M front) ∷ [])) (sym whole) (all_alone outcomes h).alone) clean trees may
 
 -- the same, of a call
-module _ {S T : Type 0} (g : Ghosts S) (old new : DeskState S) (requests : List Request) (items : T → List (Result Kept CommandRefusal)) (size : T → ℕ) where
+module _ {S T : Type 0} (g : Ghosts S) (old new : DeskState S) (requests : List CommandRequest) (items : T → List (Result Kept CommandRefusal)) (size : T → ℕ) where
   abbrev Answers : Result T Halted → Type 0
   Answers result = HasCleanDisk (state g new.conn) → (M : Catalogue) → Shows g old M → IfOk result (λ value. AllAnswered (Shows g new) (LeavesOneOf g old) (LeavesOneOf g new) M requests (items value))
 
@@ -138,7 +138,7 @@ module _ {S T : Type 0} (g : Ghosts S) (old new : DeskState S) (requests : List 
   call_goes_on (Err halted) h = tt
 
   -- as many as were asked for
-  pub counted_meant : {R : Type 0} (asked : List R) (mean : R → Request) (result : Result T Halted) → requests ≡ map mean asked → length (map mean asked) ≡ length asked
+  pub counted_meant : {R : Type 0} (asked : List R) (mean : R → CommandRequest) (result : Result T Halted) → requests ≡ map mean asked → length (map mean asked) ≡ length asked
       → IfOk result (λ value. size value ≡ length asked) → IfOk result (λ value. size value ≡ length requests)
   counted_meant asked mean (Ok value) is same h = h ∙ sym same ∙ ap length (sym is)
   counted_meant asked mean (Err halted) is same h = tt

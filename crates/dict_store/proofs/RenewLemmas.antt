@@ -12,8 +12,8 @@ use Rattle.dict_desk.specs.Faults.{is_disk}
 use Rattle.dict_desk.specs.declared.fault.Fault.{Fault}
 use Rattle.dict_desk.specs.declared.fault.Fault.TheVariants.{Disk}
 use Rattle.dict_holdings.specs.Holds.{Holds}
-use Rattle.dict_migration.specs.Failing.{FailsAtLast, FailsBefore, FailsToMigrate, FailsToMove, IsBeyond}
-use Rattle.dict_migration.specs.Places.{Place}
+use Rattle.dict_migration.specs.Failing.{MigrationFailsAtLast, MigrationFailsBefore, FailsToMigrate, FailsToMoveEditions, IsBeyond}
+use Rattle.dict_migration.specs.FailurePlaces.{FailurePlace}
 use Rattle.dict_rows.specs.Versions.{known}
 
 module _ {S : Type 0} (g : Ghosts S) (conn read left : Held S) (survives : Survives (state g conn) (state g read) (λ _. ⊥)) where
@@ -21,7 +21,7 @@ module _ {S : Type 0} (g : Ghosts S) (conn read left : Held S) (survives : Survi
   begun : Survives (state g (record conn { in_transaction = true })) (state g (record read { in_transaction = true })) (λ _. ⊥)
   begun = record { clean = survives.clean; shield = survives.shield; counts = survives.counts; limit = survives.limit; closes = survives.closes; crash = survives.crash }
 
-  before_read : (P : Place) (fault : Fault) → (state g read).now ≡ (state g conn).now → FailsBefore g P read left fault → FailsBefore g P conn left fault
+  before_read : (P : FailurePlace) (fault : Fault) → (state g read).now ≡ (state g conn).now → MigrationFailsBefore g P read left fault → MigrationFailsBefore g P conn left fault
   before_read P fault same h = record {
     error = h.error;
     told = h.told;
@@ -38,8 +38,8 @@ module _ {S : Type 0} (g : Ghosts S) (conn read left : Held S) (survives : Survi
     undone = h.undone;
   }
 
-  at_last_read : (version : ℕ) (fault : Fault) → (state g read).committed ≡ (state g conn).committed → FailsAtLast g (λ db. (M : Catalogue) → Holds version (state g read).committed M → Holds known db M) read left fault
-      → FailsAtLast g (λ db. (M : Catalogue) → Holds version (state g conn).committed M → Holds known db M) conn left fault
+  at_last_read : (version : ℕ) (fault : Fault) → (state g read).committed ≡ (state g conn).committed → MigrationFailsAtLast g (λ db. (M : Catalogue) → Holds version (state g read).committed M → Holds known db M) read left fault
+      → MigrationFailsAtLast g (λ db. (M : Catalogue) → Holds version (state g conn).committed M → Holds known db M) conn left fault
   at_last_read version fault committed h = record {
     told = h.told;
     last = h.last;
@@ -50,7 +50,7 @@ module _ {S : Type 0} (g : Ghosts S) (conn read left : Held S) (survives : Survi
   }
 
   moves_read : (version : ℕ) (summary : Holdings (List ℕ)) (fault : Fault) → (state g read).now ≡ (state g conn).now → (state g read).committed ≡ (state g conn).committed
-      → FailsToMove g version summary read left fault → FailsToMove g version summary conn left fault
+      → FailsToMoveEditions g version summary read left fault → FailsToMoveEditions g version summary conn left fault
   moves_read version summary fault same committed h = record {
     older = h.older;
     layout = h.layout;
@@ -61,7 +61,7 @@ module _ {S : Type 0} (g : Ghosts S) (conn read left : Held S) (survives : Survi
   }
 
   pub renews_read : (version : ℕ) (summary : Holdings (List ℕ)) → (state g read).now ≡ (state g conn).now → (state g read).committed ≡ (state g conn).committed → FailsToMigrate g version summary read left Disk
-      → IsBeyond summary ⊎ FailsToMove g version summary conn left Disk
+      → IsBeyond summary ⊎ FailsToMoveEditions g version summary conn left Disk
   renews_read version summary same committed (inl h) = elim h.why [
     | inl memory ↦ absurd (false≢true (sym (ap is_disk memory)))
     | inr disk ↦ inl disk.1

@@ -21,13 +21,13 @@ use Rattle.sqlite_store.specs.declared.store.FileStore.{FileStore}
 use Rattle.sqlite_pool.proofs.StateLemmas.{clean_is, may_leave_is}
 use Rattle.sqlite_trees.proofs.Doubt.{no_doubt}
 use Rattle.sqlite.proofs.Theorems.{next_run, opens_again}
-use Rattle.dict_catalogue.specs.Steps.{Catalogue, Request, after}
+use Rattle.dict_catalogue.specs.Steps.{Catalogue, CommandRequest, after}
 use Rattle.dict_desk.specs.declared.fault.Fault.{Fault}
 use Rattle.dict_holdings.specs.Holds.{IsLeft}
 use Rattle.dict_opening.specs.Reading.{IsOfOpening}
 use Rattle.dict_store.specs.Desk.{DeskState, LeavesOneOf, StandsFor}
 use Rattle.dict_store.specs.Promise.{HoldsFront}
-use Rattle.dict_store.specs.Reopened.{HoldsFrontIn, IsOfStore, IsLetGo, IsOpenedOver, LeavesFront, ShowsFront, ShowsOneOf}
+use Rattle.dict_store.specs.Reopened.{HoldsFrontIn, IsNoFaultOfContents, IsLetGo, IsOpenedOver, LeavesFront, ShowsFront, ShowsOneOf}
 use Rattle.dict_store.specs.Unopened.{IsOneIn, IsOneOf, IsRejected, IsUnopenedOver, IsUnopenedAgain, IsExcused, HandsBack, TellsNoHolding}
 use Rattle.dict_store.specs.declared.reopening.Unopened.{Unopened}
 use Rattle.dict_store.specs.declared.reopening.Unopened.TheVariants as left
@@ -36,7 +36,7 @@ use Rattle.dict_migration.specs.Migrated.{MayMigrate}
 use Rattle.dict_migration.proofs.StopLemmas.{stands_still}
 
 -- what a stop leaves of two files is a database that holds what its trees stand for
-pub front_in : {D : Type 0} {g : Ghosts D} (it : FileStore D g) (before : Catalogue) (requests : List Request) (answered : ℕ) (left : Image)
+pub front_in : {D : Type 0} {g : Ghosts D} (it : FileStore D g) (before : Catalogue) (requests : List CommandRequest) (answered : ℕ) (left : Image)
     → IsTrue (view it).is_numbered → ((trees : Trees) → recovers it trees → HoldsFront before requests answered trees) → (state it).may_leave left → ∥ HoldsFrontIn before requests answered left ∥₁
 front_in it before requests answered left numbered each may =
     let sound : AreDatabases (recovers it) = λ trees found. let whole = (each trees found).3.left in (whole.0.schema, subst (IsSound whole.0.schema) (sym whole.1) whole.2) in
@@ -109,7 +109,7 @@ module _ {D : Type 0} {g : Ghosts D} (stays : SeenMayStay g) (desk : DeskState (
     shows_one_of ms leaves =
         ∥∥₁_map (may over.conn over.opened early) (λ both. let h = leaves both.0 (file_state over.conn).committed.trees both.1 in shows_as ms h.0 h.1 h.2)
 
-    pub shows_front : (before : Catalogue) (requests : List Request) (answered : ℕ) → LeavesFront over_files desk before requests answered → ∥ ShowsFront over_files next before requests answered ∥₁
+    pub shows_front : (before : Catalogue) (requests : List CommandRequest) (answered : ℕ) → LeavesFront over_files desk before requests answered → ∥ ShowsFront over_files next before requests answered ∥₁
     shows_front before requests answered leaves =
         ∥∥₁_map (may over.conn over.opened early)
         (λ both. let h = leaves both.0 (file_state over.conn).committed.trees both.1 in (h.0, h.1, h.2, over.left honest (after before (take h.0 requests)) h.3.left))
@@ -126,7 +126,7 @@ module _ {D : Type 0} {g : Ghosts D} (stays : SeenMayStay g) (desk : DeskState (
     first_clean = omega (arith, over.adopted.crash.clean, honest)
 
     -- no fault tells of what was opened, where a stop always leaves a catalogue
-    is_of_store : (HasCleanDisk (file_state desk.conn) → (trees : Trees) → (file_state desk.conn).may_leave trees → (M : Catalogue) × IsLeft M trees) → IsOfStore fault
+    is_of_store : (HasCleanDisk (file_state desk.conn) → (trees : Trees) → (file_state desk.conn).may_leave trees → (M : Catalogue) × IsLeft M trees) → IsNoFaultOfContents fault
     is_of_store leaves =
         let first = over.conn in
         let whole = (over.opened first_clean).0.0 in
@@ -147,7 +147,7 @@ module _ {D : Type 0} {g : Ghosts D} (stays : SeenMayStay g) (desk : DeskState (
   tells_none (left.Spent both) fault h = λ ms leaves never. tt
   tells_none (left.Database conn) fault h = λ ms leaves never honest. is_of_store conn fault h honest (λ clean trees stop. let it = leaves clean trees stop in left_as trees ms it.0 it.1 it.2 never)
 
-  pub tells_none_of_front : (it : Unopened D g) (fault : Fault) → IsUnopenedOver now it fault → (before : Catalogue) (requests : List Request) (answered : ℕ) → LeavesFront over_files desk before requests answered → TellsNoHolding it fault
+  pub tells_none_of_front : (it : Unopened D g) (fault : Fault) → IsUnopenedOver now it fault → (before : Catalogue) (requests : List CommandRequest) (answered : ℕ) → LeavesFront over_files desk before requests answered → TellsNoHolding it fault
   tells_none_of_front (left.Files some) fault h = λ before requests answered leaves. tt
   tells_none_of_front (left.Spent both) fault h = λ before requests answered leaves. tt
   tells_none_of_front (left.Database conn) fault h = λ before requests answered leaves honest.

@@ -15,7 +15,7 @@ use Rattle.dict_holdings.specs.Texts.{HoldsText}
 use Rattle.dict_lookup.specs.Texts.{ArePartsOf}
 use Rattle.dict_lookup.proofs.FailLemmas.{all_contains}
 use Rattle.dict_store.specs.Prepared.{IsAlike}
-use Rattle.dict_store.specs.Desk.{DeskState, IsServed, AreServed, is_closed}
+use Rattle.dict_store.specs.Desk.{DeskState, ServesEdition, ServesEditions, is_closed}
 
 -- what holds of each edition of each item
 pub each_edition : (P Q : Stored Edition → Type 0) → ((stored : Stored Edition) → P stored → Q stored) → (items : List (Item Edition)) → AllByRecursion (λ item. AllByRecursion P (editions_of item)) items
@@ -24,7 +24,7 @@ each_edition P Q f items h = all_weaker (λ item. AllByRecursion P (editions_of 
 
 module _ {S : Type 0} (g : Ghosts S) (old new : DeskState S) (same : (q : ℕ) → entries_under q new.indexes ≡ entries_under q old.indexes) (fine : is_closed new.last ≡ false → is_closed old.last ≡ false)
     (was_open : IsTrue (state g new.conn).is_open → IsTrue (state g old.conn).is_open) (committed : IsTrue (state g new.conn).is_open → (state g new.conn).committed ≡ (state g old.conn).committed) where
-  pub one_still : (stored : Stored Edition) (one : IsServed g old stored) → ArePartsOf stored.number one.text new.texts → IsServed g new stored
+  pub one_still : (stored : Stored Edition) (one : ServesEdition g old stored) → ArePartsOf stored.number one.text new.texts → ServesEdition g new stored
   one_still stored one parts = record {
     index = one.index;
     stands = same stored.number ∙ one.stands;
@@ -34,15 +34,15 @@ module _ {S : Type 0} (g : Ghosts S) (old new : DeskState S) (same : (q : ℕ) �
     held = λ open' live. subst (λ (db : Database). HoldsText db stored.number one.text) (sym (committed live)) (one.held (fine open') (was_open live));
   }
 
-  pub served_still : ((stored : Stored Edition) (one : IsServed g old stored) → ArePartsOf stored.number one.text new.texts) → (M : Catalogue) → AreServed g old M → AreServed g new M
-  served_still parts M h = each_edition (IsServed g old) (IsServed g new) (λ stored one. one_still stored one (parts stored one)) M.items h
+  pub served_still : ((stored : Stored Edition) (one : ServesEdition g old stored) → ArePartsOf stored.number one.text new.texts) → (M : Catalogue) → ServesEditions g old M → ServesEditions g new M
+  served_still parts M h = each_edition (ServesEdition g old) (ServesEdition g new) (λ stored one. one_still stored one (parts stored one)) M.items h
 
 -- ---- one edition
 
 -- the edition of a number
-pub served_one : {S : Type 0} (g : Ghosts S) (desk : DeskState S) (M : Catalogue) (number : ℕ) (edition : Edition) → HasEdition M number edition → AreServed g desk M → IsServed g desk (record { number = number; content = edition })
+pub served_one : {S : Type 0} (g : Ghosts S) (desk : DeskState S) (M : Catalogue) (number : ℕ) (edition : Edition) → HasEdition M number edition → ServesEditions g desk M → ServesEdition g desk (record { number = number; content = edition })
 served_one g desk M number edition has served =
-    all_contains (IsServed g desk) (editions_of has.item) (record { number = number; content = edition }) (all_contains (λ item. AllByRecursion (IsServed g desk) (editions_of item)) M.items has.item served has.stands) has.stored
+    all_contains (ServesEdition g desk) (editions_of has.item) (record { number = number; content = edition }) (all_contains (λ item. AllByRecursion (ServesEdition g desk) (editions_of item)) M.items has.item served has.stands) has.stored
 
 -- what is committed under a number is seen, where nothing of it is prepared
 pub seen_text : (number : ℕ) (committed now : Database) → IsAlike number committed now → (other : ℕ) → other ≡ number → (text : List ℕ) → HoldsText committed other text → HoldsText now other text

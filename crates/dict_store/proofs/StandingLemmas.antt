@@ -21,7 +21,7 @@ use Rattle.dict_index.specs.declared.entry.Entry.{Entry}
 use Rattle.dict_lookup.specs.Indexes.{entries_under}
 use Rattle.dict_rows.proofs.OrderLemmas.{all_with}
 use Rattle.dict_search.specs.Entries.{Indexed, entry_of}
-use Rattle.dict_store.specs.Indexed.{HasLetGo, HasPut, HasSettled, IsGone, index_coming}
+use Rattle.dict_store.specs.Indexed.{HasLetGoIndexes, HasPutIfSome, HasSettled, IsGone, index_coming}
 
 -- ---- of each number of the items
 
@@ -60,8 +60,8 @@ pub settled_done : (number : ℕ) (done : Applied) (kept : Kept) (after : Summar
 settled_done number done kept after old new is h = subst (λ (a : Applied). HasSettled number (Ok a) old new) (sym is) h
 
 pub gone_done : (before : List Item) (number : ℕ) (done : Applied) (kept : Kept) (after : Summary) (indexes : List (ℕ × List Indexed)) → done ≡ Done kept after
-    → AllByRecursion (OfNumbers (IsGone after.items.items indexes)) before → HasLetGo before number (Ok done) indexes
-gone_done before number done kept after indexes is h = subst (λ (a : Applied). HasLetGo before number (Ok a) indexes) (sym is) h
+    → AllByRecursion (OfNumbers (IsGone after.items.items indexes)) before → HasLetGoIndexes before number (Ok done) indexes
+gone_done before number done kept after indexes is h = subst (λ (a : Applied). HasLetGoIndexes before number (Ok a) indexes) (sym is) h
 
 -- ---- none stands under the number that was let go of
 
@@ -101,8 +101,8 @@ entries_of_lines (entry ∷ entries) = ap (λ (xs : List Indexed). entry_of (lin
 
 -- ---- the index that a command brings
 
-pub none_put : (number : ℕ) (found coming : Option (List Indexed)) (indexes : List (ℕ × List Indexed)) → found ≡ coming → ((index : List Indexed) → found ≡ Some index → ⊥) → HasPut number coming indexes indexes
-none_put number None coming indexes is never = subst (λ (c : Option (List Indexed)). HasPut number c indexes indexes) is refl
+pub none_put : (number : ℕ) (found coming : Option (List Indexed)) (indexes : List (ℕ × List Indexed)) → found ≡ coming → ((index : List Indexed) → found ≡ Some index → ⊥) → HasPutIfSome number coming indexes indexes
+none_put number None coming indexes is never = subst (λ (c : Option (List Indexed)). HasPutIfSome number c indexes indexes) is refl
 none_put number (Some index) coming indexes is never = absurd (never index refl)
 
 -- it is one of an install

@@ -15,11 +15,11 @@ use Rattle.dict_holdings.specs.Files.{file_parts}
 use Rattle.dict_edition_sql.specs.PartRecords.{part_row}
 use Rattle.dict_holdings.specs.Holds.{Holds}
 use Rattle.dict_holdings.specs.Texts.{HoldsText, text_rows}
-use Rattle.dict_lookup.specs.Texts.{AreMade}
+use Rattle.dict_lookup.specs.Texts.{AreOfInstalls}
 use Rattle.dict_lookup.proofs.HeldLemmas.{held_one, text_once}
 use Rattle.dict_lookup.proofs.ListLemmas.{all_unmapped}
-use Rattle.dict_commands.specs.Kept.{KeepsTexts}
-use Rattle.dict_lookup.specs.KeptTexts.{Key}
+use Rattle.dict_commands.specs.KeptRecords.{KeepsTextRows}
+use Rattle.dict_lookup.specs.KeptTexts.{PartNumbers}
 
 -- a text that stays
 pub text_carried : (old new : Database) (number : ℕ) (text : List ℕ) → IsPermutation (text_rows number old) (text_rows number new) → HoldsText old number text → HoldsText new number text
@@ -43,7 +43,7 @@ all_same_numbers [] = refl
 all_same_numbers (item ∷ items) = λ i. numbers_same item i ++ all_same_numbers items i
 
 -- the texts that stay under the numbers of a summary stay under those of each edition
-pub texts_stay : (M : Catalogue) (summary : Holdings (List ℕ)) → summary_of M ≡ summary → (installs : ℕ) (old new : Database) → KeepsTexts installs (edition_numbers summary.items) old new
+pub texts_stay : (M : Catalogue) (summary : Holdings (List ℕ)) → summary_of M ≡ summary → (installs : ℕ) (old new : Database) → KeepsTextRows installs (edition_numbers summary.items) old new
     → AllByRecursion (λ item. AllByRecursion (λ (stored : Stored Edition). stored.number ≤ installs → IsPermutation (text_rows stored.number old) (text_rows stored.number new)) (editions_of item)) M.items
 texts_stay M summary is installs old new keeps =
     let P : ℕ → Type 0 = λ number. number ≤ installs → IsPermutation (text_rows number old) (text_rows number new) in
@@ -54,6 +54,6 @@ texts_stay M summary is installs old new keeps =
 
 -- ---- the texts that are kept
 
-pub more_installs : (a b : ℕ) → a ≤ b → (texts : List (Key × List ℕ)) → AreMade a texts → AreMade b texts
+pub more_installs : (a b : ℕ) → a ≤ b → (texts : List (PartNumbers × List ℕ)) → AreOfInstalls a texts → AreOfInstalls b texts
 more_installs a b low [] made = tt
 more_installs a b low (kept ∷ texts) made = (let first = made.0 in omega (arith, first, low), more_installs a b low texts made.1)

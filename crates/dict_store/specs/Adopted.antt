@@ -9,13 +9,13 @@ use Rattle.dict_desk.specs.Faults.{is_disk}
 use Rattle.dict_desk.specs.declared.fault.Fault.{Fault}
 use Rattle.dict_desk.specs.declared.fault.Fault.TheVariants.{Disk}
 use Rattle.dict_holdings.specs.Holds.{Holds, IsHeld, Rests}
-use Rattle.dict_opening.specs.Reading.{IsOfOpening, HasFailed}
-use Rattle.dict_migration.specs.Failing.{IsBeyond, FailsToMove}
+use Rattle.dict_opening.specs.Reading.{IsOfOpening, HasFailedToRead}
+use Rattle.dict_migration.specs.Failing.{IsBeyond, FailsToMoveEditions}
 use Rattle.dict_migration.specs.Migrated.{MayMigrate}
 use Rattle.dict_migration.specs.Moved.{AreTreesOf}
 use Rattle.dict_migration.specs.Spared.{SparesOthers}
 use Rattle.dict_store.specs.Desk.{DeskState, Shows, LeavesOneOf}
-use Rattle.dict_store.specs.Opened.{IsTold, IsNotHeld}
+use Rattle.dict_store.specs.Opened.{TellsOfDatabase, IsNotHeld}
 use Rattle.dict_store.specs.declared.last.LastCall.TheVariants.{Fine}
 use Rattle.dict_rows.specs.Versions.{known}
 
@@ -42,7 +42,7 @@ module _ {S : Type 0} (g : Ghosts S) where
   -- nothing more, but where the store failed the tables of the known version, of the same catalogue.
   pub record IsNotAdopted (conn left : Held S) (fault : Fault) : Type 0 where
     pub kind : IsOfOpening fault
-    pub told : HasCleanDisk (state g left) → IsTold (state g conn).now fault
+    pub told : HasCleanDisk (state g left) → TellsOfDatabase (state g conn).now fault
     pub not_held : HasCleanDisk (state g left) → IsNotHeld (state g conn).now fault
     pub same : HasCleanDisk (state g left) → IsTrue (state g left).is_open → ((state g left).now ≡ (state g conn).now) × ((state g left).committed ≡ (state g conn).committed)
     pub adds_none : is_disk fault ≡ false → Survives (state g (record conn { step_limit = None })) (state g left) (λ _. ⊥)
@@ -57,8 +57,8 @@ module _ {S : Type 0} (g : Ghosts S) where
     pub older : version < known
     pub catalogue : Catalogue
     pub holds : Holds version (state g conn).committed catalogue
-    pub fails : IsBeyond (summary_of catalogue) ⊎ FailsToMove g version (summary_of catalogue) conn left Disk
+    pub fails : IsBeyond (summary_of catalogue) ⊎ FailsToMoveEditions g version (summary_of catalogue) conn left Disk
 
   -- Why an opening is told `Disk`: the store failed while the database was read, or the making of its new tables did.
   abbrev pub FailsToOpen : Held S → Held S → Type 0
-  FailsToOpen conn left = HasFailed (state g conn) (state g left) ⊎ FailsToRenew conn left
+  FailsToOpen conn left = HasFailedToRead (state g conn) (state g left) ⊎ FailsToRenew conn left

@@ -12,7 +12,7 @@ use Rattle.dict_desk.specs.declared.fault.Fault.{Fault}
 use Rattle.dict_rows.specs.Versions.{known}
 use Rattle.dict_holdings.specs.Holds.{Rests, IsLeftAs}
 use Rattle.dict_commands.specs.Committed.{IsTreesOf}
-use Rattle.dict_commands.specs.Kept.{KeepsTexts, SparesOthers}
+use Rattle.dict_commands.specs.KeptRecords.{KeepsTextRows, SparesTablesOfOthers}
 use Rattle.dict_commands.specs.Changes.{IsInRange}
 use Rattle.dict_commands.specs.Filing.{rested}
 use Rattle.dict_commands.specs.Answers.{HoldsBy, Answers, has_written, numbers_after, summary_after, IsOfApply, IsOfShut}
@@ -29,10 +29,10 @@ module _ {S : Type 0} (g : Ghosts S) where
     pub shut : HasCleanDisk (state g new) → (state g old).is_open ≡ false → IsOfShut id result
     pub lives : HasCleanDisk (state g new) → IsTrue (state g new).is_open → IsTrue (state g old).is_open
     pub failed : HasCleanDisk (state g new) → IfErr result (λ fault. is_failure fault ≡ true → FailsToApplyOver g summary id command old new fault)
-    pub above : HasCleanDisk (state g new) → IsTrue (state g new).is_open → OnOk result (KeepsTexts summary.installs (numbers_after summary result) (state g old).committed (state g new).committed)
+    pub above : HasCleanDisk (state g new) → IsTrue (state g new).is_open → OnOk result (KeepsTextRows summary.installs (numbers_after summary result) (state g old).committed (state g new).committed)
     pub refused : HasCleanDisk (state g new) → IsTrue (state g new).is_open → IfErr result (λ fault. is_failure fault ≡ false → (state g new).committed ≡ (state g old).committed)
-    pub others : HasCleanDisk (state g new) → IsTrue (state g new).is_open → OnOk result (SparesOthers (state g old).committed (state g new).committed)
-    pub beside : Survives (state g old) (state g new) (λ trees. IsTrue (state g old).is_open × IsTreesOf (SparesOthers (state g old).committed) trees)
+    pub others : HasCleanDisk (state g new) → IsTrue (state g new).is_open → OnOk result (SparesTablesOfOthers (state g old).committed (state g new).committed)
+    pub beside : Survives (state g old) (state g new) (λ trees. IsTrue (state g old).is_open × IsTreesOf (SparesTablesOfOthers (state g old).committed) trees)
     pub grows : summary.installs ≤ (summary_after summary result).installs
     pub kinds : IfErr result IsOfApply
     pub range : IsInRange (summary_after summary result)

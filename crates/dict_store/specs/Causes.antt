@@ -8,17 +8,17 @@ use Rattle.sqlite_trees.specs.declared.store.Store.{Ghosts}
 use Rattle.dict_index.specs.Edition.{Edition}
 use Rattle.dict_catalogue.specs.Commands.{Command, verb_of}
 use Rattle.dict_catalogue.specs.Tests.{Holdings}
-use Rattle.dict_catalogue.specs.Steps.{Catalogue, Request, kept_under, step}
+use Rattle.dict_catalogue.specs.Steps.{Catalogue, CommandRequest, kept_under, step}
 use Rattle.dict_catalogue.specs.WellFormed.{is_install}
 use Rattle.dict_catalogue.specs.declared.reply.Kept.{Kept}
 use Rattle.dict_desk.specs.Applying.{Applies, Leaves}
 use Rattle.dict_desk.specs.Faults.{is_disk, is_failure}
 use Rattle.dict_desk.specs.declared.fault.Fault.{Fault}
 use Rattle.dict_desk.specs.declared.fault.Fault.TheVariants.{Refused, Memory, Disk, Closed, NotACatalogue, Damaged, NewerSchema}
-use Rattle.dict_holdings.specs.Faults.{fault_of, FailsToLookUp}
+use Rattle.dict_holdings.specs.Faults.{fault_of, FailsToReadCatalogue}
 use Rattle.dict_commands.specs.Answers.{FailsToApply}
 use Rattle.dict_commands.specs.Committed.{IsTreesOf}
-use Rattle.dict_commands.specs.Kept.{SparesOthers}
+use Rattle.dict_commands.specs.KeptRecords.{SparesTablesOfOthers}
 use Rattle.dict_commands.specs.Finishing.{FailsToApplyFiled}
 use Rattle.dict_store.specs.Desk.{DeskState, Shows, LeavesOneOf, is_closed}
 use Rattle.dict_store.specs.Prepared.{Undoes}
@@ -33,7 +33,7 @@ module _ {S : Type 0} (g : Ghosts S) where
   -- store or in its asking, or to the store; the store failed between just these two states of the connection; or the desk was closed, and is as it was.
   abbrev pub GivesWay : DeskState S → DeskState S → Fault → Type 0
   GivesWay old new (Refused refusal) = ⊥
-  GivesWay old new Memory = (mid : Held S) × Undoes g old.conn mid × ((new.conn ≡ mid) ⊎ FailsToLookUp (state g mid) (state g new.conn) Memory)
+  GivesWay old new Memory = (mid : Held S) × Undoes g old.conn mid × ((new.conn ≡ mid) ⊎ FailsToReadCatalogue (state g mid) (state g new.conn) Memory)
   GivesWay old new Disk = (mid : Held S) × Undoes g old.conn mid × StoreFails (state g mid) (state g new.conn)
   GivesWay old new Closed = (is_closed old.last ≡ true) × (new ≡ old)
   GivesWay old new NotACatalogue = ⊥
@@ -59,7 +59,7 @@ module _ {S : Type 0} (g : Ghosts S) where
 
   -- A command that is not refused failed so; or it installs an edition, and memory was refused to the index of this, before the store was
   -- asked; or the desk was closed, and is as it was.
-  abbrev pub FailsToApplyTo : DeskState S → Request → DeskState S → Fault → Type 0
+  abbrev pub FailsToApplyTo : DeskState S → CommandRequest → DeskState S → Fault → Type 0
   FailsToApplyTo old request new (Refused refusal) = ⊥
   FailsToApplyTo old request new Memory = ((is_install (verb_of request.command) ≡ true) × (new.conn ≡ old.conn)) ⊎ FailsToApplyOver old.summary request.id request.command old.conn new.conn Memory
   FailsToApplyTo old request new Disk = FailsToApplyOver old.summary request.id request.command old.conn new.conn Disk
@@ -70,11 +70,11 @@ module _ {S : Type 0} (g : Ghosts S) where
 
   -- One command was applied to a desk, and answered so: over whichever catalogue was shown, what is answered, what is shown and
   -- what a stop may leave are those of its step; a failure has its cause; and the tables of others are as they were, whatever a stop leaves.
-  pub record IsAppliedTo (old : DeskState S) (request : Request) (result : Result Kept Fault) (new : DeskState S) : Type 0 where
+  pub record IsAppliedTo (old : DeskState S) (request : CommandRequest) (result : Result Kept Fault) (new : DeskState S) : Type 0 where
     pub answered : HasCleanDisk (state g new.conn) → (M : Catalogue) → Shows g old M → Applies (Shows g new) M (step M request.id request.command) result
     pub left : HasCleanDisk (state g new.conn) → (M : Catalogue) → Shows g old M
         → Leaves (LeavesOneOf g old) (LeavesOneOf g new) (is_some (kept_under M.kept request.id)) (step M request.id request.command).catalogue result
     pub spared : (ms : List (Option Catalogue)) → LeavesOneOf g old ms → IfErr result (λ fault. is_disk fault ≡ false → LeavesOneOf g new ms)
     pub failed : HasCleanDisk (state g new.conn) → IfErr result (λ fault. is_failure fault ≡ true → FailsToApplyTo old request new fault)
-    pub others : HasCleanDisk (state g new.conn) → IsTrue (state g new.conn).is_open → SparesOthers (state g old.conn).committed (state g new.conn).committed
-    pub beside : Survives (state g old.conn) (state g new.conn) (λ trees. IsTrue (state g old.conn).is_open × IsTreesOf (SparesOthers (state g old.conn).committed) trees)
+    pub others : HasCleanDisk (state g new.conn) → IsTrue (state g new.conn).is_open → SparesTablesOfOthers (state g old.conn).committed (state g new.conn).committed
+    pub beside : Survives (state g old.conn) (state g new.conn) (λ trees. IsTrue (state g old.conn).is_open × IsTreesOf (SparesTablesOfOthers (state g old.conn).committed) trees)

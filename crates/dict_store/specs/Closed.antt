@@ -10,18 +10,12 @@ use Rattle.sqlite_disk.specs.declared.Disk as disk
 use Rattle.sqlite_disk.specs.declared.Files.{Files as Pair}
 use Rattle.sqlite_store.specs.declared.store.FileStore.{FileStore}
 use Rattle.sqlite.specs.declared.error.Error.{Error}
-use Rattle.sqlite.specs.declared.error.Error.TheVariants.{SqliteFailure}
-use Rattle.sqlite.specs.declared.error.ErrorCode.TheVariants as code
 use Rattle.dict_catalogue.specs.Steps.{Catalogue}
 use Rattle.dict_desk.specs.declared.fault.Fault.{Fault}
-use Rattle.dict_desk.specs.declared.fault.Fault.TheVariants.{Memory, Disk}
+use Rattle.dict_desk.specs.declared.fault.Fault.TheVariants.{Disk}
 use Rattle.dict_store.specs.Desk.{DeskState, StandsFor, is_closed}
 use Rattle.dict_store.specs.Reopened.{IsIn}
-
--- memory ran out in the copy, or the store failed
-abbrev pub fault_of_copy : Error → Fault
-fault_of_copy (SqliteFailure code.OutOfMemory) = Memory
-fault_of_copy _ = Disk
+use Rattle.dict_holdings.specs.Faults.{fault_of}
 
 -- the octets of a log and of its database file are those of a database that holds the catalogue, and so are those of the database
 -- file with no log
@@ -42,4 +36,4 @@ StoreLeaves {D} {d} store ms = IsClean (view store) → (trees : Trees) → reco
 -- Why the log of a desk wasn't copied: its store had failed in an earlier call; or it failed now, for the cause that its error names.
 abbrev pub IsUncopied : {D : Type 0} {d : disk.Ghosts D} → DeskState (FileStore D d) → FileStore D d → Fault → Type 0
 IsUncopied {D} {d} desk store fault =
-    ((is_closed desk.last ≡ true) × (fault ≡ Disk)) ⊎ ((error : Error) × (fault ≡ fault_of_copy error) × FailsToClose desk.conn store error)
+    ((is_closed desk.last ≡ true) × (fault ≡ Disk)) ⊎ ((error : Error) × (fault ≡ fault_of error) × FailsToClose desk.conn store error)

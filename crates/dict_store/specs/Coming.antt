@@ -8,7 +8,7 @@ use Rattle.dict_store.specs.declared.making.IndexPart.{IndexPart}
 use Rattle.dict_store.specs.declared.making.IndexPart.TheVariants.{Entries, Parts, Lost}
 
 -- whatever edition the install's files say, the index is of so many of its entries, the first ones, or of all; or none is made
-abbrev pub IsIndexOf : ReadInstall → IndexPart → Type 0
-IsIndexOf f (Entries builder) = (reading : ReadEdition) → IsReadEdition f.came.items f.filing.text.items reading → builder ≡ map entry_of (take (length builder) reading.lines)
-IsIndexOf f (Parts making) = (reading : ReadEdition) → IsReadEdition f.came.items f.filing.text.items reading → making.entries ≡ map entry_of reading.lines
-IsIndexOf f Lost = Unit {0}
+abbrev pub IsIndexOfInstall : ReadInstall → IndexPart → Type 0
+IsIndexOfInstall f (Entries builder) = (reading : ReadEdition) → IsReadEdition f.came.items f.filing.text.items reading → builder ≡ map entry_of (take (length builder) reading.lines)
+IsIndexOfInstall f (Parts making) = (reading : ReadEdition) → IsReadEdition f.came.items f.filing.text.items reading → making.entries ≡ map entry_of reading.lines
+IsIndexOfInstall f Lost = Unit {0}

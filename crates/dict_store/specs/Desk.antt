@@ -16,7 +16,7 @@ use Rattle.dict_holdings.specs.Holds.{HasLayout, Holds}
 use Rattle.dict_lookup.specs.Indexes.{entries_under}
 use Rattle.dict_holdings.specs.Texts.{HoldsText}
 use Rattle.dict_lookup.specs.Texts.{Cuts, ArePartsOf}
-use Rattle.dict_lookup.specs.KeptTexts.{Key}
+use Rattle.dict_lookup.specs.KeptTexts.{PartNumbers}
 pub use Rattle.dict_migration.specs.Leaves.{StandsFor}
 use Rattle.dict_search.specs.Entries.{Indexed}
 use Rattle.dict_commands.specs.Changes.{IsInRange}
@@ -36,7 +36,7 @@ pub record DeskState (S : Type 0) : Type 0 where
   pub summary : Holdings (List ℕ)
   pub last : LastCall
   pub indexes : List (ℕ × List Indexed)
-  pub texts : List (Key × List ℕ)
+  pub texts : List (PartNumbers × List ℕ)
 
 abbrev pub is_closed : LastCall → Bool
 is_closed Fine = false
@@ -84,7 +84,7 @@ module _ {S : Type 0} (g : Ghosts S) where
 
   -- Lookups in an edition are answered by it: under its number stands an index that cuts its entries out of a text; what is kept under the
   -- number are parts of this text; and while the desk isn't closed and the store is open, this is the one that is committed under it.
-  pub record IsServed (desk : DeskState S) (stored : Stored Edition) : Type 0 where
+  pub record ServesEdition (desk : DeskState S) (stored : Stored Edition) : Type 0 where
     pub index : List Indexed
     pub stands : entries_under stored.number desk.indexes ≡ Some index
     pub text : List ℕ
@@ -93,8 +93,8 @@ module _ {S : Type 0} (g : Ghosts S) where
     pub held : is_closed desk.last ≡ false → IsTrue (state g desk.conn).is_open → HoldsText (state g desk.conn).committed stored.number text
 
   -- so it is of each edition of the catalogue, current and former
-  abbrev pub AreServed : DeskState S → Catalogue → Type 0
-  AreServed desk M = AllByRecursion (λ item. AllByRecursion (IsServed desk) (editions_of item)) M.items
+  abbrev pub ServesEditions : DeskState S → Catalogue → Type 0
+  ServesEditions desk M = AllByRecursion (λ item. AllByRecursion (ServesEdition desk) (editions_of item)) M.items
 
   -- The catalogue is shown: the summary is its, lookups are answered by its editions, and while the desk isn't closed and the store is
   -- open, the database holds it, as it was committed. While a change is prepared, the connection sees more rows than these, and fewer of editions that are to go: none of them
@@ -103,7 +103,7 @@ module _ {S : Type 0} (g : Ghosts S) where
     pub summary : desk.summary ≡ summary_of M
     pub well_formed : IsWellFormed M
     pub holds : is_closed desk.last ≡ false → HasCleanDisk (state g desk.conn) → IsTrue (state g desk.conn).is_open → Holds known (state g desk.conn).committed M
-    pub served : HasCleanDisk (state g desk.conn) → AreServed desk M
+    pub served : HasCleanDisk (state g desk.conn) → ServesEditions desk M
 
   -- whatever a stop now leaves stands for one of these
   abbrev pub LeavesOneOf : DeskState S → List (Option Catalogue) → Type 0

@@ -38,9 +38,9 @@ index_coming (PutVirtual name title members) = None
 index_coming (Place name at) = None
 
 -- it was put under a number, and nothing else was; where none comes, nothing was
-abbrev pub HasPut : ℕ → Option (List Indexed) → List (ℕ × List Indexed) → List (ℕ × List Indexed) → Type 0
-HasPut number (Some index) old new = (q : ℕ) → entries_under q new ≡ (if nat_eq number q then Some index else entries_under q old)
-HasPut number None old new = new ≡ old
+abbrev pub HasPutIfSome : ℕ → Option (List Indexed) → List (ℕ × List Indexed) → List (ℕ × List Indexed) → Type 0
+HasPutIfSome number (Some index) old new = (q : ℕ) → entries_under q new ≡ (if nat_eq number q then Some index else entries_under q old)
+HasPutIfSome number None old new = new ≡ old
 
 -- no index stands under a number that none of these items' editions has
 abbrev pub IsGone : List Item → List (ℕ × List Indexed) → ℕ → Type 0
@@ -55,7 +55,7 @@ HasSettled number (Err fault) old new = (q : ℕ) → q ≢ number → entries_u
 
 -- Behind a command that acted, none stands under the number of an edition that was there before and isn't then; behind one that didn't,
 -- none under that which an edition was to get.
-abbrev pub HasLetGo : List Item → ℕ → Result Applied Fault → List (ℕ × List Indexed) → Type 0
-HasLetGo before number (Ok (Done kept after)) indexes = AllByRecursion (λ item. AllByRecursion (IsGone after.items.items indexes) (numbers_of (item_shown item))) before
-HasLetGo before number (Ok (Repeated kept)) indexes = entries_under number indexes ≡ None
-HasLetGo before number (Err fault) indexes = entries_under number indexes ≡ None
+abbrev pub HasLetGoIndexes : List Item → ℕ → Result Applied Fault → List (ℕ × List Indexed) → Type 0
+HasLetGoIndexes before number (Ok (Done kept after)) indexes = AllByRecursion (λ item. AllByRecursion (IsGone after.items.items indexes) (numbers_of (item_shown item))) before
+HasLetGoIndexes before number (Ok (Repeated kept)) indexes = entries_under number indexes ≡ None
+HasLetGoIndexes before number (Err fault) indexes = entries_under number indexes ≡ None

@@ -12,7 +12,7 @@ use Rattle.dict_rows.specs.Versions.{known}
 
 -- Each of the faults of an opening tells something of the database: there is no readable mark; its version is above the
 -- known one; or the mark is readable and of a known version, and no catalogue is held.
-pub record IsTold (db : Database) (fault : Fault) : Type 0 where
+pub record TellsOfDatabase (db : Database) (fault : Fault) : Type 0 where
   pub none : fault ≡ NotACatalogue → (version : ℕ) → HasMark db version → ⊥
   pub newer : fault ≡ NewerSchema → (version : ℕ) × HasMark db version × (known < version)
   pub damaged : fault ≡ Damaged → HasKnownMark db × HoldsNone db

@@ -43,5 +43,5 @@ module _ {S : Type 0} (g : Ghosts S) where
   TellsNoLeft conn left fault = HasCleanDisk (state g left) → IsTrue (state g conn).is_open → IsNotLeft (state g conn).now.trees fault
 
   -- whatever a stop now leaves of the database stands for one of these catalogues, or for none
-  abbrev pub Leaves : Held S → List (Option Catalogue) → Type 0
-  Leaves conn ms = HasCleanDisk (state g conn) → (trees : Trees) → (state g conn).may_leave trees → (m : Option Catalogue) × Contains ms m × StandsFor m trees
+  abbrev pub ConnectionLeavesOneOf : Held S → List (Option Catalogue) → Type 0
+  ConnectionLeavesOneOf conn ms = HasCleanDisk (state g conn) → (trees : Trees) → (state g conn).may_leave trees → (m : Option Catalogue) × Contains ms m × StandsFor m trees

@@ -8,7 +8,7 @@ use Rattle.sqlite_trees.specs.declared.store.Store.{Ghosts}
 use Rattle.dict_index.specs.Edition.{ReadEdition}
 use Rattle.dict_desk.specs.declared.fault.Fault.{Fault}
 use Rattle.dict_holdings.specs.Texts.{HoldsText}
-use Rattle.dict_lookup.specs.Searches.{HoldsOne, IsReadable, column_of}
+use Rattle.dict_lookup.specs.Searches.{HoldsOne, IsEditionReadable, number_in_column}
 pub use Rattle.dict_commands.specs.Filing.{rested}
 use Rattle.dict_commands.specs.declared.filing.Filing.{Filing}
 use Rattle.dict_commands.specs.Committed.{IsCommitted}
@@ -25,7 +25,7 @@ last_behind last (Err fault) = last_by {T = Unit {0}} (Err fault)
 pub record IsAlike (number : ℕ) (committed now : Database) : Type 0 where
   pub one : (reading : ReadEdition) → HoldsOne committed number reading → HoldsOne now number reading
   pub text : (text : List ℕ) → HoldsText committed number text → HoldsText now number text
-  pub readable : IsReadable committed (column_of number) → IsReadable now (column_of number)
+  pub readable : IsEditionReadable committed (number_in_column number) → IsEditionReadable now (number_in_column number)
 
 -- A store that is open was so before, and what was committed is so still. It shows what it did, in the same transaction or in none; or
 -- what is committed, in none.

@@ -4,7 +4,7 @@ use Rattle.sqlite.specs.Tree.{Trees}
 use Rattle.sqlite.specs.State.{HasCleanDisk}
 use Rattle.sqlite.specs.Held.{state}
 use Rattle.sqlite_trees.specs.declared.store.Store.{Ghosts}
-use Rattle.dict_catalogue.specs.Steps.{Catalogue, Request, after}
+use Rattle.dict_catalogue.specs.Steps.{Catalogue, CommandRequest, after}
 use Rattle.dict_desk.specs.declared.fault.Fault.{Fault}
 use Rattle.dict_desk.specs.declared.fault.Fault.TheVariants.{Refused, Memory, Disk, Closed, NotACatalogue, Damaged, NewerSchema}
 use Rattle.dict_holdings.specs.Holds.{IsLeft}
@@ -17,7 +17,7 @@ pub record IsLeftAlone (M : Catalogue) (trees : Trees) : Type 0 where
 
 -- these trees are of a database that holds the catalogue after a front of the commands, and no other; the front has every one
 -- of so many that were answered, and at most one more
-abbrev pub HoldsFront : Catalogue → List Request → ℕ → Trees → Type 0
+abbrev pub HoldsFront : Catalogue → List CommandRequest → ℕ → Trees → Type 0
 HoldsFront before requests answered trees = (front : ℕ) × (answered ≤ front) × (front ≤ answered + 1) × IsLeftAlone (after before (take front requests)) trees
 
 module _ {S : Type 0} (g : Ghosts S) where
@@ -28,19 +28,19 @@ module _ {S : Type 0} (g : Ghosts S) where
 
   -- Between two states of a desk so many of these commands were answered: whatever a stop now leaves holds the catalogue
   -- after a front of them, with each that was answered.
-  abbrev pub KeepsFront : DeskState S → DeskState S → List Request → ℕ → Type 0
+  abbrev pub KeepsFront : DeskState S → DeskState S → List CommandRequest → ℕ → Type 0
   KeepsFront old new requests answered =
       (M : Catalogue) → KeepsAlone old M → HasCleanDisk (state g new.conn) → (trees : Trees) → (state g new.conn).may_leave trees → HoldsFront M requests answered trees
 
   -- Of these commands so many stand, and then the store failed: the catalogue after those is shown, or the one after one command
   -- more; and whatever a stop now leaves holds one of the two.
-  pub record KeepsOrOneMore (desk : DeskState S) (before : Catalogue) (requests : List Request) (stand : ℕ) : Type 0 where
+  pub record KeepsOrOneMore (desk : DeskState S) (before : Catalogue) (requests : List CommandRequest) (stand : ℕ) : Type 0 where
     pub shown : Shows g desk (after before (take stand requests)) ⊎ Shows g desk (after before (take (stand + 1) requests))
     pub left : HasCleanDisk (state g desk.conn) → (trees : Trees) → (state g desk.conn).may_leave trees → HoldsFront before requests stand trees
 
   -- Of these commands so many stand, and then one failed by this fault. One more may be there after a 41 alone; after each other
   -- fault the catalogue after those that stand is kept alone, and the promise goes on over it.
-  abbrev pub KeepsAt : DeskState S → Catalogue → List Request → ℕ → Fault → Type 0
+  abbrev pub KeepsAt : DeskState S → Catalogue → List CommandRequest → ℕ → Fault → Type 0
   KeepsAt desk before requests stand (Refused refusal) = ⊥
   KeepsAt desk before requests stand Memory = KeepsAlone desk (after before (take stand requests))
   KeepsAt desk before requests stand Disk = KeepsOrOneMore desk before requests stand

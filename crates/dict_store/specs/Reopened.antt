@@ -14,7 +14,7 @@ use Rattle.sqlite_disk.specs.declared.Disk as disk
 use Rattle.sqlite_disk.specs.declared.Files.{Files as Pair}
 use Rattle.sqlite_store.specs.declared.store.FileStore.{FileStore}
 use Rattle.sqlite_trees.specs.declared.store.Store.{Ghosts}
-use Rattle.dict_catalogue.specs.Steps.{Catalogue, Request, after}
+use Rattle.dict_catalogue.specs.Steps.{Catalogue, CommandRequest, after}
 use Rattle.dict_desk.specs.declared.fault.Fault.{Fault}
 use Rattle.dict_desk.specs.declared.fault.Fault.TheVariants.{NotACatalogue, NewerSchema, Damaged}
 use Rattle.dict_holdings.specs.Holds.{IsLeft}
@@ -27,21 +27,21 @@ abbrev pub IsIn : Catalogue → Image → Type 0
 IsIn M image = (db : Trees) × HoldsDatabase image db × IsLeft M db
 
 -- no fault of what a database holds
-abbrev pub IsOfStore : Fault → Type 0
-IsOfStore fault = (fault ≢ NotACatalogue) × (fault ≢ NewerSchema) × (fault ≢ Damaged)
+abbrev pub IsNoFaultOfContents : Fault → Type 0
+IsNoFaultOfContents fault = (fault ≢ NotACatalogue) × (fault ≢ NewerSchema) × (fault ≢ Damaged)
 
 -- these octets are those of a database from which the catalogue after a front of the commands is opened
-abbrev pub HoldsFrontIn : Catalogue → List Request → ℕ → Image → Type 0
+abbrev pub HoldsFrontIn : Catalogue → List CommandRequest → ℕ → Image → Type 0
 HoldsFrontIn before requests answered image = (front : ℕ) × (answered ≤ front) × (front ≤ answered + 1) × IsIn (after before (take front requests)) image
 
 module _ {S : Type 0} (g : Ghosts S) where
   -- whatever a stop now leaves stands for the catalogue after a front of the commands, which has each of so many that were
   -- answered
-  abbrev pub LeavesFront : DeskState S → Catalogue → List Request → ℕ → Type 0
+  abbrev pub LeavesFront : DeskState S → Catalogue → List CommandRequest → ℕ → Type 0
   LeavesFront desk before requests answered = HasCleanDisk (state g desk.conn) → (trees : Trees) → (state g desk.conn).may_leave trees → HoldsFront before requests answered trees
 
   -- the catalogue after such a front is shown
-  abbrev pub ShowsFront : DeskState S → Catalogue → List Request → ℕ → Type 0
+  abbrev pub ShowsFront : DeskState S → Catalogue → List CommandRequest → ℕ → Type 0
   ShowsFront desk before requests answered = (front : ℕ) × (answered ≤ front) × (front ≤ answered + 1) × Shows g desk (after before (take front requests))
 
   -- one of these catalogues is shown

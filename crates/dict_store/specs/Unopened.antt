@@ -21,14 +21,14 @@ use Rattle.sqlite_disk.specs.declared.Files.{Files as Pair}
 use Rattle.sqlite_pool.specs.Stored.{Recovers}
 use Rattle.sqlite_store.specs.Unopened.{state_of}
 use Rattle.sqlite_store.specs.declared.store.FileStore.{FileStore}
-use Rattle.dict_catalogue.specs.Steps.{Catalogue, Request}
+use Rattle.dict_catalogue.specs.Steps.{Catalogue, CommandRequest}
 use Rattle.dict_desk.specs.declared.fault.Fault.{Fault}
 use Rattle.dict_desk.specs.declared.fault.Fault.TheVariants.{Memory, Disk, NotACatalogue}
 use Rattle.dict_opening.specs.Reading.{IsOfOpening}
 use Rattle.dict_store.specs.Desk.{DeskState, LeavesOneOf, StandsFor}
 use Rattle.dict_store.specs.Opened.{IsNotLeft}
 use Rattle.dict_store.specs.Adopted.{IsNotAdopted, FailsToOpen}
-use Rattle.dict_store.specs.Reopened.{IsIn, IsOfStore, IsLetGo, IsStopped, LeavesFront}
+use Rattle.dict_store.specs.Reopened.{IsIn, IsNoFaultOfContents, IsLetGo, IsStopped, LeavesFront}
 use Rattle.dict_store.specs.declared.reopening.Unopened.{Unopened}
 use Rattle.dict_store.specs.declared.reopening.Unopened.TheVariants.{Files, Spent, Database}
 
@@ -44,11 +44,11 @@ abbrev pub IsOneOf : List (Option Catalogue) → Trees → Type 0
 IsOneOf ms trees = (m : Option Catalogue) × Contains ms m × StandsFor m trees
 
 -- and octets of a log and of its database file that hold such trees
-abbrev pub StandsIn : Option Catalogue → Image → Type 0
-StandsIn m image = (db : Trees) × HoldsDatabase image db × StandsFor m db
+abbrev pub StandsInImage : Option Catalogue → Image → Type 0
+StandsInImage m image = (db : Trees) × HoldsDatabase image db × StandsFor m db
 
 abbrev pub IsOneIn : List (Option Catalogue) → Image → Type 0
-IsOneIn ms image = (m : Option Catalogue) × Contains ms m × StandsIn m image
+IsOneIn ms image = (m : Option Catalogue) × Contains ms m × StandsInImage m image
 
 -- No page of a database in these octets waits for its sum, as one in a log may to which a `sqlite3` without sums has written.
 abbrev pub IsSealed : Image → Type 0
@@ -84,7 +84,7 @@ module _ {D : Type 0} {d : disk.Ghosts D} where
 
   -- `sqlite` refused two files, or failed: its error is this, which has its own cause, and the fault is that of the error; and
   -- nothing of what the files stood for is lost.
-  pub record IsRefused (files : Pair D) (now : Leftover D d) (fault : Fault) : Type 0 where
+  pub record AreFilesRefused (files : Pair D) (now : Leftover D d) (fault : Fault) : Type 0 where
     pub error : Error
     pub named : IsTrue (is_open_error error)
     pub told : fault ≡ fault_of_files error
@@ -116,7 +116,7 @@ module _ {D : Type 0} {d : disk.Ghosts D} where
   -- Over two files there is no desk, for this fault.
   abbrev pub IsUnopenedOver : Pair D → Unopened D d → Fault → Type 0
   IsUnopenedOver files (Files None) fault = ⊥
-  IsUnopenedOver files (Files (Some now)) fault = IsRefused files now fault
+  IsUnopenedOver files (Files (Some now)) fault = AreFilesRefused files now fault
   IsUnopenedOver files (Spent spent) fault = ⊥
   IsUnopenedOver files (Database now) fault = IsRejected files now fault
 
@@ -137,7 +137,7 @@ module _ {D : Type 0} {d : disk.Ghosts D} where
   abbrev pub TellsNoHolding : Unopened D d → Fault → Type 0
   TellsNoHolding (Files now) fault = Unit {0}
   TellsNoHolding (Spent spent) fault = Unit {0}
-  TellsNoHolding (Database now) fault = HasCleanDisk (file_state now) → IsOfStore fault
+  TellsNoHolding (Database now) fault = HasCleanDisk (file_state now) → IsNoFaultOfContents fault
 
   -- ---- desks that are opened again
 
@@ -163,7 +163,7 @@ module _ {D : Type 0} {d : disk.Ghosts D} where
     pub excused : IsExcused stopped left fault
     pub leaves : (ms : List (Option Catalogue)) → LeavesOneOf over_files desk ms → HandsBack stopped ms left
     pub of_store : (ms : List (Option Catalogue)) → LeavesOneOf over_files desk ms → (Contains ms None → ⊥) → TellsNoHolding left fault
-    pub of_front : (before : Catalogue) (requests : List Request) (answered : ℕ) → LeavesFront over_files desk before requests answered → TellsNoHolding left fault
+    pub of_front : (before : Catalogue) (requests : List CommandRequest) (answered : ℕ) → LeavesFront over_files desk before requests answered → TellsNoHolding left fault
 
   -- ---- and files at a path
 
@@ -172,8 +172,8 @@ module _ {D : Type 0} {d : disk.Ghosts D} where
   pub record IsRefusedFrom (image : Image) (now : Leftover D d) (fault : Fault) : Type 0 where
     pub files : Pair D
     pub octets : HaveOctets d image files
-    pub why : IsRefused files now fault
-    pub leaves : (m : Option Catalogue) → StandsIn m image → WasSealed image now → IsCleanLeft now → RestLeaves (m ∷ []) now
+    pub why : AreFilesRefused files now fault
+    pub leaves : (m : Option Catalogue) → StandsInImage m image → WasSealed image now → IsCleanLeft now → RestLeaves (m ∷ []) now
 
   -- The database that files with these octets were opened as is handed back, and no desk adopted it. It leaves what the octets hold,
   -- and where that is a catalogue, no fault tells of what it holds.
@@ -183,8 +183,8 @@ module _ {D : Type 0} {d : disk.Ghosts D} where
     pub adopted : IsNotAdopted over_files conn now fault
     pub failed : HasCleanDisk (file_state now) → fault ≡ Disk → FailsToOpen over_files (record conn { step_limit = None }) now
     pub autocommit : now.in_transaction ≡ false
-    pub of_store : (M : Catalogue) → IsIn M image → HasCleanDisk (file_state now) → IsOfStore fault
-    pub leaves : (m : Option Catalogue) → StandsIn m image → HasCleanDisk (file_state now) → (trees : Trees) → (file_state now).may_leave trees → StandsFor m trees
+    pub of_store : (M : Catalogue) → IsIn M image → HasCleanDisk (file_state now) → IsNoFaultOfContents fault
+    pub leaves : (m : Option Catalogue) → StandsInImage m image → HasCleanDisk (file_state now) → (trees : Trees) → (file_state now).may_leave trees → StandsFor m trees
 
   -- The files at a path couldn't be had, for this error of `sqlite`; or there is no desk over two files with these octets.
   abbrev pub IsUnopened : Image → Unopened D d → Fault → Type 0

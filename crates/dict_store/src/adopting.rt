@@ -8,23 +8,23 @@ ghost use Rattle.dict_sql.specs.Effects.{Has, WhileOpen};
 ghost use Rattle.dict_catalogue.specs.Steps.{Catalogue, summary_of};
 ghost use Rattle.dict_catalogue.specs.Views.{summary_shown};
 ghost use Rattle.dict_holdings.specs.Holds.{Holds, IsHeld, IsLeft, Rests};
-ghost use Rattle.dict_holdings.specs.Writing.{Stays};
+ghost use Rattle.dict_holdings.specs.Writing.{StaysCommitted};
 ghost use Rattle.dict_migration.specs.Failing.{FailsToMigrate};
 ghost use Rattle.dict_migration.specs.Migrated.{MayMigrate};
-ghost use Rattle.dict_migration.specs.Moved.{IsOfMigration};
 ghost use Rattle.dict_commands.specs.Changes.{IsInRange};
 ghost use Rattle.dict_commands.specs.Filing.{rested};
 ghost use Rattle.dict_desk.specs.Faults.{has_closed_by, has_failed_by, is_disk};
-ghost use Rattle.dict_opening.specs.Reading.{IsOfOpening, HasFailed};
+ghost use Rattle.dict_opening.specs.Reading.{IsOfOpening, HasFailedToRead};
 ghost use Rattle.dict_store.specs.Desk.{Shows, LeavesOneOf, is_closed, has_failed};
-ghost use Rattle.dict_store.specs.Opened.{IsTold, IsNotHeld, IsNotLeft, HoldsItsTrees};
+ghost use Rattle.dict_store.specs.Opened.{TellsOfDatabase, IsNotHeld, IsNotLeft, HoldsItsTrees};
 ghost use Rattle.dict_store.specs.Prepared.{Continues};
-ghost use Rattle.dict_opening.specs.Indexed.{IsIndexed};
+ghost use Rattle.dict_opening.specs.Indexed.{IsHeldIndexed};
 ghost use Rattle.dict_store.specs.Indexed.{AreHeldCut};
 ghost use Rattle.dict_search.specs.Entries.{Indexed};
 ghost use Rattle.dict_rows.specs.Versions.{known, IsVersion};
 ghost use Rattle.dict_migration.specs.Spared.{SparesOthers};
 ghost use Rattle.dict_store.specs.Adopted.{FailsToOpen, MayCommitBeside};
+ghost use Rattle.dict_holdings.specs.Faults.{IsOfStore};
 
 use crate::desk::Desk;
 use crate::kept::forget_by;
@@ -62,12 +62,12 @@ pub(crate) fn is_whole<S: Alter>(conn: &Connection<S>)
 // is written.
 fn read<S: Alter>(alloc: Global, conn: &mut Connection<S>) -> Result<(u64, Summary, Indexes), Fault>
     requires { conn.old.in_transaction ≡ false }
-    ensures rests { HasCleanDisk (state S.Store conn.new) → IfOk result (λ found. (M : Catalogue) × Rests found.0 (state S.Store conn.new) M × (summary_of M ≡ summary_shown found.1) × IsIndexed found.0 (state S.Store conn.new).committed M found.2) }
+    ensures rests { HasCleanDisk (state S.Store conn.new) → IfOk result (λ found. (M : Catalogue) × Rests found.0 (state S.Store conn.new) M × (summary_of M ≡ summary_shown found.1) × IsHeldIndexed found.0 (state S.Store conn.new).committed M found.2) }
     ensures version { IfOk result (λ found. IsVersion found.0) }
     ensures range { IfOk result (λ found. IsInRange (summary_shown found.1)) }
     ensures kinds { IfErr result IsOfOpening }
-    ensures failed { HasCleanDisk (state S.Store conn.new) → IfErr result (λ fault. fault ≡ Fault.Disk → HasFailed (state S.Store conn.old) (state S.Store conn.new)) }
-    ensures told { HasCleanDisk (state S.Store conn.new) → IfErr result (IsTold (state S.Store conn.old).now) }
+    ensures failed { HasCleanDisk (state S.Store conn.new) → IfErr result (λ fault. fault ≡ Fault.Disk → HasFailedToRead (state S.Store conn.old) (state S.Store conn.new)) }
+    ensures told { HasCleanDisk (state S.Store conn.new) → IfErr result (TellsOfDatabase (state S.Store conn.old).now) }
     ensures not_held { HasCleanDisk (state S.Store conn.new) → IfErr result (IsNotHeld (state S.Store conn.old).now) }
     ensures lives { HasCleanDisk (state S.Store conn.new) → IsTrue (state S.Store conn.new).is_open → IsTrue (state S.Store conn.old).is_open }
     ensures now { HasCleanDisk (state S.Store conn.new) → IsTrue (state S.Store conn.new).is_open → (state S.Store conn.new).now ≡ (state S.Store conn.old).now }
@@ -97,14 +97,14 @@ fn renew<S: Alter>(
     requires version { IsVersion version }
     requires holds { HasCleanDisk (state S.Store conn.old) → (M : Catalogue) × Rests version (state S.Store conn.old) M × (summary_of M ≡ summary_shown summary.now) }
     ensures rests { HasCleanDisk (state S.Store conn.new) → OnOk result ((M : Catalogue) → Holds version (state S.Store conn.old).committed M → Rests known (state S.Store conn.new) M) }
-    ensures cut { HasCleanDisk (state S.Store conn.new) → OnOk result ((M : Catalogue) (indexes : List (ℕ × List Indexed)) → IsIndexed version (state S.Store conn.old).committed M indexes → AreHeldCut (state S.Store conn.new).committed M indexes) }
+    ensures cut { HasCleanDisk (state S.Store conn.new) → OnOk result ((M : Catalogue) (indexes : List (ℕ × List Indexed)) → IsHeldIndexed version (state S.Store conn.old).committed M indexes → AreHeldCut (state S.Store conn.new).committed M indexes) }
     ensures others { HasCleanDisk (state S.Store conn.new) → OnOk result (SparesOthers (state S.Store conn.old).committed (state S.Store conn.new).committed) }
     ensures beside { Survives (state S.Store conn.old) (state S.Store conn.new) (MayCommitBeside (state S.Store conn.old)) }
     ensures unwritten { version ≡ known → conn.new ≡ conn.old }
     ensures lives { HasCleanDisk (state S.Store conn.new) → IsTrue (state S.Store conn.new).is_open → IsTrue (state S.Store conn.old).is_open }
-    ensures stays { HasCleanDisk (state S.Store conn.new) → OnErr result (Stays (state S.Store conn.old) (state S.Store conn.new)) }
+    ensures stays { HasCleanDisk (state S.Store conn.new) → OnErr result (StaysCommitted (state S.Store conn.old) (state S.Store conn.new)) }
     ensures failed { HasCleanDisk (state S.Store conn.new) → IfErr result (λ fault. (version < known) × FailsToMigrate S.Store version (summary_shown summary.now) conn.old conn.new fault) }
-    ensures kinds { IfErr result IsOfMigration }
+    ensures kinds { IfErr result IsOfStore }
     ensures autocommit { conn.new.in_transaction ≡ false }
     ensures adds_none { IfErr result (λ fault. is_disk fault ≡ false → Survives (state S.Store conn.old) (state S.Store conn.new) (λ _. ⊥)) }
     ensures crash { Survives (state S.Store conn.old) (state S.Store conn.new) (MayMigrate (state S.Store conn.old)) }
@@ -132,7 +132,7 @@ fn read_renewed<S: Alter>(
     ensures range { IfOk result (λ found. IsInRange (summary_shown found.0)) }
     ensures kinds { IfErr result IsOfOpening }
     ensures failed { HasCleanDisk (state S.Store conn.new) → IfErr result (λ fault. fault ≡ Fault.Disk → FailsToOpen S.Store conn.old conn.new) }
-    ensures told { HasCleanDisk (state S.Store conn.new) → IfErr result (IsTold (state S.Store conn.old).now) }
+    ensures told { HasCleanDisk (state S.Store conn.new) → IfErr result (TellsOfDatabase (state S.Store conn.old).now) }
     ensures not_held { HasCleanDisk (state S.Store conn.new) → IfErr result (IsNotHeld (state S.Store conn.old).now) }
     ensures lives { HasCleanDisk (state S.Store conn.new) → IsTrue (state S.Store conn.new).is_open → IsTrue (state S.Store conn.old).is_open }
     ensures stays { HasCleanDisk (state S.Store conn.new) → OnErr result (IsTrue (state S.Store conn.new).is_open → ((state S.Store conn.new).now ≡ (state S.Store conn.old).now) × ((state S.Store conn.new).committed ≡ (state S.Store conn.old).committed)) }
@@ -152,8 +152,8 @@ fn read_again<S: Alter>(alloc: Global, conn: &mut Connection<S>) -> Result<(), F
     requires holds { HasCleanDisk (state S.Store conn.old) → IsTrue (state S.Store conn.old).is_open → (M : Catalogue) × Rests known (state S.Store conn.old) M }
     ensures rests { HasCleanDisk (state S.Store conn.new) → OnOk result ((M : Catalogue) × Rests known (state S.Store conn.new) M) }
     ensures kinds { IfErr result IsOfOpening }
-    ensures failed { HasCleanDisk (state S.Store conn.new) → IfErr result (λ fault. fault ≡ Fault.Disk → HasFailed (state S.Store conn.old) (state S.Store conn.new)) }
-    ensures told { HasCleanDisk (state S.Store conn.new) → IfErr result (IsTold (state S.Store conn.old).now) }
+    ensures failed { HasCleanDisk (state S.Store conn.new) → IfErr result (λ fault. fault ≡ Fault.Disk → HasFailedToRead (state S.Store conn.old) (state S.Store conn.new)) }
+    ensures told { HasCleanDisk (state S.Store conn.new) → IfErr result (TellsOfDatabase (state S.Store conn.old).now) }
     ensures not_held { HasCleanDisk (state S.Store conn.new) → IfErr result (IsNotHeld (state S.Store conn.old).now) }
     ensures lives { HasCleanDisk (state S.Store conn.new) → IsTrue (state S.Store conn.new).is_open → IsTrue (state S.Store conn.old).is_open }
     ensures now { HasCleanDisk (state S.Store conn.new) → IsTrue (state S.Store conn.new).is_open → (state S.Store conn.new).now ≡ (state S.Store conn.old).now }
@@ -183,8 +183,8 @@ fn read_committed<S: Alter>(alloc: Global, conn: &mut Connection<S>) -> Result<(
     requires holds { HasCleanDisk (state S.Store conn.old) → IsTrue (state S.Store conn.old).is_open → (M : Catalogue) × Rests known (state S.Store conn.old) M }
     ensures rests { HasCleanDisk (state S.Store conn.new) → OnOk result ((M : Catalogue) × Rests known (state S.Store conn.new) M) }
     ensures kinds { IfErr result IsOfOpening }
-    ensures failed { HasCleanDisk (state S.Store conn.new) → IfErr result (λ fault. fault ≡ Fault.Disk → HasFailed (rested (state S.Store conn.old)) (state S.Store conn.new)) }
-    ensures told { HasCleanDisk (state S.Store conn.new) → (db : Database) → (IsTrue (state S.Store conn.old).is_open → (state S.Store conn.old).committed ≡ db) → IfErr result (IsTold db) }
+    ensures failed { HasCleanDisk (state S.Store conn.new) → IfErr result (λ fault. fault ≡ Fault.Disk → HasFailedToRead (rested (state S.Store conn.old)) (state S.Store conn.new)) }
+    ensures told { HasCleanDisk (state S.Store conn.new) → (db : Database) → (IsTrue (state S.Store conn.old).is_open → (state S.Store conn.old).committed ≡ db) → IfErr result (TellsOfDatabase db) }
     ensures not_held { HasCleanDisk (state S.Store conn.new) → (db : Database) → (IsTrue (state S.Store conn.old).is_open → (state S.Store conn.old).committed ≡ db) → IfErr result (IsNotHeld db) }
     ensures continues { HasCleanDisk (state S.Store conn.new) → Continues (state S.Store conn.old) (state S.Store conn.new) }
     ensures autocommit { conn.new.in_transaction ≡ false }
@@ -223,7 +223,7 @@ impl<S: Alter + Drop> Desk<S> {
         ensures beside_left { IfErr result (λ left. Survives (state S.Store (record conn { step_limit = None })) (state S.Store left.0) (MayCommitBeside (state S.Store conn))) }
         ensures handed { IfErr result (λ left. left.0.in_transaction ≡ false) }
         ensures kinds { IfErr result (λ left. IsOfOpening left.1) }
-        ensures told { IfErr result (λ left. HasCleanDisk (state S.Store left.0) → IsTold (state S.Store conn).now left.1) }
+        ensures told { IfErr result (λ left. HasCleanDisk (state S.Store left.0) → TellsOfDatabase (state S.Store conn).now left.1) }
         ensures not_held { IfErr result (λ left. HasCleanDisk (state S.Store left.0) → IsNotHeld (state S.Store conn).now left.1) }
         ensures not_left { IfErr result (λ left. HasCleanDisk (state S.Store left.0) → IsTrue (state S.Store conn).is_open → IsNotLeft (state S.Store conn).now.trees left.1) }
         ensures failed { IfErr result (λ left. HasCleanDisk (state S.Store left.0) → left.1 ≡ Fault.Disk → FailsToOpen S.Store (record conn { step_limit = None }) left.0) }
@@ -250,9 +250,9 @@ impl<S: Alter + Drop> Desk<S> {
     /// `Memory`: a growth was refused. `Disk`: the store failed, and the desk is closed. `Closed`: it was so before.
     pub fn audit(&mut self) -> Result<(), Fault>
         ensures sound { IfOk result (λ _. HasCleanDisk (state S.Store self.new.conn) → (M : Catalogue) × Rests known (state S.Store self.new.conn) M) }
-        ensures told { IfErr result (λ fault. HasCleanDisk (state S.Store self.new.conn) → IsTold (rested (state S.Store self.old.conn)).now fault) }
+        ensures told { IfErr result (λ fault. HasCleanDisk (state S.Store self.new.conn) → TellsOfDatabase (rested (state S.Store self.old.conn)).now fault) }
         ensures not_held { IfErr result (λ fault. HasCleanDisk (state S.Store self.new.conn) → IsNotHeld (rested (state S.Store self.old.conn)).now fault) }
-        ensures broken { HasCleanDisk (state S.Store self.new.conn) → IfErr result (λ fault. fault ≡ Fault.Disk → HasFailed (rested (state S.Store self.old.conn)) (state S.Store self.new.conn)) }
+        ensures broken { HasCleanDisk (state S.Store self.new.conn) → IfErr result (λ fault. fault ≡ Fault.Disk → HasFailedToRead (rested (state S.Store self.old.conn)) (state S.Store self.new.conn)) }
         ensures shows { HasCleanDisk (state S.Store self.new.conn) → (M : Catalogue) → Shows S.Store self.old M → Shows S.Store self.new M }
         ensures spares { Survives (state S.Store self.old.conn) (state S.Store self.new.conn) (λ _. ⊥) }
         ensures same { HasCleanDisk (state S.Store self.new.conn) → IsTrue (state S.Store self.new.conn).is_open → (state S.Store self.new.conn).committed ≡ (state S.Store self.old.conn).committed }

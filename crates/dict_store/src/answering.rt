@@ -9,11 +9,11 @@ ghost use Rattle.dict_desk.specs.Handing.{Hands};
 ghost use Rattle.dict_lookup.specs.Indexes.{entries_under};
 ghost use Rattle.dict_search.specs.Entries.{Indexed};
 ghost use Rattle.dict_holdings.specs.Texts.{HoldsText};
-ghost use Rattle.dict_lookup.specs.Texts.{Cuts, IsIndexOf, ArePartsOf, AreMade, IsAtMostRead, FailsToFind};
+ghost use Rattle.dict_lookup.specs.Texts.{Cuts, IsIndexOf, ArePartsOf, AreOfInstalls, IsAtMostRead, FailsToFind};
 ghost use Rattle.dict_lookup.specs.Searches.{HasLookupTables, IsOfStore};
 
 use dict_desk::{End, Fault, RowSink, What};
-use dict_lookup::{Indexes, Texts};
+use dict_lookup::{Indexes, TextParts};
 use dict_match::{Key, Strategy};
 use sqlite::{Alter, Connection};
 use std::alloc::Global;
@@ -63,7 +63,7 @@ pub(crate) fn heads_under<T: RowSink>(
 pub(crate) fn find_under<S: Alter, T: RowSink>(
     alloc: Global,
     conn: &mut Connection<S>,
-    texts: &mut Texts,
+    texts: &mut TextParts,
     installs: u64,
     indexes: &Indexes,
     number: u64,
@@ -76,7 +76,7 @@ pub(crate) fn find_under<S: Alter, T: RowSink>(
     ensures value { HasCleanDisk (state S.Store conn.new) → (index : List Indexed) (edition : Edition) (text : List ℕ) → entries_under number indexes.now ≡ Some index → Cuts index edition text → ArePartsOf number text texts.old → (IsTrue (state S.Store conn.old).is_open → HoldsText (state S.Store conn.old).now number text) → Hands T.takes T.stops sink.old sink.new (found_rows strategy query.now edition) result }
     ensures none { entries_under number indexes.now ≡ None → (result ≡ Ok End.All) × (sink.new ≡ sink.old) × (conn.new ≡ conn.old) }
     ensures texts { HasCleanDisk (state S.Store conn.new) → (other : ℕ) (text : List ℕ) → ArePartsOf other text texts.old → (other ≡ number → IsTrue (state S.Store conn.old).is_open → HoldsText (state S.Store conn.old).now other text) → ArePartsOf other text texts.new }
-    ensures made { AreMade installs texts.old → AreMade installs texts.new }
+    ensures made { AreOfInstalls installs texts.old → AreOfInstalls installs texts.new }
     ensures handed { (rows : List ShownRow) × Hands T.takes T.stops sink.old sink.new rows result }
     ensures same { HasCleanDisk (state S.Store conn.new) → OnOk result (IsAtMostRead S.Store conn.old conn.new) }
     ensures failed { HasCleanDisk (state S.Store conn.new) → IfErr result (FailsToFind S.Store number conn.old conn.new) }

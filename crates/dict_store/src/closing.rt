@@ -8,8 +8,9 @@ ghost use Rattle.sqlite.specs.View.{IsClean};
 ghost use Rattle.sqlite.specs.WalReads.{AreClean};
 ghost use Rattle.dict_catalogue.specs.Steps.{Catalogue};
 ghost use Rattle.dict_holdings.specs.Holds.{IsLeft};
-ghost use Rattle.dict_store.specs.Closed.{HoldsAlone, IsUncopied, StoreLeaves, fault_of_copy};
+ghost use Rattle.dict_store.specs.Closed.{HoldsAlone, IsUncopied, StoreLeaves};
 ghost use Rattle.dict_store.specs.Desk.{LeavesOneOf, Shows, is_closed};
+ghost use Rattle.dict_holdings.specs.Faults.{fault_of};
 
 use crate::adopting::is_whole;
 use crate::desk::Desk;
@@ -20,7 +21,7 @@ use sqlite_disk::Disk;
 
 // What is told where the log couldn't be copied.
 fn fault_of_copy(error: &Error) -> Fault
-    ensures value { result ≡ fault_of_copy error.now }
+    ensures value { result ≡ fault_of error.now }
     ensures kinds { (result ≡ Fault.Memory) ⊎ (result ≡ Fault.Disk) }
 {
     match error {

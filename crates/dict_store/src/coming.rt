@@ -13,12 +13,12 @@ ghost use Rattle.dict_catalogue.specs.Views.{summary_shown};
 ghost use Rattle.dict_commands.specs.Committed.{IsOfStore};
 ghost use Rattle.dict_commands.specs.Answers.{HoldsBy};
 ghost use Rattle.dict_commands.specs.Changes.{IsInRange};
-ghost use Rattle.dict_commands.specs.Filing.{IsDrawnUp, IsUnderway, IsWhole, HasSameRows, rested};
+ghost use Rattle.dict_commands.specs.Filing.{IsDrawnUp, IsUnderway, AreAllPartsFiled, HasSameRows, rested};
 ghost use Rattle.dict_commands.specs.Finishing.{IsFinished};
 ghost use Rattle.dict_commands.specs.Installs.{IsInstallOf, IsReadInstall};
-ghost use Rattle.dict_commands.specs.Kept.{IsUsable};
-ghost use Rattle.dict_store.specs.Coming.{IsIndexOf};
-ghost use Rattle.dict_store.specs.Indexed.{HasPut};
+ghost use Rattle.dict_commands.specs.KeptRecords.{IsUsable};
+ghost use Rattle.dict_store.specs.Coming.{IsIndexOfInstall};
+ghost use Rattle.dict_store.specs.Indexed.{HasPutIfSome};
 ghost use Rattle.dict_store.specs.Prepared.{Undoes};
 
 use crate::making::{IndexPart, make_part, take_whole};
@@ -53,11 +53,11 @@ impl Model for Coming {
 
     ghost Value = { Filing };
 
-    ghost use Rattle.dict_store.specs.Coming.{IsIndexOf};
+    ghost use Rattle.dict_store.specs.Coming.{IsIndexOfInstall};
 
     ghost view = { λ coming. coming.install.filing };
 
-    ghost invariant = { λ coming. IsReadInstall coming.install × IsIndexOf coming.install coming.index };
+    ghost invariant = { λ coming. IsReadInstall coming.install × IsIndexOfInstall coming.install coming.index };
 }
 
 impl Coming {
@@ -84,7 +84,7 @@ impl Coming {
         ensures drawn { IsDrawnUp self.new }
         ensures next { OnOk result (self.new.number ≡ (summary_shown summary.now).installs + 1) }
         ensures underway { IsUnderway S.Store self.new conn.new }
-        ensures whole { IfOk result (λ more. more ≡ false → IsWhole self.new) }
+        ensures whole { IfOk result (λ more. more ≡ false → AreAllPartsFiled self.new) }
         ensures inside { HasCleanDisk (state S.Store conn.new) → OnOk result (conn.new.in_transaction ≡ true) }
         ensures undone { HasCleanDisk (state S.Store conn.new) → OnErr result (conn.new.in_transaction ≡ false) }
         ensures settled { HasCleanDisk (state S.Store conn.new) → OnErr result (IsTrue (state S.Store conn.new).is_open → (state S.Store conn.new).now ≡ (state S.Store conn.new).committed) }
@@ -120,7 +120,7 @@ impl Coming {
         summary: &Summary,
         indexes: &mut Indexes,
         number: u64,
-        request: &Request<'_>,
+        request: &AskedInstall<'_>,
     ) -> Option<Result<Applied, Fault>>
         requires inside { conn.old.in_transaction ≡ true }
         requires underway { IsUnderway S.Store self.old conn.old }
@@ -128,7 +128,7 @@ impl Coming {
         requires range { IsInRange (summary_shown summary.now) }
         ensures same { self.new ≡ self.old }
         ensures finished { IfSome result (λ outcome. (reading : ReadEdition) × IsReadEdition request.now.index.now request.now.text.now reading
-            × IsFinished S.Store (summary_shown summary.now) request.now.id.now request.now.name.now reading conn.old conn.new outcome × HasPut number (Some (map entry_of reading.lines)) indexes.old indexes.new) }
+            × IsFinished S.Store (summary_shown summary.now) request.now.id.now request.now.name.now reading conn.old conn.new outcome × HasPutIfSome number (Some (map entry_of reading.lines)) indexes.old indexes.new) }
         ensures settled { HasCleanDisk (state S.Store conn.new) → IsTrue (state S.Store conn.new).is_open → IfSome result (λ _. (state S.Store conn.new).now ≡ (state S.Store conn.new).committed) }
         ensures others { (q : ℕ) → q ≢ number → entries_under q indexes.new ≡ entries_under q indexes.old }
         ensures undone { HasCleanDisk (state S.Store conn.new) → IfNone result (Undoes S.Store conn.old conn.new) }
@@ -143,7 +143,7 @@ impl Coming {
 
 /// An install as it is asked: under which id, and by which name and files.
 #[derive(Clone, Copy)]
-pub(crate) struct Request<'a> {
+pub(crate) struct AskedInstall<'a> {
     pub(crate) id: &'a str,
     pub(crate) name: &'a str,
     pub(crate) index: &'a [u8],
@@ -156,12 +156,12 @@ fn put_index(
     index: &mut IndexPart,
     indexes: &mut Indexes,
     number: u64,
-    request: &Request<'_>,
+    request: &AskedInstall<'_>,
 ) -> bool
-    requires { IsIndexOf install.now index.old }
-    ensures index { IsIndexOf install.now index.new }
+    requires { IsIndexOfInstall install.now index.old }
+    ensures index { IsIndexOfInstall install.now index.new }
     ensures is_of { IsTrue result → IsInstallOf request.now.name.now request.now.index.now request.now.text.now install.now }
-    ensures put { IsTrue result → (reading : ReadEdition) → IsReadEdition install.now.came.items install.now.filing.text.items reading → HasPut number (Some (map entry_of reading.lines)) indexes.old indexes.new }
+    ensures put { IsTrue result → (reading : ReadEdition) → IsReadEdition install.now.came.items install.now.filing.text.items reading → HasPutIfSome number (Some (map entry_of reading.lines)) indexes.old indexes.new }
     ensures others { (q : ℕ) → q ≢ number → entries_under q indexes.new ≡ entries_under q indexes.old }
 {
     if !install.is_of(request.name, request.index, request.text) {

@@ -7,8 +7,8 @@ ghost use Rattle.dict_catalogue.specs.Views.{summary_shown};
 ghost use Rattle.dict_catalogue.specs.WellFormed.{IsWellFormed};
 ghost use Rattle.dict_desk.specs.Faults.{is_disk};
 ghost use Rattle.dict_holdings.specs.Holds.{Holds, Rests, IsLeftAs, HasPlace};
-ghost use Rattle.dict_holdings.specs.Writing.{Stays, IsOfCreation};
-ghost use Rattle.dict_migration.specs.Making.{creation, FailsToEnd};
+ghost use Rattle.dict_holdings.specs.Writing.{StaysCommitted, IsOfCreation};
+ghost use Rattle.dict_migration.specs.Making.{creation, CreationFailsToEnd};
 ghost use Rattle.dict_migration.specs.Moved.{AreTreesOf};
 ghost use Rattle.dict_migration.specs.Spared.{SparesOthers};
 ghost use Rattle.dict_commands.specs.Changes.{IsInRange};
@@ -24,7 +24,7 @@ use crate::withdrawing::undo;
 use dict_catalogue::Summary;
 use dict_commands::Draft;
 use dict_desk::Fault;
-use dict_lookup::{Indexes, Texts};
+use dict_lookup::{Indexes, TextParts};
 use dict_migration::create;
 use sqlite::{Alter, Connection};
 use std::alloc::Global;
@@ -42,7 +42,7 @@ pub struct Desk<S: Alter + Drop> {
     // The indexes of the editions by their numbers.
     pub(crate) indexes: Indexes,
     // The texts of editions that lookups keep. Those of a database stay as a command changes another one.
-    pub(crate) texts: Texts,
+    pub(crate) texts: TextParts,
     // The entries that lookups have looked at, and the rows that their statements have handed over. Nothing rests on it.
     pub(crate) rows_taken: u64,
     // What is read of an install that may come.
@@ -79,7 +79,7 @@ impl<S: Alter + Drop> Model for Desk<S> {
     ghost use Rattle.std.specs.Coded.{codes};
     ghost use Rattle.sqlite.specs.Held.{held_code};
     ghost use Rattle.dict_store.specs.Desk.{DeskState, IsAtRest};
-    ghost use Rattle.dict_store.specs.Kept.{KeepsTexts};
+    ghost use Rattle.dict_store.specs.KeptParts.{KeepsTexts};
 
     ghost Value = { DeskState S };
 
@@ -111,7 +111,7 @@ impl<S: Alter + Drop> Desk<S> {
             summary,
             last: LastCall::Fine,
             indexes,
-            texts: Texts::new(alloc),
+            texts: TextParts::new(alloc),
             rows_taken: 0,
             draft: None,
             filing: None,
@@ -140,8 +140,8 @@ impl<S: Alter + Drop> Desk<S> {
         ensures no_place { IfErr result (λ left. left.1 ≡ Fault.NotACatalogue → (HasPlace (state S.Store conn).now.schema → ⊥) × (left.0 ≡ record conn { step_limit = None })) }
         ensures crash { IfErr result (λ left. Survives (state S.Store (record conn { step_limit = None })) (state S.Store left.0) (IsLeftAs known empty_catalogue)) }
         ensures adds_none { IfErr result (λ left. is_disk left.1 ≡ false → Survives (state S.Store (record conn { step_limit = None })) (state S.Store left.0) (λ _. ⊥)) }
-        ensures stays { IfErr result (λ left. HasCleanDisk (state S.Store left.0) → Stays (state S.Store conn) (state S.Store left.0)) }
-        ensures failed { IfErr result (λ left. HasCleanDisk (state S.Store left.0) → left.1 ≢ Fault.NotACatalogue → FailsToEnd S.Store (creation known) (λ db. Holds known db empty_catalogue) (record conn { step_limit = None }) left.0 left.1) }
+        ensures stays { IfErr result (λ left. HasCleanDisk (state S.Store left.0) → StaysCommitted (state S.Store conn) (state S.Store left.0)) }
+        ensures failed { IfErr result (λ left. HasCleanDisk (state S.Store left.0) → left.1 ≢ Fault.NotACatalogue → CreationFailsToEnd S.Store (creation known) (λ db. Holds known db empty_catalogue) (record conn { step_limit = None }) left.0 left.1) }
         ensures kinds { IfErr result (λ left. IsOfCreation left.1) }
     {
         let mut conn = conn;

@@ -16,10 +16,10 @@ ghost use Rattle.dict_store.specs.Causes.{IsAppliedTo};
 ghost use Rattle.dict_lookup.specs.Indexes.{entries_under};
 ghost use Rattle.dict_search.specs.Entries.{entry_of};
 ghost use Rattle.dict_store.specs.Desk.{HasFiled, Shows, is_closed, has_failed};
-ghost use Rattle.dict_store.specs.Indexed.{HasPut};
+ghost use Rattle.dict_store.specs.Indexed.{HasPutIfSome};
 ghost use Rattle.dict_store.specs.Prepared.{Undoes};
 
-use crate::coming::{Coming, Request};
+use crate::coming::{AskedInstall, Coming};
 use crate::copying::is_long_behind;
 use crate::desk::Desk;
 use crate::indexing::settle;
@@ -43,7 +43,7 @@ fn finish_coming<S: Alter>(
     indexes: &mut Indexes,
     number: u64,
     filing: &mut Option<Coming>,
-    request: &Request<'_>,
+    request: &AskedInstall<'_>,
 ) -> Option<Result<Applied, Fault>>
     requires inside { conn.old.in_transaction ≡ true }
     requires filed { HasFiled S.Store filing.old conn.old }
@@ -51,7 +51,7 @@ fn finish_coming<S: Alter>(
     requires range { IsInRange (summary_shown summary.now) }
     ensures same { filing.new ≡ filing.old }
     ensures finished { IfSome result (λ outcome. (reading : ReadEdition) × IsReadEdition request.now.index.now request.now.text.now reading
-        × IsFinished S.Store (summary_shown summary.now) request.now.id.now request.now.name.now reading conn.old conn.new outcome × HasPut number (Some (map entry_of reading.lines)) indexes.old indexes.new) }
+        × IsFinished S.Store (summary_shown summary.now) request.now.id.now request.now.name.now reading conn.old conn.new outcome × HasPutIfSome number (Some (map entry_of reading.lines)) indexes.old indexes.new) }
     ensures settled { HasCleanDisk (state S.Store conn.new) → IsTrue (state S.Store conn.new).is_open → IfSome result (λ _. (state S.Store conn.new).now ≡ (state S.Store conn.new).committed) }
     ensures others { (q : ℕ) → q ≢ number → entries_under q indexes.new ≡ entries_under q indexes.old }
     ensures undone { HasCleanDisk (state S.Store conn.new) → IfNone result (Undoes S.Store conn.old conn.new) }
@@ -102,7 +102,7 @@ impl<S: Alter + Drop> Desk<S> {
             return None;
         }
         let number = self.summary.installs.saturating_add(1);
-        let request = Request {
+        let request = AskedInstall {
             id,
             name,
             index,

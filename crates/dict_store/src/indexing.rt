@@ -9,7 +9,7 @@ ghost use Rattle.dict_catalogue.specs.Views.{command_meant, item_shown};
 ghost use Rattle.dict_catalogue.specs.WellFormed.{is_install};
 ghost use Rattle.dict_lookup.specs.Indexes.{entries_under};
 ghost use Rattle.dict_search.specs.Entries.{entry_of};
-ghost use Rattle.dict_store.specs.Indexed.{index_coming, HasLetGo, HasPut, HasSettled, IsGone};
+ghost use Rattle.dict_store.specs.Indexed.{index_coming, HasLetGoIndexes, HasPutIfSome, HasSettled, IsGone};
 
 use dict_catalogue::{Command, Item};
 use dict_commands::Applied;
@@ -60,7 +60,7 @@ pub(crate) fn put_coming(
     number: u64,
     command: &Command,
 ) -> Result<(), AllocError>
-    ensures put { OnOk result (HasPut number (index_coming command.now) indexes.old indexes.new) }
+    ensures put { OnOk result (HasPutIfSome number (index_coming command.now) indexes.old indexes.new) }
     ensures refused { OnErr result ((q : ℕ) → entries_under q indexes.new ≡ entries_under q indexes.old) }
     ensures asked { OnErr result (is_install (verb_of (command_meant command.now)) ≡ true) }
 {
@@ -151,7 +151,7 @@ pub(crate) fn settle(
     outcome: &Result<Applied, Fault>,
 )
     ensures settled { HasSettled number outcome.now indexes.old indexes.new }
-    ensures gone { HasLetGo before.now number outcome.now indexes.new }
+    ensures gone { HasLetGoIndexes before.now number outcome.now indexes.new }
 {
     match outcome {
         Ok(Applied::Done(_, after)) => {

@@ -1,13 +1,13 @@
 // The texts that a desk keeps in memory for lookups, by how its last call ended.
 ghost use Rattle.std.specs.Prelude.{◌≡◌};
-ghost use Rattle.dict_store.specs.Kept.{texts_after, texts_behind};
+ghost use Rattle.dict_store.specs.KeptParts.{texts_after, texts_behind};
 
 use crate::last::LastCall;
 use dict_desk::Fault;
-use dict_lookup::Texts;
+use dict_lookup::TextParts;
 
 // After a fault from 40 on none is kept: what memory they had is free then.
-pub(crate) fn forget_by(texts: &mut Texts, last: LastCall)
+pub(crate) fn forget_by(texts: &mut TextParts, last: LastCall)
     ensures { texts.new ≡ texts_after last texts.old }
 {
     match last {
@@ -17,7 +17,7 @@ pub(crate) fn forget_by(texts: &mut Texts, last: LastCall)
 }
 
 // Behind what was prepared, none is kept behind a fault.
-pub(crate) fn forget_behind<T>(texts: &mut Texts, outcome: &Result<T, Fault>)
+pub(crate) fn forget_behind<T>(texts: &mut TextParts, outcome: &Result<T, Fault>)
     ensures { texts.new ≡ texts_behind outcome.now texts.old }
 {
     match outcome {

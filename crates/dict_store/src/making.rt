@@ -5,7 +5,7 @@ ghost use Rattle.dict_index.specs.Meaning.{IsReadEdition};
 ghost use Rattle.dict_search.specs.Entries.{entry_of};
 ghost use Rattle.dict_commands.specs.Installs.{IsReadInstall};
 ghost use Rattle.dict_commands.specs.declared.reads.ReadInstall.{ReadInstall};
-ghost use Rattle.dict_store.specs.Coming.{IsIndexOf};
+ghost use Rattle.dict_store.specs.Coming.{IsIndexOfInstall};
 
 use dict_commands::ReadInstall;
 use dict_index::one_meaning;
@@ -45,8 +45,8 @@ fn take_entries(reading: &Reading<'_>, builder: &mut IndexBuilder) -> Result<(),
 // The index behind the next slice of entries, or the one of which all are taken.
 fn take_slice(install: &ReadInstall, builder: IndexBuilder) -> IndexPart
     requires known { IsReadInstall install.now }
-    requires index { IsIndexOf install.now (IndexPart.Entries builder) }
-    ensures { IsIndexOf install.now result }
+    requires index { IsIndexOfInstall install.now (IndexPart.Entries builder) }
+    ensures { IsIndexOfInstall install.now result }
 {
     one_meaning();
     let Some(reading) = install.reading() else {
@@ -69,7 +69,7 @@ fn take_slice(install: &ReadInstall, builder: IndexBuilder) -> IndexPart
 
 // The index of which all entries are taken, behind the next part of it; and whether there was one.
 fn step_parts(making: IndexMaking) -> (IndexPart, bool)
-    ensures { (install : ReadInstall) → IsIndexOf install (IndexPart.Parts making) → IsIndexOf install result.0 }
+    ensures { (install : ReadInstall) → IsIndexOfInstall install (IndexPart.Parts making) → IsIndexOfInstall install result.0 }
 {
     let mut making = making;
     match making.step() {
@@ -84,8 +84,8 @@ fn step_parts(making: IndexMaking) -> (IndexPart, bool)
 // The index behind the next step, and whether there was one.
 fn made_on(install: &ReadInstall, index: IndexPart) -> (IndexPart, bool)
     requires known { IsReadInstall install.now }
-    requires index { IsIndexOf install.now index }
-    ensures { IsIndexOf install.now result.0 }
+    requires index { IsIndexOfInstall install.now index }
+    ensures { IsIndexOfInstall install.now result.0 }
 {
     match index {
         IndexPart::Entries(builder) => (take_slice(install, builder), true),
@@ -97,8 +97,8 @@ fn made_on(install: &ReadInstall, index: IndexPart) -> (IndexPart, bool)
 /// Makes the next step of an index. Whether there was one.
 pub(crate) fn make_part(install: &ReadInstall, index: &mut IndexPart) -> bool
     requires known { IsReadInstall install.now }
-    requires index { IsIndexOf install.now index.old }
-    ensures { IsIndexOf install.now index.new }
+    requires index { IsIndexOfInstall install.now index.old }
+    ensures { IsIndexOfInstall install.now index.new }
 {
     let before = mem::replace(index, IndexPart::Lost);
     let made = made_on(install, before);
@@ -108,7 +108,7 @@ pub(crate) fn make_part(install: &ReadInstall, index: &mut IndexPart) -> bool
 
 // The whole index, where all entries are taken; what is missing of it is made. None also where memory is refused.
 fn whole_index(install: &ReadInstall, index: IndexPart) -> Option<Index>
-    requires { IsIndexOf install.now index }
+    requires { IsIndexOfInstall install.now index }
     ensures { IfSome result (λ whole. (reading : ReadEdition) → IsReadEdition install.now.came.items install.now.filing.text.items reading → whole ≡ map entry_of reading.lines) }
 {
     let _filed = &install.filing;
@@ -123,8 +123,8 @@ fn whole_index(install: &ReadInstall, index: IndexPart) -> Option<Index>
 
 /// The same, taken out.
 pub(crate) fn take_whole(install: &ReadInstall, index: &mut IndexPart) -> Option<Index>
-    requires { IsIndexOf install.now index.old }
-    ensures index { IsIndexOf install.now index.new }
+    requires { IsIndexOfInstall install.now index.old }
+    ensures index { IsIndexOfInstall install.now index.new }
     ensures whole { IfSome result (λ whole. (reading : ReadEdition) → IsReadEdition install.now.came.items install.now.filing.text.items reading → whole ≡ map entry_of reading.lines) }
 {
     let before = mem::replace(index, IndexPart::Lost);

@@ -9,7 +9,7 @@ ghost use Rattle.dict_catalogue.specs.Steps.{Catalogue};
 ghost use Rattle.dict_catalogue.specs.Views.{summary_shown};
 ghost use Rattle.dict_commands.specs.Changes.{IsInRange};
 ghost use Rattle.dict_commands.specs.Filing.{IsDrawnUp, rested};
-ghost use Rattle.dict_commands.specs.Kept.{IsUsable};
+ghost use Rattle.dict_commands.specs.KeptRecords.{IsUsable};
 ghost use Rattle.dict_desk.specs.Faults.{has_closed_by, has_failed_by};
 ghost use Rattle.dict_store.specs.Causes.{FailsToPrepare};
 ghost use Rattle.dict_store.specs.Desk.{HasFiled, LeavesOneOf, Shows, has_failed, is_closed};
@@ -113,7 +113,7 @@ fn plan_next(alloc: Global, summary: &Summary, draft: &mut Option<Draft>) -> Opt
 
 /// What comes of a draft's next step.
 #[derive(Clone, Copy)]
-enum Step {
+enum DraftStep {
     /// There is more to read, or to write.
     More,
     /// All is, and it can be planned.
@@ -125,22 +125,22 @@ enum Step {
 }
 
 // Reads a bounded part of a draft.
-fn step_draft(draft: &mut Option<Draft>) -> Step {
+fn step_draft(draft: &mut Option<Draft>) -> DraftStep {
     let Some(reading) = draft else {
-        return Step::Stays;
+        return DraftStep::Stays;
     };
     match reading.step() {
-        Ok(true) => Step::More,
+        Ok(true) => DraftStep::More,
         Ok(false) => {
             if reading.is_refused() {
-                Step::Stays
+                DraftStep::Stays
             } else {
-                Step::Whole
+                DraftStep::Whole
             }
         }
         Err(_) => {
             drop(draft.take());
-            Step::Refused
+            DraftStep::Refused
         }
     }
 }
@@ -158,10 +158,10 @@ fn read_next(
     ensures kinds { IfErr result (λ fault. fault ≡ Fault.Memory) }
 {
     match step_draft(draft) {
-        Step::More => Ok(true),
-        Step::Stays => Ok(false),
-        Step::Refused => Err(Fault::Memory),
-        Step::Whole => {
+        DraftStep::More => Ok(true),
+        DraftStep::Stays => Ok(false),
+        DraftStep::Refused => Err(Fault::Memory),
+        DraftStep::Whole => {
             drop(mem::replace(filing, plan_next(alloc, summary, draft)));
             Ok(filing.is_some())
         }

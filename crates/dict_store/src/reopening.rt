@@ -9,7 +9,7 @@ ghost use Rattle.sqlite.specs.Tree.{Trees};
 ghost use Rattle.sqlite_pool.specs.Stored.{is_summed};
 ghost use Rattle.sqlite_store.specs.declared.store.FileStore.{FileStore};
 ghost use Rattle.sqlite.specs.WalFiles.{image_at};
-ghost use Rattle.dict_catalogue.specs.Steps.{Catalogue, Request};
+ghost use Rattle.dict_catalogue.specs.Steps.{Catalogue, CommandRequest};
 ghost use Rattle.dict_holdings.specs.Holds.{IsLeft, Rests};
 ghost use Rattle.dict_store.specs.Adopted.{IsAdopted};
 ghost use Rattle.dict_store.specs.Desk.{Shows, LeavesOneOf};
@@ -147,7 +147,7 @@ impl<D: Crash + Drop> Desk<FileStore<D>> {
     /// the disk failed or a file has its greatest length; the others are those of `adopt`. At each fault a stop leaves of what is handed
     /// back what it could leave of the desk.
     pub fn restart(self, options: Options) -> Result<Desk<FileStore<D>>, (Unopened<D>, Fault)>
-        ensures shows { IfOk result (λ desk. HasCleanDisk (file_state desk.conn) → (before : Catalogue) (requests : List Request) (answered : ℕ) → LeavesFront over_files self before requests answered → ∥ ShowsFront over_files desk before requests answered ∥₁) }
+        ensures shows { IfOk result (λ desk. HasCleanDisk (file_state desk.conn) → (before : Catalogue) (requests : List CommandRequest) (answered : ℕ) → LeavesFront over_files self before requests answered → ∥ ShowsFront over_files desk before requests answered ∥₁) }
         ensures restarted { IfOk result (IsRestarted self) }
         ensures follows { IfOk result (λ desk. HasCleanDisk (file_state desk.conn) → (ms : List (Option Catalogue)) → LeavesOneOf over_files self ms → ∥ ShowsOneOf over_files desk ms ∥₁) }
         ensures only { IfOk result (λ desk. (M : Catalogue) → Shows over_files desk M → LeavesOneOf over_files desk (Some M ∷ [])) }
@@ -166,7 +166,7 @@ impl<D: Crash + Drop> Desk<FileStore<D>> {
 ///
 /// It does nothing. Its clause is the law.
 pub fn stopped_files<D: Disk>()
-    ensures { (it : FileStore D D.Disk) (before : Catalogue) (requests : List Request) (answered : ℕ) (left : Image) → IsTrue (view it).is_numbered →
+    ensures { (it : FileStore D D.Disk) (before : Catalogue) (requests : List CommandRequest) (answered : ℕ) (left : Image) → IsTrue (view it).is_numbered →
         ((trees : Trees) → recovers it trees → HoldsFront before requests answered trees) → (store.state it).may_leave left → ∥ HoldsFrontIn before requests answered left ∥₁ }
 {}
 

@@ -5,7 +5,7 @@ ghost use Rattle.sqlite.specs.Held.{state};
 ghost use Rattle.dict_catalogue.specs.Steps.{Catalogue, kept_under};
 ghost use Rattle.dict_catalogue.specs.Views.{kept_shown};
 ghost use Rattle.dict_desk.specs.Faults.{IsOfLookup, is_disk, is_failure};
-ghost use Rattle.dict_lookup.specs.Searches.{column_of};
+ghost use Rattle.dict_lookup.specs.Searches.{number_in_column};
 ghost use Rattle.dict_store.specs.Desk.{Shows, is_closed, has_failed};
 ghost use Rattle.dict_store.specs.Prepared.{IsAlike, IsApart, LetsGo, Undoes};
 
@@ -36,7 +36,7 @@ pub(crate) fn undo<S: Alter>(conn: &mut Connection<S>) -> bool
 
 // The number of an edition as a column has it.
 fn column_of(number: u64) -> u64
-    ensures { result ≡ column_of number }
+    ensures { result ≡ number_in_column number }
 {
     if number > i64::MAX as u64 {
         return 0;
@@ -59,7 +59,7 @@ fn is_apart<S: Alter>(conn: &Connection<S>, filing: &Option<Coming>, number: u64
 
 // The same of the number as a column has it, too.
 fn are_apart<S: Alter>(conn: &Connection<S>, filing: &Option<Coming>, number: u64) -> bool
-    ensures { IsTrue result → IsApart filing.now number conn.now × IsApart filing.now (column_of number) conn.now }
+    ensures { IsTrue result → IsApart filing.now number conn.now × IsApart filing.now (number_in_column number) conn.now }
 {
     is_apart(conn, filing, number) && is_apart(conn, filing, column_of(number))
 }

@@ -9,8 +9,8 @@ use Rattle.dict_tables.specs.declared.keyed.KeyedTable.TheVariants.{Entry, Word,
 
 -- ---- entry: the headwords of each edition, where their bodies stand, and the key of each, read in either direction
 
-abbrev pub entry : ℕ → Table
-entry tree = simple (codes "entry") tree (needed (codes "edition") Integer ∷ needed (codes "ord") Integer ∷ needed (codes "headword") Text ∷ needed (codes "start") Integer ∷ needed (codes "length") Integer ∷ needed (codes "key") Blob ∷ needed (codes "rkey") Blob ∷ needed (codes "shown") Text ∷ []) None (1 ∷ 2 ∷ []) ((1 ∷ 2 ∷ []) ∷ []) (plain ∷ [])
+abbrev pub entry_with_keys : ℕ → Table
+entry_with_keys tree = simple (codes "entry") tree (needed (codes "edition") Integer ∷ needed (codes "ord") Integer ∷ needed (codes "headword") Text ∷ needed (codes "start") Integer ∷ needed (codes "length") Integer ∷ needed (codes "key") Blob ∷ needed (codes "rkey") Blob ∷ needed (codes "shown") Text ∷ []) None (1 ∷ 2 ∷ []) ((1 ∷ 2 ∷ []) ∷ []) (plain ∷ [])
 
 -- the same in schemas 2 and 3, which are only read and dropped
 abbrev pub old_entry : ℕ → Table
@@ -28,7 +28,7 @@ gram tree = simple (codes "gram") tree (needed (codes "edition") Integer ∷ nee
 
 -- ---- by name
 
-abbrev pub table_of : KeyedTable → ℕ → Table
-table_of Entry = entry
-table_of Word = word
-table_of Gram = gram
+abbrev pub keyed_table_of : KeyedTable → ℕ → Table
+keyed_table_of Entry = entry_with_keys
+keyed_table_of Word = word
+keyed_table_of Gram = gram

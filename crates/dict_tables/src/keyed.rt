@@ -1,7 +1,7 @@
 //! The tables of what older versions derived of headwords, by name.
 
 ghost use Rattle.std.specs.Prelude.{◌≡◌};
-ghost use Rattle.dict_tables.specs.Keyed.{table_of};
+ghost use Rattle.dict_tables.specs.Keyed.{keyed_table_of};
 
 /// A table of what is derived of headwords.
 #[derive(Clone, Copy, Debug, PartialEq, Eq)]
@@ -17,7 +17,7 @@ pub enum KeyedTable {
 impl KeyedTable {
     /// The name of the table.
     pub fn name(self) -> &'static str
-        ensures { result.now ≡ (table_of self 0).name }
+        ensures { result.now ≡ (keyed_table_of self 0).name }
     {
         match self {
             KeyedTable::Entry => "entry",

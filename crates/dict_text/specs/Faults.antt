@@ -11,8 +11,8 @@ IsSomeDigit byte = (value : ℕ) × IsDigit byte value
 
 -- the fault is the first that applies: the empty text, more than six bytes, a byte that is no digit, a needless digit
 -- of 0 in front
-abbrev pub IsFault : List ℕ → NumberFault → Type 0
-IsFault s Empty = length s ≡ 0
-IsFault s Long = 6 < length s
-IsFault s Digit = (1 ≤ length s) × (length s ≤ 6) × (¬ AllByRecursion IsSomeDigit s)
-IsFault s Leading = (1 < length s) × (length s ≤ 6) × AllByRecursion IsSomeDigit s × (slice_index s 0 ≡ slice_index alphabet 0)
+abbrev pub IsNumberFault : List ℕ → NumberFault → Type 0
+IsNumberFault s Empty = length s ≡ 0
+IsNumberFault s Long = 6 < length s
+IsNumberFault s Digit = (1 ≤ length s) × (length s ≤ 6) × (¬ AllByRecursion IsSomeDigit s)
+IsNumberFault s Leading = (1 < length s) × (length s ≤ 6) × AllByRecursion IsSomeDigit s × (slice_index s 0 ≡ slice_index alphabet 0)

@@ -2,7 +2,7 @@
 ghost use Rattle.std.specs.Prelude.{◌≡◌, ℕ, ◌≤◌, ◌^◌, ◌<◌, List, length, MatchOption, IfOk, IfErr, Ok, Err};
 ghost use Rattle.std.specs.List.{AllZip, AllByRecursion};
 ghost use Rattle.dict_text.specs.Number.{Spells, IsDigit, number_of};
-ghost use Rattle.dict_text.specs.Faults.{IsFault, IsSomeDigit};
+ghost use Rattle.dict_text.specs.Faults.{IsNumberFault, IsSomeDigit};
 
 use crate::digits::MAX_DIGITS;
 use thiserror::Error;
@@ -29,8 +29,8 @@ pub fn read_number(text: &[u8]) -> Result<u64, NumberFault>
     ensures found { IfOk result (λ n. Spells text.now n) }
     ensures only { (n : ℕ) → Spells text.now n → result ≡ Ok n }
     ensures small { IfOk result (λ n. n < 64 ^ 6) }
-    ensures fault { IfErr result (λ fault. IsFault text.now fault) }
-    ensures first { (fault : NumberFault) → IsFault text.now fault → result ≡ Err fault }
+    ensures fault { IfErr result (λ fault. IsNumberFault text.now fault) }
+    ensures first { (fault : NumberFault) → IsNumberFault text.now fault → result ≡ Err fault }
 {
     if text.is_empty() {
         return Err(NumberFault::Empty);

@@ -10,7 +10,7 @@ use Rattle.dict_messages.specs.declared.fault.ProgramFault.{ProgramFault}
 use Rattle.dict_messages.specs.declared.fault.ProgramFault.TheVariants.{Line, Edition, Refused, Store, CannotRead, SessionEnded, CannotWrite, CannotBind, CannotWait}
 use Rattle.dict_messages.specs.declared.fault.ProgramFault.TheVariants as told
 use Rattle.dict_proto.specs.Streams.{StreamChange}
-use Rattle.dict_program.specs.Catalogues.{IsSpared, Stays}
+use Rattle.dict_program.specs.Catalogues.{IsSpared, StaysTrusted}
 use Rattle.sqlite.specs.Files.{file_state, over_files}
 use Rattle.sqlite.specs.Held.{Held}
 use Rattle.sqlite.specs.Recovery.{Image}
@@ -65,7 +65,7 @@ module _ {S : Type 0} (g : Ghosts S) (old new : DeskState S) (survives : Survive
     | inr none ↦ absurd none
   ]
 
-  pub read_stays : (HasCleanDisk (state g new.conn) → (M : Catalogue) → Shows g old M → Shows g new M) → Stays (Shows g) (LeavesOneOf g) (λ desk. HasCleanDisk (state g desk.conn)) old new
+  pub read_stays : (HasCleanDisk (state g new.conn) → (M : Catalogue) → Shows g old M → Shows g new M) → StaysTrusted (Shows g) (LeavesOneOf g) (λ desk. HasCleanDisk (state g desk.conn)) old new
   read_stays shows = record { trust = clean_first; shows = shows; leaves = leaves_after }
 
 -- Of files with these octets, what no desk adopted leaves what they hold, and where that is a catalogue, no fault tells of it.

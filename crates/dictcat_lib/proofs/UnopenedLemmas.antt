@@ -14,7 +14,7 @@ use Rattle.dict_store.specs.declared.reopening.Unopened.TheVariants as handed
 use Rattle.sqlite.specs.Recovery.{Image}
 use Rattle.sqlite.specs.declared.file.Leftover.{Leftover}
 use Rattle.dictcat_lib.specs.declared.left.Left.{Left}
-use Rattle.dictcat_lib.specs.DeskOpener.{IsNotOpened, IsUnreadable, TellsUnopened}
+use Rattle.dictcat_lib.specs.DeskOpener.{IsNotOpened, IsToldUnreadable, TellsUnopened}
 use Rattle.dictcat_lib.specs.Opening.{IsUnavailable}
 
 unopened_of_file : (path : List ℕ) (fault : ProgramFault) → IsUnavailable path fault → IsOfFile fault
@@ -39,7 +39,7 @@ opening_of_file desk.Damaged h = tt
 opening_of_file desk.NewerSchema h = tt
 
 -- and so is what is told of files that aren't opened
-unreadable_of_file : (path : List ℕ) (fault : ProgramFault) → IsUnreadable path fault → IsOfFile fault
+unreadable_of_file : (path : List ℕ) (fault : ProgramFault) → IsToldUnreadable path fault → IsOfFile fault
 unreadable_of_file path fault (told, is, same) = subst IsOfFile (sym is) tt
 
 told_of_files : {D : Type 0} {d : disk.Ghosts D} (path : List ℕ) (rest : Option (Leftover D d)) (why : DeskFault) (fault : ProgramFault) → TellsUnopened path (handed.Files rest) why fault → IsOfFile fault

@@ -30,8 +30,8 @@ use Rattle.dictcat_lib.specs.declared.left.Left.{Left}
 use Rattle.dictcat_lib.specs.declared.left.Left.TheVariants as left
 
 -- the file with this path is told to be unreadable
-abbrev pub IsUnreadable : List ℕ → ProgramFault → Type 0
-IsUnreadable path fault = (told : _) × (fault ≡ faults.CannotRead told) × (told.now ≡ path)
+abbrev pub IsToldUnreadable : List ℕ → ProgramFault → Type 0
+IsToldUnreadable path fault = (told : _) × (fault ≡ faults.CannotRead told) × (told.now ≡ path)
 
 module _ {D : Type 0} {d : disk.Ghosts D} where
   -- what the desk stands on has returned what was written
@@ -41,7 +41,7 @@ module _ {D : Type 0} {d : disk.Ghosts D} where
   -- what the program tells of files that aren't opened, where this is handed back of them, for this fault
   abbrev pub TellsUnopened : List ℕ → Unopened D d → DeskFault → ProgramFault → Type 0
   TellsUnopened path (handed.Files rest) desk_faults.Memory fault = fault ≡ faults.Memory
-  TellsUnopened path (handed.Files rest) why fault = IsUnreadable path fault
+  TellsUnopened path (handed.Files rest) why fault = IsToldUnreadable path fault
   TellsUnopened path (handed.Spent files) why fault = fault ≡ told_of why
   TellsUnopened path (handed.Database conn) why fault = fault ≡ told_of why
 
@@ -49,7 +49,7 @@ module _ {D : Type 0} {d : disk.Ghosts D} where
   -- random number was had, and the desk's connection is held, in which what was prepared of a change is undone.
   abbrev pub IsNoDeskAgain : List ℕ → DeskState (FileStore D d) → Option (Left D d) → ProgramFault → Type 0
   IsNoDeskAgain path desk (Some (left.Unopened rest)) fault = (why : DeskFault) × IsUnreopened desk rest why × TellsUnopened path rest why fault
-  IsNoDeskAgain path desk (Some (left.Kept conn)) fault = (HasCleanDisk (file_state conn) → Undoes over_files desk.conn conn) × IsUnreadable path fault
+  IsNoDeskAgain path desk (Some (left.Kept conn)) fault = (HasCleanDisk (file_state conn) → Undoes over_files desk.conn conn) × IsToldUnreadable path fault
   IsNoDeskAgain path desk held fault = ⊥
 
 -- By the octets that the two files at the path hold as they are opened, which is done once: what stands for them is there until then.
@@ -76,8 +76,8 @@ module _ {D : Type 0} {d : disk.Ghosts D} (image : Image) where
 
   -- There is no desk: it wasn't opened; or none adopted the database that it was opened as, the store's fault tells why, and what is held
   -- is what the close of that left.
-  abbrev pub IsNoDesk : {O : Type 0} → List ℕ → Option O → Option O → Option (Left D d) → Option (Left D d) → ProgramFault → Type 0
-  IsNoDesk path old new before held fault = IsNotOpened path old new before held fault
+  abbrev pub IsNoDeskAt : {O : Type 0} → List ℕ → Option O → Option O → Option (Left D d) → Option (Left D d) → ProgramFault → Type 0
+  IsNoDeskAt path old new before held fault = IsNotOpened path old new before held fault
       ⊎ ((refused : Held (FileStore D d)) × (why : DeskFault) × IsRejectedFrom image refused why × (fault ≡ told_of why) × IsHeldOf refused held)
 
   -- the desk is one over the catalogue that was made in the database that the files with these octets were opened as
@@ -93,6 +93,6 @@ module _ {D : Type 0} {d : disk.Ghosts D} (image : Image) where
   -- what comes of a session over the catalogue in the file with a path: in the database that it was opened as
   abbrev pub HasSpokenOver : {O : Type 0} → List ℕ → Option (DeskState (FileStore D d)) → Option O → Option O → Option (Left D d) → Option (Left D d) → Result (Unit {0}) ProgramFault → StreamChange → StreamChange → Type 0
   HasSpokenOver path None old new before held result reader writer =
-      ((fault : ProgramFault) × (result ≡ Err fault) × IsNoDesk path old new before held fault) × IsUntouched reader × IsUntouched writer
+      ((fault : ProgramFault) × (result ≡ Err fault) × IsNoDeskAt path old new before held fault) × IsUntouched reader × IsUntouched writer
   HasSpokenOver path (Some desk) old new before held result reader writer =
       (conn : Held (FileStore D d)) × (end : Result SessionEnd SessionFault) × (result ≡ over_told end) × IsOpenedFrom image conn × HasSpoken over_files conn desk end reader writer

@@ -17,7 +17,7 @@ use Rattle.dict_messages.specs.Faults.{told_of}
 use Rattle.dict_messages.specs.declared.fault.ProgramFault.{ProgramFault}
 use Rattle.dict_store.specs.Closed.{HoldsAlone, IsUncopied, StoreLeaves}
 use Rattle.dict_store.specs.Desk.{DeskState}
-use Rattle.dict_store.specs.Over.{Leaves}
+use Rattle.dict_store.specs.Over.{ConnectionLeavesOneOf}
 use Rattle.dict_store.specs.Reopened.{IsLetGo}
 use Rattle.dict_store.specs.Unopened.{HandsBack}
 use Rattle.dict_store.specs.declared.reopening.Unopened.{Unopened}
@@ -72,7 +72,7 @@ module _ {D : Type 0} {g : disk.Ghosts D} where
   StillLeaves desk (Some (left.Closed files)) ms = (M : Catalogue) × Contains ms (Some M) × HoldsAlone g files M
   StillLeaves desk (Some (left.Uncopied store)) ms = StoreLeaves store ms
   StillLeaves desk (Some (left.Unopened rest)) ms = (files : Files D) × IsLetGo desk.conn files × HandsBack files ms rest
-  StillLeaves desk (Some (left.Kept conn)) ms = Leaves over_files conn ms
+  StillLeaves desk (Some (left.Kept conn)) ms = ConnectionLeavesOneOf over_files conn ms
 
   -- why the log of a desk wasn't copied, of the store that is left, as the program tells it
   abbrev pub IsToldUncopied : DeskState (FileStore D g) → Option (Left D g) → ProgramFault → Type 0

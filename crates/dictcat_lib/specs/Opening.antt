@@ -8,19 +8,19 @@ use Rattle.dict_desk.specs.Faults.{is_disk}
 use Rattle.dict_desk.specs.declared.fault.Fault.{Fault as DeskFault}
 use Rattle.dict_desk.specs.declared.fault.Fault.TheVariants.{NotACatalogue, Disk}
 use Rattle.dict_holdings.specs.Holds.{Holds, Rests, IsLeftAs, HasPlace}
-use Rattle.dict_migration.specs.Making.{creation, FailsToEnd}
+use Rattle.dict_migration.specs.Making.{creation, CreationFailsToEnd}
 use Rattle.dict_migration.specs.Moved.{AreTreesOf}
 use Rattle.dict_migration.specs.Spared.{SparesOthers}
-use Rattle.dict_opening.specs.Reading.{HasFailed}
+use Rattle.dict_opening.specs.Reading.{HasFailedToRead}
 use Rattle.dict_rows.specs.Versions.{known}
 use Rattle.dict_proto.specs.Streams.{StreamChange}
 use Rattle.dict_session.specs.declared.session.run.SessionEnd.{SessionEnd}
 use Rattle.dict_session.specs.declared.session.run.SessionFault.{SessionFault}
 use Rattle.dict_session.specs.declared.session.run.SessionFault.TheVariants as session_faults
 use Rattle.dict_store.specs.Desk.{DeskState, Shows, LeavesOneOf}
-use Rattle.dict_store.specs.Opened.{IsTold, IsNotHeld}
+use Rattle.dict_store.specs.Opened.{TellsOfDatabase, IsNotHeld}
 use Rattle.dict_store.specs.Prepared.{rested}
-use Rattle.dict_store.specs.Over.{HasRun, Leaves}
+use Rattle.dict_store.specs.Over.{HasRun, ConnectionLeavesOneOf}
 use Rattle.dict_messages.specs.Faults.{told_of}
 use Rattle.dict_messages.specs.declared.fault.ProgramFault.{ProgramFault}
 use Rattle.dict_messages.specs.declared.fault.ProgramFault.TheVariants as faults
@@ -63,7 +63,7 @@ module _ {S : Type 0} (g : Ghosts S) where
   pub record IsNotCreated (conn left : Held S) (fault : DeskFault) : Type 0 where
     pub no_place : fault ≡ NotACatalogue → (HasPlace (state g conn).now.schema → ⊥) × (left ≡ record conn { step_limit = None })
     pub crash : Survives (state g (record conn { step_limit = None })) (state g left) (IsLeftAs known empty_catalogue)
-    pub failed : HasCleanDisk (state g left) → fault ≢ NotACatalogue → FailsToEnd g (creation known) (λ db. Holds known db empty_catalogue) (record conn { step_limit = None }) left fault
+    pub failed : HasCleanDisk (state g left) → fault ≢ NotACatalogue → CreationFailsToEnd g (creation known) (λ db. Holds known db empty_catalogue) (record conn { step_limit = None }) left fault
     pub adds_none : is_disk fault ≡ false → Survives (state g (record conn { step_limit = None })) (state g left) (λ _. ⊥)
     pub beside : Survives (state g (record conn { step_limit = None })) (state g left) (AreTreesOf (SparesOthers (state g conn).now))
 
@@ -74,9 +74,9 @@ module _ {S : Type 0} (g : Ghosts S) where
   -- what is committed was read, and the fault, as the program tells it, is what that holds instead; or it couldn't be read, since its store failed or memory ran out
   abbrev pub IsUnsound : DeskState S → DeskState S → ProgramFault → Type 0
   IsUnsound old new fault =
-      (why : DeskFault) × (fault ≡ told_of why) × (HasCleanDisk (state g new.conn) → IsTold (rested (state g old.conn)).now why × IsNotHeld (rested (state g old.conn)).now why × (why ≡ Disk → HasFailed (rested (state g old.conn)) (state g new.conn)))
+      (why : DeskFault) × (fault ≡ told_of why) × (HasCleanDisk (state g new.conn) → TellsOfDatabase (rested (state g old.conn)).now why × IsNotHeld (rested (state g old.conn)).now why × (why ≡ Disk → HasFailedToRead (rested (state g old.conn)) (state g new.conn)))
 
   -- A session over the catalogue of an opened database ended so, and left this desk of it.
   pub record HasSpoken (conn : Held S) (desk : DeskState S) (end : Result SessionEnd SessionFault) (reader writer : StreamChange) : Type 0 where
     pub ran : HasCleanDisk (state g desk.conn) → HasRun g conn desk (codes "localhost") 1 end reader writer
-    pub leaves : (ms : List (Option Catalogue)) → Leaves g conn ms → LeavesOneOf g desk ms
+    pub leaves : (ms : List (Option Catalogue)) → ConnectionLeavesOneOf g conn ms → LeavesOneOf g desk ms

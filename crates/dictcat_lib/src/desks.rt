@@ -5,8 +5,8 @@ ghost use Rattle.dict_catalogue.specs.Steps.{Catalogue};
 ghost use Rattle.dict_store.specs.Desk.{Shows, LeavesOneOf, is_closed};
 ghost use Rattle.dict_store.specs.Reopened.{IsReopened};
 ghost use Rattle.dict_serving.specs.Serving.{Follows, IsNew, IsNone};
-ghost use Rattle.dict_program.specs.Catalogues.{IsMade};
-ghost use Rattle.dictcat_lib.specs.DeskOpener.{IsDesk, IsMadeDesk, IsNoDesk, IsNoDeskAgain, IsTrusted, IsUnmade};
+ghost use Rattle.dict_program.specs.Catalogues.{IsMadeEmpty};
+ghost use Rattle.dictcat_lib.specs.DeskOpener.{IsDesk, IsMadeDesk, IsNoDeskAt, IsNoDeskAgain, IsTrusted, IsUnmade};
 ghost use Rattle.dictcat_lib.specs.Files.{StillLeaves};
 
 use crate::cached::options;
@@ -26,7 +26,7 @@ pub(crate) fn make_desk<'w, D: Disk + Drop, O: FileOpener<D>>(
     held: &mut Option<Left<D>>,
 ) -> Result<Desk<FileStore<D>>, ProgramFault<'w>>
     ensures { MatchResult result
-        (IsMade (Shows over_files) (LeavesOneOf over_files) (IsMadeDesk O.image))
+        (IsMadeEmpty (Shows over_files) (LeavesOneOf over_files) (IsMadeDesk O.image))
         (IsUnmade O.image file.entry.now start.old start.new held.old held.new) }
 {
     let conn = make_file(rt, file, start, held)?;
@@ -48,7 +48,7 @@ pub(crate) fn open_desk<'w, D: Disk + Drop, O: FileOpener<D>>(
 ) -> Result<Desk<FileStore<D>>, ProgramFault<'w>>
     ensures opened { MatchResult result
         (IsNew (Shows over_files) (LeavesOneOf over_files) IsTrusted (IsDesk O.image None))
-        (IsNone (IsNoDesk O.image file.entry.now start.old start.new held.old held.new)) }
+        (IsNone (IsNoDeskAt O.image file.entry.now start.old start.new held.old held.new)) }
     ensures answers { IfOk result (λ desk. is_closed desk.last ≡ false) }
 {
     let conn = open_file(rt, file, start, held)?;

@@ -51,14 +51,14 @@ impl<'r, D: Disk + Drop, O: FileOpener<D>> CatalogueFiles<'r, D, O> {
 }
 
 impl<D: Disk + Drop, O: FileOpener<D>> DeskOpener<Desk<FileStore<D>>> for CatalogueFiles<'_, D, O> {
-    ghost use Rattle.dictcat_lib.specs.DeskOpener.{IsDesk, IsNoDesk, IsNoDeskAgain};
+    ghost use Rattle.dictcat_lib.specs.DeskOpener.{IsDesk, IsNoDeskAt, IsNoDeskAgain};
     ghost use Rattle.dictcat_lib.specs.Files.{IsAloneIn, IsSafe, IsToldUncopied, StillLeaves};
 
     ghost history = { λ _. None };
 
     ghost is_opened = { λ former desk. IsDesk O.image former desk };
 
-    ghost is_unopened = { λ path old new fault. IsNoDesk O.image path old.start new.start old.left new.left fault };
+    ghost is_unopened = { λ path old new fault. IsNoDeskAt O.image path old.start new.start old.left new.left fault };
 
     ghost is_unreopened = { λ path desk one fault. IsNoDeskAgain path desk one.left fault };
 

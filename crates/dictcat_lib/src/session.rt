@@ -4,7 +4,7 @@ ghost use Rattle.sqlite.specs.Files.{over_files};
 ghost use Rattle.sqlite.specs.Held.{Held};
 ghost use Rattle.dict_proto.specs.Streams.{change};
 ghost use Rattle.dict_messages.specs.Writing.{IsUntouched};
-ghost use Rattle.dictcat_lib.specs.DeskOpener.{IsNoDesk};
+ghost use Rattle.dictcat_lib.specs.DeskOpener.{IsNoDeskAt};
 ghost use Rattle.dictcat_lib.specs.Files.{IsOpenedFrom};
 ghost use Rattle.dictcat_lib.specs.Opening.{HasSpoken, over_told};
 
@@ -34,7 +34,7 @@ pub(crate) fn run_session<'w, D: Disk + Drop, O: FileOpener<D>, R: Source, W: Si
 ) -> Result<Spoken<D>, ProgramFault<'w>>
     ensures spoken { MatchResult result
         (λ ran. (conn : Held _) × IsOpenedFrom O.image conn × HasSpoken over_files conn ran.0 ran.1 (change R.stream reader.old reader.new) (change W.stream writer.old writer.new))
-        (λ fault. IsNoDesk O.image file.entry.now start.old start.new held.old held.new fault × IsUntouched (change R.stream reader.old reader.new) × IsUntouched (change W.stream writer.old writer.new)) }
+        (λ fault. IsNoDeskAt O.image file.entry.now start.old start.new held.old held.new fault × IsUntouched (change R.stream reader.old reader.new) × IsUntouched (change W.stream writer.old writer.new)) }
     ensures memory { IfOk result (λ ran. ran.1 ≡ Err SessionFault.Memory → IsUntouched (change R.stream reader.old reader.new) × IsUntouched (change W.stream writer.old writer.new)) }
 {
     let conn = open_file(rt, file, start, held)?;

@@ -2,7 +2,7 @@
 
 use crate::checks::push;
 use dict_catalogue::{Item as CatalogueItem, Summary};
-use dict_records::{Edition, Entry, Item, Kept, Mark, Member, Stored};
+use dict_records::{EditionRecord, EntryRecord, ItemRecord, KeptRecord, Mark, Member, StoredRow};
 use dict_rows::{EditionRows, RowsFault, Tables, summary_of};
 use std::alloc::{AllocError, Global};
 
@@ -102,11 +102,11 @@ pub(crate) static WHOLE: [Change<'static>; 5] = [
 /// The records of all tables.
 #[derive(Drop)]
 pub(crate) struct Rows {
-    pub marks: Vec<Stored<Mark<String>>>,
-    pub items: Vec<Stored<Item<String>>>,
-    pub members: Vec<Stored<Member<String>>>,
+    pub marks: Vec<StoredRow<Mark<String>>>,
+    pub items: Vec<StoredRow<ItemRecord<String>>>,
+    pub members: Vec<StoredRow<Member<String>>>,
     pub editions: Vec<EditionRows>,
-    pub kept: Vec<Stored<Kept<String>>>,
+    pub kept: Vec<StoredRow<KeptRecord<String>>>,
 }
 
 impl Rows {
@@ -121,20 +121,23 @@ impl Rows {
     }
 }
 
-pub(crate) fn mark(alloc: Global, row: MarkRow) -> Result<Stored<Mark<String>>, AllocError> {
+pub(crate) fn mark(alloc: Global, row: MarkRow) -> Result<StoredRow<Mark<String>>, AllocError> {
     let value = Mark {
         id: 1,
         magic: String::from_str(alloc, row.0)?,
         version: row.1,
         installs: row.2,
     };
-    Ok(Stored { rowid: 1, value })
+    Ok(StoredRow { rowid: 1, value })
 }
 
-pub(crate) fn item(alloc: Global, row: ItemRow<'_>) -> Result<Stored<Item<String>>, AllocError> {
+pub(crate) fn item(
+    alloc: Global,
+    row: ItemRow<'_>,
+) -> Result<StoredRow<ItemRecord<String>>, AllocError> {
     match row {
         ItemRow::Regular(place, name, current, former) => {
-            let value = Item {
+            let value = ItemRecord {
                 place,
                 name: String::from_str(alloc, name)?,
                 kind: 0,
@@ -142,13 +145,13 @@ pub(crate) fn item(alloc: Global, row: ItemRow<'_>) -> Result<Stored<Item<String
                 current: Some(current),
                 former,
             };
-            Ok(Stored {
+            Ok(StoredRow {
                 rowid: place,
                 value,
             })
         }
         ItemRow::Listed(place, name, kind, title) => {
-            let value = Item {
+            let value = ItemRecord {
                 place,
                 name: String::from_str(alloc, name)?,
                 kind,
@@ -156,7 +159,7 @@ pub(crate) fn item(alloc: Global, row: ItemRow<'_>) -> Result<Stored<Item<String
                 current: None,
                 former: None,
             };
-            Ok(Stored {
+            Ok(StoredRow {
                 rowid: place,
                 value,
             })
@@ -167,27 +170,31 @@ pub(crate) fn item(alloc: Global, row: ItemRow<'_>) -> Result<Stored<Item<String
 pub(crate) fn member(
     alloc: Global,
     row: MemberRow<'_>,
-) -> Result<Stored<Member<String>>, AllocError> {
+) -> Result<StoredRow<Member<String>>, AllocError> {
     let value = Member {
         owner: String::from_str(alloc, row.0)?,
         ord: row.1,
         name: String::from_str(alloc, row.2)?,
     };
-    Ok(Stored {
+    Ok(StoredRow {
         rowid: row.1,
         value,
     })
 }
 
-fn entry(alloc: Global, edition: i64, row: EntryRow) -> Result<Stored<Entry<String>>, AllocError> {
-    let value = Entry {
+fn entry(
+    alloc: Global,
+    edition: i64,
+    row: EntryRow,
+) -> Result<StoredRow<EntryRecord<String>>, AllocError> {
+    let value = EntryRecord {
         edition,
         ord: row.0,
         headword: String::from_str(alloc, row.1)?,
         start: row.2,
         length: row.3,
     };
-    Ok(Stored {
+    Ok(StoredRow {
         rowid: row.0,
         value,
     })
@@ -196,15 +203,15 @@ fn entry(alloc: Global, edition: i64, row: EntryRow) -> Result<Stored<Entry<Stri
 fn edition_record(
     alloc: Global,
     row: EditionRow<'_>,
-) -> Result<Stored<Edition<String, Vec<u8>>>, AllocError> {
-    let value = Edition {
+) -> Result<StoredRow<EditionRecord<String, Vec<u8>>>, AllocError> {
+    let value = EditionRecord {
         number: row.0,
         owner: String::from_str(alloc, row.1)?,
         title: String::from_str(alloc, row.2)?,
         info: String::from_str(alloc, "")?,
         body: Vec::from_slice(alloc, row.3)?,
     };
-    Ok(Stored {
+    Ok(StoredRow {
         rowid: row.0,
         value,
     })
@@ -221,15 +228,18 @@ pub(crate) fn edition(alloc: Global, row: EditionRow<'_>) -> Result<EditionRows,
     })
 }
 
-pub(crate) fn kept(alloc: Global, row: KeptRow<'_>) -> Result<Stored<Kept<String>>, AllocError> {
-    let value = Kept {
+pub(crate) fn kept(
+    alloc: Global,
+    row: KeptRow<'_>,
+) -> Result<StoredRow<KeptRecord<String>>, AllocError> {
+    let value = KeptRecord {
         id: String::from_str(alloc, row.0)?,
         number: row.1,
         verb: String::from_str(alloc, row.2)?,
         name: String::from_str(alloc, row.3)?,
         edition: row.4,
     };
-    Ok(Stored {
+    Ok(StoredRow {
         rowid: row.1,
         value,
     })

@@ -3,7 +3,7 @@
 use crate::checks::same_text;
 use crate::rest::told_rest;
 use crate::texts::told;
-use dict_records::{Entry, Kept, Mark, Stored};
+use dict_records::{EntryRecord, KeptRecord, Mark, StoredRow};
 use dict_sql::read::{editions_numbered, items, kept_replies_of, members};
 use dict_sql::records::{EditionNumber, ReadError};
 use dict_sql::stream::{
@@ -88,11 +88,11 @@ static READS: [(Wanted, &str); 11] = [
 
 // The text of the kept replies behind the first, which is refused where a mark is asked for.
 fn told_past_a_fault<S: Alter>(alloc: Global, rows: &mut Rows<'_, S>) -> Result<String, ReadError> {
-    let next: Result<Option<Stored<Mark<String>>>, ReadError> = next_record(rows);
+    let next: Result<Option<StoredRow<Mark<String>>>, ReadError> = next_record(rows);
     let is_refused = matches!(&next, Err(ReadError::NoRecord));
     drop(next);
     if is_refused {
-        told_rest::<S, Stored<Kept<String>>>(alloc, rows)
+        told_rest::<S, StoredRow<KeptRecord<String>>>(alloc, rows)
     } else {
         Err(ReadError::Store(Error::InvalidQuery))
     }
@@ -121,10 +121,10 @@ fn told_of<S: Alter>(
     stream: Stream,
 ) -> Result<String, ReadError> {
     match stream {
-        Stream::Marks => told_rest::<S, Stored<Mark<String>>>(alloc, rows),
-        Stream::EditionNumbers => told_rest::<S, Stored<EditionNumber>>(alloc, rows),
-        Stream::EntriesOf(_) => told_rest::<S, Stored<Entry<String>>>(alloc, rows),
-        Stream::KeptReplies => told_rest::<S, Stored<Kept<String>>>(alloc, rows),
+        Stream::Marks => told_rest::<S, StoredRow<Mark<String>>>(alloc, rows),
+        Stream::EditionNumbers => told_rest::<S, StoredRow<EditionNumber>>(alloc, rows),
+        Stream::EntriesOf(_) => told_rest::<S, StoredRow<EntryRecord<String>>>(alloc, rows),
+        Stream::KeptReplies => told_rest::<S, StoredRow<KeptRecord<String>>>(alloc, rows),
         Stream::KeptPastAFault => told_past_a_fault(alloc, rows),
     }
 }

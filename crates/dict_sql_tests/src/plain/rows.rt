@@ -4,7 +4,7 @@ ghost use Rattle.dict_tables.specs.Tables.{table_of};
 ghost use Rattle.sqlite.specs.Held.{state};
 ghost use Rattle.dict_sql.specs.Effects.{Has, WhileOpen};
 
-use dict_records::{Item, Kept, Mark, Member};
+use dict_records::{ItemRecord, KeptRecord, Mark, Member};
 use dict_sql::commit::commit;
 use dict_sql::create::create_table;
 use dict_sql::drop::drop_table;
@@ -99,7 +99,7 @@ fn add<S: Alter, T: OpenTransaction<S>>(
         ),
         StoreTable::Item => insert_item(
             tx,
-            &Item {
+            &ItemRecord {
                 place: number,
                 name: first,
                 kind: other,
@@ -118,7 +118,7 @@ fn add<S: Alter, T: OpenTransaction<S>>(
         ),
         StoreTable::Kept => insert_kept(
             tx,
-            &Kept {
+            &KeptRecord {
                 id: first,
                 number,
                 verb: second,

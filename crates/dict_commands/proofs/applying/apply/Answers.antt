@@ -9,7 +9,7 @@ use Rattle.dict_catalogue.specs.Views.{command_meant, command_shown, kept_shown,
 use Rattle.dict_commands.proofs.ApplyLemmas.{kept_step, rests_unchanged, holds_now, holds_again, not_shut, new_fails, failed_answers}
 use Rattle.dict_commands.proofs.WriteLemmas.{clean_before, others_none}
 use Rattle.dict_commands.proofs.LoopLemmas.{each_err}
-use Rattle.dict_commands.specs.Kept.{KeepsTexts, SparesOthers}
+use Rattle.dict_commands.specs.KeptRecords.{KeepsTextRows, SparesTablesOfOthers}
 use Rattle.dict_commands.specs.Answers.{numbers_after}
 use Rattle.dict_commands.proofs.AboveLemmas.{above_same, none_refused}
 use Rattle.dict_commands.specs.Committed.{IsTreesOf}
@@ -97,7 +97,7 @@ returns-in_err-kept-clause-value g c = λ clean M rests is.
 pub returns-in-Some-clause-others : goal.returns-in-Some-clause-others
 returns-in-Some-clause-others g c = λ clean.
     let old = state g.S.Store c.args.conn.now in
-    subst (λ db. SparesOthers old.now db) (sym (c.in_ok-kept.ensures.same clean).0.now_is) (others_none old.now)
+    subst (λ db. SparesTablesOfOthers old.now db) (sym (c.in_ok-kept.ensures.same clean).0.now_is) (others_none old.now)
 
 pub returns-clause-others : goal.returns-clause-others
 returns-clause-others g c = λ clean.
@@ -105,7 +105,7 @@ returns-clause-others g c = λ clean.
     let mid = state g.S.Store c.kept_reply.new.conn in
     let new = state g.S.Store c.apply_new.new.conn in
     let same = (c.in_ok-kept.ensures.same (clean_before mid new c.apply_new.ensures.crash clean)).0.now_is in
-    subst (λ a. OnOk c.apply_new.result (SparesOthers a new.now)) same (c.apply_new.ensures.others clean)
+    subst (λ a. OnOk c.apply_new.result (SparesTablesOfOthers a new.now)) same (c.apply_new.ensures.others clean)
 
 pub returns-clause-beside : goal.returns-clause-beside
 returns-clause-beside g c =
@@ -115,7 +115,7 @@ returns-clause-beside g c =
     survives_then old mid new _ _ _ (λ clean trees none. absurd none)
     (λ clean trees left.
     let same = (c.in_ok-kept.ensures.same (clean_before mid new c.apply_new.ensures.crash clean)).0 in
-    subst (λ a. IsTreesOf (SparesOthers a) trees) same.now_is (left same.is_open)) c.kept_reply.ensures.survives c.apply_new.ensures.beside
+    subst (λ a. IsTreesOf (SparesTablesOfOthers a) trees) same.now_is (left same.is_open)) c.kept_reply.ensures.survives c.apply_new.ensures.beside
 
 pub returns-in-Some-clause-above : goal.returns-in-Some-clause-above
 returns-in-Some-clause-above g c clean = above_same c.args.summary.now.installs _ (state g.S.Store c.args.conn.now).now (state g.S.Store c.kept_reply.new.conn).now (c.in_ok-kept.ensures.same clean).0.now_is
@@ -125,7 +125,7 @@ returns-clause-above g c = λ clean.
     let mid = state g.S.Store c.kept_reply.new.conn in
     let new = state g.S.Store c.apply_new.new.conn in
     let same = (c.in_ok-kept.ensures.same (clean_before mid new c.apply_new.ensures.crash clean)).0.now_is in
-    subst (λ (db : Database). OnOk c.apply_new.result (KeepsTexts c.args.summary.now.installs (numbers_after (summary_shown c.args.summary.now) c.apply_new.result) db new.now)) same (c.apply_new.ensures.above clean)
+    subst (λ (db : Database). OnOk c.apply_new.result (KeepsTextRows c.args.summary.now.installs (numbers_after (summary_shown c.args.summary.now) c.apply_new.result) db new.now)) same (c.apply_new.ensures.above clean)
 
 pub returns-clause-refused : goal.returns-clause-refused
 returns-clause-refused g c = λ clean.

@@ -16,7 +16,7 @@ use Rattle.dict_holdings.specs.AllTables.{with_derived, all_after}
 use Rattle.dict_rows.specs.Versions.{known}
 use Rattle.dict_holdings.specs.Holds.{Holds, Rests}
 use Rattle.dict_commands.specs.Answers.{FailsToAct}
-use Rattle.dict_commands.specs.Kept.{Turns}
+use Rattle.dict_commands.specs.KeptRecords.{TurnsRecords}
 use Rattle.dict_commands.specs.Changes.{change_by}
 use Rattle.dict_commands.proofs.applying.apply_new.Goals as goal
 
@@ -64,7 +64,7 @@ returns-in-Err-clause-failed g c clean =
     let change = change_by c.args.id.now c.args.command.now c.in_ok-change.change in
     let planned = is_planned c.args.id.now c.args.command.now c.in_ok-change.change summary c.in_ok-change.ensures.planned c.lies_within.ensures (state g.S.Store old) in
     let none = refusal_of summary (command_shown c.args.command.now) ≡ None in
-    (λ real. commit_fails g.S.Store none c.in_ok-change.ensures.planned.0 summary c.args.id.now (command_meant c.args.command.now) change old planned (Turns (all_after known change) (state g.S.Store old).now) P new fault
+    (λ real. commit_fails g.S.Store none c.in_ok-change.ensures.planned.0 summary c.args.id.now (command_meant c.args.command.now) change old planned (TurnsRecords (all_after known change) (state g.S.Store old).now) P new fault
     (λ db turns M rests is new. holds_after M c.args.id.now c.args.command.now c.in_ok-change.change summary c.requires.id new is c.in_ok-change.ensures.planned c.is_lawful.ensures c.lies_within.ensures
     (state g.S.Store old).now db (holds_now (state g.S.Store old) M rests) turns)
     (c.in-Err.ensures.failed clean))

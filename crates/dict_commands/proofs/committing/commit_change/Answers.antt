@@ -5,7 +5,7 @@ use Rattle.dict_desk.specs.declared.fault.Fault.TheVariants.{Memory}
 use Rattle.dict_holdings.specs.Writing.{FailsToEnd}
 use Rattle.dict_rows.specs.Versions.{known}
 use Rattle.dict_holdings.specs.AllTables.{all_after}
-use Rattle.dict_commands.specs.Kept.{Turns}
+use Rattle.dict_commands.specs.KeptRecords.{TurnsRecords}
 use Rattle.dict_commands.specs.Changes.{change_by}
 use Rattle.dict_commands.specs.Committed.{FailsToCommit}
 use Rattle.dict_commands.specs.Statements.{statements_of}
@@ -16,12 +16,12 @@ pub returns-in_err-index-clause-failed : goal.returns-in_err-index-clause-failed
 returns-in_err-index-clause-failed g c clean =
     let old = c.args.conn.now in
     let change = change_by c.args.id.now c.args.command.now c.args.change.now in
-    passed_on (FailsToCommit g.S.Store change (Turns (all_after known change) (state g.S.Store old).now) old old) Memory c.from_residual.result c.from_residual.ensures.1 (inl (refl, refl))
+    passed_on (FailsToCommit g.S.Store change (TurnsRecords (all_after known change) (state g.S.Store old).now) old old) Memory c.from_residual.result c.from_residual.ensures.1 (inl (refl, refl))
 
 pub returns-clause-failed : goal.returns-clause-failed
 returns-clause-failed g c clean =
     let old = c.args.conn.now in
     let new = c.commit_files.new.conn in
     let change = change_by c.args.id.now c.args.command.now c.args.change.now in
-    let P = Turns (all_after known change) (state g.S.Store old).now in
+    let P = TurnsRecords (all_after known change) (state g.S.Store old).now in
     each_err c.commit_files.result (FailsToEnd g.S.Store (statements_of known change) P old new) (FailsToCommit g.S.Store change P old new) (λ fault h. inr h) (c.commit_files.ensures.failed clean)

@@ -5,9 +5,9 @@ use Rattle.sqlite.specs.Held.{state}
 use Rattle.dict_holdings.specs.AllTables.{all_after}
 use Rattle.dict_rows.specs.Versions.{known}
 use Rattle.dict_holdings.proofs.CommitLemmas.{leaves, done, only_left, commit_fails, keeps_begun, stays_undone}
-use Rattle.dict_commands.specs.Kept.{Turns}
+use Rattle.dict_commands.specs.KeptRecords.{TurnsRecords}
 use Rattle.dict_commands.specs.Changes.{change_by}
-use Rattle.dict_commands.specs.Committed.{IsCommitted, IsTreesOf, Stays}
+use Rattle.dict_commands.specs.Committed.{IsCommitted, IsTreesOf, StaysCommitted}
 use Rattle.sqlite.proofs.Callers.{survives_begin}
 use Rattle.dict_sql.specs.Statements.{RunInTurn, FailsInTurn}
 use Rattle.dict_commands.specs.Statements.{statements_of}
@@ -21,11 +21,11 @@ returns-in-Ok-clause-made g c clean =
     let end = c.commit.new.tx.0 in
     let same : end ≡ c.conn-2-1.given.0 = search rules in
     let f = all_after known (change_by c.args.id.now c.args.command.now c.args.change.now) in
-    let made : HasCleanDisk (state g.S.Store mid) → Turns f (state g.S.Store old).now (state g.S.Store mid).now × IsDatabase (state g.S.Store mid).now =
-    λ clean. (subst (λ d. Turns f d (state g.S.Store mid).now) (ap (λ h. (state g.S.Store h).now) c.transaction-tx.ensures.begun) (c.in_default.ensures.wrote.turns clean), c.in_default.ensures.sound clean) in
+    let made : HasCleanDisk (state g.S.Store mid) → TurnsRecords f (state g.S.Store old).now (state g.S.Store mid).now × IsDatabase (state g.S.Store mid).now =
+    λ clean. (subst (λ d. TurnsRecords f d (state g.S.Store mid).now) (ap (λ h. (state g.S.Store h).now) c.transaction-tx.ensures.begun) (c.in_default.ensures.wrote.turns clean), c.in_default.ensures.sound clean) in
     let late : HasCleanDisk (state g.S.Store end) = subst (λ h. HasCleanDisk (state g.S.Store h)) (sym same) clean in
     let shown = (c.in-Ok.ensures.committed late).1 in
-    let P = λ (db : Database). Turns f (state g.S.Store old).now db in
+    let P = λ (db : Database). TurnsRecords f (state g.S.Store old).now db in
     let settled : IsCommitted P (state g.S.Store end) = record {
       is_open = shown.is_open;
       settled = shown.now_is ∙ sym shown.committed_is;
@@ -42,9 +42,9 @@ returns-in-Ok-clause-crash g c =
     let end = c.commit.new.tx.0 in
     let same : end ≡ c.conn-2-1.given.0 = search rules in
     let f = all_after known (change_by c.args.id.now c.args.command.now c.args.change.now) in
-    let made : HasCleanDisk (state g.S.Store mid) → Turns f (state g.S.Store old).now (state g.S.Store mid).now × IsDatabase (state g.S.Store mid).now =
-    λ clean. (subst (λ d. Turns f d (state g.S.Store mid).now) (ap (λ h. (state g.S.Store h).now) c.transaction-tx.ensures.begun) (c.in_default.ensures.wrote.turns clean), c.in_default.ensures.sound clean) in
-    let P = λ (db : Database). Turns f (state g.S.Store old).now db in
+    let made : HasCleanDisk (state g.S.Store mid) → TurnsRecords f (state g.S.Store old).now (state g.S.Store mid).now × IsDatabase (state g.S.Store mid).now =
+    λ clean. (subst (λ d. TurnsRecords f d (state g.S.Store mid).now) (ap (λ h. (state g.S.Store h).now) c.transaction-tx.ensures.begun) (c.in_default.ensures.wrote.turns clean), c.in_default.ensures.sound clean) in
+    let P = λ (db : Database). TurnsRecords f (state g.S.Store old).now db in
     let there = leaves g.S.Store old begun mid end P c.transaction-tx.ensures.begun c.write_all.ensures.spares.survives c.commit.ensures.survives made in
     subst (λ h. Survives (state g.S.Store old) (state g.S.Store h) (IsTreesOf P)) same there
 
@@ -56,9 +56,9 @@ returns-in-Err-commit-clause-crash g c =
     let end = c.commit.new.tx.0 in
     let same : end ≡ c.conn-2-1.given.0 = search rules in
     let f = all_after known (change_by c.args.id.now c.args.command.now c.args.change.now) in
-    let made : HasCleanDisk (state g.S.Store mid) → Turns f (state g.S.Store old).now (state g.S.Store mid).now × IsDatabase (state g.S.Store mid).now =
-    λ clean. (subst (λ d. Turns f d (state g.S.Store mid).now) (ap (λ h. (state g.S.Store h).now) c.transaction-tx.ensures.begun) (c.in_default.ensures.wrote.turns clean), c.in_default.ensures.sound clean) in
-    let P = λ (db : Database). Turns f (state g.S.Store old).now db in
+    let made : HasCleanDisk (state g.S.Store mid) → TurnsRecords f (state g.S.Store old).now (state g.S.Store mid).now × IsDatabase (state g.S.Store mid).now =
+    λ clean. (subst (λ d. TurnsRecords f d (state g.S.Store mid).now) (ap (λ h. (state g.S.Store h).now) c.transaction-tx.ensures.begun) (c.in_default.ensures.wrote.turns clean), c.in_default.ensures.sound clean) in
+    let P = λ (db : Database). TurnsRecords f (state g.S.Store old).now db in
     let there = leaves g.S.Store old begun mid end P c.transaction-tx.ensures.begun c.write_all.ensures.spares.survives c.commit.ensures.survives made in
     subst (λ h. Survives (state g.S.Store old) (state g.S.Store h) (IsTreesOf P)) same there
 
@@ -93,7 +93,7 @@ returns-in-Err-commit-clause-failed g c clean =
       last = mid;
       ran = subst (λ h. RunInTurn g.S.Store (statements_of known (change_by c.args.id.now c.args.command.now c.args.change.now)) h mid) c.transaction-tx.ensures.begun (c.in_default.ensures.wrote.ran early);
       before = survives_begin g.S.Store old (state g.S.Store mid) (λ _. ⊥) (subst (λ h. Survives (state g.S.Store h) (state g.S.Store mid) (λ _. ⊥)) c.transaction-tx.ensures.begun c.write_all.ensures.spares.survives);
-      written = subst (λ d. Turns f d (state g.S.Store mid).now) (ap (λ h. (state g.S.Store h).now) c.transaction-tx.ensures.begun) (c.in_default.ensures.wrote.turns early);
+      written = subst (λ d. TurnsRecords f d (state g.S.Store mid).now) (ap (λ h. (state g.S.Store h).now) c.transaction-tx.ensures.begun) (c.in_default.ensures.wrote.turns early);
       error = c.in-Err-commit.field-0;
       fails = subst (λ h. Fails (state g.S.Store mid) (state g.S.Store h) ⊥ c.in-Err-commit.field-0) same
           (commit_fails (state g.S.Store mid) (state g.S.Store end) c.in-Err-commit.field-0 (c.in_default.ensures.inside early) (c.in-Err-commit.ensures.failed late));
@@ -108,6 +108,6 @@ returns-in-Err-commit-clause-stays g c clean =
     let same : end ≡ c.conn-2-1.given.0 = search rules in
     let late : HasCleanDisk (state g.S.Store end) = subst (λ h. HasCleanDisk (state g.S.Store h)) (sym same) clean in
     let early : HasCleanDisk (state g.S.Store mid) = omega (arith, c.commit.ensures.survives.clean, late) in
-    subst (λ h. Stays (state g.S.Store old) (state g.S.Store h)) same (stays_undone (state g.S.Store old) (state g.S.Store mid) (state g.S.Store end)
+    subst (λ h. StaysCommitted (state g.S.Store old) (state g.S.Store h)) same (stays_undone (state g.S.Store old) (state g.S.Store mid) (state g.S.Store end)
     (keeps_begun g.S.Store old begun (state g.S.Store mid) c.transaction-tx.ensures.begun (c.write_all.ensures.spares.keeps early))
     (commit_fails (state g.S.Store mid) (state g.S.Store end) c.in-Err-commit.field-0 (c.in_default.ensures.inside early) (c.in-Err-commit.ensures.failed late)).3)

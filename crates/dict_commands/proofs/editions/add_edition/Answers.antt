@@ -7,7 +7,7 @@ use Rattle.dict_holdings.specs.Files.{parts_under, installed_parts}
 use Rattle.dict_holdings.specs.AllTables.{AllTables}
 use Rattle.dict_commands.specs.Changes.{with_more_editions, with_more_parts, with_installed}
 use Rattle.dict_commands.specs.Statements.{adding_edition, adding_part, installing}
-use Rattle.dict_commands.specs.Writes.{Wrote, FailsToWrite}
+use Rattle.dict_commands.specs.Writes.{WroteStatements, FailsToWrite}
 use Rattle.dict_commands.proofs.AddLemmas.{whole_range, parts_installed, installed_turned}
 use Rattle.dict_commands.proofs.WriteLemmas.{wrote_then, wrote_as, failed_before, failed_after, spares_then}
 use Rattle.dict_commands.proofs.editions.add_edition.Goals as goal
@@ -22,7 +22,7 @@ returns-clause-wrote g c =
     let parts = installed_parts (Some new) in
     let are : slice_range (parts_under (pos c.args.number) c.args.index.now c.text.result.now) 0 c.part_count.result ≡ parts =
     whole_range (parts_under (pos c.args.number) c.args.index.now c.text.result.now) c.part_count.result c.part_count.ensures ∙ parts_installed new c.args.index.now c.text.result.now c.requires.index c.text.ensures.value in
-    let wrote0 : Wrote g.S.Store (map adding_part parts) (with_more_parts parts) first s0 = subst (λ l. Wrote g.S.Store (map adding_part l) (with_more_parts l) first s0) are c.in_ok-add_parts.ensures.wrote in
+    let wrote0 : WroteStatements g.S.Store (map adding_part parts) (with_more_parts parts) first s0 = subst (λ l. WroteStatements g.S.Store (map adding_part l) (with_more_parts l) first s0) are c.in_ok-add_parts.ensures.wrote in
     wrote_as g.S.Store (installing (Some new)) (λ (all : AllTables). with_more_editions (one ∷ []) (with_more_parts parts all)) (with_installed (Some new)) first s1 (installed_turned new)
     (wrote_then g.S.Store (map adding_part parts) (adding_edition one ∷ []) (with_more_parts parts) (with_more_editions (one ∷ [])) first s0 s1 wrote0 (c.in_ok-add_record.ensures.wrote c.args.edition.now (sym c.title.ensures) (sym c.info.ensures)) c.add_record.ensures.spares)
 
@@ -57,7 +57,7 @@ returns-in_err-add_record-clause-failed g c =
     let parts = installed_parts (Some new) in
     let are : slice_range (parts_under (pos c.args.number) c.args.index.now c.text.result.now) 0 c.part_count.result ≡ parts =
     whole_range (parts_under (pos c.args.number) c.args.index.now c.text.result.now) c.part_count.result c.part_count.ensures ∙ parts_installed new c.args.index.now c.text.result.now c.requires.index c.text.ensures.value in
-    let wrote0 : Wrote g.S.Store (map adding_part parts) (with_more_parts parts) first s0 = subst (λ l. Wrote g.S.Store (map adding_part l) (with_more_parts l) first s0) are c.in_ok-add_parts.ensures.wrote in
+    let wrote0 : WroteStatements g.S.Store (map adding_part parts) (with_more_parts parts) first s0 = subst (λ l. WroteStatements g.S.Store (map adding_part l) (with_more_parts l) first s0) are c.in_ok-add_parts.ensures.wrote in
     let e = c.in_err-add_record.field-0.0 in
     passed_on (FailsToWrite g.S.Store (installing (Some new)) first s1) e c.from_residual-in_err-add_record.result c.from_residual-in_err-add_record.ensures.1
     (failed_after g.S.Store (map adding_part parts) (adding_edition one ∷ []) (with_more_parts parts) first s0 s1 e wrote0 c.add_record.ensures.spares (c.in_err-add_record.ensures.failed c.args.edition.now (sym c.title.ensures) (sym c.info.ensures)))

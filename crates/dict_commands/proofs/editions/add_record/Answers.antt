@@ -7,7 +7,7 @@ use Rattle.dict_records.specs.Typed.{lent_header}
 use Rattle.dict_rows.specs.Written.{edition_record}
 use Rattle.dict_commands.specs.Changes.{with_more_editions}
 use Rattle.dict_commands.specs.Statements.{adding_edition}
-use Rattle.dict_commands.specs.Writes.{Wrote, FailsToWrite}
+use Rattle.dict_commands.specs.Writes.{WroteStatements, FailsToWrite}
 use Rattle.dict_commands.proofs.TableLemmas.{has_editions}
 use Rattle.dict_commands.proofs.WriteLemmas.{spares_added, usable_then}
 use Rattle.dict_commands.proofs.AddLemmas.{wrote_header, failed_header}
@@ -28,7 +28,7 @@ returns-clause-usable g c =
     let new = (g.T.OpenTransaction.held c.insert_header.new.tx) in
     let spares = spares_added g.S.Store (codes "edition") (header_row (lent_header c.header_row-row.result)) first new c.insert_header.ensures.survives c.insert_header.result c.insert_header.ensures.added c.insert_header.ensures.failed in
     let record_of = edition_record c.args.owner.now c.args.number reading in
-    let wrote : Wrote g.S.Store (adding_edition record_of ∷ []) (with_more_editions (record_of ∷ [])) first new = wrote_header g.S.Store (lent_header c.header_row-row.result) record_of (c.header_row-row.ensures reading refl refl) first new
+    let wrote : WroteStatements g.S.Store (adding_edition record_of ∷ []) (with_more_editions (record_of ∷ [])) first new = wrote_header g.S.Store (lent_header c.header_row-row.result) record_of (c.header_row-row.ensures reading refl refl) first new
     c.insert_header.ensures.survives c.in_ok-insert_header.ensures.added in
     usable_then g.S.Store (adding_edition record_of ∷ []) (with_more_editions (record_of ∷ [])) first new c.requires.usable wrote spares
 

@@ -4,7 +4,7 @@ use Rattle.std.proofs.lemmas.List.{take_all}
 use Rattle.dict_sql.proofs.StreamLemmas.{passed_on}
 use Rattle.dict_commands.specs.Changes.{without_editions}
 use Rattle.dict_commands.specs.Statements.{taking}
-use Rattle.dict_commands.specs.Writes.{Wrote, FailsToWrite}
+use Rattle.dict_commands.specs.Writes.{WroteStatements, FailsToWrite}
 use Rattle.dict_commands.proofs.WriteLemmas.{wrote_as, wrote_none, spares_none, spares_then}
 use Rattle.dict_commands.proofs.LoopLemmas.{loop_wrote, loop_failed}
 use Rattle.dict_commands.proofs.GoneLemmas.{none_gone, next_gone, taken_next, taken_grows}
@@ -38,7 +38,7 @@ each-preserved g c =
 
 pub returns-clause-wrote : goal.returns-clause-wrote
 returns-clause-wrote g c =
-    subst (λ l. Wrote g.S.Store (flat_map taking l) (without_editions l) (g.T.OpenTransaction.held c.args.tx.now) (g.T.OpenTransaction.held c.each.tx)) (take_all c.each.number-index c.args.gone.now c.each-test.false) c.each.invariant.wrote
+    subst (λ l. WroteStatements g.S.Store (flat_map taking l) (without_editions l) (g.T.OpenTransaction.held c.args.tx.now) (g.T.OpenTransaction.held c.each.tx)) (take_all c.each.number-index c.args.gone.now c.each-test.false) c.each.invariant.wrote
 
 pub returns-in_err-take_edition-clause-spares : goal.returns-in_err-take_edition-clause-spares
 returns-in_err-take_edition-clause-spares g c =

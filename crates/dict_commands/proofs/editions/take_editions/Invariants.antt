@@ -4,9 +4,9 @@ use Rattle.std.specs.Prelude.{flat_map}
 use Rattle.sqlite.specs.Held.{state}
 use Rattle.dict_sql.specs.Effects.{WhileOpen}
 use Rattle.dict_commands.specs.Changes.{without_editions}
-use Rattle.dict_commands.specs.Kept.{IsUsable}
+use Rattle.dict_commands.specs.KeptRecords.{IsUsable}
 use Rattle.dict_commands.specs.Statements.{taking}
-use Rattle.dict_commands.specs.Writes.{Wrote, Spares}
+use Rattle.dict_commands.specs.Writes.{WroteStatements, CommitsNothing}
 use Rattle.dict_commands.proofs.editions.take_editions.Given as goal
 
 abbrev pub invariant-each : goal.invariant-each
@@ -14,7 +14,7 @@ invariant-each g l =
     let some = take l.number-index l.gone in
     record {
       same_reference : g.T.OpenTransaction.reference l.tx ≡ g.T.OpenTransaction.reference l.fn.tx;
-      wrote : Wrote g.S.Store (flat_map taking some) (without_editions some) (g.T.OpenTransaction.held l.fn.tx) (g.T.OpenTransaction.held l.tx);
+      wrote : WroteStatements g.S.Store (flat_map taking some) (without_editions some) (g.T.OpenTransaction.held l.fn.tx) (g.T.OpenTransaction.held l.tx);
       usable : WhileOpen (state g.S.Store (g.T.OpenTransaction.held l.tx)) IsUsable;
-      spares : Spares g.S.Store (g.T.OpenTransaction.held l.fn.tx) (g.T.OpenTransaction.held l.tx);
+      spares : CommitsNothing g.S.Store (g.T.OpenTransaction.held l.fn.tx) (g.T.OpenTransaction.held l.tx);
     }

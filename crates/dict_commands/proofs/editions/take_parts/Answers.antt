@@ -9,9 +9,9 @@ use Rattle.sqlite.specs.Held.{state}
 use Rattle.dict_sql.specs.Deletes.{Removes, FailsToRemove}
 use Rattle.dict_sql.specs.Effects.{equals_number}
 use Rattle.dict_sql.proofs.StreamLemmas.{passed_on}
-use Rattle.dict_edition_sql.specs.Chosen.{is_from}
+use Rattle.dict_edition_sql.specs.Chosen.{is_part_from}
 use Rattle.dict_commands.specs.Statements.{taking_from, taking_parts}
-use Rattle.dict_commands.specs.Writes.{Wrote, FailsToWrite}
+use Rattle.dict_commands.specs.Writes.{WroteStatements, FailsToWrite}
 use Rattle.dict_commands.proofs.GoneLemmas.{handed}
 use Rattle.dict_commands.proofs.PartLemmas.{behind, last_ones, parts_none, late_wrote, late_failed, parts_wrote, parts_failed, all_wrote, all_failed}
 use Rattle.dict_commands.proofs.TableLemmas.{parts_to_remove}
@@ -45,13 +45,13 @@ each-preserved g c =
     let i = c.each.from-index in
     let fits : SFits w64 (get_or all i (pos 0)) = search rules in
     let same : to_z w64 (of_z w64 (get_or all i (pos 0))) ≡ get_or all i (pos 0) = to_z-of_z w64 (get_or all i (pos 0)) fits in
-    let removed = subst (λ v. HasCleanDisk (state g.S.Store new) → OnOk c.delete_parts_from.result (Removes (codes "dictcat_part") (is_from (to_z w64 n) (pos 1) v) (state g.S.Store mid) (state g.S.Store new))) same
+    let removed = subst (λ v. HasCleanDisk (state g.S.Store new) → OnOk c.delete_parts_from.result (Removes (codes "dictcat_part") (is_part_from (to_z w64 n) (pos 1) v) (state g.S.Store mid) (state g.S.Store new))) same
     c.delete_parts_from.ensures.removed in
-    let failed = subst (λ v. HasCleanDisk (state g.S.Store new) → IfErr c.delete_parts_from.result (FailsToRemove (codes "dictcat_part") (is_from (to_z w64 n) (pos 1) v) (state g.S.Store mid) (state g.S.Store new)))
+    let failed = subst (λ v. HasCleanDisk (state g.S.Store new) → IfErr c.delete_parts_from.result (FailsToRemove (codes "dictcat_part") (is_part_from (to_z w64 n) (pos 1) v) (state g.S.Store mid) (state g.S.Store new)))
     same c.delete_parts_from.ensures.failed in
-    let spares = spares_removed g.S.Store (codes "dictcat_part") (is_from (to_z w64 n) (pos 1) (get_or all i (pos 0))) mid new c.delete_parts_from.ensures.survives c.delete_parts_from.result removed failed in
+    let spares = spares_removed g.S.Store (codes "dictcat_part") (is_part_from (to_z w64 n) (pos 1) (get_or all i (pos 0))) mid new c.delete_parts_from.ensures.survives c.delete_parts_from.result removed failed in
     let one = late_wrote g.S.Store n (get_or all i (pos 0)) (to_z w64 n) (handed n c.requires.number) mid new c.delete_parts_from.ensures.survives
-    (subst (λ v. HasCleanDisk (state g.S.Store new) → Removes (codes "dictcat_part") (is_from (to_z w64 n) (pos 1) v) (state g.S.Store mid) (state g.S.Store new)) same c.in_ok-delete_parts_from.ensures.removed) in
+    (subst (λ v. HasCleanDisk (state g.S.Store new) → Removes (codes "dictcat_part") (is_part_from (to_z w64 n) (pos 1) v) (state g.S.Store mid) (state g.S.Store new)) same c.in_ok-delete_parts_from.ensures.removed) in
     record {
       same_reference = c.delete_parts_from.ensures.same_reference ∙ c.each.invariant.same_reference;
       wrote = parts_wrote g.S.Store n all i (pos 0) c.each-test.true first mid new c.each.invariant.wrote spares one;
@@ -69,11 +69,11 @@ returns-in_err-delete_parts_from-clause-spares g c =
     let i = c.each.from-index in
     let fits : SFits w64 (get_or all i (pos 0)) = search rules in
     let same : to_z w64 (of_z w64 (get_or all i (pos 0))) ≡ get_or all i (pos 0) = to_z-of_z w64 (get_or all i (pos 0)) fits in
-    let removed = subst (λ v. HasCleanDisk (state g.S.Store new) → OnOk c.delete_parts_from.result (Removes (codes "dictcat_part") (is_from (to_z w64 n) (pos 1) v) (state g.S.Store mid) (state g.S.Store new))) same
+    let removed = subst (λ v. HasCleanDisk (state g.S.Store new) → OnOk c.delete_parts_from.result (Removes (codes "dictcat_part") (is_part_from (to_z w64 n) (pos 1) v) (state g.S.Store mid) (state g.S.Store new))) same
     c.delete_parts_from.ensures.removed in
-    let failed = subst (λ v. HasCleanDisk (state g.S.Store new) → IfErr c.delete_parts_from.result (FailsToRemove (codes "dictcat_part") (is_from (to_z w64 n) (pos 1) v) (state g.S.Store mid) (state g.S.Store new)))
+    let failed = subst (λ v. HasCleanDisk (state g.S.Store new) → IfErr c.delete_parts_from.result (FailsToRemove (codes "dictcat_part") (is_part_from (to_z w64 n) (pos 1) v) (state g.S.Store mid) (state g.S.Store new)))
     same c.delete_parts_from.ensures.failed in
-    let spares = spares_removed g.S.Store (codes "dictcat_part") (is_from (to_z w64 n) (pos 1) (get_or all i (pos 0))) mid new c.delete_parts_from.ensures.survives c.delete_parts_from.result removed failed in
+    let spares = spares_removed g.S.Store (codes "dictcat_part") (is_part_from (to_z w64 n) (pos 1) (get_or all i (pos 0))) mid new c.delete_parts_from.ensures.survives c.delete_parts_from.result removed failed in
     spares_then g.S.Store first mid new c.each.invariant.spares spares
 
 pub returns-in_err-delete_parts_from-clause-failed : goal.returns-in_err-delete_parts_from-clause-failed
@@ -86,16 +86,16 @@ returns-in_err-delete_parts_from-clause-failed g c =
     let i = c.each.from-index in
     let fits : SFits w64 (get_or all i (pos 0)) = search rules in
     let same : to_z w64 (of_z w64 (get_or all i (pos 0))) ≡ get_or all i (pos 0) = to_z-of_z w64 (get_or all i (pos 0)) fits in
-    let removed = subst (λ v. HasCleanDisk (state g.S.Store new) → OnOk c.delete_parts_from.result (Removes (codes "dictcat_part") (is_from (to_z w64 n) (pos 1) v) (state g.S.Store mid) (state g.S.Store new))) same
+    let removed = subst (λ v. HasCleanDisk (state g.S.Store new) → OnOk c.delete_parts_from.result (Removes (codes "dictcat_part") (is_part_from (to_z w64 n) (pos 1) v) (state g.S.Store mid) (state g.S.Store new))) same
     c.delete_parts_from.ensures.removed in
-    let failed = subst (λ v. HasCleanDisk (state g.S.Store new) → IfErr c.delete_parts_from.result (FailsToRemove (codes "dictcat_part") (is_from (to_z w64 n) (pos 1) v) (state g.S.Store mid) (state g.S.Store new)))
+    let failed = subst (λ v. HasCleanDisk (state g.S.Store new) → IfErr c.delete_parts_from.result (FailsToRemove (codes "dictcat_part") (is_part_from (to_z w64 n) (pos 1) v) (state g.S.Store mid) (state g.S.Store new)))
     same c.delete_parts_from.ensures.failed in
-    let spares = spares_removed g.S.Store (codes "dictcat_part") (is_from (to_z w64 n) (pos 1) (get_or all i (pos 0))) mid new c.delete_parts_from.ensures.survives c.delete_parts_from.result removed failed in
+    let spares = spares_removed g.S.Store (codes "dictcat_part") (is_part_from (to_z w64 n) (pos 1) (get_or all i (pos 0))) mid new c.delete_parts_from.ensures.survives c.delete_parts_from.result removed failed in
     let e = c.in_err-delete_parts_from.field-0.0 in
     passed_on (FailsToWrite g.S.Store (taking_parts n all) first new) e c.from_residual.result c.from_residual.ensures.1
     (parts_failed g.S.Store n all i (pos 0) c.each-test.true first mid new c.each.invariant.wrote spares e
     (late_failed g.S.Store n (get_or all i (pos 0)) (to_z w64 n) (handed n c.requires.number) mid new c.delete_parts_from.ensures.survives e
-    (subst (λ v. HasCleanDisk (state g.S.Store new) → FailsToRemove (codes "dictcat_part") (is_from (to_z w64 n) (pos 1) v) (state g.S.Store mid) (state g.S.Store new) e) same
+    (subst (λ v. HasCleanDisk (state g.S.Store new) → FailsToRemove (codes "dictcat_part") (is_part_from (to_z w64 n) (pos 1) v) (state g.S.Store mid) (state g.S.Store new) e) same
     c.in_err-delete_parts_from.ensures.failed)))
 
 pub returns-clause-wrote : goal.returns-clause-wrote
@@ -106,7 +106,7 @@ returns-clause-wrote g c =
     let n = c.args.number in
     let all = c.args.parts.now in
     let spares = spares_removed g.S.Store (codes "dictcat_part") (equals_number 1 (to_z w64 n)) mid new c.delete_parts.ensures.survives c.delete_parts.result c.delete_parts.ensures.removed c.delete_parts.ensures.failed in
-    let so_far = subst (λ l. Wrote g.S.Store (last_ones g.S.Store n l) (behind g.S.Store n l) first mid) (take_all c.each.from-index all c.each-test.false) c.each.invariant.wrote in
+    let so_far = subst (λ l. WroteStatements g.S.Store (last_ones g.S.Store n l) (behind g.S.Store n l) first mid) (take_all c.each.from-index all c.each-test.false) c.each.invariant.wrote in
     all_wrote g.S.Store n all (to_z w64 n) (handed n c.requires.number) first mid new so_far c.delete_parts.ensures.survives spares c.in_ok-delete_parts.ensures.removed
 
 pub returns-clause-spares : goal.returns-clause-spares
@@ -141,7 +141,7 @@ returns-in_err-delete_parts-clause-failed g c =
     let n = c.args.number in
     let all = c.args.parts.now in
     let spares = spares_removed g.S.Store (codes "dictcat_part") (equals_number 1 (to_z w64 n)) mid new c.delete_parts.ensures.survives c.delete_parts.result c.delete_parts.ensures.removed c.delete_parts.ensures.failed in
-    let so_far = subst (λ l. Wrote g.S.Store (last_ones g.S.Store n l) (behind g.S.Store n l) first mid) (take_all c.each.from-index all c.each-test.false) c.each.invariant.wrote in
+    let so_far = subst (λ l. WroteStatements g.S.Store (last_ones g.S.Store n l) (behind g.S.Store n l) first mid) (take_all c.each.from-index all c.each-test.false) c.each.invariant.wrote in
     let e = c.in_err-delete_parts.field-0.0 in
     passed_on (FailsToWrite g.S.Store (taking_parts n all) first new) e c.from_residual-in_err-delete_parts.result c.from_residual-in_err-delete_parts.ensures.1
     (all_failed g.S.Store n all (to_z w64 n) (handed n c.requires.number) first mid new so_far c.delete_parts.ensures.survives spares e c.in_err-delete_parts.ensures.failed)

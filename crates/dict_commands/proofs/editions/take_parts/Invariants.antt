@@ -2,8 +2,8 @@
 use Rattle.std.proofs.Common.{◌≡◌, take}
 use Rattle.sqlite.specs.Held.{state}
 use Rattle.dict_sql.specs.Effects.{WhileOpen}
-use Rattle.dict_commands.specs.Kept.{IsUsable}
-use Rattle.dict_commands.specs.Writes.{Wrote, Spares}
+use Rattle.dict_commands.specs.KeptRecords.{IsUsable}
+use Rattle.dict_commands.specs.Writes.{WroteStatements, CommitsNothing}
 use Rattle.dict_commands.proofs.PartLemmas.{behind, last_ones}
 use Rattle.dict_commands.proofs.editions.take_parts.Given as goal
 
@@ -12,7 +12,7 @@ invariant-each g l =
     let some = take l.from-index l.parts in
     record {
       same_reference : g.T.OpenTransaction.reference l.tx ≡ g.T.OpenTransaction.reference l.fn.tx;
-      wrote : Wrote g.S.Store (last_ones g.S.Store l.number some) (behind g.S.Store l.number some) (g.T.OpenTransaction.held l.fn.tx) (g.T.OpenTransaction.held l.tx);
+      wrote : WroteStatements g.S.Store (last_ones g.S.Store l.number some) (behind g.S.Store l.number some) (g.T.OpenTransaction.held l.fn.tx) (g.T.OpenTransaction.held l.tx);
       usable : WhileOpen (state g.S.Store (g.T.OpenTransaction.held l.tx)) IsUsable;
-      spares : Spares g.S.Store (g.T.OpenTransaction.held l.fn.tx) (g.T.OpenTransaction.held l.tx);
+      spares : CommitsNothing g.S.Store (g.T.OpenTransaction.held l.fn.tx) (g.T.OpenTransaction.held l.tx);
     }

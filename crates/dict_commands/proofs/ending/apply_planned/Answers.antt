@@ -3,7 +3,7 @@ use Rattle.sqlite.specs.Held.{state}
 use Rattle.dict_catalogue.specs.Views.{summary_shown}
 use Rattle.dict_holdings.specs.AllTables.{all_after, with_derived}
 use Rattle.dict_rows.specs.Versions.{known}
-use Rattle.dict_commands.specs.Kept.{Turns}
+use Rattle.dict_commands.specs.KeptRecords.{TurnsRecords}
 use Rattle.dict_commands.specs.Committed.{IsCommitted}
 use Rattle.dict_commands.specs.Changes.{change_by}
 use Rattle.dict_commands.specs.Installs.{install_read}
@@ -39,7 +39,7 @@ returns-clause-installed g c = λ clean live.
     let old = state g.S.Store c.args.conn.now in
     let new = state g.S.Store c.commit_read.new.conn in
     let made = c.in_default.ensures.made clean in
-    let done : IsCommitted (Turns (all_after known (change_by c.args.id.now (install_read c.args.name.now c.args.reading.now) c.args.change)) old.committed) (rested new) = record { is_open = made.is_open; settled = refl; holds = made.holds; only = made.only } in
+    let done : IsCommitted (TurnsRecords (all_after known (change_by c.args.id.now (install_read c.args.name.now c.args.reading.now) c.args.change)) old.committed) (rested new) = record { is_open = made.is_open; settled = refl; holds = made.holds; only = made.only } in
     installed_there (summary_shown c.args.summary.now) c.args.id.now (install_read c.args.name.now c.args.reading.now) c.args.change c.requires.planned.0 c.requires.planned.1 (read_lies c.args.name.now c.args.reading.now c.requires.read) (rested old) (rested new) c.requires.holds
     (clean_before old new c.commit_read.ensures.crash clean) (c.commit_read.ensures.lives clean live)
     done

@@ -10,7 +10,7 @@ use Rattle.dict_holdings.proofs.CommitLemmas.{commit_fails}
 use Rattle.dict_commands.specs.Changes.{change_by}
 use Rattle.dict_commands.specs.Installs.{install_read}
 use Rattle.dict_commands.specs.Finishing.{finishing}
-use Rattle.dict_commands.specs.Kept.{Turns}
+use Rattle.dict_commands.specs.KeptRecords.{TurnsRecords}
 use Rattle.dict_commands.proofs.FilingLemmas.{inside_so}
 use Rattle.dict_commands.proofs.FinishLemmas.{open_before, rest_turns, rest_leaves, rest_committed, undone_keeps}
 use Rattle.dict_commands.proofs.WriteLemmas.{clean_before, keeps_then}
@@ -28,7 +28,7 @@ returns-in-Ok-clause-made g c clean =
     let mid = c.write_read.new.tx in
     let end = c.commit_open.new.conn in
     let change = change_by c.args.id.now (install_read c.args.name.now c.args.reading.now) c.args.change.now in
-    let P = λ (db : Database). Turns (all_after known change) (state g.S.Store old).committed db in
+    let P = λ (db : Database). TurnsRecords (all_after known change) (state g.S.Store old).committed db in
     let made : HasCleanDisk (state g.S.Store mid) → IsTrue (state g.S.Store old).is_open × P (state g.S.Store mid).now × IsDatabase (state g.S.Store mid).now = λ clean.
     let live = open_before g.S.Store change old mid (c.in_default.ensures.wrote.ran clean) in (
       live,
@@ -44,7 +44,7 @@ returns-in-Ok-clause-crash g c =
     let mid = c.write_read.new.tx in
     let end = c.commit_open.new.conn in
     let change = change_by c.args.id.now (install_read c.args.name.now c.args.reading.now) c.args.change.now in
-    let P = λ (db : Database). Turns (all_after known change) (state g.S.Store old).committed db in
+    let P = λ (db : Database). TurnsRecords (all_after known change) (state g.S.Store old).committed db in
     let made : HasCleanDisk (state g.S.Store mid) → IsTrue (state g.S.Store old).is_open × P (state g.S.Store mid).now × IsDatabase (state g.S.Store mid).now = λ clean.
     let live = open_before g.S.Store change old mid (c.in_default.ensures.wrote.ran clean) in (
       live,
@@ -60,7 +60,7 @@ returns-in-Err-commit_open-clause-crash g c =
     let mid = c.write_read.new.tx in
     let end = c.commit_open.new.conn in
     let change = change_by c.args.id.now (install_read c.args.name.now c.args.reading.now) c.args.change.now in
-    let P = λ (db : Database). Turns (all_after known change) (state g.S.Store old).committed db in
+    let P = λ (db : Database). TurnsRecords (all_after known change) (state g.S.Store old).committed db in
     let made : HasCleanDisk (state g.S.Store mid) → IsTrue (state g.S.Store old).is_open × P (state g.S.Store mid).now × IsDatabase (state g.S.Store mid).now = λ clean.
     let live = open_before g.S.Store change old mid (c.in_default.ensures.wrote.ran clean) in (
       live,
@@ -137,7 +137,7 @@ returns-in-Err-commit_open-clause-failed g c clean =
     let mid = c.write_read.new.tx in
     let end = c.commit_open.new.conn in
     let change = change_by c.args.id.now (install_read c.args.name.now c.args.reading.now) c.args.change.now in
-    let P = λ (db : Database). Turns (all_after known change) (state g.S.Store old).committed db in
+    let P = λ (db : Database). TurnsRecords (all_after known change) (state g.S.Store old).committed db in
     let made : HasCleanDisk (state g.S.Store mid) → IsTrue (state g.S.Store old).is_open × P (state g.S.Store mid).now × IsDatabase (state g.S.Store mid).now = λ clean.
     let live = open_before g.S.Store change old mid (c.in_default.ensures.wrote.ran clean) in (
       live,

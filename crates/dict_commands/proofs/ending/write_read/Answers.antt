@@ -10,7 +10,7 @@ use Rattle.dict_commands.specs.Changes.{with_mark, with_items, with_members, wit
 use Rattle.dict_commands.specs.Installs.{install_read}
 use Rattle.dict_commands.specs.Finishing.{finishing}
 use Rattle.dict_commands.specs.Statements.{summary_anew, taking, adding_edition, replying}
-use Rattle.dict_commands.specs.Writes.{Wrote, FailsToWrite}
+use Rattle.dict_commands.specs.Writes.{WroteStatements, FailsToWrite}
 use Rattle.dict_commands.proofs.WriteLemmas.{wrote_then, failed_before, failed_after, spares_then}
 use Rattle.dict_commands.proofs.ending.write_read.Goals as goal
 
@@ -19,19 +19,19 @@ returns-clause-wrote g c =
     let first = (g.T.OpenTransaction.held c.args.tx.now) in
     let s0 = (g.T.OpenTransaction.held c.write_summary.new.tx) in
     let spares0 = c.write_summary.ensures.spares in
-    let wrote0 : Wrote g.S.Store (summary_anew known c.args.change.now.summary.installs (map item_shown c.args.change.now.summary.items.items))
+    let wrote0 : WroteStatements g.S.Store (summary_anew known c.args.change.now.summary.installs (map item_shown c.args.change.now.summary.items.items))
     (λ (all : AllTables). with_members (map item_shown c.args.change.now.summary.items.items) (with_items (map item_shown c.args.change.now.summary.items.items) (with_mark c.args.change.now.summary.installs all))) first
     s0 = c.in_ok-write_summary.ensures.wrote in
     let s1 = (g.T.OpenTransaction.held c.take_editions.new.tx) in
     let spares1 = c.take_editions.ensures.spares in
-    let wrote1 : Wrote g.S.Store (flat_map taking c.args.change.now.gone.items) (without_editions c.args.change.now.gone.items) s0 s1 = rw c.deref.ensures.value at c.in_ok-take_editions.ensures.wrote in
+    let wrote1 : WroteStatements g.S.Store (flat_map taking c.args.change.now.gone.items) (without_editions c.args.change.now.gone.items) s0 s1 = rw c.deref.ensures.value at c.in_ok-take_editions.ensures.wrote in
     let s2 = (g.T.OpenTransaction.held c.add_record.new.tx) in
     let spares2 = c.add_record.ensures.spares in
-    let wrote2 : Wrote g.S.Store (map adding_edition (installed_editions (installed_by c.args.change.now.summary.installs (install_read c.args.name.now c.args.reading.now))))
+    let wrote2 : WroteStatements g.S.Store (map adding_edition (installed_editions (installed_by c.args.change.now.summary.installs (install_read c.args.name.now c.args.reading.now))))
     (with_more_editions (installed_editions (installed_by c.args.change.now.summary.installs (install_read c.args.name.now c.args.reading.now)))) s1 s2 = c.in_ok-add_record.ensures.wrote c.args.reading.now (sym c.title.ensures) (sym c.info.ensures) in
     let s3 = (g.T.OpenTransaction.held c.add_reply.new.tx) in
     let spares3 = c.add_reply.ensures.spares in
-    let wrote3 : Wrote g.S.Store (replying (record { id = c.args.id.now; reply = kept_shown c.args.change.now.kept })) (with_reply (record { id = c.args.id.now; reply = kept_shown c.args.change.now.kept })) s2 s3 =
+    let wrote3 : WroteStatements g.S.Store (replying (record { id = c.args.id.now; reply = kept_shown c.args.change.now.kept })) (with_reply (record { id = c.args.id.now; reply = kept_shown c.args.change.now.kept })) s2 s3 =
     c.in_ok-add_reply.ensures.wrote in
     (wrote_then g.S.Store (summary_anew known c.args.change.now.summary.installs (map item_shown c.args.change.now.summary.items.items))
     ((flat_map taking c.args.change.now.gone.items) ++ ((map adding_edition (installed_editions (installed_by c.args.change.now.summary.installs (install_read c.args.name.now c.args.reading.now)))) ++
@@ -110,7 +110,7 @@ returns-in_err-take_editions-clause-failed g c =
     let first = (g.T.OpenTransaction.held c.args.tx.now) in
     let s0 = (g.T.OpenTransaction.held c.write_summary.new.tx) in
     let spares0 = c.write_summary.ensures.spares in
-    let wrote0 : Wrote g.S.Store (summary_anew known c.args.change.now.summary.installs (map item_shown c.args.change.now.summary.items.items))
+    let wrote0 : WroteStatements g.S.Store (summary_anew known c.args.change.now.summary.installs (map item_shown c.args.change.now.summary.items.items))
     (λ (all : AllTables). with_members (map item_shown c.args.change.now.summary.items.items) (with_items (map item_shown c.args.change.now.summary.items.items) (with_mark c.args.change.now.summary.installs all))) first
     s0 = c.in_ok-write_summary.ensures.wrote in
     let s1 = (g.T.OpenTransaction.held c.take_editions.new.tx) in
@@ -130,12 +130,12 @@ returns-in_err-add_record-clause-failed g c =
     let first = (g.T.OpenTransaction.held c.args.tx.now) in
     let s0 = (g.T.OpenTransaction.held c.write_summary.new.tx) in
     let spares0 = c.write_summary.ensures.spares in
-    let wrote0 : Wrote g.S.Store (summary_anew known c.args.change.now.summary.installs (map item_shown c.args.change.now.summary.items.items))
+    let wrote0 : WroteStatements g.S.Store (summary_anew known c.args.change.now.summary.installs (map item_shown c.args.change.now.summary.items.items))
     (λ (all : AllTables). with_members (map item_shown c.args.change.now.summary.items.items) (with_items (map item_shown c.args.change.now.summary.items.items) (with_mark c.args.change.now.summary.installs all))) first
     s0 = c.in_ok-write_summary.ensures.wrote in
     let s1 = (g.T.OpenTransaction.held c.take_editions.new.tx) in
     let spares1 = c.take_editions.ensures.spares in
-    let wrote1 : Wrote g.S.Store (flat_map taking c.args.change.now.gone.items) (without_editions c.args.change.now.gone.items) s0 s1 = rw c.deref.ensures.value at c.in_ok-take_editions.ensures.wrote in
+    let wrote1 : WroteStatements g.S.Store (flat_map taking c.args.change.now.gone.items) (without_editions c.args.change.now.gone.items) s0 s1 = rw c.deref.ensures.value at c.in_ok-take_editions.ensures.wrote in
     let s2 = (g.T.OpenTransaction.held c.add_record.new.tx) in
     let spares2 = c.add_record.ensures.spares in
     let e = c.in_err-add_record.field-0.0 in
@@ -156,15 +156,15 @@ returns-in_err-add_reply-clause-failed g c =
     let first = (g.T.OpenTransaction.held c.args.tx.now) in
     let s0 = (g.T.OpenTransaction.held c.write_summary.new.tx) in
     let spares0 = c.write_summary.ensures.spares in
-    let wrote0 : Wrote g.S.Store (summary_anew known c.args.change.now.summary.installs (map item_shown c.args.change.now.summary.items.items))
+    let wrote0 : WroteStatements g.S.Store (summary_anew known c.args.change.now.summary.installs (map item_shown c.args.change.now.summary.items.items))
     (λ (all : AllTables). with_members (map item_shown c.args.change.now.summary.items.items) (with_items (map item_shown c.args.change.now.summary.items.items) (with_mark c.args.change.now.summary.installs all))) first
     s0 = c.in_ok-write_summary.ensures.wrote in
     let s1 = (g.T.OpenTransaction.held c.take_editions.new.tx) in
     let spares1 = c.take_editions.ensures.spares in
-    let wrote1 : Wrote g.S.Store (flat_map taking c.args.change.now.gone.items) (without_editions c.args.change.now.gone.items) s0 s1 = rw c.deref.ensures.value at c.in_ok-take_editions.ensures.wrote in
+    let wrote1 : WroteStatements g.S.Store (flat_map taking c.args.change.now.gone.items) (without_editions c.args.change.now.gone.items) s0 s1 = rw c.deref.ensures.value at c.in_ok-take_editions.ensures.wrote in
     let s2 = (g.T.OpenTransaction.held c.add_record.new.tx) in
     let spares2 = c.add_record.ensures.spares in
-    let wrote2 : Wrote g.S.Store (map adding_edition (installed_editions (installed_by c.args.change.now.summary.installs (install_read c.args.name.now c.args.reading.now))))
+    let wrote2 : WroteStatements g.S.Store (map adding_edition (installed_editions (installed_by c.args.change.now.summary.installs (install_read c.args.name.now c.args.reading.now))))
     (with_more_editions (installed_editions (installed_by c.args.change.now.summary.installs (install_read c.args.name.now c.args.reading.now)))) s1 s2 = c.in_ok-add_record.ensures.wrote c.args.reading.now (sym c.title.ensures) (sym c.info.ensures) in
     let s3 = (g.T.OpenTransaction.held c.add_reply.new.tx) in
     let spares3 = c.add_reply.ensures.spares in

@@ -7,7 +7,7 @@ use Rattle.dict_edition_sql.specs.PartRecords.{lent_part, part_row}
 use Rattle.dict_commands.specs.Changes.{with_more_parts}
 use Rattle.dict_commands.specs.Filing.{parts_of_files}
 use Rattle.dict_commands.specs.Statements.{adding_part}
-use Rattle.dict_commands.specs.Writes.{Wrote, FailsToWrite}
+use Rattle.dict_commands.specs.Writes.{WroteStatements, FailsToWrite}
 use Rattle.dict_commands.proofs.AddLemmas.{range_next, range_end, each_grows}
 use Rattle.dict_commands.proofs.LoopLemmas.{adding_none, adding_wrote, adding_failed, parts_none, parts_last}
 use Rattle.dict_commands.proofs.TableLemmas.{has_parts, parts_added}
@@ -39,7 +39,7 @@ loop-done-preserved g c =
     let one : Part = lent_part c.part-given.result in
     let low : i < to - from = omega (arith, c.loop-done-test.true) in
     let spares = spares_added g.S.Store (codes "dictcat_part") (part_row one) mid new c.insert_part.ensures.survives c.insert_part.result c.insert_part.ensures.added c.insert_part.ensures.failed in
-    let wrote : Wrote g.S.Store (map adding_part (one ∷ [])) (with_more_parts (one ∷ [])) mid new = wrote_added g.S.Store (codes "dictcat_part") (part_row one) mid new c.insert_part.ensures.survives
+    let wrote : WroteStatements g.S.Store (map adding_part (one ∷ [])) (with_more_parts (one ∷ [])) mid new = wrote_added g.S.Store (codes "dictcat_part") (part_row one) mid new c.insert_part.ensures.survives
     (with_more_parts (one ∷ [])) (parts_added one) c.in_ok-insert_part.ensures.added in
     record {
       same_reference = c.insert_part.ensures.same_reference ∙ c.loop-done.invariant.same_reference;
@@ -53,7 +53,7 @@ pub returns-clause-wrote : goal.returns-clause-wrote
 returns-clause-wrote g c =
     let all = parts_of_files c.args.files.now in
     let past : c.args.to - c.args.from ≤ c.loop-done.done = omega (arith, c.loop-done-test.false) in
-    subst (λ l. Wrote g.S.Store (map adding_part l) (with_more_parts l) (g.T.OpenTransaction.held c.args.tx.now) (g.T.OpenTransaction.held c.loop-done.tx))
+    subst (λ l. WroteStatements g.S.Store (map adding_part l) (with_more_parts l) (g.T.OpenTransaction.held c.args.tx.now) (g.T.OpenTransaction.held c.loop-done.tx))
     (range_end all c.args.from c.args.to c.loop-done.done c.requires.ordered c.requires.within past) c.loop-done.invariant.wrote
 
 pub returns-in_err-insert_part-clause-spares : goal.returns-in_err-insert_part-clause-spares

@@ -3,11 +3,11 @@ use Rattle.std.proofs.Common.{◌≡◌, take, map}
 use Rattle.std.specs.Prelude.{slice_range}
 use Rattle.sqlite.specs.Held.{state}
 use Rattle.dict_sql.specs.Effects.{WhileOpen}
-use Rattle.dict_commands.specs.Kept.{IsUsable}
+use Rattle.dict_commands.specs.KeptRecords.{IsUsable}
 use Rattle.dict_commands.specs.Changes.{with_more_parts}
 use Rattle.dict_commands.specs.Filing.{parts_of_files}
 use Rattle.dict_commands.specs.Statements.{adding_part}
-use Rattle.dict_commands.specs.Writes.{Wrote, Spares}
+use Rattle.dict_commands.specs.Writes.{WroteStatements, CommitsNothing}
 use Rattle.dict_commands.proofs.files.add_parts.Given as goal
 
 abbrev pub invariant-loop-done : goal.invariant-loop-done
@@ -15,7 +15,7 @@ invariant-loop-done g l =
     let some = take l.done (slice_range (parts_of_files l.files) l.from l.to) in
     record {
       same_reference : g.T.OpenTransaction.reference l.tx ≡ g.T.OpenTransaction.reference l.fn.tx;
-      wrote : Wrote g.S.Store (map adding_part some) (with_more_parts some) (g.T.OpenTransaction.held l.fn.tx) (g.T.OpenTransaction.held l.tx);
+      wrote : WroteStatements g.S.Store (map adding_part some) (with_more_parts some) (g.T.OpenTransaction.held l.fn.tx) (g.T.OpenTransaction.held l.tx);
       usable : WhileOpen (state g.S.Store (g.T.OpenTransaction.held l.tx)) IsUsable;
-      spares : Spares g.S.Store (g.T.OpenTransaction.held l.fn.tx) (g.T.OpenTransaction.held l.tx);
+      spares : CommitsNothing g.S.Store (g.T.OpenTransaction.held l.fn.tx) (g.T.OpenTransaction.held l.tx);
     }

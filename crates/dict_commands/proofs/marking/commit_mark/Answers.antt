@@ -6,9 +6,9 @@ use Rattle.sqlite.specs.State.{HasCleanDisk, Survives, Fails, IsRolledBack}
 use Rattle.sqlite.specs.Held.{Held, state}
 use Rattle.dict_rows.specs.Versions.{known}
 use Rattle.dict_holdings.proofs.CommitLemmas.{leaves, done, only_left, commit_fails, keeps_begun, stays_undone}
-use Rattle.dict_commands.specs.Kept.{Turns}
+use Rattle.dict_commands.specs.KeptRecords.{TurnsRecords}
 use Rattle.dict_commands.specs.Changes.{with_mark}
-use Rattle.dict_commands.specs.Committed.{IsCommitted, IsTreesOf, Stays}
+use Rattle.dict_commands.specs.Committed.{IsCommitted, IsTreesOf, StaysCommitted}
 use Rattle.sqlite.proofs.Callers.{survives_begin}
 use Rattle.dict_sql.proofs.StateLemmas.{commit_counts}
 use Rattle.dict_sql.specs.Statements.{RunInTurn, FailsInTurn}
@@ -23,11 +23,11 @@ returns-in-Ok-clause-made g c clean =
     let mid = c.write_mark.new.tx.conn.now in
     let end = c.commit.new.tx.0 in
     let same : end ≡ c.conn-2-1.given.0 = search rules in
-    let P = λ (db : Database). IsTrue (state g.S.Store old).is_open × Turns (with_mark c.args.installs) (state g.S.Store old).now db in
+    let P = λ (db : Database). IsTrue (state g.S.Store old).is_open × TurnsRecords (with_mark c.args.installs) (state g.S.Store old).now db in
     let made : HasCleanDisk (state g.S.Store mid) → P (state g.S.Store mid).now × IsDatabase (state g.S.Store mid).now = λ clean. (
       (
         subst (λ h. IsTrue (state g.S.Store h).is_open) c.transaction-tx.ensures.begun (c.in_default.ensures.wrote.ran clean).1.0.1.was_open,
-        subst (λ d. Turns (with_mark c.args.installs) d (state g.S.Store mid).now) (ap (λ h. (state g.S.Store h).now) c.transaction-tx.ensures.begun) (c.in_default.ensures.wrote.turns clean),
+        subst (λ d. TurnsRecords (with_mark c.args.installs) d (state g.S.Store mid).now) (ap (λ h. (state g.S.Store h).now) c.transaction-tx.ensures.begun) (c.in_default.ensures.wrote.turns clean),
       ),
       c.in_default.ensures.sound clean,
     ) in
@@ -48,11 +48,11 @@ returns-in-Ok-clause-crash g c =
     let mid = c.write_mark.new.tx.conn.now in
     let end = c.commit.new.tx.0 in
     let same : end ≡ c.conn-2-1.given.0 = search rules in
-    let P = λ (db : Database). IsTrue (state g.S.Store old).is_open × Turns (with_mark c.args.installs) (state g.S.Store old).now db in
+    let P = λ (db : Database). IsTrue (state g.S.Store old).is_open × TurnsRecords (with_mark c.args.installs) (state g.S.Store old).now db in
     let made : HasCleanDisk (state g.S.Store mid) → P (state g.S.Store mid).now × IsDatabase (state g.S.Store mid).now = λ clean. (
       (
         subst (λ h. IsTrue (state g.S.Store h).is_open) c.transaction-tx.ensures.begun (c.in_default.ensures.wrote.ran clean).1.0.1.was_open,
-        subst (λ d. Turns (with_mark c.args.installs) d (state g.S.Store mid).now) (ap (λ h. (state g.S.Store h).now) c.transaction-tx.ensures.begun) (c.in_default.ensures.wrote.turns clean),
+        subst (λ d. TurnsRecords (with_mark c.args.installs) d (state g.S.Store mid).now) (ap (λ h. (state g.S.Store h).now) c.transaction-tx.ensures.begun) (c.in_default.ensures.wrote.turns clean),
       ),
       c.in_default.ensures.sound clean,
     ) in
@@ -66,11 +66,11 @@ returns-in-Err-commit-clause-crash g c =
     let mid = c.write_mark.new.tx.conn.now in
     let end = c.commit.new.tx.0 in
     let same : end ≡ c.conn-2-1.given.0 = search rules in
-    let P = λ (db : Database). IsTrue (state g.S.Store old).is_open × Turns (with_mark c.args.installs) (state g.S.Store old).now db in
+    let P = λ (db : Database). IsTrue (state g.S.Store old).is_open × TurnsRecords (with_mark c.args.installs) (state g.S.Store old).now db in
     let made : HasCleanDisk (state g.S.Store mid) → P (state g.S.Store mid).now × IsDatabase (state g.S.Store mid).now = λ clean. (
       (
         subst (λ h. IsTrue (state g.S.Store h).is_open) c.transaction-tx.ensures.begun (c.in_default.ensures.wrote.ran clean).1.0.1.was_open,
-        subst (λ d. Turns (with_mark c.args.installs) d (state g.S.Store mid).now) (ap (λ h. (state g.S.Store h).now) c.transaction-tx.ensures.begun) (c.in_default.ensures.wrote.turns clean),
+        subst (λ d. TurnsRecords (with_mark c.args.installs) d (state g.S.Store mid).now) (ap (λ h. (state g.S.Store h).now) c.transaction-tx.ensures.begun) (c.in_default.ensures.wrote.turns clean),
       ),
       c.in_default.ensures.sound clean,
     ) in
@@ -146,6 +146,6 @@ returns-in-Err-commit-clause-stays g c clean =
     let same : end ≡ c.conn-2-1.given.0 = search rules in
     let late : HasCleanDisk (state g.S.Store end) = subst (λ h. HasCleanDisk (state g.S.Store h)) (sym same) clean in
     let early : HasCleanDisk (state g.S.Store mid) = omega (arith, c.commit.ensures.survives.clean, late) in
-    subst (λ h. Stays (state g.S.Store old) (state g.S.Store h)) same (stays_undone (state g.S.Store old) (state g.S.Store mid) (state g.S.Store end)
+    subst (λ h. StaysCommitted (state g.S.Store old) (state g.S.Store h)) same (stays_undone (state g.S.Store old) (state g.S.Store mid) (state g.S.Store end)
     (keeps_begun g.S.Store old begun (state g.S.Store mid) c.transaction-tx.ensures.begun (c.write_mark.ensures.spares.keeps early))
     (commit_fails (state g.S.Store mid) (state g.S.Store end) c.in-Err-commit.error (c.in_default.ensures.inside early) (c.in-Err-commit.ensures.failed late)).3)

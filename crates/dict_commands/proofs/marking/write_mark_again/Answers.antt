@@ -5,7 +5,7 @@ use Rattle.sqlite.specs.Held.{state}
 use Rattle.sqlite.proofs.StateLemmas.{survives_weaker}
 use Rattle.dict_catalogue.specs.Views.{summary_shown}
 use Rattle.dict_holdings.specs.AllTables.{with_derived}
-use Rattle.dict_commands.specs.Kept.{Turns}
+use Rattle.dict_commands.specs.KeptRecords.{TurnsRecords}
 use Rattle.dict_commands.specs.Changes.{with_mark}
 use Rattle.dict_commands.specs.Committed.{IsCommitted}
 use Rattle.dict_commands.specs.Marking.{Remains, FailsToCommitMark, FailsToMark}
@@ -27,7 +27,7 @@ returns-clause-made g c clean =
     let summary = summary_shown c.args.summary.now in
     let old = state g.S.Store c.args.conn.now in
     let new = state g.S.Store c.commit_mark.new.conn in
-    let P = λ (db : Database). IsTrue old.is_open × Turns (with_mark summary.installs) old.now db in
+    let P = λ (db : Database). IsTrue old.is_open × TurnsRecords (with_mark summary.installs) old.now db in
     on_ok c.commit_mark.result (IsCommitted P new) (IsCommitted (Remains summary old.committed) new)
     (committed_wider P (Remains summary old.committed) new (λ db it. remains_by summary old c.requires.holds (clean_before old new c.commit_mark.ensures.crash clean) it.0 db it.1))
     (c.commit_mark.ensures.made clean)

@@ -2,7 +2,7 @@ use Rattle.std.proofs.Common.{ap}
 use Rattle.std.specs.Prelude.{slice_range}
 use Rattle.dict_sql.proofs.StreamLemmas.{passed_on}
 use Rattle.dict_commands.specs.Filing.{parts_of_files}
-use Rattle.dict_commands.specs.Parts.{FailsSomewhere}
+use Rattle.dict_commands.specs.FiledParts.{FailsSomewhere}
 use Rattle.dict_commands.proofs.FilingLemmas.{files_parts}
 use Rattle.dict_commands.proofs.parts.file_parts.Goals as goal
 

@@ -3,9 +3,9 @@ use mir.Val.{to_z, of_z}
 use mir.Syntax.{w64}
 use Rattle.sqlite.specs.Held.{state}
 use Rattle.dict_sql.proofs.StreamLemmas.{passed_on}
-use Rattle.dict_edition_sql.specs.Chosen.{is_from}
+use Rattle.dict_edition_sql.specs.Chosen.{is_part_from}
 use Rattle.dict_commands.specs.Statements.{taking_from}
-use Rattle.dict_commands.specs.Parts.{FailsSomewhere}
+use Rattle.dict_commands.specs.FiledParts.{FailsSomewhere}
 use Rattle.dict_commands.proofs.GoneLemmas.{handed}
 use Rattle.dict_commands.proofs.PartLemmas.{late_wrote, late_failed, without_late}
 use Rattle.dict_commands.proofs.FilingLemmas.{late_aside}
@@ -29,12 +29,12 @@ returns-clause-trims g c =
 
 pub returns-clause-spares : goal.returns-clause-spares
 returns-clause-spares g c =
-    spares_removed g.S.Store (codes "dictcat_part") (is_from (to_z w64 c.args.number) (pos 1) (to_z w64 (of_z w64 c.args.from))) (g.T.OpenTransaction.held c.args.tx.now)
+    spares_removed g.S.Store (codes "dictcat_part") (is_part_from (to_z w64 c.args.number) (pos 1) (to_z w64 (of_z w64 c.args.from))) (g.T.OpenTransaction.held c.args.tx.now)
     (g.T.OpenTransaction.held c.delete_parts_from.new.tx) c.delete_parts_from.ensures.survives c.delete_parts_from.result c.delete_parts_from.ensures.removed c.delete_parts_from.ensures.failed
 
 pub returns-in_err-delete_parts_from-clause-spares : goal.returns-in_err-delete_parts_from-clause-spares
 returns-in_err-delete_parts_from-clause-spares g c =
-    spares_removed g.S.Store (codes "dictcat_part") (is_from (to_z w64 c.args.number) (pos 1) (to_z w64 (of_z w64 c.args.from))) (g.T.OpenTransaction.held c.args.tx.now)
+    spares_removed g.S.Store (codes "dictcat_part") (is_part_from (to_z w64 c.args.number) (pos 1) (to_z w64 (of_z w64 c.args.from))) (g.T.OpenTransaction.held c.args.tx.now)
     (g.T.OpenTransaction.held c.delete_parts_from.new.tx) c.delete_parts_from.ensures.survives c.delete_parts_from.result c.delete_parts_from.ensures.removed c.delete_parts_from.ensures.failed
 
 pub returns-in_err-delete_parts_from-clause-failed : goal.returns-in_err-delete_parts_from-clause-failed

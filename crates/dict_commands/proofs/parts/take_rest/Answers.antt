@@ -5,7 +5,7 @@ use Rattle.sqlite.specs.Held.{state}
 use Rattle.dict_sql.specs.Effects.{equals_number}
 use Rattle.dict_sql.proofs.StreamLemmas.{passed_on}
 use Rattle.dict_commands.specs.Statements.{taking_of}
-use Rattle.dict_commands.specs.Parts.{FailsSomewhere}
+use Rattle.dict_commands.specs.FiledParts.{FailsSomewhere}
 use Rattle.dict_commands.proofs.GoneLemmas.{handed}
 use Rattle.dict_commands.proofs.PartLemmas.{rest_wrote, rest_failed, without_rest}
 use Rattle.dict_commands.proofs.FilingLemmas.{rest_aside}

@@ -3,7 +3,7 @@ use Rattle.dict_catalogue.specs.Views.{kept_shown}
 use Rattle.dict_commands.proofs.KeptLemmas.{kept_alone, holds_replies, none_told, first_told, reply_told}
 use Rattle.sqlite.specs.Held.{state}
 use Rattle.dict_sql.specs.Effects.{equals_text}
-use Rattle.dict_holdings.specs.Faults.{FailsToLookUp}
+use Rattle.dict_holdings.specs.Faults.{FailsToReadCatalogue}
 use Rattle.dict_commands.proofs.KeptLemmas.{replies_fail}
 use Rattle.dict_holdings.proofs.FailLemmas.{refused_memory}
 use Rattle.dict_commands.proofs.replies.kept_reply.Goals as goal
@@ -31,7 +31,7 @@ pub returns-in-Err-clause-failed : goal.returns-in-Err-clause-failed
 returns-in-Err-clause-failed g c clean =
     let old = state g.S.Store c.args.conn.now in
     let new = state g.S.Store c.kept_replies_of.new.conn in
-    subst (FailsToLookUp old new) (sym c.fault_of_read.ensures.is)
+    subst (FailsToReadCatalogue old new) (sym c.fault_of_read.ensures.is)
     (replies_fail (equals_text 1 c.args.id.now) old new c.in-Err.error (c.in-Err.ensures.failed clean))
 
 pub returns-in_err-reply-clause-failed : goal.returns-in_err-reply-clause-failed

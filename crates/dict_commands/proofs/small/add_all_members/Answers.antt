@@ -1,7 +1,7 @@
 use Rattle.std.proofs.Common.{refl, subst, map, ◌∙◌, ◌<◌, length}
 use Rattle.std.proofs.lemmas.List.{take_all}
 use Rattle.dict_sql.proofs.StreamLemmas.{passed_on}
-use Rattle.dict_commands.specs.Writes.{Wrote, FailsToWrite}
+use Rattle.dict_commands.specs.Writes.{WroteStatements, FailsToWrite}
 use Rattle.dict_catalogue.specs.Items.{name_of, members_of}
 use Rattle.dict_catalogue.specs.Views.{item_shown}
 use Rattle.dict_rows.specs.Written.{numbered, member_record}
@@ -42,7 +42,7 @@ each-init g c =
 
 pub returns-clause-wrote : goal.returns-clause-wrote
 returns-clause-wrote g c =
-    subst (λ l. Wrote g.S.Store (map adding_member (all_members (map item_shown l))) (with_more_members (all_members (map item_shown l))) (g.T.OpenTransaction.held c.args.tx.now) (g.T.OpenTransaction.held c.each.tx))
+    subst (λ l. WroteStatements g.S.Store (map adding_member (all_members (map item_shown l))) (with_more_members (all_members (map item_shown l))) (g.T.OpenTransaction.held c.args.tx.now) (g.T.OpenTransaction.held c.each.tx))
     (take_all c.each.item-index c.args.items.now c.each-test.false) c.each.invariant.wrote
 
 pub returns-in_err-add_members_of-clause-spares : goal.returns-in_err-add_members_of-clause-spares

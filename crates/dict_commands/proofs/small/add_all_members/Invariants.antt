@@ -2,8 +2,8 @@
 use Rattle.std.proofs.Common.{◌≡◌, take, map}
 use Rattle.sqlite.specs.Held.{state}
 use Rattle.dict_sql.specs.Effects.{WhileOpen}
-use Rattle.dict_commands.specs.Kept.{IsUsable}
-use Rattle.dict_commands.specs.Writes.{Wrote, Spares}
+use Rattle.dict_commands.specs.KeptRecords.{IsUsable}
+use Rattle.dict_commands.specs.Writes.{WroteStatements, CommitsNothing}
 use Rattle.dict_catalogue.specs.Views.{item_shown}
 use Rattle.dict_rows.specs.After.{all_members}
 use Rattle.dict_commands.specs.Changes.{with_more_members}
@@ -15,7 +15,7 @@ invariant-each g l =
     let rows = all_members (map item_shown (take l.item-index l.items)) in
     record {
       same_reference : g.T.OpenTransaction.reference l.tx ≡ g.T.OpenTransaction.reference l.fn.tx;
-      wrote : Wrote g.S.Store (map adding_member rows) (with_more_members rows) (g.T.OpenTransaction.held l.fn.tx) (g.T.OpenTransaction.held l.tx);
+      wrote : WroteStatements g.S.Store (map adding_member rows) (with_more_members rows) (g.T.OpenTransaction.held l.fn.tx) (g.T.OpenTransaction.held l.tx);
       usable : WhileOpen (state g.S.Store (g.T.OpenTransaction.held l.tx)) IsUsable;
-      spares : Spares g.S.Store (g.T.OpenTransaction.held l.fn.tx) (g.T.OpenTransaction.held l.tx);
+      spares : CommitsNothing g.S.Store (g.T.OpenTransaction.held l.fn.tx) (g.T.OpenTransaction.held l.tx);
     }

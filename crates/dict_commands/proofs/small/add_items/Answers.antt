@@ -2,7 +2,7 @@ use Rattle.std.proofs.Common.{refl, subst, arith, map, codes, [], ◌∷◌, ◌
 use Rattle.std.proofs.lemmas.List.{take_all}
 use Rattle.sqlite.specs.Held.{state}
 use Rattle.dict_sql.proofs.StreamLemmas.{passed_on}
-use Rattle.dict_commands.specs.Writes.{Wrote, FailsToWrite}
+use Rattle.dict_commands.specs.Writes.{WroteStatements, FailsToWrite}
 use Rattle.dict_sql.specs.Encodings.{item_row}
 use Rattle.dict_records.specs.Typed.{lent_item}
 use Rattle.dict_catalogue.specs.Views.{item_shown}
@@ -45,7 +45,7 @@ loop-place-init g c =
 
 pub returns-clause-wrote : goal.returns-clause-wrote
 returns-clause-wrote g c =
-    subst (λ l. Wrote g.S.Store (map adding_item (numbered item_record 0 (map item_shown l))) (with_more_items (numbered item_record 0 (map item_shown l))) (g.T.OpenTransaction.held c.args.tx.now)
+    subst (λ l. WroteStatements g.S.Store (map adding_item (numbered item_record 0 (map item_shown l))) (with_more_items (numbered item_record 0 (map item_shown l))) (g.T.OpenTransaction.held c.args.tx.now)
     (g.T.OpenTransaction.held c.loop-place.tx)) (take_all c.loop-place.place c.args.items.now (omega arith)) c.loop-place.invariant.wrote
 
 pub returns-in_err-insert_item-clause-spares : goal.returns-in_err-insert_item-clause-spares

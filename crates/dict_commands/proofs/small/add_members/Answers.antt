@@ -2,7 +2,7 @@ use Rattle.std.proofs.Common.{refl, subst, arith, map, codes, [], ◌∷◌, ◌
 use Rattle.std.proofs.lemmas.List.{take_all}
 use Rattle.sqlite.specs.Held.{state}
 use Rattle.dict_sql.proofs.StreamLemmas.{passed_on}
-use Rattle.dict_commands.specs.Writes.{Wrote, FailsToWrite}
+use Rattle.dict_commands.specs.Writes.{WroteStatements, FailsToWrite}
 use Rattle.std.proofs.Common.{string_bytes}
 use Rattle.dict_sql.specs.Encodings.{member_row}
 use Rattle.dict_records.specs.Typed.{lent_member}
@@ -47,7 +47,7 @@ loop-ord-init g c =
 
 pub returns-clause-wrote : goal.returns-clause-wrote
 returns-clause-wrote g c =
-    subst (λ l. Wrote g.S.Store (map adding_member (numbered (member_record c.args.owner.now) 0 (texts_shown l))) (with_more_members (numbered (member_record c.args.owner.now) 0 (texts_shown l)))
+    subst (λ l. WroteStatements g.S.Store (map adding_member (numbered (member_record c.args.owner.now) 0 (texts_shown l))) (with_more_members (numbered (member_record c.args.owner.now) 0 (texts_shown l)))
     (g.T.OpenTransaction.held c.args.tx.now) (g.T.OpenTransaction.held c.loop-ord.tx)) (take_all c.loop-ord.ord c.args.members.now (omega arith)) c.loop-ord.invariant.wrote
 
 pub returns-in_err-insert_member-clause-spares : goal.returns-in_err-insert_member-clause-spares

@@ -2,7 +2,7 @@ use Rattle.std.proofs.Common.{codes, ◌++◌, ◌∷◌, []}
 use Rattle.sqlite.specs.Held.{state}
 use Rattle.dict_sql.specs.Encodings.{kept_row}
 use Rattle.dict_sql.proofs.StreamLemmas.{passed_on}
-use Rattle.dict_records.specs.Records.{Kept}
+use Rattle.dict_records.specs.Records.{KeptRecord}
 use Rattle.dict_records.specs.Typed.{lent_kept}
 use Rattle.dict_rows.specs.Written.{kept_record}
 use Rattle.dict_catalogue.specs.Views.{kept_shown}
@@ -13,7 +13,7 @@ use Rattle.dict_commands.proofs.TableLemmas.{has_kept, kept_added}
 use Rattle.dict_commands.proofs.WriteLemmas.{wrote_record, failed_record, spares_added}
 use Rattle.dict_commands.proofs.writing.add_reply.Goals as goal
 
-abbrev added : Kept → AllTables → AllTables
+abbrev added : KeptRecord → AllTables → AllTables
 added r all = record all { kept = all.kept ++ r ∷ [] }
 
 pub insert_kept-requires : goal.insert_kept-requires

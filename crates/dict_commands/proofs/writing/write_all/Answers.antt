@@ -1,7 +1,7 @@
 use Rattle.std.proofs.Common.{map, ◌++◌}
 use Rattle.std.proofs.lemmas.Result.{on_ok_weaker, IfErr-weaker}
 use Rattle.dict_holdings.specs.AllTables.{AllTables}
-use Rattle.dict_commands.specs.Writes.{Wrote, FailsToWrite}
+use Rattle.dict_commands.specs.Writes.{WroteStatements, FailsToWrite}
 use Rattle.dict_commands.proofs.WriteLemmas.{wrote_then, failed_before, failed_after, spares_then}
 use Rattle.dict_catalogue.specs.Views.{item_shown, kept_shown}
 use Rattle.dict_rows.specs.Versions.{known}
@@ -15,18 +15,18 @@ returns-clause-wrote g c =
     let first = (g.T.OpenTransaction.held c.args.tx.now) in
     let s0 = (g.T.OpenTransaction.held c.write_summary.new.tx) in
     let spares0 = c.write_summary.ensures.spares in
-    let wrote0 : Wrote g.S.Store (summary_anew known c.args.change.now.summary.installs (map item_shown c.args.change.now.summary.items.items))
+    let wrote0 : WroteStatements g.S.Store (summary_anew known c.args.change.now.summary.installs (map item_shown c.args.change.now.summary.items.items))
     ((λ (all : AllTables). with_members (map item_shown c.args.change.now.summary.items.items) (with_items (map item_shown c.args.change.now.summary.items.items) (with_mark c.args.change.now.summary.installs all))))
     first s0 = c.in_default.ensures.wrote in
     let s1 = (g.T.OpenTransaction.held c.write_editions.new.tx) in
     let spares1 = c.write_editions.ensures.spares in
-    let wrote1 : Wrote g.S.Store (exchanging c.args.change.now.gone.items (installed_by c.args.change.now.summary.installs c.args.command.now))
+    let wrote1 : WroteStatements g.S.Store (exchanging c.args.change.now.gone.items (installed_by c.args.change.now.summary.installs c.args.command.now))
     ((λ (all : AllTables). with_installed (installed_by c.args.change.now.summary.installs c.args.command.now) (without_editions c.args.change.now.gone.items all))) s0 s1 = rw c.deref.ensures.value
     at c.in_default-write_editions.ensures.wrote in
     let s2 = (g.T.OpenTransaction.held c.add_reply.new.tx) in
     let spares2 = c.add_reply.ensures.spares in
     on_ok_weaker c.add_reply.result (λ done.
-    let wrote2 : Wrote g.S.Store (replying (record { id = c.args.id.now; reply = kept_shown c.args.change.now.kept })) (with_reply (record { id = c.args.id.now; reply = kept_shown c.args.change.now.kept })) s1 s2 =
+    let wrote2 : WroteStatements g.S.Store (replying (record { id = c.args.id.now; reply = kept_shown c.args.change.now.kept })) (with_reply (record { id = c.args.id.now; reply = kept_shown c.args.change.now.kept })) s1 s2 =
     done in
     (wrote_then g.S.Store (summary_anew known c.args.change.now.summary.installs (map item_shown c.args.change.now.summary.items.items))
     ((exchanging c.args.change.now.gone.items (installed_by c.args.change.now.summary.installs c.args.command.now)) ++ ((replying (record { id = c.args.id.now; reply = kept_shown c.args.change.now.kept }))))
@@ -73,7 +73,7 @@ returns-in-Err-write_editions-clause-failed g c =
     let first = (g.T.OpenTransaction.held c.args.tx.now) in
     let s0 = (g.T.OpenTransaction.held c.write_summary.new.tx) in
     let spares0 = c.write_summary.ensures.spares in
-    let wrote0 : Wrote g.S.Store (summary_anew known c.args.change.now.summary.installs (map item_shown c.args.change.now.summary.items.items))
+    let wrote0 : WroteStatements g.S.Store (summary_anew known c.args.change.now.summary.installs (map item_shown c.args.change.now.summary.items.items))
     ((λ (all : AllTables). with_members (map item_shown c.args.change.now.summary.items.items) (with_items (map item_shown c.args.change.now.summary.items.items) (with_mark c.args.change.now.summary.installs all))))
     first s0 = c.in_default.ensures.wrote in
     let s1 = (g.T.OpenTransaction.held c.write_editions.new.tx) in
@@ -90,12 +90,12 @@ returns-clause-failed g c =
     let first = (g.T.OpenTransaction.held c.args.tx.now) in
     let s0 = (g.T.OpenTransaction.held c.write_summary.new.tx) in
     let spares0 = c.write_summary.ensures.spares in
-    let wrote0 : Wrote g.S.Store (summary_anew known c.args.change.now.summary.installs (map item_shown c.args.change.now.summary.items.items))
+    let wrote0 : WroteStatements g.S.Store (summary_anew known c.args.change.now.summary.installs (map item_shown c.args.change.now.summary.items.items))
     ((λ (all : AllTables). with_members (map item_shown c.args.change.now.summary.items.items) (with_items (map item_shown c.args.change.now.summary.items.items) (with_mark c.args.change.now.summary.installs all))))
     first s0 = c.in_default.ensures.wrote in
     let s1 = (g.T.OpenTransaction.held c.write_editions.new.tx) in
     let spares1 = c.write_editions.ensures.spares in
-    let wrote1 : Wrote g.S.Store (exchanging c.args.change.now.gone.items (installed_by c.args.change.now.summary.installs c.args.command.now))
+    let wrote1 : WroteStatements g.S.Store (exchanging c.args.change.now.gone.items (installed_by c.args.change.now.summary.installs c.args.command.now))
     ((λ (all : AllTables). with_installed (installed_by c.args.change.now.summary.installs c.args.command.now) (without_editions c.args.change.now.gone.items all))) s0 s1 = rw c.deref.ensures.value
     at c.in_default-write_editions.ensures.wrote in
     let s2 = (g.T.OpenTransaction.held c.add_reply.new.tx) in

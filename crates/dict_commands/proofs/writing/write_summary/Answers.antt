@@ -1,7 +1,7 @@
 use Rattle.std.proofs.Common.{map, ◌++◌}
 use Rattle.std.proofs.lemmas.Result.{on_ok_weaker, IfErr-weaker}
 use Rattle.dict_holdings.specs.AllTables.{AllTables}
-use Rattle.dict_commands.specs.Writes.{Wrote, FailsToWrite}
+use Rattle.dict_commands.specs.Writes.{WroteStatements, FailsToWrite}
 use Rattle.dict_commands.proofs.WriteLemmas.{wrote_then, failed_before, failed_after, spares_then}
 use Rattle.dict_catalogue.specs.Views.{item_shown}
 use Rattle.dict_rows.specs.Versions.{known}
@@ -14,14 +14,14 @@ returns-clause-wrote g c =
     let first = (g.T.OpenTransaction.held c.args.tx.now) in
     let s0 = (g.T.OpenTransaction.held c.write_mark.new.tx) in
     let spares0 = c.write_mark.ensures.spares in
-    let wrote0 : Wrote g.S.Store (mark_anew known c.args.summary.now.installs) (with_mark c.args.summary.now.installs) first s0 = c.in_default.ensures.wrote in
+    let wrote0 : WroteStatements g.S.Store (mark_anew known c.args.summary.now.installs) (with_mark c.args.summary.now.installs) first s0 = c.in_default.ensures.wrote in
     let s1 = (g.T.OpenTransaction.held c.write_items.new.tx) in
     let spares1 = c.write_items.ensures.spares in
-    let wrote1 : Wrote g.S.Store (items_anew (map item_shown c.args.summary.now.items.items)) (with_items (map item_shown c.args.summary.now.items.items)) s0 s1 = rw c.deref.ensures.value at c.in_default-write_items.ensures.wrote in
+    let wrote1 : WroteStatements g.S.Store (items_anew (map item_shown c.args.summary.now.items.items)) (with_items (map item_shown c.args.summary.now.items.items)) s0 s1 = rw c.deref.ensures.value at c.in_default-write_items.ensures.wrote in
     let s2 = (g.T.OpenTransaction.held c.write_members.new.tx) in
     let spares2 = c.write_members.ensures.spares in
     on_ok_weaker c.write_members.result (λ done.
-    let wrote2 : Wrote g.S.Store (members_anew (map item_shown c.args.summary.now.items.items)) (with_members (map item_shown c.args.summary.now.items.items)) s1 s2 = rw c.deref-2.ensures.value at done in
+    let wrote2 : WroteStatements g.S.Store (members_anew (map item_shown c.args.summary.now.items.items)) (with_members (map item_shown c.args.summary.now.items.items)) s1 s2 = rw c.deref-2.ensures.value at done in
     (wrote_then g.S.Store (mark_anew known c.args.summary.now.installs) ((items_anew (map item_shown c.args.summary.now.items.items)) ++ ((members_anew (map item_shown c.args.summary.now.items.items))))
     (with_mark c.args.summary.now.installs) (λ (all : AllTables). (with_members (map item_shown c.args.summary.now.items.items) (with_items (map item_shown c.args.summary.now.items.items) all))) first s0 s2 wrote0
     (wrote_then g.S.Store (items_anew (map item_shown c.args.summary.now.items.items)) ((members_anew (map item_shown c.args.summary.now.items.items))) (with_items (map item_shown c.args.summary.now.items.items))
@@ -61,7 +61,7 @@ returns-in-Err-write_items-clause-failed g c =
     let first = (g.T.OpenTransaction.held c.args.tx.now) in
     let s0 = (g.T.OpenTransaction.held c.write_mark.new.tx) in
     let spares0 = c.write_mark.ensures.spares in
-    let wrote0 : Wrote g.S.Store (mark_anew known c.args.summary.now.installs) (with_mark c.args.summary.now.installs) first s0 = c.in_default.ensures.wrote in
+    let wrote0 : WroteStatements g.S.Store (mark_anew known c.args.summary.now.installs) (with_mark c.args.summary.now.installs) first s0 = c.in_default.ensures.wrote in
     let s1 = (g.T.OpenTransaction.held c.write_items.new.tx) in
     let spares1 = c.write_items.ensures.spares in
     let e = c.in-Err-write_items.error in
@@ -75,10 +75,10 @@ returns-clause-failed g c =
     let first = (g.T.OpenTransaction.held c.args.tx.now) in
     let s0 = (g.T.OpenTransaction.held c.write_mark.new.tx) in
     let spares0 = c.write_mark.ensures.spares in
-    let wrote0 : Wrote g.S.Store (mark_anew known c.args.summary.now.installs) (with_mark c.args.summary.now.installs) first s0 = c.in_default.ensures.wrote in
+    let wrote0 : WroteStatements g.S.Store (mark_anew known c.args.summary.now.installs) (with_mark c.args.summary.now.installs) first s0 = c.in_default.ensures.wrote in
     let s1 = (g.T.OpenTransaction.held c.write_items.new.tx) in
     let spares1 = c.write_items.ensures.spares in
-    let wrote1 : Wrote g.S.Store (items_anew (map item_shown c.args.summary.now.items.items)) (with_items (map item_shown c.args.summary.now.items.items)) s0 s1 = rw c.deref.ensures.value at c.in_default-write_items.ensures.wrote in
+    let wrote1 : WroteStatements g.S.Store (items_anew (map item_shown c.args.summary.now.items.items)) (with_items (map item_shown c.args.summary.now.items.items)) s0 s1 = rw c.deref.ensures.value at c.in_default-write_items.ensures.wrote in
     let s2 = (g.T.OpenTransaction.held c.write_members.new.tx) in
     let spares2 = c.write_members.ensures.spares in
     IfErr-weaker c.write_members.result _ (FailsToWrite g.S.Store (summary_anew known c.args.summary.now.installs (map item_shown c.args.summary.now.items.items)) first s2) (λ e failed.

@@ -1,6 +1,6 @@
 use Rattle.std.proofs.Common.{◌≡◌, ◌+◌, ◌-◌, ◌<◌, [], ◌∷◌, Some, length, get_or, ap, sym, ◌∙◌, subst, arith}
 use Rattle.std.specs.Option.{option_or}
-use Rattle.dict_derived.specs.Kept.{is_kept}
+use Rattle.dict_derived.specs.KeptGrams.{is_kept_gram}
 use Rattle.dict_derived.proofs.EndLemmas.{rows_with, AreSeen, none_seen, one_behind, kept_seen, left_out_seen, all_seen}
 use Rattle.dict_derived.proofs.search.by_grams.Goals as goal
 use Rattle.dict_derived.proofs.search.by_grams.Goals.{then-is_kept, else-is_kept}
@@ -14,7 +14,7 @@ loop-end-preserved c =
     let end = c.loop-end.end in
     let old = rows_with c.loop-end.first c.loop-end.last in
     let gram = get_or q (end - 3) 0 ∷ get_or q (end - 2) 0 ∷ get_or q (end - 1) 0 ∷ [] in
-    let told : is_kept gram ≡ c.is_kept.result = ap is_kept (sym c.as_slice.ensures) ∙ sym c.is_kept.ensures in
+    let told : is_kept_gram gram ≡ c.is_kept.result = ap is_kept_gram (sym c.as_slice.ensures) ∙ sym c.is_kept.ensures in
     let first = c.if-is_kept.first in
     let last = c.if-is_kept.last in
     elim c.if-is_kept.branch [

@@ -4,7 +4,7 @@ use Rattle.std.specs.List.{AllByRecursion}
 use Rattle.dict_index.specs.Line.{Line}
 use Rattle.dict_index.specs.Views.{HasItsKey as HasKeyRead}
 use Rattle.dict_text.proofs.AllLemmas.{all_push, all_at}
-use Rattle.dict_desk.specs.PlainEntries.{shown_by, HasItsKey, AreLinked, IsLastShown}
+use Rattle.dict_desk.specs.PlainEntries.{shown_by, IsKeyedByHeadword, AreLinked, IsLastShown}
 use Rattle.dict_desk.proofs.LinkLemmas.{linked_more}
 use Rattle.dict_desk.proofs.PlaceLemmas.{HasPlaces, places_more}
 use Rattle.dict_desk.proofs.entries.owned_entries.Goals as goal
@@ -24,7 +24,7 @@ loop-entry-preserved c =
     (subst (IsLastShown before shown.now) (sym (c.in_ok-kept.ensures.link ∙ c.in_ok-earlier.ensures.old)) (c.loop-entry.invariant.places shown)) in
     record {
       lines = grind (arith, common_steps);
-      keys = subst (AllByRecursion HasItsKey) (sym items) (all_push HasItsKey before kept c.loop-entry.invariant.keys c.in_ok-kept.ensures.key);
+      keys = subst (AllByRecursion IsKeyedByHeadword) (sym items) (all_push IsKeyedByHeadword before kept c.loop-entry.invariant.keys c.in_ok-kept.ensures.key);
       links = subst AreLinked (sym items) (linked_more before kept c.loop-entry.invariant.links last);
       places = subst (HasPlaces c.insert.new.self) (sym items) (places_more c.loop-entry.places c.insert.new.self shown before kept c.len.result (c.len.ensures ∙ c.loop-entry.owned.ok.0) c.in_ok-earlier.ensures.updates same c.loop-entry.invariant.places);
     }

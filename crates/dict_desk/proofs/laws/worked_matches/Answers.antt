@@ -3,7 +3,7 @@ use Rattle.std.specs.Str.{chars}
 use lib.Utf8.{encode}
 use Rattle.dict_match.proofs.Computing.{keys}
 use Rattle.dict_match.specs.Matching.{is_hit}
-use Rattle.dict_match.specs.StrategyText.{name_of}
+use Rattle.dict_match.specs.StrategyText.{strategy_name}
 use Rattle.dict_desk.specs.Asked.{searched, strategy_of}
 use Rattle.dict_desk.proofs.laws.worked_matches.Goals as goal
 
@@ -40,9 +40,9 @@ unfolding strategy_of
 returns-clause-period c = refl
 
 pub returns-clause-exact : goal.returns-clause-exact
-unfolding strategy_of name_of
+unfolding strategy_of strategy_name
 returns-clause-exact c = refl
 
 pub returns-clause-case : goal.returns-clause-case
-unfolding strategy_of name_of
+unfolding strategy_of strategy_name
 returns-clause-case c = refl

@@ -6,7 +6,7 @@ use Rattle.dict_hub.specs.Runs.{IsAt}
 use Rattle.dict_driver.specs.Looking.{WaitsIf}
 use Rattle.dict_driver.specs.Rounds.{Moves}
 use Rattle.dict_driver.specs.Served.{Round, ended, is_waited}
-use Rattle.dict_driver.specs.declared.serving.Served.TheVariants.{Closed}
+use Rattle.dict_driver.specs.declared.serving.RoundsEnd.TheVariants.{Closed}
 use Rattle.dict_connection.proofs.LeadLemmas.{led_joined, led_none, led_still}
 use Rattle.dict_driver.proofs.RoundLemmas.{moves_same, moves_joined}
 use Rattle.dict_driver.proofs.ServedLemmas.{closed_by_summary, made_last, made_more, made_whole, waits_not}

@@ -1,7 +1,7 @@
 use Rattle.std.proofs.Common.{◌≡◌, ◌<◌, ℕ, true, false, length, get_or}
 use Rattle.dict_session.specs.Desks.{condition}
 use Rattle.dict_connection.specs.Leading.{HasLedOn}
-use Rattle.dict_connection.specs.Turns.{IsAtRest}
+use Rattle.dict_connection.specs.Turns.{HasNothingToDo}
 use Rattle.dict_driver.proofs.ListLemmas.{HaveSameIds}
 use Rattle.dict_driver.proofs.RoundLemmas.{KeepsFrom, TurnUpTo}
 use Rattle.dict_driver.proofs.turning.turn_all.Given as goal
@@ -9,7 +9,7 @@ use Rattle.dict_driver.proofs.turning.turn_all.Given as goal
 abbrev pub invariant-loop-one : goal.invariant-loop-one
 invariant-loop-one g l = record {
   ids : HaveSameIds l.fn.all.items l.one-items;
-  idle : l.has_moved ≡ false → (k : ℕ) (d : _) → k < l.one-index → k < length l.one-items → IsAtRest (get_or l.one-items k d);
+  idle : l.has_moved ≡ false → (k : ℕ) (d : _) → k < l.one-index → k < length l.one-items → HasNothingToDo (get_or l.one-items k d);
   trust : g.K.Lookup.is_trusted l.desk → g.K.Lookup.is_trusted l.fn.desk;
   closed : g.K.Lookup.is_closed l.fn.desk ≡ true → g.K.Lookup.is_closed l.desk ≡ true;
   others : KeepsFrom l.fn.all.items l.one-index l.fn.hub l.hub;

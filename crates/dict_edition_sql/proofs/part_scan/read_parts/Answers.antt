@@ -1,5 +1,5 @@
 use Rattle.std.proofs.Common.{refl}
-use Rattle.dict_edition_sql.specs.PartScans.Scan.{All}
+use Rattle.dict_edition_sql.specs.PartScans.PartScan.{All}
 use Rattle.dict_edition_sql.proofs.PartScanLemmas.{begins, begins_alone, not_begun}
 use Rattle.dict_edition_sql.proofs.part_scan.read_parts.Goals as goal
 

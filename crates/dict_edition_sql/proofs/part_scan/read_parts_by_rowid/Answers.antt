@@ -1,5 +1,5 @@
 use Rattle.std.proofs.Common.{refl}
-use Rattle.dict_edition_sql.specs.PartScans.Scan.{ByRowid}
+use Rattle.dict_edition_sql.specs.PartScans.PartScan.{ByRowid}
 use Rattle.dict_edition_sql.proofs.PartScanLemmas.{begins, begins_alone, not_begun}
 use Rattle.dict_edition_sql.proofs.part_scan.read_parts_by_rowid.Goals as goal
 

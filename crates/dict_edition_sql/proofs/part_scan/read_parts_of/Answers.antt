@@ -1,6 +1,6 @@
 use Rattle.std.proofs.Common.{refl}
 use Rattle.dict_sql.proofs.NumberLemmas.{bound_int}
-use Rattle.dict_edition_sql.specs.PartScans.Scan.{OfFile}
+use Rattle.dict_edition_sql.specs.PartScans.PartScan.{OfFile}
 use Rattle.dict_edition_sql.proofs.PartScanLemmas.{begins, begins_alone, not_begun}
 use Rattle.dict_edition_sql.proofs.part_scan.read_parts_of.Goals as goal
 

@@ -4,12 +4,12 @@ use Rattle.sqlite.specs.State.{HasCleanDisk}
 use Rattle.dict_desk.specs.Shown.{Row}
 use Rattle.dict_search.specs.Entries.{entries_at, row_in}
 use Rattle.dict_lookup.specs.Taken.{more_taken}
-use Rattle.dict_lookup.specs.Texts.{Asks, HasText, IsAtMostRead}
+use Rattle.dict_lookup.specs.Texts.{AsksForParts, HasText, IsAtMostRead}
 use Rattle.dict_lookup.proofs.found.hand_found.Given as goal
 
 abbrev pub invariant-loop-place : goal.invariant-loop-place
 invariant-loop-place g l = record {
-  asks : Asks g.S.Store l.installs l.number l.fn.conn l.conn l.fn.texts l.texts;
+  asks : AsksForParts g.S.Store l.installs l.number l.fn.conn l.conn l.fn.texts l.texts;
   same : HasCleanDisk (state g.S.Store l.conn) → IsAtMostRead g.S.Store l.fn.conn l.conn;
   takes : HasCleanDisk (state g.S.Store l.conn) → (text : List ℕ) → length text < 64 ^ 6 → HasText (state g.S.Store l.fn.conn) l.number text l.fn.texts
       → g.T.RowSink.takes l.fn.sink (map (row_in text) (entries_at l.index (take l.place-index l.places))) l.sink;

@@ -8,7 +8,7 @@ use Rattle.dict_parts.specs.Parts.{parts_of}
 use Rattle.dict_holdings.specs.Texts.{HoldsText}
 use Rattle.dict_lookup.specs.KeptTexts.{same_key}
 use Rattle.dict_lookup.specs.Texts.{IsAtMostRead}
-use Rattle.dict_lookup.specs.Taken.{more_taken, rows_for}
+use Rattle.dict_lookup.specs.Taken.{more_taken, rows_read_for}
 use Rattle.dict_lookup.proofs.AskLemmas.{part_kept}
 use Rattle.dict_lookup.proofs.StateLemmas.{each_ok_with, on_ok}
 use Rattle.dict_lookup.proofs.TakenLemmas.{none_kept, none_more}
@@ -20,7 +20,7 @@ pub returns-in-Some-clause-value : goal.returns-in-Some-clause-value
 returns-in-Some-clause-value g c clean text has = part_kept c.args.number c.args.part c.in-Some.octets.items c.args.texts.now (sym c.in-Some.ensures.text) text has.kept
 
 pub returns-in-Some-clause-taken : goal.returns-in-Some-clause-taken
-returns-in-Some-clause-taken g c clean text holds below = subst (λ (kept : Option (List ℕ)). c.args.rows_taken.now ≡ more_taken c.args.rows_taken.now (rows_for kept)) c.in-Some.ensures.text (none_more c.args.rows_taken.now (omega arith))
+returns-in-Some-clause-taken g c clean text holds below = subst (λ (kept : Option (List ℕ)). c.args.rows_taken.now ≡ more_taken c.args.rows_taken.now (rows_read_for kept)) c.in-Some.ensures.text (none_more c.args.rows_taken.now (omega arith))
 
 pub returns-in-Some-clause-counted : goal.returns-in-Some-clause-counted
 returns-in-Some-clause-counted g c = (0, none_more c.args.rows_taken.now (omega arith))
@@ -36,7 +36,7 @@ returns-clause-value g c clean text has =
 pub returns-clause-taken : goal.returns-clause-taken
 returns-clause-taken g c clean text holds below =
     let kept = lookup (same_key (c.args.number, c.args.part)) c.args.texts.now in
-    subst (λ (kept : Option (List ℕ)). OnOk c.read_part.result (c.read_part.new.rows_taken ≡ more_taken c.args.rows_taken.now (rows_for kept)))
+    subst (λ (kept : Option (List ℕ)). OnOk c.read_part.result (c.read_part.new.rows_taken ≡ more_taken c.args.rows_taken.now (rows_read_for kept)))
     (sym (none_kept c.take.result kept c.in_default.not-Some c.take.ensures.text)) (c.read_part.ensures.taken clean text holds below)
 
 pub returns-clause-same : goal.returns-clause-same

@@ -2,7 +2,7 @@ use Rattle.std.proofs.Common.{ap, sym, subst, length, map, ◌∙◌, Some, stri
 use Rattle.std.specs.Prelude.{ℤ, pos}
 use Rattle.dict_edition_sql.specs.Infos.{headers_with, informed, info_columns}
 use Rattle.dict_sql.specs.Reads.{FailsToList}
-use Rattle.dict_lookup.specs.Searches.{FailsToLookUp, column_of}
+use Rattle.dict_lookup.specs.Searches.{FailsToLookUp, number_in_column}
 use Rattle.dict_lookup.specs.Taken.{more_taken}
 use Rattle.dict_lookup.proofs.FailLemmas.{list_fails}
 use Rattle.dict_lookup.proofs.RecordLemmas.{info_told, last_told, informed_rows, column_back, column_is}
@@ -21,9 +21,9 @@ returns-in-Err-clause-failed g c clean =
     let new = state g.S.Store c.infos_numbered.new.conn in
     let column = column_back c.args.number c.column_number.result c.column_number.ensures in
     let failed = subst (λ (z : ℤ). FailsToList info_columns (map informed (headers_with z old.now)) old new c.in-Err.error) column (c.in-Err.ensures.failed clean) in
-    subst (FailsToLookUp (column_of c.args.number) old new) (sym c.fault_of_read.ensures.is)
-    (list_fails (column_of c.args.number) (λ db. map informed (headers_with (pos (column_of c.args.number)) db)) info_columns old new
-    (λ h. informed_rows (headers_with (pos (column_of c.args.number)) old.now) h.headers) c.in-Err.error failed)
+    subst (FailsToLookUp (number_in_column c.args.number) old new) (sym c.fault_of_read.ensures.is)
+    (list_fails (number_in_column c.args.number) (λ db. map informed (headers_with (pos (number_in_column c.args.number)) db)) info_columns old new
+    (λ h. informed_rows (headers_with (pos (number_in_column c.args.number)) old.now) h.headers) c.in-Err.error failed)
 
 pub returns-in-Ok-clause-taken : goal.returns-in-Ok-clause-taken
 returns-in-Ok-clause-taken g c clean reading one =

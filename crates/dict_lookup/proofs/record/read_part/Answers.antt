@@ -4,7 +4,7 @@ use Rattle.sqlite.specs.Held.{state}
 use Rattle.dict_sql.specs.Effects.{rows_of}
 use Rattle.dict_edition_sql.specs.Chosen.{is_numbered}
 use Rattle.dict_edition_sql.specs.PartRecords.{part_columns, stored_part}
-use Rattle.dict_lookup.specs.Searches.{FailsToLookUp, column_of}
+use Rattle.dict_lookup.specs.Searches.{FailsToLookUp, number_in_column}
 use Rattle.dict_lookup.specs.Taken.{more_taken}
 use Rattle.dict_lookup.proofs.FailLemmas.{list_fails}
 use Rattle.dict_lookup.proofs.PartLemmas.{failed_as, octets_told, one_read, part_back, part_readable, selected_as}
@@ -34,7 +34,7 @@ returns-in-Err-clause-failed g c clean =
     let old = state g.S.Store c.args.conn.now in
     let new = state g.S.Store c.parts_numbered.new.conn in
     let column = column_back c.args.number c.column_number.result c.column_number.ensures in
-    let failed = failed_as _ _ _ (column_of c.args.number) c.args.part column refl (part_back c.args.part _ c.requires.few refl) old new c.in-Err.error (c.in-Err.ensures.failed clean) in
-    subst (FailsToLookUp (column_of c.args.number) old new) (sym c.fault_of_read.ensures.is)
-    (list_fails (column_of c.args.number) (λ db. filter (is_numbered (pos (column_of c.args.number)) (pos 1) (pos c.args.part)) (rows_of (codes "dictcat_part") db)) part_columns old new
-    (λ h. part_readable (column_of c.args.number) c.args.part old.now h) c.in-Err.error failed)
+    let failed = failed_as _ _ _ (number_in_column c.args.number) c.args.part column refl (part_back c.args.part _ c.requires.few refl) old new c.in-Err.error (c.in-Err.ensures.failed clean) in
+    subst (FailsToLookUp (number_in_column c.args.number) old new) (sym c.fault_of_read.ensures.is)
+    (list_fails (number_in_column c.args.number) (λ db. filter (is_numbered (pos (number_in_column c.args.number)) (pos 1) (pos c.args.part)) (rows_of (codes "dictcat_part") db)) part_columns old new
+    (λ h. part_readable (number_in_column c.args.number) c.args.part old.now h) c.in-Err.error failed)

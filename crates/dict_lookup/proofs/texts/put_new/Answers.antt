@@ -1,6 +1,6 @@
 use Rattle.std.proofs.Common.{ℕ, Vec, Global, sym, ap, ◌∙◌, arith}
 use Rattle.lru.specs.LruCache.{LruCache}
-use Rattle.dict_lookup.specs.KeptTexts.{Key, octets_of, texts_of}
+use Rattle.dict_lookup.specs.KeptTexts.{PartNumbers, octets_of_texts, texts_of}
 use Rattle.dict_lookup.proofs.ViewLemmas.{size_put, texts_put}
 use Rattle.dict_lookup.proofs.texts.put_new.Goals as goal
 
@@ -12,22 +12,22 @@ overflow_sub-octets c =
 
 pub returns-in-Ok-Some-clause-put : goal.returns-in-Ok-Some-clause-put
 returns-in-Ok-Some-clause-put c =
-    ap (λ (k : LruCache Key (Vec ℕ Global)). texts_of k.entries) c.in-Ok-Some.ensures.entries ∙ texts_put c.args.kept.now c.args.key c.args.text c.requires.cap c.len-count.ensures.valid.1
+    ap (λ (k : LruCache PartNumbers (Vec ℕ Global)). texts_of k.entries) c.in-Ok-Some.ensures.entries ∙ texts_put c.args.kept.now c.args.key c.args.text c.requires.cap c.len-count.ensures.valid.1
 
 pub returns-in-Ok-Some-clause-counted : goal.returns-in-Ok-Some-clause-counted
 returns-in-Ok-Some-clause-counted c =
     let out = sym c.in-Ok-Some.field-0-is ∙ c.in-Ok-Some.ensures.old in
     let size = size_put c.args.kept.now c.args.key c.args.text c.requires.cap c.len-count.ensures.valid.1 _ out in
-    let put = ap octets_of (returns-in-Ok-Some-clause-put c) in
+    let put = ap octets_of_texts (returns-in-Ok-Some-clause-put c) in
     omega (arith, size, put, c.requires.counted, c.len.ensures, c.len-size.ensures)
 
 pub returns-in-Ok-None-clause-put : goal.returns-in-Ok-None-clause-put
 returns-in-Ok-None-clause-put c =
-    ap (λ (k : LruCache Key (Vec ℕ Global)). texts_of k.entries) c.in-Ok-None.ensures.entries ∙ texts_put c.args.kept.now c.args.key c.args.text c.requires.cap c.len-count.ensures.valid.1
+    ap (λ (k : LruCache PartNumbers (Vec ℕ Global)). texts_of k.entries) c.in-Ok-None.ensures.entries ∙ texts_put c.args.kept.now c.args.key c.args.text c.requires.cap c.len-count.ensures.valid.1
 
 pub returns-in-Ok-None-clause-counted : goal.returns-in-Ok-None-clause-counted
 returns-in-Ok-None-clause-counted c =
     let out = sym c.in-Ok-None.field-0-is ∙ c.in-Ok-None.ensures.old in
     let size = size_put c.args.kept.now c.args.key c.args.text c.requires.cap c.len-count.ensures.valid.1 _ out in
-    let put = ap octets_of (returns-in-Ok-None-clause-put c) in
+    let put = ap octets_of_texts (returns-in-Ok-None-clause-put c) in
     omega (arith, size, put, c.requires.counted, c.len-size.ensures)

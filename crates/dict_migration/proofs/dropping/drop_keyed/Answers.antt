@@ -7,18 +7,18 @@ use Rattle.dict_sql.specs.Effects.{seen}
 use Rattle.dict_sql.specs.declared.records.ReadError.TheVariants.{Store}
 use Rattle.dict_sql.proofs.Callers.{own_has}
 use Rattle.dict_sql.proofs.StreamLemmas.{passed_on}
-use Rattle.dict_older_sql.specs.Entries.{entry_of}
+use Rattle.dict_older_sql.specs.Entries.{entry_table_of}
 use Rattle.dict_older_sql.proofs.CopyLemmas.{none_more}
-use Rattle.dict_migration.specs.Failing.{FailsInside}
+use Rattle.dict_migration.specs.Failing.{MigrationFailsInside}
 use Rattle.dict_migration.specs.Older.{keyed_names}
-use Rattle.dict_migration.specs.Places.{Dropping}
+use Rattle.dict_migration.specs.FailurePlaces.{Dropping}
 use Rattle.dict_migration.proofs.DropLemmas.{behind_entries, behind_grams, behind_words}
 use Rattle.dict_migration.proofs.FailLemmas.{fails_at}
 use Rattle.dict_migration.proofs.FlowLemmas.{two_survive, three_survive}
 use Rattle.dict_migration.proofs.dropping.drop_keyed.Goals as goal
 
 pub drop_entry-requires : goal.drop_entry-requires
-drop_entry-requires g c clean open' = own_has (entry_of c.args.form) (seen g.S.Store c.args.tx.now).now (c.requires clean open').0
+drop_entry-requires g c clean open' = own_has (entry_table_of c.args.form) (seen g.S.Store c.args.tx.now).now (c.requires clean open').0
 
 pub drop_keyed_table-requires : goal.drop_keyed_table-requires
 drop_keyed_table-requires g c clean open' =
@@ -72,7 +72,7 @@ returns-in_err-drop_entry-clause-failed g c clean =
     let old = c.args.tx.now.conn.now in
     let new = c.drop_entry.new.tx.conn.now in
     let e = c.in_err-drop_entry.field-0.0 in
-    passed_on (λ e. FailsInside g.S.Store (Dropping keyed_names) old new (Store e)) e c.from_residual.result c.from_residual.ensures.1
+    passed_on (λ e. MigrationFailsInside g.S.Store (Dropping keyed_names) old new (Store e)) e c.from_residual.result c.from_residual.ensures.1
     (fails_at g.S.Store keyed_names [] (codes "entry") (codes "word" ∷ codes "gram" ∷ codes "edition" ∷ []) refl old old new e (none_more (state g.S.Store old)) (λ h. h) refl (c.in_err-drop_entry.ensures.failed clean))
 
 pub returns-in_err-drop_keyed_table-clause-failed : goal.returns-in_err-drop_keyed_table-clause-failed
@@ -83,7 +83,7 @@ returns-in_err-drop_keyed_table-clause-failed g c clean =
     let early : HasCleanDisk (state g.S.Store mid) = omega (arith, c.drop_keyed_table.ensures.survives.clean, clean) in
     let e = c.in_err-drop_keyed_table.field-0.0 in
     let one = c.in_ok-drop_entry.ensures.dropped early in
-    passed_on (λ e. FailsInside g.S.Store (Dropping keyed_names) old new (Store e)) e c.from_residual-in_err-drop_keyed_table.result c.from_residual-in_err-drop_keyed_table.ensures.1
+    passed_on (λ e. MigrationFailsInside g.S.Store (Dropping keyed_names) old new (Store e)) e c.from_residual-in_err-drop_keyed_table.result c.from_residual-in_err-drop_keyed_table.ensures.1
     (fails_at g.S.Store keyed_names (codes "entry" ∷ []) (codes "word") (codes "gram" ∷ codes "edition" ∷ []) refl old mid new e c.drop_entry.ensures.survives (λ begun. one.1.mode)
     ((state g.S.Store mid).now, one.0, refl) (c.in_err-drop_keyed_table.ensures.failed clean))
 
@@ -98,7 +98,7 @@ returns-in_err-drop_keyed_table-2-clause-failed g c clean =
     let e = c.in_err-drop_keyed_table-2.field-0.0 in
     let one = c.in_ok-drop_entry.ensures.dropped first in
     let two = c.in_ok-drop_keyed_table.ensures.dropped early in
-    passed_on (λ e. FailsInside g.S.Store (Dropping keyed_names) old new (Store e)) e c.from_residual-in_err-drop_keyed_table-2.result c.from_residual-in_err-drop_keyed_table-2.ensures.1
+    passed_on (λ e. MigrationFailsInside g.S.Store (Dropping keyed_names) old new (Store e)) e c.from_residual-in_err-drop_keyed_table-2.result c.from_residual-in_err-drop_keyed_table-2.ensures.1
     (fails_at g.S.Store keyed_names (codes "entry" ∷ codes "word" ∷ []) (codes "gram") (codes "edition" ∷ []) refl old mid new e
     (two_survive (state g.S.Store old) (state g.S.Store h1) (state g.S.Store mid) c.drop_entry.ensures.survives c.drop_keyed_table.ensures.survives)
     (λ begun. two.1.mode) ((state g.S.Store h1).now, one.0, ((state g.S.Store mid).now, two.0, refl)) (c.in_err-drop_keyed_table-2.ensures.failed clean))
@@ -118,6 +118,6 @@ returns-in_err-drop_old_edition-clause-failed g c clean =
     let two = c.in_ok-drop_keyed_table.ensures.dropped second in
     let three = c.in_ok-drop_keyed_table-2.ensures.dropped early in
     let before = three_survive (state g.S.Store old) (state g.S.Store h1) (state g.S.Store h2) (state g.S.Store mid) c.drop_entry.ensures.survives c.drop_keyed_table.ensures.survives c.drop_keyed_table-2.ensures.survives in
-    passed_on (λ e. FailsInside g.S.Store (Dropping keyed_names) old new (Store e)) e c.from_residual-in_err-drop_old_edition.result c.from_residual-in_err-drop_old_edition.ensures.1
+    passed_on (λ e. MigrationFailsInside g.S.Store (Dropping keyed_names) old new (Store e)) e c.from_residual-in_err-drop_old_edition.result c.from_residual-in_err-drop_old_edition.ensures.1
     (fails_at g.S.Store keyed_names (codes "entry" ∷ codes "word" ∷ codes "gram" ∷ []) (codes "edition") [] refl old mid new e before
     (λ begun. three.1.mode) ((state g.S.Store h1).now, one.0, ((state g.S.Store h2).now, two.0, ((state g.S.Store mid).now, three.0, refl))) (c.in_err-drop_old_edition.ensures.failed clean))

@@ -6,18 +6,18 @@ use Rattle.dict_sql.specs.Effects.{seen}
 use Rattle.dict_sql.specs.declared.records.ReadError.TheVariants.{Store}
 use Rattle.dict_sql.proofs.Callers.{own_has}
 use Rattle.dict_sql.proofs.StreamLemmas.{passed_on}
-use Rattle.dict_older_sql.specs.Entries.{entry_of}
+use Rattle.dict_older_sql.specs.Entries.{entry_table_of}
 use Rattle.dict_older_sql.specs.declared.entries.EntryForm.TheVariants as form
 use Rattle.dict_older_sql.proofs.CopyLemmas.{none_more}
-use Rattle.dict_migration.specs.Failing.{FailsInside}
+use Rattle.dict_migration.specs.Failing.{MigrationFailsInside}
 use Rattle.dict_migration.specs.Older.{plain_names}
-use Rattle.dict_migration.specs.Places.{Dropping}
+use Rattle.dict_migration.specs.FailurePlaces.{Dropping}
 use Rattle.dict_migration.proofs.DropLemmas.{editions_left}
 use Rattle.dict_migration.proofs.FailLemmas.{fails_at}
 use Rattle.dict_migration.proofs.dropping.drop_plain.Goals as goal
 
 pub drop_entry-requires : goal.drop_entry-requires
-drop_entry-requires g c clean open' = own_has (entry_of form.Plain) (seen g.S.Store c.args.tx.now).now (c.requires clean open').0
+drop_entry-requires g c clean open' = own_has (entry_table_of form.Plain) (seen g.S.Store c.args.tx.now).now (c.requires clean open').0
 
 pub drop_old_edition-requires : goal.drop_old_edition-requires
 drop_old_edition-requires g c clean open' =
@@ -40,7 +40,7 @@ returns-in_err-drop_entry-clause-failed g c clean =
     let old = c.args.tx.now.conn.now in
     let new = c.drop_entry.new.tx.conn.now in
     let e = c.in_err-drop_entry.field-0.0 in
-    passed_on (λ e. FailsInside g.S.Store (Dropping plain_names) old new (Store e)) e c.from_residual.result c.from_residual.ensures.1
+    passed_on (λ e. MigrationFailsInside g.S.Store (Dropping plain_names) old new (Store e)) e c.from_residual.result c.from_residual.ensures.1
     (fails_at g.S.Store plain_names [] (codes "entry") (codes "edition" ∷ []) refl old old new e (none_more (state g.S.Store old)) (λ h. h) refl (c.in_err-drop_entry.ensures.failed clean))
 
 pub returns-in_err-drop_old_edition-clause-failed : goal.returns-in_err-drop_old_edition-clause-failed
@@ -51,6 +51,6 @@ returns-in_err-drop_old_edition-clause-failed g c clean =
     let early : HasCleanDisk (state g.S.Store mid) = omega (arith, c.drop_old_edition.ensures.survives.clean, clean) in
     let e = c.in_err-drop_old_edition.field-0.0 in
     let one = c.in_ok-drop_entry.ensures.dropped early in
-    passed_on (λ e. FailsInside g.S.Store (Dropping plain_names) old new (Store e)) e c.from_residual-in_err-drop_old_edition.result c.from_residual-in_err-drop_old_edition.ensures.1
+    passed_on (λ e. MigrationFailsInside g.S.Store (Dropping plain_names) old new (Store e)) e c.from_residual-in_err-drop_old_edition.result c.from_residual-in_err-drop_old_edition.ensures.1
     (fails_at g.S.Store plain_names (codes "entry" ∷ []) (codes "edition") [] refl old mid new e c.drop_entry.ensures.survives (λ begun. one.1.mode) ((state g.S.Store mid).now, one.0, refl)
     (c.in_err-drop_old_edition.ensures.failed clean))

@@ -11,8 +11,8 @@ use Rattle.dict_sql.specs.declared.records.ReadError.TheVariants.{Store}
 use Rattle.dict_sql.proofs.StreamLemmas.{passed_on}
 use Rattle.dict_edition_sql.specs.PartRecords.{part_row}
 use Rattle.dict_holdings.specs.Files.{index_octets, parts_under}
-use Rattle.dict_migration.specs.Failing.{FailsInside}
-use Rattle.dict_migration.specs.Places.{InEdition, InIndex, InRecord, Putting}
+use Rattle.dict_migration.specs.Failing.{MigrationFailsInside}
+use Rattle.dict_migration.specs.FailurePlaces.{InEdition, InIndex, InRecord, Putting}
 use Rattle.dict_migration.specs.Steps.{IsEditionOf}
 use Rattle.dict_migration.proofs.FailLemmas.{fails_later, fails_within}
 use Rattle.dict_migration.proofs.FlowLemmas.{three_still, two_survive}
@@ -69,7 +69,7 @@ returns-in_err-index-clause-failed g c clean =
     let e = c.in_err-index.field-0.0 in
     let n = c.args.number in
     let layout = c.args.layout in
-    passed_on (FailsInside g.S.Store (InEdition layout n) old new) e c.from_residual.result c.from_residual.ensures.1
+    passed_on (MigrationFailsInside g.S.Store (InEdition layout n) old new) e c.from_residual.result c.from_residual.ensures.1
     (fails_within g.S.Store (InIndex layout n) (InEdition layout n) old new e (λ part at it. inr (inl it)) (rw (to_z-of_z w64 n c.ranges.number) at (c.in_err-index.ensures.failed clean)))
 
 pub returns-in_err-edition-clause-failed : goal.returns-in_err-edition-clause-failed
@@ -83,7 +83,7 @@ returns-in_err-edition-clause-failed g c clean =
     let layout = c.args.layout in
     let back = to_z-of_z w64 n c.ranges.number in
     let index = c.in_ok-index.ensures.index early in
-    passed_on (FailsInside g.S.Store (InEdition layout n) old new) e c.from_residual-in_err-edition.result c.from_residual-in_err-edition.ensures.1
+    passed_on (MigrationFailsInside g.S.Store (InEdition layout n) old new) e c.from_residual-in_err-edition.result c.from_residual-in_err-edition.ensures.1
     (fails_later g.S.Store (InRecord n) (InEdition layout n) old mid new e c.read_index.ensures.survives (λ begun. index.1.0.mode ∙ begun)
     (λ part at it. inl (subst (λ (d : Database). InRecord n part d at) index.1.0.now_is it)) (rw back at (c.in_err-edition.ensures.failed clean)))
 
@@ -106,6 +106,6 @@ returns-in_err-put_files-clause-failed g c clean =
     let one0 = subst (λ (d : Database). IsEditionOf n d body) index.1.0.now_is one.0 in
     let failed = rw (back, c.deref.ensures.value, c.deref-2.ensures.value, index.0.written) at (c.in_err-put_files.ensures.failed clean) in
     let P = Putting (codes "dictcat_part") (map part_row (parts_under n (index_octets entries) body.body)) in
-    passed_on (FailsInside g.S.Store (InEdition layout n) old new) (Store e) c.from_residual-in_err-put_files.result c.from_residual-in_err-put_files.ensures.1
+    passed_on (MigrationFailsInside g.S.Store (InEdition layout n) old new) (Store e) c.from_residual-in_err-put_files.result c.from_residual-in_err-put_files.ensures.1
     (fails_later g.S.Store P (InEdition layout n) old mid new (Store e) (two_survive (state g.S.Store old) (state g.S.Store one') (state g.S.Store mid) c.read_index.ensures.survives c.read_record.ensures.survives)
     (λ begun. one.1.0.mode ∙ (index.1.0.mode ∙ begun)) (λ part at it. inr (inr (body, entries, one0, index.0.lines, subst (λ (d : Database). P part d at) (one.1.0.now_is ∙ index.1.0.now_is) it))) failed)

@@ -8,16 +8,16 @@ use Rattle.sqlite.specs.State.{HasCleanDisk}
 use Rattle.sqlite.specs.declared.error.Error.TheVariants.{SqliteFailure}
 use Rattle.sqlite.specs.declared.error.ErrorCode.TheVariants.{OutOfMemory}
 use Rattle.sqlite.proofs.StateLemmas.{survives_then}
-use Rattle.dict_records.specs.Records.{Header}
+use Rattle.dict_records.specs.Records.{HeaderRecord}
 use Rattle.dict_records.specs.Typed.{owned_header}
 use Rattle.dict_sql.specs.Effects.{seen}
 use Rattle.dict_sql.specs.declared.records.ReadError.TheVariants.{Store}
 use Rattle.dict_sql.proofs.MakeLemmas.{keeps_then}
 use Rattle.dict_sql.proofs.StreamLemmas.{passed_on}
 use Rattle.dict_older_sql.proofs.CopyLemmas.{keeps_none, none_more}
-use Rattle.dict_migration.specs.Failing.{FailsInside}
-use Rattle.dict_migration.specs.Parts.{keeping}
-use Rattle.dict_migration.specs.Places.{InEdition, InEditions}
+use Rattle.dict_migration.specs.Failing.{MigrationFailsInside}
+use Rattle.dict_migration.specs.MigrationParts.{keeping}
+use Rattle.dict_migration.specs.FailurePlaces.{InEdition, InEditions}
 use Rattle.dict_migration.specs.Steps.{AreParted}
 use Rattle.dict_migration.proofs.FailLemmas.{fails_later}
 use Rattle.dict_migration.proofs.FlowLemmas.{number_parted, parted_schema, three_still, two_survive}
@@ -48,13 +48,13 @@ each-preserved g c =
     let all = c.args.numbers.now in
     let i = c.each.number-index in
     let fits : SFits w64 (get_or all i (pos 0)) = search rules in
-    let headers : List Header = map owned_header c.each.headers.items in
-    let one : Header = owned_header c.in_ok-header.header in
+    let headers : List HeaderRecord = map owned_header c.each.headers.items in
+    let one : HeaderRecord = owned_header c.in_ok-header.header in
     let was = λ (clean : HasCleanDisk new). let early : HasCleanDisk mid = omega (arith, c.part_edition.ensures.survives.clean, clean) in early in
     let pushed = ap (map owned_header) c.in_ok-push.ensures.items ∙ map-append owned_header c.each.headers.items (c.in_ok-header.header ∷ []) in
     record {
       same_reference = c.part_edition.ensures.same_reference ∙ c.each.invariant.same_reference;
-      parted = λ clean. subst (λ (l : List Header). AreParted c.args.layout (take (i + 1) all) l first.now new.now) (sym pushed)
+      parted = λ clean. subst (λ (l : List HeaderRecord). AreParted c.args.layout (take (i + 1) all) l first.now new.now) (sym pushed)
           (number_parted c.args.layout all i (pos 0) (to_z w64 (of_z w64 (get_or all i (pos 0)))) c.each-test.true (to_z-of_z w64 (get_or all i (pos 0)) fits) headers one first.now mid.now new.now
           (c.each.invariant.parted (was clean)) (c.in_ok-header.ensures.parted clean));
       inside = λ clean h. c.in_ok-header.ensures.inside clean (c.each.invariant.inside (was clean) h);
@@ -75,7 +75,7 @@ returns-in_err-header-clause-failed g c clean =
     let fits : SFits w64 (get_or all i (pos 0)) = search rules in
     let place = edition_placed c.args.layout all i (pos 0) n c.each-test.true (to_z-of_z w64 (get_or all i (pos 0)) fits) (map owned_header c.each.headers.items) (state g.S.Store old).now (state g.S.Store mid).now
     (c.each.invariant.parted early) in
-    passed_on (FailsInside g.S.Store (InEditions c.args.layout all) old new) e c.from_residual.result c.from_residual.ensures.1
+    passed_on (MigrationFailsInside g.S.Store (InEditions c.args.layout all) old new) e c.from_residual.result c.from_residual.ensures.1
     (fails_later g.S.Store (InEdition c.args.layout n) (InEditions c.args.layout all) old mid new e c.each.invariant.survives (c.each.invariant.inside early) place (c.in_err-header.ensures.failed clean))
 
 pub returns-in_err-push-clause-failed : goal.returns-in_err-push-clause-failed
@@ -89,7 +89,7 @@ returns-in_err-push-clause-failed g c clean =
     let i = c.each.number-index in
     let n = to_z w64 (of_z w64 (get_or all i (pos 0))) in
     let fits : SFits w64 (get_or all i (pos 0)) = search rules in
-    passed_on (FailsInside g.S.Store (InEditions c.args.layout all) old new) e c.from_residual-in_err-push.result c.from_residual-in_err-push.ensures.1
+    passed_on (MigrationFailsInside g.S.Store (InEditions c.args.layout all) old new) e c.from_residual-in_err-push.result c.from_residual-in_err-push.ensures.1
     (record {
       at = new;
       before = two_survive (state g.S.Store old) (state g.S.Store mid) (state g.S.Store new) c.each.invariant.survives c.part_edition.ensures.survives;

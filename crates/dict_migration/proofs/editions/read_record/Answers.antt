@@ -8,9 +8,9 @@ use Rattle.dict_sql.specs.Encodings.{stored_edition}
 use Rattle.dict_sql.specs.Reads.{IsSelection}
 use Rattle.dict_sql.specs.declared.records.ReadError.{ReadError}
 use Rattle.dict_sql.proofs.StreamLemmas.{passed_on}
-use Rattle.dict_migration.specs.Failing.{FailsInside}
-use Rattle.dict_migration.specs.Parts.{FailsBy, choosing, reading}
-use Rattle.dict_migration.specs.Places.{InRecord}
+use Rattle.dict_migration.specs.Failing.{MigrationFailsInside}
+use Rattle.dict_migration.specs.MigrationParts.{FailsBy, choosing, reading}
+use Rattle.dict_migration.specs.FailurePlaces.{InRecord}
 use Rattle.dict_migration.proofs.FailLemmas.{fails_here}
 use Rattle.dict_migration.proofs.ReadLemmas.{edition_in, none_read, one_read}
 use Rattle.dict_migration.proofs.editions.read_record.Goals as goal
@@ -30,7 +30,7 @@ returns-in_err-editions-clause-failed g c clean =
     let new = c.editions_inside.new.tx.conn.now in
     let e = c.in_err-editions.field-0.0 in
     let n = c.args.number in
-    passed_on (FailsInside g.S.Store (InRecord n) old new) e c.from_residual.result c.from_residual.ensures.1
+    passed_on (MigrationFailsInside g.S.Store (InRecord n) old new) e c.from_residual.result c.from_residual.ensures.1
     (fails_here g.S.Store (InRecord n) (reading (codes "edition") edition_columns n) old new e (inl (refl, refl)) (rw (to_z-of_z w64 n c.ranges.number) at (c.in_err-editions.ensures.failed clean)))
 
 pub returns-in_err-row-clause-failed : goal.returns-in_err-row-clause-failed
@@ -46,5 +46,5 @@ returns-in_err-row-clause-failed g c clean =
     let why = c.in_err-row.ensures.none in
     let fails : FailsBy (choosing n) (state g.S.Store new) (state g.S.Store new) e =
     subst (λ (e : ReadError). FailsBy (choosing n) (state g.S.Store new) (state g.S.Store new) e) (sym why.0) (none_read n (state g.S.Store new).now items none why.1) in
-    passed_on (FailsInside g.S.Store (InRecord n) old new) e c.from_residual-in_err-row.result c.from_residual-in_err-row.ensures.1
+    passed_on (MigrationFailsInside g.S.Store (InRecord n) old new) e c.from_residual-in_err-row.result c.from_residual-in_err-row.ensures.1
     (record { at = new; before = c.editions_inside.ensures.survives; inside = λ h. it.1.0.mode ∙ h; part = choosing n; place = inr (refl, it.1.0.now_is); fails = fails })

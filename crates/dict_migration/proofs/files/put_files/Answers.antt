@@ -15,9 +15,9 @@ use Rattle.dict_sql.proofs.Callers.{still_has}
 use Rattle.dict_sql.proofs.MakeLemmas.{goes_keeps, keeps_then}
 use Rattle.dict_sql.proofs.StreamLemmas.{passed_on}
 use Rattle.dict_older_sql.proofs.CopyLemmas.{keeps_none, none_more}
-use Rattle.dict_migration.specs.Failing.{FailsInside}
-use Rattle.dict_migration.specs.Parts.{putting}
-use Rattle.dict_migration.specs.Places.{First, Putting}
+use Rattle.dict_migration.specs.Failing.{MigrationFailsInside}
+use Rattle.dict_migration.specs.MigrationParts.{putting}
+use Rattle.dict_migration.specs.FailurePlaces.{First, Putting}
 use Rattle.dict_migration.specs.Written.{parts_in}
 use Rattle.dict_migration.proofs.FailLemmas.{fails_here, fails_later}
 use Rattle.dict_migration.proofs.PlaceLemmas.{row_placed}
@@ -80,6 +80,6 @@ returns-in_err-insert_part-clause-failed g c clean =
     let P = First (putting (codes "dictcat_part") (part_row one)) in
     let Q = Putting (codes "dictcat_part") (map part_row all) in
     let place = row_placed (codes "dictcat_part") part_row all i one (part_row one) within (ap part_row c.part-given.ensures) (state g.S.Store old).now (state g.S.Store mid).now (c.each.invariant.added early) in
-    passed_on (λ e. FailsInside g.S.Store Q old new (Store e)) e c.from_residual.result c.from_residual.ensures.1
+    passed_on (λ e. MigrationFailsInside g.S.Store Q old new (Store e)) e c.from_residual.result c.from_residual.ensures.1
     (fails_later g.S.Store P Q old mid new (Store e) c.each.invariant.survives (c.each.invariant.inside early) place
     (fails_here g.S.Store P (putting (codes "dictcat_part") (part_row one)) mid new (Store e) (refl, refl) (c.in_err-insert_part.ensures.failed clean)))

@@ -10,9 +10,9 @@ use Rattle.dict_sql.specs.declared.records.ReadError.TheVariants.{Store}
 use Rattle.dict_sql.proofs.Callers.{own_has}
 use Rattle.dict_sql.proofs.MakeLemmas.{one_own}
 use Rattle.dict_sql.proofs.StreamLemmas.{passed_on}
-use Rattle.dict_migration.specs.Failing.{FailsInside}
-use Rattle.dict_migration.specs.Parts.{making_editions}
-use Rattle.dict_migration.specs.Places.{InHeads, Putting}
+use Rattle.dict_migration.specs.Failing.{MigrationFailsInside}
+use Rattle.dict_migration.specs.MigrationParts.{making_editions}
+use Rattle.dict_migration.specs.FailurePlaces.{InHeads, Putting}
 use Rattle.dict_migration.proofs.FailLemmas.{fails_here, fails_later}
 use Rattle.dict_migration.proofs.heading.head_editions.Goals as goal
 
@@ -46,7 +46,7 @@ returns-in_err-create_header_table-clause-failed g c clean =
     let new = c.create_header_table.new.tx.conn.now in
     let e = c.in_err-create_header_table.field-0.0 in
     let Q = InHeads (map owned_header c.args.headers.now) in
-    passed_on (λ e. FailsInside g.S.Store Q old new (Store e)) e c.from_residual.result c.from_residual.ensures.1
+    passed_on (λ e. MigrationFailsInside g.S.Store Q old new (Store e)) e c.from_residual.result c.from_residual.ensures.1
     (fails_here g.S.Store Q making_editions old new (Store e) (inl (refl, refl)) (c.in_err-create_header_table.ensures.failed clean))
 
 pub returns-in_err-put_headers-clause-failed : goal.returns-in_err-put_headers-clause-failed
@@ -59,5 +59,5 @@ returns-in_err-put_headers-clause-failed g c clean =
     let made = c.in_ok-create_header_table.ensures.made early in
     let P = Putting (codes "edition") (map header_row (map owned_header c.args.headers.now)) in
     let Q = InHeads (map owned_header c.args.headers.now) in
-    passed_on (λ e. FailsInside g.S.Store Q old new (Store e)) e c.from_residual-in_err-put_headers.result c.from_residual-in_err-put_headers.ensures.1
+    passed_on (λ e. MigrationFailsInside g.S.Store Q old new (Store e)) e c.from_residual-in_err-put_headers.result c.from_residual-in_err-put_headers.ensures.1
     (fails_later g.S.Store P Q old mid new (Store e) c.create_header_table.ensures.survives (λ begun. made.1.mode) (λ part at it. inr ((state g.S.Store mid).now, made.0, it)) (c.in_err-put_headers.ensures.failed clean))

@@ -5,9 +5,9 @@ use Rattle.sqlite.specs.Held.{state}
 use Rattle.sqlite.specs.Order.{Row}
 use Rattle.sqlite.specs.State.{HasCleanDisk}
 use Rattle.sqlite.proofs.StateLemmas.{survives_then}
-use Rattle.dict_records.specs.Records.{Header}
+use Rattle.dict_records.specs.Records.{HeaderRecord}
 use Rattle.dict_records.specs.Typed.{owned_header}
-use Rattle.dict_records.specs.declared.headers.Header.{Header as TypedHeader}
+use Rattle.dict_records.specs.declared.headers.HeaderRecord.{HeaderRecord as TypedHeader}
 use Rattle.dict_edition_sql.specs.HeaderRecords.{header_row}
 use Rattle.dict_edition_sql.specs.HeaderTable.{header}
 use Rattle.dict_sql.specs.Added.{AreAdded}
@@ -19,9 +19,9 @@ use Rattle.dict_sql.proofs.Callers.{still_has}
 use Rattle.dict_sql.proofs.MakeLemmas.{goes_keeps, keeps_then}
 use Rattle.dict_sql.proofs.StreamLemmas.{passed_on}
 use Rattle.dict_older_sql.proofs.CopyLemmas.{keeps_none, none_more}
-use Rattle.dict_migration.specs.Failing.{FailsInside}
-use Rattle.dict_migration.specs.Parts.{putting}
-use Rattle.dict_migration.specs.Places.{First, Putting}
+use Rattle.dict_migration.specs.Failing.{MigrationFailsInside}
+use Rattle.dict_migration.specs.MigrationParts.{putting}
+use Rattle.dict_migration.specs.FailurePlaces.{First, Putting}
 use Rattle.dict_migration.proofs.FailLemmas.{fails_here, fails_later}
 use Rattle.dict_migration.proofs.PlaceLemmas.{row_placed}
 use Rattle.dict_migration.proofs.ReadLemmas.{header_rows}
@@ -58,7 +58,7 @@ each-preserved g c =
     record {
       same_reference = c.insert_header.ensures.same_reference ∙ c.each.invariant.same_reference;
       added = λ clean.
-          let one = subst (λ (h : Header). IsAdded (codes "edition") (header_row h) mid.now new.now) c.lend-given.ensures (c.in_ok-insert_header.ensures.added clean).0 in
+          let one = subst (λ (h : HeaderRecord). IsAdded (codes "edition") (header_row h) mid.now new.now) c.lend-given.ensures (c.in_ok-insert_header.ensures.added clean).0 in
           subst (λ (l : List Row). AreAdded (codes "edition") l first.now new.now) (sym more)
           (one_added (codes "edition") (map header_row (map owned_header (take i all))) (header_row (owned_header item)) first.now mid.now new.now (c.each.invariant.added (was clean)) one);
       inside = λ clean h. (c.in_ok-insert_header.ensures.added clean).1.mode;
@@ -82,8 +82,8 @@ returns-in_err-insert_header-clause-failed g c clean =
     let Q = Putting (codes "edition") (map header_row (map owned_header all)) in
     let added = subst (λ (l : List Row). AreAdded (codes "edition") l (state g.S.Store old).now (state g.S.Store mid).now) (header_rows (take i all)) (c.each.invariant.added early) in
     let place = row_placed (codes "edition") f all i item row c.each-test.true (ap f c.header-item.is) (state g.S.Store old).now (state g.S.Store mid).now added in
-    let fails = subst (λ (h : Header). FailsToInsert (codes "edition") (header_row h) (state g.S.Store mid) (state g.S.Store new) e) c.lend-given.ensures (c.in_err-insert_header.ensures.failed clean) in
-    passed_on (λ e. FailsInside g.S.Store Q old new (Store e)) e c.from_residual.result c.from_residual.ensures.1
+    let fails = subst (λ (h : HeaderRecord). FailsToInsert (codes "edition") (header_row h) (state g.S.Store mid) (state g.S.Store new) e) c.lend-given.ensures (c.in_err-insert_header.ensures.failed clean) in
+    passed_on (λ e. MigrationFailsInside g.S.Store Q old new (Store e)) e c.from_residual.result c.from_residual.ensures.1
     (fails_later g.S.Store P Q old mid new (Store e) c.each.invariant.survives (c.each.invariant.inside early)
     (λ part at it. subst (λ (l : List Row). Putting (codes "edition") l part (state g.S.Store old).now at) (sym (header_rows all)) (place part at it))
     (fails_here g.S.Store P (putting (codes "edition") row) mid new (Store e) (refl, refl) fails))

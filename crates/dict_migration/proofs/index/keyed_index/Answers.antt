@@ -9,9 +9,9 @@ use Rattle.dict_sql.specs.Reads.{IsSelection}
 use Rattle.dict_sql.specs.Keyed.{old_entry_columns}
 use Rattle.dict_sql.proofs.StreamLemmas.{passed_on}
 use Rattle.dict_older_sql.proofs.CopyLemmas.{list_keeps, unchanged_keeps}
-use Rattle.dict_migration.specs.Failing.{FailsInside}
-use Rattle.dict_migration.specs.Parts.{reading, writing}
-use Rattle.dict_migration.specs.Places.{InIndex}
+use Rattle.dict_migration.specs.Failing.{MigrationFailsInside}
+use Rattle.dict_migration.specs.MigrationParts.{reading, writing}
+use Rattle.dict_migration.specs.FailurePlaces.{InIndex}
 use Rattle.dict_migration.specs.Steps.{AreEntriesOf}
 use Rattle.dict_migration.specs.declared.older.Older.TheVariants.{Keyed}
 use Rattle.dict_migration.proofs.FailLemmas.{fails_here}
@@ -47,7 +47,7 @@ returns-in_err-entries-clause-failed g c clean =
     let new = c.old_entries_inside.new.tx.conn.now in
     let e = c.in_err-entries.field-0.0 in
     let n = c.args.number in
-    passed_on (FailsInside g.S.Store (InIndex Keyed n) old new) e c.from_residual.result c.from_residual.ensures.1
+    passed_on (MigrationFailsInside g.S.Store (InIndex Keyed n) old new) e c.from_residual.result c.from_residual.ensures.1
     (fails_here g.S.Store (InIndex Keyed n) (reading (codes "entry") old_entry_columns n) old new e (inl (refl, refl)) (rw (to_z-of_z w64 n c.ranges.number) at (c.in_err-entries.ensures.failed clean)))
 
 pub returns-in_err-octets-clause-failed : goal.returns-in_err-octets-clause-failed
@@ -61,7 +61,7 @@ returns-in_err-octets-clause-failed g c clean =
     let read = subst (λ m. IsSelection (codes "entry") (equals_number 1 m) (2 ∷ []) (state g.S.Store old).now (map stored_old_entry items)) (to_z-of_z w64 n c.ranges.number) it.0 in
     let lines = keyed_selected n (state g.S.Store old).now items read in
     let fails = c.in_err-octets.ensures.failed in
-    passed_on (FailsInside g.S.Store (InIndex Keyed n) old new) e c.from_residual-in_err-octets.result c.from_residual-in_err-octets.ensures.1
+    passed_on (MigrationFailsInside g.S.Store (InIndex Keyed n) old new) e c.from_residual-in_err-octets.result c.from_residual-in_err-octets.ensures.1
     (record {
       at = new;
       before = c.old_entries_inside.ensures.survives;

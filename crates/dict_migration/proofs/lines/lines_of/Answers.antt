@@ -1,9 +1,9 @@
 use Rattle.std.proofs.Common.{◌∙◌, ◌++◌, ◌∷◌, [], map, ap, sym, subst}
-use Rattle.dict_records.specs.Records.{Entry}
+use Rattle.dict_records.specs.Records.{EntryRecord}
 use Rattle.dict_parts.specs.Stored.{stored_line}
 use Rattle.dict_holdings.specs.Files.{entry_line}
 use Rattle.dict_sql.proofs.StreamLemmas.{passed_on}
-use Rattle.dict_migration.specs.Parts.{FailsToWrite}
+use Rattle.dict_migration.specs.MigrationParts.{FailsToWriteIndex}
 use Rattle.dict_migration.proofs.LineLemmas.{lines_next, write_later}
 use Rattle.dict_migration.proofs.lines.lines_of.Goals as goal
 
@@ -12,8 +12,8 @@ each-preserved g c =
     let all = c.args.entries.now in
     let i = c.each.entry-index in
     let item = c.entry-item.result in
-    let f = g.E.Indexed.entry in
-    let line = ap (λ (e : Entry). stored_line (entry_line e) ++ 10 ∷ []) (c.said-said.ensures ∙ ap f c.entry-item.is) in
+    let f = g.E.IndexedRecord.entry in
+    let line = ap (λ (e : EntryRecord). stored_line (entry_line e) ++ 10 ∷ []) (c.said-said.ensures ∙ ap f c.entry-item.is) in
     c.in_ok-put_line.ensures.put ∙ ((λ j. c.each.invariant j ++ line j) ∙ sym (lines_next f all i item c.each-test.true))
 
 pub returns-in_err-put_line-clause-failed : goal.returns-in_err-put_line-clause-failed
@@ -21,8 +21,8 @@ returns-in_err-put_line-clause-failed g c =
     let all = c.args.entries.now in
     let i = c.each.entry-index in
     let item = c.entry-item.result in
-    let f = g.E.Indexed.entry in
+    let f = g.E.IndexedRecord.entry in
     let e = c.in_err-put_line.field-0.0 in
     let one = c.in_err-put_line.ensures.failed (f item) in
-    passed_on (FailsToWrite (map f all)) e c.from_residual.result c.from_residual.ensures.1
-    (write_later f all i item c.each-test.true e (subst (λ (x : Entry). FailsToWrite (x ∷ []) e) (c.said-said.ensures ∙ ap f c.entry-item.is) one))
+    passed_on (FailsToWriteIndex (map f all)) e c.from_residual.result c.from_residual.ensures.1
+    (write_later f all i item c.each-test.true e (subst (λ (x : EntryRecord). FailsToWriteIndex (x ∷ []) e) (c.said-said.ensures ∙ ap f c.entry-item.is) one))

@@ -4,4 +4,4 @@ use Rattle.dict_holdings.specs.Files.{index_octets}
 use Rattle.dict_migration.proofs.lines.lines_of.Given as goal
 
 abbrev pub invariant-each : goal.invariant-each
-invariant-each g l = l.octets.items ≡ index_octets (map g.E.Indexed.entry (take l.entry-index l.entries))
+invariant-each g l = l.octets.items ≡ index_octets (map g.E.IndexedRecord.entry (take l.entry-index l.entries))

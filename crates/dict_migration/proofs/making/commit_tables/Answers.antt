@@ -5,8 +5,8 @@ use Rattle.sqlite.proofs.Callers.{survives_begin}
 use Rattle.sqlite.specs.Held.{state}
 use Rattle.dict_catalogue.specs.Steps.{empty_catalogue}
 use Rattle.dict_holdings.specs.Holds.{Holds, Rests, IsLeftAs}
-use Rattle.dict_holdings.specs.Writing.{Stays}
-use Rattle.dict_migration.specs.Making.{creation, RunInTurn, FailsInTurn}
+use Rattle.dict_holdings.specs.Writing.{StaysCommitted}
+use Rattle.dict_migration.specs.Making.{creation, StepsRunInTurn, StepsFailInTurn}
 use Rattle.dict_holdings.proofs.CommitLemmas.{leaves, only_left, done, before_commit, commit_fails, keeps_begun, stays_undone}
 use Rattle.dict_migration.proofs.making.commit_tables.Goals as goal
 use Rattle.dict_rows.specs.Versions.{known}
@@ -109,7 +109,7 @@ returns-in-Err-clause-failed g c clean =
       error = c.in-Err.error;
       told = c.fault_of.ensures;
       last = mid;
-      within = subst (λ h. FailsInTurn g.S.Store (creation known) h mid c.in-Err.error) c.transaction-tx.ensures.begun (c.in-Err.ensures.failed early);
+      within = subst (λ h. StepsFailInTurn g.S.Store (creation known) h mid c.in-Err.error) c.transaction-tx.ensures.begun (c.in-Err.ensures.failed early);
       after = subst (λ h. Survives (state g.S.Store mid) (state g.S.Store h) (λ _. ⊥)) same c.drop-tx.ensures.survives;
       undone = subst (λ h. IsRolledBack (state g.S.Store mid) (state g.S.Store h)) same (c.drop-tx.ensures.undone late);
     })
@@ -127,7 +127,7 @@ returns-in-Err-commit-clause-failed g c clean =
     inr (record {
       told = refl;
       last = mid;
-      ran = subst (λ h. RunInTurn g.S.Store (creation known) h mid) c.transaction-tx.ensures.begun (c.in_default.ensures.ran early);
+      ran = subst (λ h. StepsRunInTurn g.S.Store (creation known) h mid) c.transaction-tx.ensures.begun (c.in_default.ensures.ran early);
       before = survives_begin g.S.Store old (state g.S.Store mid) (λ _. ⊥) (subst (λ h. Survives (state g.S.Store h) (state g.S.Store mid) (λ _. ⊥)) c.transaction-tx.ensures.begun c.make_all.ensures.survives);
       written = (c.in_default.ensures.made early).0;
       error = c.in-Err-commit.field-0;
@@ -145,6 +145,6 @@ returns-in-Err-commit-clause-stays g c clean =
     let late : HasCleanDisk (state g.S.Store end) = subst (λ h. HasCleanDisk (state g.S.Store h)) (sym same) clean in
     let early : HasCleanDisk (state g.S.Store mid) = before_commit g.S.Store old begun mid end (λ db. Holds known db empty_catalogue) c.transaction-tx.ensures.begun
     c.make_all.ensures.survives c.commit.ensures.survives c.in_default.ensures.made late in
-    subst (λ h. Stays (state g.S.Store old) (state g.S.Store h)) same (stays_undone (state g.S.Store old) (state g.S.Store mid) (state g.S.Store end)
+    subst (λ h. StaysCommitted (state g.S.Store old) (state g.S.Store h)) same (stays_undone (state g.S.Store old) (state g.S.Store mid) (state g.S.Store end)
     (keeps_begun g.S.Store old begun (state g.S.Store mid) c.transaction-tx.ensures.begun (c.make_all.ensures.keeps early))
     (commit_fails (state g.S.Store mid) (state g.S.Store end) c.in-Err-commit.field-0 (c.in_default.ensures.inside early) (c.in-Err-commit.ensures.failed late)).3)

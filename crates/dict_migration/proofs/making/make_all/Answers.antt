@@ -12,22 +12,22 @@ use Rattle.dict_edition_sql.specs.HeaderTable.{header}
 use Rattle.dict_edition_sql.specs.PartTable.{part}
 use Rattle.dict_rows.specs.Versions.{known}
 use Rattle.dict_rows.specs.Written.{mark_record}
-use Rattle.dict_migration.specs.Making.{Step, one, making, lasting_tables, creation, FailsInTurn}
+use Rattle.dict_migration.specs.Making.{CreationStep, one, making, lasting_tables, creation, StepsFailInTurn}
 use Rattle.dict_migration.proofs.FlowLemmas.{two_survive, three_survive}
 use Rattle.dict_migration.proofs.MakingLemmas.{run_step, run_steps, fails_step, fails_front, fails_back, run_ones, fails_ones, lasting_apart, headers_free, parts_free, mark_there, empty_held}
 use Rattle.dict_migration.proofs.OtherLemmas.{others_created}
 use Rattle.dict_migration.proofs.making.make_all.Goals as goal
 
-abbrev first : List Step
+abbrev first : List CreationStep
 first = map one (map make lasting_tables)
 
-abbrev heading : Step
+abbrev heading : CreationStep
 heading = making (header 0)
 
-abbrev parting : Step
+abbrev parting : CreationStep
 parting = making (part 0)
 
-abbrev marking : Step
+abbrev marking : CreationStep
 marking = one (add (codes "mark") (mark_row (mark_record known 0)))
 
 pub make_each-requires-clause-apart : goal.make_each-requires-clause-apart
@@ -123,7 +123,7 @@ returns-in_err-make_each-clause-failed g c clean =
     let h0 = c.args.tx.now.conn.now in
     let h1 = c.make_each.new.tx.conn.now in
     let e = c.in_err-make_each.field-0.0 in
-    passed_on (FailsInTurn g.S.Store (creation known) h0 h1) e c.from_residual.result c.from_residual.ensures.1
+    passed_on (StepsFailInTurn g.S.Store (creation known) h0 h1) e c.from_residual.result c.from_residual.ensures.1
     (fails_front g.S.Store first (heading ∷ parting ∷ marking ∷ []) h0 h1 e (fails_ones g.S.Store (map make lasting_tables) h0 h1 e (c.in_err-make_each.ensures.failed clean)))
 
 pub returns-in_err-create_header_table-clause-failed : goal.returns-in_err-create_header_table-clause-failed
@@ -133,7 +133,7 @@ returns-in_err-create_header_table-clause-failed g c clean =
     let h2 = c.create_header_table.new.tx.conn.now in
     let clean1 : HasCleanDisk (state g.S.Store h1) = omega (arith, c.create_header_table.ensures.survives.clean, clean) in
     let e = c.in_err-create_header_table.field-0.0 in
-    passed_on (FailsInTurn g.S.Store (creation known) h0 h2) e c.from_residual-in_err-create_header_table.result c.from_residual-in_err-create_header_table.ensures.1
+    passed_on (StepsFailInTurn g.S.Store (creation known) h0 h2) e c.from_residual-in_err-create_header_table.result c.from_residual-in_err-create_header_table.ensures.1
     (fails_back g.S.Store first (heading ∷ parting ∷ marking ∷ []) h0 h1 h2 e (run_ones g.S.Store (map make lasting_tables) h0 h1 (c.in_ok-make_each.ensures.ran clean1))
     (fails_front g.S.Store (heading ∷ []) (parting ∷ marking ∷ []) h1 h2 e (fails_step g.S.Store heading h1 h2 e (c.in_err-create_header_table.ensures.failed clean) c.create_header_table.ensures.survives)))
 
@@ -146,7 +146,7 @@ returns-in_err-create_part_table-clause-failed g c clean =
     let clean2 : HasCleanDisk (state g.S.Store h2) = omega (arith, c.create_part_table.ensures.survives.clean, clean) in
     let clean1 : HasCleanDisk (state g.S.Store h1) = omega (arith, c.create_header_table.ensures.survives.clean, clean2) in
     let e = c.in_err-create_part_table.field-0.0 in
-    passed_on (FailsInTurn g.S.Store (creation known) h0 h3) e c.from_residual-in_err-create_part_table.result c.from_residual-in_err-create_part_table.ensures.1
+    passed_on (StepsFailInTurn g.S.Store (creation known) h0 h3) e c.from_residual-in_err-create_part_table.result c.from_residual-in_err-create_part_table.ensures.1
     (fails_back g.S.Store first (heading ∷ parting ∷ marking ∷ []) h0 h1 h3 e (run_ones g.S.Store (map make lasting_tables) h0 h1 (c.in_ok-make_each.ensures.ran clean1))
     (fails_back g.S.Store (heading ∷ []) (parting ∷ marking ∷ []) h1 h2 h3 e (run_step g.S.Store heading h1 h2 (c.in_ok-create_header_table.ensures.made clean2) c.create_header_table.ensures.survives)
     (fails_front g.S.Store (parting ∷ []) (marking ∷ []) h2 h3 e (fails_step g.S.Store parting h2 h3 e (c.in_err-create_part_table.ensures.failed clean) c.create_part_table.ensures.survives))))
@@ -163,7 +163,7 @@ returns-in_err-insert_mark-clause-failed g c clean =
     let clean1 : HasCleanDisk (state g.S.Store h1) = omega (arith, c.create_header_table.ensures.survives.clean, clean2) in
     let e = c.in_err-insert_mark.field-0.0 in
     let put = subst (λ (m : Mark). FailsToInsert (codes "mark") (mark_row m) (state g.S.Store h3) (state g.S.Store h4) e) c.mark_row-mark.ensures (c.in_err-insert_mark.ensures.failed clean) in
-    passed_on (FailsInTurn g.S.Store (creation known) h0 h4) e c.from_residual-in_err-insert_mark.result c.from_residual-in_err-insert_mark.ensures.1
+    passed_on (StepsFailInTurn g.S.Store (creation known) h0 h4) e c.from_residual-in_err-insert_mark.result c.from_residual-in_err-insert_mark.ensures.1
     (fails_back g.S.Store first (heading ∷ parting ∷ marking ∷ []) h0 h1 h4 e (run_ones g.S.Store (map make lasting_tables) h0 h1 (c.in_ok-make_each.ensures.ran clean1))
     (fails_back g.S.Store (heading ∷ []) (parting ∷ marking ∷ []) h1 h2 h4 e (run_step g.S.Store heading h1 h2 (c.in_ok-create_header_table.ensures.made clean2) c.create_header_table.ensures.survives)
     (fails_back g.S.Store (parting ∷ []) (marking ∷ []) h2 h3 h4 e (run_step g.S.Store parting h2 h3 (c.in_ok-create_part_table.ensures.made clean3) c.create_part_table.ensures.survives)

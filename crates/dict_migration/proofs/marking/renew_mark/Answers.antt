@@ -8,14 +8,14 @@ use Rattle.dict_sql.proofs.Callers.{still_has}
 use Rattle.sqlite.specs.Held.{state}
 use Rattle.dict_sql.proofs.StreamLemmas.{passed_on}
 use Rattle.dict_sql.specs.declared.records.ReadError.TheVariants.{Store}
-use Rattle.dict_migration.specs.Failing.{FailsInside}
-use Rattle.dict_migration.specs.Places.{First, InMark}
+use Rattle.dict_migration.specs.Failing.{MigrationFailsInside}
+use Rattle.dict_migration.specs.FailurePlaces.{First, InMark}
 use Rattle.dict_sql.specs.Inserts.{FailsToInsert}
 use Rattle.dict_rows.specs.Versions.{known}
 use Rattle.dict_rows.specs.Written.{mark_record}
 use Rattle.dict_migration.proofs.FailLemmas.{fails_here}
 use Rattle.dict_migration.proofs.FailLemmas.{fails_later}
-use Rattle.dict_migration.specs.Parts.{clearing_marks, putting}
+use Rattle.dict_migration.specs.MigrationParts.{clearing_marks, putting}
 use Rattle.dict_migration.proofs.marking.renew_mark.Goals as goal
 
 pub insert_mark-requires : goal.insert_mark-requires
@@ -43,7 +43,7 @@ returns-in_err-clear_table-clause-failed g c clean =
     let new = c.clear_table.new.tx.conn.now in
     let e = c.in_err-clear_table.field-0.0 in
     let Q = InMark c.args.installs in
-    passed_on (λ e. FailsInside g.S.Store Q old new (Store e)) e c.from_residual.result c.from_residual.ensures.1 (fails_here g.S.Store Q clearing_marks old new (Store e) (inl (refl, refl)) (c.in_err-clear_table.ensures.failed clean))
+    passed_on (λ e. MigrationFailsInside g.S.Store Q old new (Store e)) e c.from_residual.result c.from_residual.ensures.1 (fails_here g.S.Store Q clearing_marks old new (Store e) (inl (refl, refl)) (c.in_err-clear_table.ensures.failed clean))
 
 pub returns-in_err-insert_mark-clause-failed : goal.returns-in_err-insert_mark-clause-failed
 returns-in_err-insert_mark-clause-failed g c clean =
@@ -57,6 +57,6 @@ returns-in_err-insert_mark-clause-failed g c clean =
     let P = First (putting (codes "mark") row) in
     let Q = InMark c.args.installs in
     let fails = subst (λ (m : Mark). FailsToInsert (codes "mark") (mark_row m) (state g.S.Store mid) (state g.S.Store new) e) c.mark_row-row.ensures (c.in_err-insert_mark.ensures.failed clean) in
-    passed_on (λ e. FailsInside g.S.Store Q old new (Store e)) e c.from_residual-in_err-insert_mark.result c.from_residual-in_err-insert_mark.ensures.1
+    passed_on (λ e. MigrationFailsInside g.S.Store Q old new (Store e)) e c.from_residual-in_err-insert_mark.result c.from_residual-in_err-insert_mark.ensures.1
     (fails_later g.S.Store P Q old mid new (Store e) c.clear_table.ensures.survives (λ begun. removed.1.mode) (λ part at it. inr ((state g.S.Store mid).now, removed.0, it))
     (fails_here g.S.Store P (putting (codes "mark") row) mid new (Store e) (refl, refl) fails))

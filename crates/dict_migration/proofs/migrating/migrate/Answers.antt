@@ -6,11 +6,11 @@ use Rattle.sqlite.specs.Held.{state}
 use Rattle.sqlite.specs.State.{HasCleanDisk}
 use Rattle.sqlite.proofs.StateLemmas.{survives_weaker}
 use Rattle.dict_catalogue.specs.Views.{summary_shown}
-use Rattle.dict_migration.specs.Places.{InMove}
-use Rattle.dict_migration.specs.Failing.{FailsBefore, FailsToEnd, FailsToMigrate}
+use Rattle.dict_migration.specs.FailurePlaces.{InMove}
+use Rattle.dict_migration.specs.Failing.{MigrationFailsBefore, MigrationFailsToEnd, FailsToMigrate}
 use Rattle.dict_migration.proofs.FailLemmas.{why_not_begun}
 use Rattle.dict_migration.specs.Migrated.{MayMigrate}
-use Rattle.dict_holdings.specs.Writing.{Stays}
+use Rattle.dict_holdings.specs.Writing.{StaysCommitted}
 use Rattle.dict_migration.specs.Moved.{AreTreesOf, IsCommitted, IsOutcome}
 use Rattle.dict_migration.proofs.EndLemmas.{is_old, outcome_holds, outcome_left, outcome_may, outcome_migrated, summary_installs, summary_numbers}
 use Rattle.dict_migration.specs.Spared.{SparesOthers}
@@ -132,12 +132,12 @@ returns-clause-failed g c clean =
     let installs = c.args.summary.now.installs in
     let clean0 : HasCleanDisk old = omega (arith, c.migrate_from.ensures.crash.clean, clean) in
     let numbers = c.deref.ensures.value ∙ c.in-Ok.ensures.same in
-    each_err c.migrate_from.result (FailsToEnd g.S.Store (InMove older c.deref.result.now installs) (IsOutcome older c.deref.result.now installs old) c.args.conn.now new) (FailsToMigrate g.S.Store c.args.version summary c.args.conn.now new)
+    each_err c.migrate_from.result (MigrationFailsToEnd g.S.Store (InMove older c.deref.result.now installs) (IsOutcome older c.deref.result.now installs old) c.args.conn.now new) (FailsToMigrate g.S.Store c.args.version summary c.args.conn.now new)
     (λ fault h. inr (record {
       older = older;
       layout = c.older_layout.ensures;
       why = elim h [
-        | inl before ↦ inl (subst (λ (l : List ℤ). FailsBefore g.S.Store (InMove older l installs) c.args.conn.now new fault) numbers before)
+        | inl before ↦ inl (subst (λ (l : List ℤ). MigrationFailsBefore g.S.Store (InMove older l installs) c.args.conn.now new fault) numbers before)
         | inr last ↦
             let opened = last.written.was_open in
             let it = c.requires.holds clean0 opened in
@@ -162,5 +162,5 @@ pub returns-clause-lives : goal.returns-clause-lives
 returns-clause-lives g c clean opened =
     let old = state g.S.Store c.args.conn.now in
     let new = state g.S.Store c.migrate_from.new.conn in
-    either_way c.migrate_from.result (IsCommitted (IsOutcome c.older_layout.result c.deref.result.now c.args.summary.now.installs old) new) (Stays old new) (IsTrue old.is_open)
+    either_way c.migrate_from.result (IsCommitted (IsOutcome c.older_layout.result c.deref.result.now c.args.summary.now.installs old) new) (StaysCommitted old new) (IsTrue old.is_open)
     (λ made. made.holds.was_open) (λ stays. stays.was_open opened) (c.migrate_from.ensures.made clean) (c.migrate_from.ensures.stays clean)

@@ -2,12 +2,12 @@ use Rattle.std.proofs.Common.{◌≡◌, rules, sym, subst, ◌∙◌, refl, ari
 use Rattle.sqlite.specs.Effect.{Database, IsDatabase}
 use Rattle.sqlite.specs.State.{HasCleanDisk, Survives, Fails, IsRolledBack}
 use Rattle.sqlite.specs.Held.{state}
-use Rattle.dict_holdings.specs.Writing.{Stays}
+use Rattle.dict_holdings.specs.Writing.{StaysCommitted}
 use Rattle.dict_holdings.proofs.CommitLemmas.{leaves, done, only_left, commit_fails, keeps_begun, stays_undone}
 use Rattle.dict_migration.specs.Moved.{AreTreesOf, IsCommitted, IsOutcome}
 use Rattle.sqlite.proofs.Callers.{survives_begin}
-use Rattle.dict_migration.specs.Places.{InMove}
-use Rattle.dict_migration.specs.Failing.{FailsInside}
+use Rattle.dict_migration.specs.FailurePlaces.{InMove}
+use Rattle.dict_migration.specs.Failing.{MigrationFailsInside}
 use Rattle.dict_migration.proofs.EndLemmas.{outcome_of}
 use Rattle.dict_migration.proofs.migrating.migrate_from.Goals as goal
 
@@ -66,7 +66,7 @@ returns-in-Err-commit-clause-stays g c clean =
     let same : end ≡ c.conn-2-1.given.0 = search rules in
     let late : HasCleanDisk (state g.S.Store end) = subst (λ h. HasCleanDisk (state g.S.Store h)) (sym same) clean in
     let early : HasCleanDisk (state g.S.Store mid) = omega (arith, c.commit.ensures.survives.clean, late) in
-    subst (λ h. Stays (state g.S.Store old) (state g.S.Store h)) same (stays_undone (state g.S.Store old) (state g.S.Store mid) (state g.S.Store end)
+    subst (λ h. StaysCommitted (state g.S.Store old) (state g.S.Store h)) same (stays_undone (state g.S.Store old) (state g.S.Store mid) (state g.S.Store end)
     (keeps_begun g.S.Store old begun (state g.S.Store mid) c.transaction-tx.ensures.begun (c.migrate_inside.ensures.keeps early))
     (commit_fails (state g.S.Store mid) (state g.S.Store end) c.in-Err-commit.field-0 (c.in_default.ensures.inside early) (c.in-Err-commit.ensures.failed late)).3)
 
@@ -81,7 +81,7 @@ returns-in-Err-clause-failed g c clean =
       error = c.in-Err.error;
       told = c.fault_of_read.ensures.is;
       last = mid;
-      within = subst (λ h. FailsInside g.S.Store (InMove c.args.layout c.args.numbers.now c.args.installs) h mid c.in-Err.error) c.transaction-tx.ensures.begun (c.in-Err.ensures.failed early);
+      within = subst (λ h. MigrationFailsInside g.S.Store (InMove c.args.layout c.args.numbers.now c.args.installs) h mid c.in-Err.error) c.transaction-tx.ensures.begun (c.in-Err.ensures.failed early);
       after = subst (λ h. Survives (state g.S.Store mid) (state g.S.Store h) (λ _. ⊥)) same c.drop-tx.ensures.survives;
       undone = subst (λ h. IsRolledBack (state g.S.Store mid) (state g.S.Store h)) same (c.drop-tx.ensures.undone late);
     })

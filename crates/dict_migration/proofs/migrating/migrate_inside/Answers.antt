@@ -5,9 +5,9 @@ use Rattle.dict_records.specs.Typed.{owned_header}
 use Rattle.dict_sql.specs.Effects.{seen}
 use Rattle.dict_sql.specs.declared.records.ReadError.TheVariants.{Store}
 use Rattle.dict_sql.proofs.StreamLemmas.{passed_on}
-use Rattle.dict_migration.specs.Failing.{FailsInside}
+use Rattle.dict_migration.specs.Failing.{MigrationFailsInside}
 use Rattle.dict_migration.specs.Moved.{AreHeaded}
-use Rattle.dict_migration.specs.Places.{InApart, InHeads, InMark, InMove}
+use Rattle.dict_migration.specs.FailurePlaces.{InApart, InHeads, InMark, InMove}
 use Rattle.dict_migration.proofs.FailLemmas.{fails_later, fails_within}
 use Rattle.dict_migration.proofs.FlowLemmas.{apart_headed, two_survive}
 use Rattle.dict_migration.proofs.MovedLemmas.{mark_behind}
@@ -60,7 +60,7 @@ returns-in_err-headers-clause-failed g c clean =
     let new = c.take_apart.new.tx.conn.now in
     let e = c.in_err-headers.field-0.0 in
     let Q = InMove c.args.layout c.args.numbers.now c.args.installs in
-    passed_on (FailsInside g.S.Store Q old new) e c.from_residual.result c.from_residual.ensures.1
+    passed_on (MigrationFailsInside g.S.Store Q old new) e c.from_residual.result c.from_residual.ensures.1
     (fails_within g.S.Store (InApart c.args.layout c.args.numbers.now) Q old new e (λ part at it. inl it) (c.in_err-headers.ensures.failed clean))
 
 pub returns-in_err-head_editions-clause-failed : goal.returns-in_err-head_editions-clause-failed
@@ -72,8 +72,8 @@ returns-in_err-head_editions-clause-failed g c clean =
     let e = c.in_err-head_editions.field-0.0 in
     let headers = map owned_header c.in_ok-headers.headers.items in
     let Q = InMove c.args.layout c.args.numbers.now c.args.installs in
-    let failed = subst (λ l. FailsInside g.S.Store (InHeads (map owned_header l)) mid new (Store e)) c.deref.ensures.value (c.in_err-head_editions.ensures.failed clean) in
-    passed_on (FailsInside g.S.Store Q old new) (Store e) c.from_residual-in_err-head_editions.result c.from_residual-in_err-head_editions.ensures.1
+    let failed = subst (λ l. MigrationFailsInside g.S.Store (InHeads (map owned_header l)) mid new (Store e)) c.deref.ensures.value (c.in_err-head_editions.ensures.failed clean) in
+    passed_on (MigrationFailsInside g.S.Store Q old new) (Store e) c.from_residual-in_err-head_editions.result c.from_residual-in_err-head_editions.ensures.1
     (fails_later g.S.Store (InHeads headers) Q old mid new (Store e) c.take_apart.ensures.survives (λ begun. c.in_ok-headers.ensures.inside early)
     (λ part at it. inr (headers, ((state g.S.Store mid).now, c.in_ok-headers.ensures.apart early, inl it))) failed)
 
@@ -89,7 +89,7 @@ returns-in_err-renew_mark-clause-failed g c clean =
     let headers = map owned_header c.in_ok-headers.headers.items in
     let headed = subst (λ l. AreHeaded (map owned_header l) (state g.S.Store one).now (state g.S.Store mid).now) c.deref.ensures.value (c.in_ok-head_editions.ensures.headed early) in
     let Q = InMove c.args.layout c.args.numbers.now c.args.installs in
-    passed_on (FailsInside g.S.Store Q old new) (Store e) c.from_residual-in_err-renew_mark.result c.from_residual-in_err-renew_mark.ensures.1
+    passed_on (MigrationFailsInside g.S.Store Q old new) (Store e) c.from_residual-in_err-renew_mark.result c.from_residual-in_err-renew_mark.ensures.1
     (fails_later g.S.Store (InMark c.args.installs) Q old mid new (Store e) (two_survive (state g.S.Store old) (state g.S.Store one)
     (state g.S.Store mid) c.take_apart.ensures.survives c.head_editions.ensures.survives) (λ begun. c.in_ok-head_editions.ensures.inside early)
     (λ part at it. inr (headers, ((state g.S.Store one).now, c.in_ok-headers.ensures.apart first, inr ((state g.S.Store mid).now, headed, it)))) (c.in_err-renew_mark.ensures.failed clean))

@@ -5,10 +5,10 @@ use Rattle.dict_records.specs.Typed.{owned_header}
 use Rattle.dict_sql.specs.Effects.{seen}
 use Rattle.dict_sql.specs.declared.records.ReadError.TheVariants.{Store}
 use Rattle.dict_sql.proofs.StreamLemmas.{passed_on}
-use Rattle.dict_migration.specs.Failing.{FailsInside}
+use Rattle.dict_migration.specs.Failing.{MigrationFailsInside}
 use Rattle.dict_migration.specs.Older.{gone_names}
-use Rattle.dict_migration.specs.Parts.{making_parts}
-use Rattle.dict_migration.specs.Places.{Dropping, InApart, InEditions}
+use Rattle.dict_migration.specs.MigrationParts.{making_parts}
+use Rattle.dict_migration.specs.FailurePlaces.{Dropping, InApart, InEditions}
 use Rattle.dict_migration.proofs.FailLemmas.{fails_here, fails_later}
 use Rattle.dict_migration.proofs.FlowLemmas.{gone_later, made_gone, made_three, part_free, parted_schema, two_survive}
 use Rattle.dict_migration.proofs.migrating.take_apart.Goals as goal
@@ -65,7 +65,7 @@ returns-in_err-create_part_table-clause-failed g c clean =
     let new = c.create_part_table.new.tx.conn.now in
     let e = c.in_err-create_part_table.field-0.0 in
     let Q = InApart c.args.layout c.args.numbers.now in
-    passed_on (FailsInside g.S.Store Q old new) (Store e) c.from_residual.result c.from_residual.ensures.1 (fails_here g.S.Store Q making_parts old new (Store e) (inl (refl, refl)) (c.in_err-create_part_table.ensures.failed clean))
+    passed_on (MigrationFailsInside g.S.Store Q old new) (Store e) c.from_residual.result c.from_residual.ensures.1 (fails_here g.S.Store Q making_parts old new (Store e) (inl (refl, refl)) (c.in_err-create_part_table.ensures.failed clean))
 
 pub returns-in_err-headers-clause-failed : goal.returns-in_err-headers-clause-failed
 returns-in_err-headers-clause-failed g c clean =
@@ -76,7 +76,7 @@ returns-in_err-headers-clause-failed g c clean =
     let e = c.in_err-headers.field-0.0 in
     let made = c.in_ok-create_part_table.ensures.made early in
     let Q = InApart c.args.layout c.args.numbers.now in
-    passed_on (FailsInside g.S.Store Q old new) e c.from_residual-in_err-headers.result c.from_residual-in_err-headers.ensures.1
+    passed_on (MigrationFailsInside g.S.Store Q old new) e c.from_residual-in_err-headers.result c.from_residual-in_err-headers.ensures.1
     (fails_later g.S.Store (InEditions c.args.layout c.args.numbers.now) Q old mid new e c.create_part_table.ensures.survives (λ begun. made.1.mode) (λ part at it. inr ((state g.S.Store mid).now, made.0, inl it))
     (c.in_err-headers.ensures.failed clean))
 
@@ -93,7 +93,7 @@ returns-in_err-drop_old-clause-failed g c clean =
     let parted = c.in_ok-headers.ensures.parted early in
     let headers = map owned_header c.in_ok-headers.headers.items in
     let Q = InApart c.args.layout c.args.numbers.now in
-    passed_on (FailsInside g.S.Store Q old new) (Store e) c.from_residual-in_err-drop_old.result c.from_residual-in_err-drop_old.ensures.1
+    passed_on (MigrationFailsInside g.S.Store Q old new) (Store e) c.from_residual-in_err-drop_old.result c.from_residual-in_err-drop_old.ensures.1
     (fails_later g.S.Store (Dropping (gone_names c.args.layout)) Q old mid new (Store e)
     (two_survive (state g.S.Store old) (state g.S.Store one) (state g.S.Store mid) c.create_part_table.ensures.survives c.part_editions.ensures.survives)
     (λ begun. c.in_ok-headers.ensures.inside early made.1.mode) (λ part at it. inr ((state g.S.Store one).now, made.0, inr (headers, ((state g.S.Store mid).now, parted, it)))) (c.in_err-drop_old.ensures.failed clean))

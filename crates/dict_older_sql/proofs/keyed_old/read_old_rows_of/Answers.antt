@@ -1,6 +1,6 @@
 use Rattle.std.proofs.Common.{refl}
 use Rattle.dict_sql.proofs.NumberLemmas.{bound_int}
-use Rattle.dict_older_sql.specs.Scans.Scan.{OldOf}
+use Rattle.dict_older_sql.specs.Scans.OlderScan.{OldOf}
 use Rattle.dict_older_sql.proofs.ScanLemmas.{begins, begins_alone, not_begun}
 use Rattle.dict_older_sql.proofs.keyed_old.read_old_rows_of.Goals as goal
 

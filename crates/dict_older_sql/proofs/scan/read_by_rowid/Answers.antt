@@ -1,5 +1,5 @@
 use Rattle.std.proofs.Common.{refl}
-use Rattle.dict_older_sql.specs.Scans.Scan.{ByRowid}
+use Rattle.dict_older_sql.specs.Scans.OlderScan.{ByRowid}
 use Rattle.dict_older_sql.proofs.ScanLemmas.{begins, begins_alone, not_begun}
 use Rattle.dict_older_sql.proofs.scan.read_by_rowid.Goals as goal
 

@@ -1,6 +1,6 @@
 use Rattle.std.proofs.Common.{refl}
 use Rattle.dict_sql.proofs.NumberLemmas.{bound_int}
-use Rattle.dict_older_sql.specs.Scans.Scan.{Of}
+use Rattle.dict_older_sql.specs.Scans.OlderScan.{Of}
 use Rattle.dict_older_sql.proofs.ScanLemmas.{begins, begins_alone, not_begun}
 use Rattle.dict_older_sql.proofs.scan.read_rows_of.Goals as goal
 

@@ -5,25 +5,25 @@ use Rattle.dict_sql.specs.Effects.{equals_number}
 use Rattle.dict_sql.proofs.NumberLemmas.{bound_int}
 use Rattle.dict_sql.proofs.ListingLemmas.{selects}
 use Rattle.dict_sql.proofs.ReadFaults.{a_number, fails_to_list}
-use Rattle.dict_tables.specs.Keyed.{entry as shown_entry}
-use Rattle.dict_older_sql.specs.Entries.{select_text}
+use Rattle.dict_tables.specs.Keyed.{entry_with_keys as shown_entry}
+use Rattle.dict_older_sql.specs.Entries.{entry_select_text}
 use Rattle.dict_older_sql.proofs.EntryTexts.{read_select, selects_shown, takes_shown, shown_read}
 use Rattle.dict_sql.proofs.SilentLemmas.{shows_no_write}
 use Rattle.dict_older_sql.proofs.shown.shown_rows.Goals as goal
 
 pub query_all-requires : goal.query_all-requires
-query_all-requires g c = shows_no_write select_text read_select _ selects_shown.read (selects_shown.statement 0)
+query_all-requires g c = shows_no_write entry_select_text read_select _ selects_shown.read (selects_shown.statement 0)
 
 pub returns-clause-selected : goal.returns-clause-selected
 returns-clause-selected g c clean =
     let old = state g.S.Store (g.T.OpenTransaction.held c.args.tx.now) in
     let new = state g.S.Store (g.T.OpenTransaction.held c.query_all.new.self) in
-    selects select_text read_select shown_entry _ _ _ _ _ _ _ _ selects_shown (λ tree. refl) (Int c.args.edition ∷ []) (equals_number 1 c.args.edition) (λ tree row. shown_read tree c.args.edition row) old new c.query_all.result (c.requires (omega (arith, c.query_all.ensures.survives.clean)))
+    selects entry_select_text read_select shown_entry _ _ _ _ _ _ _ _ selects_shown (λ tree. refl) (Int c.args.edition ∷ []) (equals_number 1 c.args.edition) (λ tree row. shown_read tree c.args.edition row) old new c.query_all.result (c.requires (omega (arith, c.query_all.ensures.survives.clean)))
     (rw (bound_int _ c.args.edition c.ranges.edition c.params-to_sql.ensures) at (c.query_all.ensures.ok clean))
 
 pub returns-clause-failed : goal.returns-clause-failed
 returns-clause-failed g c clean =
     let old = state g.S.Store (g.T.OpenTransaction.held c.args.tx.now) in
     let new = state g.S.Store (g.T.OpenTransaction.held c.query_all.new.self) in
-    fails_to_list select_text read_select shown_entry _ _ _ _ _ _ _ _ selects_shown a_number takes_shown c.args.edition old new (c.requires (omega (arith, c.query_all.ensures.survives.clean))) c.query_all.result
+    fails_to_list entry_select_text read_select shown_entry _ _ _ _ _ _ _ _ selects_shown a_number takes_shown c.args.edition old new (c.requires (omega (arith, c.query_all.ensures.survives.clean))) c.query_all.result
     (rw (bound_int _ c.args.edition c.ranges.edition c.params-to_sql.ensures) at (c.query_all.ensures.err clean))

@@ -15,7 +15,7 @@ use Rattle.dict_rows.specs.Versions.{layout_of}
 use Rattle.dict_rows.specs.Whole.{with_entries}
 use Rattle.dict_scans.specs.Entries.{HasEntries, HasWrongEntries, TakesEntries}
 use Rattle.dict_scans.specs.Indexing.{indexed_of}
-use Rattle.dict_scans.specs.Reading.{IsExcused}
+use Rattle.dict_scans.specs.Reading.{IsExcusedReading}
 use Rattle.dict_scans.specs.declared.fault.ReadingFault.{ReadingFault}
 use Rattle.dict_scans.specs.declared.fault.ReadingFault.TheVariants.{Damaged}
 use Rattle.dict_scans.proofs.CauseLemmas.{cause_passed, rows_cause, cause_last}
@@ -116,7 +116,7 @@ returns-in_err-edition-clause-failed g c clean =
 
 pub returns-in-Err-clause-failed : goal.returns-in-Err-clause-failed
 returns-in-Err-clause-failed g c clean =
-    subst (IsExcused (state g.S.Store c.args.conn.now) (state g.S.Store c.read_edition.new.conn)) (sym c.fault_of_rows.ensures) (rows_cause (state g.S.Store c.args.conn.now) (state g.S.Store c.read_edition.new.conn) c.in-Err.fault)
+    subst (IsExcusedReading (state g.S.Store c.args.conn.now) (state g.S.Store c.read_edition.new.conn)) (sym c.fault_of_rows.ensures) (rows_cause (state g.S.Store c.args.conn.now) (state g.S.Store c.read_edition.new.conn) c.in-Err.fault)
 
 pub returns-clause-failed : goal.returns-clause-failed
 returns-clause-failed g c clean =

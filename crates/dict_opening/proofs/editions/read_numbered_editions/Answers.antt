@@ -18,7 +18,7 @@ use Rattle.dict_rows.specs.Taken.{items_in}
 use Rattle.dict_rows.specs.Versions.{layout_of}
 use Rattle.dict_scans.specs.declared.fault.ReadingFault.{ReadingFault}
 use Rattle.dict_scans.specs.declared.fault.ReadingFault.TheVariants.{Damaged}
-use Rattle.dict_opening.specs.Opens.{KeepsNone, HasVersionTables, CanReadOne, HasReadOne, CanRead, HasRead}
+use Rattle.dict_opening.specs.Opens.{KeepsNone, HasVersionTables, CanReadOne, HasReadOne, CanRead, HasReadEditions}
 use Rattle.dict_scans.proofs.StateLemmas.{clean_before, survives_itself, same_itself, same_then, while_same}
 use Rattle.dict_opening.proofs.ReadLemmas.{all_at, fresh, read_none, can_one, read_more}
 use Rattle.dict_scans.proofs.CauseLemmas.{cause_later}
@@ -99,7 +99,7 @@ loop-number-preserved g c =
           let one = can_one version old.now c.args.reader.now.reader numbers (take i numbers) front had.0 n can had.2 there new' in
           let got = c.in_ok-read_number.ensures.whole clean had.0 had.1 (subst (λ m. entries_of m had.0.entries ≡ []) (sym (to_z-of_z w64 n fits)) one.no_entries) in
           let read = subst (λ (d : Database). HasReadOne (layout_of version) d n had.0 got.0) same (subst (λ m. HasReadOne (layout_of version) mid.now m had.0 got.0) (to_z-of_z w64 n fits) got.2) in
-          (got.0, got.1, subst (λ ns. HasRead version old.now ns front got.0) (sym (take_more numbers i (pos 0) lt)) (read_more version old.now (take i numbers) front had.0 got.0 n had.2 one read new')));
+          (got.0, got.1, subst (λ ns. HasReadEditions version old.now ns front got.0) (sym (take_more numbers i (pos 0) lt)) (read_more version old.now (take i numbers) front had.0 got.0 n had.2 one read new')));
     }
 
 pub returns-clause-whole : goal.returns-clause-whole
@@ -107,7 +107,7 @@ returns-clause-whole g c clean front can =
     let old = state g.S.Store c.args.conn.now in
     let had = c.loop-number.invariant.read clean front can in
     let past : length c.args.numbers.now ≤ c.loop-number.number-index = omega arith in
-    (had.0, had.1, subst (λ ns. HasRead c.args.version old.now ns front had.0) (take_all c.loop-number.number-index c.args.numbers.now past) had.2)
+    (had.0, had.1, subst (λ ns. HasReadEditions c.args.version old.now ns front had.0) (take_all c.loop-number.number-index c.args.numbers.now past) had.2)
 
 pub returns-clause-indexed : goal.returns-clause-indexed
 returns-clause-indexed g c clean ns is =

@@ -6,7 +6,7 @@ use Rattle.dict_rows.specs.Taken.{HasTaken}
 use Rattle.dict_scans.specs.Reading.{Same}
 use Rattle.dict_rows.specs.Versions.{layout_of}
 use Rattle.dict_opening.specs.Indexed.{HaveRowsIndexed}
-use Rattle.dict_opening.specs.Opens.{CanRead, HasRead}
+use Rattle.dict_opening.specs.Opens.{CanRead, HasReadEditions}
 use Rattle.dict_opening.proofs.editions.read_numbered_editions.Given as goal
 
 abbrev pub invariant-loop-number : goal.invariant-loop-number
@@ -18,5 +18,5 @@ invariant-loop-number g l =
       survives : Survives old now (λ _. ⊥);
       same : HasCleanDisk now → Same old now;
       indexed : HasCleanDisk now → (ns : List ℕ) → l.numbers ≡ map pos ns → HaveRowsIndexed (layout_of l.version) old.now (take l.number-index ns) l.indexes;
-      read : HasCleanDisk now → (front : Tables) → CanRead l.version old.now l.fn.reader.reader l.numbers front → (after : Tables) × HasTaken l.version l.reader.reader after × HasRead l.version old.now (take l.number-index l.numbers) front after;
+      read : HasCleanDisk now → (front : Tables) → CanRead l.version old.now l.fn.reader.reader l.numbers front → (after : Tables) × HasTaken l.version l.reader.reader after × HasReadEditions l.version old.now (take l.number-index l.numbers) front after;
     }

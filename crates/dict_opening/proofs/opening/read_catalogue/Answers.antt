@@ -7,12 +7,12 @@ use Rattle.dict_sql.specs.Encodings.{stored_mark}
 use Rattle.dict_sql.specs.Reads.{IsListing}
 use Rattle.dict_holdings.specs.Holds.{Holds}
 use Rattle.dict_desk.specs.declared.fault.Fault.TheVariants as desk
-use Rattle.dict_opening.specs.Indexed.{IsIndexed}
+use Rattle.dict_opening.specs.Indexed.{IsHeldIndexed}
 use Rattle.dict_opening.specs.Opens.{HoldsNoneAs}
 use Rattle.dict_scans.proofs.StateLemmas.{clean_before, reads_then}
 use Rattle.dict_opening.proofs.MarkLemmas.{err_is, told_damaged, none_held, MarkRow}
 use Rattle.dict_scans.specs.declared.fault.ReadingFault.TheVariants.{Disk}
-use Rattle.dict_scans.specs.Reading.{IsExcused}
+use Rattle.dict_scans.specs.Reading.{IsExcusedReading}
 use Rattle.dict_scans.proofs.CauseLemmas.{cause_then}
 use Rattle.dict_opening.proofs.FaultLemmas.{told_disk}
 use Rattle.dict_opening.proofs.opening.read_catalogue.Goals as goal
@@ -41,7 +41,7 @@ returns-in-Ok-clause-rests g c clean =
     let settled = c.is_autocommit.ensures.settled auto' open' in
     let one = then.now ∙ first.0.now in
     let two = then.committed ∙ first.0.committed in
-    (found.0, record { is_open = then.is_open ∙ first.1; settled = one ∙ settled ∙ sym two; holds = subst (λ (d : Database). Holds c.in_ok-version.version d found.0) (first.0.now ∙ settled ∙ sym two) found.1 }, found.2, subst (λ (d : Database). IsIndexed c.in_ok-version.version d found.0 c.in-Ok.indexes) (first.0.now ∙ settled ∙ sym two) found.3)
+    (found.0, record { is_open = then.is_open ∙ first.1; settled = one ∙ settled ∙ sym two; holds = subst (λ (d : Database). Holds c.in_ok-version.version d found.0) (first.0.now ∙ settled ∙ sym two) found.1 }, found.2, subst (λ (d : Database). IsHeldIndexed c.in_ok-version.version d found.0 c.in-Ok.indexes) (first.0.now ∙ settled ∙ sym two) found.3)
 
 pub returns-in-Err-clause-damaged : goal.returns-in-Err-clause-damaged
 returns-in-Err-clause-damaged g c clean is =
@@ -69,4 +69,4 @@ returns-in-Err-clause-failed g c clean is =
     let early : HasCleanDisk mid = clean_before old mid new c.read_tables-read.ensures.reads.survives clean in
     let same : c.told.result ≡ desk.Disk = cc in
     let fault = told_disk c.in-Err.fault (sym c.told.ensures.is ∙ same) in
-    cause_then old mid new c.read_mark.ensures.reads.survives (c.in_ok-version.ensures.same early).0 Disk (subst (IsExcused mid new) fault (c.in-Err.ensures.failed clean))
+    cause_then old mid new c.read_mark.ensures.reads.survives (c.in_ok-version.ensures.same early).0 Disk (subst (IsExcusedReading mid new) fault (c.in-Err.ensures.failed clean))

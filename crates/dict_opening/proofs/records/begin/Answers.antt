@@ -8,7 +8,7 @@ use Rattle.dict_scans.proofs.TakerLemmas.{on_damage}
 use Rattle.std.specs.declared.alloc.Global.{Global}
 use Rattle.std.proofs.Common.{String}
 use Rattle.dict_records.specs.declared.records as typed
-use Rattle.dict_records.specs.declared.records.Stored.{Stored}
+use Rattle.dict_records.specs.declared.records.StoredRow.{StoredRow}
 use Rattle.dict_sql.specs.Columns.{item_columns, member_columns}
 use Rattle.dict_sql.specs.Effects.{rows_of}
 use Rattle.dict_sql.specs.Encodings.{stored_member}
@@ -20,7 +20,7 @@ use Rattle.dict_scans.proofs.ScanLemmas.{rows_damaged}
 use Rattle.dict_holdings.proofs.ReadableLemmas.{held_readable}
 use Rattle.dict_opening.proofs.ReadableLemmas.{none_listed}
 use Rattle.dict_opening.proofs.WrongLemmas.{has_begun, begin_wrong}
-use Rattle.dict_scans.specs.Reading.{IsExcused}
+use Rattle.dict_scans.specs.Reading.{IsExcusedReading}
 use Rattle.dict_scans.proofs.CauseLemmas.{list_cause, cause_then, rows_cause}
 use Rattle.dict_opening.proofs.records.begin.Goals as goal
 
@@ -32,8 +32,8 @@ returns-in-Ok-begun-clause-begun g c clean lm =
     let early : HasCleanDisk mid = clean_before old mid new c.members.ensures.survives clean in
     let li = c.in-Ok.ensures.listed early in
     let lo = subst (λ (d : Database). IsListing (codes "member") (1 ∷ 2 ∷ []) d (map stored_member c.in-Ok-members.members.items)) li.1.0.now_is (c.in-Ok-members.ensures.listed clean).0 in
-    let taken = subst (λ (l : List (Stored (typed.Member.Member (String Global)))). HasTaken c.args.version c.in-Ok-begun.reader (begun (marks_given c.args.marks.now) (items_given c.in-Ok.items.items) (members_given l))) c.deref-2.ensures.value
-    (subst (λ (l : List (Stored (typed.Item.Item (String Global)))). HasTaken c.args.version c.in-Ok-begun.reader (begun (marks_given c.args.marks.now) (items_given l) (members_given c.deref-2.result.now))) c.deref.ensures.value c.in-Ok-begun.ensures.taken) in
+    let taken = subst (λ (l : List (StoredRow (typed.Member.Member (String Global)))). HasTaken c.args.version c.in-Ok-begun.reader (begun (marks_given c.args.marks.now) (items_given c.in-Ok.items.items) (members_given l))) c.deref-2.ensures.value
+    (subst (λ (l : List (StoredRow (typed.ItemRecord.ItemRecord (String Global)))). HasTaken c.args.version c.in-Ok-begun.reader (begun (marks_given c.args.marks.now) (items_given l) (members_given c.deref-2.result.now))) c.deref.ensures.value c.in-Ok-begun.ensures.taken) in
     (begun (marks_given c.args.marks.now) (items_given c.in-Ok.items.items) (members_given c.in-Ok-members.members.items), taken, has_begun c.args.version old.now c.args.marks.now c.in-Ok.items.items c.in-Ok-members.members.items lm li.0 lo)
 
 pub returns-in-Err-clause-damaged : goal.returns-in-Err-clause-damaged
@@ -61,23 +61,23 @@ returns-in-Err-begun-clause-damaged g c clean is lm =
     let lo = subst (λ (d : Database). IsListing (codes "member") (1 ∷ 2 ∷ []) d (map stored_member c.in-Ok-members.members.items)) li.1.0.now_is (c.in-Ok-members.ensures.listed clean).0 in
     let none = on_damage c.in-Err-begun.fault _ c.in-Err-begun.ensures.damaged (rows_damaged c.in-Err-begun.fault (sym c.fault_of_rows.ensures ∙ is)) in
     begin_wrong c.args.version old.now c.args.marks.now c.in-Ok.items.items c.in-Ok-members.members.items lm li.0 lo
-    (subst (λ (l : List (Stored (typed.Member.Member (String Global)))). StandsForNone c.args.version (begun (marks_given c.args.marks.now) (items_given c.in-Ok.items.items) (members_given l))) c.deref-2.ensures.value
-    (subst (λ (l : List (Stored (typed.Item.Item (String Global)))). StandsForNone c.args.version (begun (marks_given c.args.marks.now) (items_given l) (members_given c.deref-2.result.now))) c.deref.ensures.value none))
+    (subst (λ (l : List (StoredRow (typed.Member.Member (String Global)))). StandsForNone c.args.version (begun (marks_given c.args.marks.now) (items_given c.in-Ok.items.items) (members_given l))) c.deref-2.ensures.value
+    (subst (λ (l : List (StoredRow (typed.ItemRecord.ItemRecord (String Global)))). StandsForNone c.args.version (begun (marks_given c.args.marks.now) (items_given l) (members_given c.deref-2.result.now))) c.deref.ensures.value none))
 
 pub returns-in-Err-clause-failed : goal.returns-in-Err-clause-failed
 returns-in-Err-clause-failed g c clean =
-    subst (IsExcused (state g.S.Store c.args.conn.now) (state g.S.Store c.items.new.conn)) (sym c.fault_of_read.ensures) (list_cause item_columns _ (state g.S.Store c.args.conn.now) (state g.S.Store c.items.new.conn) c.in-Err.error (c.in-Err.ensures.failed clean))
+    subst (IsExcusedReading (state g.S.Store c.args.conn.now) (state g.S.Store c.items.new.conn)) (sym c.fault_of_read.ensures) (list_cause item_columns _ (state g.S.Store c.args.conn.now) (state g.S.Store c.items.new.conn) c.in-Err.error (c.in-Err.ensures.failed clean))
 
 pub returns-in-Err-members-clause-failed : goal.returns-in-Err-members-clause-failed
 returns-in-Err-members-clause-failed g c clean =
     let old = state g.S.Store c.args.conn.now in
     let mid = state g.S.Store c.items.new.conn in
     let new = state g.S.Store c.members.new.conn in
-    subst (IsExcused old new) (sym c.fault_of_read-in-Err-members.ensures)
+    subst (IsExcusedReading old new) (sym c.fault_of_read-in-Err-members.ensures)
     (cause_then old mid new c.items.ensures.survives (same_as old mid (c.in-Ok.ensures.listed (clean_before old mid new c.members.ensures.survives clean)).1) _ (list_cause member_columns _ mid new c.in-Err-members.error (c.in-Err-members.ensures.failed clean)))
 
 pub returns-in-Err-begun-clause-failed : goal.returns-in-Err-begun-clause-failed
 returns-in-Err-begun-clause-failed g c clean =
     let old = state g.S.Store c.args.conn.now in
     let new = state g.S.Store c.members.new.conn in
-    subst (IsExcused old new) (sym c.fault_of_rows.ensures) (rows_cause old new c.in-Err-begun.fault)
+    subst (IsExcusedReading old new) (sym c.fault_of_rows.ensures) (rows_cause old new c.in-Err-begun.fault)

@@ -13,7 +13,7 @@ use Rattle.dict_scans.specs.declared.fault.ReadingFault.{ReadingFault}
 use Rattle.dict_scans.specs.declared.fault.ReadingFault.TheVariants.{Damaged}
 use Rattle.dict_scans.proofs.StateLemmas.{clean_before, reads_then, same_then}
 use Rattle.dict_scans.proofs.TakerLemmas.{if_err_then}
-use Rattle.dict_opening.specs.Opens.{HasVersionTables, KeepsNone, HoldsNoneAs, Fits, HasBegun, HasNamed, HasReplies}
+use Rattle.dict_opening.specs.Opens.{HasVersionTables, KeepsNone, HoldsNoneAs, AllGoOnFrom, HasBegun, HasNamed, HasReplies}
 use Rattle.dict_scans.proofs.StateLemmas.{while_same}
 use Rattle.dict_opening.proofs.CloseLemmas.{has_all}
 use Rattle.dict_scans.proofs.CauseLemmas.{cause_passed, cause_later, cause_last}
@@ -91,7 +91,7 @@ returns-clause-damaged g c clean =
     let version = c.args.version in
     let named = c.in_ok-read_named.ensures.named late front h (subst (λ (d : Database). HasBegun version d front) (sym one) b) in
     let read = subst (λ (d : Database). HasNamed version d c.args.reader.now.reader front named.0) one named.2 in
-    let none = wrong is named.0 named.1 (subst (λ (d : Database). Fits version d named.0) (sym same) read.fits) (read.kept ∙ b.no_kept) in
+    let none = wrong is named.0 named.1 (subst (λ (d : Database). AllGoOnFrom version d named.0) (sym same) read.fits) (read.kept ∙ b.no_kept) in
     b.none (subst (KeepsNone version old.now) read.members (subst (λ (d : Database). KeepsNone version d named.0.members) same none)))
     (c.read_kept.ensures.damaged clean)
 

@@ -17,7 +17,7 @@ use Rattle.dict_sql.specs.Streams.Scan.{KeptById}
 use Rattle.dict_scans.specs.Cursors.{InStore}
 use Rattle.dict_rows.specs.Given.{kept_given}
 use Rattle.dict_rows.specs.Whole.{with_replies}
-use Rattle.dict_opening.specs.Opens.{KeepsNone, Fits}
+use Rattle.dict_opening.specs.Opens.{KeepsNone, AllGoOnFrom}
 use Rattle.dict_scans.specs.Scans.{HasNoRecordIn}
 use Rattle.dict_scans.specs.Takers.{HasIdTwice, HasIdsApart}
 use Rattle.dict_opening.proofs.WrongLemmas.{replies_wrong, ids_twice, ids_apart}
@@ -27,7 +27,7 @@ use Rattle.dict_opening.proofs.records.read_kept.Goals as goal
 pub returns-in_err-read_replies-clause-damaged : goal.returns-in_err-read_replies-clause-damaged
 returns-in_err-read_replies-clause-damaged g c clean =
     let old = state g.S.Store c.args.conn.now in
-    let wrong : (fault : ReadingFault) → Type 0 = λ fault. fault ≡ Damaged → (taken : Tables) → HasTaken c.args.version c.args.reader.now taken → Fits c.args.version old.now taken → taken.kept ≡ [] → KeepsNone c.args.version old.now taken.members in
+    let wrong : (fault : ReadingFault) → Type 0 = λ fault. fault ≡ Damaged → (taken : Tables) → HasTaken c.args.version c.args.reader.now taken → AllGoOnFrom c.args.version old.now taken → taken.kept ≡ [] → KeepsNone c.args.version old.now taken.members in
     passed_on wrong c.in_err-read_replies.field-0.0 c.from_residual.result c.from_residual.ensures.1
     (λ is taken h fits none. replies_wrong c.args.version old.now c.args.reader.now taken h fits none (c.in_err-read_replies.ensures.damaged clean is))
 

@@ -4,9 +4,9 @@ use Rattle.sqlite.specs.Held.{state}
 use Rattle.dict_scans.proofs.TakerLemmas.{if_err_then}
 use Rattle.dict_catalogue.specs.Items.{edition_numbers}
 use Rattle.dict_rows.specs.Taken.{items_in}
-use Rattle.dict_opening.specs.Opens.{CanRead, HasRead}
+use Rattle.dict_opening.specs.Opens.{CanRead, HasReadEditions}
 use Rattle.dict_opening.proofs.WrongLemmas.{can_read}
-use Rattle.dict_scans.specs.Reading.{IsExcused}
+use Rattle.dict_scans.specs.Reading.{IsExcusedReading}
 use Rattle.dict_scans.proofs.CauseLemmas.{rows_cause}
 use Rattle.dict_scans.proofs.ScanLemmas.{rows_damaged}
 use Rattle.dict_scans.proofs.TakerLemmas.{on_damage}
@@ -19,7 +19,7 @@ returns-clause-named g c clean =
     on_ok_weaker c.read_numbered_editions.result
     (λ read front h b.
     let got = read front (subst (λ ns. CanRead c.args.version old.now c.args.reader.now.reader ns front) (sym are) (can_read c.args.version old.now c.args.reader.now.reader front h b)) in
-    (got.0, got.1, subst (λ ns. HasRead c.args.version old.now ns front got.0) are got.2))
+    (got.0, got.1, subst (λ ns. HasReadEditions c.args.version old.now ns front got.0) are got.2))
     (c.read_numbered_editions.ensures.whole clean)
 
 pub returns-clause-indexed : goal.returns-clause-indexed
@@ -37,7 +37,7 @@ returns-clause-damaged g c clean =
 
 pub returns-in-Err-clause-failed : goal.returns-in-Err-clause-failed
 returns-in-Err-clause-failed g c clean =
-    subst (IsExcused (state g.S.Store c.args.conn.now) (state g.S.Store c.args.conn.now)) (sym c.fault_of_rows.ensures) (rows_cause (state g.S.Store c.args.conn.now) (state g.S.Store c.args.conn.now) c.in-Err.fault)
+    subst (IsExcusedReading (state g.S.Store c.args.conn.now) (state g.S.Store c.args.conn.now)) (sym c.fault_of_rows.ensures) (rows_cause (state g.S.Store c.args.conn.now) (state g.S.Store c.args.conn.now) c.in-Err.fault)
 
 pub returns-in-Err-clause-damaged : goal.returns-in-Err-clause-damaged
 returns-in-Err-clause-damaged g c clean is front h b M holds =

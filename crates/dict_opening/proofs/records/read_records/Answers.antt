@@ -20,7 +20,7 @@ use Rattle.dict_opening.specs.Indexed.{HaveRowsIndexed}
 use Rattle.dict_opening.proofs.HoldLemmas.{has_summary}
 use Rattle.dict_opening.proofs.IndexLemmas.{numbers_summed}
 use Rattle.dict_scans.proofs.CauseLemmas.{cause_passed, cause_then, rows_cause}
-use Rattle.dict_scans.specs.Reading.{IsExcused}
+use Rattle.dict_scans.specs.Reading.{IsExcusedReading}
 use Rattle.dict_opening.proofs.records.read_records.Goals as goal
 
 pub returns-in_err-reader-clause-damaged : goal.returns-in_err-reader-clause-damaged
@@ -95,7 +95,7 @@ returns-in-Err-clause-failed g c clean =
 
 pub returns-in-Err-finish-clause-failed : goal.returns-in-Err-finish-clause-failed
 returns-in-Err-finish-clause-failed g c clean =
-    subst (IsExcused (state g.S.Store c.args.conn.now) (state g.S.Store c.read_all.new.conn)) (sym c.fault_of_rows.ensures) (rows_cause (state g.S.Store c.args.conn.now) (state g.S.Store c.read_all.new.conn) c.in-Err-finish.fault)
+    subst (IsExcusedReading (state g.S.Store c.args.conn.now) (state g.S.Store c.read_all.new.conn)) (sym c.fault_of_rows.ensures) (rows_cause (state g.S.Store c.args.conn.now) (state g.S.Store c.read_all.new.conn) c.in-Err-finish.fault)
 
 pub returns-in-Err-clause-reads : goal.returns-in-Err-clause-reads
 returns-in-Err-clause-reads g c =

@@ -4,7 +4,7 @@ use Rattle.sqlite.specs.Effect.{Database}
 use Rattle.sqlite.specs.State.{HasCleanDisk}
 use Rattle.sqlite.specs.Held.{state}
 use Rattle.dict_sql.proofs.StreamLemmas.{passed_on}
-use Rattle.dict_holdings.specs.Readings.{IsReadable, contents, name_of}
+use Rattle.dict_holdings.specs.Readings.{IsReadable, contents, table_name_of}
 use Rattle.dict_scans.specs.Census.{AreKnownApart, is_of_contents}
 use Rattle.dict_scans.specs.declared.fault.ReadingFault.{ReadingFault}
 use Rattle.dict_scans.specs.declared.fault.ReadingFault.TheVariants.{Damaged}
@@ -41,7 +41,7 @@ returns-clause-known g c clean =
     on_ok_weaker c.test_contents.result
     (λ known. record {
       editions = c.in_ok-test_records.ensures.known early;
-      contents = subst (λ (d : Database). AreKnownApart (is_of_contents layout c.args.numbers.now) (name_of (contents layout)) d) same known;
+      contents = subst (λ (d : Database). AreKnownApart (is_of_contents layout c.args.numbers.now) (table_name_of (contents layout)) d) same known;
     })
     (c.test_contents.ensures.known clean)
 
@@ -54,7 +54,7 @@ returns-clause-damaged g c clean =
     let early : HasCleanDisk mid = clean_before old mid new c.test_contents.ensures.reads.survives clean in
     let same = (c.in_ok-test_records.ensures.same early).now in
     if_err_then _ _ c.test_contents.result
-    (λ fault wrong is readable known. wrong is (subst (IsReadable (contents layout)) (sym same) readable.1.0) (subst (λ (d : Database). AreKnownApart (is_of_contents layout c.args.numbers.now) (name_of (contents layout)) d) (sym same) known.contents))
+    (λ fault wrong is readable known. wrong is (subst (IsReadable (contents layout)) (sym same) readable.1.0) (subst (λ (d : Database). AreKnownApart (is_of_contents layout c.args.numbers.now) (table_name_of (contents layout)) d) (sym same) known.contents))
     (c.test_contents.ensures.damaged clean)
 
 pub returns-in_err-test_records-clause-failed : goal.returns-in_err-test_records-clause-failed

@@ -2,7 +2,7 @@ use Rattle.std.proofs.Common.{sym, subst, ◌∙◌}
 use Rattle.std.proofs.lemmas.Result.{on_ok_weaker}
 use Rattle.sqlite.specs.Held.{state}
 use Rattle.dict_sql.specs.Effects.{WhileOpen}
-use Rattle.dict_scans.specs.Reading.{IsExcused}
+use Rattle.dict_scans.specs.Reading.{IsExcusedReading}
 use Rattle.dict_scans.proofs.CauseLemmas.{rows_cause}
 use Rattle.dict_scans.proofs.ScanLemmas.{rows_damaged}
 use Rattle.dict_scans.proofs.TakerLemmas.{if_err_then, on_damage}
@@ -18,7 +18,7 @@ returns-in-Err-clause-damaged g c clean is taken h fits T M K =
 pub returns-in-Err-clause-failed : goal.returns-in-Err-clause-failed
 returns-in-Err-clause-failed g c clean =
     let old = state g.S.Store c.args.conn.now in
-    subst (IsExcused old old) (sym c.fault_of_rows.ensures) (rows_cause old old c.in-Err.fault)
+    subst (IsExcusedReading old old) (sym c.fault_of_rows.ensures) (rows_cause old old c.in-Err.fault)
 
 pub test_numbers-requires : goal.test_numbers-requires
 test_numbers-requires g c = subst (λ layout. WhileOpen (state g.S.Store c.args.conn.now) (HasTablesOf layout)) (sym c.layout_of.ensures) c.requires

@@ -6,7 +6,7 @@ use Rattle.dict_sql.specs.Effects.{equals_number}
 use Rattle.dict_sql.specs.Encodings.{stored_edition}
 use Rattle.dict_sql.specs.Reads.{IsSelection}
 use Rattle.dict_opening.proofs.NoneLemmas.{one_item}
-use Rattle.dict_scans.specs.Reading.{IsExcused}
+use Rattle.dict_scans.specs.Reading.{IsExcusedReading}
 use Rattle.dict_scans.proofs.CauseLemmas.{list_cause}
 use Rattle.dict_sql.specs.Columns.{edition_columns}
 use Rattle.dict_opening.proofs.texts.edition_numbered.Goals as goal
@@ -22,4 +22,4 @@ returns-clause-one g c clean =
 
 pub returns-in-Err-clause-failed : goal.returns-in-Err-clause-failed
 returns-in-Err-clause-failed g c clean =
-    subst (IsExcused (state g.S.Store c.args.conn.now) (state g.S.Store c.editions_numbered.new.conn)) (sym c.fault_of_read.ensures) (list_cause edition_columns _ (state g.S.Store c.args.conn.now) (state g.S.Store c.editions_numbered.new.conn) c.in-Err.error (c.in-Err.ensures.failed clean))
+    subst (IsExcusedReading (state g.S.Store c.args.conn.now) (state g.S.Store c.editions_numbered.new.conn)) (sym c.fault_of_read.ensures) (list_cause edition_columns _ (state g.S.Store c.args.conn.now) (state g.S.Store c.editions_numbered.new.conn) c.in-Err.error (c.in-Err.ensures.failed clean))

@@ -6,7 +6,7 @@ use Rattle.dict_sql.specs.Effects.{equals_number}
 use Rattle.dict_edition_sql.specs.HeaderRecords.{header_columns, stored_header}
 use Rattle.dict_sql.specs.Reads.{IsSelection}
 use Rattle.dict_opening.proofs.NoneLemmas.{one_item}
-use Rattle.dict_scans.specs.Reading.{IsExcused}
+use Rattle.dict_scans.specs.Reading.{IsExcusedReading}
 use Rattle.dict_scans.proofs.CauseLemmas.{list_cause}
 use Rattle.dict_opening.proofs.texts.header_numbered.Goals as goal
 
@@ -21,4 +21,4 @@ returns-clause-one g c clean =
 
 pub returns-in-Err-clause-failed : goal.returns-in-Err-clause-failed
 returns-in-Err-clause-failed g c clean =
-    subst (IsExcused (state g.S.Store c.args.conn.now) (state g.S.Store c.headers_numbered.new.conn)) (sym c.fault_of_read.ensures) (list_cause header_columns _ (state g.S.Store c.args.conn.now) (state g.S.Store c.headers_numbered.new.conn) c.in-Err.error (c.in-Err.ensures.failed clean))
+    subst (IsExcusedReading (state g.S.Store c.args.conn.now) (state g.S.Store c.headers_numbered.new.conn)) (sym c.fault_of_read.ensures) (list_cause header_columns _ (state g.S.Store c.args.conn.now) (state g.S.Store c.headers_numbered.new.conn) c.in-Err.error (c.in-Err.ensures.failed clean))

@@ -1,6 +1,6 @@
 use Rattle.std.proofs.Common.{◌≡◌, ◌<◌, ◌≤◌, [], ◌∷◌, ◌++◌, cond, get_or, length, ap, sym, subst, ◌∙◌, arith}
 use Rattle.std.proofs.lemmas.List.{get_or-map, length-map}
-use Rattle.dict_derived.specs.Kept.{kept_grams}
+use Rattle.dict_derived.specs.KeptGrams.{kept_grams}
 use Rattle.dict_places.specs.declared.placed.PlacedGram.{PlacedGram}
 use Rattle.dict_places.specs.Grouped.{GoesOnGrouping}
 use Rattle.dict_places.specs.Pieces.{pairs_of, ends_with_piece}

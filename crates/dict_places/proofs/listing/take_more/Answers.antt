@@ -1,8 +1,8 @@
 use Rattle.std.proofs.Common.{◌≡◌, ◌++◌, ◌<◌, ◌≤◌, map, length, take, ap, sym, ◌∙◌, arith}
 use Rattle.std.proofs.lemmas.List.{take_all}
-use Rattle.dict_derived.specs.Kept.{kept_grams}
+use Rattle.dict_derived.specs.KeptGrams.{kept_grams}
 use Rattle.dict_places.specs.Merging.{elements}
-use Rattle.dict_places.specs.Pieces.{at_place, occurrences_from}
+use Rattle.dict_places.specs.Pieces.{placed_at, occurrences_from}
 use Rattle.dict_places.specs.PlacedPieces.{grams_placed}
 use Rattle.dict_places.proofs.MergingLemmas.{as_it_was}
 use Rattle.dict_places.proofs.PlacedLemmas.{next_key}
@@ -14,7 +14,7 @@ loop-at-preserved c =
     let at = c.loop-at.at in
     let within : at < length keys = omega (arith, c.loop-at-test.true, c.requires.count) in
     c.in_ok-add_grams.ensures
-    ∙ ap (λ l. l ++ map (at_place at) (kept_grams c.get.result.now)) c.loop-at.invariant
+    ∙ ap (λ l. l ++ map (placed_at at) (kept_grams c.get.result.now)) c.loop-at.invariant
     ∙ sym (next_key kept_grams keys at c.get.result.now within c.get.ensures)
 
 pub returns-then-place-count : goal.returns-then-place-count

@@ -1,5 +1,5 @@
 use Rattle.std.proofs.Common.{◌≡◌, take}
-use Rattle.dict_derived.specs.Kept.{kept_grams}
+use Rattle.dict_derived.specs.KeptGrams.{kept_grams}
 use Rattle.dict_places.specs.Pieces.{occurrences_from}
 use Rattle.dict_places.specs.PlacedPieces.{grams_placed}
 use Rattle.dict_places.proofs.listing.take_more.Given as goal

@@ -1,6 +1,6 @@
 use Rattle.std.proofs.Common.{sym, subst}
 use Rattle.std.proofs.lemmas.Result.{IfOk-weaker}
-use Rattle.dict_derived.specs.Kept.{kept_grams}
+use Rattle.dict_derived.specs.KeptGrams.{kept_grams}
 use Rattle.dict_places.specs.Pieces.{AreOccurrences}
 use Rattle.dict_places.specs.PlacedPieces.{grams_placed}
 use Rattle.dict_places.proofs.pieces.grams_of.Goals as goal

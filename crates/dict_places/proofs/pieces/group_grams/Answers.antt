@@ -1,6 +1,6 @@
 use Rattle.std.proofs.Common.{◌≡◌, ◌≤◌, [], ◌∷◌, ◌++◌, cond, get_or, length, ap, ◌∙◌, arith}
 use Rattle.std.proofs.lemmas.List.{length-map}
-use Rattle.dict_derived.specs.Kept.{kept_grams}
+use Rattle.dict_derived.specs.KeptGrams.{kept_grams}
 use Rattle.dict_places.specs.declared.placed.PlacedGram.{PlacedGram}
 use Rattle.dict_places.specs.Pieces.{pairs_of, ends_with_piece}
 use Rattle.dict_places.specs.PlacedPieces.{gram_placed, grams_placed}

@@ -1,7 +1,7 @@
 use Rattle.std.proofs.Common.{◌≡◌, ◌+◌, ◌-◌, ◌<◌, [], ◌∷◌, ◌++◌, Vec, Global, true, false, map, drop, length, get_or, refl, ap, sym, ◌∙◌, arith}
-use Rattle.dict_places.specs.Pieces.{at_place}
+use Rattle.dict_places.specs.Pieces.{placed_at}
 use Rattle.dict_places.specs.PlacedPieces.{gram_placed, grams_placed}
-use Rattle.dict_derived.specs.Kept.{is_kept, kept_grams}
+use Rattle.dict_derived.specs.KeptGrams.{is_kept_gram, kept_grams}
 use Rattle.dict_places.specs.declared.placed.PlacedGram.{PlacedGram}
 use Rattle.dict_places.proofs.KeptLemmas.{kept_next, left_out_next, no_more_kept}
 use Rattle.dict_places.proofs.PlacedLemmas.{put_more, none_left}
@@ -18,13 +18,13 @@ loop-end-preserved c =
     let rest = kept_grams (drop (end + 1 - 3) key) in
     elim c.if-is_kept.branch [
       | then-is_kept+in_ok-push w ↦
-          let kept : is_kept gram ≡ true = ap is_kept (sym c.as_slice.ensures) ∙ sym c.is_kept.ensures ∙ w.if-is_kept.true in
-          put_more gram_placed (at_place place) old c.if-is_kept.list.items _ _ (kept_grams (drop (end - 3) key)) rest _
+          let kept : is_kept_gram gram ≡ true = ap is_kept_gram (sym c.as_slice.ensures) ∙ sym c.is_kept.ensures ∙ w.if-is_kept.true in
+          put_more gram_placed (placed_at place) old c.if-is_kept.list.items _ _ (kept_grams (drop (end - 3) key)) rest _
           (ap (λ (v : Vec PlacedGram Global). v.items) w.list-is ∙ w.in_ok-push.ensures.items) refl (kept_next key end c.loop-end.auto.end c.loop-end-test.true kept) c.loop-end.invariant
       | else-is_kept w ↦
-          let out : is_kept gram ≡ false = ap is_kept (sym c.as_slice.ensures) ∙ sym c.is_kept.ensures ∙ w.if-is_kept.false in
-          ap (λ (v : Vec PlacedGram Global). grams_placed v.items ++ map (at_place place) rest) w.list-is
-          ∙ ap (λ l. grams_placed old ++ map (at_place place) l) (sym (left_out_next key end c.loop-end.auto.end c.loop-end-test.true out))
+          let out : is_kept_gram gram ≡ false = ap is_kept_gram (sym c.as_slice.ensures) ∙ sym c.is_kept.ensures ∙ w.if-is_kept.false in
+          ap (λ (v : Vec PlacedGram Global). grams_placed v.items ++ map (placed_at place) rest) w.list-is
+          ∙ ap (λ l. grams_placed old ++ map (placed_at place) l) (sym (left_out_next key end c.loop-end.auto.end c.loop-end-test.true out))
           ∙ c.loop-end.invariant
     ]
 
@@ -33,4 +33,4 @@ returns c =
     let key = c.args.key.now in
     let end = c.loop-end.end in
     let past : length key < end - 3 + 3 = omega (arith, c.loop-end-test.false, c.loop-end.auto.end) in
-    none_left gram_placed (at_place c.args.place) c.loop-end.list.items (kept_grams (drop (end - 3) key)) _ (no_more_kept key (end - 3) past) c.loop-end.invariant
+    none_left gram_placed (placed_at c.args.place) c.loop-end.list.items (kept_grams (drop (end - 3) key)) _ (no_more_kept key (end - 3) past) c.loop-end.invariant

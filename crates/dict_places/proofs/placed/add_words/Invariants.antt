@@ -1,6 +1,6 @@
 use Rattle.std.proofs.Common.{◌≡◌, ◌++◌, map}
 use Rattle.dict_match.specs.Words.{words_between_blanks}
-use Rattle.dict_places.specs.Pieces.{at_place}
+use Rattle.dict_places.specs.Pieces.{placed_at}
 use Rattle.dict_places.specs.PlacedPieces.{words_placed}
 use Rattle.dict_places.proofs.placed.add_words.Given as goal
 
@@ -8,4 +8,4 @@ use Rattle.dict_places.proofs.placed.add_words.Given as goal
 abbrev pub invariant-loop-word : goal.invariant-loop-word
 invariant-loop-word l =
     (goal.iterator-loop-word).can_next l.word-iterator × (goal.iterator-loop-word).is_finite l.word-iterator
-    × (words_placed l.list.items ++ map (at_place l.place) l.word-iterator ≡ words_placed l.fn.list.items ++ map (at_place l.place) (words_between_blanks l.key))
+    × (words_placed l.list.items ++ map (placed_at l.place) l.word-iterator ≡ words_placed l.fn.list.items ++ map (placed_at l.place) (words_between_blanks l.key))

@@ -4,7 +4,7 @@ use Rattle.std.specs.Ordering.{is_lt}
 use Rattle.std.proofs.lemmas.Fn.{always_returns_same}
 use Rattle.std.proofs.lemmas.List.Filters.{dedup_is}
 use Rattle.std.proofs.lemmas.List.Sorted.{IsPermutation-map, IsPermutation-trans, ranks_by}
-use Rattle.dict_derived.specs.Kept.{kept_grams}
+use Rattle.dict_derived.specs.KeptGrams.{kept_grams}
 use Rattle.dict_places.specs.PlacedPieces.{gram_placed, gram_cmp}
 use Rattle.dict_places.proofs.PlacedLemmas.{gram_total, placed_again, pieces_tie}
 use Rattle.dict_places.proofs.placed.each_once.Goals as goal

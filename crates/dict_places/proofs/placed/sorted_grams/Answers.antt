@@ -5,8 +5,8 @@ use Rattle.std.proofs.lemmas.Fn.{always_returns_same}
 use Rattle.std.proofs.lemmas.List.Sorted.{ranks_by}
 use Rattle.std.proofs.lemmas.List.{take_all}
 use Rattle.std.proofs.lemmas.List.Filters.{dedup_is}
-use Rattle.dict_derived.specs.Kept.{kept_grams}
-use Rattle.dict_places.specs.Pieces.{at_place, occurrences_from}
+use Rattle.dict_derived.specs.KeptGrams.{kept_grams}
+use Rattle.dict_places.specs.Pieces.{placed_at, occurrences_from}
 use Rattle.dict_places.specs.PlacedPieces.{gram_cmp}
 use Rattle.dict_places.proofs.PlacedLemmas.{next_key, gram_total, placed_grams, pieces_tie}
 use Rattle.dict_places.proofs.placed.sorted_grams.Goals as goal
@@ -17,7 +17,7 @@ loop-place-preserved c =
     let place = c.loop-place.place in
     let within : place < length keys = omega (arith, c.loop-place-test.true, c.requires) in
     c.in_ok-add_grams.ensures
-    ∙ ap (λ l. l ++ map (at_place place) (kept_grams c.get.result.now)) c.loop-place.invariant
+    ∙ ap (λ l. l ++ map (placed_at place) (kept_grams c.get.result.now)) c.loop-place.invariant
     ∙ sym (next_key kept_grams keys place c.get.result.now within c.get.ensures)
 
 by_cmp : {F : Type 0} (r o : Ordering) (f g : F) → (r ≡ o) × (f ≡ g) → (is_lt r ≡ is_lt o) × (f ≡ g)

@@ -2,7 +2,7 @@ use Rattle.std.proofs.Common.{◌++◌, ◌<◌, ◌≤◌, map, length, ap, sym
 use Rattle.std.proofs.lemmas.List.{take_all}
 use Rattle.std.proofs.lemmas.List.Filters.{dedup_is}
 use Rattle.dict_match.specs.Words.{words_between_blanks}
-use Rattle.dict_places.specs.Pieces.{at_place, occurrences_from}
+use Rattle.dict_places.specs.Pieces.{placed_at, occurrences_from}
 use Rattle.dict_places.proofs.PlacedLemmas.{next_key, placed_words, pieces_tie}
 use Rattle.dict_places.proofs.placed.sorted_words.Goals as goal
 
@@ -12,7 +12,7 @@ loop-place-preserved c =
     let place = c.loop-place.place in
     let within : place < length keys = omega (arith, c.loop-place-test.true, c.requires) in
     c.in_ok-add_words.ensures
-    ∙ ap (λ l. l ++ map (at_place place) (words_between_blanks c.get.result.now)) c.loop-place.invariant
+    ∙ ap (λ l. l ++ map (placed_at place) (words_between_blanks c.get.result.now)) c.loop-place.invariant
     ∙ sym (next_key words_between_blanks keys place c.get.result.now within c.get.ensures)
 
 pub returns : goal.returns

@@ -3,7 +3,7 @@ use Rattle.std.proofs.lemmas.List.{get_or-map, length-map}
 use Rattle.dict_match.specs.Words.{words_between_blanks}
 use Rattle.dict_places.specs.Grouped.{GoesOnGrouping}
 use Rattle.dict_places.specs.Pieces.{pairs_of, ends_with_piece}
-use Rattle.dict_places.specs.Wording.{row_of, rows_of}
+use Rattle.dict_places.specs.Wording.{word_with_place, words_with_places}
 use Rattle.dict_places.proofs.PieceLemmas.{goes_on, all_grouped}
 use Rattle.dict_places.proofs.wording.group_more.Goals as goal
 
@@ -13,7 +13,7 @@ loop-k-init c = c.requires.first
 pub loop-k-preserved : goal.loop-k-preserved
 loop-k-preserved c =
     let grouped = c.args.grouped in
-    let row = row_of grouped.found grouped.places.items in
+    let row = word_with_place grouped.found grouped.places.items in
     let order = grouped.order.items in
     let k = c.loop-k.k in
     let x : ℕ = c.index-one.result.now in
@@ -31,8 +31,8 @@ loop-k-preserved c =
 pub returns-then-at-len : goal.returns-then-at-len
 returns-then-at-len c =
     let grouped = c.args.grouped in
-    let rows = rows_of grouped.found grouped.places.items grouped.order.items in
-    let past : length rows ≤ grouped.at = omega (arith, length-map grouped.order.items (row_of grouped.found grouped.places.items), c.if-at-len.true) in
+    let rows = words_with_places grouped.found grouped.places.items grouped.order.items in
+    let past : length rows ≤ grouped.at = omega (arith, length-map grouped.order.items (word_with_place grouped.found grouped.places.items), c.if-at-len.true) in
     c.in_ok-pieces_of.ensures words_between_blanks c.args.keys.now (all_grouped words_between_blanks c.args.keys.now grouped.texts grouped.lists rows grouped.at past c.requires.first c.requires.all)
 
 pub returns : goal.returns
@@ -41,5 +41,5 @@ returns c =
     let same : c.loop-k.k ≡ c.min-to.result = omega arith in
     record {
       all = c.requires.all;
-      first = subst (λ n. GoesOnGrouping (rows_of grouped.found grouped.places.items grouped.order.items) n c.loop-k.texts c.loop-k.lists) same c.loop-k.invariant;
+      first = subst (λ n. GoesOnGrouping (words_with_places grouped.found grouped.places.items grouped.order.items) n c.loop-k.texts c.loop-k.lists) same c.loop-k.invariant;
     }

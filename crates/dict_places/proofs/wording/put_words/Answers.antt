@@ -1,14 +1,14 @@
 use Rattle.std.proofs.Common.{◌≡◌, ◌++◌, map, ap, sym, ◌∙◌}
 use Rattle.std.specs.List.{zip}
 use Rattle.dict_match.specs.Words.{words_between_blanks}
-use Rattle.dict_places.specs.Pieces.{at_place}
+use Rattle.dict_places.specs.Pieces.{placed_at}
 use Rattle.dict_places.proofs.WordLemmas.{put_one, as_many, all_put}
 use Rattle.dict_places.proofs.wording.put_words.Goals as goal
 
 pub loop-word-init : goal.loop-word-init
 loop-word-init c =
     let all : words_between_blanks c.args.key.now ≡ c.into_iter-word-iterator.result = sym (c.into_iter-word-iterator.ensures.into_iter_gives ∙ c.words-word-items.ensures.value) in
-    (tt, tt, c.requires, ap (λ ws. zip c.args.found.now c.args.places.now.items ++ map (at_place c.args.place) ws) (sym all))
+    (tt, tt, c.requires, ap (λ ws. zip c.args.found.now c.args.places.now.items ++ map (placed_at c.args.place) ws) (sym all))
 
 pub loop-word-preserved : goal.loop-word-preserved
 loop-word-preserved c =

@@ -2,7 +2,7 @@ use Rattle.std.proofs.Common.{length, ap, sym, ◌∙◌, subst}
 use Rattle.std.specs.List.{zip}
 use Rattle.dict_match.specs.Words.{words_between_blanks}
 use Rattle.dict_places.specs.Pieces.{AreOccurrences}
-use Rattle.dict_places.specs.Wording.{rows_of}
+use Rattle.dict_places.specs.Wording.{words_with_places}
 use Rattle.dict_places.proofs.PieceLemmas.{goes_none}
 use Rattle.dict_places.proofs.wording.sort_more.Goals as goal
 
@@ -20,6 +20,6 @@ each_once-order-requires c =
 
 pub returns : goal.returns
 returns c = record {
-  all = subst (λ l. AreOccurrences words_between_blanks c.args.keys.now (rows_of c.args.sorted.found l c.each_once-order.result.items)) c.as_slice.ensures.value c.each_once-order.ensures;
+  all = subst (λ l. AreOccurrences words_between_blanks c.args.keys.now (words_with_places c.args.sorted.found l c.each_once-order.result.items)) c.as_slice.ensures.value c.each_once-order.ensures;
   first = goes_none _ _ _ c.new.ensures c.in_ok-lists.ensures;
 }

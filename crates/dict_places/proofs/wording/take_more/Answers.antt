@@ -1,7 +1,7 @@
 use Rattle.std.proofs.Common.{◌≡◌, ◌++◌, ◌<◌, map, length, take, ap, sym, ◌∙◌, arith}
 use Rattle.std.proofs.lemmas.List.{take_all}
 use Rattle.dict_match.specs.Words.{words_between_blanks}
-use Rattle.dict_places.specs.Pieces.{at_place, occurrences_from}
+use Rattle.dict_places.specs.Pieces.{placed_at, occurrences_from}
 use Rattle.dict_places.proofs.PlacedLemmas.{next_key}
 use Rattle.dict_places.proofs.wording.take_more.Goals as goal
 
@@ -23,7 +23,7 @@ loop-at-preserved c =
     record {
       same = c.in_ok-put_words.ensures.same;
       are = c.in_ok-put_words.ensures.put
-          ∙ ap (λ l. l ++ map (at_place at) (words_between_blanks c.get.result.now)) c.loop-at.invariant.are
+          ∙ ap (λ l. l ++ map (placed_at at) (words_between_blanks c.get.result.now)) c.loop-at.invariant.are
           ∙ sym (next_key words_between_blanks keys at c.get.result.now within c.get.ensures);
     }
 

@@ -1,5 +1,5 @@
 use Rattle.std.proofs.Common.{arith}
-use Rattle.dict_proto.specs.Parts.{part_octets}
+use Rattle.dict_proto.specs.ReplyParts.{part_octets}
 use Rattle.dict_proto.proofs.GatheringLemmas.{piece_joined, piece_broken}
 use Rattle.dict_proto.proofs.part.add_parts.Goals as goal
 

@@ -1,7 +1,7 @@
 use Rattle.std.proofs.Common.{take}
 use Rattle.std.specs.List.{flat_map}
 use Rattle.dict_proto.specs.Gathering.{Joins}
-use Rattle.dict_proto.specs.Parts.{part_octets}
+use Rattle.dict_proto.specs.ReplyParts.{part_octets}
 use Rattle.dict_proto.proofs.part.add_parts.Given as goal
 
 abbrev pub invariant-loop-part : goal.invariant-loop-part

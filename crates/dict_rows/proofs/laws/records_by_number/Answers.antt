@@ -10,7 +10,7 @@ pub returns-clause-entries : goal.returns-clause-entries
 returns-clause-entries c = entries_more
 
 pub returns-clause-all_editions : goal.returns-clause-all_editions
-returns-clause-all_editions c = λ numbers all h. filter_whole (λ (row : spec.Edition). is_of numbers row.number) all h
+returns-clause-all_editions c = λ numbers all h. filter_whole (λ (row : spec.EditionRecord). is_of numbers row.number) all h
 
 pub returns-clause-all_entries : goal.returns-clause-all_entries
-returns-clause-all_entries c = λ numbers all h. filter_whole (λ (row : spec.Entry). is_of numbers row.edition) all h
+returns-clause-all_entries c = λ numbers all h. filter_whole (λ (row : spec.EntryRecord). is_of numbers row.edition) all h

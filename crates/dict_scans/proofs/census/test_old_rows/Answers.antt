@@ -4,7 +4,7 @@ use Rattle.std.specs.Prelude.{IfErr}
 use Rattle.sqlite.specs.State.{HasCleanDisk}
 use Rattle.sqlite.specs.Held.{state}
 use Rattle.dict_sql.specs.Reads.{FailsToRead}
-use Rattle.dict_scans.specs.Reading.{OnlyReads, IsExcused}
+use Rattle.dict_scans.specs.Reading.{OnlyReads, IsExcusedReading}
 use Rattle.dict_scans.specs.Scans.{TakesAll, IsWrong}
 use Rattle.std.proofs.Common.{codes}
 use Rattle.sqlite.specs.Effect.{IsDatabase}
@@ -60,7 +60,7 @@ returns-clause-failed g c clean =
     let end = c.take_all.new.rows.conn.now in
     let same : end ≡ c.conn-2-1.given.0 = search rules in
     let late : HasCleanDisk (state g.S.Store end) = subst (λ h. HasCleanDisk (state g.S.Store h)) (sym same) clean in
-    subst (λ h. IfErr c.take_all.result (IsExcused (state g.S.Store old) (state g.S.Store h))) same
+    subst (λ h. IfErr c.take_all.result (IsExcusedReading (state g.S.Store old) (state g.S.Store h))) same
     (cause_on g.S.Store OldEntriesByRowid old mid end c.take_all.result c.in-Ok.ensures.begun c.in-Ok.ensures.survives c.take_all.ensures.survives late (c.take_all.ensures.failed late))
 
 pub returns-in-Err-clause-failed : goal.returns-in-Err-clause-failed
@@ -68,4 +68,4 @@ returns-in-Err-clause-failed g c clean =
     let old = state g.S.Store c.args.conn.now in
     let new = state g.S.Store c.read_old_by_rowid.follows.lender-at-none in
     let failed : FailsToRead old new c.in-Err.error = search rules in
-    subst (IsExcused old new) (sym c.fault_of_store.ensures) (store_cause old new c.in-Err.error failed)
+    subst (IsExcusedReading old new) (sym c.fault_of_store.ensures) (store_cause old new c.in-Err.error failed)

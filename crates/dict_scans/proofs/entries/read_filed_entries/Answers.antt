@@ -6,7 +6,7 @@ use Rattle.dict_rows.specs.Versions.{Parted}
 use Rattle.dict_sql.proofs.StreamLemmas.{passed_on}
 use Rattle.dict_scans.specs.Entries.{HasWrongEntries}
 use Rattle.dict_scans.specs.Files.{HasFile, HasNoFile}
-use Rattle.dict_scans.specs.Reading.{IsExcused}
+use Rattle.dict_scans.specs.Reading.{IsExcusedReading}
 use Rattle.dict_scans.specs.declared.fault.ReadingFault.{ReadingFault}
 use Rattle.dict_scans.specs.declared.fault.ReadingFault.TheVariants.{Damaged}
 use Rattle.dict_scans.proofs.CauseLemmas.{cause_passed, rows_cause}
@@ -46,4 +46,4 @@ pub returns-clause-failed : goal.returns-clause-failed
 returns-clause-failed g c clean =
     let old = state g.S.Store c.args.conn.now in
     let new = state g.S.Store c.read_file.new.conn in
-    subst (IsExcused old new) (sym c.fault_of_rows.ensures) (rows_cause old new c.in-Err.fault)
+    subst (IsExcusedReading old new) (sym c.fault_of_rows.ensures) (rows_cause old new c.in-Err.fault)

@@ -6,14 +6,14 @@ use Rattle.std.specs.Prelude.{IfErr}
 use Rattle.sqlite.specs.State.{HasCleanDisk}
 use Rattle.sqlite.specs.Held.{state}
 use Rattle.dict_sql.specs.Reads.{FailsToRead}
-use Rattle.dict_scans.specs.Reading.{OnlyReads, IsExcused}
+use Rattle.dict_scans.specs.Reading.{OnlyReads, IsExcusedReading}
 use Rattle.dict_scans.specs.Scans.{TakesAll, IsWrong}
 use Rattle.sqlite.specs.Effect.{IsDatabase}
 use Rattle.dict_tables.specs.Keyed.{old_entry}
 use Rattle.dict_sql.specs.Effects.{Has}
 use Rattle.dict_sql.specs.Keyed.{old_entry_columns, stored_old_entry}
 use Rattle.dict_scans.specs.Cursors.Cursor.{OldEntriesOf}
-use Rattle.dict_scans.specs.Filing.{takes_old, refuses_old}
+use Rattle.dict_scans.specs.IndexingReader.{takes_old, refuses_old}
 use Rattle.dict_scans.proofs.EntryLemmas.{old_whole, old_wrong}
 use Rattle.dict_scans.proofs.StateLemmas.{clean_before}
 use Rattle.dict_scans.proofs.BeginLemmas.{reads_on, whole_on, damaged_on}
@@ -59,7 +59,7 @@ returns-clause-failed g c clean =
     let end = c.take_all.new.rows.conn.now in
     let same : end ≡ c.conn-2-1.given.0 = search rules in
     let late : HasCleanDisk (state g.S.Store end) = subst (λ h. HasCleanDisk (state g.S.Store h)) (sym same) clean in
-    subst (λ h. IfErr c.take_all.result (IsExcused (state g.S.Store old) (state g.S.Store h))) same
+    subst (λ h. IfErr c.take_all.result (IsExcusedReading (state g.S.Store old) (state g.S.Store h))) same
     (cause_on g.S.Store (OldEntriesOf c.args.number) old mid end c.take_all.result (rw (to_z-of_z w64 c.args.number c.ranges.number) at c.in-Ok.ensures.begun) c.in-Ok.ensures.survives c.take_all.ensures.survives late (c.take_all.ensures.failed late))
 
 pub returns-in-Err-clause-failed : goal.returns-in-Err-clause-failed
@@ -67,4 +67,4 @@ returns-in-Err-clause-failed g c clean =
     let old = state g.S.Store c.args.conn.now in
     let new = state g.S.Store c.read_old_rows_of.follows.lender-at-none in
     let failed : FailsToRead old new c.in-Err.error = search rules in
-    subst (IsExcused old new) (sym c.fault_of_store.ensures) (store_cause old new c.in-Err.error failed)
+    subst (IsExcusedReading old new) (sym c.fault_of_store.ensures) (store_cause old new c.in-Err.error failed)

@@ -6,13 +6,13 @@ use Rattle.std.specs.Prelude.{IfErr}
 use Rattle.sqlite.specs.State.{HasCleanDisk}
 use Rattle.sqlite.specs.Held.{state}
 use Rattle.dict_sql.specs.Reads.{FailsToRead}
-use Rattle.dict_scans.specs.Reading.{OnlyReads, IsExcused}
+use Rattle.dict_scans.specs.Reading.{OnlyReads, IsExcusedReading}
 use Rattle.dict_scans.specs.Scans.{TakesAll, IsWrong}
 use Rattle.dict_sql.specs.Streams.Scan.{EntriesOf}
 use Rattle.dict_sql.specs.Encodings.{stored_entry}
 use Rattle.dict_sql.specs.Columns.{entry_columns}
 use Rattle.dict_scans.specs.Cursors.Cursor.{InStore}
-use Rattle.dict_scans.specs.Filing.{takes_plain, refuses_plain}
+use Rattle.dict_scans.specs.IndexingReader.{takes_plain, refuses_plain}
 use Rattle.dict_scans.proofs.EntryLemmas.{plain_whole, plain_wrong}
 use Rattle.dict_scans.proofs.BeginLemmas.{reads_on, whole_on, damaged_on}
 use Rattle.dict_scans.proofs.TakerLemmas.{if_err_then}
@@ -53,7 +53,7 @@ returns-clause-failed g c clean =
     let end = c.take_all.new.rows.conn.now in
     let same : end ≡ c.conn-2-1.given.0 = search rules in
     let late : HasCleanDisk (state g.S.Store end) = subst (λ h. HasCleanDisk (state g.S.Store h)) (sym same) clean in
-    subst (λ h. IfErr c.take_all.result (IsExcused (state g.S.Store old) (state g.S.Store h))) same
+    subst (λ h. IfErr c.take_all.result (IsExcusedReading (state g.S.Store old) (state g.S.Store h))) same
     (cause_on g.S.Store (InStore (EntriesOf c.args.number)) old mid end c.take_all.result (rw (to_z-of_z w64 c.args.number c.ranges.number) at c.in-Ok.ensures.begun) c.in-Ok.ensures.survives c.take_all.ensures.survives late (c.take_all.ensures.failed late))
 
 pub returns-in-Err-clause-failed : goal.returns-in-Err-clause-failed
@@ -61,4 +61,4 @@ returns-in-Err-clause-failed g c clean =
     let old = state g.S.Store c.args.conn.now in
     let new = state g.S.Store c.read_entries_of.follows.lender-at-none in
     let failed : FailsToRead old new c.in-Err.error = search rules in
-    subst (IsExcused old new) (sym c.fault_of_store.ensures) (store_cause old new c.in-Err.error failed)
+    subst (IsExcusedReading old new) (sym c.fault_of_store.ensures) (store_cause old new c.in-Err.error failed)

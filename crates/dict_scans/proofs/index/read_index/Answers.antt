@@ -2,8 +2,8 @@ use Rattle.std.proofs.Common.{◌≡◌, ◌++◌, List, map, sym, subst, ◌∙
 use Rattle.std.proofs.lemmas.Int.{to_z-of_z}
 use mir.Syntax.{w64}
 use Rattle.std.proofs.lemmas.Result.{on_ok_weaker}
-use Rattle.dict_records.specs.Records.{Entry}
-use Rattle.dict_scans.specs.Entries.{AreNextTaken, IsIndexOf}
+use Rattle.dict_records.specs.Records.{EntryRecord}
+use Rattle.dict_scans.specs.Entries.{AreNextTaken, IsStoredIndexOf}
 use Rattle.dict_scans.specs.Indexing.{indexed_of}
 use Rattle.dict_scans.proofs.LineLemmas.{index_read}
 use Rattle.dict_scans.proofs.TakerLemmas.{if_err_then}
@@ -17,7 +17,7 @@ returns-clause-read c =
     let first = c.args.reader.now in
     let last = c.read_lines.new.reader in
     on_ok_weaker c.read_lines.result
-    (λ read. subst (λ n. (all : List Entry) × IsIndexOf n c.args.octets.now all × AreNextTaken n first.reader last.reader all × (last.index ≡ first.index ++ map indexed_of all)) (sym c.in-Some.ensures.number ∙ to_z-of_z w64 c.args.number c.ranges.number) (index_read c.in-Some._number first last c.args.octets.now read))
+    (λ read. subst (λ n. (all : List EntryRecord) × IsStoredIndexOf n c.args.octets.now all × AreNextTaken n first.reader last.reader all × (last.index ≡ first.index ++ map indexed_of all)) (sym c.in-Some.ensures.number ∙ to_z-of_z w64 c.args.number c.ranges.number) (index_read c.in-Some._number first last c.args.octets.now read))
     c.read_lines.ensures.read
 
 pub returns-clause-damaged : goal.returns-clause-damaged

@@ -2,7 +2,7 @@ use Rattle.std.proofs.Common.{◌≡◌, ◌++◌, ◌∷◌, [], length, refl, 
 use Rattle.std.specs.Prelude.{◌≢◌}
 use Rattle.dict_text.proofs.AllLemmas.{all_append}
 use Rattle.dict_parts.specs.Stored.{IsStorable, stored_index, stored_line}
-use Rattle.dict_parts.specs.Views.{line_of}
+use Rattle.dict_parts.specs.Views.{columns_line}
 use Rattle.dict_rows.specs.declared.fault.RowsFault.{RowsFault}
 use Rattle.dict_rows.specs.declared.fault.RowsFault.TheVariants.{Damaged}
 use Rattle.dict_sql.proofs.StreamLemmas.{passed_on}
@@ -16,7 +16,7 @@ lines-init c = ([], tt, refl, no_lines_added c.args.reader.now)
 pub lines-preserved : goal.lines-preserved
 lines-preserved c =
     let had = c.lines.invariant in
-    let line = line_of c.in-Some.line in (
+    let line = columns_line c.in-Some.line in (
       had.0 ++ line ∷ [],
       all_append IsStorable had.0 (line ∷ []) had.1 (c.in-Some.ensures.read.0, tt),
       next_left c.args.octets.now c.lines.rest.now c.in-Some.behind.now had.0 line had.2 c.in-Some.ensures.read.1,
@@ -24,7 +24,7 @@ lines-preserved c =
     )
 
 pub lines-smaller : goal.lines-smaller
-lines-smaller c = fewer_left c.lines.rest.now (stored_line (line_of c.in-Some.line)) c.in-Some.behind.now c.in-Some.ensures.read.1
+lines-smaller c = fewer_left c.lines.rest.now (stored_line (columns_line c.in-Some.line)) c.in-Some.behind.now c.in-Some.ensures.read.1
 
 pub returns-in_default-clause-damaged : goal.returns-in_default-clause-damaged
 returns-in_default-clause-damaged c = λ is.
@@ -36,7 +36,7 @@ pub returns-in_err-line-clause-damaged : goal.returns-in_err-line-clause-damaged
 returns-in_err-line-clause-damaged c =
     let had = c.lines.invariant in
     passed_on (λ (fault : RowsFault). fault ≡ Damaged → IsWrongIndex c.args.reader.now.reader c.args.octets.now) c.in_err-line.field-0.0 c.from_residual.result c.from_residual.ensures.1
-    (λ is. line_left c.args.reader.now.reader c.lines.reader.reader c.args.octets.now c.lines.rest.now c.in-Some.behind.now had.0 (line_of c.in-Some.line) had.1 c.in-Some.ensures.read.0 had.2 c.in-Some.ensures.read.1 had.3.taken (c.in_err-line.ensures.damaged is))
+    (λ is. line_left c.args.reader.now.reader c.lines.reader.reader c.args.octets.now c.lines.rest.now c.in-Some.behind.now had.0 (columns_line c.in-Some.line) had.1 c.in-Some.ensures.read.0 had.2 c.in-Some.ensures.read.1 had.3.taken (c.in_err-line.ensures.damaged is))
 
 pub returns-clause-read : goal.returns-clause-read
 returns-clause-read c =

@@ -2,7 +2,7 @@ use Rattle.std.proofs.Common.{◌≡◌, ◌++◌, List, length}
 use Rattle.std.specs.List.{AllByRecursion}
 use Rattle.dict_index.specs.Line.{Line}
 use Rattle.dict_parts.specs.Stored.{IsStorable, stored_index}
-use Rattle.dict_scans.specs.Filing.{AreLinesAdded}
+use Rattle.dict_scans.specs.IndexingReader.{AreLinesAdded}
 use Rattle.dict_scans.proofs.index.read_lines.Given as goal
 
 -- these lines were taken, and the rest stands behind them

@@ -2,7 +2,7 @@ use Rattle.std.proofs.Common.{◌≡◌, false, Ok, [], map, ap, subst, ◌∙�
 use Rattle.sqlite.specs.Effect.{Database}
 use Rattle.sqlite.specs.State.{HasCleanDisk}
 use Rattle.sqlite.specs.Held.{state}
-use Rattle.dict_scans.specs.Cursors.{Cursor, HasGiven, IsWhole}
+use Rattle.dict_scans.specs.Cursors.{Cursor, CursorHasGiven, IsScannedToEnd}
 use Rattle.dict_scans.proofs.CursorLemmas.{front_of}
 use Rattle.dict_sql.proofs.StreamLemmas.{passed_on}
 use Rattle.dict_scans.specs.declared.fault.ReadingFault.{ReadingFault}
@@ -11,7 +11,7 @@ use Rattle.dict_scans.specs.Scans.{IsWrong}
 use Rattle.dict_scans.proofs.StateLemmas.{clean_before, same_then}
 use Rattle.std.proofs.lemmas.List.{length-append, length-map}
 use Rattle.sqlite.proofs.StateLemmas.{survives_then}
-use Rattle.dict_scans.specs.Reading.{IsExcused, IsVast}
+use Rattle.dict_scans.specs.Reading.{IsExcusedReading, IsVast}
 use Rattle.dict_scans.proofs.CauseLemmas.{cause_then, front_vast}
 use Rattle.dict_scans.proofs.scan.take_all.Goals as goal
 
@@ -21,7 +21,7 @@ returns-in_err-take_next-clause-damaged g c clean =
     let mid = c.rows.rows.conn.now in
     let new = c.take_next.new.rows.conn.now in
     let early : HasCleanDisk (state g.S.Store mid) = clean_before (state g.S.Store old) (state g.S.Store mid) (state g.S.Store new) c.take_next.ensures.survives clean in
-    let wrong : (fault : ReadingFault) → Type 0 = λ fault. fault ≡ Damaged → (what : Cursor) → HasGiven g.S.Store what old [] → IsWrong g.R.Record.stored g.R.Record.columns g.T.Taker.refuses what (state g.S.Store old).now c.args.taker.now in
+    let wrong : (fault : ReadingFault) → Type 0 = λ fault. fault ≡ Damaged → (what : Cursor) → CursorHasGiven g.S.Store what old [] → IsWrong g.R.Record.stored g.R.Record.columns g.T.Taker.refuses what (state g.S.Store old).now c.args.taker.now in
     passed_on wrong c.in_err-take_next.field-0.0 c.from_residual.result c.from_residual.ensures.1
     (λ is what h. let had = c.rows.invariant.takes early what h in subst (λ (d : Database). IsWrong g.R.Record.stored g.R.Record.columns g.T.Taker.refuses what d c.args.taker.now) (c.rows.invariant.same early).now (c.in_err-take_next.ensures.damaged clean is what c.args.taker.now had.0 had.1))
 
@@ -34,7 +34,7 @@ returns-then-not-branch-clause-whole g c clean what h =
     let no : c.in_ok-take_next.field-0 ≡ false = search rules in
     let had = c.rows.invariant.takes early what h in
     let all = c.take_next.ensures.whole clean (c.in_ok-take_next.was ∙ ap Ok no) what c.args.taker.now had.0 had.1 in
-    (had.0, subst (λ (d : Database). IsWhole what d (map g.R.Record.stored had.0)) (c.rows.invariant.same early).now all.0, all.1)
+    (had.0, subst (λ (d : Database). IsScannedToEnd what d (map g.R.Record.stored had.0)) (c.rows.invariant.same early).now all.0, all.1)
 
 pub rows-preserved : goal.rows-preserved
 rows-preserved g c =
@@ -61,7 +61,7 @@ returns-in_err-take_next-clause-failed g c clean =
     let mid = c.rows.rows.conn.now in
     let new = c.take_next.new.rows.conn.now in
     let early : HasCleanDisk (state g.S.Store mid) = clean_before (state g.S.Store old) (state g.S.Store mid) (state g.S.Store new) c.take_next.ensures.survives clean in
-    passed_on (λ fault. (what : Cursor) → HasGiven g.S.Store what old [] → IsExcused (state g.S.Store old) (state g.S.Store new) fault) c.in_err-take_next.field-0.0 c.from_residual.result c.from_residual.ensures.1
+    passed_on (λ fault. (what : Cursor) → CursorHasGiven g.S.Store what old [] → IsExcusedReading (state g.S.Store old) (state g.S.Store new) fault) c.in_err-take_next.field-0.0 c.from_residual.result c.from_residual.ensures.1
     (λ what h. let had = c.rows.invariant.takes early what h in
     cause_then (state g.S.Store old) (state g.S.Store mid) (state g.S.Store new) c.rows.invariant.survives (c.rows.invariant.same early) c.in_err-take_next.field-0.0 (c.in_err-take_next.ensures.failed clean what (map g.R.Record.stored had.0) had.1.given_are))
 

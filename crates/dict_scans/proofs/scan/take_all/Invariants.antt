@@ -1,7 +1,7 @@
 use Rattle.std.proofs.Common.{◌≡◌, ◌≤◌, false, List, [], length}
 use Rattle.sqlite.specs.State.{HasCleanDisk, Survives}
 use Rattle.sqlite.specs.Held.{state}
-use Rattle.dict_scans.specs.Cursors.{Cursor, HasGiven}
+use Rattle.dict_scans.specs.Cursors.{Cursor, CursorHasGiven}
 use Rattle.dict_scans.specs.Reading.{Same}
 use Rattle.dict_scans.specs.Scans.{TakesSo}
 use Rattle.dict_scans.proofs.scan.take_all.Given as goal
@@ -15,5 +15,5 @@ invariant-rows g l =
       mode : old.in_transaction ≡ false → now.in_transaction ≡ false;
       survives : Survives (state g.S.Store old) (state g.S.Store now) (λ _. ⊥);
       same : HasCleanDisk (state g.S.Store now) → Same (state g.S.Store old) (state g.S.Store now);
-      takes : HasCleanDisk (state g.S.Store now) → (what : Cursor) → HasGiven g.S.Store what old [] → (given : List g.row.R.Denot) × TakesSo g.S.Store g.R.Record.stored g.T.Taker.takes what l.fn.taker given now l.taker × (l._turn ≤ length given);
+      takes : HasCleanDisk (state g.S.Store now) → (what : Cursor) → CursorHasGiven g.S.Store what old [] → (given : List g.row.R.Denot) × TakesSo g.S.Store g.R.Record.stored g.T.Taker.takes what l.fn.taker given now l.taker × (l._turn ≤ length given);
     }

@@ -3,7 +3,7 @@ use Rattle.std.specs.Prelude.{Option, is_some}
 use Rattle.dict_desk.specs.declared.lookup.What.TheVariants.{Entries}
 use Rattle.dict_session.specs.Answers.{counted_rows, names_databases}
 use Rattle.dict_session.specs.Ending.{PutsAnswer}
-use Rattle.dict_session.specs.Places.{Asking, HoldsAsked, asked_in}
+use Rattle.dict_session.specs.Places.{AskedPlaces, HoldsAsked, asked_in}
 use Rattle.dict_session.specs.Rows.{answering, found_octets}
 use Rattle.dict_session.specs.declared.asked.Asked.{Asked}
 use Rattle.dict_session.proofs.FoundLemmas.{for_definitions}
@@ -39,4 +39,4 @@ returns-in_default-clause-looks g c = λ M shown. quiet (names_databases M c.arg
 pub returns-clause-looks : goal.returns-clause-looks
 returns-clause-looks g c = λ M shown.
     let held = some_asked M c.args.name.now c.in-Ok-Some.asked (g.met.L.Lookup.well_formed c.args.desk.now M shown) (subst (λ (o : Option Asked). HoldsAsked o (asked_in M.items c.args.name.now)) c.in-Ok-Some.field-0-is (c.in-Ok-Some.ensures.value M shown)) in
-    loud (names_databases M c.args.name.now) c.put_found.result _ _ (names_asked M c.args.name.now ∙ ap (λ (o : Option Asking). is_some o) held.1)
+    loud (names_databases M c.args.name.now) c.put_found.result _ _ (names_asked M c.args.name.now ∙ ap (λ (o : Option AskedPlaces). is_some o) held.1)

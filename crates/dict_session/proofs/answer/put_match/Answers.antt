@@ -5,7 +5,7 @@ use Rattle.dict_desk.specs.Asked.{strategy_of}
 use Rattle.dict_desk.specs.declared.lookup.What.TheVariants.{Headwords}
 use Rattle.dict_session.specs.Answers.{counted_rows, names_databases}
 use Rattle.dict_session.specs.Ending.{PutsAnswer}
-use Rattle.dict_session.specs.Places.{Asking, HoldsAsked, asked_in}
+use Rattle.dict_session.specs.Places.{AskedPlaces, HoldsAsked, asked_in}
 use Rattle.dict_session.specs.Rows.{answering, found_octets}
 use Rattle.dict_session.specs.declared.asked.Asked.{Asked}
 use Rattle.dict_session.proofs.FoundLemmas.{for_matches}
@@ -54,4 +54,4 @@ pub returns-clause-looks : goal.returns-clause-looks
 returns-clause-looks g c = λ M shown.
     let held = some_asked M c.args.name.now c.in-Ok-Some.asked (g.met.L.Lookup.well_formed c.args.desk.now M shown) (subst (λ (o : Option Asked). HoldsAsked o (asked_in M.items c.args.name.now)) c.in-Ok-Some.field-0-is (c.in-Ok-Some.ensures.value M shown)) in
     loud (names_databases M c.args.name.now && is_some (strategy_of c.args.strategy.now)) c.put_found.result _ _
-    (ap (λ b. b && is_some (strategy_of c.args.strategy.now)) (names_asked M c.args.name.now ∙ ap (λ (o : Option Asking). is_some o) held.1) ∙ ap (λ (o : Option Strategy). is_some o) (sym c.in-Some.ensures))
+    (ap (λ b. b && is_some (strategy_of c.args.strategy.now)) (names_asked M c.args.name.now ∙ ap (λ (o : Option AskedPlaces). is_some o) held.1) ∙ ap (λ (o : Option Strategy). is_some o) (sym c.in-Some.ensures))

@@ -4,7 +4,7 @@ use Rattle.dict_proto.specs.Streams.{PutsAll}
 use Rattle.dict_proto.proofs.PutLemmas.{all_after}
 use Rattle.dict_session.specs.Answers.{no_rows, counted_rows}
 use Rattle.dict_session.specs.Ending.{Breaks, PutsAnswer}
-use Rattle.dict_session.specs.Rows.{count_octets, end_octets, octets_at}
+use Rattle.dict_session.specs.Rows.{count_octets, end_octets, octets_at_place}
 use Rattle.dict_session.proofs.PartLemmas.{breaks_answer}
 use Rattle.dict_session.proofs.FoundLemmas.{count_some, end_some}
 use Rattle.dict_session.proofs.ShowLemmas.{whole_after}
@@ -14,7 +14,7 @@ pub returns-in-Err-put_places-clause-value : goal.returns-in-Err-put_places-clau
 returns-in-Err-put_places-clause-value g c = λ trusted M shown.
     let failed = g.L.Lookup.has_failed c.put_places.new.desk in
     let query = c.args.query.now in
-    let f = octets_at query M.items in
+    let f = octets_at_place query M.items in
     let rows = flat_map f c.args.counted.now.places.items in
     breaks_answer query.what c.args.counted.now.count failed c.in-Err-put_places.fault (g.K.Sink.stream c.args.sink.now) (g.K.Sink.stream c.put_count.new.sink) (g.K.Sink.stream c.put_places.new.sink) rows (end_octets query.what)
     (count_some query.what c.args.counted.now.count) (end_some query.what) c.in-Ok.ensures
@@ -24,7 +24,7 @@ pub returns-clause-value : goal.returns-clause-value
 returns-clause-value g c = λ trusted M shown.
     let failed = g.L.Lookup.has_failed c.put_places.new.desk in
     let query = c.args.query.now in
-    let f = octets_at query M.items in
+    let f = octets_at_place query M.items in
     let count = count_octets query.what c.args.counted.now.count in
     let rows = flat_map f c.args.counted.now.places.items in
     let before = subst (λ (l : List ℕ). PutsAll (g.K.Sink.stream c.put_count.new.sink) (g.K.Sink.stream c.put_places.new.sink) (flat_map f l)) c.as_slice.ensures.value (c.in-Ok-put_places.ensures.value trusted M shown) in

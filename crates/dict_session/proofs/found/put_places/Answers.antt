@@ -5,7 +5,7 @@ use Rattle.std.proofs.lemmas.List.Concat.{flat_map-append}
 use Rattle.dict_proto.specs.Streams.{PutsAll}
 use Rattle.dict_proto.proofs.PutLemmas.{puts_none, all_after, pieces_at}
 use Rattle.dict_session.specs.Ending.{Breaks}
-use Rattle.dict_session.specs.Rows.{octets_at}
+use Rattle.dict_session.specs.Rows.{octets_at_place}
 use Rattle.dict_session.proofs.PartLemmas.{stays_same, stays_after, breaks_after, breaks_longer}
 use Rattle.dict_session.proofs.found.put_places.Goals as goal
 
@@ -21,7 +21,7 @@ loop-place-preserved g c = record {
   left = λ trusted M shown.
       (let i = c.loop-place.place-index in
       let places = c.args.places.now in
-      let f = octets_at c.args.query.now M.items in
+      let f = octets_at_place c.args.query.now M.items in
       let lt : i < length places = omega arith in
       let earlier = c.in-Ok.ensures.desk.trust trusted in
       subst (PutsAll (g.K.Sink.stream c.args.sink.now) (g.K.Sink.stream c.put_at.new.sink))
@@ -36,7 +36,7 @@ pub returns-in-Err-clause-value : goal.returns-in-Err-clause-value
 returns-in-Err-clause-value g c = λ trusted M shown.
     let i = c.loop-place.place-index in
     let places = c.args.places.now in
-    let f = octets_at c.args.query.now M.items in
+    let f = octets_at_place c.args.query.now M.items in
     let lt : i < length places = omega arith in
     let earlier = c.in-Err.ensures.desk.trust trusted in
     let failed = g.L.Lookup.has_failed c.put_at.new.desk in
@@ -51,5 +51,5 @@ returns-in-Err-clause-desk g c = stays_after g.L.Lookup.shows g.L.Lookup.leaves_
 
 pub returns-clause-value : goal.returns-clause-value
 returns-clause-value g c = λ trusted M shown.
-    subst (PutsAll (g.K.Sink.stream c.args.sink.now) (g.K.Sink.stream c.loop-place.sink)) (ap (flat_map (octets_at c.args.query.now M.items)) (take_all c.loop-place.place-index c.args.places.now (omega arith)))
+    subst (PutsAll (g.K.Sink.stream c.args.sink.now) (g.K.Sink.stream c.loop-place.sink)) (ap (flat_map (octets_at_place c.args.query.now M.items)) (take_all c.loop-place.place-index c.args.places.now (omega arith)))
     (c.loop-place.invariant.left trusted M shown)

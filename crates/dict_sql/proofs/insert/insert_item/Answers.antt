@@ -2,7 +2,7 @@ use Rattle.std.proofs.Common.{codes, rules, ap, arith}
 use mir.Syntax.{w64}
 use mir.Val.{SFits}
 use Rattle.sqlite.specs.Held.{state}
-use Rattle.dict_records.specs.Records.{Item}
+use Rattle.dict_records.specs.Records.{ItemRecord}
 use Rattle.dict_records.specs.Typed.{lent_item}
 use Rattle.dict_sql.specs.Inserts.{insert_item}
 use Rattle.dict_sql.specs.Encodings.{item_row}
@@ -22,7 +22,7 @@ pub returns-clause-added : goal.returns-clause-added
 returns-clause-added g c clean =
     let old = state g.S.Store (g.T.OpenTransaction.held c.args.tx.now) in
     let new = state g.S.Store (g.T.OpenTransaction.held c.execute.new.self) in
-    let given : Item = lent_item c.args.given.now in
+    let given : ItemRecord = lent_item c.args.given.now in
     let fits_place : SFits w64 c.args.given.now.place = search rules in
     let fits_kind : SFits w64 c.args.given.now.kind = search rules in
     inside insert_item (item_row given) old new c.execute.result (λ open' count. adds_item old new given count (c.requires (omega (arith, c.execute.ensures.survives.clean)) open')) (λ outside. (c.execute.ensures.ended outside).0)
@@ -32,7 +32,7 @@ pub returns-clause-failed : goal.returns-clause-failed
 returns-clause-failed g c clean =
     let old = state g.S.Store (g.T.OpenTransaction.held c.args.tx.now) in
     let new = state g.S.Store (g.T.OpenTransaction.held c.execute.new.self) in
-    let given : Item = lent_item c.args.given.now in
+    let given : ItemRecord = lent_item c.args.given.now in
     let fits_place : SFits w64 c.args.given.now.place = search rules in
     let fits_kind : SFits w64 c.args.given.now.kind = search rules in
     fails_in _ _ (adds_aside (codes "item") (item_row given) old) old new insert_item _ c.execute.result (λ outside. ((c.execute.ensures.ended outside).0, ap (state g.S.Store) (c.execute.ensures.ended outside).1))

@@ -9,7 +9,7 @@ use Rattle.dict_catalogue.specs.Views.{summary_shown}
 use Rattle.dict_holdings.specs.Holds.{Holds, IsHeld, Rests, IsLeftAs}
 use Rattle.dict_desk.specs.declared.fault.Fault.TheVariants.{Disk}
 use Rattle.dict_catalogue.specs.Tests.{Holdings}
-use Rattle.dict_migration.specs.Failing.{FailsToMigrate, FailsToMove, IsBeyond}
+use Rattle.dict_migration.specs.Failing.{FailsToMigrate, FailsToMoveEditions, IsBeyond}
 use Rattle.dict_store.specs.Indexed.{AreHeldCut}
 use Rattle.dict_store.proofs.RenewLemmas.{renews_read}
 use Rattle.dict_migration.specs.Migrated.{MayMigrate, HoldsOlder}
@@ -38,7 +38,7 @@ returns-in_err-renew-clause-failed g c = λ clean.
       older = failed.0;
       catalogue = found.0;
       holds = subst (λ (db : Database). Holds version db found.0) same found.1.holds;
-      fails = subst (λ (s : Holdings (List ℕ)). IsBeyond s ⊎ FailsToMove g.S.Store version s conn left Disk) (sym found.2)
+      fails = subst (λ (s : Holdings (List ℕ)). IsBeyond s ⊎ FailsToMoveEditions g.S.Store version s conn left Disk) (sym found.2)
           (renews_read g.S.Store conn read left c.read.ensures.survives version summary now same (subst (FailsToMigrate g.S.Store version summary read left) is failed.1));
     }))
 

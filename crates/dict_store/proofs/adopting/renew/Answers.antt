@@ -3,7 +3,7 @@ use Rattle.sqlite.specs.Held.{state}
 use Rattle.dict_holdings.specs.Holds.{Holds}
 use Rattle.dict_rows.specs.Versions.{known}
 use Rattle.std.proofs.lemmas.Result.{on_ok_weaker}
-use Rattle.dict_opening.specs.Indexed.{IsIndexed}
+use Rattle.dict_opening.specs.Indexed.{IsHeldIndexed}
 use Rattle.dict_migration.proofs.OtherLemmas.{others_same}
 use Rattle.dict_store.specs.Adopted.{MayCommitBeside}
 use Rattle.dict_store.proofs.DeskLemmas.{survives_itself}
@@ -28,7 +28,7 @@ returns-else-version-lt-KNOWN_VERSION-clause-cut g c = λ clean M indexes indexe
     let within = c.requires.version.within in
     let least = c.if-version-lt-KNOWN_VERSION.false in
     let is : c.args.version ≡ known = omega (arith, within, least) in
-    indexed_known (state g.S.Store c.args.conn.now).committed M indexes (subst (λ v. IsIndexed v (state g.S.Store c.args.conn.now).committed M indexes) is indexed)
+    indexed_known (state g.S.Store c.args.conn.now).committed M indexes (subst (λ v. IsHeldIndexed v (state g.S.Store c.args.conn.now).committed M indexes) is indexed)
 
 pub returns-else-version-lt-KNOWN_VERSION-clause-others : goal.returns-else-version-lt-KNOWN_VERSION-clause-others
 returns-else-version-lt-KNOWN_VERSION-clause-others g c = λ clean. others_same (state g.S.Store c.args.conn.now).committed (state g.S.Store c.args.conn.now).committed refl

@@ -1,12 +1,12 @@
 use Rattle.std.proofs.Common.{List, sym, subst}
 use Rattle.std.specs.Prelude.{Some}
 use Rattle.dict_search.specs.Entries.{Indexed}
-use Rattle.dict_store.specs.Indexed.{HasPut}
+use Rattle.dict_store.specs.Indexed.{HasPutIfSome}
 use Rattle.dict_store.proofs.IndexedLemmas.{put_beside}
 use Rattle.dict_store.proofs.coming.put_index.Goals as goal
 
 pub returns-in-Ok-clause-put : goal.returns-in-Ok-clause-put
-returns-in-Ok-clause-put c = λ told reading h. subst (λ (index : List Indexed). HasPut c.args.number (Some index) c.args.indexes.now c.put.new.self) (c.in-Some.ensures.whole reading h) c.in-Ok.ensures.put
+returns-in-Ok-clause-put c = λ told reading h. subst (λ (index : List Indexed). HasPutIfSome c.args.number (Some index) c.args.indexes.now c.put.new.self) (c.in-Some.ensures.whole reading h) c.in-Ok.ensures.put
 
 pub returns-in-Ok-clause-is_of : goal.returns-in-Ok-clause-is_of
 returns-in-Ok-clause-is_of c = λ told. c.is_of.ensures.0 c.if-not-is_of.false

@@ -2,7 +2,7 @@ use Rattle.std.proofs.Common.{List, sym, subst, ◌∙◌}
 use Rattle.std.specs.Prelude.{Option}
 use Rattle.std.proofs.lemmas.Result.{on_ok_weaker}
 use Rattle.dict_search.specs.Entries.{Indexed}
-use Rattle.dict_store.specs.Indexed.{HasPut}
+use Rattle.dict_store.specs.Indexed.{HasPutIfSome}
 use Rattle.dict_store.proofs.StandingLemmas.{comes_installed, none_put, on_err_with}
 use Rattle.dict_store.proofs.indexing.put_coming.Goals as goal
 
@@ -11,7 +11,7 @@ returns-in_default-clause-put c = none_put c.args.number c.in_ok-index.field-0 _
 
 pub returns-clause-put : goal.returns-clause-put
 returns-clause-put c =
-    on_ok_weaker c.put.result (λ put. subst (λ (coming : Option (List Indexed)). HasPut c.args.number coming c.args.indexes.now c.put.new.self) (sym c.in-Some.is ∙ c.in_ok-index.ensures.coming) put) c.put.ensures.put
+    on_ok_weaker c.put.result (λ put. subst (λ (coming : Option (List Indexed)). HasPutIfSome c.args.number coming c.args.indexes.now c.put.new.self) (sym c.in-Some.is ∙ c.in_ok-index.ensures.coming) put) c.put.ensures.put
 
 pub returns-clause-asked : goal.returns-clause-asked
 returns-clause-asked c = on_err_with c.put.result (comes_installed c.args.command.now c.in-Some.index (sym c.in_ok-index.ensures.coming ∙ c.in-Some.is))

@@ -1,6 +1,6 @@
 use Rattle.std.proofs.Common.{[], ap, refl, sym, subst, ◌∙◌, ◌++◌}
 use Rattle.std.specs.Prelude.{None, Some}
-use Rattle.dict_hub.specs.Hubs.{Has}
+use Rattle.dict_hub.specs.Hubs.{HasHolding}
 use Rattle.dict_hub.specs.Holding.{left_by}
 use Rattle.dict_connection.specs.Causes.{CountOn}
 use Rattle.dict_connection.specs.Events.{ArePut}
@@ -16,7 +16,7 @@ returns-in-Ok-greet-clause-led g c =
       answered.1,
       answered.2,
       c.stage_of_new.ensures ∙ ap stage_of_new (sym answered.3),
-      subst (λ o. Has c.greet.new.hub c.args.id (left_by c.args.kind [] o)) (sym answered.3) told.0.1,
+      subst (λ o. HasHolding c.greet.new.hub c.args.id (left_by c.args.kind [] o)) (sym answered.3) told.0.1,
       subst (λ l. ArePut events l) (sym (told.0.0.order ∙ ap (λ l. l ++ told.0.0.put) c.new-queue.ensures.waits)) told.0.0.are_put,
       subst (λ n. CountOn n c.greet.new.queue.failures events) c.new-queue.ensures.failures told.1.failures,
     ))

@@ -1,5 +1,5 @@
 use Rattle.std.proofs.Common.{◌≡◌, ◌++◌, [], ◌∷◌, List, true, false, refl, sym, ◌∙◌, ap, subst, take, drop, length, append_assoc, take-append-drop}
-use Rattle.dict_connection.specs.OutletCalls.{Call, Makes, has_failed, is_vain, sends}
+use Rattle.dict_connection.specs.OutletCalls.{Call, MakesCalls, sending_failed, is_vain, sends}
 use Rattle.dict_connection.specs.Queues.{waiting}
 use Rattle.dict_connection.proofs.OutletLemmas.{taken_more, taken_same, calls_more, failed_in_vain, ok_is_well, sent_in_vain, still_full, stuck_full, well_sent}
 use Rattle.dict_connection.proofs.outlet.Outlet.send_once.Goals as goal
@@ -16,8 +16,8 @@ invariant_of-self g c =
     ∙ ap (λ l. old.taken.octets ++ (take c.in-Ok.count octets ++ l)) c.pass.ensures.waits
     ∙ ap (λ l. old.taken.octets ++ (take c.in-Ok.count l ++ drop c.in-Ok.count (waiting old.queue))) c.as_slice-octets.ensures
     ∙ ap (λ l. old.taken.octets ++ l) (take-append-drop c.in-Ok.count (waiting old.queue)) in
-    let well : has_failed sent ≡ false = ok_is_well sent c.send-outcome.result c.in-Ok.count c.sent_by-sent.ensures c.in-Ok.is in
-    let calls : Makes (made old.transport) (made c.send-outcome.new.self) (sends sent ∷ []) = rw c.sent_by-sent.ensures c.send-outcome.ensures.made in
+    let well : sending_failed sent ≡ false = ok_is_well sent c.send-outcome.result c.in-Ok.count c.sent_by-sent.ensures c.in-Ok.is in
+    let calls : MakesCalls (made old.transport) (made c.send-outcome.new.self) (sends sent ∷ []) = rw c.sent_by-sent.ensures c.send-outcome.ensures.made in
     record {
       takes = rw noted (taken_more _ _ _ _ _ old.takes (rw c.in-Ok.is at c.send-outcome.ensures.taken));
       keeps = taken_same _ _ _ _ old.keeps c.send-outcome.ensures.coming;
@@ -34,7 +34,7 @@ invariant_of-self-in_default g c =
     let old = c.args.self.now in
     let sent = c.sent_by-sent.result in
     let made = g.T.Transport.made in
-    let calls : Makes (made old.transport) (made c.send-outcome.new.self) (sends sent ∷ []) = rw c.sent_by-sent.ensures c.send-outcome.ensures.made in
+    let calls : MakesCalls (made old.transport) (made c.send-outcome.new.self) (sends sent ∷ []) = rw c.sent_by-sent.ensures c.send-outcome.ensures.made in
     record {
       takes = taken_same _ _ _ _ old.takes (rw c.in_default.is at c.send-outcome.ensures.taken);
       keeps = taken_same _ _ _ _ old.keeps c.send-outcome.ensures.coming;

@@ -4,7 +4,7 @@ use Rattle.dict_index.specs.Edition.{Edition}
 use Rattle.dict_catalogue.specs.Items.{Stored}
 use Rattle.dict_desk.specs.Found.{is_found}
 use Rattle.dict_desk.specs.Shown.{count_of}
-use Rattle.dict_desk.specs.PlainEntries.{entry_of, is_hit_of, texts_listed, LieWithin}
+use Rattle.dict_desk.specs.PlainEntries.{entry_cut_from, is_hit_of, texts_listed, LieWithin}
 use Rattle.dict_desk.specs.declared.entries.OwnedEntry.{OwnedEntry}
 use Rattle.dict_desk.specs.declared.lookup.What.TheVariants.{Entries, Headwords}
 use Rattle.dict_desk.proofs.PlainLemmas.{count_is_found, count_is_listed}
@@ -30,4 +30,4 @@ returns-clause-within c =
     let inside = c.self.inside in
     let here = subst (λ (entries : List OwnedEntry). LieWithin (is_hit_of c.args.strategy c.args.query.now) entries c.hits_among.result.span.first c.hits_among.result.span.end) c.deref.ensures.value c.hits_among.ensures.within in
     subst (λ (stored : Stored Edition). LieWithin (is_found c.args.strategy c.args.query.now) stored.content.entries c.hits_among.result.span.first c.hits_among.result.span.end) c.self.view_is
-    (span_mapped (entry_of inside.text.items) (is_found c.args.strategy c.args.query.now) inside.entries.items c.hits_among.result.span.first c.hits_among.result.span.end here)
+    (span_mapped (entry_cut_from inside.text.items) (is_found c.args.strategy c.args.query.now) inside.entries.items c.hits_among.result.span.first c.hits_among.result.span.end here)

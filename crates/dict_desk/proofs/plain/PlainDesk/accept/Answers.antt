@@ -5,7 +5,7 @@ use Rattle.std.specs.BTreeMap.{get_by_text}
 use Rattle.dict_index.specs.Edition.{Edition}
 use Rattle.dict_catalogue.specs.Items.{Stored}
 use Rattle.dict_catalogue.specs.Views.{summary_shown, command_meant}
-use Rattle.dict_desk.specs.Plain.{PlainState, catalogue_from, stays}
+use Rattle.dict_desk.specs.Plain.{PlainState, catalogue_from, is_not_gone}
 use Rattle.dict_desk.specs.declared.replies.Filed.{Filed}
 use Rattle.dict_desk.proofs.AcceptLemmas.{accepted_parts, parts_same}
 use Rattle.dict_desk.proofs.plain.PlainDesk.accept.Goals as goal
@@ -25,9 +25,9 @@ invariant_of-self-in-Err-make_room c = (
 
 pub invariant_of-self-2 : goal.invariant_of-self-2
 invariant_of-self-2 c =
-    let left : c.put.new.editions.items ≡ filter (stays c.args.change.gone.items) c.self.inside.editions.items ++ cons_option c.in-Ok.coming.0 [] =
+    let left : c.put.new.editions.items ≡ filter (is_not_gone c.args.change.gone.items) c.self.inside.editions.items ++ cons_option c.in-Ok.coming.0 [] =
     c.put.ensures ∙ ap (λ (es : List (Stored Edition)). es ++ cons_option c.in-Ok.coming.0 [])
-    (c.take_out.ensures.items ∙ (ap (λ (gone : List ℕ). filter (stays gone) c.make_room.new.editions.items) c.as_slice.ensures.value ∙ ap (λ (es : List (Stored Edition)). filter (stays c.args.change.gone.items) es) c.make_room.ensures.editions)) in
+    (c.take_out.ensures.items ∙ (ap (λ (gone : List ℕ). filter (is_not_gone gone) c.make_room.new.editions.items) c.as_slice.ensures.value ∙ ap (λ (es : List (Stored Edition)). filter (is_not_gone c.args.change.gone.items) es) c.make_room.ensures.editions)) in
     let filed_last : c.push_reserved.new.self.items ≡ c.self.inside.replies.items ++ c.in-Ok.coming.1 ∷ [] =
     c.push_reserved.ensures.items ∙ ap (λ (rs : List Filed). rs ++ c.in-Ok.coming.1 ∷ []) c.make_room.ensures.replies in
     let placed : (text : List ℕ) → get_by_text c.make_room.new.places text ≡ cond (bytes_eq c.args.id.now text) (Some (length c.self.inside.replies.items)) (get_by_text c.self.inside.places text) = c.in_default.ensures.noted in (
@@ -40,9 +40,9 @@ invariant_of-self-2 c =
 
 pub returns-clause-after : goal.returns-clause-after
 returns-clause-after c =
-    let left : c.put.new.editions.items ≡ filter (stays c.args.change.gone.items) c.self.inside.editions.items ++ cons_option c.in-Ok.coming.0 [] =
+    let left : c.put.new.editions.items ≡ filter (is_not_gone c.args.change.gone.items) c.self.inside.editions.items ++ cons_option c.in-Ok.coming.0 [] =
     c.put.ensures ∙ ap (λ (es : List (Stored Edition)). es ++ cons_option c.in-Ok.coming.0 [])
-    (c.take_out.ensures.items ∙ (ap (λ (gone : List ℕ). filter (stays gone) c.make_room.new.editions.items) c.as_slice.ensures.value ∙ ap (λ (es : List (Stored Edition)). filter (stays c.args.change.gone.items) es) c.make_room.ensures.editions)) in
+    (c.take_out.ensures.items ∙ (ap (λ (gone : List ℕ). filter (is_not_gone gone) c.make_room.new.editions.items) c.as_slice.ensures.value ∙ ap (λ (es : List (Stored Edition)). filter (is_not_gone c.args.change.gone.items) es) c.make_room.ensures.editions)) in
     let filed_last : c.push_reserved.new.self.items ≡ c.self.inside.replies.items ++ c.in-Ok.coming.1 ∷ [] =
     c.push_reserved.ensures.items ∙ ap (λ (rs : List Filed). rs ++ c.in-Ok.coming.1 ∷ []) c.make_room.ensures.replies in
     let placed : (text : List ℕ) → get_by_text c.make_room.new.places text ≡ cond (bytes_eq c.args.id.now text) (Some (length c.self.inside.replies.items)) (get_by_text c.self.inside.places text) = c.in_default.ensures.noted in

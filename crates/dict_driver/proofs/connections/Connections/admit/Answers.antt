@@ -1,5 +1,5 @@
 use Rattle.std.proofs.Common.{◌≡◌, ◌<◌, ◌+◌, refl, sym, ◌∙◌, subst, inl, inr, arith}
-use Rattle.dict_connection.specs.Opening.{IsUnopened}
+use Rattle.dict_connection.specs.Opening.{IsConnectionUnopened}
 use Rattle.dict_driver.specs.Rounds.{Moves}
 use Rattle.dict_connection.specs.Turns.{IsOpened}
 use Rattle.dict_connection.proofs.LeadLemmas.{led_as, led_still}
@@ -70,7 +70,7 @@ returns-in_default-open-clause-led g c =
         refl,
         refl,
         c.in_default-open.ensures.unopened.1,
-        inr (subst (λ i. IsUnopened g.O.Opening.refuses c.args.hub.now i c.args.kind) c.in-Some.ensures.0 c.in_default-open.ensures.unopened.0),
+        inr (subst (λ i. IsConnectionUnopened g.O.Opening.refuses c.args.hub.now i c.args.kind) c.in-Some.ensures.0 c.in_default-open.ensures.unopened.0),
       ),
     ))
 

@@ -1,10 +1,10 @@
 use Rattle.std.proofs.Common.{◌≡◌, vec_len}
-use Rattle.dict_driver.specs.Rounds.{fitting}
+use Rattle.dict_driver.specs.Rounds.{connections_fitting}
 use Rattle.dict_driver.proofs.connections.Connections.bound.Given as goal
 
 abbrev pub invariant-loop-self : goal.invariant-loop-self
 invariant-loop-self g l = record {
-  departing : fitting 33554432 l.self.departing.items ≡ fitting 33554432 l.fn.self.departing.items;
+  departing : connections_fitting 33554432 l.self.departing.items ≡ connections_fitting 33554432 l.fn.self.departing.items;
   opened : l.self.opened ≡ l.fn.self.opened;
   last : l.self.last ≡ l.fn.self.last;
 }

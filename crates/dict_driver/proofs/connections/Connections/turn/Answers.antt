@@ -3,8 +3,8 @@ use Rattle.std.proofs.lemmas.List.Elements.{All-filter, filter_from_retain}
 use Rattle.std.specs.List.{filter}
 use Rattle.dict_session.specs.Desks.{condition}
 use Rattle.dict_connection.specs.Stages.{is_departing, is_held, is_open}
-use Rattle.dict_driver.specs.Rounds.{TurnEach, fitting, latest}
-use Rattle.dict_connection.specs.Turns.{IsAtRest}
+use Rattle.dict_driver.specs.Rounds.{TurnEach, connections_fitting, latest}
+use Rattle.dict_connection.specs.Turns.{HasNothingToDo}
 use Rattle.dict_connection.proofs.LeadLemmas.{led_as}
 use Rattle.dict_driver.proofs.ListLemmas.{HaveSameIds, apart_kept, ids_kept, rising_kept}
 use Rattle.dict_driver.proofs.RoundLemmas.{depart_ids, departed_closed, moves_turned}
@@ -21,7 +21,7 @@ returns-then-departed-clause-led g c =
       by_open = c.turn_all-turned.result;
       turns = turned;
       opened = c.settle.ensures.opened;
-      departing = c.settle.ensures.departing ∙ ap (λ l. fitting 33554432 (latest 128 (l ++ filter (λ one. is_departing one.stage) c.turn_all-turned.new.all.items)))
+      departing = c.settle.ensures.departing ∙ ap (λ l. connections_fitting 33554432 (latest 128 (l ++ filter (λ one. is_departing one.stage) c.turn_all-turned.new.all.items)))
           (filter_from_retain _ (λ one. is_held one.stage) (λ p x b q t. search rules) _ _ _ c.retain.ensures.filtered);
       last = c.settle.ensures.last;
       has_moved = rw c.if-departed.true refl;
@@ -39,7 +39,7 @@ returns-else-departed-clause-led g c =
       by_open = c.turn_all-turned.result;
       turns = turned;
       opened = c.settle.ensures.opened;
-      departing = c.settle.ensures.departing ∙ ap (λ l. fitting 33554432 (latest 128 (l ++ filter (λ one. is_departing one.stage) c.turn_all-turned.new.all.items)))
+      departing = c.settle.ensures.departing ∙ ap (λ l. connections_fitting 33554432 (latest 128 (l ++ filter (λ one. is_departing one.stage) c.turn_all-turned.new.all.items)))
           (filter_from_retain _ (λ one. is_held one.stage) (λ p x b q t. search rules) _ _ _ c.retain.ensures.filtered);
       last = c.settle.ensures.last;
       has_moved = rw c.if-departed.false refl;
@@ -47,7 +47,7 @@ returns-else-departed-clause-led g c =
     (moves_turned c.args.self.now c.settle.new.self c.turn_all-turned.result events each, turned.are_turns, turned.by_id, each))
 
 pub returns-else-departed-clause-idle : goal.returns-else-departed-clause-idle
-returns-else-departed-clause-idle g c = λ still. rw c.settle.ensures.opened (All-filter (λ one. is_open one.stage) (λ one. IsAtRest one) c.turn_all-turned.new.all.items (c.turn_all-turned.ensures.idle still))
+returns-else-departed-clause-idle g c = λ still. rw c.settle.ensures.opened (All-filter (λ one. is_open one.stage) (λ one. HasNothingToDo one) c.turn_all-turned.new.all.items (c.turn_all-turned.ensures.idle still))
 
 -- the same ids in the same places
 ids_turned : (g : _) (c : goal.After-turn_all-turned g) → HaveSameIds c.args.self.now.opened.items c.turn_all-turned.new.all.items

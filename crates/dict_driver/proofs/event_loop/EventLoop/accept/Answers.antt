@@ -1,5 +1,5 @@
 use Rattle.std.proofs.Common.{◌≡◌, ◌+◌, List, [], ◌∷◌, ◌++◌, refl, sym, ap, subst, ◌∙◌, Ok, Err}
-use Rattle.dict_hub.specs.Hubs.{Has}
+use Rattle.dict_hub.specs.Hubs.{HasHolding}
 use Rattle.dict_hub.specs.Runs.{Accepted, IsAt}
 use Rattle.dict_driver.specs.Accepting.{HasAsked}
 use Rattle.dict_driver.specs.Asking.{Asks, accepts}
@@ -45,7 +45,7 @@ returns-in-Err-clause-led g c =
 
 pub returns-in-Ok-clause-others : goal.returns-in-Ok-clause-others
 returns-in-Ok-clause-others g c = λ other held apart has.
-    c.admit.ensures.others other held (λ same. apart (same ∙ ap (λ all. all.last + 1) c.note.ensures.connections)) (subst (λ h. Has h other held) (sym c.note.ensures.hub) has)
+    c.admit.ensures.others other held (λ same. apart (same ∙ ap (λ all. all.last + 1) c.note.ensures.connections)) (subst (λ h. HasHolding h other held) (sym c.note.ensures.hub) has)
 
 pub returns-in-Err-clause-others : goal.returns-in-Err-clause-others
-returns-in-Err-clause-others g c = λ other held apart has. subst (λ h. Has h other held) (sym c.note-in-Err.ensures.hub) has
+returns-in-Err-clause-others g c = λ other held apart has. subst (λ h. HasHolding h other held) (sym c.note-in-Err.ensures.hub) has

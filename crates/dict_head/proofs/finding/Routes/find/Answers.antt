@@ -1,5 +1,5 @@
 use Rattle.std.proofs.Common.{◌≡◌, ◌++◌, ℕ, List, sym, ap, ◌∙◌, subst}
-use Rattle.dict_head.specs.Paths.{IsPath, after}
+use Rattle.dict_head.specs.Paths.{IsPath, path_after}
 use Rattle.dict_head.proofs.PathLemmas.{found_is, not_found, octets_of, same_rest, same_front}
 use Rattle.dict_head.proofs.finding.Routes.find.Goals as goal
 
@@ -10,7 +10,7 @@ returns-in_default c route name is =
 pub unreachable-requires : goal.unreachable-requires
 unreachable-requires c =
     let f = found_is c.args.path.now _ (octets_of c.args.path.now c.type_inv.path) (rw c.args.self.now.holds at c.in-Ok.ensures.found) in
-    c.in_default-strip_prefix.ensures.cases (f.0 ++ after c.in-Ok.found.value.now) (f.1.is ∙ ap (λ t. t ++ (f.0 ++ after c.in-Ok.found.value.now)) (sym c.around.ensures.before))
+    c.in_default-strip_prefix.ensures.cases (f.0 ++ path_after c.in-Ok.found.value.now) (f.1.is ∙ ap (λ t. t ++ (f.0 ++ path_after c.in-Ok.found.value.now)) (sym c.around.ensures.before))
 
 -- what comes after the text before the name is the name, and then the text after it
 whole : (path pre suf rest name b a : List ℕ) → pre ≡ b → suf ≡ a → path ≡ pre ++ rest → path ≡ b ++ (name ++ a) → rest ≡ name ++ suf

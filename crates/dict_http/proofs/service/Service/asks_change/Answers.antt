@@ -1,11 +1,11 @@
 use Rattle.std.proofs.Common.{◌≡◌, ◌∙◌, ℕ, List, true, false, inl, inr, refl, sym, ap, subst}
 use Rattle.dict_head.specs.Heads.{Needs}
 use Rattle.dict_head.specs.Paths.{IsPath}
-use Rattle.dict_head.specs.Requests.{IsReading, IsRequest, Request}
+use Rattle.dict_head.specs.Requests.{IsReading, IsRequest, EditorRequest}
 use Rattle.dict_head.specs.declared.kinds.Need.TheVariants as needs
-use Rattle.dict_head.specs.declared.kinds.Reading.{Reading}
-use Rattle.dict_head.specs.declared.kinds.Reading.TheVariants as readings
-use Rattle.dict_head.specs.declared.kinds.Request as requests
+use Rattle.dict_head.specs.declared.kinds.RequestReading.{RequestReading}
+use Rattle.dict_head.specs.declared.kinds.RequestReading.TheVariants as readings
+use Rattle.dict_head.specs.declared.kinds.EditorRequest as requests
 use Rattle.dict_head.proofs.LawLemmas.{one, one_request}
 use Rattle.dict_head.proofs.RouteLawLemmas.{one_route}
 use Rattle.httparse.specs.Grammar.{print_request}
@@ -15,11 +15,11 @@ use Rattle.dict_http.specs.Foreseeing.{AsksForCommand}
 use Rattle.dict_http.proofs.service.Service.asks_change.Goals as goal
 
 -- of a whole request no more is needed
-whole_needs : (octets : List ℕ) (request : Request) (is : IsRequest octets request) → Needs octets (needs.Whole (length (print_request is.head) + is.size))
+whole_needs : (octets : List ℕ) (request : EditorRequest) (is : IsRequest octets request) → Needs octets (needs.Whole (length (print_request is.head) + is.size))
 whole_needs octets request is = inl (is.head, is.has, rw is.framed (inr (is.fits, refl)))
 
 -- octets in which a request stands whole are read as one
-read_whole : (octets : List ℕ) (reading : Reading) (request : Request) → IsReading octets reading → IsRequest octets request → ((told : requests.Request) → reading ≡ readings.Whole told → ⊥) → ⊥
+read_whole : (octets : List ℕ) (reading : RequestReading) (request : EditorRequest) → IsReading octets reading → IsRequest octets request → ((told : requests.EditorRequest) → reading ≡ readings.Whole told → ⊥) → ⊥
 read_whole octets (readings.More size) request is whole other = let never : needs.Whole (length (print_request whole.head) + whole.size) ≡ needs.More = one octets _ _ (whole_needs octets request whole) is.0 in cc
 read_whole octets (readings.Whole told) request is whole other = other told refl
 read_whole octets (readings.Refused status) request is whole other = let never : needs.Whole (length (print_request whole.head) + whole.size) ≡ needs.Refused status = one octets _ _ (whole_needs octets request whole) is in cc
@@ -31,7 +31,7 @@ pub returns-in_default-find-clause-no : goal.returns-in_default-find-clause-no
 returns-in_default-find-clause-no c = λ isnt asks.
     let whole = c.in-Whole.ensures in
     let same : asks.request ≡ whole.1 = one_request c.args.octets.now asks.request whole.1 asks.is whole.2 in
-    c.in_default-find.ensures asks.route asks.name (subst (λ t. IsPath t asks.route asks.name) (ap (λ (r : Request). r.target) same ∙ sym whole.3.target) asks.path)
+    c.in_default-find.ensures asks.route asks.name (subst (λ t. IsPath t asks.route asks.name) (ap (λ (r : EditorRequest). r.target) same ∙ sym whole.3.target) asks.path)
 
 pub returns-clause-yes : goal.returns-clause-yes
 returns-clause-yes c = λ is.
@@ -53,9 +53,9 @@ returns-clause-no c = λ isnt asks.
     let route = c.in-Some.found.route in
     let same : asks.request ≡ whole.1 = one_request c.args.octets.now asks.request whole.1 asks.is whole.2 in
     let path : IsPath asks.request.target route c.in-Some.found.name.now
-    = subst (λ t. IsPath t route c.in-Some.found.name.now) (whole.3.target ∙ sym (ap (λ (r : Request). r.target) same)) c.in-Some.ensures in
+    = subst (λ t. IsPath t route c.in-Some.found.name.now) (whole.3.target ∙ sym (ap (λ (r : EditorRequest). r.target) same)) c.in-Some.ensures in
     let routes : asks.route ≡ route = one_route asks.request.target asks.route route asks.name c.in-Some.found.name.now asks.path path in
-    let method : asks.request.method ≡ c.in-Whole.request.method.now = ap (λ (r : Request). r.method) same ∙ sym whole.3.method in
+    let method : asks.request.method ≡ c.in-Whole.request.method.now = ap (λ (r : EditorRequest). r.method) same ∙ sym whole.3.method in
     let yes : c.changes.result ≡ true
     = c.changes.ensures ∙ ap changes c.action_of.ensures ∙ ap (λ m. changes (action_of route m)) (sym method) ∙ ap (λ r. changes (action_of r asks.request.method)) (sym routes) ∙ asks.change in
     let never : true ≡ false = sym yes ∙ isnt in cc

@@ -7,18 +7,18 @@ use Rattle.dict_session.specs.Ending.{Wrote}
 use Rattle.dict_session.specs.Through.{WroteThrough, looks_up}
 use Rattle.dict_head.specs.Heads.{Needs}
 use Rattle.dict_head.specs.declared.kinds.Need.TheVariants.{More as NeedsMore}
-use Rattle.dict_hub.specs.Asking.{Awaits, Answers}
+use Rattle.dict_hub.specs.Asking.{Awaits, AnswersRequest}
 use Rattle.dict_hub.specs.Given.{Gets, GetsThrough, LookNothingUp}
 use Rattle.dict_hub.specs.Holding.{Holding}
 use Rattle.dict_hub.specs.declared.exchange.Exchange.TheVariants.{Editor}
-use Rattle.dict_hub.specs.Lines.{Holds, IsReader, IsEditor}
+use Rattle.dict_hub.specs.Lines.{HoldsExchange, IsReader, IsEditor}
 use Rattle.dict_hub.proofs.ExchangeLemmas.{replies_from, replies_through_from, through_editor, unless_answered, asks_from, held_from, left_from}
 use Rattle.dict_session.specs.Desks.{condition}
 use Rattle.dict_hub.proofs.exchange.Exchange.take.Goals as goal
 
 pub returns-in-Reader-clause-gets : goal.returns-in-Reader-clause-gets
 returns-in-Reader-clause-gets g c = λ trusted M shown host id held holds.
-    let h : IsReader host id c.in-Reader.session held = subst (λ line. Holds host id line held) c.in-Reader.is holds in
+    let h : IsReader host id c.in-Reader.session held = subst (λ line. HoldsExchange host id line held) c.in-Reader.is holds in
     let desk = condition g.K.Lookup.has_failed g.K.Lookup.is_closed c.feed.new.desk in
     let old = g.S.Sink.stream c.args.sink.now in
     let new = g.S.Sink.stream c.feed.new.sink in
@@ -32,7 +32,7 @@ returns-in-Reader-clause-gets g c = λ trusted M shown host id held holds.
 
 pub returns-in-Editor-clause-gets : goal.returns-in-Editor-clause-gets
 returns-in-Editor-clause-gets g c = λ trusted M shown host id held holds.
-    let h : IsEditor c.in-Editor.incoming held = subst (λ line. Holds host id line held) c.in-Editor.is holds in
+    let h : IsEditor c.in-Editor.incoming held = subst (λ line. HoldsExchange host id line held) c.in-Editor.is holds in
     let old = g.S.Sink.stream c.args.sink.now in
     let new = g.S.Sink.stream c.take.new.sink in
     asks_from host (condition g.K.Lookup.has_failed g.K.Lookup.is_closed c.take.new.desk) (g.K.Lookup.shows c.take.new.desk) (g.K.Lookup.leaves_one_of c.args.desk.now) (g.K.Lookup.leaves_one_of c.take.new.desk) M
@@ -42,22 +42,22 @@ returns-in-Editor-clause-gets g c = λ trusted M shown host id held holds.
       shows = subst (λ desk. g.K.Lookup.shows desk M) (sym (c.take.ensures.unasked e)) shown;
       leaves = λ ms before. subst (λ desk. g.K.Lookup.leaves_one_of desk ms) (sym (c.take.ensures.unasked e)) before;
     })
-    (λ e. subst (λ (o : List ℕ). Answers (g.K.Lookup.shows c.take.new.desk) (g.K.Lookup.leaves_one_of c.args.desk.now) (g.K.Lookup.leaves_one_of c.take.new.desk) M (o ++ c.args.piece.now) old new) h.octets_held (c.take.ensures.answers e trusted M shown))
+    (λ e. subst (λ (o : List ℕ). AnswersRequest (g.K.Lookup.shows c.take.new.desk) (g.K.Lookup.leaves_one_of c.args.desk.now) (g.K.Lookup.leaves_one_of c.take.new.desk) M (o ++ c.args.piece.now) old new) h.octets_held (c.take.ensures.answers e trusted M shown))
 
 pub returns-in-Editor-clause-left : goal.returns-in-Editor-clause-left
 returns-in-Editor-clause-left g c = λ trusted M shown host id held holds.
-    let h : IsEditor c.in-Editor.incoming held = subst (λ line. Holds host id line held) c.in-Editor.is holds in
+    let h : IsEditor c.in-Editor.incoming held = subst (λ line. HoldsExchange host id line held) c.in-Editor.is holds in
     left_from host id held.kind (held.octets ++ c.args.piece.now) c.take.new.self c.take.result h.kind
     (λ e. (c.take.ensures.awaits e h.awaited).held_all ∙ ap (λ (o : List ℕ). o ++ c.args.piece.now) h.octets_held) (c.take.ensures.awaited h.awaited)
 
 pub returns-in-Editor-clause-held : goal.returns-in-Editor-clause-held
 returns-in-Editor-clause-held g c =
-    subst (λ line. OnErr c.take.result ((host : List ℕ) (id : ℕ) (held : Holding) → Holds host id line held → Holds host id (Editor c.take.new.self) held)) (sym c.in-Editor.is)
+    subst (λ line. OnErr c.take.result ((host : List ℕ) (id : ℕ) (held : Holding) → HoldsExchange host id line held → HoldsExchange host id (Editor c.take.new.self) held)) (sym c.in-Editor.is)
     (held_from c.in-Editor.incoming c.take.new.self c.take.result c.take.ensures.held c.take.ensures.awaited)
 
 pub returns-in-Reader-clause-through : goal.returns-in-Reader-clause-through
 returns-in-Reader-clause-through g c = λ trusted M shown host id held holds.
-    let h : IsReader host id c.in-Reader.session held = subst (λ line. Holds host id line held) c.in-Reader.is holds in
+    let h : IsReader host id c.in-Reader.session held = subst (λ line. HoldsExchange host id line held) c.in-Reader.is holds in
     let before = g.K.Lookup.is_closed c.args.desk.now in
     let desk = condition g.K.Lookup.has_failed g.K.Lookup.is_closed c.feed.new.desk in
     let old = g.S.Sink.stream c.args.sink.now in
@@ -71,18 +71,18 @@ returns-in-Reader-clause-through g c = λ trusted M shown host id held holds.
 
 pub returns-in-Editor-clause-through : goal.returns-in-Editor-clause-through
 returns-in-Editor-clause-through g c = λ trusted M shown host id held holds.
-    let h : IsEditor c.in-Editor.incoming held = subst (λ line. Holds host id line held) c.in-Editor.is holds in
+    let h : IsEditor c.in-Editor.incoming held = subst (λ line. HoldsExchange host id line held) c.in-Editor.is holds in
     through_editor host M (g.K.Lookup.is_closed c.args.desk.now) (condition g.K.Lookup.has_failed g.K.Lookup.is_closed c.take.new.desk) held.kind (held.octets ++ c.args.piece.now)
     (g.S.Sink.stream c.args.sink.now) (g.S.Sink.stream c.take.new.sink) c.take.result h.kind
 
 pub returns-in-Reader-clause-quiet : goal.returns-in-Reader-clause-quiet
 returns-in-Reader-clause-quiet g c = λ trusted M shown host id held holds nothing.
-    let h : IsReader host id c.in-Reader.session held = subst (λ line. Holds host id line held) c.in-Reader.is holds in
+    let h : IsReader host id c.in-Reader.session held = subst (λ line. HoldsExchange host id line held) c.in-Reader.is holds in
     c.feed.ensures.quiet h.goes_on trusted M shown held.octets h.unfinished (subst (λ kind. LookNothingUp M kind (held.octets ++ c.args.piece.now)) h.kind nothing)
 
 pub returns-in-Editor-clause-quiet : goal.returns-in-Editor-clause-quiet
 returns-in-Editor-clause-quiet g c = λ trusted M shown host id held holds nothing.
-    let h : IsEditor c.in-Editor.incoming held = subst (λ line. Holds host id line held) c.in-Editor.is holds in
+    let h : IsEditor c.in-Editor.incoming held = subst (λ line. HoldsExchange host id line held) c.in-Editor.is holds in
     let needs : Needs (held.octets ++ c.args.piece.now) NeedsMore = subst (λ kind. LookNothingUp M kind (held.octets ++ c.args.piece.now)) h.kind nothing in
     let here : Needs (c.in-Editor.incoming.octets.items ++ c.args.piece.now) NeedsMore = subst (λ (o : List ℕ). Needs (o ++ c.args.piece.now) NeedsMore) (sym h.octets_held) needs in
     unless_answered c.take.result c.take.ensures.unasked (λ e. (c.take.ensures.answers e trusted M shown).whole here) c.take.ensures.desk

@@ -4,7 +4,7 @@ use Rattle.std.proofs.lemmas.List.{length-set}
 use Rattle.std.proofs.lemmas.List.Edits.{length-remove}
 use Rattle.dict_hub.specs.Given.{Gets, GetsThrough}
 use Rattle.dict_hub.specs.Holding.{left_by}
-use Rattle.dict_hub.specs.Lines.{Holds, IsLeft}
+use Rattle.dict_hub.specs.Lines.{HoldsExchange, HoldsIfOpen}
 use Rattle.dict_hub.specs.Hubs.{IsAbsent}
 use Rattle.dict_hub.proofs.HubLemmas.{found_at, not_found, holds_there, set_own, set_others, remove_own, remove_others, stands_as, on_err, err_passed, set_same}
 use Rattle.dict_session.specs.Desks.{condition}
@@ -18,7 +18,7 @@ returns-in_default-clause-memory g c = λ held at. absurd (not_found c.args.self
 pub returns-in_err-take-clause-memory : goal.returns-in_err-take-clause-memory
 returns-in_err-take-clause-memory g c = λ held at.
     let f = found_at c.args.self.now.book.ids.items c.args.id c.in-Some.place (sym c.in-Some.ensures.value) in
-    let h = subst (λ one. Holds c.args.self.now.host.now c.args.id one held) (sym c.index_mut.ensures.value)
+    let h = subst (λ one. HoldsExchange c.args.self.now.host.now c.args.id one held) (sym c.index_mut.ensures.value)
     (holds_there c.args.self.now.host.now c.args.self.now.book.ids.items c.args.self.now.lines.items c.args.id held c.in-Some.place c.args.self.now.book.rising f.0 f.1 at c.index_mut.result.now) in
     err_passed c.from_residual.result _ Memory (held.kind ≡ Http) c.from_residual.ensures.1 c.in_err-take.ensures.memory (c.in_err-take.ensures.editor c.args.self.now.host.now c.args.id held h)
 
@@ -42,7 +42,7 @@ returns-in-More-clause-unknown g c = λ absent.
 pub returns-in-More-clause-gets : goal.returns-in-More-clause-gets
 returns-in-More-clause-gets g c = λ trusted M shown held at.
     let f = found_at c.args.self.now.book.ids.items c.args.id c.in-Some.place (sym c.in-Some.ensures.value) in
-    let h = subst (λ one. Holds c.args.self.now.host.now c.args.id one held) (sym c.index_mut.ensures.value)
+    let h = subst (λ one. HoldsExchange c.args.self.now.host.now c.args.id one held) (sym c.index_mut.ensures.value)
     (holds_there c.args.self.now.host.now c.args.self.now.book.ids.items c.args.self.now.lines.items c.args.id held c.in-Some.place c.args.self.now.book.rising f.0 f.1 at c.index_mut.result.now) in
     subst (λ out. Gets c.args.self.now.host.now (condition g.K.Lookup.has_failed g.K.Lookup.is_closed c.take.new.desk) (g.K.Lookup.shows c.take.new.desk) (g.K.Lookup.leaves_one_of c.args.desk.now) (g.K.Lookup.leaves_one_of c.take.new.desk) M held.kind (held.octets ++ c.args.piece.now) out (g.S.Sink.stream c.args.sink.now) (g.S.Sink.stream c.take.new.sink))
     c.in-More.is (c.in_ok-take.ensures.gets trusted M shown c.args.self.now.host.now c.args.id held h)
@@ -51,10 +51,10 @@ pub returns-in-More-clause-own : goal.returns-in-More-clause-own
 returns-in-More-clause-own g c = λ trusted M shown held at.
     let f = found_at c.args.self.now.book.ids.items c.args.id c.in-Some.place (sym c.in-Some.ensures.value) in
     let even : length c.args.self.now.lines.items ≡ length c.args.self.now.book.ids.items = omega (arith, c.args.self.now.even, c.args.self.now.lines.ok.0, c.args.self.now.book.ids.ok.0) in
-    let h = subst (λ one. Holds c.args.self.now.host.now c.args.id one held) (sym c.index_mut.ensures.value)
+    let h = subst (λ one. HoldsExchange c.args.self.now.host.now c.args.id one held) (sym c.index_mut.ensures.value)
     (holds_there c.args.self.now.host.now c.args.self.now.book.ids.items c.args.self.now.lines.items c.args.id held c.in-Some.place c.args.self.now.book.rising f.0 f.1 at c.index_mut.result.now) in
     set_own c.args.self.now.host.now c.args.self.now.book.ids.items c.args.self.now.lines.items c.in-Some.place c.args.id c.take.new.self even f.0 f.1 _
-    (subst (λ out. IsLeft c.args.self.now.host.now c.args.id c.take.new.self (left_by held.kind (held.octets ++ c.args.piece.now) out)) c.in-More.is (c.in_ok-take.ensures.left trusted M shown c.args.self.now.host.now c.args.id held h))
+    (subst (λ out. HoldsIfOpen c.args.self.now.host.now c.args.id c.take.new.self (left_by held.kind (held.octets ++ c.args.piece.now) out)) c.in-More.is (c.in_ok-take.ensures.left trusted M shown c.args.self.now.host.now c.args.id held h))
 
 pub returns-in-More-clause-others : goal.returns-in-More-clause-others
 returns-in-More-clause-others g c = λ other held ne at.
@@ -69,7 +69,7 @@ returns-in-Close-clause-unknown g c = λ absent.
 pub returns-in-Close-clause-gets : goal.returns-in-Close-clause-gets
 returns-in-Close-clause-gets g c = λ trusted M shown held at.
     let f = found_at c.args.self.now.book.ids.items c.args.id c.in-Some.place (sym c.in-Some.ensures.value) in
-    let h = subst (λ one. Holds c.args.self.now.host.now c.args.id one held) (sym c.index_mut.ensures.value)
+    let h = subst (λ one. HoldsExchange c.args.self.now.host.now c.args.id one held) (sym c.index_mut.ensures.value)
     (holds_there c.args.self.now.host.now c.args.self.now.book.ids.items c.args.self.now.lines.items c.args.id held c.in-Some.place c.args.self.now.book.rising f.0 f.1 at c.index_mut.result.now) in
     subst (λ out. Gets c.args.self.now.host.now (condition g.K.Lookup.has_failed g.K.Lookup.is_closed c.take.new.desk) (g.K.Lookup.shows c.take.new.desk) (g.K.Lookup.leaves_one_of c.args.desk.now) (g.K.Lookup.leaves_one_of c.take.new.desk) M held.kind (held.octets ++ c.args.piece.now) out (g.S.Sink.stream c.args.sink.now) (g.S.Sink.stream c.take.new.sink))
     c.in-Close.is (c.in_ok-take.ensures.gets trusted M shown c.args.self.now.host.now c.args.id held h)
@@ -101,7 +101,7 @@ returns-in-More-clause-through g c = λ trusted M shown held at.
     let host = c.args.self.now.host.now in
     let ids = c.args.self.now.book.ids.items in
     let f = found_at ids c.args.id c.in-Some.place (sym c.in-Some.ensures.value) in
-    let h = subst (λ one. Holds host c.args.id one held) (sym c.index_mut.ensures.value)
+    let h = subst (λ one. HoldsExchange host c.args.id one held) (sym c.index_mut.ensures.value)
     (holds_there host ids c.args.self.now.lines.items c.args.id held c.in-Some.place c.args.self.now.book.rising f.0 f.1 at c.index_mut.result.now) in
     let desk = condition g.K.Lookup.has_failed g.K.Lookup.is_closed c.take.new.desk in
     subst (λ out. GetsThrough host M (g.K.Lookup.is_closed c.args.desk.now) desk held.kind (held.octets ++ c.args.piece.now) out (g.S.Sink.stream c.args.sink.now) (g.S.Sink.stream c.take.new.sink))
@@ -112,7 +112,7 @@ returns-in-More-clause-quiet g c = λ trusted M shown held at nothing.
     let host = c.args.self.now.host.now in
     let ids = c.args.self.now.book.ids.items in
     let f = found_at ids c.args.id c.in-Some.place (sym c.in-Some.ensures.value) in
-    let h = subst (λ one. Holds host c.args.id one held) (sym c.index_mut.ensures.value)
+    let h = subst (λ one. HoldsExchange host c.args.id one held) (sym c.index_mut.ensures.value)
     (holds_there host ids c.args.self.now.lines.items c.args.id held c.in-Some.place c.args.self.now.book.rising f.0 f.1 at c.index_mut.result.now) in
     c.in_ok-take.ensures.quiet trusted M shown host c.args.id held h nothing
 
@@ -121,7 +121,7 @@ returns-in-Close-clause-through g c = λ trusted M shown held at.
     let host = c.args.self.now.host.now in
     let ids = c.args.self.now.book.ids.items in
     let f = found_at ids c.args.id c.in-Some.place (sym c.in-Some.ensures.value) in
-    let h = subst (λ one. Holds host c.args.id one held) (sym c.index_mut.ensures.value)
+    let h = subst (λ one. HoldsExchange host c.args.id one held) (sym c.index_mut.ensures.value)
     (holds_there host ids c.args.self.now.lines.items c.args.id held c.in-Some.place c.args.self.now.book.rising f.0 f.1 at c.index_mut.result.now) in
     let desk = condition g.K.Lookup.has_failed g.K.Lookup.is_closed c.take.new.desk in
     subst (λ out. GetsThrough host M (g.K.Lookup.is_closed c.args.desk.now) desk held.kind (held.octets ++ c.args.piece.now) out (g.S.Sink.stream c.args.sink.now) (g.S.Sink.stream c.take.new.sink))
@@ -132,6 +132,6 @@ returns-in-Close-clause-quiet g c = λ trusted M shown held at nothing.
     let host = c.args.self.now.host.now in
     let ids = c.args.self.now.book.ids.items in
     let f = found_at ids c.args.id c.in-Some.place (sym c.in-Some.ensures.value) in
-    let h = subst (λ one. Holds host c.args.id one held) (sym c.index_mut.ensures.value)
+    let h = subst (λ one. HoldsExchange host c.args.id one held) (sym c.index_mut.ensures.value)
     (holds_there host ids c.args.self.now.lines.items c.args.id held c.in-Some.place c.args.self.now.book.rising f.0 f.1 at c.index_mut.result.now) in
     c.in_ok-take.ensures.quiet trusted M shown host c.args.id held h nothing

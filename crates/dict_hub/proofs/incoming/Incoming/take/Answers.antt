@@ -1,15 +1,15 @@
 use Rattle.std.proofs.Common.{◌≡◌, ◌<◌, ◌++◌, ℕ, List, length, refl, sym, ap, ◌∙◌, subst, arith, append_assoc, inl, inr}
 use Rattle.std.specs.Prelude.{◌⊎◌, Result, Ok, Err}
 use Rattle.dict_proto.specs.Streams.{Stream, Puts, PutsAll, PutsFront}
-use Rattle.dict_http.specs.Answers.{octets_of}
+use Rattle.dict_http.specs.Answers.{answer_octets}
 use Rattle.dict_http.specs.Responding.{Responds}
 use Rattle.dict_http.specs.Settling.{Settles}
 use Rattle.std.proofs.lemmas.Grind.{common_steps}
 use Rattle.dict_head.specs.Heads.{Needs}
 use Rattle.dict_head.specs.Requests.{IsAwaited, IsReading}
 use Rattle.dict_head.specs.declared.kinds.Need.TheVariants as needs
-use Rattle.dict_head.specs.declared.kinds.Reading.{Reading}
-use Rattle.dict_head.specs.declared.kinds.Reading.TheVariants as readings
+use Rattle.dict_head.specs.declared.kinds.RequestReading.{RequestReading}
+use Rattle.dict_head.specs.declared.kinds.RequestReading.TheVariants as readings
 use Rattle.dict_head.proofs.LawLemmas.{awaits, one}
 use Rattle.dict_hub.specs.Asking.{IsAwaitedIn}
 use Rattle.dict_hub.proofs.incoming.Incoming.take.Goals as goal
@@ -21,7 +21,7 @@ awaited_on x y whole size is awaited more fewer =
     subst (λ (o : List ℕ). Needs o needs.More) (sym same) (awaited (y ++ more) (subst (λ (o : List ℕ). length o < size) same fewer))
 
 -- octets that were read otherwise need no more
-needs_no_more : (octets : List ℕ) (reading : Reading) → IsReading octets reading → ((size : ℕ) → reading ≡ readings.More size → ⊥) → Needs octets needs.More → ⊥
+needs_no_more : (octets : List ℕ) (reading : RequestReading) → IsReading octets reading → ((size : ℕ) → reading ≡ readings.More size → ⊥) → Needs octets needs.More → ⊥
 needs_no_more octets (readings.More size) is other given = other size refl
 needs_no_more octets (readings.Whole told) is other given = let never : needs.Whole told.len ≡ needs.More = one octets (needs.Whole told.len) needs.More is.0 given in cc
 needs_no_more octets (readings.Refused status) is other given = let never : needs.Refused status ≡ needs.More = one octets (needs.Refused status) needs.More is given in cc
@@ -62,8 +62,8 @@ returns-clause-answers g c = λ close trusted M shown.
     = grind (arith, common_steps, c.extend_from_slice.ensures.items, c.reserve.ensures.items, c.if-is_err-2.ensures.value) in
     record {
       whole = λ given. needs_no_more c.deref.result.now c.read_request.result c.read_request.ensures c.in_default.not-More (subst (λ o. Needs o needs.More) (sym (c.deref.ensures.value ∙ whole)) given);
-      answer = octets_of c.respond-answer.result;
-      responds = subst (λ o. Responds (g.K.Lookup.shows c.respond-answer.new.desk) (g.K.Lookup.leaves_one_of c.args.desk.now) (g.K.Lookup.leaves_one_of c.respond-answer.new.desk) M (Settles M o) (octets_of c.respond-answer.result))
+      answer = answer_octets c.respond-answer.result;
+      responds = subst (λ o. Responds (g.K.Lookup.shows c.respond-answer.new.desk) (g.K.Lookup.leaves_one_of c.args.desk.now) (g.K.Lookup.leaves_one_of c.respond-answer.new.desk) M (Settles M o) (answer_octets c.respond-answer.result))
           (c.deref-2.ensures.value ∙ whole) (c.respond-answer.ensures.responds trusted M shown);
-      puts = puts_either c.put.result (g.S.Sink.stream c.args.sink.now) (g.S.Sink.stream c.put.new.sink) (octets_of c.respond-answer.result) c.put.ensures;
+      puts = puts_either c.put.result (g.S.Sink.stream c.args.sink.now) (g.S.Sink.stream c.put.new.sink) (answer_octets c.respond-answer.result) c.put.ensures;
     }

@@ -1,7 +1,7 @@
 use Rattle.std.proofs.Common.{◌≡◌, ◌+◌, ◌-◌, ◌≤◌, ◌⊎◌, true, take, drop, length, inl, inr, ap, sym, ◌∙◌, subst, arith}
 use Rattle.dict_places.specs.Places.{places_where}
 use Rattle.dict_places.specs.Selected.{has_gram}
-use Rattle.dict_derived.specs.Kept.{is_kept, kept_grams}
+use Rattle.dict_derived.specs.KeptGrams.{is_kept_gram, kept_grams}
 use Rattle.dict_places.specs.Common.{HasAllWith}
 use Rattle.dict_places.proofs.KeptLemmas.{kept_where}
 use Rattle.dict_places.proofs.RarestLemmas.{has_all_with}
@@ -17,7 +17,7 @@ loop-end-preserved c = λ keys are.
     elim c.if-is_kept.branch [
       | then-is_kept w ↦
           let gram = take (end - (end - 3)) (drop (end - 3) q) in
-          let kept : is_kept gram ≡ true = sym c.is_kept.ensures ∙ w.if-is_kept.true in
+          let kept : is_kept_gram gram ≡ true = sym c.is_kept.ensures ∙ w.if-is_kept.true in
           let list : w.places.result.now ≡ places_where (has_gram (take 3 (drop (end - 3) q))) keys =
           w.places.ensures kept_grams keys are ∙ kept_where gram keys kept ∙ ap (λ n. places_where (has_gram (take n (drop (end - 3) q))) keys) three in
           elim w.shorter-rarest.ensures [

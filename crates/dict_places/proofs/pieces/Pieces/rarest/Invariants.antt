@@ -1,5 +1,5 @@
 use Rattle.std.proofs.Common.{◌≡◌, ℕ, List, ◌⊎◌}
-use Rattle.dict_derived.specs.Kept.{kept_grams}
+use Rattle.dict_derived.specs.KeptGrams.{kept_grams}
 use Rattle.dict_places.specs.Pieces.{ArePlaced}
 use Rattle.dict_places.specs.Common.{HasAllWith}
 use Rattle.dict_places.proofs.pieces.Pieces.rarest.Given as goal

@@ -1,6 +1,6 @@
 use Rattle.std.proofs.Common.{◌≡◌, pos, ◌++◌, ◌∷◌, [], sym, subst, ◌∙◌}
 use Rattle.dict_parts.specs.Parts.{parts_of}
-use Rattle.dict_parts.specs.Joining.{IsNext, MayRefuse}
+use Rattle.dict_parts.specs.Joining.{IsNext, MayRefusePart}
 use Rattle.dict_scans.proofs.FileLemmas.{parts_next, parts_refused}
 use Rattle.dict_scans.proofs.files.JoinerTakerStoredPart.take.Goals as goal
 
@@ -16,7 +16,7 @@ returns-in-Ok-clause-taken c = λ first given h.
 pub returns-clause-refused : goal.returns-clause-refused
 returns-clause-refused c = λ is first given h.
     let why = c.fault_of_part.ensures is in
-    let wrong = subst (MayRefuse c.args.self.now c.in-Some.number c.deref.result.now) why c.in-Err.ensures.refused in
+    let wrong = subst (MayRefusePart c.args.self.now c.in-Some.number c.deref.result.now) why c.in-Err.ensures.refused in
     parts_refused first given c.args.next c.args.self.now h (λ number e next.
     let both : pos number ≡ pos c.in-Some.number = sym e ∙ c.in-Some.ensures.number in
     let same : number ≡ c.in-Some.number = cc in

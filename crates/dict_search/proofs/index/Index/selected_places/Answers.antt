@@ -1,5 +1,5 @@
 use Rattle.std.proofs.Common.{ap, sym, ◌∙◌}
-use Rattle.dict_derived.specs.Search.{rows_of}
+use Rattle.dict_derived.specs.Search.{rows_selected}
 use Rattle.dict_search.specs.Entries.{keys_of}
 use Rattle.dict_places.specs.Places.{places_where}
 use Rattle.dict_places.specs.Selected.{is_selected}
@@ -9,4 +9,4 @@ use Rattle.dict_search.proofs.index.Index.selected_places.Goals as goal
 pub returns-in-Nothing : goal.returns-in-Nothing
 returns-in-Nothing c =
     let keys = keys_of c.args.self.now in
-    c.new.ensures.items ∙ none_where keys ∙ sym (ap (λ s. places_where (is_selected (rows_of s)) keys) c.in-Nothing.is)
+    c.new.ensures.items ∙ none_where keys ∙ sym (ap (λ s. places_where (is_selected (rows_selected s)) keys) c.in-Nothing.is)

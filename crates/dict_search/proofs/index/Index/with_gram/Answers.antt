@@ -2,7 +2,7 @@ use Rattle.std.proofs.Common.{◌≡◌, true, filter, ap, sym, ◌∙◌}
 use Rattle.dict_search.specs.Entries.{keys_of}
 use Rattle.dict_places.specs.Places.{key_at, places_where}
 use Rattle.dict_places.specs.Selected.{has_piece, has_gram}
-use Rattle.dict_derived.specs.Kept.{is_kept, kept_grams}
+use Rattle.dict_derived.specs.KeptGrams.{is_kept_gram, kept_grams}
 use Rattle.dict_search.proofs.IndexLemmas.{then_too}
 use Rattle.dict_places.proofs.KeptLemmas.{kept_where, where_both}
 use Rattle.dict_search.proofs.index.Index.with_gram.Goals as goal
@@ -11,7 +11,7 @@ pub returns-then-is_kept : goal.returns-then-is_kept
 returns-then-is_kept c =
     let keys = keys_of c.self.inside.entries in
     let gram = c.args.gram.now in
-    let kept : is_kept gram ≡ true = ap is_kept (sym c.as_slice.ensures) ∙ sym c.is_kept.ensures ∙ c.if-is_kept.true in
+    let kept : is_kept_gram gram ≡ true = ap is_kept_gram (sym c.as_slice.ensures) ∙ sym c.is_kept.ensures ∙ c.if-is_kept.true in
     let there : c.places.result.now ≡ places_where (has_gram gram) (keys_of c.args.self.now) =
     c.places.ensures kept_grams keys c.self.invariant.grams_placed
     ∙ ap (λ g. places_where (has_piece kept_grams g) keys) c.as_slice-then-is_kept.ensures

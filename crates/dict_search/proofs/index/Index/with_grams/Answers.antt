@@ -2,7 +2,7 @@ use Rattle.std.proofs.Common.{◌≡◌, ◌&&◌, true, ap, ◌∙◌, rules}
 use Rattle.dict_search.specs.Entries.{keys_of}
 use Rattle.dict_places.specs.Places.{places_where}
 use Rattle.dict_places.specs.Selected.{has_piece, has_gram}
-use Rattle.dict_derived.specs.Kept.{is_kept, kept_grams}
+use Rattle.dict_derived.specs.KeptGrams.{is_kept_gram, kept_grams}
 use Rattle.dict_search.proofs.IndexLemmas.{then_too, both_where}
 use Rattle.dict_places.proofs.KeptLemmas.{kept_where}
 use Rattle.dict_search.proofs.index.Index.with_grams.Goals as goal
@@ -16,8 +16,8 @@ returns-then-one-other c =
     let first = c.args.first.now in
     let last = c.args.last.now in
     let placed = c.self.invariant.grams_placed in
-    let first_kept : is_kept first ≡ true = search rules in
-    let last_kept : is_kept last ≡ true = search rules in
+    let first_kept : is_kept_gram first ≡ true = search rules in
+    let last_kept : is_kept_gram last ≡ true = search rules in
     let one : c.places-one.result.now ≡ places_where (has_gram first) keys = c.places-one.ensures kept_grams keys placed ∙ ap (λ g. places_where (has_piece kept_grams g) keys) c.as_slice-3.ensures ∙ kept_where first keys first_kept in
     let other : c.places-other.result.now ≡ places_where (has_gram last) keys = c.places-other.ensures kept_grams keys placed ∙ ap (λ g. places_where (has_piece kept_grams g) keys) c.as_slice-4.ensures ∙ kept_where last keys last_kept in
     then_too _ _ c.common_places.result (λ both is. is (has_gram first) (has_gram last) keys one other ∙ ap (λ l. places_where (λ key. has_gram first key && has_gram last key) (keys_of l)) c.self.view_is) c.common_places.ensures
@@ -28,8 +28,8 @@ returns-else-one-other c =
     let first = c.args.first.now in
     let last = c.args.last.now in
     let placed = c.self.invariant.grams_placed in
-    let first_kept : is_kept first ≡ true = search rules in
-    let last_kept : is_kept last ≡ true = search rules in
+    let first_kept : is_kept_gram first ≡ true = search rules in
+    let last_kept : is_kept_gram last ≡ true = search rules in
     let one : c.places-one.result.now ≡ places_where (has_gram first) keys = c.places-one.ensures kept_grams keys placed ∙ ap (λ g. places_where (has_piece kept_grams g) keys) c.as_slice-3.ensures ∙ kept_where first keys first_kept in
     let other : c.places-other.result.now ≡ places_where (has_gram last) keys = c.places-other.ensures kept_grams keys placed ∙ ap (λ g. places_where (has_piece kept_grams g) keys) c.as_slice-4.ensures ∙ kept_where last keys last_kept in
     then_too _ _ c.common_places-else-one-other.result (λ both is. is (has_gram last) (has_gram first) keys other one

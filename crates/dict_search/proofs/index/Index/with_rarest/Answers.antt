@@ -4,7 +4,7 @@ use Rattle.dict_match.specs.declared.strategy.Strategy.TheVariants.{Substring}
 use Rattle.dict_derived.specs.Search.{rows_for}
 use Rattle.dict_search.specs.Entries.{keys_of}
 use Rattle.dict_places.specs.Places.{key_at, places_where}
-use Rattle.dict_derived.specs.Kept.{kept_grams}
+use Rattle.dict_derived.specs.KeptGrams.{kept_grams}
 use Rattle.dict_places.specs.Pieces.{ArePlaced}
 use Rattle.dict_places.specs.Selected.{is_selected}
 use Rattle.dict_places.proofs.SelectionLemmas.{tested}

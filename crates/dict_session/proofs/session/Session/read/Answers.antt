@@ -1,6 +1,6 @@
 use Rattle.std.proofs.Common.{◌≡◌, All, false, ℕ, ◌<◌, ◌+◌, List, [], ◌∷◌, ◌++◌, length, take, drop, get_or, sym, ap, ◌∙◌, subst, append_assoc, append-nil, arith, refl, take-append-drop}
 use Rattle.std.proofs.lemmas.List.{take_more, take_all}
-use Rattle.dict_session.specs.Session.{IsSameSession, host_of}
+use Rattle.dict_session.specs.Session.{IsSameSession, session_host}
 use Rattle.dict_session.specs.Through.{LeavesThrough, looks_up}
 use Rattle.dict_proto.specs.Meaning.{meaning}
 use Rattle.dict_session.specs.Answers.{answer_to}
@@ -34,8 +34,8 @@ behind_lines P p q all = all_behind P (cut p).lines (cut ((cut p).rest ++ q)).li
 pub loop-octet-init : goal.loop-octet-init
 loop-octet-init g c = record {
   left = λ trusted M shown rest h.
-      subst (LeavesThrough (answer_to M (host_of c.args.self.now)) (looks_up M) (g.L.Lookup.is_closed c.args.desk.now) (condition g.L.Lookup.has_failed g.L.Lookup.is_closed c.args.desk.now) More c.args.self.now (g.K.Sink.stream c.args.sink.now) (g.K.Sink.stream c.args.sink.now)) (sym (append-nil rest))
-      (through_held (answer_to M (host_of c.args.self.now)) (looks_up M) (condition g.L.Lookup.has_failed g.L.Lookup.is_closed c.args.desk.now) c.args.self.now (g.K.Sink.stream c.args.sink.now) rest h.unfinished h);
+      subst (LeavesThrough (answer_to M (session_host c.args.self.now)) (looks_up M) (g.L.Lookup.is_closed c.args.desk.now) (condition g.L.Lookup.has_failed g.L.Lookup.is_closed c.args.desk.now) More c.args.self.now (g.K.Sink.stream c.args.sink.now) (g.K.Sink.stream c.args.sink.now)) (sym (append-nil rest))
+      (through_held (answer_to M (session_host c.args.self.now)) (looks_up M) (condition g.L.Lookup.has_failed g.L.Lookup.is_closed c.args.desk.now) c.args.self.now (g.K.Sink.stream c.args.sink.now) rest h.unfinished h);
   quiet = λ trusted M shown rest h all. refl;
   desk = stays_same g.L.Lookup.shows g.L.Lookup.leaves_one_of g.L.Lookup.is_trusted g.L.Lookup.is_closed c.args.desk.now;
   same = record { host = refl; connection = refl; room = refl };
@@ -51,7 +51,7 @@ loop-octet-preserved g c =
       left = λ trusted M shown rest h.
           (let earlier = c.in-More.ensures.desk.trust trusted in
           let before = c.loop-octet.invariant.left earlier M shown rest h in
-          let answer = answer_to M (host_of c.args.self.now) in
+          let answer = answer_to M (session_host c.args.self.now) in
           let mid = condition g.L.Lookup.has_failed g.L.Lookup.is_closed c.loop-octet.desk in
           let desk = condition g.L.Lookup.has_failed g.L.Lookup.is_closed c.take.new.desk in
           let one = subst (λ (host : List ℕ). LeavesThrough (answer_to M host) (looks_up M) mid.closed desk More c.take.new.self (g.K.Sink.stream c.loop-octet.sink) (g.K.Sink.stream c.take.new.sink) ((cut (rest ++ take i piece)).rest ++ get_or piece i 0 ∷ []))
@@ -80,7 +80,7 @@ returns-in_default g c =
           (let earlier = c.take.ensures.desk.trust trusted in
           let before = c.loop-octet.invariant.left earlier M shown rest h in
           let read = (rest ++ take i piece) ++ get_or piece i 0 ∷ [] in
-          let answer = answer_to M (host_of c.args.self.now) in
+          let answer = answer_to M (session_host c.args.self.now) in
           let mid = condition g.L.Lookup.has_failed g.L.Lookup.is_closed c.loop-octet.desk in
           let desk = condition g.L.Lookup.has_failed g.L.Lookup.is_closed c.take.new.desk in
           let one = subst (λ (host : List ℕ). LeavesThrough (answer_to M host) (looks_up M) mid.closed desk c.take.result c.take.new.self (g.K.Sink.stream c.loop-octet.sink) (g.K.Sink.stream c.take.new.sink) ((cut (rest ++ take i piece)).rest ++ get_or piece i 0 ∷ []))
@@ -103,7 +103,7 @@ pub returns-clause-answers : goal.returns-clause-answers
 returns-clause-answers g c = λ trusted M shown rest h.
     let piece = c.args.piece.now in
     let whole : rest ++ take c.loop-octet.octet-index piece ≡ rest ++ piece = ap (λ l. rest ++ l) (take_all _ piece (omega arith)) in
-    subst (LeavesThrough (answer_to M (host_of c.args.self.now)) (looks_up M) (g.L.Lookup.is_closed c.args.desk.now) (condition g.L.Lookup.has_failed g.L.Lookup.is_closed c.loop-octet.desk) More c.loop-octet.self (g.K.Sink.stream c.args.sink.now) (g.K.Sink.stream c.loop-octet.sink)) whole (c.loop-octet.invariant.left trusted M shown rest h)
+    subst (LeavesThrough (answer_to M (session_host c.args.self.now)) (looks_up M) (g.L.Lookup.is_closed c.args.desk.now) (condition g.L.Lookup.has_failed g.L.Lookup.is_closed c.loop-octet.desk) More c.loop-octet.self (g.K.Sink.stream c.args.sink.now) (g.K.Sink.stream c.loop-octet.sink)) whole (c.loop-octet.invariant.left trusted M shown rest h)
 
 pub returns-clause-quiet : goal.returns-clause-quiet
 returns-clause-quiet g c = λ trusted M shown rest h all.

@@ -1,7 +1,7 @@
 use Rattle.std.proofs.Common.{◌≡◌, ℕ, List, false, All, ap, [], ◌∷◌, ◌++◌, ◌-◌, length, take, sym, ◌∙◌, subst, eqb-true, eq-eqb, arith}
 use Rattle.std.specs.Prelude.{slice_index}
 use Rattle.std.proofs.lemmas.List.Elements.{All-head}
-use Rattle.dict_session.specs.Session.{host_of}
+use Rattle.dict_session.specs.Session.{session_host}
 use Rattle.dict_session.specs.Through.{LeavesThrough, looks_up}
 use Rattle.dict_proto.specs.Meaning.{meaning}
 use Rattle.dict_session.specs.Answers.{answer_to}
@@ -15,7 +15,7 @@ use Rattle.dict_session.proofs.session.Session.take.Goals.{else-octet-eq10-via-t
 pub returns-then-self-clause-answers : goal.returns-then-self-clause-answers
 returns-then-self-clause-answers g c = λ trusted M shown rest h.
     let last : slice_index rest (length rest - 1) ≡ 13 = eqb-true _ _ (sym h.last ∙ c.if-self.true) in
-    let answer = answer_to M (host_of c.args.self.now) in
+    let answer = answer_to M (session_host c.args.self.now) in
     let before = g.L.Lookup.is_closed c.args.desk.now in
     let desk = condition g.L.Lookup.has_failed g.L.Lookup.is_closed c.end_line.new.desk in
     subst (λ x. LeavesThrough answer (looks_up M) before desk c.end_line.result c.end_line.new.self (g.K.Sink.stream c.args.sink.now) (g.K.Sink.stream c.end_line.new.sink) (rest ++ x ∷ [])) (sym c.if-octet-eq10.true)
@@ -36,4 +36,4 @@ returns-else-octet-eq10-clause-answers g c = λ trusted M shown rest h.
       | else-octet-eq10-via-then-octet-eq10+else-self w ↦ cc (w.if-self.false, h.last, eq-eqb _ _ last)
       | else-octet-eq10-via-else-octet-eq10 w ↦ omega arith
     ]) in
-    through_held (answer_to M (host_of c.args.self.now)) (looks_up M) (condition g.L.Lookup.has_failed g.L.Lookup.is_closed c.args.desk.now) c.hold.new.self (g.K.Sink.stream c.args.sink.now) _ no (c.hold.ensures.line rest h no)
+    through_held (answer_to M (session_host c.args.self.now)) (looks_up M) (condition g.L.Lookup.has_failed g.L.Lookup.is_closed c.args.desk.now) c.hold.new.self (g.K.Sink.stream c.args.sink.now) _ no (c.hold.ensures.line rest h no)

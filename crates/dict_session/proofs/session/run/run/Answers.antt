@@ -7,7 +7,7 @@ use Rattle.dict_proto.proofs.PutLemmas.{puts_none, given_after}
 use Rattle.dict_proto.specs.Replies.{banner_octets}
 use Rattle.dict_session.specs.Lines.{cut}
 use Rattle.dict_session.specs.Answers.{answer_to}
-use Rattle.dict_session.specs.Session.{Leaves, course_of, host_of, connection_of}
+use Rattle.dict_session.specs.Session.{LeavesSession, course_of, session_host, connection_of}
 use Rattle.dict_session.specs.Ending.{PutsLine, step_at}
 use Rattle.dict_session.specs.declared.step.Course.{Course}
 use Rattle.dict_session.specs.declared.step.Step.{Step}
@@ -60,7 +60,7 @@ returns-in-Quit-advance-clause-answers g c = λ trusted M shown.
     let desk = condition g.L.Lookup.has_failed g.L.Lookup.is_closed c.advance.new.desk in
     let piece = take c.in-Ok-take.n c.take.new.room in
     let few : length piece ≤ 4096 = omega (arith, c.take.auto.room, c.reads.invariant.space, c.in-Ok-take.ensures.count, length-take-le c.in-Ok-take.n c.take.new.room c.in-Ok-take.ensures.count) in
-    let last = subst (λ (host : List ℕ). Leaves (answer_to M host) desk Quit c.advance.new.self (g.K.Sink.stream c.reads.writer) (g.K.Sink.stream c.advance.new.sink) ((cut b).rest ++ piece))
+    let last = subst (λ (host : List ℕ). LeavesSession (answer_to M host) desk Quit c.advance.new.self (g.K.Sink.stream c.reads.writer) (g.K.Sink.stream c.advance.new.sink) ((cut b).rest ++ piece))
     c.reads.invariant.host (c.in-Quit-advance.ensures.answers c.reads.invariant.step trusted M (c.reads.invariant.desk.shows earlier M shown) (cut b).rest left.1) in (
       b ++ piece,
       (
@@ -78,7 +78,7 @@ returns-in-SinkFailed-clause-answers g c = λ trusted M shown.
     let desk = condition g.L.Lookup.has_failed g.L.Lookup.is_closed c.advance.new.desk in
     let piece = take c.in-Ok-take.n c.take.new.room in
     let few : length piece ≤ 4096 = omega (arith, c.take.auto.room, c.reads.invariant.space, c.in-Ok-take.ensures.count, length-take-le c.in-Ok-take.n c.take.new.room c.in-Ok-take.ensures.count) in
-    let last = subst (λ (host : List ℕ). Leaves (answer_to M host) desk SinkFailed c.advance.new.self (g.K.Sink.stream c.reads.writer) (g.K.Sink.stream c.advance.new.sink) ((cut b).rest ++ piece))
+    let last = subst (λ (host : List ℕ). LeavesSession (answer_to M host) desk SinkFailed c.advance.new.self (g.K.Sink.stream c.reads.writer) (g.K.Sink.stream c.advance.new.sink) ((cut b).rest ++ piece))
     c.reads.invariant.host (c.in-SinkFailed.ensures.answers c.reads.invariant.step trusted M (c.reads.invariant.desk.shows earlier M shown) (cut b).rest left.1) in (
       b ++ piece,
       (
@@ -96,7 +96,7 @@ returns-in-DeskFailed-clause-answers g c = λ trusted M shown.
     let desk = condition g.L.Lookup.has_failed g.L.Lookup.is_closed c.advance.new.desk in
     let piece = take c.in-Ok-take.n c.take.new.room in
     let few : length piece ≤ 4096 = omega (arith, c.take.auto.room, c.reads.invariant.space, c.in-Ok-take.ensures.count, length-take-le c.in-Ok-take.n c.take.new.room c.in-Ok-take.ensures.count) in
-    let last = subst (λ (host : List ℕ). Leaves (answer_to M host) desk DeskFailed c.advance.new.self (g.K.Sink.stream c.reads.writer) (g.K.Sink.stream c.advance.new.sink) ((cut b).rest ++ piece))
+    let last = subst (λ (host : List ℕ). LeavesSession (answer_to M host) desk DeskFailed c.advance.new.self (g.K.Sink.stream c.reads.writer) (g.K.Sink.stream c.advance.new.sink) ((cut b).rest ++ piece))
     c.reads.invariant.host (c.in-DeskFailed.ensures.answers c.reads.invariant.step trusted M (c.reads.invariant.desk.shows earlier M shown) (cut b).rest left.1) in (
       b ++ piece,
       (
@@ -109,8 +109,8 @@ returns-in-DeskFailed-clause-answers g c = λ trusted M shown.
 pub reads-init : goal.reads-init
 reads-init g c =
     let hello = subst (λ (host : List ℕ). PutsAll (g.K.Sink.stream c.args.writer.now) (g.K.Sink.stream c.greet.new.sink) (banner_octets host c.args.connection)) c.in-Ok.ensures.host
-    (subst (λ (n : ℕ). PutsAll (g.K.Sink.stream c.args.writer.now) (g.K.Sink.stream c.greet.new.sink) (banner_octets (host_of c.in-Ok.session) n)) c.in-Ok.ensures.connection
-    (subst (λ (course : Course). PutsLine course (g.K.Sink.stream c.args.writer.now) (g.K.Sink.stream c.greet.new.sink) (banner_octets (host_of c.in-Ok.session) (connection_of c.in-Ok.session)))
+    (subst (λ (n : ℕ). PutsAll (g.K.Sink.stream c.args.writer.now) (g.K.Sink.stream c.greet.new.sink) (banner_octets (session_host c.in-Ok.session) n)) c.in-Ok.ensures.connection
+    (subst (λ (course : Course). PutsLine course (g.K.Sink.stream c.args.writer.now) (g.K.Sink.stream c.greet.new.sink) (banner_octets (session_host c.in-Ok.session) (connection_of c.in-Ok.session)))
     (more_of _ c.in-More.ensures.step) (c.in-More.ensures.greeting c.in-Ok.ensures.step))) in
     record {
       left = λ trusted M shown. ([], record { octets = Consumes-nil _; failures = refl }, omega arith, (g.K.Sink.stream c.greet.new.sink, hello, (([], (refl, refl), puts_none _), c.in-More.ensures.line [] c.in-Ok.ensures.line)));
@@ -137,7 +137,7 @@ reads-preserved g c =
           let desk = condition g.L.Lookup.has_failed g.L.Lookup.is_closed c.advance.new.desk in
           let piece = take c.in-Ok-take.n c.take.new.room in
           let few : length piece ≤ 4096 = omega (arith, c.take.auto.room, c.reads.invariant.space, c.in-Ok-take.ensures.count, length-take-le c.in-Ok-take.n c.take.new.room c.in-Ok-take.ensures.count) in
-          let last = subst (λ (host : List ℕ). Leaves (answer_to M host) desk More c.advance.new.self (g.K.Sink.stream c.reads.writer) (g.K.Sink.stream c.advance.new.sink) ((cut b).rest ++ piece))
+          let last = subst (λ (host : List ℕ). LeavesSession (answer_to M host) desk More c.advance.new.self (g.K.Sink.stream c.reads.writer) (g.K.Sink.stream c.advance.new.sink) ((cut b).rest ++ piece))
           c.reads.invariant.host (c.in-More-advance.ensures.answers c.reads.invariant.step trusted M (c.reads.invariant.desk.shows earlier M shown) (cut b).rest left.1) in (
             b ++ piece,
             given_after _ _ _ b piece read c.in-Ok-take.ensures.given,
@@ -261,7 +261,7 @@ returns-in-Quit g c =
     let front = greeting_front (course_of c.greet.new.self) old new (banner_octets c.args.host.now c.args.connection)
     (step_was _ _ c.greet.ensures.step c.in-Quit.is)
     (subst (λ (host : List ℕ). PutsLine (course_of c.greet.new.self) old new (banner_octets host c.args.connection)) c.in-Ok.ensures.host
-    (subst (λ (n : ℕ). PutsLine (course_of c.greet.new.self) old new (banner_octets (host_of c.in-Ok.session) n)) c.in-Ok.ensures.connection (c.greet.ensures.greeting c.in-Ok.ensures.step))) in
+    (subst (λ (n : ℕ). PutsLine (course_of c.greet.new.self) old new (banner_octets (session_host c.in-Ok.session) n)) c.in-Ok.ensures.connection (c.greet.ensures.greeting c.in-Ok.ensures.step))) in
     record {
       answers = λ trusted M shown. ([], (record { octets = Consumes-nil _; failures = refl }, inl (refl, front)));
       desk = stays_same g.L.Lookup.shows g.L.Lookup.leaves_one_of g.L.Lookup.is_trusted g.L.Lookup.is_closed c.args.desk.now;

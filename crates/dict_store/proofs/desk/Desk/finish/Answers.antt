@@ -11,14 +11,14 @@ use Rattle.dict_catalogue.specs.Views.{summary_shown}
 use Rattle.dict_catalogue.specs.declared.reply.Kept.{Kept}
 use Rattle.dict_commands.specs.Committed.{IsTreesOf}
 use Rattle.dict_commands.specs.Installs.{install_read}
-use Rattle.dict_commands.specs.Kept.{SparesOthers}
+use Rattle.dict_commands.specs.KeptRecords.{SparesTablesOfOthers}
 use Rattle.dict_commands.specs.declared.filing.Filing.{Filing}
 use Rattle.dict_desk.specs.Applying.{Leaves}
 use Rattle.dict_desk.specs.Faults.{IsOfCommand, has_closed_by, has_failed_by, is_failure}
 use Rattle.dict_desk.specs.declared.fault.Fault.{Fault}
 use Rattle.dict_store.specs.Applied.{AppliesOver}
 use Rattle.dict_store.specs.Causes.{FailsToApplyTo}
-use Rattle.dict_store.specs.Kept.{texts_after}
+use Rattle.dict_store.specs.KeptParts.{texts_after}
 use Rattle.dict_store.specs.Prepared.{LetsGo}
 use Rattle.dict_store.specs.Desk.{DeskState, Shows, LeavesOneOf, is_closed, has_failed}
 use Rattle.dict_store.specs.declared.last.LastCall.{LastCall}
@@ -31,7 +31,7 @@ use Rattle.dict_store.proofs.StandingLemmas.{beside_one}
 use Rattle.dict_store.proofs.desk.Desk.finish.Goals as goal
 
 abbrev LeftBeside : State → Trees → Type 0
-LeftBeside s trees = IsTrue s.is_open × IsTreesOf (SparesOthers s.committed) trees
+LeftBeside s trees = IsTrue s.is_open × IsTreesOf (SparesTablesOfOthers s.committed) trees
 
 pub finish_coming-requires-clause-inside : goal.finish_coming-requires-clause-inside
 finish_coming-requires-clause-inside g c = search rules
@@ -135,7 +135,7 @@ returns-clause-done g c =
             subst (λ desk. IfErr c.take_over.result (λ fault. is_failure fault ≡ true → FailsToApplyTo g.S.Store desk (record { id = c.args.id.now; command = command }) after fault)) c.self.view_is
             (fails_to_apply g.S.Store (record { conn = old; summary = summary; last = c.self.inside.last; indexes = c.self.inside.indexes; texts = c.self.inside.texts }) c.args.id.now command after
             c.in-Some.outcome c.take_over.result c.take_over.ensures.reply over.kinds (over.failed clean));
-        others = λ clean live. subst (λ (d : DeskState _). SparesOthers (state g.S.Store d.conn).committed (state g.S.Store new).committed) c.self.view_is
+        others = λ clean live. subst (λ (d : DeskState _). SparesTablesOfOthers (state g.S.Store d.conn).committed (state g.S.Store new).committed) c.self.view_is
             (others_by c.in-Some.outcome (state g.S.Store old).committed (state g.S.Store new).committed (over.others clean live) (it.2.stays clean live));
         beside = subst (λ (d : DeskState _). Survives (state g.S.Store d.conn) (state g.S.Store new) (LeftBeside (state g.S.Store d.conn))) c.self.view_is over.beside;
       },

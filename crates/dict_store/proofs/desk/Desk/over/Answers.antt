@@ -2,9 +2,9 @@ use Rattle.std.proofs.Common.{refl, sym, subst}
 use Rattle.sqlite.specs.Held.{state}
 use Rattle.dict_lookup.specs.Texts.{ArePartsOf}
 use Rattle.dict_catalogue.specs.Views.{summary_shown}
-use Rattle.dict_store.specs.Desk.{IsServed}
+use Rattle.dict_store.specs.Desk.{ServesEdition}
 use Rattle.dict_store.specs.Indexed.{IsHeldCut}
-use Rattle.dict_store.specs.Kept.{KeepsTexts}
+use Rattle.dict_store.specs.KeptParts.{KeepsTexts}
 use Rattle.dict_store.proofs.ServedLemmas.{each_edition}
 use Rattle.dict_store.specs.declared.last.LastCall.TheVariants.{Fine}
 use Rattle.sqlite.specs.Effect.{Database}
@@ -31,6 +31,6 @@ returns-clause-shows g c = λ M summary well rests indexed. record {
   well_formed = well;
   holds = λ fine clean live. (rests clean).holds;
   served = λ clean. each_edition (IsHeldCut (state g.S.Store c.args.conn).committed c.args.indexes)
-      (IsServed g.S.Store (record { conn = c.args.conn; summary = summary_shown c.args.summary; last = Fine; indexes = c.args.indexes; texts = c.new.result }))
+      (ServesEdition g.S.Store (record { conn = c.args.conn; summary = summary_shown c.args.summary; last = Fine; indexes = c.args.indexes; texts = c.new.result }))
       (λ stored one. record { index = one.index; stands = one.stands; text = one.text; cuts = one.cuts; kept = subst (ArePartsOf stored.number one.text) (sym c.new.ensures) tt; held = λ fine live. one.held }) M.items (indexed clean);
 }

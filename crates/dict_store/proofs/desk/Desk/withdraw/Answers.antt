@@ -3,7 +3,7 @@ use Rattle.std.specs.Prelude.{Option}
 use Rattle.dict_catalogue.specs.Views.{summary_shown}
 use Rattle.dict_commands.specs.declared.filing.Filing.{Filing}
 use Rattle.dict_store.specs.Desk.{DeskState, HasFiled, Shows, is_closed}
-use Rattle.dict_store.specs.Kept.{KeepsTexts}
+use Rattle.dict_store.specs.KeptParts.{KeepsTexts}
 use Rattle.dict_store.specs.Prepared.{Undoes}
 use Rattle.dict_store.specs.declared.last.LastCall.TheVariants.{Closed}
 use Rattle.dict_store.proofs.DeskLemmas.{not_both, settled_on, texts_keep, undone_continues}

@@ -4,14 +4,14 @@ use Rattle.sqlite.specs.Held.{state}
 use Rattle.sqlite.specs.State.{State, HasCleanDisk, Survives}
 use Rattle.sqlite.specs.Tree.{Trees}
 use Rattle.dict_commands.specs.Committed.{IsTreesOf}
-use Rattle.dict_commands.specs.Kept.{SparesOthers}
+use Rattle.dict_commands.specs.KeptRecords.{SparesTablesOfOthers}
 use Rattle.dict_commands.proofs.WriteLemmas.{others_none}
 use Rattle.dict_catalogue.specs.Steps.{kept_under, step}
 use Rattle.dict_catalogue.specs.Views.{summary_shown, command_meant}
 use Rattle.dict_desk.specs.Faults.{has_failed_by, is_failure}
 use Rattle.dict_desk.specs.Applying.{Leaves}
 use Rattle.dict_store.specs.Causes.{FailsToApplyTo}
-use Rattle.dict_store.specs.Kept.{KeepsTexts, texts_after}
+use Rattle.dict_store.specs.KeptParts.{KeepsTexts, texts_after}
 use Rattle.dict_store.specs.Desk.{DeskState, Shows, LeavesOneOf, is_closed, has_failed}
 use Rattle.dict_store.specs.declared.last.LastCall.{LastCall}
 use Rattle.dict_store.specs.declared.last.LastCall.TheVariants.{Failed}
@@ -24,7 +24,7 @@ use Rattle.dict_store.proofs.keeper.DeskKeeper.apply.Goals as goal
 
 -- trees of a database in which the tables of others are those that were committed
 abbrev LeftBeside : State → Trees → Type 0
-LeftBeside s trees = IsTrue s.is_open × IsTreesOf (SparesOthers s.committed) trees
+LeftBeside s trees = IsTrue s.is_open × IsTreesOf (SparesTablesOfOthers s.committed) trees
 
 pub apply_over-outcome-requires-clause-settled : goal.apply_over-outcome-requires-clause-settled
 apply_over-outcome-requires-clause-settled g c =
@@ -98,7 +98,7 @@ returns-clause-applied g c = record {
   left = returns-clause-leaves g c;
   spared = returns-clause-spares g c;
   failed = returns-clause-caused g c;
-  others = λ clean live. subst (λ (d : DeskState _). SparesOthers (state g.S.Store d.conn).committed (state g.S.Store c.apply_over-outcome.new.conn).committed) c.self.view_is
+  others = λ clean live. subst (λ (d : DeskState _). SparesTablesOfOthers (state g.S.Store d.conn).committed (state g.S.Store c.apply_over-outcome.new.conn).committed) c.self.view_is
       (others_by c.apply_over-outcome.result (state g.S.Store c.self.inside.conn).committed (state g.S.Store c.apply_over-outcome.new.conn).committed
       (c.apply_over-outcome.ensures.over.others clean live) (c.apply_over-outcome.ensures.stays clean live));
   beside = subst (λ (d : DeskState _). Survives (state g.S.Store d.conn) (state g.S.Store c.apply_over-outcome.new.conn) (LeftBeside (state g.S.Store d.conn))) c.self.view_is c.apply_over-outcome.ensures.over.beside;
@@ -136,7 +136,7 @@ returns-in_default-clause-applied g c =
       left = returns-in_default-clause-leaves g c;
       spared = returns-in_default-clause-spares g c;
       failed = returns-in_default-clause-caused g c;
-      others = λ clean live. subst (λ (d : DeskState _). SparesOthers (state g.S.Store d.conn).committed (state g.S.Store c.self.inside.conn).committed) c.self.view_is (others_none (state g.S.Store c.self.inside.conn).committed);
+      others = λ clean live. subst (λ (d : DeskState _). SparesTablesOfOthers (state g.S.Store d.conn).committed (state g.S.Store c.self.inside.conn).committed) c.self.view_is (others_none (state g.S.Store c.self.inside.conn).committed);
       beside = subst (λ (d : DeskState _). Survives (state g.S.Store d.conn) (state g.S.Store c.self.inside.conn) (LeftBeside (state g.S.Store d.conn))) c.self.view_is
           (survives_itself (state g.S.Store c.self.inside.conn) (LeftBeside (state g.S.Store c.self.inside.conn)));
     }

@@ -4,7 +4,7 @@ use Rattle.sqlite.specs.Held.{state}
 use Rattle.sqlite.specs.State.{HasCleanDisk}
 use Rattle.dict_catalogue.specs.Steps.{kept_under}
 use Rattle.dict_catalogue.specs.Views.{summary_shown, kept_shown}
-use Rattle.dict_commands.specs.Kept.{HoldsReplies}
+use Rattle.dict_commands.specs.KeptRecords.{HoldsReplies}
 use Rattle.dict_store.specs.Desk.{DeskState, Shows, LeavesOneOf, is_closed}
 use Rattle.dict_store.specs.Prepared.{Undoes}
 use Rattle.dict_store.proofs.CauseLemmas.{reply_gives_way}

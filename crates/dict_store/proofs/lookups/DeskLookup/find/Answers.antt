@@ -3,7 +3,7 @@ use Rattle.std.specs.Prelude.{IsTrue}
 use Rattle.sqlite.specs.Held.{state}
 use Rattle.sqlite.specs.State.{HasCleanDisk}
 use Rattle.dict_catalogue.specs.Views.{summary_shown}
-use Rattle.dict_lookup.specs.Searches.{column_of}
+use Rattle.dict_lookup.specs.Searches.{number_in_column}
 use Rattle.dict_lookup.specs.Texts.{ArePartsOf}
 use Rattle.dict_lookup.proofs.HeldLemmas.{held_tables}
 use Rattle.dict_store.proofs.ServedLemmas.{seen_text, served_one}
@@ -23,7 +23,7 @@ invariant_of-self g c =
     let before : is_closed c.self.inside.last ≡ false = ap is_closed (ap (λ (d : DeskState _). d.last) c.self.view_is ∙ c.in_ok-make_ready.ensures.last) ∙ c.in_ok-make_ready.ensures.open in
     desk_on g.S.Store c.self.inside.conn c.find_under-outcome.new.conn
     (summary_shown c.self.inside.summary) c.self.inside.filing c.self.inside.last c.last_by-self-inside.result before c.self.invariant.0 c.find_under-outcome.ensures.survives
-    (λ clean. found_continues g.S.Store (column_of c.args.number) c.self.inside.conn c.find_under-outcome.new.conn c.find_under-outcome.result (c.find_under-outcome.ensures.same clean)
+    (λ clean. found_continues g.S.Store (number_in_column c.args.number) c.self.inside.conn c.find_under-outcome.new.conn c.find_under-outcome.result (c.find_under-outcome.ensures.same clean)
     (c.find_under-outcome.ensures.failed clean)) c.find_under-outcome.ensures.mode
     c.find_under-outcome.new.texts c.forget_by.new.texts c.forget_by.ensures (c.find_under-outcome.ensures.made c.self.invariant.1.made)
 
@@ -38,7 +38,7 @@ returns-clause-shows g c = λ clean M shown.
     (sym c.self.view_is) c.in_ok-make_ready.ensures.alike in
     shows_with g.S.Store c.self.inside.conn c.find_under-outcome.new.conn
     (summary_shown c.self.inside.summary) c.self.inside.filing c.self.inside.last c.last_by-self-inside.result before c.self.invariant.0 c.find_under-outcome.ensures.survives
-    (λ clean. found_continues g.S.Store (column_of c.args.number) c.self.inside.conn c.find_under-outcome.new.conn c.find_under-outcome.result (c.find_under-outcome.ensures.same clean) (c.find_under-outcome.ensures.failed clean))
+    (λ clean. found_continues g.S.Store (number_in_column c.args.number) c.self.inside.conn c.find_under-outcome.new.conn c.find_under-outcome.result (c.find_under-outcome.ensures.same clean) (c.find_under-outcome.ensures.failed clean))
     c.self.inside.indexes c.self.inside.texts M (subst (λ (d : DeskState _). Shows g.S.Store d M) (sym c.self.view_is) (c.make_ready.ensures.shows (subst
     (λ (d : DeskState _). HasCleanDisk (state g.S.Store d.conn)) c.self.view_is (clean_behind (state g.S.Store c.self.inside.conn) (state g.S.Store c.find_under-outcome.new.conn) c.find_under-outcome.ensures.survives clean)) M shown))
     c.forget_by.new.texts

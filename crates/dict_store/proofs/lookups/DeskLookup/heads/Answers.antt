@@ -5,7 +5,7 @@ use Rattle.dict_store.proofs.CauseLemmas.{memory_gives_way}
 use Rattle.dict_store.proofs.DeskLemmas.{texts_keep}
 use Rattle.dict_store.proofs.PreparingLemmas.{rests_as, shows_as}
 use Rattle.dict_store.proofs.ServedLemmas.{served_one}
-use Rattle.dict_store.specs.Kept.{KeepsTexts}
+use Rattle.dict_store.specs.KeptParts.{KeepsTexts}
 use Rattle.dict_store.proofs.lookups.DeskLookup.heads.Goals as goal
 
 pub invariant_of-self : goal.invariant_of-self

@@ -4,7 +4,7 @@ use Rattle.dict_index.specs.Edition.{Edition}
 use Rattle.sqlite.specs.Held.{state}
 use Rattle.sqlite.specs.State.{HasCleanDisk}
 use Rattle.dict_catalogue.specs.Views.{summary_shown}
-use Rattle.dict_lookup.specs.Searches.{column_of}
+use Rattle.dict_lookup.specs.Searches.{number_in_column}
 use Rattle.dict_lookup.proofs.HeldLemmas.{held_one, held_tables}
 use Rattle.dict_store.specs.Desk.{DeskState, Shows, LeavesOneOf, is_closed}
 use Rattle.dict_store.specs.Prepared.{IsAlike, Undoes}
@@ -23,7 +23,7 @@ pub invariant_of-self : goal.invariant_of-self
 invariant_of-self g c =
     let before : is_closed c.self.inside.last ≡ false = ap is_closed (ap (λ (d : DeskState _). d.last) c.self.view_is ∙ c.in_ok-make_ready.ensures.last) ∙ c.in_ok-make_ready.ensures.open in
     desk_on g.S.Store c.self.inside.conn c.info-outcome.new.conn (summary_shown c.self.inside.summary) c.self.inside.filing c.self.inside.last c.last_by-self-inside.result before c.self.invariant.0 c.info-outcome.ensures.survives
-    (λ clean. continues_by (column_of c.args.number) (state g.S.Store c.self.inside.conn) (state g.S.Store c.info-outcome.new.conn) c.info-outcome.result (c.info-outcome.ensures.same clean)
+    (λ clean. continues_by (number_in_column c.args.number) (state g.S.Store c.self.inside.conn) (state g.S.Store c.info-outcome.new.conn) c.info-outcome.result (c.info-outcome.ensures.same clean)
     (c.info-outcome.ensures.failed clean)) c.info-outcome.ensures.mode
     c.self.inside.texts c.forget_by.new.texts c.forget_by.ensures c.self.invariant.1.made
 
@@ -35,7 +35,7 @@ pub returns-clause-shows : goal.returns-clause-shows
 returns-clause-shows g c = λ clean M shown.
     let before : is_closed c.self.inside.last ≡ false = ap is_closed (ap (λ (d : DeskState _). d.last) c.self.view_is ∙ c.in_ok-make_ready.ensures.last) ∙ c.in_ok-make_ready.ensures.open in
     shows_on g.S.Store c.self.inside.conn c.info-outcome.new.conn (summary_shown c.self.inside.summary) c.self.inside.filing c.self.inside.last c.last_by-self-inside.result before c.self.invariant.0 c.info-outcome.ensures.survives
-    (λ clean. continues_by (column_of c.args.number) (state g.S.Store c.self.inside.conn) (state g.S.Store c.info-outcome.new.conn) c.info-outcome.result (c.info-outcome.ensures.same clean) (c.info-outcome.ensures.failed clean))
+    (λ clean. continues_by (number_in_column c.args.number) (state g.S.Store c.self.inside.conn) (state g.S.Store c.info-outcome.new.conn) c.info-outcome.result (c.info-outcome.ensures.same clean) (c.info-outcome.ensures.failed clean))
     c.self.inside.indexes c.self.inside.texts M (subst (λ (d : DeskState _). Shows g.S.Store d M) (sym c.self.view_is) (c.make_ready.ensures.shows (subst (λ (d : DeskState _). HasCleanDisk (state g.S.Store d.conn)) c.self.view_is
     (clean_behind (state g.S.Store c.self.inside.conn) (state g.S.Store c.info-outcome.new.conn) c.info-outcome.ensures.survives clean)) M shown)) c.forget_by.new.texts c.forget_by.ensures
 
@@ -51,7 +51,7 @@ returns-clause-value g c = λ clean M edition shown has.
     let alike = subst (λ (d : DeskState _). HasCleanDisk (state g.S.Store d.conn) → IsTrue (state g.S.Store d.conn).is_open → IsAlike c.args.number (state g.S.Store d.conn).committed (state g.S.Store d.conn).now)
     (sym c.self.view_is) c.in_ok-make_ready.ensures.alike in
     let holds = held g.S.Store c.self.inside.conn c.info-outcome.new.conn (summary_shown c.self.inside.summary) c.self.inside.filing c.self.inside.last c.last_by-self-inside.result before c.self.invariant.0 c.info-outcome.ensures.survives
-    (λ clean. continues_by (column_of c.args.number) (state g.S.Store c.self.inside.conn) (state g.S.Store c.info-outcome.new.conn) c.info-outcome.result (c.info-outcome.ensures.same clean) (c.info-outcome.ensures.failed clean))
+    (λ clean. continues_by (number_in_column c.args.number) (state g.S.Store c.self.inside.conn) (state g.S.Store c.info-outcome.new.conn) c.info-outcome.result (c.info-outcome.ensures.same clean) (c.info-outcome.ensures.failed clean))
     c.self.inside.indexes c.self.inside.texts M (subst (λ (d : DeskState _). Shows g.S.Store d M) (sym c.self.view_is) (c.make_ready.ensures.shows
     (subst (λ (d : DeskState _). HasCleanDisk (state g.S.Store d.conn)) c.self.view_is (clean_behind (state g.S.Store c.self.inside.conn) (state g.S.Store c.info-outcome.new.conn) c.info-outcome.ensures.survives clean)) M shown)) clean in
     handed_by g.T.RowSink.takes g.T.RowSink.stops c.args.sink.now c.info-outcome.new.sink (info_rows edition) c.info-outcome.result (state g.S.Store c.self.inside.conn).is_open

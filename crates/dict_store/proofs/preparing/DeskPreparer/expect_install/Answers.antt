@@ -5,7 +5,7 @@ use Rattle.sqlite.specs.State.{HasCleanDisk, KeepsCommit}
 use Rattle.dict_catalogue.specs.Views.{summary_shown}
 use Rattle.dict_desk.specs.declared.fault.Fault.TheVariants.{Memory}
 use Rattle.dict_store.specs.Desk.{DeskState, Shows, LeavesOneOf, has_failed, is_closed}
-use Rattle.dict_store.specs.Kept.{KeepsTexts}
+use Rattle.dict_store.specs.KeptParts.{KeepsTexts}
 use Rattle.dict_store.specs.declared.last.LastCall.TheVariants.{Failed}
 use Rattle.dict_store.proofs.DeskLemmas.{leaves_on, texts_keep}
 use Rattle.dict_store.proofs.PreparingLemmas.{or_false, or_true, rests_as, shows_as, undoes_keep, open_closed}
