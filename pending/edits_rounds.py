@@ -20,7 +20,7 @@ PROVE = ["timeout", os.environ.get("ROUNDS_TIMEOUT", "1500")]
 
 # edit: the function (as a check names it), and the clause by which it is to be refused
 EDITS = {
-    "dict_scans": {
+    "store_scans": {
         "failing_read_is_damage": ("scan::take_next", "damaged"),
         "ids_come_in_any_order": ("tables::test_ids", "whole"),
     },
@@ -28,7 +28,7 @@ EDITS = {
         "reserved_keys_are_forgotten": ("gathered::Gathered::add", "once, added, refused"),
         "title_is_the_info": ("reading::Reading::title", "the only clause"),
     },
-    "dict_commands": {
+    "store_commands": {
         "a_number_in_use_is_filed": ("parts::is_other_number", "next"),
         "a_refused_statement_is_a_failure_of_the_disk": ("parts::file_part", "failed, faulted"),
         "error_is_made_up_after_the_mark": ("writing::write_summary", "failed"),
@@ -39,7 +39,7 @@ EDITS = {
         "reply_of_another_id": ("replies::kept_reply", "alone, value"),
         "unlawful_id_is_kept": ("applying::apply", "value; apply_new's requires id"),
     },
-    "dict_migration": {
+    "store_migration": {
         "a_failed_creation_empties_tables_of_others": ("making::commit_tables", "beside, stays, failed"),
         "error_is_made_up_after_the_tables": ("making::make_all", "failed"),
         "every_database_is_refused": ("making::create", "no_place"),
@@ -48,7 +48,7 @@ EDITS = {
         "mark_in_a_second_transaction": ("migrating::migrate_from", "crash, failed, stays"),
         "mark_is_left_out": ("making::make_all", "made"),
     },
-    "dict_store": {
+    "store_desk": {
         "a_close_always_fails": ("closing::Desk+FileStore+D::close", "failed"),
         "a_close_writes": ("closing::Desk+FileStore+D::close", "alone, left, failed"),
         "a_command_empties_tables_of_others": ("keeper::DeskKeeper::apply", "applied; the desk's invariant"),

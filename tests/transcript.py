@@ -32,7 +32,7 @@ def words_of(text):
 
 def version():
     """The program's version, which the crate of its command line has."""
-    text = (TOP / "crates" / "dict_messages" / "src" / "version.rt").read_text(encoding="utf-8")
+    text = (TOP / "crates" / "app_words" / "src" / "version.rt").read_text(encoding="utf-8")
     return re.search(r'^pub const VERSION: &str = "([0-9.]+)";$', text, re.M)[1]
 
 

@@ -8,7 +8,7 @@ build() {
     mkdir -p "$work/crates/$name/src"
     cp -r "$top/crates/." "$work/crates/"
     cp "$here/$name.txt" "$work/crates/$name/src/main.rt"
-    { cat "$top/crates.txt"; echo "$name: dict_derived dict_match dict_search memchr"; } > "$work/crates.txt"
+    { cat "$top/crates.txt"; echo "$name: store_derived dict_match store_search memchr"; } > "$work/crates.txt"
     cp "$top/HANDLES" "$work/"
     (cd "$work/crates/$name" && rt run -- "$index") > "$work/built" 2>&1 || { cat "$work/built" >&2; return 1; }
     echo "$work/crates/$name/out/$name"

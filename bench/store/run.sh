@@ -12,7 +12,7 @@ if [[ -z $program ]]; then
     cp -a "$top/crates" "$top/HANDLES" "$work/"
     mkdir -p "$work/crates/bench_store/src"
     cp "$here/program.txt" "$work/crates/bench_store/src/main.rt"
-    { cat "$top/crates.txt"; echo 'bench_store: dict_store dict_desk dict_catalogue dict_index sqlite'; } >"$work/crates.txt"
+    { cat "$top/crates.txt"; echo 'bench_store: store_desk dict_desk dict_catalogue dict_index sqlite'; } >"$work/crates.txt"
     (cd "$work/crates/bench_store" && rt run -- create "$work/first.db") >"$work/built" 2>&1 || { cat "$work/built"; exit 1; }
     program=$work/crates/bench_store/out/bench_store
 fi

@@ -12,8 +12,8 @@ import gdb
 
 PROGRAM = gdb.current_progspace().filename
 STAGES = re.compile(r"""sqlite::file::connect::|sqlite::connection::Connection::(query|query_near|commit)::
-    |dict_store::adopting::read::|dict_opening::records::read_records|dict_scans::(census::test_rows|pieces::test_pieces)
-    |dict_index::read_edition|dict_store::keeper::DeskKeeper::apply""", re.X)
+    |store_desk::adopting::read::|store_opening::records::read_records|store_scans::(census::test_rows|pieces::test_pieces)
+    |dict_index::read_edition|store_desk::keeper::DeskKeeper::apply""", re.X)
 REGISTERS = ("rdi", "rsi", "rdx", "rcx", "r8", "r9")
 STATEMENTS = (b"SELECT", b"PRAGMA", b"INSERT", b"DELETE", b"CREATE")
 

@@ -1,10 +1,10 @@
 //! Keys at every edge, and what is selected beside the filter of a whole list.
 use crate::checks::{holds, push, same_text};
-use dict_derived::{Selection, is_kept, is_tested, select};
 use dict_match::{Key, Strategy, key_of, matches, words};
 use std::alloc::{AllocError, Global};
 use std::process::Abort;
 use std::test::Fail;
+use store_derived::{Selection, is_kept, is_tested, select};
 
 /// The key of a headword, and its octets in reverse order.
 #[derive(Drop)]

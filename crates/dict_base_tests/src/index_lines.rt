@@ -1,8 +1,8 @@
 //! Lines of an index as they are stored, worked by hand.
 
 use crate::checks::holds;
-use dict_parts::{read_line, write_line};
 use std::test::Fail;
+use store_parts::{read_line, write_line};
 
 struct Row {
     headword: &'static str,

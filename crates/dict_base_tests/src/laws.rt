@@ -1,11 +1,11 @@
 //! The laws are called. What their clauses say is proved.
 
-use dict_derived::{range_law, search_laws};
 use dict_match::{
     hit_laws, key_laws, scalar_law, strategy_laws, version_laws, word_laws, worked_ascii_keys,
     worked_keys,
 };
-use dict_rows::{
+use store_derived::{range_law, search_laws};
+use store_rows::{
     empty_records, one_catalogue, ordered_records, records_after, records_by_number,
     taken_in_order, worked_records,
 };

@@ -1,10 +1,10 @@
 //! Parts of files of lengths at the borders: split, joined and cut.
 
 use crate::checks::holds;
-use dict_parts::{CutFault, InMemory, Joiner, PART_SIZE, Refused, cut, part};
 use std::alloc::{AllocError, Global};
 use std::process::Abort;
 use std::test::Fail;
+use store_parts::{CutFault, InMemory, Joiner, PART_SIZE, Refused, cut, part};
 
 fn file(alloc: Global, length: usize) -> Result<Vec<u8>, AllocError> {
     let mut octets = Vec::new(alloc);

@@ -1,7 +1,7 @@
 // Catalogues in memory with one long text.
 use crate::parts::PartsDesk;
-use dict_hub::{Event, Hub, HubFault, Kind};
 use dict_proto::LimitedSink;
+use net_hub::{Event, Hub, HubFault, Kind};
 use std::alloc::{AllocError, Global};
 
 // Does what a request asks.

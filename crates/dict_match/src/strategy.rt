@@ -65,7 +65,7 @@ impl Strategy {
     }
 
     /// The strategy's name.
-    #[tactic(auto, unfolding(crate::specs::StrategyText::name_of))]
+    #[tactic(auto, unfolding(crate::specs::StrategyText::strategy_name))]
     pub fn name(self) -> &'static str
         ensures { result.now ≡ strategy_name self }
     {
@@ -73,7 +73,7 @@ impl Strategy {
     }
 
     /// The description that SHOW STRAT gives of the strategy.
-    #[tactic(auto, unfolding(crate::specs::StrategyText::title_of))]
+    #[tactic(auto, unfolding(crate::specs::StrategyText::strategy_title))]
     pub fn title(self) -> &'static str
         ensures { result.now ≡ strategy_title self }
     {

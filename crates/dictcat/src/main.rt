@@ -1,9 +1,9 @@
-//! dictcat on the command line. The tests of its commands stand in `dictcat_tests`.
+//! dictcat on the command line. The tests of its commands stand in `app_tests`.
 #![tactic(auto)]
 
+use app_commands::refuse_words;
+use app_words::OverFiles;
 use dict_desk::PlainDesk;
-use dict_messages::OverFiles;
-use dict_program::refuse_words;
 use dict_proto::{OverRead, OverWrite};
 use dictcat_lib::{CatalogueFiles, SystemFiles, run_over};
 use sqlite::Unknown;

@@ -5,12 +5,12 @@ use Rattle.sqlite.specs.State.{HasCleanDisk, Survives}
 use Rattle.sqlite.specs.Held.{state}
 use Rattle.sqlite_trees.specs.declared.store.Store.{Ghosts}
 use Rattle.dict_catalogue.specs.Steps.{Catalogue}
-use Rattle.dict_messages.specs.Writing.{IsUntouched}
-use Rattle.dict_messages.specs.declared.fault.ProgramFault.{ProgramFault}
-use Rattle.dict_messages.specs.declared.fault.ProgramFault.TheVariants.{Line, Edition, Refused, Store, CannotRead, SessionEnded, CannotWrite, CannotBind, CannotWait}
-use Rattle.dict_messages.specs.declared.fault.ProgramFault.TheVariants as told
+use Rattle.app_words.specs.Writing.{IsUntouched}
+use Rattle.app_words.specs.declared.fault.ProgramFault.{ProgramFault}
+use Rattle.app_words.specs.declared.fault.ProgramFault.TheVariants.{Line, Edition, Refused, Store, CannotRead, SessionEnded, CannotWrite, CannotBind, CannotWait}
+use Rattle.app_words.specs.declared.fault.ProgramFault.TheVariants as told
 use Rattle.dict_proto.specs.Streams.{StreamChange}
-use Rattle.dict_program.specs.Catalogues.{IsSpared, StaysTrusted}
+use Rattle.app_commands.specs.Catalogues.{IsSpared, StaysTrusted}
 use Rattle.sqlite.specs.Files.{file_state, over_files}
 use Rattle.sqlite.specs.Held.{Held}
 use Rattle.sqlite.specs.Recovery.{Image}
@@ -19,12 +19,12 @@ use Rattle.sqlite_store.specs.declared.store.FileStore.{FileStore}
 use Rattle.sqlite_wal.proofs.LogLemmas.{SeenMayStay}
 use Rattle.dict_desk.specs.declared.fault.Fault.{Fault as DeskFault}
 use Rattle.dict_desk.specs.declared.fault.Fault.TheVariants.{Disk}
-use Rattle.dict_holdings.specs.Holds.{IsLeft}
-use Rattle.dict_store.specs.Adopted.{FailsToOpen, IsNotAdopted}
-use Rattle.dict_store.specs.Desk.{DeskState, LeavesOneOf, Shows, StandsFor}
-use Rattle.dict_store.specs.Opened.{IsNotLeft}
-use Rattle.dict_store.specs.Unopened.{IsRejectedFrom}
-use Rattle.dict_store.proofs.ReopenLemmas.{stands_after}
+use Rattle.store_holdings.specs.Holds.{IsLeft}
+use Rattle.store_desk.specs.Adopted.{FailsToOpen, IsNotAdopted}
+use Rattle.store_desk.specs.Desk.{DeskState, LeavesOneOf, Shows, StandsFor}
+use Rattle.store_desk.specs.Opened.{IsNotLeft}
+use Rattle.store_desk.specs.Unopened.{IsRejectedFrom}
+use Rattle.store_desk.proofs.ReopenLemmas.{stands_after}
 use Rattle.dict_session.specs.declared.session.run.SessionEnd.{SessionEnd}
 use Rattle.dict_session.specs.declared.session.run.SessionFault.{SessionFault}
 use Rattle.dict_session.specs.declared.session.run.SessionFault.TheVariants as session_faults

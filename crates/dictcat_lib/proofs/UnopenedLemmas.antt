@@ -3,14 +3,14 @@ use Rattle.std.proofs.Common.{ℕ, List, inl, inr, subst, sym}
 use Rattle.std.specs.Prelude.{Option}
 use Rattle.dict_desk.specs.declared.fault.Fault.{Fault as DeskFault}
 use Rattle.dict_desk.specs.declared.fault.Fault.TheVariants as desk
-use Rattle.dict_opening.specs.Reading.{IsOfOpening}
-use Rattle.dict_messages.specs.Faults.{told_of}
-use Rattle.dict_messages.specs.declared.fault.ProgramFault.{ProgramFault}
-use Rattle.dict_messages.specs.declared.fault.ProgramFault.TheVariants.{Line, Edition, Refused, Store, CannotRead, SessionEnded, CannotWrite, CannotBind, CannotWait, Memory}
-use Rattle.dict_serving.specs.Serving.{IsOfFile}
+use Rattle.store_opening.specs.Reading.{IsOfOpening}
+use Rattle.app_words.specs.Faults.{told_of}
+use Rattle.app_words.specs.declared.fault.ProgramFault.{ProgramFault}
+use Rattle.app_words.specs.declared.fault.ProgramFault.TheVariants.{Line, Edition, Refused, Store, CannotRead, SessionEnded, CannotWrite, CannotBind, CannotWait, Memory}
+use Rattle.net_serving.specs.Serving.{IsOfFile}
 use Rattle.sqlite_disk.specs.declared.Disk as disk
-use Rattle.dict_store.specs.declared.reopening.Unopened.{Unopened}
-use Rattle.dict_store.specs.declared.reopening.Unopened.TheVariants as handed
+use Rattle.store_desk.specs.declared.reopening.Unopened.{Unopened}
+use Rattle.store_desk.specs.declared.reopening.Unopened.TheVariants as handed
 use Rattle.sqlite.specs.Recovery.{Image}
 use Rattle.sqlite.specs.declared.file.Leftover.{Leftover}
 use Rattle.dictcat_lib.specs.declared.left.Left.{Left}

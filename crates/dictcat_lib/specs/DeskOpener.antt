@@ -10,20 +10,20 @@ use Rattle.sqlite_store.specs.declared.store.FileStore.{FileStore}
 use Rattle.dict_catalogue.specs.Steps.{Catalogue}
 use Rattle.dict_desk.specs.declared.fault.Fault.{Fault as DeskFault}
 use Rattle.dict_desk.specs.declared.fault.Fault.TheVariants as desk_faults
-use Rattle.dict_store.specs.Desk.{DeskState, Shows}
-use Rattle.dict_store.specs.Adopted.{IsAdopted}
-use Rattle.dict_store.specs.Prepared.{Undoes}
-use Rattle.dict_store.specs.Reopened.{IsIn, IsReopened}
-use Rattle.dict_store.specs.Unopened.{IsRejectedFrom, IsUnopened, IsUnreopened}
-use Rattle.dict_store.specs.declared.reopening.Unopened.{Unopened}
-use Rattle.dict_store.specs.declared.reopening.Unopened.TheVariants as handed
+use Rattle.store_desk.specs.Desk.{DeskState, Shows}
+use Rattle.store_desk.specs.Adopted.{IsAdopted}
+use Rattle.store_desk.specs.Prepared.{Undoes}
+use Rattle.store_desk.specs.Reopened.{IsIn, IsReopened}
+use Rattle.store_desk.specs.Unopened.{IsRejectedFrom, IsUnopened, IsUnreopened}
+use Rattle.store_desk.specs.declared.reopening.Unopened.{Unopened}
+use Rattle.store_desk.specs.declared.reopening.Unopened.TheVariants as handed
 use Rattle.dict_proto.specs.Streams.{StreamChange}
 use Rattle.dict_session.specs.declared.session.run.SessionEnd.{SessionEnd}
 use Rattle.dict_session.specs.declared.session.run.SessionFault.{SessionFault}
-use Rattle.dict_messages.specs.Writing.{IsUntouched}
-use Rattle.dict_messages.specs.Faults.{told_of}
-use Rattle.dict_messages.specs.declared.fault.ProgramFault.{ProgramFault}
-use Rattle.dict_messages.specs.declared.fault.ProgramFault.TheVariants as faults
+use Rattle.app_words.specs.Writing.{IsUntouched}
+use Rattle.app_words.specs.Faults.{told_of}
+use Rattle.app_words.specs.declared.fault.ProgramFault.{ProgramFault}
+use Rattle.app_words.specs.declared.fault.ProgramFault.TheVariants as faults
 use Rattle.dictcat_lib.specs.Files.{IsHeldOf, IsOpenedFrom}
 use Rattle.dictcat_lib.specs.Opening.{HasSpoken, IsCreated, IsNotCreated, IsUnavailable, over_told}
 use Rattle.dictcat_lib.specs.declared.left.Left.{Left}

@@ -13,15 +13,15 @@ use Rattle.sqlite_disk.specs.declared.Files.{Files}
 use Rattle.sqlite_store.specs.declared.store.FileStore.{FileStore}
 use Rattle.dict_catalogue.specs.Steps.{Catalogue}
 use Rattle.dict_desk.specs.declared.fault.Fault.{Fault as DeskFault}
-use Rattle.dict_messages.specs.Faults.{told_of}
-use Rattle.dict_messages.specs.declared.fault.ProgramFault.{ProgramFault}
-use Rattle.dict_store.specs.Closed.{HoldsAlone, IsUncopied, StoreLeaves}
-use Rattle.dict_store.specs.Desk.{DeskState}
-use Rattle.dict_store.specs.Over.{ConnectionLeavesOneOf}
-use Rattle.dict_store.specs.Reopened.{IsLetGo}
-use Rattle.dict_store.specs.Unopened.{HandsBack}
-use Rattle.dict_store.specs.declared.reopening.Unopened.{Unopened}
-use Rattle.dict_store.specs.declared.reopening.Unopened.TheVariants as handed
+use Rattle.app_words.specs.Faults.{told_of}
+use Rattle.app_words.specs.declared.fault.ProgramFault.{ProgramFault}
+use Rattle.store_desk.specs.Closed.{HoldsAlone, IsUncopied, StoreLeaves}
+use Rattle.store_desk.specs.Desk.{DeskState}
+use Rattle.store_desk.specs.Over.{ConnectionLeavesOneOf}
+use Rattle.store_desk.specs.Reopened.{IsLetGo}
+use Rattle.store_desk.specs.Unopened.{HandsBack}
+use Rattle.store_desk.specs.declared.reopening.Unopened.{Unopened}
+use Rattle.store_desk.specs.declared.reopening.Unopened.TheVariants as handed
 use Rattle.dictcat_lib.specs.declared.left.Left.{Left}
 use Rattle.dictcat_lib.specs.declared.left.Left.TheVariants as left
 

@@ -7,24 +7,24 @@ use Rattle.dict_catalogue.specs.Steps.{Catalogue, empty_catalogue}
 use Rattle.dict_desk.specs.Faults.{is_disk}
 use Rattle.dict_desk.specs.declared.fault.Fault.{Fault as DeskFault}
 use Rattle.dict_desk.specs.declared.fault.Fault.TheVariants.{NotACatalogue, Disk}
-use Rattle.dict_holdings.specs.Holds.{Holds, Rests, IsLeftAs, HasPlace}
-use Rattle.dict_migration.specs.Making.{creation, CreationFailsToEnd}
-use Rattle.dict_migration.specs.Moved.{AreTreesOf}
-use Rattle.dict_migration.specs.Spared.{SparesOthers}
-use Rattle.dict_opening.specs.Reading.{HasFailedToRead}
-use Rattle.dict_rows.specs.Versions.{known}
+use Rattle.store_holdings.specs.Holds.{Holds, Rests, IsLeftAs, HasPlace}
+use Rattle.store_migration.specs.Making.{creation, CreationFailsToEnd}
+use Rattle.store_migration.specs.Moved.{AreTreesOf}
+use Rattle.store_migration.specs.Spared.{SparesOthers}
+use Rattle.store_opening.specs.Reading.{HasFailedToRead}
+use Rattle.store_rows.specs.Versions.{known}
 use Rattle.dict_proto.specs.Streams.{StreamChange}
 use Rattle.dict_session.specs.declared.session.run.SessionEnd.{SessionEnd}
 use Rattle.dict_session.specs.declared.session.run.SessionFault.{SessionFault}
 use Rattle.dict_session.specs.declared.session.run.SessionFault.TheVariants as session_faults
-use Rattle.dict_store.specs.Desk.{DeskState, Shows, LeavesOneOf}
-use Rattle.dict_store.specs.Opened.{TellsOfDatabase, IsNotHeld}
-use Rattle.dict_store.specs.Prepared.{rested}
-use Rattle.dict_store.specs.Over.{HasRun, ConnectionLeavesOneOf}
-use Rattle.dict_messages.specs.Faults.{told_of}
-use Rattle.dict_messages.specs.declared.fault.ProgramFault.{ProgramFault}
-use Rattle.dict_messages.specs.declared.fault.ProgramFault.TheVariants as faults
-use Rattle.dict_messages.specs.Writing.{IsUntouched}
+use Rattle.store_desk.specs.Desk.{DeskState, Shows, LeavesOneOf}
+use Rattle.store_desk.specs.Opened.{TellsOfDatabase, IsNotHeld}
+use Rattle.store_desk.specs.Prepared.{rested}
+use Rattle.store_desk.specs.Over.{HasRun, ConnectionLeavesOneOf}
+use Rattle.app_words.specs.Faults.{told_of}
+use Rattle.app_words.specs.declared.fault.ProgramFault.{ProgramFault}
+use Rattle.app_words.specs.declared.fault.ProgramFault.TheVariants as faults
+use Rattle.app_words.specs.Writing.{IsUntouched}
 
 -- the file with this path can't be had, or memory ran out
 abbrev pub IsUnavailable : List ℕ → ProgramFault → Type 0

@@ -2,10 +2,10 @@
 ghost use Rattle.std.specs.Prelude.{◌≡◌, false, List, Option, Some, None, IfOk, IfErr, MatchResult};
 ghost use Rattle.sqlite.specs.Files.{over_files};
 ghost use Rattle.dict_catalogue.specs.Steps.{Catalogue};
-ghost use Rattle.dict_store.specs.Desk.{Shows, LeavesOneOf, is_closed};
-ghost use Rattle.dict_store.specs.Reopened.{IsReopened};
-ghost use Rattle.dict_serving.specs.Serving.{Follows, IsNew, IsNone};
-ghost use Rattle.dict_program.specs.Catalogues.{IsMadeEmpty};
+ghost use Rattle.store_desk.specs.Desk.{Shows, LeavesOneOf, is_closed};
+ghost use Rattle.store_desk.specs.Reopened.{IsReopened};
+ghost use Rattle.net_serving.specs.Serving.{Follows, IsNew, IsNone};
+ghost use Rattle.app_commands.specs.Catalogues.{IsMadeEmpty};
 ghost use Rattle.dictcat_lib.specs.DeskOpener.{IsDesk, IsMadeDesk, IsNoDeskAt, IsNoDeskAgain, IsTrusted, IsUnmade};
 ghost use Rattle.dictcat_lib.specs.Files.{StillLeaves};
 
@@ -13,10 +13,10 @@ use crate::cached::options;
 use crate::left::{Left, connection_of, hold};
 use crate::opener::FileOpener;
 use crate::stores::{close_file, make_file, open_file, told_unopened};
-use dict_messages::ProgramFault;
-use dict_store::Desk;
+use app_words::ProgramFault;
 use sqlite::FileStore;
 use sqlite_disk::Disk;
+use store_desk::Desk;
 
 // The desk of an empty catalogue that is made in the file with this path. Where none is made, `held` is what is left of the file.
 pub(crate) fn make_desk<'w, D: Disk + Drop, O: FileOpener<D>>(

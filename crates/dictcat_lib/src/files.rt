@@ -5,13 +5,13 @@ use crate::desks::{make_desk, open_desk, reopen_desk};
 use crate::left::Left;
 use crate::opener::FileOpener;
 use crate::session::{run_session, told_over};
-use dict_messages::ProgramFault;
-use dict_program::Catalogues;
+use app_commands::Catalogues;
+use app_words::ProgramFault;
 use dict_proto::{Sink, Source};
-use dict_serving::DeskOpener;
-use dict_store::Desk;
+use net_serving::DeskOpener;
 use sqlite::FileStore;
 use sqlite_disk::Disk;
+use store_desk::Desk;
 
 /// The catalogue in a file, by its path. One file is opened, once. What it and its log hold then is whatever the opener says: no clause
 /// ties that to the path. Nothing is known of what was done to a file.

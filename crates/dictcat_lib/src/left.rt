@@ -2,12 +2,12 @@
 ghost use Rattle.std.specs.Prelude.{◌≡◌, Some};
 ghost use Rattle.sqlite.specs.Files.{file_state, over_files};
 ghost use Rattle.sqlite.specs.State.{HasCleanDisk, Survives};
-ghost use Rattle.dict_store.specs.Prepared.{Undoes};
+ghost use Rattle.store_desk.specs.Prepared.{Undoes};
 
-use dict_store::{Desk, Unopened};
 use sqlite::{Connection, FileStore, Files};
 use sqlite_disk::Disk;
 use std::mem;
+use store_desk::{Desk, Unopened};
 
 /// What is left of the connection that was closed last, or of the desk whose file wasn't opened again.
 pub(crate) enum Left<D: Disk + Drop> {

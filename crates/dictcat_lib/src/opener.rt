@@ -2,15 +2,15 @@
 ghost use Rattle.std.specs.Prelude.{◌≡◌, false, IfOk, IfErr};
 ghost use Rattle.sqlite.specs.Recovery.{Image};
 ghost use Rattle.sqlite.specs.WalFiles.{image_at};
-ghost use Rattle.dict_store.specs.Unopened.{IsUnopened};
-ghost use Rattle.dict_store.specs.declared.reopening.Unopened.TheVariants.{Files as HandedFiles};
+ghost use Rattle.store_desk.specs.Unopened.{IsUnopened};
+ghost use Rattle.store_desk.specs.declared.reopening.Unopened.TheVariants.{Files as HandedFiles};
 ghost use Rattle.dictcat_lib.specs.Files.{IsOpenedFrom};
 
 use crate::cached::open_cached;
 use dict_desk::Fault;
-use dict_store::fault_of_files;
 use sqlite::{Connection, FileFrom, FileStore, Leftover, Start};
 use sqlite_disk::Disk;
+use store_desk::fault_of_files;
 
 /// Opens the two files at a path. What stands over them is proved of any disk, since that of the machine is dear to compare.
 pub trait FileOpener<D: Disk + Drop>: Drop {

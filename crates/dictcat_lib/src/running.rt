@@ -1,22 +1,22 @@
 // The program over desks of files.
 ghost use Rattle.std.specs.Prelude.{map};
 ghost use Rattle.dict_proto.specs.Streams.{change};
-ghost use Rattle.dict_program.specs.Order.{TellsInOrder};
-ghost use Rattle.dict_program.specs.Program.{CommandEnds};
+ghost use Rattle.app_commands.specs.Order.{TellsInOrder};
+ghost use Rattle.app_commands.specs.Program.{CommandEnds};
 
 use crate::files::CatalogueFiles;
 use crate::opener::FileOpener;
+use app_commands::{Catalogues, command};
+use app_words::InputFiles;
 use dict_desk::{Lookup, PlainDesk, Preparer};
-use dict_driver::{Network, System, SystemSockets};
-use dict_messages::InputFiles;
-use dict_program::{Catalogues, command};
 use dict_proto::{Sink, Source};
-use dict_serving::DeskOpener;
-use dict_store::Desk;
 use mio::net::TcpListener;
+use net_driver::{Network, System, SystemSockets};
+use net_serving::DeskOpener;
 use sqlite::FileStore;
 use sqlite_disk::Disk;
 use std::convert::AsStr;
+use store_desk::Desk;
 
 // The same over any catalogues in files. Over those of a type the prover compares the bounds of `command` for minutes.
 fn run_any<
@@ -47,7 +47,7 @@ fn run_any<
     )
 }
 
-/// `command` of `dict_program` over the catalogue in a file, by the system's sockets.
+/// `command` of `app_commands` over the catalogue in a file, by the system's sockets.
 pub fn run_over<
     'r,
     A: AsStr,

@@ -3,7 +3,7 @@ ghost use Rattle.std.specs.Prelude.{◌≡◌, Err, IfOk, MatchResult};
 ghost use Rattle.sqlite.specs.Files.{over_files};
 ghost use Rattle.sqlite.specs.Held.{Held};
 ghost use Rattle.dict_proto.specs.Streams.{change};
-ghost use Rattle.dict_messages.specs.Writing.{IsUntouched};
+ghost use Rattle.app_words.specs.Writing.{IsUntouched};
 ghost use Rattle.dictcat_lib.specs.DeskOpener.{IsNoDeskAt};
 ghost use Rattle.dictcat_lib.specs.Files.{IsOpenedFrom};
 ghost use Rattle.dictcat_lib.specs.Opening.{HasSpoken, over_told};
@@ -11,13 +11,13 @@ ghost use Rattle.dictcat_lib.specs.Opening.{HasSpoken, over_told};
 use crate::left::{Left, hold};
 use crate::opener::FileOpener;
 use crate::stores::{close_file, open_file};
-use dict_messages::ProgramFault;
+use app_words::ProgramFault;
 use dict_proto::{Sink, Source};
-use dict_serving::HOST;
 use dict_session::{SessionEnd, SessionFault};
-use dict_store::{Desk, session_over};
+use net_serving::HOST;
 use sqlite::FileStore;
 use sqlite_disk::Disk;
+use store_desk::{Desk, session_over};
 
 // A session's desk, and how it ended.
 type Spoken<D> = (Desk<FileStore<D>>, Result<SessionEnd, SessionFault>);

@@ -5,13 +5,13 @@ ghost use Rattle.dictcat_lib.specs.Files.{IsOpenedFrom, IsPutAway};
 
 use crate::left::{Left, hold};
 use crate::opener::FileOpener;
+use app_words::ProgramFault;
 use dict_desk::Fault as DeskFault;
-use dict_messages::ProgramFault;
-use dict_store::Unopened;
 use sqlite::{Connection, FileStore};
 use sqlite_disk::Disk;
 use std::fs;
 use std::io::ErrorKind;
+use store_desk::Unopened;
 
 // Opens the file with this path, once. It has to be there. Where it isn't opened, `held` is what `sqlite` left of it, if that was asked.
 pub(crate) fn open_file<'w, D: Disk + Drop, O: FileOpener<D>>(

@@ -5,10 +5,10 @@ use super::records::{
     empty, is_damaged_with, item, kept, member, put, put_all, says, summary_after,
 };
 use crate::checks::{holds, push, same};
-use dict_rows::{RowsFault, summary_of};
 use std::alloc::{AllocError, Global};
 use std::process::Abort;
 use std::test::Fail;
+use store_rows::{RowsFault, summary_of};
 
 const MOST: i64 = 9_223_372_036_854_775_807;
 

@@ -3,10 +3,10 @@
 use super::records::{EditionRow, GEM, ORE, Rows, WHOLE, edition, empty, put_all, says};
 use crate::checks::{holds, same};
 use dict_catalogue::Summary;
-use dict_rows::{Reader, RowsFault};
 use std::alloc::Global;
 use std::process::Abort;
 use std::test::Fail;
+use store_rows::{Reader, RowsFault};
 
 /// The headword of a line, the interval of the text that is its body, and what is shown.
 #[derive(Clone, Copy)]

@@ -3,12 +3,12 @@
 use super::records::{EditionRow, GEM, ORE, Rows, WHOLE, edition, empty, put_all};
 use crate::checks::{holds, same};
 use dict_catalogue::{Item, Kept, StoredTitle, Verb};
-use dict_rows::{
-    IdReader, Reader, RowidReader, RowsFault, item_row, kept_row, mark_row, member_row,
-};
 use std::alloc::{AllocError, Global};
 use std::process::Abort;
 use std::test::Fail;
+use store_rows::{
+    IdReader, Reader, RowidReader, RowsFault, item_row, kept_row, mark_row, member_row,
+};
 
 fn id(alloc: Global, ids: &mut IdReader, text: &str) -> Result<(), RowsFault> {
     ids.id(String::from_str(alloc, text)?)

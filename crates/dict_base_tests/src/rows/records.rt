@@ -2,9 +2,9 @@
 
 use crate::checks::push;
 use dict_catalogue::{Item as CatalogueItem, Summary};
-use dict_records::{EditionRecord, EntryRecord, ItemRecord, KeptRecord, Mark, Member, StoredRow};
-use dict_rows::{EditionRows, RowsFault, Tables, summary_of};
 use std::alloc::{AllocError, Global};
+use store_records::{EditionRecord, EntryRecord, ItemRecord, KeptRecord, Mark, Member, StoredRow};
+use store_rows::{EditionRows, RowsFault, Tables, summary_of};
 
 /// The magic, the version and the count of installs of a mark.
 #[derive(Clone, Copy)]

@@ -2,10 +2,10 @@ use Rattle.std.proofs.Common.{inl, inr, ap, subst, sym, arith}
 use Rattle.std.proofs.lemmas.Result.{err_from_is_err_and}
 use Rattle.sqlite.specs.State.{HasCleanDisk}
 use Rattle.sqlite.specs.Files.{file_state, over_files}
-use Rattle.dict_holdings.specs.Holds.{IsLeft}
-use Rattle.dict_serving.specs.Serving.{IsOfFile}
-use Rattle.dict_store.specs.Adopted.{IsNotAdopted}
-use Rattle.dict_store.specs.Desk.{is_closed}
+use Rattle.store_holdings.specs.Holds.{IsLeft}
+use Rattle.net_serving.specs.Serving.{IsOfFile}
+use Rattle.store_desk.specs.Adopted.{IsNotAdopted}
+use Rattle.store_desk.specs.Desk.{is_closed}
 use Rattle.dictcat_lib.proofs.FileLemmas.{rejected_from}
 use Rattle.dictcat_lib.proofs.UnopenedLemmas.{not_opened_of_file, opening_of_file}
 use Rattle.dictcat_lib.proofs.desks.open_desk.Goals as goal

@@ -1,6 +1,6 @@
 use Rattle.std.proofs.Common.{inl, inr, refl}
 use Rattle.sqlite.specs.Files.{file_state}
-use Rattle.dict_store.proofs.DeskLemmas.{clean_behind}
+use Rattle.store_desk.proofs.DeskLemmas.{clean_behind}
 use Rattle.dictcat_lib.proofs.UnopenedLemmas.{told_of_file}
 use Rattle.dictcat_lib.proofs.desks.reopen_desk.Goals as goal
 

@@ -1,7 +1,7 @@
 use Rattle.std.proofs.Common.{refl, inl}
 use Rattle.std.proofs.lemmas.Option.{IfSome_then}
 use Rattle.sqlite.specs.WalFiles.{image_at}
-use Rattle.dict_store.proofs.FreshLemmas.{seen_is, left_is, honest_is, octets_by, unopened_from}
+use Rattle.store_desk.proofs.FreshLemmas.{seen_is, left_is, honest_is, octets_by, unopened_from}
 use Rattle.dictcat_lib.proofs.opener.SystemFilesFileOpenerFileFrom.open.Goals as goal
 
 pub returns-in-Err-clause-unopened : goal.returns-in-Err-clause-unopened

@@ -1,0 +1,133 @@
+// What the tests read from and write to.
+ghost use Rattle.std.specs.Prelude.{None, ⊤};
+
+use app_words::{InputFiles, ReadFault};
+use dict_desk::PlainDesk;
+use dict_fixtures::{GEM_INDEX, GEM_TEXT, ORE_INDEX, ORE_TEXT};
+use dict_proto::{LimitedSink, OverRead};
+use dictcat_lib::{CatalogueFiles, SystemFiles, run_over};
+use sqlite::Unknown;
+use std::alloc::Global;
+use std::fs;
+use std::test::Fail;
+
+// The index whose last line cuts one octet too many.
+const LONG_INDEX: &[u8] = b"00-database-short\tA\tZ\nopal\tZ\tP\nFire Opal\tZ\tP\ndot\to\tG\n";
+
+/// The example databases in memory.
+#[derive(Drop)]
+struct Examples {
+    alloc: Global,
+}
+
+impl InputFiles for Examples {
+    ghost octets = { λ _ _. None };
+
+    ghost reads = { λ _ _. ⊤ };
+
+    ghost refuses = { λ _ _ _. ⊤ };
+
+    fn read(&self, path: &str) -> Result<Vec<u8>, ReadFault> {
+        let octets = match path {
+            "gem.index" => GEM_INDEX,
+            "gem.dict" => GEM_TEXT,
+            "long.index" => LONG_INDEX,
+            "ore.index" => ORE_INDEX,
+            "ore.dict" => ORE_TEXT,
+            "empty" => b"",
+            _ => return Err(ReadFault::Unreadable),
+        };
+        Vec::from_slice(self.alloc, octets).map_err(|_| ReadFault::Memory)
+    }
+}
+
+/// A status, and what went to standard output and to standard error.
+pub(crate) type Outcome = (u8, String, String);
+
+/// Words behind the program's name, where `FILE` stands for the path of a catalogue; what standard input has; the status,
+/// what is printed, and what is told.
+pub(crate) type Row = (
+    &'static [&'static str],
+    &'static str,
+    u8,
+    &'static str,
+    &'static str,
+);
+
+/// More octets than any command prints here.
+pub(crate) const ROOM: usize = 4000;
+
+/// What comes of these words with this input over any files, where standard output takes so many octets.
+pub(crate) fn outcome<I: InputFiles>(
+    rt: &HostRuntime,
+    words: &[&str],
+    files: &I,
+    input: &str,
+    room: usize,
+) -> Result<Outcome, Fail> {
+    let mut writer = LimitedSink::new(rt.alloc(), room)?;
+    let mut faults = LimitedSink::new(rt.alloc(), 1000)?;
+    let status = run_over(
+        rt,
+        words,
+        &mut CatalogueFiles::new(rt, SystemFiles { start: Unknown }),
+        &mut PlainDesk::new(rt.alloc()),
+        files,
+        &mut OverRead::new(input.as_bytes()),
+        &mut writer,
+        &mut faults,
+    );
+    Ok((
+        status,
+        taken(rt.alloc(), &writer)?,
+        taken(rt.alloc(), &faults)?,
+    ))
+}
+
+/// What comes of these words behind the program's name, where `FILE` stands for a path, over the examples.
+pub(crate) fn run(
+    rt: &HostRuntime,
+    file: &str,
+    words: &[&str],
+    input: &str,
+    room: usize,
+) -> Result<Outcome, Fail> {
+    let alloc = rt.alloc();
+    let mut all = Vec::new(alloc);
+    all.push("dictcat")?;
+    for word in words {
+        all.push(if *word == "FILE" { file } else { *word })?;
+    }
+    outcome(rt, all.as_slice(), &Examples { alloc }, input, room)
+}
+
+/// Whether the status, what is printed and what is told are these.
+pub(crate) fn is_so(found: &Outcome, status: u8, printed: &str, told: &str) -> bool {
+    found.0 == status && found.1.as_str() == printed && found.2.as_str() == told
+}
+
+/// The first row that comes out otherwise, and how; nothing where each is as it says.
+pub(crate) fn differing(rt: &HostRuntime, file: &str, rows: &[Row]) -> Result<String, Fail> {
+    for (words, input, status, printed, told) in rows {
+        let found = run(rt, file, *words, *input, ROOM)?;
+        if !is_so(&found, *status, printed, told) {
+            return Ok(format!(in rt.alloc(); "{words:?} gave {found:?}")?);
+        }
+    }
+    Ok(String::new(rt.alloc()))
+}
+
+/// What a sink took, as text.
+pub(crate) fn taken(alloc: Global, sink: &LimitedSink) -> Result<String, Fail> {
+    String::from_utf8(sink.taken().to_vec(alloc)?).map_err(|_| Fail::from("no text"))
+}
+
+/// Removes a file, and its log where there is one.
+pub(crate) fn remove(rt: &HostRuntime, path: &str) -> Result<(), Fail> {
+    let log = format!(in rt.alloc(); "{path}-wal")?;
+    if fs::exists(rt, log.as_str())? {
+        fs::remove_file(rt, log.as_str())?;
+    }
+    fs::remove_file(rt, path)?;
+    Ok(())
+}

@@ -1,0 +1,170 @@
+//! Paths without a catalogue, and files that become one.
+use super::fixtures::{ROOM, Row, differing, remove, run};
+use crate::checks::{holds, same, same_text};
+use dict_desk::{Fault, Lookup};
+use sqlite::{Alter, FileStore, Unknown};
+use sqlite_disk::Disk;
+use std::fs;
+use std::process::Abort;
+use std::test::Fail;
+use store_desk::Desk;
+
+// The commands over a file but `create`, each with more faults than one.
+static EACH: [&[&str]; 9] = [
+    &["list", "FILE"],
+    &["audit", "FILE"],
+    &["session", "FILE"],
+    &["install", "FILE", "9", "_", "nosuch", "nosuch"],
+    &["rollback", "FILE", "9", "_"],
+    &["retire", "FILE", "9", "_"],
+    &["virtual", "FILE", "9", "_", "", "zz"],
+    &["place", "FILE", "9", "_", "9"],
+    &["serve", "FILE", "--dict", "x", "--http", "x"],
+];
+
+// What each of them tells of a path, with status 3: nothing is there, a folder, a text, a path below a text, an empty file,
+// a database of others.
+static PATHS: [(&str, &str); 6] = [
+    ("dictcat_nosuch.db", "cannot read dictcat_nosuch.db\n"),
+    ("dictcat_folder.db", "cannot read dictcat_folder.db\n"),
+    ("dictcat_text.db", "cannot read dictcat_text.db\n"),
+    ("dictcat_text.db/x", "cannot read dictcat_text.db/x\n"),
+    ("dictcat_empty.db", "fault 43 NotACatalogue\n"),
+    ("dictcat_others.db", "fault 43 NotACatalogue\n"),
+];
+
+// The first command that tells something else of a path than this, and what; nothing where each tells it, with status 3.
+fn told_otherwise(rt: &HostRuntime, file: &str, told: &str) -> Result<String, Fail> {
+    for words in &EACH {
+        let found = run(rt, file, *words, "", ROOM)?;
+        if found.0 != 3 || !found.1.is_empty() || found.2.as_str() != told {
+            return Ok(format!(in rt.alloc(); "{words:?} gave {found:?}")?);
+        }
+    }
+    Ok(String::new(rt.alloc()))
+}
+
+// The same of the first path of which it tells something else.
+fn all_told_otherwise(rt: &HostRuntime) -> Result<String, Fail> {
+    for (path, told) in &PATHS {
+        let found = told_otherwise(rt, path, told)?;
+        if !found.is_empty() {
+            return Ok(found);
+        }
+    }
+    Ok(String::new(rt.alloc()))
+}
+
+// A SQLite file with a table `t(x)`, whose one row has 7: octets, each with the place up to which zeros follow.
+static OTHERS: [(&[u8], usize); 5] = [
+    (
+        b"SQLite format 3\x00\x02\x00\x01\x01\x00@  \x00\x00\x00\x02\x00\x00\x00\x02",
+        43,
+    ),
+    (
+        b"\x01\x00\x00\x00\x04\x00\x00\x00\x00\x00\x00\x00\x00\x00\x00\x00\x01",
+        95,
+    ),
+    (b"\x02\x00.c\x01\r\x00\x00\x00\x01\x01\xdf\x00\x01\xdf", 479),
+    (
+        b"\x1f\x01\x06\x17\x0f\x0f\x01/tablett\x02CREATE TABLE t(x)\r\x00\x00\x00\x01\x01\xfb\x00\x01\xfb",
+        1019,
+    ),
+    (b"\x03\x01\x02\x01\x07", 1024),
+];
+
+fn octets_of_others(rt: &HostRuntime) -> Result<Vec<u8>, Fail> {
+    let mut octets = Vec::new(rt.alloc());
+    for (some, end) in &OTHERS {
+        octets.extend_from_slice(*some)?;
+        octets.resize(*end, 0)?;
+    }
+    Ok(octets)
+}
+
+fn set_up(rt: &HostRuntime) -> Result<(), Fail> {
+    fs::create_dir(rt, "dictcat_folder.db")?;
+    fs::write(rt, "dictcat_text.db", b"00-database-short\n  Gems\n")?;
+    fs::write(rt, "dictcat_empty.db", b"")?;
+    fs::write(rt, "dictcat_others.db", octets_of_others(rt)?.as_slice())?;
+    Ok(())
+}
+
+// Whether the rows of others stand in their file as they did.
+fn others_stand(rt: &HostRuntime) -> Result<bool, Fail> {
+    let left = fs::read(rt, "dictcat_others.db")?;
+    let made = octets_of_others(rt)?;
+    Ok(left.as_slice().get(512..1024) == made.as_slice().get(512..1024))
+}
+
+static MADE: [Row; 2] = [
+    (&["create", "FILE"], "", 0, "", ""),
+    (&["audit", "FILE"], "", 0, "sound\n", ""),
+];
+
+// What `create` makes a catalogue of.
+static MADE_OF: [&str; 2] = ["dictcat_empty.db", "dictcat_others.db"];
+
+// How the first of these becomes none, if one does.
+fn unmade(rt: &HostRuntime) -> Result<String, Fail> {
+    for file in &MADE_OF {
+        let found = differing(rt, file, &MADE)?;
+        if !found.is_empty() {
+            return Ok(found);
+        }
+    }
+    Ok(String::new(rt.alloc()))
+}
+
+fn clear(rt: &HostRuntime) -> Result<(), Fail> {
+    fs::remove_dir(rt, "dictcat_folder.db")?;
+    remove(rt, "dictcat_text.db")?;
+    remove(rt, "dictcat_empty.db")?;
+    remove(rt, "dictcat_others.db")
+}
+
+pub(crate) fn paths_without_a_catalogue(test: &impl Abort, rt: &HostRuntime) -> Result<(), Fail> {
+    set_up(rt)?;
+    same_text(test, all_told_otherwise(rt)?.as_str(), "");
+    holds(test, !fs::exists(rt, "dictcat_nosuch.db")?, "nosuch");
+    same_text(test, unmade(rt)?.as_str(), "");
+    holds(test, others_stand(rt)?, "others");
+    clear(rt)
+}
+
+// How many commands a catalogue accepted.
+fn accepted<S: Alter + Drop>(desk: Desk<S>) -> Result<u64, Fault> {
+    Ok(desk.summary()?.accepted)
+}
+
+// The same over any disk: to hand the store of a disk that is named to a function of any store is dear to prove.
+fn accepted_over<D: Disk + Drop>(desk: Desk<FileStore<D>>) -> Result<u64, Fault> {
+    accepted(desk)
+}
+
+// The same of the catalogue whose desk is opened from a path; or the fault.
+fn accepted_at(rt: &HostRuntime, path: &str) -> Result<u64, Fault> {
+    match Desk::open_from(rt, path, false, Unknown) {
+        Ok(desk) => accepted_over(desk),
+        Err((_, fault)) => Err(fault),
+    }
+}
+
+static INSTALLED: [Row; 2] = [
+    (&["create", "FILE"], "", 0, "", ""),
+    (
+        &["install", "FILE", "gem", "r1", "gem.index", "gem.dict"],
+        "",
+        0,
+        "{\"edition\":1,\"name\":\"gem\",\"number\":1,\"verb\":\"install\"}\n",
+        "",
+    ),
+];
+
+pub(crate) fn a_desk_from_a_path(test: &impl Abort, rt: &HostRuntime) -> Result<(), Fail> {
+    let path = "dictcat_desk.db";
+    same(test, &accepted_at(rt, path), &Err(Fault::NotACatalogue));
+    same_text(test, differing(rt, path, &INSTALLED)?.as_str(), "");
+    same(test, &accepted_at(rt, path), &Ok(1));
+    remove(rt, path)
+}

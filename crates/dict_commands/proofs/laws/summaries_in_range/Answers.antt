@@ -1,5 +1,0 @@
-use Rattle.dict_commands.proofs.DecideLemmas.{summary_in_range}
-use Rattle.dict_commands.proofs.laws.summaries_in_range.Goals as goal
-
-pub returns : goal.returns
-returns c = summary_in_range

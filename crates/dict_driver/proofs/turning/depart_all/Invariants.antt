@@ -1,6 +1,0 @@
-use Rattle.dict_connection.specs.Turns.{Departs}
-use Rattle.dict_driver.proofs.ListLemmas.{MoveUpTo}
-use Rattle.dict_driver.proofs.turning.depart_all.Given as goal
-
-abbrev pub invariant-loop-one : goal.invariant-loop-one
-invariant-loop-one g l = MoveUpTo (Departs g.T.Transport.taken g.T.Transport.coming g.T.Transport.made) l.fn.all.items l.one-items l.one-index l.has_moved

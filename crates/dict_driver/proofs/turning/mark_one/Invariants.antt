@@ -1,7 +1,0 @@
-use Rattle.std.proofs.Common.{◌≡◌, ◌==◌}
-use Rattle.dict_connection.specs.Turns.{marked}
-use Rattle.dict_driver.proofs.ListLemmas.{ChangeUpTo}
-use Rattle.dict_driver.proofs.turning.mark_one.Given as goal
-
-abbrev pub invariant-loop-one : goal.invariant-loop-one
-invariant-loop-one g l = ChangeUpTo (λ old new. new ≡ marked (old.id == l.id) old) l.fn.all.items l.one-items l.one-index

@@ -1,5 +1,0 @@
-use Rattle.dict_holdings.proofs.MoreLemmas.{more}
-use Rattle.dict_holdings.proofs.files.files_more.Goals as goal
-
-pub returns : goal.returns
-returns c = more

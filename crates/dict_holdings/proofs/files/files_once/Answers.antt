@@ -1,5 +1,0 @@
-use Rattle.dict_holdings.proofs.FileLemmas.{part_once}
-use Rattle.dict_holdings.proofs.files.files_once.Goals as goal
-
-pub returns : goal.returns
-returns c = part_once

@@ -1,9 +1,0 @@
-use Rattle.std.proofs.Common.{sym, subst}
-use Rattle.dict_http.specs.Bodies.{IsPlace}
-use Rattle.dict_http.proofs.foreseeing.expect_place.Goals as goal
-
-pub returns-in-Ok-Some-clause-foreseen : goal.returns-in-Ok-Some-clause-foreseen
-returns-in-Ok-Some-clause-foreseen g c = λ taken.
-    let is = subst (λ n. IsPlace c.args.body.now n) (sym c.from.ensures) (rw c.in-Ok-Some.field-0-is at c.in-Ok-Some.ensures) in
-    let told = c.expect_command.ensures.foreseen taken in
-    record { asked = told.asked; asks = (c.from.result, is, told.asks); before = told.before; told = told.told }

@@ -1,5 +1,0 @@
-use Rattle.dict_http.proofs.BodyLemmas.{one_place, one_title, one_members}
-use Rattle.dict_http.proofs.json_laws.one_body.Goals as goal
-
-pub returns : goal.returns
-returns c = record { place = one_place; title = one_title; members = one_members }

@@ -1,5 +1,0 @@
-use Rattle.dict_messages.proofs.line.with_place.Goals as goal
-
-pub returns : goal.returns
-returns c = λ app start.
-    c.with_command.ensures _ _ start (c.with_arg.ensures _ _ c.leaf-place.ensures c.number.ensures.rule c.number.ensures.local)

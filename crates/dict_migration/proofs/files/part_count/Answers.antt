@@ -1,6 +1,0 @@
-use Rattle.std.proofs.Common.{◌∙◌}
-use Rattle.dict_migration.proofs.FileLemmas.{part_count_is}
-use Rattle.dict_migration.proofs.files.part_count.Goals as goal
-
-pub returns-clause-count : goal.returns-clause-count
-returns-clause-count c = c.div_ceil.ensures ∙ part_count_is c.args.octets.now

@@ -1,5 +1,0 @@
-use Rattle.dict_older_sql.proofs.ListingLemmas.{listed_by_rowid}
-use Rattle.dict_older_sql.proofs.keyed_laws.rowid_law.Goals as goal
-
-pub returns : goal.returns
-returns c = listed_by_rowid

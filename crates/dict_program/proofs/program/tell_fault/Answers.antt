@@ -1,4 +1,0 @@
-use Rattle.dict_program.proofs.program.tell_fault.Goals as goal
-
-pub returns : goal.returns
-returns g c = (c.status.ensures, (c.put_line.result, c.put_line.ensures))

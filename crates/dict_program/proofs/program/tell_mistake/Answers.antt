@@ -1,5 +1,0 @@
-use Rattle.std.proofs.Common.{refl, inl}
-use Rattle.dict_program.proofs.program.tell_mistake.Goals as goal
-
-pub returns : goal.returns
-returns g c = inl (refl, (_, (c.put.result, c.put.ensures.put)))

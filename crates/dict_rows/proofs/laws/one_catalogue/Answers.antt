@@ -1,5 +1,0 @@
-use Rattle.dict_rows.proofs.OnceLemmas.{catalogue_same}
-use Rattle.dict_rows.proofs.laws.one_catalogue.Goals as goal
-
-pub returns : goal.returns
-returns c = catalogue_same

@@ -1,5 +1,0 @@
-use Rattle.dict_rows.proofs.OrderLemmas.{ordered_stands}
-use Rattle.dict_rows.proofs.laws.ordered_records.Goals as goal
-
-pub returns : goal.returns
-returns c = ordered_stands

@@ -1,8 +1,0 @@
-use Rattle.dict_rows.proofs.ApartLemmas.{ids_once, rowids_apart}
-use Rattle.dict_rows.proofs.laws.taken_in_order.Goals as goal
-
-pub returns-clause-ids : goal.returns-clause-ids
-returns-clause-ids c = ids_once
-
-pub returns-clause-rowids : goal.returns-clause-rowids
-returns-clause-rowids c = rowids_apart

@@ -1,5 +1,0 @@
-use Rattle.dict_rows.proofs.WorkedLemmas.{worked_stands}
-use Rattle.dict_rows.proofs.laws.worked_records.Goals as goal
-
-pub returns : goal.returns
-returns c = worked_stands

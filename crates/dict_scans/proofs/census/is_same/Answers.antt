@@ -1,6 +1,0 @@
-use Rattle.std.proofs.Common.{rules}
-use Rattle.dict_scans.proofs.CensusLemmas.{decided}
-use Rattle.dict_scans.proofs.census.is_same.Goals as goal
-
-pub returns : goal.returns
-returns c = decided c.args.one c.args.other _ (search rules)

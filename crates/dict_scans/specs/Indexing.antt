@@ -1,8 +1,0 @@
--- What an index has of the entries of the tables.
-use Rattle.dict_match.specs.Key.{key_of}
-use Rattle.dict_records.specs.Records.{EntryRecord}
-use Rattle.dict_search.specs.Entries.{Indexed}
-use Rattle.dict_holdings.specs.Files.{natural}
-
-abbrev pub indexed_of : EntryRecord → Indexed
-indexed_of e = record { key = key_of e.headword; shown = e.shown; start = natural e.start; size = natural e.length }

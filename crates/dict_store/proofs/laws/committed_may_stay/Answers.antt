@@ -1,4 +1,0 @@
-use Rattle.dict_store.proofs.laws.committed_may_stay.Goals as goal
-
-pub returns : goal.returns
-returns g c = g.met.S.Store.stays c.args.conn.now.store

@@ -1,7 +1,0 @@
-use Rattle.std.proofs.Common.{subst, ◌∙◌}
-use Rattle.dict_store.specs.Coming.{IsIndexOfInstall}
-use Rattle.dict_store.specs.declared.making.IndexPart.{IndexPart}
-use Rattle.dict_store.proofs.making.whole_index.Goals as goal
-
-pub returns-in-Ok : goal.returns-in-Ok
-returns-in-Ok c = λ reading h. c.in-Ok.ensures ∙ (subst (λ (part : IndexPart). IsIndexOfInstall c.args.install.now part) c.in-Parts.is c.requires) reading h

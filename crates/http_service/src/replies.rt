@@ -1,0 +1,81 @@
+// What is answered to a command.
+ghost use Rattle.std.specs.Prelude.{◌≡◌, IfOk, string_bytes};
+ghost use Rattle.serde_json.specs.View.{view};
+ghost use Rattle.dict_catalogue.specs.Views.{kept_shown};
+ghost use Rattle.http_service.specs.Texts.{kept_text, verb_text, refused_command_text, refused_edition_text};
+ghost use Rattle.http_service.specs.Values.{kept_value, refused_command_value, refused_edition_value};
+
+use dict_catalogue::{CommandRefusal, Kept, Verb};
+use dict_index::EditionRefusal;
+use serde_json::{Value, json};
+use std::alloc::{AllocError, Global};
+
+// The verb, as replies have it.
+pub(crate) fn verb_text(verb: Verb) -> &'static str
+    ensures { result.now ≡ verb_text verb }
+{
+    match verb {
+        Verb::Install => "install",
+        Verb::Rollback => "rollback",
+        Verb::Retire => "retire",
+        Verb::Virtual => "virtual",
+        Verb::Place => "place",
+    }
+}
+
+fn kept_value(alloc: Global, kept: &Kept) -> Result<Value, AllocError>
+    ensures { IfOk result (λ value. view value ≡ kept_value (kept_shown kept.now)) }
+{
+    json!(in alloc; {
+        "edition": kept.edition,
+        "name": &kept.name,
+        "number": kept.number,
+        "verb": verb_text(kept.verb)
+    })
+}
+
+/// The JSON of the reply to an accepted command: its number, what it did, its name, and the current edition after an
+/// install or a rollback.
+pub fn kept_json(alloc: Global, kept: &Kept) -> Result<String, AllocError>
+    ensures { IfOk result (λ text. string_bytes text ≡ kept_text (kept_shown kept.now)) }
+{
+    let value = kept_value(alloc, kept)?;
+    value.to_string(alloc)
+}
+
+fn refused_command_value(alloc: Global, refusal: CommandRefusal) -> Result<Value, AllocError>
+    ensures { IfOk result (λ value. view value ≡ refused_command_value refusal) }
+{
+    json!(in alloc; {"reason": refusal.name(), "refusal": refusal.number()})
+}
+
+/// The JSON of a command that is refused: the refusal's name and number.
+pub fn refused_command_json(alloc: Global, refusal: CommandRefusal) -> Result<String, AllocError>
+    ensures { IfOk result (λ text. string_bytes text ≡ refused_command_text refusal) }
+{
+    let value = refused_command_value(alloc, refusal)?;
+    value.to_string(alloc)
+}
+
+fn refused_edition_value(
+    alloc: Global,
+    refusal: EditionRefusal,
+    line: Option<usize>,
+) -> Result<Value, AllocError>
+    ensures { IfOk result (λ value. view value ≡ refused_edition_value refusal line) }
+{
+    json!(in alloc; {"fault": refusal.number(), "line": line, "reason": refusal.name()})
+}
+
+/// The JSON of an edition that is refused: the refusal's number, the number of its line where it has one, and its
+/// name.
+pub fn refused_edition_json(
+    alloc: Global,
+    refusal: EditionRefusal,
+    line: Option<usize>,
+) -> Result<String, AllocError>
+    ensures { IfOk result (λ text. string_bytes text ≡ refused_edition_text refusal line) }
+{
+    let value = refused_edition_value(alloc, refusal, line)?;
+    value.to_string(alloc)
+}

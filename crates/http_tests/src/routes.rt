@@ -1,0 +1,75 @@
+//! Which paths have which forms.
+use crate::checks::same_text_of;
+use http_request::Routes;
+use std::alloc::Global;
+use std::process::Abort;
+use std::test::Fail;
+
+// A path, and its form and its name, if it has a form.
+static PATHS: [(&str, &str); 42] = [
+    ("/databases", "Databases "),
+    ("/databases/gem", "Database gem"),
+    ("/databases/gem/rollback", "Rollback gem"),
+    ("/databases/gem/place", "Place gem"),
+    ("/virtual/all", "Virtual all"),
+    ("/databases/place", "Database place"),
+    ("/databases/rollback/rollback", "Rollback rollback"),
+    ("/databases/place/rollback", "Rollback place"),
+    ("/databases/a/place", "Place a"),
+    ("/virtual/place", "Virtual place"),
+    ("/databases/%41", "Database %41"),
+    ("/databases/a?b=c", "Database a?b=c"),
+    ("/databases/{name}", "Database {name}"),
+    ("/databases/été", "Database été"),
+    ("/databases/a%2Fplace", "Database a%2Fplace"),
+    ("", "none"),
+    ("/", "none"),
+    ("//", "none"),
+    ("*", "none"),
+    ("databases", "none"),
+    ("/database", "none"),
+    ("/databases/", "none"),
+    ("/databasess", "none"),
+    ("/Databases", "none"),
+    ("//databases", "none"),
+    ("/databases//", "none"),
+    ("/databases//place", "none"),
+    ("/databases/a/", "none"),
+    ("/databases/a/b", "none"),
+    ("/databases/a/places", "none"),
+    ("/databases/a/plac", "none"),
+    ("/databases/a/place/", "none"),
+    ("/databases/a/place/b", "none"),
+    ("/databases/a/rollback/", "none"),
+    ("/databases?a=b", "none"),
+    ("/virtual", "none"),
+    ("/virtual/", "none"),
+    ("/virtual//", "none"),
+    ("/virtual/a/b", "none"),
+    ("/virtual/a/place", "none"),
+    ("/virtual/a/", "none"),
+    ("http://localhost/databases", "none"),
+];
+
+fn told(alloc: Global, routes: &Routes, path: &str) -> Result<String, Fail> {
+    Ok(match routes.find(path) {
+        Some(found) => {
+            let (route, name) = (found.route, found.name);
+            format!(in alloc; "{route:?} {name}")?
+        }
+        None => String::from_str(alloc, "none")?,
+    })
+}
+
+fn find_all(rt: &impl Abort, alloc: Global, routes: &Routes) -> Result<(), Fail> {
+    for (path, form) in &PATHS {
+        same_text_of(rt, told(alloc, routes, path)?.as_str(), *form, path);
+    }
+    Ok(())
+}
+
+#[test]
+fn paths(rt: HostRuntime) -> Result<(), Fail> {
+    let routes = Routes::new(rt.alloc())?;
+    find_all(&rt, rt.alloc(), &routes)
+}

@@ -1,0 +1,246 @@
+-- What is taken of an event's octets, call by call.
+use Rattle.std.proofs.Common.{◌≡◌, ◌≢◌, ℕ, ◌+◌, ◌≤◌, ◌<◌, Bool, true, false, List, [], ◌∷◌, ◌++◌, ◌-◌, refl, sym, ap, ◌∙◌, rules, subst, append_assoc, append-nil, take, drop, length, All, length-append, arith, ◌⊎◌, inl, inr}
+use Rattle.std.specs.Prelude.{◌&&◌, ◌==◌, if◌then◌else◌, not, Option, Some, None, Result, Ok, Err, OnErr, vec_capacity}
+use Rattle.std.specs.Io.KnownBytes.{Appends, Keeps}
+use Rattle.std.proofs.KnownBytes.{Appends-nil, Keeps-refl}
+use Rattle.net_connection.proofs.CallLemmas.{makes_none}
+use Rattle.std.proofs.lemmas.List.{take-append-le, drop-append-le, take-append-drop, length-drop, length-take}
+use Rattle.std.proofs.Math.Seq.{take-append_seam, take-append-add, take-length, drop-length}
+use Rattle.std.proofs.lemmas.List.Elements.{All-append, All-nil}
+use Rattle.net_connection.specs.OutletCalls.{Call, MakesCalls, sending_failed, is_vain, sends, sent_by}
+use Rattle.std.specs.declared.io.Error.{Error}
+use Rattle.net_connection.specs.Outlets.{Follow, HasTakenOctets, IsStuck, MakesSendings, are_well, end_in_vain, is_in_vain, is_sending, is_well, PutsSome, PassesOctets}
+use Rattle.net_connection.specs.Queues.{FindNoRoom, waiting}
+use Rattle.net_connection.specs.declared.queue.Queue.{Queue}
+use Rattle.net_connection.specs.declared.trail.Trail.{Trail}
+use Rattle.net_connection.specs.declared.calls.Sent.{Sent}
+use Rattle.net_connection.specs.declared.calls.Sent.TheVariants as sents
+
+appended : (l : List ℕ) (c : Option (List ℕ)) (y : List ℕ) → Appends (Some l) c y → c ≡ Some (l ++ y)
+appended l None y never = absurd never
+appended l (Some z) y is = ap Some is
+
+kept : (l : List ℕ) (c : Option (List ℕ)) → Keeps (Some l) c → c ≡ Some l
+kept l None never = absurd never
+kept l (Some z) is = ap Some is
+
+pub taken_more : (a b c : Option (List ℕ)) (x y : List ℕ) → HasTakenOctets a b x → Appends b c y → HasTakenOctets a c (x ++ y)
+taken_more a b c x y has more = λ before is.
+    appended (before ++ x) c y (subst (λ (o : Option (List ℕ)). Appends o c y) (has before is) more) ∙ ap Some (append_assoc before x y)
+
+pub taken_same : (a b c : Option (List ℕ)) (x : List ℕ) → HasTakenOctets a b x → Keeps b c → HasTakenOctets a c x
+taken_same a b c x has same = λ before is. kept (before ++ x) c (subst (λ (o : Option (List ℕ)). Keeps o c) (has before is) same)
+
+-- nothing was taken yet
+pub taken_none : (a b : Option (List ℕ)) → a ≡ b → HasTakenOctets a b []
+taken_none a b same = λ before is. sym same ∙ is ∙ ap Some (sym (append-nil before))
+
+pub taken_as : (a b : Option (List ℕ)) (x : List ℕ) → HasTakenOctets a b x → Appends a b x
+taken_as None b x has = tt
+taken_as (Some before) b x has = rw (has before refl) refl
+
+front_within : (before after : List Call) → take (length before) after ≡ before → length before ≤ length after
+front_within before after is = omega (arith, length-take (length before) after, ap length is)
+
+one_sending : (sent : Sent) → All (λ call. is_sending call ≡ true) (sends sent ∷ [])
+one_sending sent = search rules
+
+some_one : {A : Type 0} (x y : A) → Some x ≡ Some y → x ≡ y
+some_one x y same = cc
+
+more_calls : (before mid : List Call) (c : Option (List Call)) (sent : Sent) → (take (length before) mid ≡ before) × All (λ call. is_sending call ≡ true) (drop (length before) mid)
+    → c ≡ Some (mid ++ sends sent ∷ []) → (c ≢ None) × ((after : List Call) → c ≡ Some after → (take (length before) after ≡ before) × All (λ call. is_sending call ≡ true) (drop (length before) after))
+more_calls before mid c sent (front, rest) is =
+    let n : length before ≤ length mid = front_within before mid front in
+    let tail = All-append (λ call. is_sending call ≡ true) (drop (length before) mid) (sends sent ∷ []) rest (one_sending sent) in
+    rw is (
+      (λ none. cc),
+      λ after whole. subst (λ (l : List Call). (take (length before) l ≡ before) × All (λ call. is_sending call ≡ true) (drop (length before) l)) (some_one _ _ whole) (
+        take-append-le (length before) mid (sends sent ∷ []) n ∙ front,
+        subst (λ (l : List Call). All (λ call. is_sending call ≡ true) l) (sym (drop-append-le (length before) mid (sends sent ∷ []) n)) tail,
+      ),
+    )
+
+pub calls_more : (a b c : Option (List Call)) (sent : Sent) → MakesSendings a b → MakesCalls b c (sends sent ∷ []) → MakesSendings a c
+calls_more a None c sent has makes = λ before is. absurd ((has before is).0 refl)
+calls_more a (Some mid) c sent has makes = λ before is. more_calls before mid c sent ((has before is).1 mid refl) makes
+
+pub calls_none : (a b : Option (List Call)) → a ≡ b → MakesSendings a b
+calls_none a b same = λ before is. subst (λ (o : Option (List Call)). (o ≢ None) × ((after : List Call) → o ≡ Some after → (take (length before) after ≡ before) × All (λ call. is_sending call ≡ true) (drop (length before) after)))
+    (sym is ∙ same) (
+      (λ none. cc),
+      λ after whole. subst (λ (l : List Call). (take (length before) l ≡ before) × All (λ call. is_sending call ≡ true) (drop (length before) l)) (some_one _ _ whole)
+          (take-length before, subst (λ (l : List Call). All (λ call. is_sending call ≡ true) l) (sym (drop-length before)) (All-nil (λ call. is_sending call ≡ true))),
+    )
+
+-- no call follows
+pub follow_none : (such : List Call → Bool) (a b : Option (List Call)) → such [] ≡ true → a ≡ b → Follow such a b
+follow_none such a b none same = λ before is. subst (λ (o : Option (List Call)). (o ≢ None) × ((after : List Call) → o ≡ Some after → (take (length before) after ≡ before) × (such (drop (length before) after) ≡ true)))
+    (sym is ∙ same) (
+      (λ never. cc),
+      λ after whole. subst (λ (l : List Call). (take (length before) l ≡ before) × (such (drop (length before) l) ≡ true)) (some_one _ _ whole)
+          (take-length before, ap such (drop-length before) ∙ none),
+    )
+
+one_follows : (first last : List Call → Bool) (call : Call) (before mid : List Call) (c : Option (List Call)) → ((l : List Call) → first l ≡ true → last (l ++ call ∷ []) ≡ true)
+    → (take (length before) mid ≡ before) × (first (drop (length before) mid) ≡ true) → c ≡ Some (mid ++ call ∷ [])
+    → (c ≢ None) × ((after : List Call) → c ≡ Some after → (take (length before) after ≡ before) × (last (drop (length before) after) ≡ true))
+one_follows first last call before mid c so (front, rest) is =
+    let n : length before ≤ length mid = front_within before mid front in
+    rw is (
+      (λ none. cc),
+      λ after whole. subst (λ (l : List Call). (take (length before) l ≡ before) × (last (drop (length before) l) ≡ true)) (some_one _ _ whole) (
+        take-append-le (length before) mid (call ∷ []) n ∙ front,
+        ap last (drop-append-le (length before) mid (call ∷ []) n) ∙ so (drop (length before) mid) rest,
+      ),
+    )
+
+-- one more call follows
+pub follow_more : (first last : List Call → Bool) (call : Call) (a b c : Option (List Call)) → ((l : List Call) → first l ≡ true → last (l ++ call ∷ []) ≡ true)
+    → Follow first a b → MakesCalls b c (call ∷ []) → Follow last a c
+follow_more first last call a None c so has makes = λ before is. absurd ((has before is).0 refl)
+follow_more first last call a (Some mid) c so has makes = λ before is. one_follows first last call before mid c so ((has before is).1 mid refl) makes
+
+and_both : (a b : Bool) → a ≡ true → b ≡ true → (a && b) ≡ true
+and_both true b is more = more
+and_both false b is more = cc
+
+and_first : (a b : Bool) → (a && b) ≡ true → a ≡ true
+and_first true b is = refl
+and_first false b is = cc
+
+and_then : (a b : Bool) → (a && b) ≡ true → b ≡ true
+and_then true b is = is
+and_then false b is = cc
+
+pub well_more : (call : Call) → is_well call ≡ true → (l : List Call) → are_well l ≡ true → are_well (l ++ call ∷ []) ≡ true
+well_more call well [] all = and_both (is_well call) true well refl
+well_more call well (x ∷ xs) all = and_both (is_well x) (are_well (xs ++ call ∷ [])) (and_first (is_well x) (are_well xs) all) (well_more call well xs (and_then (is_well x) (are_well xs) all))
+
+pub vain_more : (call : Call) → is_in_vain call ≡ true → (l : List Call) → are_well l ≡ true → end_in_vain (l ++ call ∷ []) ≡ true
+vain_more call vain [] all = vain
+vain_more call vain (x ∷ []) all = and_both (is_well x) (is_in_vain call) (and_first (is_well x) true all) vain
+vain_more call vain (x ∷ y ∷ xs) all =
+    and_both (is_well x) (end_in_vain ((y ∷ xs) ++ call ∷ [])) (and_first (is_well x) (are_well (y ∷ xs)) all) (vain_more call vain (y ∷ xs) (and_then (is_well x) (are_well (y ∷ xs)) all))
+
+-- a sending that didn't fail follows, or one that took nothing
+pub well_sent : (sent : Sent) (a b c : Option (List Call)) → sending_failed sent ≡ false → Follow are_well a b → MakesCalls b c (sends sent ∷ []) → Follow are_well a c
+well_sent sent a b c well has makes = follow_more are_well are_well (sends sent) a b c (well_more (sends sent) (ap not well)) has makes
+
+pub sent_in_vain : (sent : Sent) (a b c : Option (List Call)) → is_vain sent ≡ true → Follow are_well a b → MakesCalls b c (sends sent ∷ []) → Follow end_in_vain a c
+sent_in_vain sent a b c vain has makes = follow_more are_well end_in_vain (sends sent) a b c (vain_more (sends sent) vain) has makes
+
+choice_is_well : (none : Bool) → sending_failed (if none then sents.Nothing else sents.Some) ≡ false
+choice_is_well true = refl
+choice_is_well false = refl
+
+-- a call that took octets, or none, didn't fail
+pub ok_is_well : (sent : Sent) (outcome : Result ℕ Error) (count : ℕ) → sent ≡ sent_by outcome → outcome ≡ Ok count → sending_failed sent ≡ false
+ok_is_well sent outcome count is ok = ap sending_failed (is ∙ ap sent_by ok) ∙ choice_is_well (count == 0)
+
+pub taken_is_well : (sent : Sent) → is_vain sent ≡ false → sending_failed sent ≡ false
+taken_is_well sents.Nothing took = cc
+taken_is_well sents.Interrupted took = cc
+taken_is_well sents.Some took = refl
+taken_is_well sents.Failed took = cc
+
+pub failed_in_vain : (sent : Sent) → sending_failed sent ≡ true → is_vain sent ≡ true
+failed_in_vain sents.Nothing failed = refl
+failed_in_vain sents.Interrupted failed = refl
+failed_in_vain sents.Some failed = cc
+failed_in_vain sents.Failed failed = refl
+
+-- of lists that are the same with these behind them, a front is put
+pub cut_short : (a b r s : List ℕ) → a ++ r ≡ b ++ s → length r ≤ length s → (k : ℕ) × (k ≤ length s) × (a ≡ b ++ take k s)
+cut_short a b r s same h =
+    let k = length s - length r in
+    let n : length a ≡ length b + k = omega (arith, ap length same, length-append a r, length-append b s, h) in (
+      k,
+      omega arith,
+      sym (take-append_seam a r) ∙ ap (λ l. take (length a) l) same ∙ ap (λ i. take i (b ++ s)) n ∙ take-append-add b s k,
+    )
+
+-- a full queue stays full, or what was taken of it counts
+pub still_full : (a b c d : List ℕ) → a ++ b ≡ c ++ d → length d ≡ 1048576 → length a + length b < 1048576 → ⊥
+still_full a b c d same full h = omega (arith, ap length same, length-append a b, length-append c d)
+
+pub on_err : {A E : Type 0} (r : Result A E) (P : Type 0) → P → OnErr r P
+on_err (Ok a) P is = tt
+on_err (Err e) P is = is
+
+pub on_err_of : {A E : Type 0} (r : Result A E) (P Q : Type 0) → (P → Q) → OnErr r P → OnErr r Q
+on_err_of (Ok a) P Q so is = tt
+on_err_of (Err e) P Q so is = so is
+
+-- where it isn't more than fits, memory is short
+pub short_memory : (a b c : ℕ) → a + b ≤ 1048576 → (1048576 < a + b) ⊎ (c < 1048576) → c < 1048576
+short_memory a b c fits (inl more) = absurd (omega (arith, fits, more))
+short_memory a b c fits (inr less) = less
+
+pub on_err_both : {A E : Type 0} (r : Result A E) (P Q R : Type 0) → (P → Q → R) → OnErr r P → OnErr r Q → OnErr r R
+on_err_both (Ok a) P Q R so p q = tt
+on_err_both (Err e) P Q R so p q = so p q
+
+pub halves : (n : ℕ) (a b r : List ℕ) → a ≡ take n r → b ≡ drop n r → a ++ b ≡ r
+halves n a b r front back = ap (λ l. l ++ b) front ∙ ap (λ l. take n r ++ l) back ∙ take-append-drop n r
+
+pub joined : (t w a b r : List ℕ) → a ++ b ≡ r → (t ++ (w ++ a)) ++ b ≡ (t ++ w) ++ r
+joined t w a b r same =
+    append_assoc t (w ++ a) b ∙ ap (λ l. t ++ l) (append_assoc w a b ∙ ap (λ l. w ++ l) same) ∙ sym (append_assoc t w r)
+
+pub same_waiting : (q r : Queue) → r.octets ≡ q.octets → r.sent ≡ q.sent → waiting r ≡ waiting q
+same_waiting q r octets sent = ap (λ o. drop r.sent o.items) octets ∙ ap (λ n. drop n q.octets.items) sent
+
+pub puts_noted : (bytes : List ℕ) (t0 : Trail) (q0 : Queue) (t : Trail) (q r : Queue) → r.octets ≡ q.octets → r.sent ≡ q.sent → PutsSome bytes t0 q0 t q → PutsSome bytes t0 q0 t r
+puts_noted bytes t0 q0 t q r octets sent (k, within, put) = (k, within, ap (λ w. t.octets ++ w) (same_waiting q r octets sent) ∙ put)
+
+pub stuck_noted : (a b : Option (List Call)) (n : ℕ) (q r : Queue) → r.octets ≡ q.octets → r.sent ≡ q.sent → r.refused ≡ q.refused → IsStuck a b n q → IsStuck a b n r
+stuck_noted a b n q r octets sent refused (full, short) = (
+  λ few. let was = full (subst (λ t. length t.octets ≤ n) refused few) in (ap length (same_waiting q r octets sent) ∙ was.0, was.1),
+  λ more. let was = short (subst (λ t. n < length t.octets) refused more) in (subst (λ o. vec_capacity o < 1048576) (sym octets) was.0, was.1),
+)
+
+-- as many wait as may, and the last call took nothing
+pub stuck_full : (a b : Option (List Call)) (n : ℕ) (q : Queue) → length (waiting q) ≡ 1048576 → length q.refused.octets ≡ n → Follow end_in_vain a b → IsStuck a b n q
+stuck_full a b n q full same vain = (λ few. (full, vain), λ more. absurd (omega (arith, same, more)))
+
+-- octets found no room where as many may wait
+pub stuck_short : (a b : Option (List Call)) (n : ℕ) (p q : Queue) (octets : List ℕ) → length (waiting p) + length octets ≤ 1048576 → length p.refused.octets ≡ n
+    → (1048576 < length (waiting p) + length octets) ⊎ (vec_capacity q.octets < 1048576) → Follow are_well a b → FindNoRoom p q octets → IsStuck a b n q
+stuck_short a b n p q octets fits same short well (inl (more, still)) = absurd (omega (arith, fits, more))
+stuck_short a b n p q octets fits same short well (inr (less, noted)) =
+    let one : 1 ≤ length octets = omega (arith, less, p.octets.ok.0, p.octets.ok.1) in
+    let grown : length q.refused.octets ≡ n + length octets = omega (arith, ap length noted, length-append p.refused.octets octets, same) in (
+      λ few. absurd (omega (arith, few, one, grown)),
+      λ more. (short_memory (length (waiting p)) (length octets) (vec_capacity q.octets) fits short, well),
+    )
+
+pub kept_as : (a b : Option (List ℕ)) → HasTakenOctets a b [] → Keeps a b
+kept_as None b has = tt
+kept_as (Some before) b has = rw (has before refl) (append-nil before)
+
+-- which sendings were made
+pub sendings_of : (a b : Option (List Call)) (few : Bool) → MakesSendings a b → (few ≡ true → b ≡ a) → (within : List Call) × All (λ call. is_sending call ≡ true) within × MakesCalls a b within × (few ≡ true → within ≡ [])
+sendings_of None b few has lazy = ([], All-nil (λ call. is_sending call ≡ true), tt, λ is. refl)
+sendings_of (Some before) b true has lazy = ([], All-nil (λ call. is_sending call ≡ true), lazy refl ∙ ap Some (sym (append-nil before)), λ is. refl)
+sendings_of (Some before) None false has lazy = absurd ((has before refl).0 refl)
+sendings_of (Some before) (Some after) false has lazy =
+    let made = (has before refl).1 after refl in (
+      drop (length before) after,
+      made.1,
+      ap Some (sym (take-append-drop (length before) after) ∙ ap (λ l. l ++ drop (length before) after) made.0),
+      λ is. absurd (let never : false ≡ true = is in cc),
+    )
+
+-- nothing was put, and nothing was asked
+pub passes_none : {T : Type 0} (taken coming : T → Option (List ℕ)) (made : T → Option (List Call)) (from to : T) (before after : List ℕ) → to ≡ from → after ≡ before → PassesOctets taken coming made from to before after []
+passes_none taken coming made from to before after still same = record {
+  sent = [];
+  takes = subst (λ t. Appends (taken from) (taken t) []) (sym still) (Appends-nil (taken from));
+  order = same ∙ sym (append-nil before);
+  comes = subst (λ t. Keeps (coming from) (coming t)) (sym still) (Keeps-refl (coming from));
+  within = [];
+  sendings = All-nil (λ call. is_sending call ≡ true);
+  calls = subst (λ t. MakesCalls (made from) (made t) []) (sym still) (makes_none (made from));
+  lazy = λ few. (refl, refl);
+}

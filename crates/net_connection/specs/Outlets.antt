@@ -1,0 +1,85 @@
+-- What an event puts, and what is taken of it at once.
+use Rattle.std.specs.Prelude.{◌≡◌, ◌≢◌, ◌≤◌, ◌<◌, ◌+◌, ◌⊎◌, ℕ, Bool, true, false, not, ◌&&◌, All, List, [], ◌∷◌, ◌++◌, take, drop, length, Option, None, Some, vec_capacity}
+use Rattle.std.specs.Io.KnownBytes.{Appends, Keeps}
+use Rattle.dict_proto.specs.Streams.{Stream}
+use Rattle.net_connection.specs.OutletCalls.{Call, MakesCalls, sends, receives, ends, sending_failed, is_vain}
+use Rattle.net_connection.specs.Queues.{waiting, counts_of}
+use Rattle.net_connection.specs.declared.queue.Queue.{Queue}
+use Rattle.net_connection.specs.declared.calls.Sent.{Sent}
+use Rattle.net_connection.specs.declared.trail.Trail.{Trail}
+
+-- what waited as the event began and what it put since: what the transport took of it, and what waits
+abbrev pub carried : Trail → Queue → List ℕ
+carried taken queue = taken.octets ++ waiting queue
+
+-- these as a sink's octets: they are known, though those of a socket aren't
+abbrev pub stream_through : Trail → Queue → Stream
+stream_through taken queue = record { octets = Some (carried taken queue); failures = queue.failures }
+
+abbrev pub is_sending : Call → Bool
+is_sending (sends sent) = true
+is_sending (receives room received) = false
+is_sending (ends is_told) = false
+
+-- these octets came behind those before, where they are known
+abbrev pub HasTakenOctets : Option (List ℕ) → Option (List ℕ) → List ℕ → Type 0
+HasTakenOctets old new octets = (before : List ℕ) → old ≡ Some before → new ≡ Some (before ++ octets)
+
+-- sendings were made after the calls before, and no other calls, where the calls are known
+abbrev pub MakesSendings : Option (List Call) → Option (List Call) → Type 0
+MakesSendings old new = (before : List Call) → old ≡ Some before
+    → (new ≢ None) × ((after : List Call) → new ≡ Some after → (take (length before) after ≡ before) × All (λ call. is_sending call ≡ true) (drop (length before) after))
+
+-- a sending that didn't fail
+abbrev pub is_well : Call → Bool
+is_well (sends sent) = not (sending_failed sent)
+is_well (receives room received) = false
+is_well (ends is_told) = false
+
+-- a sending that took nothing
+abbrev pub is_in_vain : Call → Bool
+is_in_vain (sends sent) = is_vain sent
+is_in_vain (receives room received) = false
+is_in_vain (ends is_told) = false
+
+-- sendings, of which none failed
+abbrev pub are_well : List Call → Bool
+are_well [] = true
+are_well (call ∷ calls) = is_well call && are_well calls
+
+-- sendings, of which the last took nothing and no other failed
+abbrev pub end_in_vain : List Call → Bool
+end_in_vain [] = false
+end_in_vain (call ∷ []) = is_in_vain call
+end_in_vain (call ∷ next ∷ calls) = is_well call && end_in_vain (next ∷ calls)
+
+-- behind the calls before, where they are known, such calls were made
+abbrev pub Follow : (List Call → Bool) → Option (List Call) → Option (List Call) → Type 0
+Follow are_such old new = (before : List Call) → old ≡ Some before
+    → (new ≢ None) × ((after : List Call) → new ≡ Some after → (take (length before) after ≡ before) × (are_such (drop (length before) after) ≡ true))
+
+-- Where no more octets found no room than so many before, 1,048,576 wait, and the last of the calls that were made behind those of `old`
+-- took nothing. Where more did, memory was short, there is less room, and no sending failed
+abbrev pub IsStuck : Option (List Call) → Option (List Call) → ℕ → Queue → Type 0
+IsStuck old new refused queue = (length queue.refused.octets ≤ refused → (length (waiting queue) ≡ 1048576) × Follow end_in_vain old new)
+    × (refused < length queue.refused.octets → (vec_capacity queue.octets < 1048576) × Follow are_well old new)
+
+-- no more calls of a queue have failed than before, or it is stuck
+abbrev pub FailsOnlyStuck : Option (List Call) → Option (List Call) → Queue → Queue → Type 0
+FailsOnlyStuck before after old new = new.failures ≢ old.failures → IsStuck before after (counts_of old).refused new
+
+-- a front of the octets was put
+abbrev pub PutsSome : List ℕ → Trail → Queue → Trail → Queue → Type 0
+PutsSome octets taken queue now_taken now = (k : ℕ) × (k ≤ length octets) × (carried now_taken now ≡ carried taken queue ++ take k octets)
+
+-- What waited before and what was put: a front of it is sent, which the transport took, and the rest waits. Of the transport no more
+-- was asked than to take octets, and not even that while fewer than 1,048,576 of them were there
+pub record PassesOctets {T : Type 0} (taken coming : T → Option (List ℕ)) (made : T → Option (List Call)) (old new : T) (before after put : List ℕ) : Type 0 where
+  pub sent : List ℕ
+  pub takes : Appends (taken old) (taken new) sent
+  pub order : sent ++ after ≡ before ++ put
+  pub comes : Keeps (coming old) (coming new)
+  pub within : List Call
+  pub sendings : All (λ call. is_sending call ≡ true) within
+  pub calls : MakesCalls (made old) (made new) within
+  pub lazy : length before + length put < 1048576 → (sent ≡ []) × (within ≡ [])

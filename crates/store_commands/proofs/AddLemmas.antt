@@ -1,0 +1,82 @@
+-- The record and the parts of an edition that are added.
+use Rattle.std.proofs.Common.{◌≡◌, ℕ, ◌+◌, ◌-◌, ◌<◌, ◌≤◌, pos, List, [], ◌∷◌, ◌++◌, length, take, drop, get_or, codes, arith, refl, sym, ap, subst, ◌∙◌, append-nil}
+use Rattle.std.specs.Prelude.{slice_range, Option, Some, None}
+use Rattle.std.proofs.lemmas.List.{take_all, take_more, length-take-le, length-drop, get_or-drop, get_or-take}
+use Rattle.sqlite.specs.Effect.{Database}
+use Rattle.sqlite.specs.State.{HasCleanDisk, Survives}
+use Rattle.sqlite.specs.Held.{Held, state}
+use Rattle.sqlite.specs.declared.error.Error.{Error}
+use Rattle.sqlite_trees.specs.declared.store.Store.{Ghosts}
+use Rattle.store_sql.specs.Inserts.{Inserts, FailsToInsert}
+use Rattle.store_edition_sql.specs.HeaderRecords.{header_row}
+use Rattle.store_records.specs.Records.{EditionRecord, HeaderRecord, header_of}
+use Rattle.store_rows.specs.After.{Installed, installed_entries}
+use Rattle.store_rows.specs.Written.{edition_record}
+use Rattle.store_parts.specs.Stored.{stored_index}
+use Rattle.store_holdings.specs.Files.{parts_under, installed_parts}
+use Rattle.store_holdings.specs.AllTables.{AllTables}
+use Rattle.store_commands.specs.KeptRecords.{HasRecords}
+use Rattle.store_commands.specs.Changes.{with_more_editions, with_more_parts, with_installed}
+use Rattle.store_commands.specs.Statements.{adding_edition, installing}
+use Rattle.store_commands.specs.Writes.{WroteStatements, FailsToWrite}
+use Rattle.store_commands.proofs.LoopLemmas.{Grows}
+use Rattle.store_commands.proofs.TableLemmas.{edition_row, editions_added, other_entries}
+use Rattle.store_commands.proofs.WriteLemmas.{wrote_none, wrote_as, wrote_added, failed_one}
+use Rattle.store_sql.specs.Statements.{add}
+
+-- ---- its record
+
+module _ {S : Type 0} (g : Ghosts S) (given : HeaderRecord) (wanted : EditionRecord) (is : given ≡ header_of wanted) (old new : Held S) (survives : Survives (state g old) (state g new) (λ _. ⊥)) where
+  pub wrote_header : (HasCleanDisk (state g new) → Inserts (codes "edition") (header_row given) (state g old) (state g new)) → WroteStatements g (adding_edition wanted ∷ []) (with_more_editions (wanted ∷ [])) old new
+  wrote_header did =
+      wrote_added g (codes "edition") (edition_row wanted) old new survives (with_more_editions (wanted ∷ [])) (editions_added wanted)
+      (λ clean. subst (λ (h : HeaderRecord). Inserts (codes "edition") (header_row h) (state g old) (state g new)) is (did clean))
+
+  pub failed_header : (e : Error) → (HasCleanDisk (state g new) → FailsToInsert (codes "edition") (header_row given) (state g old) (state g new) e) → FailsToWrite g (adding_edition wanted ∷ []) old new e
+  failed_header e h =
+      failed_one g (add (codes "edition") (edition_row wanted)) old new survives e (λ clean. subst (λ (k : HeaderRecord). FailsToInsert (codes "edition") (header_row k) (state g old) (state g new) e) is (h clean))
+
+-- ---- its parts
+
+-- those from one place up to another
+range_length : {X : Type 0} (xs : List X) (from to : ℕ) → from ≤ to → to ≤ length xs → length (slice_range xs from to) ≡ to - from
+range_length xs from to ordered within = length-take-le (to - from) (drop from xs)
+    (let e : length (drop from xs) ≡ length xs - from = length-drop from xs in let le : to - from ≤ length (drop from xs) = omega (arith, e, ordered, within) in le)
+
+pub range_next : {X : Type 0} (xs : List X) (from to i : ℕ) (x : X) → from ≤ to → to ≤ length xs → i < to - from → x ≡ get_or xs (from + i) x → take i (slice_range xs from to) ++ x ∷ [] ≡ take (i + 1) (slice_range xs from to)
+range_next xs from to i x ordered within lt is =
+    let low : i < length (slice_range xs from to) = subst (λ n. i < n) (sym (range_length xs from to ordered within)) lt in
+    let there : x ≡ get_or (slice_range xs from to) i x = is ∙ sym (get_or-drop from xs i x) ∙ sym (get_or-take (to - from) (drop from xs) i x lt) in
+    ap (λ y. take i (slice_range xs from to) ++ y ∷ []) there ∙ sym (take_more (slice_range xs from to) i x low)
+
+pub range_end : {X : Type 0} (xs : List X) (from to i : ℕ) → from ≤ to → to ≤ length xs → to - from ≤ i → take i (slice_range xs from to) ≡ slice_range xs from to
+range_end xs from to i ordered within past = take_all i (slice_range xs from to) (subst (λ n. n ≤ i) (sym (range_length xs from to ordered within)) past)
+
+pub each_grows : {X : Type 0} → Grows (λ (l : List X). l)
+each_grows front back = (back, refl)
+
+pub whole_range : {X : Type 0} (xs : List X) (n : ℕ) → n ≡ length xs → slice_range xs 0 n ≡ xs
+whole_range xs n is =
+    let e : n - 0 ≡ n = omega arith in
+    let most : length xs ≤ n = omega (arith, is) in
+    ap (λ k. take k xs) e ∙ take_all n xs most
+
+-- the parts of its files are those of the edition that is installed
+pub parts_installed : (new : Installed) (index text : List ℕ) → index ≡ stored_index new.reading.lines → text ≡ new.reading.text → parts_under (pos new.number) index text ≡ installed_parts (Some new)
+parts_installed new index text one two = λ i. parts_under (pos new.number) (one i) (two i)
+
+pub installed_turned : (new : Installed) (db : Database) (all : AllTables) → HasRecords db
+    (with_more_editions (edition_record new.owner new.number new.reading ∷ []) (with_more_parts (installed_parts (Some new)) all)) → HasRecords db (with_installed (Some new) all)
+installed_turned new db all it =
+    other_entries db (with_more_editions (edition_record new.owner new.number new.reading ∷ []) (with_more_parts (installed_parts (Some new)) all)) it (all.entries ++ installed_entries (Some new))
+
+-- no edition is installed
+none_installed : (db : Database) (all : AllTables) → HasRecords db all → HasRecords db (with_installed None all)
+none_installed db all it = subst (λ (t : AllTables). HasRecords db t) (λ i. record all {
+  editions = sym (append-nil all.editions) i;
+  entries = sym (append-nil all.entries) i;
+  parts = sym (append-nil all.parts) i;
+}) it
+
+pub wrote_no_edition : {S : Type 0} (g : Ghosts S) (edition : Option Installed) → edition ≡ None → (a : Held S) → WroteStatements g (installing edition) (with_installed edition) a a
+wrote_no_edition g edition is a = subst (λ e. WroteStatements g (installing e) (with_installed e) a a) (sym is) (wrote_as g [] (λ all. all) (with_installed None) a a none_installed (wrote_none g a))

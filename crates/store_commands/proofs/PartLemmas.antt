@@ -1,0 +1,141 @@
+-- Parts of an edition that are taken out some at a time, and then the rest.
+use Rattle.std.proofs.Common.{◌≡◌, ℕ, ◌+◌, ◌<◌, ◌&&◌, ℤ, pos, Bool, true, false, List, [], ◌∷◌, map, length, take, get_or, codes, filter, not, drop, refl, sym, ap, subst, ◌∙◌}
+use Rattle.std.specs.List.{list_any}
+use Rattle.std.specs.Ordering.{is_lt}
+use Rattle.std.proofs.lemmas.List.Folds.{list_any_more}
+use Rattle.sqlite.specs.Effect.{Database}
+use Rattle.sqlite.specs.Order.{Row, column, value_cmp}
+use Rattle.sqlite.specs.State.{HasCleanDisk, Survives}
+use Rattle.sqlite.specs.Held.{Held, state}
+use Rattle.sqlite.specs.declared.error.Error.{Error}
+use Rattle.sqlite.specs.declared.types.Value.TheVariants.{Int}
+use Rattle.sqlite_trees.specs.declared.store.Store.{Ghosts}
+use Rattle.store_sql.specs.Deletes.{Removes, FailsToRemove}
+use Rattle.store_sql.specs.Effects.{IsRemoved, equals_number}
+use Rattle.store_sql.specs.Statements.{Statement}
+use Rattle.store_edition_sql.specs.PartRecords.{part_row}
+use Rattle.store_edition_sql.specs.Chosen.{is_part_from}
+use Rattle.store_records.specs.Records.{Part}
+use Rattle.store_rows.specs.After.{is_gone}
+use Rattle.store_rows.proofs.PartLemmas.{filter_filter}
+use Rattle.store_holdings.specs.AllTables.{AllTables}
+use Rattle.store_commands.specs.KeptRecords.{HasRecords, TurnsRecords}
+use Rattle.store_commands.specs.Changes.{without_parts}
+use Rattle.store_commands.specs.Statements.{taking_of, taking_from, taking_parts}
+use Rattle.store_commands.specs.Writes.{WroteStatements, FailsToWrite, CommitsNothing}
+use Rattle.store_commands.proofs.GoneLemmas.{all_stay, neither, tested}
+use Rattle.store_commands.proofs.LoopLemmas.{loop_wrote, loop_failed, mapped_at, mapped_grows}
+use Rattle.store_commands.proofs.RowLemmas.{keeps_removed, next_column}
+use Rattle.store_commands.proofs.TableLemmas.{parts_turned, parts_kept}
+use Rattle.store_commands.proofs.WriteLemmas.{wrote_none, wrote_as, wrote_then, wrote_taken, failed_taken, failed_before, failed_after}
+
+-- ---- some parts stay
+
+abbrev pub with_parts_that : (Part → Bool) → AllTables → AllTables
+with_parts_that stays all = record all { parts = filter stays all.parts }
+
+cut_turned : (old new : Database) (test gone : Row → Bool) → ((row : Row) → test row ≡ gone (drop 1 row)) → IsRemoved (codes "dictcat_part") test old new → TurnsRecords (with_parts_that (λ r. not (gone (part_row r)))) old new
+cut_turned old new test gone same removed = λ all it.
+    parts_turned old new all it removed.schema (filter (λ r. not (gone (part_row r))) all.parts) removed.others
+    (keeps_removed (codes "dictcat_part") part_row old new all.parts test gone same removed (parts_kept old all it))
+
+cut_both : (p q t : Part → Bool) → ((r : Part) → (p r && q r) ≡ t r) → (all : AllTables) → with_parts_that q (with_parts_that p all) ≡ with_parts_that t all
+cut_both p q t e all = ap (λ (l : List Part). record all { parts = l }) (filter_filter q p t e all.parts)
+
+cut_none : (all : AllTables) → with_parts_that (λ r. not false) all ≡ all
+cut_none all = ap (λ (l : List Part). record all { parts = l }) (all_stay all.parts)
+
+-- ---- from a part on
+
+-- a part's row, which has no rowid, is of the text of the edition, and of this part or a later one
+abbrev pub is_late : ℕ → ℤ → Row → Bool
+is_late number from row = (equals_number 0 (pos number) row && equals_number 1 (pos 1) row) && not (is_lt (value_cmp (column row 2) (Int from)))
+
+late_is : (number : ℕ) (from : ℤ) (row : Row) → is_part_from (pos number) (pos 1) from row ≡ is_late number from (drop 1 row)
+late_is number from [] = refl
+late_is number from (v ∷ row) = refl
+
+and_no : (a : Bool) → (a && false) ≡ false
+and_no true = refl
+and_no false = refl
+
+never : {X : Type 0} (xs : List X) → list_any (λ (x : X). false) xs ≡ false
+never [] = refl
+never (x ∷ xs) = never xs
+
+-- what stays behind the rest is what stays behind the last parts and isn't of the edition
+none_left : {X : Type 0} (of_edition of_text : Bool) (is_behind : X → Bool) (xs : List X) → (not (list_any (λ x. (of_edition && of_text) && is_behind x) xs) && not of_edition) ≡ not of_edition
+none_left true of_text is_behind xs = and_no (not (list_any (λ x. (true && of_text) && is_behind x) xs))
+none_left false of_text is_behind xs = ap (λ b. not b && true) (never xs)
+
+module _ {S : Type 0} (g : Ghosts S) (number : ℕ) where
+  -- the parts behind these statements, and the statements
+  abbrev pub behind : List ℤ → AllTables → AllTables
+  behind done = with_parts_that (λ r. not (list_any (λ from. is_late number from (part_row r)) done))
+
+  abbrev pub last_ones : List ℤ → List Statement
+  last_ones done = map (taking_from number) done
+
+  abbrev pub without_late : ℤ → AllTables → AllTables
+  without_late from = with_parts_that (λ r. not (is_late number from (part_row r)))
+
+  abbrev pub without_rest : AllTables → AllTables
+  without_rest = with_parts_that (λ r. not (equals_number 0 (pos number) (part_row r)))
+
+  pub parts_none : (a : Held S) → WroteStatements g [] (behind []) a a
+  parts_none a = wrote_as g [] (λ all. all) (behind []) a a (λ db all it. subst (λ (t : AllTables). HasRecords db t) (sym (cut_none all)) it) (wrote_none g a)
+
+  -- one statement
+  module _ (from : ℤ) (given : ℤ) (is : given ≡ pos number) (old new : Held S) (survives : Survives (state g old) (state g new) (λ _. ⊥)) where
+    pub late_wrote : (HasCleanDisk (state g new) → Removes (codes "dictcat_part") (is_part_from given (pos 1) from) (state g old) (state g new)) → WroteStatements g (taking_from number from ∷ []) (without_late from) old new
+    late_wrote did =
+        wrote_taken g (codes "dictcat_part") (λ (n : ℤ). is_part_from n (pos 1) from) given (pos number) is old new survives (without_late from)
+        (λ a b gone. cut_turned a b (is_part_from (pos number) (pos 1) from) (is_late number from) (late_is number from) gone) did
+
+    pub late_failed : (e : Error) → (HasCleanDisk (state g new) → FailsToRemove (codes "dictcat_part") (is_part_from given (pos 1) from) (state g old) (state g new) e) → FailsToWrite g (taking_from number from ∷ []) old new e
+    late_failed e h = failed_taken g (codes "dictcat_part") (λ (n : ℤ). is_part_from n (pos 1) from) given (pos number) is old new survives e h
+
+  -- all that are left
+  module _ (given : ℤ) (is : given ≡ pos number) (old new : Held S) (survives : Survives (state g old) (state g new) (λ _. ⊥)) where
+    pub rest_wrote : (HasCleanDisk (state g new) → Removes (codes "dictcat_part") (equals_number 1 given) (state g old) (state g new)) → WroteStatements g (taking_of (codes "dictcat_part") number ∷ []) without_rest old new
+    rest_wrote did =
+        wrote_taken g (codes "dictcat_part") (equals_number 1) given (pos number) is old new survives without_rest
+        (λ a b gone. cut_turned a b (equals_number 1 (pos number)) (equals_number 0 (pos number)) (next_column 0 (pos number)) gone) did
+
+    pub rest_failed : (e : Error) → (HasCleanDisk (state g new) → FailsToRemove (codes "dictcat_part") (equals_number 1 given) (state g old) (state g new) e) → FailsToWrite g (taking_of (codes "dictcat_part") number ∷ []) old new e
+    rest_failed e h = failed_taken g (codes "dictcat_part") (equals_number 1) given (pos number) is old new survives e h
+
+  -- one after others
+  next_late : (db : Database) (xs : List ℤ) (i : ℕ) (d : ℤ) → i < length xs → (all : AllTables) → HasRecords db (without_late (get_or xs i d) (behind (take i xs) all)) → HasRecords db (behind (take (i + 1) xs) all)
+  next_late db xs i d lt all it =
+      subst (λ (t : AllTables). HasRecords db t)
+      (cut_both (λ r. not (list_any (λ from. is_late number from (part_row r)) (take i xs))) (λ r. not (is_late number (get_or xs i d) (part_row r))) (λ r. not (list_any (λ from. is_late number from (part_row r)) (take (i + 1) xs)))
+      (λ r. neither (list_any (λ from. is_late number from (part_row r)) (take i xs)) (is_late number (get_or xs i d) (part_row r)) ∙ ap not (sym (list_any_more (λ from. is_late number from (part_row r)) xs i d lt))) all) it
+
+  module _ (xs : List ℤ) (i : ℕ) (d : ℤ) (lt : i < length xs) (old mid new : Held S) (so_far : WroteStatements g (last_ones (take i xs)) (behind (take i xs)) old mid) (spares : CommitsNothing g mid new) where
+    pub parts_wrote : WroteStatements g (taking_from number (get_or xs i d) ∷ []) (without_late (get_or xs i d)) mid new → WroteStatements g (last_ones (take (i + 1) xs)) (behind (take (i + 1) xs)) old new
+    parts_wrote h =
+        loop_wrote g last_ones behind xs i (taking_from number (get_or xs i d) ∷ []) (without_late (get_or xs i d)) (mapped_at (taking_from number) xs i d lt) old mid new so_far spares
+        (λ db all it. next_late db xs i d lt all it) h
+
+    pub parts_failed : (e : Error) → FailsToWrite g (taking_from number (get_or xs i d) ∷ []) mid new e → FailsToWrite g (taking_parts number xs) old new e
+    parts_failed e h =
+        failed_before g (last_ones xs) (taking_of (codes "dictcat_part") number ∷ []) old new e
+        (loop_failed g last_ones behind xs i (taking_from number (get_or xs i d) ∷ []) (without_late (get_or xs i d)) (mapped_at (taking_from number) xs i d lt) old mid new so_far spares (mapped_grows (taking_from number)) e h)
+
+  -- the rest after all of them
+  module _ (xs : List ℤ) (given : ℤ) (is : given ≡ pos number) (old mid new : Held S) (so_far : WroteStatements g (last_ones xs) (behind xs) old mid) (survives : Survives (state g mid) (state g new) (λ _. ⊥)) (spares : CommitsNothing g mid new) where
+    all_taken : (db : Database) (all : AllTables) → HasRecords db (without_rest (behind xs all)) → HasRecords db (without_parts (number ∷ []) all)
+    all_taken db all it =
+        subst (λ (t : AllTables). HasRecords db t)
+        (cut_both (λ r. not (list_any (λ from. is_late number from (part_row r)) xs)) (λ r. not (equals_number 0 (pos number) (part_row r))) (λ r. not (is_gone (number ∷ []) r.edition))
+        (λ r. none_left (equals_number 0 (pos number) (part_row r)) (equals_number 1 (pos 1) (part_row r)) (λ from. not (is_lt (value_cmp (column (part_row r) 2) (Int from)))) xs
+        ∙ tested (codes "dictcat_part") part_row (λ (p : Part). p.edition) (λ p. refl) number r) all) it
+
+    pub all_wrote : (HasCleanDisk (state g new) → Removes (codes "dictcat_part") (equals_number 1 given) (state g mid) (state g new)) → WroteStatements g (taking_parts number xs) (without_parts (number ∷ [])) old new
+    all_wrote did =
+        wrote_as g (taking_parts number xs) (λ all. without_rest (behind xs all)) (without_parts (number ∷ [])) old new all_taken
+        (wrote_then g (last_ones xs) (taking_of (codes "dictcat_part") number ∷ []) (behind xs) without_rest old mid new so_far (rest_wrote given is mid new survives did) spares)
+
+    pub all_failed : (e : Error) → (HasCleanDisk (state g new) → FailsToRemove (codes "dictcat_part") (equals_number 1 given) (state g mid) (state g new) e) → FailsToWrite g (taking_parts number xs) old new e
+    all_failed e h = failed_after g (last_ones xs) (taking_of (codes "dictcat_part") number ∷ []) (behind xs) old mid new e so_far spares (rest_failed given is mid new survives e h)

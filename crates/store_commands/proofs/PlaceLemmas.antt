@@ -1,0 +1,81 @@
+-- The parts of the two files of an edition, by their places.
+use Rattle.std.proofs.Common.{◌≡◌, ℕ, zero, suc, ◌+◌, ◌-◌, ◌/◌, ◌%◌, min, ◌<◌, ◌≤◌, ℤ, pos, List, [], ◌∷◌, ◌++◌, length, map, take, get_or, arith, sym, ap, subst, ◌∙◌, append-nil}
+use Rattle.std.specs.Prelude.{flat_map}
+use Rattle.std.specs.List.{AllByRecursion}
+use Rattle.std.proofs.lemmas.List.{length-append, get_or_append_left, get_or-append-add, take_more, map-append}
+use Rattle.std.proofs.lemmas.Grind.{flat_map-append}
+use Rattle.store_records.specs.Records.{Part}
+use Rattle.dict_index.specs.Edition.{entry_in}
+use Rattle.dict_index.specs.Line.{Line}
+use Rattle.dict_index.specs.Limits.{most_octets}
+use Rattle.dict_index.specs.Views.{line_of, LiesIn}
+use Rattle.dict_index.specs.WellFormed.{IsWellFormedEntry}
+use Rattle.dict_index.specs.declared.entry.Entry.{Entry}
+use Rattle.store_parts.specs.Stored.{stored_index, stored_line, IsStorable}
+use Rattle.store_parts.proofs.StoredLemmas.{of_entries}
+use Rattle.store_parts.specs.Parts.{parts_of, part_count}
+use Rattle.store_parts.proofs.PartLemmas.{parts_length}
+use Rattle.store_rows.specs.Written.{numbered}
+use Rattle.store_rows.proofs.ListLemmas.{numbered_length}
+use Rattle.store_holdings.specs.Files.{part_at, file_parts, parts_under}
+
+-- ---- how many they are
+
+rounded : (n : ℕ) → n / 16384 + min 1 (n % 16384) ≡ part_count n
+rounded n = omega arith
+
+pub part_count_is : (octets : List ℕ) → length octets / 16384 + min 1 (length octets % 16384) ≡ length (parts_of octets)
+part_count_is octets = rounded (length octets) ∙ sym (parts_length octets)
+
+pub file_length : (edition file : ℤ) (octets : List ℕ) → length (file_parts edition file octets) ≡ length (parts_of octets)
+file_length edition file octets = numbered_length (part_at edition file) 0 (parts_of octets)
+
+pub both_length : (edition : ℤ) (index text : List ℕ) → length (parts_under edition index text) ≡ length (parts_of index) + length (parts_of text)
+both_length edition index text =
+    length-append (file_parts edition (pos 0) index) (file_parts edition (pos 1) text) ∙ (λ i. file_length edition (pos 0) index i + file_length edition (pos 1) text i)
+
+-- ---- each of them
+
+numbered_at : {X Y : Type 0} (f : ℕ → X → Y) (n : ℕ) (xs : List X) (i : ℕ) (d : X) (e : Y) → i < length xs → get_or (numbered f n xs) i e ≡ f (n + i) (get_or xs i d)
+numbered_at f n [] i d e lt = absurd (omega (arith, lt))
+numbered_at f n (x ∷ xs) zero d e lt = ap (λ k. f k x) (let same : n ≡ n + 0 = omega arith in same)
+numbered_at f n (x ∷ xs) (suc i) d e lt =
+    let same : (n + 1) + i ≡ n + suc i = omega arith in
+    numbered_at f (n + 1) xs i d e (let less : i < length xs = omega (arith, lt) in less) ∙ ap (λ k. f k (get_or xs i d)) same
+
+file_at : (edition file : ℤ) (octets : List ℕ) (i : ℕ) (p : Part) → i < length (parts_of octets) → get_or (file_parts edition file octets) i p ≡ part_at edition file i (get_or (parts_of octets) i [])
+file_at edition file octets i p lt =
+    let same : 0 + i ≡ i = omega arith in
+    numbered_at (part_at edition file) 0 (parts_of octets) i [] p lt ∙ ap (λ k. part_at edition file k (get_or (parts_of octets) i [])) same
+
+-- those of the index come first
+pub first_at : (edition : ℤ) (index text : List ℕ) (place : ℕ) (p : Part) → place < length (parts_of index) → get_or (parts_under edition index text) place p ≡ part_at edition (pos 0) place (get_or (parts_of index) place [])
+first_at edition index text place p lt =
+    let low : place < length (file_parts edition (pos 0) index) = subst (λ n. place < n) (sym (file_length edition (pos 0) index)) lt in
+    get_or_append_left (file_parts edition (pos 0) index) (file_parts edition (pos 1) text) p place low ∙ file_at edition (pos 0) index place p lt
+
+pub second_at : (edition : ℤ) (index text : List ℕ) (place : ℕ) (p : Part) → length (parts_of index) ≤ place → place < length (parts_under edition index text)
+    → get_or (parts_under edition index text) place p ≡ part_at edition (pos 1) (place - length (parts_of index)) (get_or (parts_of text) (place - length (parts_of index)) [])
+second_at edition index text place p behind lt =
+    let n : ℕ = length (parts_of index) in
+    let i : ℕ = place - n in
+    let one : length (file_parts edition (pos 0) index) ≡ n = file_length edition (pos 0) index in
+    let both : length (parts_under edition index text) ≡ n + length (parts_of text) = both_length edition index text in
+    let less : i < length (parts_of text) = omega (arith, behind, lt, both) in
+    let whole : length (file_parts edition (pos 0) index) + i ≡ place = omega (arith, one, behind) in
+    ap (λ k. get_or (parts_under edition index text) k p) (sym whole) ∙ get_or-append-add (file_parts edition (pos 0) index) (file_parts edition (pos 1) text) i p ∙ file_at edition (pos 1) text i p less
+
+-- ---- the lines of an index
+
+pub lines_next : (entries : List Entry) (i : ℕ) (d : Entry) → i < length entries → stored_index (map line_of (take (i + 1) entries)) ≡ stored_index (map line_of (take i entries)) ++ (stored_line (line_of (get_or entries i d)) ++ 10 ∷ [])
+lines_next entries i d lt =
+    let f : Line → List ℕ = λ said. stored_line said ++ 10 ∷ [] in
+    let one : Line = line_of (get_or entries i d) in
+    ap (λ l. flat_map f (map line_of l)) (take_more entries i d lt) ∙ ap (flat_map f) (map-append line_of (take i entries) (get_or entries i d ∷ []))
+    ∙ flat_map-append f (map line_of (take i entries)) (one ∷ []) ∙ ap (λ l. flat_map f (map line_of (take i entries)) ++ l) (append-nil (f one))
+
+-- each entry of an edition has one
+pub storable_lines : (text : List ℕ) (entries : List Entry) → length text ≤ most_octets → AllByRecursion IsWellFormedEntry (map (entry_in text) (map line_of entries)) → AllByRecursion (LiesIn text) entries
+    → AllByRecursion (λ entry. IsStorable (line_of entry)) entries
+storable_lines text [] few lawful lies = tt
+storable_lines text (e ∷ es) few lawful lies = (of_entries text (line_of e) (omega (arith, few)) lies.0 lawful.0, storable_lines text es few lawful.1 lies.1)

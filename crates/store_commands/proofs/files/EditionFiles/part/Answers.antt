@@ -1,0 +1,28 @@
+use Rattle.std.proofs.Common.{◌≡◌, ◌<◌, ◌≤◌, ◌+◌, ◌-◌, pos, length, slice_index_or, [], arith, sym, subst, ◌∙◌}
+use Rattle.store_holdings.specs.Files.{part_at, parts_under}
+use Rattle.store_parts.specs.Parts.{parts_of}
+use Rattle.store_edition_sql.specs.PartRecords.{lent_part}
+use Rattle.store_commands.proofs.PlaceLemmas.{both_length, first_at, second_at}
+use Rattle.store_commands.proofs.files.EditionFiles.part.Goals as goal
+
+pub part_of-requires-else-place-before-clause-number : goal.part_of-requires-else-place-before-clause-number
+part_of-requires-else-place-before-clause-number c =
+    let files = c.args.self.now in
+    let both : length (parts_under (pos files.number) files.index.now files.text.now) ≡ length (parts_of files.index.now) + length (parts_of files.text.now) = both_length (pos files.number) files.index.now files.text.now in
+    let place : c.args.place < length (parts_under (pos files.number) files.index.now files.text.now) = c.requires.place in
+    omega (arith, place, both, c.part_count-before.ensures.count, c.if-place-before.false)
+
+pub returns-then-place-before : goal.returns-then-place-before
+returns-then-place-before c =
+    let files = c.args.self.now in
+    let low : c.args.place < length (parts_of files.index.now) = omega (arith, c.part_count-before.ensures.count, c.if-place-before.true) in
+    c.part_of.ensures ∙ sym (first_at (pos files.number) files.index.now files.text.now c.args.place (lent_part c.part_of.result) low)
+
+pub returns-else-place-before : goal.returns-else-place-before
+returns-else-place-before c =
+    let files = c.args.self.now in
+    let n = length (parts_of files.index.now) in
+    let behind : n ≤ c.args.place = omega (arith, c.part_count-before.ensures.count, c.if-place-before.false) in
+    let one = c.part_of-else-place-before.result in
+    subst (λ k. lent_part one ≡ part_at (pos files.number) (pos 1) (c.args.place - k) (slice_index_or (parts_of files.text.now) (c.args.place - k) [])) c.part_count-before.ensures.count c.part_of-else-place-before.ensures
+    ∙ sym (second_at (pos files.number) files.index.now files.text.now c.args.place (lent_part one) behind c.requires.place)

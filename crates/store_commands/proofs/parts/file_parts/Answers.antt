@@ -1,0 +1,20 @@
+use Rattle.std.proofs.Common.{ap}
+use Rattle.std.specs.Prelude.{slice_range}
+use Rattle.store_sql.proofs.StreamLemmas.{passed_on}
+use Rattle.store_commands.specs.Filing.{parts_of_files}
+use Rattle.store_commands.specs.FiledParts.{FailsSomewhere}
+use Rattle.store_commands.proofs.FilingLemmas.{files_parts}
+use Rattle.store_commands.proofs.parts.file_parts.Goals as goal
+
+pub returns-clause-files : goal.returns-clause-files
+returns-clause-files g c =
+    let from = c.args.filing.now.parts_filed in
+    let to = c.part_end-to.result in
+    files_parts g.S.Store c.args.filing.now (g.T.OpenTransaction.held c.args.tx.now) (g.T.OpenTransaction.held c.add_parts.new.tx) to (slice_range (parts_of_files c.files-files.result) from to)
+    (ap (λ l. slice_range l from to) c.files-files.ensures.parts) c.part_end-to.ensures.0
+    c.in_ok-add_parts.ensures.wrote
+
+pub returns-in_err-add_parts-clause-failed : goal.returns-in_err-add_parts-clause-failed
+returns-in_err-add_parts-clause-failed g c =
+    passed_on (FailsSomewhere g.S.Store (g.T.OpenTransaction.held c.args.tx.now) (g.T.OpenTransaction.held c.add_parts.new.tx)) c.in_err-add_parts.field-0.0 c.from_residual.result c.from_residual.ensures.1
+    (_, c.in_err-add_parts.ensures.failed)

@@ -1,0 +1,126 @@
+-- The files of an edition that a command is to install, their parts filed some at a time in a transaction that stays open between calls.
+use Rattle.std.specs.Prelude.{◌≡◌, ◌≢◌, ◌⊎◌, ℕ, ◌+◌, ◌≤◌, pos, true, false, IsTrue, List, ◌++◌, Option, Some, None, codes, map, filter, take, drop, length, IsPermutation}
+use Rattle.sqlite.specs.Effect.{Database}
+use Rattle.sqlite.specs.Order.{Row}
+use Rattle.sqlite.specs.State.{State, HasCleanDisk, KeepsCommit, Survives}
+use Rattle.sqlite.specs.Held.{Held, state}
+use Rattle.sqlite.specs.declared.error.Error.{Error}
+use Rattle.sqlite.specs.declared.error.Error.TheVariants.{SqliteFailure}
+use Rattle.sqlite.specs.declared.error.ErrorCode.TheVariants as code
+use Rattle.sqlite_trees.specs.declared.store.Store.{Ghosts}
+use Rattle.store_sql.specs.Effects.{equals_number, rows_of}
+use Rattle.store_sql.specs.Statements.{Statement, FailsInTurn}
+use Rattle.store_records.specs.Records.{Part}
+use Rattle.store_parts.specs.Stored.{stored_index}
+use Rattle.dict_catalogue.specs.Steps.{KeptFor}
+use Rattle.dict_desk.specs.declared.fault.Fault.{Fault}
+use Rattle.dict_desk.specs.declared.fault.Fault.TheVariants.{Memory, Disk}
+use Rattle.store_rows.specs.After.{Installed, is_gone}
+use Rattle.store_holdings.specs.Files.{parts_under}
+use Rattle.store_holdings.specs.AllTables.{AllTables}
+use Rattle.store_commands.specs.KeptRecords.{HasRecords, IsUsable, SparesTablesOfOthers, HoldsReplies, FitsColumn, AreStorable}
+use Rattle.store_commands.specs.Changes.{without_parts}
+use Rattle.store_commands.specs.declared.files.EditionFiles.{EditionFiles}
+use Rattle.store_commands.specs.declared.filing.Filing.{Filing}
+
+-- ---- what is filed
+
+-- the parts of the files of an edition: those of its index, and then those of its text
+abbrev pub parts_of_files : EditionFiles → List Part
+parts_of_files files = parts_under (pos files.number) files.index.now files.text.now
+
+abbrev pub parts_of_filing : Filing → List Part
+parts_of_filing f = parts_under (pos f.number) f.index.items f.text.items
+
+-- the tables can hold the numbers
+pub record IsDrawnUp (f : Filing) : Type 0 where
+  pub number : FitsColumn f.number
+  pub gone : AreStorable f.gone.items
+
+-- all parts are filed
+abbrev pub AreAllPartsFiled : Filing → Type 0
+AreAllPartsFiled f = length (parts_of_filing f) ≤ f.parts_filed
+
+-- none is filed, and none of an edition that goes is taken out
+pub record HasNoneFiled (f : Filing) : Type 0 where
+  pub filed : f.parts_filed ≡ 0
+  pub taken : f.parts_taken ≡ 0
+
+-- the files are those of the edition that is installed, under its number
+abbrev pub IsOfEdition : Filing → Option Installed → Type 0
+IsOfEdition f None = ⊥
+IsOfEdition f (Some new) = (f.number ≡ new.number) × (f.index.items ≡ stored_index new.reading.lines) × (f.text.items ≡ new.reading.text)
+
+-- only how much was filed differs
+abbrev pub HasSameRows : Filing → Filing → Type 0
+HasSameRows old new = new ≡ record old { parts_taken = new.parts_taken; parts_filed = new.parts_filed }
+
+-- ---- what the database has meanwhile
+
+-- what was filed so far stands behind the parts of other editions
+abbrev pub filed_by : Filing → AllTables → AllTables
+filed_by f all = record all { parts = all.parts ++ take f.parts_filed (parts_of_filing f) }
+
+-- Whatever records were committed, the database keeps these and what was filed, whatever parts the editions that go still have;
+-- and tables that are none of the product's have the rows that they had.
+abbrev pub IsAhead : Filing → Database → Database → Type 0
+IsAhead f committed now =
+    (all : AllTables) → HasRecords committed all
+    → (seen : AllTables) × HasRecords now seen × (without_parts f.gone.items seen ≡ without_parts f.gone.items (filed_by f all)) × SparesTablesOfOthers committed now
+
+-- a store as a rollback would leave it: what it shows is what was committed
+abbrev pub rested : State → State
+rested s = record s { now = s.committed; in_transaction = false }
+
+module _ {S : Type 0} (g : Ghosts S) where
+  -- where a transaction is open, it has filed so much of this
+  abbrev pub IsUnderway : Filing → Held S → Type 0
+  IsUnderway f h = HasCleanDisk (state g h) → IsTrue (state g h).is_open → (state g h).in_transaction ≡ true → IsAhead f (state g h).committed (state g h).now
+
+-- ---- what lookups find meanwhile
+
+-- the rows of a table that have this number, without their rowids
+abbrev pub rows_under : List ℕ → ℕ → Database → List Row
+rows_under name number db = map (drop 1) (filter (equals_number 1 (pos number)) (rows_of name db))
+
+abbrev pub HasSameUnder : List ℕ → ℕ → Database → Database → Type 0
+HasSameUnder name number old new = IsPermutation (rows_under name number old) (rows_under name number new)
+
+-- what stands under this number is what stood there
+pub record KeepsEdition (number : ℕ) (old new : Database) : Type 0 where
+  pub editions : HasSameUnder (codes "edition") number old new
+  pub parts : HasSameUnder (codes "dictcat_part") number old new
+
+-- what a database shows that is ahead of another one: the tables are there, each edition that neither goes nor comes has what it had,
+-- and the same replies are kept
+pub record ShowsStill (f : Filing) (committed now : Database) : Type 0 where
+  pub schema : now.schema ≡ committed.schema
+  pub usable : IsUsable now
+  pub editions : (number : ℕ) → is_gone f.gone.items (pos number) ≡ false → number ≢ f.number → KeepsEdition number committed now
+  pub replies : (kept : List KeptFor) → HoldsReplies committed kept → HoldsReplies now kept
+
+-- ---- why a part fails
+
+-- The fault that an error of a part is told as: a growth was refused, or the disk failed. None: the statement was refused, or the store
+-- was shut before.
+abbrev pub fault_filed : Error → Option Fault
+fault_filed (SqliteFailure code.OutOfMemory) = Some Memory
+fault_filed (SqliteFailure code.SystemIoFailure) = Some Disk
+fault_filed (SqliteFailure code.DatabaseCorrupt) = Some Disk
+fault_filed (SqliteFailure code.DiskFull) = Some Disk
+fault_filed _ = None
+
+module _ {S : Type 0} (g : Ghosts S) where
+  -- In the open transaction one of these statements failed, where those before it had done what they say; then the transaction was
+  -- undone, with all that was filed. What is told is what the error is told as.
+  pub record FailsInside {F : Type 0} (told_as : Error → F) (statements : List Statement) (old new : Held S) (fault : F) : Type 0 where
+    pub error : Error
+    pub told : fault ≡ told_as error
+    pub last : Held S
+    pub within : FailsInTurn g statements (record old { in_transaction = true }) last error
+    pub after : Survives (state g last) (state g new) (λ _. ⊥)
+    pub keeps : KeepsCommit (state g last) (state g new)
+
+  -- A part of a filing under this number failed; or another number is the next one, and that is told by None.
+  abbrev pub FailsToFile : ℕ → ℕ → Held S → Held S → Option Fault → Type 0
+  FailsToFile next number old new why = ((why ≡ None) × (number ≢ next)) ⊎ ((statements : List Statement) × FailsInside fault_filed statements old new why)

@@ -1,0 +1,91 @@
+-- The statements of a command that acts, in their order.
+use Rattle.std.specs.Prelude.{ℕ, ℤ, pos, true, List, [], ◌∷◌, ◌++◌, codes, map, flat_map, Option}
+use Rattle.store_tables.specs.Tables.{table_of}
+use Rattle.store_tables.specs.declared.tables.StoreTable.{StoreTable}
+use Rattle.store_tables.specs.declared.tables.StoreTable.TheVariants as table
+use Rattle.store_sql.specs.Effects.{equals_number}
+use Rattle.store_sql.specs.Encodings.{mark_row, item_row, member_row, kept_row}
+use Rattle.store_sql.specs.Statements.{Statement, add, remove}
+use Rattle.store_edition_sql.specs.HeaderRecords.{header_row}
+use Rattle.store_edition_sql.specs.PartRecords.{part_row}
+use Rattle.store_edition_sql.specs.Chosen.{is_part_from}
+use Rattle.store_records.specs.Records.{Mark, ItemRecord, Member, EditionRecord, Part, KeptRecord, header_of}
+use Rattle.store_holdings.specs.Files.{installed_parts}
+use Rattle.dict_catalogue.specs.Items.{Item}
+use Rattle.dict_catalogue.specs.Steps.{KeptFor}
+use Rattle.store_rows.specs.Written.{numbered, mark_record, item_record, kept_record}
+use Rattle.store_rows.specs.After.{Installed, TableChange, all_members, installed_editions}
+
+-- all records of a table are taken out
+abbrev pub clearing : StoreTable → Statement
+clearing table = remove (table_of table 0).name (λ _. true)
+
+-- a record is added to its table
+abbrev pub adding_mark : Mark → Statement
+adding_mark it = add (codes "mark") (mark_row it)
+
+abbrev pub adding_item : ItemRecord → Statement
+adding_item it = add (codes "item") (item_row it)
+
+abbrev pub adding_member : Member → Statement
+adding_member it = add (codes "member") (member_row it)
+
+-- an edition's has no text: that stands in parts
+abbrev pub adding_edition : EditionRecord → Statement
+adding_edition it = add (codes "edition") (header_row (header_of it))
+
+abbrev pub adding_part : Part → Statement
+adding_part it = add (codes "dictcat_part") (part_row it)
+
+abbrev pub adding_kept : KeptRecord → Statement
+adding_kept it = add (codes "kept") (kept_row it)
+
+-- the mark, the items and the members are written anew
+abbrev pub mark_anew : ℕ → ℕ → List Statement
+mark_anew version installs = clearing table.Mark ∷ adding_mark (mark_record version installs) ∷ []
+
+abbrev pub items_anew : {A : Type 0} → List (Item A) → List Statement
+items_anew items = clearing table.Item ∷ map adding_item (numbered item_record 0 items)
+
+abbrev pub members_anew : {A : Type 0} → List (Item A) → List Statement
+members_anew items = clearing table.Member ∷ map adding_member (all_members items)
+
+abbrev pub summary_anew : {A : Type 0} → ℕ → ℕ → List (Item A) → List Statement
+summary_anew version installs items = mark_anew version installs ++ (items_anew items ++ members_anew items)
+
+-- the rows of the edition of this number are taken out of a table; of its text the parts from one on
+abbrev pub taking_of : List ℕ → ℕ → Statement
+taking_of name number = remove name (equals_number 1 (pos number))
+
+abbrev pub taking_from : ℕ → ℤ → Statement
+taking_from number from = remove (codes "dictcat_part") (is_part_from (pos number) (pos 1) from)
+
+-- its parts go some at a time: those of its text from each of these on, one after the other, and then the rest
+abbrev pub taking_parts : ℕ → List ℤ → List Statement
+taking_parts number parts = map (taking_from number) parts ++ taking_of (codes "dictcat_part") number ∷ []
+
+-- from its last part on a text goes 256 parts, which are 4 MiB, at a time
+abbrev pub last_parts : List ℤ
+last_parts =
+    pos 3840 ∷ pos 3584 ∷ pos 3328 ∷ pos 3072 ∷ pos 2816 ∷ pos 2560 ∷ pos 2304 ∷ pos 2048 ∷ pos 1792 ∷ pos 1536 ∷ pos 1280 ∷ pos 1024 ∷ pos 768 ∷ pos 512 ∷ pos 256 ∷ []
+
+-- the parts of the edition of this number are taken out, and then its own record
+abbrev pub taking : ℕ → List Statement
+taking number = taking_parts number last_parts ++ taking_of (codes "edition") number ∷ []
+
+-- the parts of the edition that is installed are added, if there is one, those of its index and then those of its text, and then
+-- its own record
+abbrev pub installing : Option Installed → List Statement
+installing edition = map adding_part (installed_parts edition) ++ map adding_edition (installed_editions edition)
+
+-- the editions that go are taken out, and then the one that is installed is added
+abbrev pub exchanging : List ℕ → Option Installed → List Statement
+exchanging gone edition = flat_map taking gone ++ installing edition
+
+-- the reply is kept
+abbrev pub replying : KeptFor → List Statement
+replying kept = adding_kept (kept_record kept) ∷ []
+
+-- all of them
+abbrev pub statements_of : ℕ → TableChange → List Statement
+statements_of version change = summary_anew version change.summary.installs change.summary.items ++ (exchanging change.gone change.edition ++ replying change.kept)

@@ -1,0 +1,136 @@
+-- What a desk is behind a commit that changes nothing that is held.
+use Rattle.std.proofs.Common.{◌≡◌, inl, inr, ℕ, Bool, true, false, List, refl, sym, subst, ◌∙◌, arith}
+use Rattle.std.specs.Prelude.{IsTrue, Option, Some, None, Contains, Result, Ok, Err, OnErr, IfErr}
+use Rattle.std.proofs.lemmas.Bool.{false≢true}
+use Rattle.sqlite.specs.Disk.{MoreFaults}
+use Rattle.sqlite.specs.Effect.{Database}
+use Rattle.sqlite.specs.Tree.{Trees}
+use Rattle.sqlite.specs.State.{State, HasCleanDisk, IsLive, KeepsCommit, Survives}
+use Rattle.sqlite.specs.Held.{Held, state}
+use Rattle.sqlite_trees.specs.declared.store.Store.{Ghosts}
+use Rattle.dict_catalogue.specs.Steps.{Catalogue}
+use Rattle.dict_catalogue.specs.Tests.{Holdings}
+use Rattle.dict_desk.specs.declared.fault.Fault.{Fault}
+use Rattle.dict_desk.specs.declared.fault.Fault.TheVariants.{Refused, Memory, Disk, Closed as Shut, NotACatalogue, Damaged, NewerSchema}
+use Rattle.store_holdings.specs.Holds.{IsLeft}
+use Rattle.store_holdings.proofs.OneLemmas.{held_known, one_left}
+use Rattle.store_lookup.specs.Texts.{ArePartsOf}
+use Rattle.store_lookup.specs.KeptTexts.{PartNumbers}
+use Rattle.store_search.specs.Entries.{Indexed}
+use Rattle.store_commands.specs.Answers.{HoldsBy}
+use Rattle.store_commands.specs.Committed.{IsOfStore, IsTreesOf, StaysCommitted}
+use Rattle.store_commands.specs.Marking.{Remains}
+use Rattle.store_commands.specs.declared.filing.Filing.{Filing}
+use Rattle.store_commands.proofs.WriteLemmas.{others_none}
+use Rattle.store_desk.specs.Causes.{FailsToPrepare}
+use Rattle.store_desk.specs.Desk.{DeskState, HasCommitted, HasFiled, IsAtRest, ServesEdition, Shows, LeavesOneOf, StandsFor, is_closed}
+use Rattle.store_desk.specs.KeptParts.{KeepsTexts, texts_behind}
+use Rattle.store_desk.specs.Prepared.{last_behind}
+use Rattle.store_desk.specs.declared.last.LastCall.{LastCall}
+use Rattle.store_desk.proofs.DeskLemmas.{at_rest}
+use Rattle.store_desk.proofs.PreparingLemmas.{parts_behind}
+use Rattle.store_desk.proofs.ServedLemmas.{each_edition}
+
+-- ---- a connection
+
+pub remains_itself : (summary : Holdings (List ℕ)) (db : Database) → Remains summary db db
+remains_itself summary db = record { holds = λ M held is. held; texts = λ number text held. held; others = others_none db }
+
+-- what was committed is so still
+pub remains_still : (summary : Holdings (List ℕ)) (old new : State) → StaysCommitted old new → IsTrue new.is_open → Remains summary old.committed new.committed
+remains_still summary old new stays live = subst (λ (db : Database). Remains summary old.committed db) (sym (stays.committed live)) (remains_itself summary old.committed)
+
+-- a store that shows what is committed, by what is true of every desk
+pub resting_by : {S : Type 0} (g : Ghosts S) (last : LastCall) (summary : Holdings (List ℕ)) (filing : Option Filing) (h : Held S) → is_closed last ≡ false → IsAtRest g last summary filing h → h.in_transaction ≡ false → HoldsBy summary (state g h)
+resting_by g last summary filing h fine rest none = λ clean live.
+    let it = rest.holds fine clean live in
+    (it.0, record { is_open = live; settled = rest.settled fine clean live none; holds = it.1 }, it.2)
+
+-- ---- a desk
+
+-- what a stop may leave of such a commit
+abbrev pub CommitsSame : {S : Type 0} → Ghosts S → Holdings (List ℕ) → Held S → Trees → Type 0
+CommitsSame g summary h trees = IsTrue (state g h).is_open × IsTreesOf (Remains summary (state g h).committed) trees
+
+module _ {S : Type 0} (g : Ghosts S) (old new : Held S) (summary : Holdings (List ℕ)) (filing : Option Filing) (before : LastCall) (fine : is_closed before ≡ false) (rest : IsAtRest g before summary filing old)
+    (crash : Survives (state g old) (state g new) (CommitsSame g summary old)) (lives : HasCleanDisk (state g new) → IsTrue (state g new).is_open → IsTrue (state g old).is_open)
+    (remains : HasCleanDisk (state g new) → IsTrue (state g new).is_open → Remains summary (state g old).committed (state g new).committed) where
+  pub copied_first : HasCleanDisk (state g new) → HasCleanDisk (state g old)
+  copied_first clean = omega (arith, crash.clean)
+
+  copied_committed : HasCommitted summary (state g new)
+  copied_committed clean live =
+      let it = rest.holds fine (copied_first clean) (lives clean live) in
+      (it.0, (remains clean live).holds it.0 it.1 it.2, it.2)
+
+  copied_filed : new.in_transaction ≡ false → (found : Option Filing) → HasFiled g found old → HasFiled g found new
+  copied_filed ended None filed = λ clean. ended
+  copied_filed ended (Some f) filed = (filed.0, λ clean live inside. absurd (false≢true (sym ended ∙ inside)))
+
+  pub copied_rests : (after : LastCall) → (HasCleanDisk (state g new) → IsTrue (state g new).is_open → (state g new).now ≡ (state g new).committed) → new.in_transaction ≡ false → IsAtRest g after summary filing new
+  copied_rests after settled ended = at_rest g after summary filing new (crash.limit ∙ rest.limit) rest.range (λ _. copied_committed) (λ _ clean live _. settled clean live) (λ _. copied_filed ended filing (rest.filed fine))
+
+  pub copied_shows : {T : Type 0} (result : Result T Fault) (after : LastCall) (indexes : List (ℕ × List Indexed)) (kept texts : List (PartNumbers × List ℕ)) → texts ≡ texts_behind result kept → (M : Catalogue)
+      → Shows g (record { conn = old; summary = summary; last = before; indexes = indexes; texts = kept }) M → Shows g (record { conn = new; summary = summary; last = after; indexes = indexes; texts = texts }) M
+  copied_shows result after indexes kept texts is M shown = record {
+    summary = shown.summary;
+    well_formed = shown.well_formed;
+    holds = λ open' clean live. (remains clean live).holds M (shown.holds fine (copied_first clean) (lives clean live)) (sym shown.summary);
+    served = λ clean. each_edition (ServesEdition g (record { conn = old; summary = summary; last = before; indexes = indexes; texts = kept })) (ServesEdition g (record { conn = new; summary = summary; last = after; indexes = indexes; texts = texts }))
+        (λ stored one. record {
+          index = one.index;
+          stands = one.stands;
+          text = one.text;
+          cuts = one.cuts;
+          kept = subst (ArePartsOf stored.number one.text) (sym is) (parts_behind result stored.number one.text kept one.kept);
+          held = λ open' live. (remains clean live).texts stored.number one.text (one.held fine (lives clean live));
+        })
+        M.items (shown.served (copied_first clean));
+  }
+
+-- the texts that are kept
+pub copied_keeps : {T : Type 0} (summary : Holdings (List ℕ)) (before : LastCall) (result : Result T Fault) (after : LastCall) → after ≡ last_behind before result → (kept texts : List (PartNumbers × List ℕ)) → texts ≡ texts_behind result kept
+    → KeepsTexts before summary kept → KeepsTexts after summary texts
+copied_keeps summary before (Ok value) after by kept texts is keeps = subst (KeepsTexts after summary) (sym is) (subst (λ (l : LastCall). KeepsTexts l summary kept) (sym by) keeps)
+copied_keeps summary before (Err fault) after by kept texts is keeps = subst (KeepsTexts after summary) (sym is) (record { made = tt; none = λ failed. refl })
+
+-- of the desk the connection alone is another
+pub copied_same : {S : Type 0} (old : DeskState S) (conn : Held S) (last : LastCall) (texts : List (PartNumbers × List ℕ)) (result : Result Bool Fault) → last ≡ last_behind old.last result → texts ≡ texts_behind result old.texts → result ≡ Ok true
+    → record { conn = conn; summary = old.summary; last = last; indexes = old.indexes; texts = texts } ≡ record old { conn = conn }
+copied_same old conn last texts (Ok more) by is ok = λ i. record { conn = conn; summary = old.summary; last = by i; indexes = old.indexes; texts = is i }
+copied_same old conn last texts (Err fault) by is ok = absurd (let e = ok in cc)
+
+-- why it failed
+pub copied_caused : {S T : Type 0} (g : Ghosts S) (old new : DeskState S) (result : Result T Fault) → IfErr result IsOfStore → OnErr result (KeepsCommit (state g old.conn) (state g new.conn))
+    → IfErr result (λ fault. fault ≡ Disk → MoreFaults (state g old.conn).faults (state g new.conn).faults) → IfErr result (FailsToPrepare g old new)
+copied_caused g old new (Ok value) kind keeps more = tt
+copied_caused g old new (Err (Refused refusal)) kind keeps more = absurd kind
+copied_caused g old new (Err Memory) kind keeps more = keeps
+copied_caused g old new (Err Disk) kind keeps more = (keeps, more refl)
+copied_caused g old new (Err Shut) kind keeps more = absurd kind
+copied_caused g old new (Err NotACatalogue) kind keeps more = absurd kind
+copied_caused g old new (Err Damaged) kind keeps more = absurd kind
+copied_caused g old new (Err NewerSchema) kind keeps more = absurd kind
+
+-- ---- what a stop may leave
+
+stands_on : (m : Option Catalogue) (M : Catalogue) (before after : Trees) → IsLeft M before → IsLeft M after → StandsFor m before → StandsFor m after
+stands_on None M before after was is stands = absurd (stands M was)
+stands_on (Some N) M before after was is stands = subst (λ (one : Catalogue). IsLeft one after) (one_left before M N was stands) is
+
+pub copied_leaves : {S : Type 0} (g : Ghosts S) (old new : DeskState S) → HasCommitted old.summary (state g old.conn) → IsLive (state g old.conn)
+    → (IsTrue (state g old.conn).is_open → (state g old.conn).may_leave (state g old.conn).committed.trees) → Survives (state g old.conn) (state g new.conn) (CommitsSame g old.summary old.conn)
+    → (ms : List (Option Catalogue)) → LeavesOneOf g old ms → LeavesOneOf g new ms
+copied_leaves g old new holds sound stays crash ms left clean trees may =
+    let early : HasCleanDisk (state g old.conn) = omega (arith, crash.clean) in
+    elim (crash.crash clean trees may) as (λ _. (m : Option Catalogue) × Contains ms m × StandsFor m trees) [
+      | inl h ↦ left early trees h
+      | inr h ↦ (
+          let db : Database = (state g old.conn).committed in
+          let it = holds early h.0 in
+          let one = left early db.trees (stays h.0) in
+          let was : IsLeft it.0 db.trees = (db, refl, (sound h.0).1, held_known db it.0 it.1) in
+          let is : IsLeft it.0 trees = (h.1.0, h.1.1, h.1.2, held_known h.1.0 it.0 (h.1.3.holds it.0 it.1 it.2)) in
+          (one.0, one.1, stands_on one.0 it.0 db.trees trees was is one.2)
+          )
+    ]

@@ -1,0 +1,17 @@
+use Rattle.std.proofs.Common.{◌≡◌, false, IsTrue, subst}
+use Rattle.sqlite.specs.Held.{state}
+use Rattle.sqlite.specs.State.{HasCleanDisk}
+use Rattle.dict_catalogue.specs.Steps.{Catalogue}
+use Rattle.dict_catalogue.specs.Views.{summary_shown}
+use Rattle.store_holdings.specs.Holds.{IsLeft}
+use Rattle.store_desk.specs.Desk.{DeskState, Shows, is_closed}
+use Rattle.store_desk.proofs.CloseLemmas.{committed_holds}
+use Rattle.store_desk.proofs.closing.let_go.Goals as goal
+
+pub returns-clause-holds : goal.returns-clause-holds
+returns-clause-holds g c =
+    subst
+    (λ (desk : DeskState _). is_closed desk.last ≡ false → HasCleanDisk (state g.S.Store desk.conn) → IsTrue (state g.S.Store desk.conn).is_open → (M : Catalogue) → Shows g.S.Store desk M → IsLeft M
+    (state g.S.Store desk.conn).committed.trees)
+    c.desk.view_is
+    (committed_holds g.S.Store c.desk.inside.conn (summary_shown c.desk.inside.summary) c.desk.inside.last c.desk.inside.indexes c.desk.inside.texts c.is_whole.ensures.live)

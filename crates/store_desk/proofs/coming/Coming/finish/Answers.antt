@@ -1,0 +1,38 @@
+use Rattle.std.proofs.Common.{sym, subst}
+use Rattle.sqlite.specs.Held.{state}
+use Rattle.dict_catalogue.specs.Views.{summary_shown}
+use Rattle.store_commands.specs.Filing.{IsUnderway}
+use Rattle.store_commands.specs.declared.filing.Filing.{Filing}
+use Rattle.store_desk.proofs.DeskLemmas.{survives_itself}
+use Rattle.store_desk.proofs.FinishLemmas.{finished_of, some_with, undone_read}
+use Rattle.store_desk.proofs.coming.Coming.finish.Goals as goal
+
+pub put_index-requires : goal.put_index-requires
+put_index-requires g c = c.self.invariant.1
+
+pub apply_read-requires-clause-known : goal.apply_read-requires-clause-known
+apply_read-requires-clause-known g c = c.self.invariant.0
+
+pub apply_read-requires-clause-underway : goal.apply_read-requires-clause-underway
+apply_read-requires-clause-underway g c = subst (λ (f : Filing). IsUnderway g.S.Store f c.args.conn.now) (sym c.self.view_is) c.requires.underway
+
+pub invariant_of-self : goal.invariant_of-self
+invariant_of-self g c = (c.self.invariant.0, c.put_index.ensures.index)
+
+pub invariant_of-self-2 : goal.invariant_of-self-2
+invariant_of-self-2 g c = (c.self.invariant.0, c.put_index.ensures.index)
+
+pub returns-then-put_index-clause-finished : goal.returns-then-put_index-clause-finished
+returns-then-put_index-clause-finished g c =
+    let request = c.args.request.now in
+    finished_of g.S.Store (summary_shown c.args.summary.now) request.id.now request.name.now request.index.now request.text.now c.self.inside.install c.args.conn.now c.apply_read.new.conn c.args.number
+    c.args.indexes.now c.put_index.new.indexes (c.put_index.ensures.is_of c.if-put_index.true) (c.put_index.ensures.put c.if-put_index.true) c.apply_read.result c.apply_read.ensures.finished
+
+pub returns-then-put_index-clause-settled : goal.returns-then-put_index-clause-settled
+returns-then-put_index-clause-settled g c = λ clean live. some_with c.apply_read.result (c.apply_read.ensures.settled clean live)
+
+pub returns-then-put_index-clause-undone : goal.returns-then-put_index-clause-undone
+returns-then-put_index-clause-undone g c = λ clean. undone_read g.S.Store c.args.conn.now c.apply_read.new.conn c.apply_read.result c.requires.inside (c.apply_read.ensures.undone clean) c.apply_read.ensures.survives
+
+pub returns-clause-survives : goal.returns-clause-survives
+returns-clause-survives g c = survives_itself (state g.S.Store c.args.conn.now) (λ _. ⊥)

@@ -1,0 +1,38 @@
+use Rattle.std.proofs.Common.{◌≡◌, false, refl, sym, ap, subst, rules}
+use Rattle.dict_catalogue.specs.Views.{summary_shown}
+use Rattle.store_desk.specs.Desk.{DeskState, Shows, LeavesOneOf, is_closed}
+use Rattle.store_desk.proofs.CauseLemmas.{memory_gives_way}
+use Rattle.store_desk.proofs.DeskLemmas.{texts_keep}
+use Rattle.store_desk.proofs.PreparingLemmas.{rests_as, shows_as}
+use Rattle.store_desk.proofs.ServedLemmas.{served_one}
+use Rattle.store_desk.specs.KeptParts.{KeepsTexts}
+use Rattle.store_desk.proofs.lookups.DeskLookup.heads.Goals as goal
+
+pub invariant_of-self : goal.invariant_of-self
+invariant_of-self g c =
+    let before : is_closed c.self.inside.last ≡ false = search rules in (
+      rests_as g.S.Store (summary_shown c.self.inside.summary) c.self.inside.filing c.self.inside.last c.last_by-self-inside.result c.self.inside.conn before c.self.invariant.0 c.self.inside.filing (c.self.invariant.0.filed before),
+      subst (KeepsTexts c.last_by-self-inside.result (summary_shown c.self.inside.summary)) (sym c.forget_by.ensures)
+          (texts_keep c.last_by-self-inside.result (summary_shown c.self.inside.summary) c.self.inside.texts c.self.invariant.1.made),
+    )
+
+pub returns-clause-shows : goal.returns-clause-shows
+returns-clause-shows g c = λ clean M shown.
+    let before : is_closed c.self.inside.last ≡ false = search rules in
+    shows_as g.S.Store (summary_shown c.self.inside.summary) c.self.inside.last c.last_by-self-inside.result c.self.inside.conn before c.self.inside.indexes c.self.inside.indexes
+    (λ q. refl) c.self.inside.texts c.forget_by.new.texts c.forget_by.ensures M
+    (subst (λ (d : DeskState _). Shows g.S.Store d M) (sym c.self.view_is) shown)
+
+pub returns-clause-leaves : goal.returns-clause-leaves
+returns-clause-leaves g c = λ ms left. subst (λ (d : DeskState _). LeavesOneOf g.S.Store d ms) (sym c.self.view_is) left
+
+pub returns-clause-caused : goal.returns-clause-caused
+returns-clause-caused g c = λ clean.
+    memory_gives_way g.S.Store c.args.self.now (record { conn = c.self.inside.conn; summary = summary_shown c.self.inside.summary; last = c.last_by-self-inside.result; indexes = c.self.inside.indexes; texts = c.forget_by.new.texts })
+    (ap (λ (d : DeskState _). d.conn) c.self.view_is) c.heads_under-outcome.result c.heads_under-outcome.ensures.kinds
+
+pub returns-clause-value : goal.returns-clause-value
+returns-clause-value g c = λ clean M edition shown has.
+    let ready = subst (λ (d : DeskState _). Shows g.S.Store d M) (sym c.self.view_is) shown in
+    let one = served_one g.S.Store (record { conn = c.self.inside.conn; summary = summary_shown c.self.inside.summary; last = c.self.inside.last; indexes = c.self.inside.indexes; texts = c.self.inside.texts }) M c.args.number edition has (ready.served clean) in
+    c.heads_under-outcome.ensures.value one.index edition one.stands (one.text, one.cuts)

@@ -1,0 +1,155 @@
+use Rattle.std.proofs.Common.{◌≡◌, ◌||◌, false, true, refl, sym, ap, ◌∙◌, arith}
+use Rattle.std.specs.Prelude.{Option, Some, None, Ok}
+use Rattle.std.proofs.lemmas.Bool.{false≢true}
+use Rattle.sqlite.specs.Held.{state}
+use Rattle.sqlite.specs.State.{HasCleanDisk}
+use Rattle.dict_desk.specs.Faults.{has_closed_by, is_disk}
+use Rattle.dict_desk.specs.declared.fault.Fault.TheVariants.{Closed as Shut}
+use Rattle.dict_desk.specs.declared.answered.Answered.{Answered}
+use Rattle.dict_desk.specs.declared.answered.Answered.TheVariants.{Done, Refused}
+use Rattle.store_desk.specs.Desk.{is_closed, has_failed}
+use Rattle.store_desk.specs.declared.last.LastCall.{LastCall}
+use Rattle.store_desk.proofs.DeskLemmas.{clean_behind, leaves_on}
+use Rattle.store_desk.proofs.FinishLemmas.{closed_failed, done_as, err_closed}
+use Rattle.store_desk.proofs.KeeperLemmas.{none_by}
+use Rattle.store_desk.proofs.PreparingLemmas.{failing_or, open_closed, or_false}
+use Rattle.store_desk.proofs.preparing.DeskPreparer.answer_prepared.Goals as goal
+
+pub finish-requires : goal.finish-requires
+finish-requires g c =
+    let fine : is_closed c.args.self.now.last ≡ false = sym c.is_closed.ensures ∙ c.if-is_closed.false in
+    fine
+
+-- ---- the desk is closed
+
+pub returns-then-is_closed-clause-caused : goal.returns-then-is_closed-clause-caused
+returns-then-is_closed-clause-caused g c = λ clean. (sym c.is_closed.ensures ∙ c.if-is_closed.true, refl)
+
+pub returns-then-is_closed-clause-failed : goal.returns-then-is_closed-clause-failed
+returns-then-is_closed-clause-failed g c = failing_or c.args.self.now.last c.args.self.now.last Shut refl (closed_failed c.args.self.now.last (sym c.is_closed.ensures ∙ c.if-is_closed.true))
+
+pub returns-then-is_closed-clause-closes : goal.returns-then-is_closed-clause-closes
+returns-then-is_closed-clause-closes g c = sym (or_false (is_closed c.args.self.now.last))
+
+pub returns-then-is_closed-clause-closed : goal.returns-then-is_closed-clause-closed
+returns-then-is_closed-clause-closed g c = (λ is. sym c.is_closed.ensures ∙ c.if-is_closed.true, λ shut. refl)
+
+-- ---- the files are refused
+
+pub returns-in-Some-clause-refused : goal.returns-in-Some-clause-refused
+returns-in-Some-clause-refused g c = (c.in-Some.ensures, refl)
+
+pub returns-in-Some-clause-closed : goal.returns-in-Some-clause-closed
+returns-in-Some-clause-closed g c =
+    let fine : is_closed c.args.self.now.last ≡ false = sym c.is_closed.ensures ∙ c.if-is_closed.false in
+    open_closed {T = Option Answered} c.args.self.now.last (Ok (Some (Refused c.in-Some.told.0 c.in-Some.told.1))) fine tt
+
+-- ---- it was done, or not
+
+pub returns-in-Some-finish-clause-done : goal.returns-in-Some-finish-clause-done
+returns-in-Some-finish-clause-done g c = c.in-Some-finish.ensures.done
+
+pub returns-in-Some-finish-clause-value : goal.returns-in-Some-finish-clause-value
+returns-in-Some-finish-clause-value g c = λ clean M shown reading is. (done_as g.S.Store c.args.self.now c.finish.new.self c.args.id.now c.args.name.now c.args.index.now c.args.text.now c.in-Some-finish.outcome c.one_meaning.ensures.one_reading c.in-Some-finish.ensures.done reading is).answered clean M shown
+
+pub returns-in-Some-finish-clause-left : goal.returns-in-Some-finish-clause-left
+returns-in-Some-finish-clause-left g c = λ clean M shown reading is. (done_as g.S.Store c.args.self.now c.finish.new.self c.args.id.now c.args.name.now c.args.index.now c.args.text.now c.in-Some-finish.outcome c.one_meaning.ensures.one_reading c.in-Some-finish.ensures.done reading is).left clean M shown
+
+pub returns-in-Some-finish-clause-spares : goal.returns-in-Some-finish-clause-spares
+returns-in-Some-finish-clause-spares g c = λ ms left. c.in-Some-finish.ensures.done.2.spared ms left
+
+pub returns-in-Some-finish-clause-kinds_done : goal.returns-in-Some-finish-clause-kinds_done
+returns-in-Some-finish-clause-kinds_done g c = c.in-Some-finish.ensures.kinds
+
+pub returns-in-Some-finish-clause-caused_done : goal.returns-in-Some-finish-clause-caused_done
+returns-in-Some-finish-clause-caused_done g c = λ clean reading is. (done_as g.S.Store c.args.self.now c.finish.new.self c.args.id.now c.args.name.now c.args.index.now c.args.text.now c.in-Some-finish.outcome c.one_meaning.ensures.one_reading c.in-Some-finish.ensures.done reading is).failed clean
+
+pub returns-in-Some-finish-clause-failed_done : goal.returns-in-Some-finish-clause-failed_done
+returns-in-Some-finish-clause-failed_done g c = c.in-Some-finish.ensures.failed
+
+pub returns-in-Some-finish-clause-closes_done : goal.returns-in-Some-finish-clause-closes_done
+returns-in-Some-finish-clause-closes_done g c =
+    let fine : is_closed c.args.self.now.last ≡ false = sym c.is_closed.ensures ∙ c.if-is_closed.false in
+    c.in-Some-finish.ensures.closes ∙ sym (ap (λ b. b || has_closed_by c.in-Some-finish.outcome) fine)
+
+pub returns-in-Some-finish-clause-closed_done : goal.returns-in-Some-finish-clause-closed_done
+returns-in-Some-finish-clause-closed_done g c =
+    let fine : is_closed c.args.self.now.last ≡ false = sym c.is_closed.ensures ∙ c.if-is_closed.false in
+    (λ is. absurd (c.in-Some-finish.ensures.closed is), λ shut. absurd (false≢true (sym fine ∙ shut)))
+
+pub returns-in-Some-finish-clause-trust : goal.returns-in-Some-finish-clause-trust
+returns-in-Some-finish-clause-trust g c = λ clean. let beside = c.in-Some-finish.ensures.done.2.beside in omega (arith, beside.clean, clean)
+
+pub returns-in-Some-finish-clause-closed : goal.returns-in-Some-finish-clause-closed
+returns-in-Some-finish-clause-closed g c =
+    let fine : is_closed c.args.self.now.last ≡ false = sym c.is_closed.ensures ∙ c.if-is_closed.false in
+    open_closed {T = Option Answered} c.args.self.now.last (Ok (Some (Done c.in-Some-finish.outcome))) fine tt
+
+-- ---- it is let go of
+
+pub returns-in-Ok-clause-trust : goal.returns-in-Ok-clause-trust
+returns-in-Ok-clause-trust g c = λ clean.
+    let survives = none_by c.finish.result c.in_default-finish.not-Some c.finish.ensures.survives in
+    clean_behind (state g.S.Store c.args.self.now.conn) (state g.S.Store c.finish.new.self.conn) survives (clean_behind (state g.S.Store c.finish.new.self.conn) (state g.S.Store c.withdraw.new.self.conn) c.withdraw.ensures.survives clean)
+
+pub returns-in-Ok-clause-shows : goal.returns-in-Ok-clause-shows
+returns-in-Ok-clause-shows g c = λ clean M shown.
+    let mid : HasCleanDisk (state g.S.Store c.finish.new.self.conn) = clean_behind (state g.S.Store c.finish.new.self.conn) (state g.S.Store c.withdraw.new.self.conn) c.withdraw.ensures.survives clean in
+    c.withdraw.ensures.shows clean M (none_by c.finish.result c.in_default-finish.not-Some (c.finish.ensures.shows mid M shown))
+
+pub returns-in-Ok-clause-leaves : goal.returns-in-Ok-clause-leaves
+returns-in-Ok-clause-leaves g c = λ ms left.
+    let survives = none_by c.finish.result c.in_default-finish.not-Some c.finish.ensures.survives in
+    leaves_on g.S.Store c.finish.new.self c.withdraw.new.self c.withdraw.ensures.survives ms (leaves_on g.S.Store c.args.self.now c.finish.new.self survives ms left)
+
+pub returns-in-Err-clause-trust : goal.returns-in-Err-clause-trust
+returns-in-Err-clause-trust g c = λ clean.
+    let survives = none_by c.finish.result c.in_default-finish.not-Some c.finish.ensures.survives in
+    clean_behind (state g.S.Store c.args.self.now.conn) (state g.S.Store c.finish.new.self.conn) survives (clean_behind (state g.S.Store c.finish.new.self.conn) (state g.S.Store c.withdraw.new.self.conn) c.withdraw.ensures.survives clean)
+
+pub returns-in-Err-clause-shows : goal.returns-in-Err-clause-shows
+returns-in-Err-clause-shows g c = λ clean M shown.
+    let mid : HasCleanDisk (state g.S.Store c.finish.new.self.conn) = clean_behind (state g.S.Store c.finish.new.self.conn) (state g.S.Store c.withdraw.new.self.conn) c.withdraw.ensures.survives clean in
+    c.withdraw.ensures.shows clean M (none_by c.finish.result c.in_default-finish.not-Some (c.finish.ensures.shows mid M shown))
+
+pub returns-in-Err-clause-leaves : goal.returns-in-Err-clause-leaves
+returns-in-Err-clause-leaves g c = λ ms left.
+    let survives = none_by c.finish.result c.in_default-finish.not-Some c.finish.ensures.survives in
+    leaves_on g.S.Store c.finish.new.self c.withdraw.new.self c.withdraw.ensures.survives ms (leaves_on g.S.Store c.args.self.now c.finish.new.self survives ms left)
+
+pub returns-in-Ok-clause-failed : goal.returns-in-Ok-clause-failed
+returns-in-Ok-clause-failed g c =
+    let same = none_by c.finish.result c.in_default-finish.not-Some c.finish.ensures.last in
+    ap has_failed (c.in-Ok.ensures.last ∙ same) ∙ sym (or_false (has_failed c.args.self.now.last))
+
+pub returns-in-Ok-clause-closes : goal.returns-in-Ok-clause-closes
+returns-in-Ok-clause-closes g c =
+    let same = none_by c.finish.result c.in_default-finish.not-Some c.finish.ensures.last in
+    ap is_closed (c.in-Ok.ensures.last ∙ same) ∙ sym (or_false (is_closed c.args.self.now.last))
+
+pub returns-in-Ok-clause-closed : goal.returns-in-Ok-clause-closed
+returns-in-Ok-clause-closed g c =
+    let fine : is_closed c.args.self.now.last ≡ false = sym c.is_closed.ensures ∙ c.if-is_closed.false in
+    open_closed {T = Option Answered} c.args.self.now.last (Ok None) fine tt
+
+pub returns-in-Err-clause-kinds : goal.returns-in-Err-clause-kinds
+returns-in-Err-clause-kinds g c = c.in-Err.ensures.kinds
+
+pub returns-in-Err-clause-caused : goal.returns-in-Err-clause-caused
+returns-in-Err-clause-caused g c = λ clean.
+    let fine : is_closed c.args.self.now.last ≡ false = sym c.is_closed.ensures ∙ c.if-is_closed.false in
+    let same = none_by c.finish.result c.in_default-finish.not-Some c.finish.ensures.last in
+    absurd (false≢true (sym (ap is_closed same ∙ fine) ∙ (c.in-Err.ensures.caused clean).1))
+
+pub returns-in-Err-clause-failed : goal.returns-in-Err-clause-failed
+returns-in-Err-clause-failed g c = failing_or c.args.self.now.last c.withdraw.new.self.last c.in-Err.fault c.in-Err.ensures.failing c.in-Err.ensures.failed
+
+pub returns-in-Err-clause-closes : goal.returns-in-Err-clause-closes
+returns-in-Err-clause-closes g c =
+    let same = none_by c.finish.result c.in_default-finish.not-Some c.finish.ensures.last in
+    c.in-Err.ensures.closes ∙ ap (λ (l : LastCall). is_closed l || is_disk c.in-Err.fault) same
+
+pub returns-in-Err-clause-closed : goal.returns-in-Err-clause-closed
+returns-in-Err-clause-closed g c =
+    let same = none_by c.finish.result c.in_default-finish.not-Some c.finish.ensures.last in
+    err_closed {T = Option Answered} c.args.self.now.last c.finish.new.self.last c.in-Err.fault same c.in-Err.ensures.closed

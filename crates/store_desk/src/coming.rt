@@ -1,0 +1,177 @@
+// An edition that may come: it is read, filed, and its index is made.
+ghost use Rattle.std.specs.Prelude.{◌≡◌, ◌≢◌, ◌+◌, ℕ, true, false, IsTrue, IfErr, IfNone, IfOk, IfSome, OnErr, OnOk, Some, map};
+ghost use Rattle.std.specs.List.{AllByRecursion};
+ghost use Rattle.sqlite.specs.Disk.{MoreFaults};
+ghost use Rattle.sqlite.specs.State.{HasCleanDisk, KeepsCommit, Survives};
+ghost use Rattle.sqlite.specs.Held.{state};
+ghost use Rattle.store_sql.specs.Effects.{WhileOpen};
+ghost use Rattle.dict_index.specs.Edition.{ReadEdition};
+ghost use Rattle.dict_index.specs.Meaning.{IsReadEdition};
+ghost use Rattle.store_lookup.specs.Indexes.{entries_under};
+ghost use Rattle.store_search.specs.Entries.{entry_of};
+ghost use Rattle.dict_catalogue.specs.Views.{summary_shown};
+ghost use Rattle.store_commands.specs.Committed.{IsOfStore};
+ghost use Rattle.store_commands.specs.Answers.{HoldsBy};
+ghost use Rattle.store_commands.specs.Changes.{IsInRange};
+ghost use Rattle.store_commands.specs.Filing.{IsDrawnUp, IsUnderway, AreAllPartsFiled, HasSameRows, rested};
+ghost use Rattle.store_commands.specs.Finishing.{IsFinished};
+ghost use Rattle.store_commands.specs.Installs.{IsInstallOf, IsReadInstall};
+ghost use Rattle.store_commands.specs.KeptRecords.{IsUsable};
+ghost use Rattle.store_desk.specs.Coming.{IsIndexOfInstall};
+ghost use Rattle.store_desk.specs.Indexed.{HasPutIfSome};
+ghost use Rattle.store_desk.specs.Prepared.{Undoes};
+
+use crate::making::{IndexPart, make_part, take_whole};
+use dict_catalogue::Summary;
+use dict_desk::Fault;
+use sqlite::{Alter, Connection};
+use std::alloc::Global;
+use std::marker::Model;
+use store_commands::{Applied, ReadInstall, apply_read, file_part};
+use store_lookup::Indexes;
+use store_search::IndexBuilder;
+
+/// An install of whose edition all is read, and the index in memory of that, as far as it is made. Contracts see what is filed.
+pub(crate) struct Coming {
+    install: ReadInstall,
+    index: IndexPart,
+}
+
+// It is written out, so that what owns one doesn't prove again how each part is dropped.
+impl Drop for Coming {
+    fn drop(self) {
+        let Coming {
+            install: _,
+            index: _,
+        } = self;
+    }
+}
+
+impl Model for Coming {
+    ghost use Rattle.store_commands.specs.Installs.{IsReadInstall};
+    ghost use Rattle.store_commands.specs.declared.filing.Filing.{Filing};
+
+    ghost Value = { Filing };
+
+    ghost use Rattle.store_desk.specs.Coming.{IsIndexOfInstall};
+
+    ghost view = { λ coming. coming.install.filing };
+
+    ghost invariant = { λ coming. IsReadInstall coming.install × IsIndexOfInstall coming.install coming.index };
+}
+
+impl Coming {
+    /// An install, of whose index nothing is made.
+    pub(crate) fn of(alloc: Global, install: ReadInstall) -> Coming
+        requires { IsReadInstall install }
+        ensures { result ≡ install.filing }
+    {
+        Coming {
+            install,
+            index: IndexPart::Entries(IndexBuilder::new(alloc)),
+        }
+    }
+
+    /// What `file_part` does with the filing.
+    pub(crate) fn file<S: Alter>(
+        &mut self,
+        conn: &mut Connection<S>,
+        summary: &Summary,
+    ) -> Result<bool, Option<Fault>>
+        requires usable { WhileOpen (rested (state S.Store conn.old)) IsUsable }
+        requires underway { IsUnderway S.Store self.old conn.old }
+        ensures rows { HasSameRows self.old self.new }
+        ensures drawn { IsDrawnUp self.new }
+        ensures next { OnOk result (self.new.number ≡ (summary_shown summary.now).installs + 1) }
+        ensures underway { IsUnderway S.Store self.new conn.new }
+        ensures whole { IfOk result (λ more. more ≡ false → AreAllPartsFiled self.new) }
+        ensures inside { HasCleanDisk (state S.Store conn.new) → OnOk result (conn.new.in_transaction ≡ true) }
+        ensures undone { HasCleanDisk (state S.Store conn.new) → OnErr result (conn.new.in_transaction ≡ false) }
+        ensures settled { HasCleanDisk (state S.Store conn.new) → OnErr result (IsTrue (state S.Store conn.new).is_open → (state S.Store conn.new).now ≡ (state S.Store conn.new).committed) }
+        ensures keeps { HasCleanDisk (state S.Store conn.new) → KeepsCommit (state S.Store conn.old) (state S.Store conn.new) }
+        ensures faulted { HasCleanDisk (state S.Store conn.new) → IfErr result (λ why. why ≡ Some Fault.Disk → MoreFaults (state S.Store conn.old).faults (state S.Store conn.new).faults) }
+        ensures kinds { IfErr result (λ why. IfSome why IsOfStore) }
+        ensures survives { Survives (state S.Store conn.old) (state S.Store conn.new) (λ _. ⊥) }
+    {
+        file_part(conn, summary, &mut self.install.filing)
+    }
+
+    /// Makes the next part of the index. Whether there was one.
+    pub(crate) fn make(&mut self) -> bool
+        ensures { self.new ≡ self.old }
+    {
+        make_part(&self.install, &mut self.index)
+    }
+
+    /// Whether the edition of this number has nothing to do with it.
+    pub(crate) fn spares(&self, number: u64) -> bool
+        ensures gone { IsTrue result → AllByRecursion (λ one. one ≢ number) self.now.gone.items }
+        ensures number { IsTrue result → self.now.number ≢ number }
+    {
+        self.install.filing.spares(number)
+    }
+
+    /// Finishes the install of what was prepared, where it is of this name and these files, and its index is whole: that is put under the
+    /// number that the edition gets. None, and at most what was filed is undone: it isn't so; or `apply_read` tells that it can't be finished.
+    pub(crate) fn finish<S: Alter>(
+        &mut self,
+        alloc: Global,
+        conn: &mut Connection<S>,
+        summary: &Summary,
+        indexes: &mut Indexes,
+        number: u64,
+        request: &AskedInstall<'_>,
+    ) -> Option<Result<Applied, Fault>>
+        requires inside { conn.old.in_transaction ≡ true }
+        requires underway { IsUnderway S.Store self.old conn.old }
+        requires holds { HoldsBy (summary_shown summary.now) (rested (state S.Store conn.old)) }
+        requires range { IsInRange (summary_shown summary.now) }
+        ensures same { self.new ≡ self.old }
+        ensures finished { IfSome result (λ outcome. (reading : ReadEdition) × IsReadEdition request.now.index.now request.now.text.now reading
+            × IsFinished S.Store (summary_shown summary.now) request.now.id.now request.now.name.now reading conn.old conn.new outcome × HasPutIfSome number (Some (map entry_of reading.lines)) indexes.old indexes.new) }
+        ensures settled { HasCleanDisk (state S.Store conn.new) → IsTrue (state S.Store conn.new).is_open → IfSome result (λ _. (state S.Store conn.new).now ≡ (state S.Store conn.new).committed) }
+        ensures others { (q : ℕ) → q ≢ number → entries_under q indexes.new ≡ entries_under q indexes.old }
+        ensures undone { HasCleanDisk (state S.Store conn.new) → IfNone result (Undoes S.Store conn.old conn.new) }
+        ensures survives { IfNone result (Survives (state S.Store conn.old) (state S.Store conn.new) (λ _. ⊥)) }
+    {
+        if put_index(&self.install, &mut self.index, indexes, number, request) {
+            return apply_read(alloc, conn, summary, request.id, &self.install);
+        }
+        None
+    }
+}
+
+/// An install as it is asked: under which id, and by which name and files.
+#[derive(Clone, Copy)]
+pub(crate) struct AskedInstall<'a> {
+    pub(crate) id: &'a str,
+    pub(crate) name: &'a str,
+    pub(crate) index: &'a [u8],
+    pub(crate) text: &'a [u8],
+}
+
+// Puts the index under a number, where the install is of this name and these files, and all its entries are taken. Whether it was put.
+fn put_index(
+    install: &ReadInstall,
+    index: &mut IndexPart,
+    indexes: &mut Indexes,
+    number: u64,
+    request: &AskedInstall<'_>,
+) -> bool
+    requires { IsIndexOfInstall install.now index.old }
+    ensures index { IsIndexOfInstall install.now index.new }
+    ensures is_of { IsTrue result → IsInstallOf request.now.name.now request.now.index.now request.now.text.now install.now }
+    ensures put { IsTrue result → (reading : ReadEdition) → IsReadEdition install.now.came.items install.now.filing.text.items reading → HasPutIfSome number (Some (map entry_of reading.lines)) indexes.old indexes.new }
+    ensures others { (q : ℕ) → q ≢ number → entries_under q indexes.new ≡ entries_under q indexes.old }
+{
+    if !install.is_of(request.name, request.index, request.text) {
+        return false;
+    }
+    let Some(whole) = take_whole(install, index) else {
+        return false;
+    };
+    match indexes.put(number, whole) {
+        Ok(()) => true,
+        Err(_) => false,
+    }
+}

@@ -1,0 +1,101 @@
+// What an install left in the log of its store is copied into the file.
+ghost use Rattle.std.specs.Prelude.{◌≡◌, ◌||◌, false, true, IsTrue, IfErr, List, Ok, OnErr, Option};
+ghost use Rattle.sqlite.specs.Disk.{MoreFaults};
+ghost use Rattle.sqlite.specs.State.{HasCleanDisk, KeepsCommit, Survives};
+ghost use Rattle.sqlite.specs.Held.{state};
+ghost use Rattle.dict_catalogue.specs.Steps.{Catalogue};
+ghost use Rattle.dict_catalogue.specs.Views.{summary_shown};
+ghost use Rattle.store_commands.specs.Answers.{HoldsBy};
+ghost use Rattle.store_commands.specs.Committed.{IsCommitted, IsOfStore, IsTreesOf};
+ghost use Rattle.store_commands.specs.Marking.{Remains};
+ghost use Rattle.dict_desk.specs.Faults.{has_closed_by, has_failed_by};
+ghost use Rattle.store_desk.specs.Causes.{FailsToPrepare};
+ghost use Rattle.store_desk.specs.Desk.{LeavesOneOf, Shows, has_failed, is_closed};
+ghost use Rattle.store_desk.specs.Prepared.{HasCopied};
+
+use crate::adopting::is_whole;
+use crate::desk::Desk;
+use crate::kept::forget_behind;
+use crate::laws::committed_may_stay;
+use crate::preparing::{last_behind, told_of};
+use dict_catalogue::{Command, Summary};
+use dict_desk::Fault;
+use sqlite::{Alter, Connection};
+use store_commands::{Applied, write_mark_again};
+
+// An install of so many octets leaves a long log.
+const LONG: usize = 4_194_304;
+
+// How many octets the text has of the edition that a command installs.
+pub(crate) fn octets_installed(command: &Command) -> usize {
+    match command {
+        Command::Install { edition, .. } => edition.text().len(),
+        Command::Rollback { .. }
+        | Command::Retire { .. }
+        | Command::PutVirtual { .. }
+        | Command::Place { .. } => 0,
+    }
+}
+
+// Whether the log is long behind a command that installs so many octets, and was answered so. One that acts has it copied before.
+pub(crate) fn is_long_behind(
+    before: bool,
+    octets: usize,
+    outcome: &Result<Applied, Fault>,
+) -> bool {
+    match outcome {
+        Ok(Applied::Done(_, _)) => octets >= LONG,
+        Ok(Applied::Repeated(_)) | Err(_) => before,
+    }
+}
+
+// Has the log copied, as `write_mark_again` does. Whether it was: the fault, where one came.
+fn copy_over<S: Alter>(conn: &mut Connection<S>, summary: &Summary) -> Result<bool, Fault>
+    requires autocommit { conn.old.in_transaction ≡ false }
+    requires holds { HoldsBy (summary_shown summary.now) (state S.Store conn.old) }
+    ensures made { HasCleanDisk (state S.Store conn.new) → result ≡ Ok true → IsCommitted (Remains (summary_shown summary.now) (state S.Store conn.old).committed) (state S.Store conn.new) }
+    ensures remains { HasCleanDisk (state S.Store conn.new) → IsTrue (state S.Store conn.new).is_open → Remains (summary_shown summary.now) (state S.Store conn.old).committed (state S.Store conn.new).committed }
+    ensures settled { HasCleanDisk (state S.Store conn.new) → IsTrue (state S.Store conn.new).is_open → (state S.Store conn.new).now ≡ (state S.Store conn.new).committed }
+    ensures lives { HasCleanDisk (state S.Store conn.new) → IsTrue (state S.Store conn.new).is_open → IsTrue (state S.Store conn.old).is_open }
+    ensures keeps { HasCleanDisk (state S.Store conn.new) → OnErr result (KeepsCommit (state S.Store conn.old) (state S.Store conn.new)) }
+    ensures faulted { HasCleanDisk (state S.Store conn.new) → IfErr result (λ fault. fault ≡ Fault.Disk → MoreFaults (state S.Store conn.old).faults (state S.Store conn.new).faults) }
+    ensures kinds { IfErr result IsOfStore }
+    ensures ended { conn.new.in_transaction ≡ false }
+    ensures crash { Survives (state S.Store conn.old) (state S.Store conn.new) (λ trees. IsTrue (state S.Store conn.old).is_open × IsTreesOf (Remains (summary_shown summary.now) (state S.Store conn.old).committed) trees) }
+{
+    match write_mark_again(conn, summary) {
+        Ok(()) => Ok(true),
+        Err(why) => told_of(why),
+    }
+}
+
+impl<S: Alter + Drop> Desk<S> {
+    // Whether an install may have left a long log, no files are read and no transaction is open.
+    pub(crate) fn may_copy(&self) -> bool
+        ensures { IsTrue result → self.now.conn.in_transaction ≡ false }
+    {
+        self.is_log_long && self.draft.is_none() && self.conn.is_autocommit()
+    }
+
+    // Has the log copied. Whether it was: then there may be more to prepare.
+    pub(crate) fn copy_log(&mut self) -> Result<bool, Fault>
+        requires open { is_closed self.old.last ≡ false }
+        requires none { self.old.conn.in_transaction ≡ false }
+        ensures copied { HasCleanDisk (state S.Store self.new.conn) → result ≡ Ok true → HasCopied S.Store self.old self.new }
+        ensures trust { HasCleanDisk (state S.Store self.new.conn) → HasCleanDisk (state S.Store self.old.conn) }
+        ensures shows { HasCleanDisk (state S.Store self.new.conn) → (M : Catalogue) → Shows S.Store self.old M → Shows S.Store self.new M }
+        ensures leaves { (ms : List (Option Catalogue)) → LeavesOneOf S.Store self.old ms → LeavesOneOf S.Store self.new ms }
+        ensures kinds { IfErr result IsOfStore }
+        ensures caused { HasCleanDisk (state S.Store self.new.conn) → IfErr result (FailsToPrepare S.Store self.old self.new) }
+        ensures failed { has_failed self.new.last ≡ (has_failed self.old.last || has_failed_by result) }
+        ensures closes { is_closed self.new.last ≡ (is_closed self.old.last || has_closed_by result) }
+    {
+        is_whole(&self.conn);
+        committed_may_stay(&self.conn);
+        let outcome = copy_over(&mut self.conn, &self.summary);
+        forget_behind(&mut self.texts, &outcome);
+        self.last = last_behind(self.last, &outcome);
+        self.is_log_long = false;
+        outcome
+    }
+}

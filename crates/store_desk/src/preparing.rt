@@ -1,0 +1,311 @@
+// What a desk prepares of a change that may come.
+ghost use Rattle.std.specs.Prelude.{◌≡◌, ◌≢◌, ◌⊎◌, ◌||◌, true, false, IsTrue, IfErr, IfSome, List, Ok, Option, Some};
+ghost use Rattle.sqlite.specs.Disk.{MoreFaults};
+ghost use Rattle.sqlite.specs.State.{HasCleanDisk, KeepsCommit, Survives};
+ghost use Rattle.sqlite.specs.Held.{state};
+ghost use Rattle.store_sql.specs.Effects.{WhileOpen};
+ghost use Rattle.store_commands.specs.Committed.{IsOfStore};
+ghost use Rattle.dict_catalogue.specs.Steps.{Catalogue};
+ghost use Rattle.dict_catalogue.specs.Views.{summary_shown};
+ghost use Rattle.store_commands.specs.Changes.{IsInRange};
+ghost use Rattle.store_commands.specs.Filing.{IsDrawnUp, rested};
+ghost use Rattle.store_commands.specs.KeptRecords.{IsUsable};
+ghost use Rattle.dict_desk.specs.Faults.{has_closed_by, has_failed_by};
+ghost use Rattle.store_desk.specs.Causes.{FailsToPrepare};
+ghost use Rattle.store_desk.specs.Desk.{HasFiled, LeavesOneOf, Shows, has_failed, is_closed};
+ghost use Rattle.store_desk.specs.Prepared.{HasCopied, LetsGo, last_behind};
+
+use crate::coming::Coming;
+use crate::desk::Desk;
+use crate::kept::{forget_behind, forget_by};
+use crate::last::LastCall;
+use crate::withdrawing::{Withdrawn, let_go};
+use dict_catalogue::{Command, Summary};
+use dict_desk::{Answered, Fault, Preparer};
+use dict_index::one_meaning;
+use sqlite::{Alter, Connection};
+use std::alloc::Global;
+use std::mem;
+use store_commands::{Draft, plan_draft};
+
+// A filing may begin so many times. A lookup that fails for want of memory undoes what was filed; after the last time nothing is
+// prepared any more, and the change is made when it comes.
+const MAX_BEGINS: u8 = 3;
+
+// Counts that a filing begins, if it does, where no transaction is open; one that may not begin any more is let go of.
+fn count_begin<S: Alter>(conn: &Connection<S>, filing: &mut Option<Coming>, begins: &mut u8)
+    ensures { LetsGo conn.now filing.old filing.new }
+{
+    if !conn.is_autocommit() {
+        return;
+    }
+    if *begins > 0 {
+        *begins -= 1;
+        return;
+    }
+    drop(filing.take());
+}
+
+// Whether there is more, or else makes a part of the index: whether there was one.
+fn goes_on(more: bool, planned: &mut Coming) -> bool
+    ensures { planned.new ≡ planned.old }
+{
+    if more {
+        return true;
+    }
+    planned.make()
+}
+
+// What is told where a part wasn't filed: the fault, if there was one.
+pub(crate) fn told_of(why: Option<Fault>) -> Result<bool, Fault>
+    ensures fault { IfErr result (λ fault. why ≡ Some fault) }
+    ensures never { result ≢ Ok true }
+{
+    match why {
+        Some(fault) => Err(fault),
+        None => Ok(false),
+    }
+}
+
+// Files a bounded part of what is to be prepared over this summary, if anything is, and once all is filed makes a part of its index.
+// What can't be filed is let go of.
+fn file_next<S: Alter>(
+    conn: &mut Connection<S>,
+    summary: &Summary,
+    filing: &mut Option<Coming>,
+) -> Result<bool, Fault>
+    requires filed { HasFiled S.Store filing.old conn.old }
+    requires usable { WhileOpen (rested (state S.Store conn.old)) IsUsable }
+    requires settled { HasCleanDisk (state S.Store conn.old) → IsTrue (state S.Store conn.old).is_open → conn.old.in_transaction ≡ false → (state S.Store conn.old).now ≡ (state S.Store conn.old).committed }
+    ensures filed { HasFiled S.Store filing.new conn.new }
+    ensures keeps { HasCleanDisk (state S.Store conn.new) → KeepsCommit (state S.Store conn.old) (state S.Store conn.new) }
+    ensures settled { HasCleanDisk (state S.Store conn.new) → IsTrue (state S.Store conn.new).is_open → conn.new.in_transaction ≡ false → (state S.Store conn.new).now ≡ (state S.Store conn.new).committed }
+    ensures faulted { HasCleanDisk (state S.Store conn.new) → IfErr result (λ fault. fault ≡ Fault.Disk → MoreFaults (state S.Store conn.old).faults (state S.Store conn.new).faults) }
+    ensures kinds { IfErr result IsOfStore }
+    ensures inside { HasCleanDisk (state S.Store conn.new) → result ≡ Ok true → conn.new.in_transaction ≡ true }
+    ensures survives { Survives (state S.Store conn.old) (state S.Store conn.new) (λ _. ⊥) }
+{
+    let Some(planned) = filing else {
+        return Ok(false);
+    };
+    match planned.file(conn, summary) {
+        Ok(more) => Ok(goes_on(more, planned)),
+        Err(why) => {
+            let_go(filing);
+            told_of(why)
+        }
+    }
+}
+
+// What is to be filed of a draft of which all is read, planned over this summary. It is none where a test fails. The draft is used up.
+fn plan_next(alloc: Global, summary: &Summary, draft: &mut Option<Draft>) -> Option<Coming>
+    requires { IsInRange (summary_shown summary.now) }
+    ensures { IfSome result IsDrawnUp }
+{
+    let Some(whole) = draft.take() else {
+        return None;
+    };
+    let Some(planned) = plan_draft(alloc, summary, whole) else {
+        return None;
+    };
+    Some(Coming::of(alloc, planned))
+}
+
+/// What comes of a draft's next step.
+#[derive(Clone, Copy)]
+enum DraftStep {
+    /// There is more to read, or to write.
+    More,
+    /// All is, and it can be planned.
+    Whole,
+    /// A test fails, or there is no draft.
+    Stays,
+    /// Memory was refused, and the draft is let go of.
+    Refused,
+}
+
+// Reads a bounded part of a draft.
+fn step_draft(draft: &mut Option<Draft>) -> DraftStep {
+    let Some(reading) = draft else {
+        return DraftStep::Stays;
+    };
+    match reading.step() {
+        Ok(true) => DraftStep::More,
+        Ok(false) => {
+            if reading.is_refused() {
+                DraftStep::Stays
+            } else {
+                DraftStep::Whole
+            }
+        }
+        Err(_) => {
+            drop(draft.take());
+            DraftStep::Refused
+        }
+    }
+}
+
+// Reads a bounded part of a draft. Whether there is more to read or, where all is, something to file, which is planned over this summary
+// then. A draft of which a test fails stays.
+fn read_next(
+    alloc: Global,
+    summary: &Summary,
+    draft: &mut Option<Draft>,
+    filing: &mut Option<Coming>,
+) -> Result<bool, Fault>
+    requires range { IsInRange (summary_shown summary.now) }
+    ensures filed { (filing.new ≡ filing.old) ⊎ IfSome filing.new IsDrawnUp }
+    ensures kinds { IfErr result (λ fault. fault ≡ Fault.Memory) }
+{
+    match step_draft(draft) {
+        DraftStep::More => Ok(true),
+        DraftStep::Stays => Ok(false),
+        DraftStep::Refused => Err(Fault::Memory),
+        DraftStep::Whole => {
+            drop(mem::replace(filing, plan_next(alloc, summary, draft)));
+            Ok(filing.is_some())
+        }
+    }
+}
+
+// Prepares a bounded part of what was noted over this summary: reads it, or files it. Whether there is more.
+fn prepare_next<S: Alter>(
+    alloc: Global,
+    conn: &mut Connection<S>,
+    summary: &Summary,
+    draft: &mut Option<Draft>,
+    filing: &mut Option<Coming>,
+    begins: &mut u8,
+) -> Result<bool, Fault>
+    requires range { IsInRange (summary_shown summary.now) }
+    requires filed { HasFiled S.Store filing.old conn.old }
+    requires usable { WhileOpen (rested (state S.Store conn.old)) IsUsable }
+    requires settled { HasCleanDisk (state S.Store conn.old) → IsTrue (state S.Store conn.old).is_open → conn.old.in_transaction ≡ false → (state S.Store conn.old).now ≡ (state S.Store conn.old).committed }
+    ensures filed { HasFiled S.Store filing.new conn.new }
+    ensures keeps { HasCleanDisk (state S.Store conn.new) → KeepsCommit (state S.Store conn.old) (state S.Store conn.new) }
+    ensures settled { HasCleanDisk (state S.Store conn.new) → IsTrue (state S.Store conn.new).is_open → conn.new.in_transaction ≡ false → (state S.Store conn.new).now ≡ (state S.Store conn.new).committed }
+    ensures faulted { HasCleanDisk (state S.Store conn.new) → IfErr result (λ fault. fault ≡ Fault.Disk → MoreFaults (state S.Store conn.old).faults (state S.Store conn.new).faults) }
+    ensures kinds { IfErr result IsOfStore }
+    ensures inside { HasCleanDisk (state S.Store conn.new) → result ≡ Ok true → (conn.new.in_transaction ≡ true) ⊎ (conn.new ≡ conn.old) }
+    ensures survives { Survives (state S.Store conn.old) (state S.Store conn.new) (λ _. ⊥) }
+{
+    if draft.is_some() && conn.is_autocommit() {
+        return read_next(alloc, summary, draft, filing);
+    }
+    count_begin(conn, filing, begins);
+    file_next(conn, summary, filing)
+}
+
+// How the last call ended, where something was prepared behind it with this outcome.
+pub(crate) fn last_behind<T>(last: LastCall, outcome: &Result<T, Fault>) -> LastCall
+    ensures { result ≡ last_behind last outcome.now }
+{
+    match outcome {
+        Ok(_) => last,
+        Err(Fault::Refused(_)) => LastCall::Fine,
+        Err(Fault::Disk) => LastCall::Closed,
+        Err(_) => LastCall::Failed,
+    }
+}
+
+impl<S: Alter + Drop> Desk<S> {
+    // Prepares a bounded part of what was noted: reads it, or files it. Whether there is more.
+    pub(crate) fn prepare_part(&mut self) -> Result<bool, Fault>
+        requires { is_closed self.old.last ≡ false }
+        ensures prepared { HasCleanDisk (state S.Store self.new.conn) → result ≡ Ok true → (self.new.conn.in_transaction ≡ true) ⊎ (self.new ≡ self.old) }
+        ensures trust { HasCleanDisk (state S.Store self.new.conn) → HasCleanDisk (state S.Store self.old.conn) }
+        ensures shows { HasCleanDisk (state S.Store self.new.conn) → (M : Catalogue) → Shows S.Store self.old M → Shows S.Store self.new M }
+        ensures leaves { (ms : List (Option Catalogue)) → LeavesOneOf S.Store self.old ms → LeavesOneOf S.Store self.new ms }
+        ensures kinds { IfErr result IsOfStore }
+        ensures caused { HasCleanDisk (state S.Store self.new.conn) → IfErr result (FailsToPrepare S.Store self.old self.new) }
+        ensures failed { has_failed self.new.last ≡ (has_failed self.old.last || has_failed_by result) }
+        ensures closes { is_closed self.new.last ≡ (is_closed self.old.last || has_closed_by result) }
+    {
+        let outcome = prepare_next(
+            self.alloc,
+            &mut self.conn,
+            &self.summary,
+            &mut self.draft,
+            &mut self.filing,
+            &mut self.begins,
+        );
+        forget_behind(&mut self.texts, &outcome);
+        self.last = last_behind(self.last, &outcome);
+        outcome
+    }
+}
+
+/// An install is noted by its files: they are copied, and read in slices before any of it is filed. A filing is at most begun three times: a
+/// lookup that is refused memory undoes it. What is filed is let go of where another command, a lookup in the text of an edition that goes
+/// or comes, or a call that hands the connection out comes first.
+impl<S: Alter + Drop> Preparer for Desk<S> {
+    // It failed, or what was prepared before is let go of: no transaction is open.
+    ghost expects = { λ _ _ desk. (has_failed desk.last ≡ true) ⊎ (desk.conn.in_transaction ≡ false) };
+
+    // Where there is more to prepare, a transaction is open, in which rows of it are filed; or the files are being read, and all that is
+    // seen of the desk is as it was; or what an install left in the log was copied, by a commit that changes nothing that is held.
+    ghost prepares = { λ old result desk. HasCleanDisk (state S.Store desk.conn) → result ≡ Ok true → (desk.conn.in_transaction ≡ true) ⊎ ((desk ≡ old) ⊎ HasCopied S.Store old desk) };
+
+    ghost fails_to_prepare = { FailsToPrepare S.Store };
+
+    fn expect(&mut self, _command: &Command) -> Result<(), Fault> {
+        self.withdraw(Withdrawn::All)
+    }
+
+    fn expect_install(&mut self, name: &str, index: &[u8], text: &[u8]) -> Result<(), Fault> {
+        self.withdraw(Withdrawn::All)?;
+        match Draft::begin(self.alloc, name, index, text) {
+            Ok(draft) => {
+                drop(mem::replace(&mut self.draft, Some(draft)));
+                self.begins = MAX_BEGINS;
+                Ok(())
+            }
+            Err(_) => {
+                self.last = LastCall::Failed;
+                forget_by(&mut self.texts, LastCall::Failed);
+                Err(Fault::Memory)
+            }
+        }
+    }
+
+    fn prepare(&mut self) -> Result<bool, Fault> {
+        let closed = self.is_closed();
+        if closed {
+            return Err(Fault::Closed);
+        }
+        if self.may_copy() {
+            return self.copy_log();
+        }
+        self.prepare_part()
+    }
+
+    fn answer_prepared(
+        &mut self,
+        id: &str,
+        name: &str,
+        index: &[u8],
+        text: &[u8],
+    ) -> Result<Option<Answered>, Fault> {
+        if self.is_closed() {
+            return Err(Fault::Closed);
+        }
+        if let Some(told) = self.refusal(name, index, text) {
+            return Ok(Some(Answered::Refused {
+                refusal: told.0,
+                line: told.1,
+            }));
+        }
+        one_meaning();
+        if let Some(outcome) = self.finish(id, name, index, text) {
+            return Ok(Some(Answered::Done(outcome)));
+        }
+        match self.withdraw(Withdrawn::All) {
+            Ok(()) => Ok(None),
+            Err(fault) => Err(fault),
+        }
+    }
+
+    fn forget(&mut self) -> Result<(), Fault> {
+        self.withdraw(Withdrawn::All)
+    }
+}

@@ -1,0 +1,246 @@
+-- A database holds one catalogue at most, and under one version.
+use Rattle.std.proofs.Common.{◌≡◌, ℕ, ℤ, pos, List, [], ◌∷◌, map, drop, codes, Option, Some, None, refl, sym, ap, subst, ◌∙◌, arith}
+use Rattle.std.specs.List.{AllByRecursion}
+use Rattle.std.specs.List.Sorted.{IsPermutation}
+use Rattle.std.proofs.lemmas.List.Sorted.{IsPermutation-map, IsPermutation-sym, IsPermutation-trans}
+use Rattle.sqlite.specs.Effect.{Database, IsDatabase}
+use Rattle.sqlite.specs.Order.{Row}
+use Rattle.sqlite.specs.Tree.{Trees}
+use Rattle.sqlite.specs.declared.types.Value.{Value}
+use Rattle.sqlite.specs.declared.types.Value.TheVariants.{Int, Text, Blob}
+use Rattle.sqlite_trees.specs.Objects.{catalog_tree}
+use Rattle.sqlite_catalog.specs.Listing.{Lists}
+use Rattle.sqlite_catalog.proofs.ReadLemmas.{lists_once}
+use Rattle.store_records.specs.Records as spec
+use Rattle.store_sql.specs.Effects.{rows_of}
+use Rattle.store_sql.specs.Encodings.{mark_row, item_row, member_row, edition_row, entry_row, kept_row, number_or_null, text_or_null}
+use Rattle.store_edition_sql.specs.HeaderRecords.{header_row}
+use Rattle.store_edition_sql.specs.PartRecords.{part_row}
+use Rattle.dict_catalogue.specs.Steps.{Catalogue}
+use Rattle.store_rows.specs.Versions.{Layout, Plain, Keyed, Shown, Parted, layout_of, known, IsVersion}
+use Rattle.store_rows.specs.Tables.{Tables}
+use Rattle.store_rows.specs.Written.{mark_record}
+use Rattle.store_rows.specs.Order.{HaveSame}
+use Rattle.store_rows.proofs.OnceLemmas.{catalogue_same}
+use Rattle.store_rows.proofs.OrderLemmas.{Same, same_from, one_once, ordered_stands}
+use Rattle.store_holdings.specs.AllTables.{with_derived}
+use Rattle.store_holdings.specs.Files.{all_parts}
+use Rattle.store_holdings.specs.Told.{HaveSameFiles}
+use Rattle.store_holdings.proofs.RiseLemmas.{ordered}
+use Rattle.store_holdings.proofs.TellLemmas.{told_once}
+use Rattle.store_holdings.specs.Readings.{KeepsAll, AreShownIn, shown_row}
+use Rattle.store_holdings.specs.Holds.{Holds, IsHeld, IsLeft, IsLeftAs}
+use Rattle.store_holdings.proofs.ReadingLemmas.{map_twice}
+
+-- ---- records of rows
+
+unfoldable pub number_in : Value → Option ℤ
+number_in (Int n) = Some n
+number_in _ = None
+
+unfoldable pub text_in : Value → Option (List ℕ)
+text_in (Text t) = Some t
+text_in _ = None
+
+unfoldable pub decode_mark : Row → spec.Mark
+decode_mark (Int id ∷ Text magic ∷ Int version ∷ Int installs ∷ []) = record { id = id; magic = magic; version = version; installs = installs }
+decode_mark _ = record { id = pos 0; magic = []; version = pos 0; installs = pos 0 }
+
+unfoldable pub decode_item : Row → spec.ItemRecord
+decode_item (Int place ∷ Text name ∷ Int kind ∷ title ∷ current ∷ former ∷ []) = record { place = place; name = name; kind = kind; title = text_in title; current = number_in current; former = number_in former }
+decode_item _ = record { place = pos 0; name = []; kind = pos 0; title = None; current = None; former = None }
+
+unfoldable pub decode_member : Row → spec.Member
+decode_member (Text owner ∷ Int ord ∷ Text name ∷ []) = record { owner = owner; ord = ord; name = name }
+decode_member _ = record { owner = []; ord = pos 0; name = [] }
+
+unfoldable pub decode_edition : Row → spec.EditionRecord
+decode_edition (Int number ∷ Text owner ∷ Text title ∷ Text info ∷ Blob body ∷ []) = record { number = number; owner = owner; title = title; info = info; body = body }
+decode_edition _ = record { number = pos 0; owner = []; title = []; info = []; body = [] }
+
+unfoldable pub decode_entry : Row → spec.EntryRecord
+decode_entry (Int edition ∷ Int ord ∷ Text headword ∷ Int start ∷ Int length ∷ []) = record { edition = edition; ord = ord; headword = headword; start = start; length = length; shown = headword }
+decode_entry _ = record { edition = pos 0; ord = pos 0; headword = []; start = pos 0; length = pos 0; shown = [] }
+
+unfoldable pub decode_kept : Row → spec.KeptRecord
+decode_kept (Text id ∷ Int number ∷ Text verb ∷ Text name ∷ edition ∷ []) = record { id = id; number = number; verb = verb; name = name; edition = number_in edition }
+decode_kept _ = record { id = []; number = pos 0; verb = []; name = []; edition = None }
+
+number_back : (o : Option ℤ) → number_in (number_or_null o) ≡ o
+unfolding number_in
+number_back None = refl
+number_back (Some n) = refl
+
+text_back : (o : Option (List ℕ)) → text_in (text_or_null o) ≡ o
+unfolding text_in
+text_back None = refl
+text_back (Some t) = refl
+
+pub mark_back : (m : spec.Mark) → decode_mark (mark_row m) ≡ m
+unfolding decode_mark
+mark_back m = refl
+
+pub item_back : (i : spec.ItemRecord) → decode_item (item_row i) ≡ i
+unfolding decode_item
+item_back i = λ j. record { place = i.place; name = i.name; kind = i.kind; title = text_back i.title j; current = number_back i.current j; former = number_back i.former j }
+
+pub member_back : (m : spec.Member) → decode_member (member_row m) ≡ m
+unfolding decode_member
+member_back m = refl
+
+pub edition_back : (e : spec.EditionRecord) → decode_edition (edition_row e) ≡ e
+unfolding decode_edition
+edition_back e = refl
+
+pub entry_back : (e : spec.EntryRecord) → spec.ShowsHeadword e → decode_entry (entry_row e) ≡ e
+unfolding decode_entry
+entry_back e shown = λ i. record { edition = e.edition; ord = e.ord; headword = e.headword; start = e.start; length = e.length; shown = sym shown i }
+
+-- the entry of a row with what is shown
+unfoldable pub decode_shown : Row → spec.EntryRecord
+decode_shown (Int edition ∷ Int ord ∷ Text headword ∷ Int start ∷ Int length ∷ Text shown ∷ []) = record { edition = edition; ord = ord; headword = headword; start = start; length = length; shown = shown }
+decode_shown _ = record { edition = pos 0; ord = pos 0; headword = []; start = pos 0; length = pos 0; shown = [] }
+
+pub shown_back : (e : spec.EntryRecord) → decode_shown (shown_row e) ≡ e
+unfolding decode_shown
+shown_back e = refl
+
+unfoldable pub decode_header : Row → spec.HeaderRecord
+decode_header (Int number ∷ Text owner ∷ Text title ∷ Text info ∷ []) = record { number = number; owner = owner; title = title; info = info }
+decode_header _ = record { number = pos 0; owner = []; title = []; info = [] }
+
+pub header_back : (h : spec.HeaderRecord) → decode_header (header_row h) ≡ h
+unfolding decode_header
+header_back h = refl
+
+unfoldable pub decode_part : Row → spec.Part
+decode_part (Int edition ∷ Int file ∷ Int number ∷ Blob octets ∷ []) = record { edition = edition; file = file; number = number; octets = octets }
+decode_part _ = record { edition = pos 0; file = pos 0; number = pos 0; octets = [] }
+
+pub part_back : (p : spec.Part) → decode_part (part_row p) ≡ p
+unfolding decode_part
+part_back p = refl
+
+pub kept_back : (k : spec.KeptRecord) → decode_kept (kept_row k) ≡ k
+unfolding decode_kept
+kept_back k = λ j. record { id = k.id; number = k.number; verb = k.verb; name = k.name; edition = number_back k.edition j }
+
+-- lists of records of one kind that are written as the same rows
+pub both_where : {W : Type 0} (Q : W → Type 0) (encode : W → Row) (decode : Row → W) → ((w : W) → Q w → decode (encode w) ≡ w) → (xs ys : List W) (rows : List Row) → AllByRecursion Q xs → AllByRecursion Q ys
+    → IsPermutation (map encode xs) rows → IsPermutation (map encode ys) rows → IsPermutation xs ys
+both_where Q encode decode undo xs ys rows qx qy a b =
+    let between = IsPermutation-trans (map encode xs) rows (map encode ys) a (IsPermutation-sym (map encode ys) rows b) in
+    let read = IsPermutation-map decode (map encode xs) (map encode ys) between in
+    subst (λ l. IsPermutation l ys) (back xs qx) (subst (IsPermutation (map decode (map encode xs))) (back ys qy) read)
+  where
+    back : (ws : List _) → AllByRecursion Q ws → map decode (map encode ws) ≡ ws
+    back [] q = refl
+    back (w ∷ ws) q = λ i. undo w q.0 i ∷ back ws q.1 i
+
+-- lists of records that are written as the same rows
+pub both : {W : Type 0} (encode : W → Row) (decode : Row → W) → ((w : W) → decode (encode w) ≡ w) → (xs ys : List W) (rows : List Row) → IsPermutation (map encode xs) rows → IsPermutation (map encode ys) rows → IsPermutation xs ys
+both encode decode undo xs ys rows a b =
+    let between = IsPermutation-trans (map encode xs) rows (map encode ys) a (IsPermutation-sym (map encode ys) rows b) in
+    let read = IsPermutation-map decode (map encode xs) (map encode ys) between in
+    subst (λ l. IsPermutation l ys) (back xs) (subst (IsPermutation (map decode (map encode xs))) (back ys) read)
+  where
+    back : (ws : List _) → map decode (map encode ws) ≡ ws
+    back [] = refl
+    back (w ∷ ws) = λ i. undo w i ∷ back ws i
+
+-- ---- the same records
+
+module _ (db : Database) (T U : Tables) where
+  -- entries whose headwords are shown, by rows without what is shown
+  old_kept : (rows : List Row) → AllByRecursion spec.ShowsHeadword T.entries → AllByRecursion spec.ShowsHeadword U.entries
+      → IsPermutation (map entry_row T.entries) rows → IsPermutation (map entry_row U.entries) rows → IsPermutation T.entries U.entries
+  old_kept rows t u a b = both_where spec.ShowsHeadword entry_row decode_entry entry_back T.entries U.entries rows t u a b
+
+  -- the records of a layout in which these are those of editions and entries
+  same_kept : (layout : Layout) → IsPermutation T.editions U.editions → IsPermutation T.entries U.entries → KeepsAll layout db (with_derived T) → KeepsAll layout db (with_derived U) → HaveSame T U
+  same_kept layout editions entries a b = record {
+    marks = both mark_row decode_mark mark_back T.marks U.marks _ a.0.rows b.0.rows;
+    items = both item_row decode_item item_back T.items U.items _ a.1.0.rows b.1.0.rows;
+    members = both member_row decode_member member_back T.members U.members _ a.1.1.0.rows b.1.1.0.rows;
+    editions = editions;
+    entries = entries;
+    kept = both kept_row decode_kept kept_back T.kept U.kept _ a.1.1.1.0.rows b.1.1.1.0.rows;
+  }
+
+  same_files : KeepsAll Parted db (with_derived T) → KeepsAll Parted db (with_derived U) → HaveSameFiles T U
+  same_files a b = record {
+    marks = both mark_row decode_mark mark_back T.marks U.marks _ a.0.rows b.0.rows;
+    items = both item_row decode_item item_back T.items U.items _ a.1.0.rows b.1.0.rows;
+    members = both member_row decode_member member_back T.members U.members _ a.1.1.0.rows b.1.1.0.rows;
+    headers = (let rows = map (λ row. drop 1 row) (rows_of (codes "edition") db) in
+        both header_row decode_header header_back (map spec.header_of T.editions) (map spec.header_of U.editions) rows
+        (subst (λ l. IsPermutation l rows) (sym (map_twice spec.header_of header_row T.editions)) a.1.1.1.1.0.rows) (subst (λ l. IsPermutation l rows) (sym (map_twice spec.header_of header_row U.editions)) b.1.1.1.1.0.rows));
+    parts = both part_row decode_part part_back (all_parts T) (all_parts U) _ a.1.1.1.1.1.0.rows b.1.1.1.1.1.0.rows;
+    kept = both kept_row decode_kept kept_back T.kept U.kept _ a.1.1.1.0.rows b.1.1.1.0.rows;
+  }
+
+-- ---- one version
+
+marks_version : (a b : List spec.Mark) (v w m n : ℕ) → IsPermutation a b → a ≡ mark_record v m ∷ [] → b ≡ mark_record w n ∷ [] → v ≡ w
+marks_version a b v w m n same one two =
+    let only : b ≡ mark_record v m ∷ [] = one_once (mark_record v m) b (subst (λ rows. Same rows b) one (same_from a b same)) in
+    let marks : mark_record v m ∷ [] ≡ mark_record w n ∷ [] = sym only ∙ two in
+    let mark : mark_record v m ≡ mark_record w n = cc in
+    let number : pos v ≡ pos w = ap (λ (r : spec.Mark). r.version) mark in
+    cc
+
+pub one_version : (db : Database) (v w : ℕ) (M N : Catalogue) → Holds v db M → Holds w db N → v ≡ w
+one_version db v w M N a b =
+    marks_version a.tables.marks b.tables.marks v w M.installs N.installs (both mark_row decode_mark mark_back a.tables.marks b.tables.marks _ a.keeps.0.rows b.keeps.0.rows) a.stands.marks b.stands.marks
+
+-- ---- one catalogue
+
+pub same_version : (version : ℕ) (db : Database) (M N : Catalogue) → Holds version db M → Holds version db N → M ≡ N
+same_version version db M N a b = by (layout_of version) a.shown b.shown a.keeps b.keeps
+  where
+    T : Tables
+    T = a.tables
+
+    U : Tables
+    U = b.tables
+
+    told : HaveSame T U → M ≡ N
+    told same = catalogue_same version U M N (ordered_stands version T U M same (ordered version U N b.stands) a.stands) b.stands
+
+    editions : (rows : List Row) → IsPermutation (map edition_row T.editions) rows → IsPermutation (map edition_row U.editions) rows → IsPermutation T.editions U.editions
+    editions rows x y = both edition_row decode_edition edition_back T.editions U.editions rows x y
+
+    by : (layout : Layout) → AreShownIn layout T.entries → AreShownIn layout U.entries → KeepsAll layout db (with_derived T) → KeepsAll layout db (with_derived U) → M ≡ N
+    by Plain t u x y = told (same_kept db T U Plain (editions _ x.1.1.1.1.0.rows y.1.1.1.1.0.rows) (old_kept db T U _ t u x.1.1.1.1.1.0.rows y.1.1.1.1.1.0.rows) x y)
+    by Keyed t u x y = told (same_kept db T U Keyed (editions _ x.1.1.1.1.0.rows y.1.1.1.1.0.rows) (old_kept db T U _ t u x.1.1.1.1.1.0.rows y.1.1.1.1.1.0.rows) x y)
+    by Shown t u x y = told (same_kept db T U Shown (editions _ x.1.1.1.1.0.rows y.1.1.1.1.0.rows) (both shown_row decode_shown shown_back T.entries U.entries _ x.1.1.1.1.1.0.rows y.1.1.1.1.1.0.rows) x y)
+    by Parted t u x y = told_once version T U M N (same_files db T U x y) a.stands b.stands
+
+pub one_catalogue : (db : Database) (v w : ℕ) (M N : Catalogue) → Holds v db M → Holds w db N → M ≡ N
+one_catalogue db v w M N a b = same_version v db M N a (subst (λ version. Holds version db N) (sym (one_version db v w M N a b)) b)
+
+-- two databases over the same trees are the same
+pub database_once : (a b : Database) → IsDatabase a → IsDatabase b → a.trees ≡ b.trees → a ≡ b
+database_once a b x y same =
+    let schemas : a.schema ≡ b.schema = lists_once (b.trees catalog_tree) a.schema b.schema (subst (λ (t : Trees). Lists (t catalog_tree) a.schema) same x.lists) y.lists in
+    λ i. record { schema = schemas i; trees = same i }
+
+pub one_held : (db : Database) (M N : Catalogue) → IsHeld db M → IsHeld db N → M ≡ N
+one_held db M N a b = one_catalogue db a.version b.version M N a.holds b.holds
+
+pub left_held : (db : Database) (M : Catalogue) → IsDatabase db → IsLeft M db.trees → IsHeld db M
+left_held db M sound left = subst (λ (d : Database). IsHeld d M) (sym (database_once db left.0 sound left.2 left.1)) left.3
+
+pub one_left : (trees : Trees) (M N : Catalogue) → IsLeft M trees → IsLeft N trees → M ≡ N
+one_left trees M N a b = one_held b.0 M N (left_held b.0 M b.2 (subst (IsLeft M) b.1 a)) b.3
+
+-- ---- the known version
+
+pub known_is : IsVersion known
+known_is = record { counted = omega arith; within = omega arith }
+
+pub held_known : (db : Database) (M : Catalogue) → Holds known db M → IsHeld db M
+held_known db M h = record { version = known; known = known_is; holds = h }
+
+pub left_known : (M : Catalogue) (trees : Trees) → IsLeftAs known M trees → IsLeft M trees
+left_known M trees h = (h.0, h.1, h.2, held_known h.0 M h.3)

@@ -1,0 +1,61 @@
+-- What a database keeps by the readings of a layout.
+use Rattle.std.proofs.Common.{◌≡◌, List, [], ◌∷◌, map, drop, codes, refl, ap, subst}
+use Rattle.std.specs.List.Sorted.{IsPermutation}
+use Rattle.sqlite.specs.Effect.{Database}
+use Rattle.store_records.specs.Records.{EntryRecord, header_of}
+use Rattle.store_sql.specs.Effects.{rows_of}
+use Rattle.store_sql.specs.Encodings.{mark_row, item_row, member_row, edition_row, kept_row}
+use Rattle.store_edition_sql.specs.HeaderRecords.{header_row}
+use Rattle.store_edition_sql.specs.PartRecords.{part_row}
+use Rattle.store_rows.specs.Tables.{Tables}
+use Rattle.store_rows.specs.Versions.{Layout, Plain, Keyed, Shown, Parted}
+use Rattle.store_holdings.specs.AllTables.{AllTables, with_derived}
+use Rattle.store_holdings.specs.Files.{all_parts}
+use Rattle.store_holdings.specs.Readings as looks
+use Rattle.store_holdings.specs.Readings.{TableReading, KeepsRows, KeepsAll}
+use Rattle.store_holdings.specs.Holds.{Keeps}
+
+pub map_twice : {X Y Z : Type 0} (f : X → Y) (g : Y → Z) (xs : List X) → map g (map f xs) ≡ map (λ x. g (f x)) xs
+map_twice f g [] = refl
+map_twice f g (x ∷ xs) = ap (λ l. g (f x) ∷ l) (map_twice f g xs)
+
+-- ---- of any version, but for its editions and what is kept of their entries
+
+pub marks_kept : (layout : Layout) (db : Database) (t : Tables) → KeepsAll layout db (with_derived t) → Keeps (codes "mark") mark_row db t.marks
+marks_kept layout db t k = record { rows = k.0.rows; apart = k.0.apart }
+
+pub items_kept : (layout : Layout) (db : Database) (t : Tables) → KeepsAll layout db (with_derived t) → Keeps (codes "item") item_row db t.items
+items_kept layout db t k = record { rows = k.1.0.rows; apart = k.1.0.apart }
+
+pub members_kept : (layout : Layout) (db : Database) (t : Tables) → KeepsAll layout db (with_derived t) → Keeps (codes "member") member_row db t.members
+members_kept layout db t k = record { rows = k.1.1.0.rows; apart = k.1.1.0.apart }
+
+pub replies_kept : (layout : Layout) (db : Database) (t : Tables) → KeepsAll layout db (with_derived t) → Keeps (codes "kept") kept_row db t.kept
+replies_kept layout db t k = record { rows = k.1.1.1.0.rows; apart = k.1.1.1.0.apart }
+
+-- ---- the editions of the known version, and the parts of their files
+
+pub headers_kept : (db : Database) (t : Tables) → KeepsAll Parted db (with_derived t) → Keeps (codes "edition") (λ e. header_row (header_of e)) db t.editions
+headers_kept db t k = record { rows = k.1.1.1.1.0.rows; apart = k.1.1.1.1.0.apart }
+
+pub parts_kept : (db : Database) (t : Tables) → KeepsAll Parted db (with_derived t) → Keeps (codes "dictcat_part") part_row db (all_parts t)
+parts_kept db t k = record { rows = k.1.1.1.1.1.0.rows; apart = k.1.1.1.1.1.0.apart }
+
+-- in it the entries are kept in parts alone
+pub same_kept : (db : Database) (t : AllTables) (es : List EntryRecord) → KeepsAll Parted db t → KeepsAll Parted db (record t { entries = es })
+same_kept db t es h =
+    (one looks.marks h.0 (λ u. u), (one looks.items h.1.0 (λ u. u), (one looks.members h.1.1.0 (λ u. u), (one looks.kept_replies h.1.1.1.0 (λ u. u), (one (looks.editions Parted) h.1.1.1.1.0 (λ u. u), (one (looks.contents Parted) h.1.1.1.1.1.0 (λ u. u), h.1.1.1.1.1.1))))))
+  where
+    one : (r : TableReading) → KeepsRows r db t → (IsPermutation (r.rows t) (map (λ row. drop 1 (r.looked row)) (rows_of (looks.table_name_of r) db)) → IsPermutation (r.rows (record t { entries = es })) (map (λ row. drop 1 (r.looked row)) (rows_of (looks.table_name_of r) db))) → KeepsRows r db (record t { entries = es })
+    one r k on = record { rows = on k.rows; apart = k.apart }
+
+-- ---- the editions of an older version
+
+pub editions_kept : (layout : Layout) (db : Database) (t : Tables) → looks.editions layout ≡ looks.whole_editions → KeepsAll layout db (with_derived t) → Keeps (codes "edition") edition_row db t.editions
+editions_kept Plain db t e k = record { rows = k.1.1.1.1.0.rows; apart = k.1.1.1.1.0.apart }
+editions_kept Keyed db t e k = record { rows = k.1.1.1.1.0.rows; apart = k.1.1.1.1.0.apart }
+editions_kept Shown db t e k = record { rows = k.1.1.1.1.0.rows; apart = k.1.1.1.1.0.apart }
+editions_kept Parted db t e k = by (subst (λ r. KeepsRows r db (with_derived t)) e k.1.1.1.1.0)
+  where
+    by : KeepsRows looks.whole_editions db (with_derived t) → Keeps (codes "edition") edition_row db t.editions
+    by one = record { rows = one.rows; apart = one.apart }

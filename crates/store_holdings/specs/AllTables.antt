@@ -1,0 +1,50 @@
+-- The records of all tables, the parts of files among them.
+use Rattle.std.specs.Prelude.{◌≡◌, ℕ, pos, ℤ, false, not, List, [], ◌∷◌, ◌++◌, map, filter, Option, Some, None}
+use Rattle.std.specs.List.{AllByRecursion}
+use Rattle.store_records.specs.Records.{Mark, ItemRecord, Member, EditionRecord, EntryRecord, Part, KeptRecord}
+use Rattle.store_rows.specs.Tables.{Tables, same_number}
+use Rattle.store_rows.specs.Written.{numbered, mark_record, item_record, kept_record}
+use Rattle.store_rows.specs.After.{Installed, TableChange, is_gone, installed_editions, installed_entries, all_members}
+use Rattle.store_holdings.specs.Files.{all_parts, installed_parts}
+
+-- The records of all tables, each list by itself. While one statement of a command is done and the next isn't, the parts are no
+-- function of the entries.
+pub record AllTables : Type 0 where
+  pub marks : List Mark
+  pub items : List ItemRecord
+  pub members : List Member
+  pub editions : List EditionRecord
+  pub entries : List EntryRecord
+  pub parts : List Part
+  pub kept : List KeptRecord
+
+-- the records with the parts of their files
+abbrev pub with_derived : Tables → AllTables
+with_derived t = record { marks = t.marks; items = t.items; members = t.members; editions = t.editions; entries = t.entries; parts = all_parts t; kept = t.kept }
+
+-- the same records under the mark of another version
+abbrev pub as_version : ℕ → Tables → Tables
+as_version version t = record t { marks = map (λ (mark : Mark). record mark { version = pos version }) t.marks }
+
+-- no record has the number
+abbrev pub HasNoneOf : ℤ → Tables → Type 0
+HasNoneOf number t = AllByRecursion (λ row. same_number row.number number ≡ false) t.editions × AllByRecursion (λ row. same_number row.edition number ≡ false) t.entries
+
+-- ---- what a command does
+
+-- all records after a command, from those before
+abbrev pub all_after : ℕ → TableChange → AllTables → AllTables
+all_after version change old = record {
+  marks = mark_record version change.summary.installs ∷ [];
+  items = numbered item_record 0 change.summary.items;
+  members = all_members change.summary.items;
+  editions = filter (λ row. not (is_gone change.gone row.number)) old.editions ++ installed_editions change.edition;
+  entries = filter (λ row. not (is_gone change.gone row.edition)) old.entries ++ installed_entries change.edition;
+  parts = filter (λ row. not (is_gone change.gone row.edition)) old.parts ++ installed_parts change.edition;
+  kept = old.kept ++ kept_record change.kept ∷ [];
+}
+
+-- no record has the number of the edition that is installed
+abbrev pub HasNewNumber : Option Installed → Tables → Type 0
+HasNewNumber None t = Unit {0}
+HasNewNumber (Some new) t = HasNoneOf (pos new.number) t

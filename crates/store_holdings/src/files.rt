@@ -1,0 +1,78 @@
+// What holds of the files of all editions.
+ghost use Rattle.std.specs.Prelude.{◌≡◌, ◌++◌, ℕ, ℤ, pos, List, filter, flat_map, IsPermutation};
+ghost use Rattle.std.specs.List.{AllByRecursion};
+ghost use Rattle.store_records.specs.Records.{EditionRecord, EntryRecord, Part};
+ghost use Rattle.dict_index.specs.Edition.{Edition as AnEdition};
+ghost use Rattle.dict_index.specs.WellFormed.{IsWellFormedEdition};
+ghost use Rattle.store_parts.specs.Stored.{IsStorable, stored_index};
+ghost use Rattle.dict_catalogue.specs.Commands.{Command};
+ghost use Rattle.dict_catalogue.specs.Items.{Stored};
+ghost use Rattle.dict_catalogue.specs.Steps.{Catalogue};
+ghost use Rattle.store_rows.specs.After.{TableChange, IsTableChange, tables_after};
+ghost use Rattle.store_rows.specs.Stands.{HoldsEdition, Stands};
+ghost use Rattle.store_rows.specs.Tables.{Tables, same_number, editions_numbered};
+ghost use Rattle.store_rows.specs.Taken.{with_edition};
+ghost use Rattle.store_rows.specs.Whole.{with_entries};
+ghost use Rattle.store_rows.specs.Worked.{worked_tables};
+ghost use Rattle.store_holdings.specs.AllTables.{with_derived, as_version, all_after, HasNoneOf, HasNewNumber};
+ghost use Rattle.store_holdings.specs.Files.{all_parts, edition_parts, file_parts, parts_under};
+ghost use Rattle.store_holdings.specs.Told.{HaveSameFiles};
+ghost use Rattle.store_holdings.specs.Worked.{worked_parts};
+
+/// Records that stand for a catalogue stand for it under the mark of another version.
+///
+/// It does nothing. Its clause is the law.
+pub fn same_under_versions()
+    ensures { (old new : ℕ) (tables : Tables) (M : Catalogue) → Stands old tables M → Stands new (as_version new tables) M }
+{}
+
+/// The parts of a number are those of the editions that have it.
+///
+/// It does nothing. Its clause is the law.
+pub fn files_once()
+    ensures { (t : Tables) (number : ℤ) → filter (λ (p : Part). same_number p.edition number) (all_parts t) ≡ flat_map (edition_parts t.entries) (editions_numbered number t.editions) }
+{}
+
+/// The parts of an edition by their file; that of one file they are the parts, in whatever order they stand; and what the tables
+/// have of an edition that they hold.
+///
+/// It does nothing. Its clauses are the law.
+pub fn file_laws()
+    ensures index { (edition : ℤ) (index text : List ℕ) → filter (λ (p : Part). same_number p.file (pos 0)) (parts_under edition index text) ≡ file_parts edition (pos 0) index }
+    ensures text { (edition : ℤ) (index text : List ℕ) → filter (λ (p : Part). same_number p.file (pos 1)) (parts_under edition index text) ≡ file_parts edition (pos 1) text }
+    ensures one { (edition file : ℤ) (x y : List ℕ) → IsPermutation (file_parts edition file x) (file_parts edition file y) → x ≡ y }
+    ensures storable { (t : Tables) (owner : List ℕ) (stored : Stored AnEdition) (h : HoldsEdition t owner stored) → IsWellFormedEdition stored.content → AllByRecursion IsStorable h.reading.lines }
+    ensures held { (t : Tables) (owner : List ℕ) (stored : Stored AnEdition) (h : HoldsEdition t owner stored) →
+        filter (λ (p : Part). same_number p.edition (pos stored.number)) (all_parts t) ≡ parts_under (pos stored.number) (stored_index h.reading.lines) h.reading.text }
+{}
+
+/// What a command makes of the records, with the parts of their files after it, is what it makes of all records, with the parts
+/// of their files before: the parts of editions that go are taken away, and those of the one that is installed come last. Its
+/// number is new.
+///
+/// It does nothing. Its clauses are the law.
+pub fn files_after()
+    ensures after { (version : ℕ) (change : TableChange) (old : Tables) → HasNewNumber change.edition old → with_derived (tables_after version change old) ≡ all_after version change (with_derived old) }
+    ensures new { (version : ℕ) (old : Tables) (M : Catalogue) (id : List ℕ) (command : Command AnEdition) (change : TableChange) → Stands version old M → IsTableChange M id command change → HasNewNumber change.edition old }
+{}
+
+/// The parts of one edition more, of a new number, come behind those of the others.
+///
+/// It does nothing. Its clause is the law.
+pub fn files_more()
+    ensures { (t : Tables) (e : EditionRecord) (es : List EntryRecord) → HasNoneOf e.number t → AllByRecursion (λ (row : EntryRecord). row.edition ≡ e.number) es → all_parts (with_entries (with_edition t e) es) ≡ all_parts t ++ edition_parts es e }
+{}
+
+/// Records with the same headers and the same parts of files stand for one catalogue at most.
+///
+/// It does nothing. Its clause is the law.
+pub fn files_tell()
+    ensures { (version : ℕ) (old new : Tables) (M N : Catalogue) → HaveSameFiles old new → Stands version old M → Stands version new N → M ≡ N }
+{}
+
+/// The parts of the files of a small catalogue with the databases `ore` and `gem`.
+///
+/// It does nothing. Its clause is the example, from the definitions alone.
+pub fn worked_files()
+    ensures { all_parts worked_tables ≡ worked_parts }
+{}

@@ -1,0 +1,179 @@
+-- What lookups find in a database that holds a catalogue.
+use Rattle.std.proofs.Common.{◌≡◌, ℕ, ◌+◌, ◌≤◌, ◌&&◌, Bool, true, false, cond, List, [], ◌∷◌, length, map, drop, codes, refl, ap, sym, subst, ◌∙◌, arith}
+use Rattle.std.specs.Prelude.{ℤ, pos, filter, Contains, IsPermutation}
+use Rattle.std.specs.List.{AllByRecursion}
+use Rattle.std.proofs.lemmas.List.Sorted.{IsPermutation-map, IsPermutation-sym, IsPermutation-trans}
+use Rattle.sqlite_trees.proofs.ListLemmas.{IsPermutation-filter}
+use Rattle.sqlite.specs.Order.{Row, column}
+use Rattle.sqlite.specs.Effect.{Database}
+use Rattle.sqlite.specs.Table.{Table}
+use Rattle.sqlite.specs.declared.types.Value.{Value}
+use Rattle.sqlite.specs.declared.types.Value.TheVariants.{Int, Blob}
+use Rattle.dict_text.proofs.AllLemmas.{all_filter, all_flat_map_parts}
+use Rattle.store_records.specs.Records.{EditionRecord, Part, header_of}
+use Rattle.store_tables.specs.Found.{HasOwn}
+use Rattle.store_sql.specs.Columns.{HasColumns}
+use Rattle.store_sql.specs.Effects.{Has, rows_of, equals_number, same_value}
+use Rattle.store_edition_sql.specs.HeaderRecords.{header_row, header_columns}
+use Rattle.store_edition_sql.specs.Chosen.{is_of_file}
+use Rattle.store_edition_sql.specs.PartRecords.{part_row, part_columns}
+use Rattle.dict_index.specs.Edition.{Edition as AnEdition, ReadEdition, edition_of}
+use Rattle.store_parts.specs.Stored.{stored_index}
+use Rattle.dict_catalogue.specs.Items.{Stored, Item, name_of, editions_of, numbers_of}
+use Rattle.dict_catalogue.specs.Steps.{Catalogue, KeptFor}
+use Rattle.dict_catalogue.specs.WellFormed.{IsWellFormed, how_many, is_install}
+use Rattle.store_rows.specs.Tables.{Tables, same_number, editions_numbered}
+use Rattle.store_rows.specs.Stands.{HoldsEdition, HoldsEditions}
+use Rattle.store_rows.specs.Versions.{Parted, layout_of, known}
+use Rattle.store_rows.proofs.PartLemmas.{filter_filter}
+use Rattle.store_holdings.specs.AllTables.{with_derived}
+use Rattle.store_holdings.specs.Files.{all_parts, file_parts}
+use Rattle.store_holdings.proofs.TellLemmas.{file_told, text_under, parts_held}
+use Rattle.dict_desk.specs.Shown.{HasEdition}
+use Rattle.store_holdings.specs.Readings.{KeepsAll}
+use Rattle.store_holdings.specs.Holds.{HasLayout, Holds}
+use Rattle.store_holdings.specs.Texts.{HoldsText, text_rows}
+use Rattle.store_holdings.proofs.ReadableLemmas as holdings
+use Rattle.store_search.specs.Entries.{entry_of}
+use Rattle.store_lookup.specs.Searches.{HasLookupTables, HoldsOne, IsEditionReadable, rows_under}
+use Rattle.store_lookup.specs.Texts.{Cuts}
+use Rattle.store_lookup.proofs.FailLemmas.{all_contains}
+use Rattle.store_lookup.proofs.RowLemmas.{column_behind, filter_map, rows_numbered, same_int}
+use Rattle.store_lookup.proofs.ListLemmas.{all_unmapped, map_undone}
+
+-- ---- the rows of a number
+
+module _ (db : Database) (T : Tables) (k : KeepsAll Parted db (with_derived T)) (number : ℕ) where
+  pub headers_under : IsPermutation (map (λ (e : EditionRecord). header_row (header_of e)) (editions_numbered (pos number) T.editions)) (rows_under (codes "edition") number db)
+  headers_under = rows_numbered (λ (e : EditionRecord). header_row (header_of e)) (λ (e : EditionRecord). e.number) (λ e. refl) (codes "edition") db T.editions k.1.1.1.1.0.rows (pos number)
+
+-- the test of a part, on its row
+abbrev behind_test : (n f : ℤ) → Row → Bool
+behind_test n f row = same_value (column row 0) (Int n) && same_value (column row 1) (Int f)
+
+abbrev part_test : (n f : ℤ) → Part → Bool
+part_test n f p = same_number p.edition n && same_number p.file f
+
+row_test : (n f : ℤ) (p : Part) → behind_test n f (part_row p) ≡ part_test n f p
+row_test n f p = let first = same_int p.edition n in let second = same_int p.file f in λ i. first i && second i
+
+rowid_test : (n f : ℤ) (row : Row) → behind_test n f (drop 1 row) ≡ is_of_file n f row
+rowid_test n f row =
+    let first = column_behind row 0 (drop 1 row) refl in
+    let second = column_behind row 1 (drop 1 row) refl in
+    λ i. same_value (sym first i) (Int n) && same_value (sym second i) (Int f)
+
+-- of parts that are the rows of the table, those of a file are its rows
+parts_of_file : (db : Database) (ps : List Part) → IsPermutation (map part_row ps) (map (drop 1) (rows_of (codes "dictcat_part") db)) → (n f : ℤ)
+    → IsPermutation (map part_row (filter (part_test n f) ps)) (map (drop 1) (filter (is_of_file n f) (rows_of (codes "dictcat_part") db)))
+parts_of_file db ps same n f =
+    let rows = rows_of (codes "dictcat_part") db in
+    let left : filter (behind_test n f) (map part_row ps) ≡ map part_row (filter (part_test n f) ps) = filter_map part_row (part_test n f) (behind_test n f) (row_test n f) ps in
+    let right : filter (behind_test n f) (map (drop 1) rows) ≡ map (drop 1) (filter (is_of_file n f) rows) = filter_map (drop 1) (is_of_file n f) (behind_test n f) (rowid_test n f) rows in
+    subst (λ (l : List Row). IsPermutation l (map (drop 1) (filter (is_of_file n f) rows))) left
+    (subst (λ (l : List Row). IsPermutation (filter (behind_test n f) (map part_row ps)) l) right (IsPermutation-filter (behind_test n f) (map part_row ps) (map (drop 1) rows) same))
+
+-- ---- each row under a number stands for a header, or for a part
+
+pub held_readable : (db : Database) (M : Catalogue) (number : ℕ) → Holds known db M → IsEditionReadable db number
+held_readable db M number holds =
+    let all = holdings.held_readable known db M holds in
+    record {
+      headers = all_filter (HasColumns header_columns) (equals_number 1 (pos number)) (rows_of (codes "edition") db) all.1.1.1.1.0;
+      parts = all_filter (HasColumns part_columns) (is_of_file (pos number) (pos 1)) (rows_of (codes "dictcat_part") db) all.1.1.1.1.1.0;
+    }
+
+-- ---- the edition of a number
+
+how_many_few : {X : Type 0} (test : X → Bool) (xs : List X) → how_many test xs ≤ length xs
+how_many_few test [] = omega arith
+how_many_few test (x ∷ xs) = by_test (test x) (how_many_few test xs)
+  where
+    by_test : (b : Bool) → how_many test xs ≤ length xs → cond b 1 0 + how_many test xs ≤ length (x ∷ xs)
+    by_test true h = omega arith
+    by_test false h = omega arith
+
+number_all : {A : Type 0} (P : ℕ → Type 0) (stored : List (Stored A)) (one : Stored A) → AllByRecursion P (map (λ s. s.number) stored) → Contains stored one → P one.number
+number_all P stored one all at = all_contains (λ s. P s.number) stored one (all_unmapped P (λ s. s.number) stored all) at
+
+-- a number is that of no more than the commands that were kept
+pub number_few : (M : Catalogue) → IsWellFormed M → (number : ℕ) (edition : AnEdition) → HasEdition M number edition → number ≤ 9223372036854775807
+number_few M well number edition has =
+    let item = has.item in
+    let stored : Stored AnEdition = record { number = number; content = edition } in
+    let ranges = all_flat_map_parts (λ n. (1 ≤ n) × (n ≤ M.installs)) numbers_of M.items well.edition_range in
+    let within : (1 ≤ number) × (number ≤ M.installs) = number_all (λ n. (1 ≤ n) × (n ≤ M.installs)) (editions_of item) stored
+    (all_contains (λ (i : Item AnEdition). AllByRecursion (λ n. (1 ≤ n) × (n ≤ M.installs)) (numbers_of i)) M.items item ranges has.stands) has.stored in
+    let few = how_many_few (λ (kept : KeptFor). is_install kept.reply.verb) M.kept in
+    bound number M.installs (how_many (λ (kept : KeptFor). is_install kept.reply.verb) M.kept) (length M.kept) 9223372036854775807 within.1 well.installs few well.accepted_limit
+  where
+    bound : (a b c d e : ℕ) → a ≤ b → b ≡ c → c ≤ d → d ≤ e → a ≤ e
+    bound a b c d e p q r s = omega arith
+
+-- the parts of its text
+text_under_number : (T : Tables) (owner : List ℕ) (stored : Stored AnEdition) (one : HoldsEdition T owner stored) → filter (part_test (pos stored.number) (pos 1)) (all_parts T) ≡ file_parts (pos stored.number) (pos 1) one.reading.text
+text_under_number T owner stored one =
+    sym (filter_filter (λ (p : Part). same_number p.file (pos 1)) (λ (p : Part). same_number p.edition (pos stored.number)) (part_test (pos stored.number) (pos 1)) (λ p. refl) (all_parts T))
+    ∙ ap (filter (λ (p : Part). same_number p.file (pos 1))) (parts_held T owner stored one) ∙ text_under (pos stored.number) (stored_index one.reading.lines) one.reading.text
+
+pub text_held : (db : Database) (T : Tables) (k : KeepsAll Parted db (with_derived T)) (owner : List ℕ) (stored : Stored AnEdition) (one : HoldsEdition T owner stored)
+    → stored.number ≤ 9223372036854775807 → HoldsText db stored.number one.reading.text
+text_held db T k owner stored one few =
+    let parts : IsPermutation (map part_row (filter (part_test (pos stored.number) (pos 1)) (all_parts T))) (text_rows stored.number db) = parts_of_file db (all_parts T) k.1.1.1.1.1.0.rows (pos stored.number) (pos 1) in
+    record { few = few; rows = subst (λ (l : List Part). IsPermutation (map part_row l) (text_rows stored.number db)) (text_under_number T owner stored one) parts }
+
+-- ---- one text stands under a number
+
+abbrev number_in : Value → ℤ
+number_in (Int n) = n
+number_in _ = pos 0
+
+abbrev octets_in : Value → List ℕ
+octets_in (Blob b) = b
+octets_in _ = []
+
+abbrev decode_part : Row → Part
+decode_part r = record { edition = number_in (column r 0); file = number_in (column r 1); number = number_in (column r 2); octets = octets_in (column r 3) }
+
+parts_back : (ps : List Part) → map decode_part (map part_row ps) ≡ ps
+parts_back ps = map_undone part_row decode_part (λ p. refl) ps
+
+pub text_once : (db : Database) (number : ℕ) (x y : List ℕ) → HoldsText db number x → HoldsText db number y → x ≡ y
+text_once db number x y a b =
+    let first : List Part = file_parts (pos number) (pos 1) x in
+    let second : List Part = file_parts (pos number) (pos 1) y in
+    let rows : IsPermutation (map part_row first) (map part_row second) =
+    IsPermutation-trans (map part_row first) (text_rows number db) (map part_row second) a.rows (IsPermutation-sym (map part_row second) (text_rows number db) b.rows) in
+    let parts = IsPermutation-map decode_part (map part_row first) (map part_row second) rows in
+    file_told (pos number) (pos 1) x y
+    (subst (λ (l : List Part). IsPermutation l second) (parts_back first) (subst (IsPermutation (map decode_part (map part_row first))) (parts_back second) parts))
+
+-- ---- an edition of the catalogue
+
+pub held_one : (db : Database) (M : Catalogue) (number : ℕ) (edition : AnEdition) → Holds known db M → HasEdition M number edition
+    → (reading : ReadEdition) × HoldsOne db number reading × (edition ≡ edition_of reading) × HoldsText db number reading.text × Cuts (map entry_of reading.lines) edition reading.text
+held_one db M number edition holds has =
+    let T = holds.tables in
+    let k : KeepsAll Parted db (with_derived T) = holds.keeps in
+    let item = has.item in
+    let stored : Stored AnEdition = record { number = number; content = edition } in
+    let one : HoldsEdition T (name_of item) stored = all_contains (HoldsEdition T (name_of item)) (editions_of item) stored (all_contains (HoldsEditions T) M.items item holds.stands.editions has.stands) has.stored in
+    let few = number_few M holds.stands.well_formed number edition has in (
+      one.reading,
+      record {
+        few = few;
+        owner = name_of item;
+        row = subst (λ (l : List EditionRecord). IsPermutation (map (λ (e : EditionRecord). header_row (header_of e)) l) (rows_under (codes "edition") number db)) one.row (headers_under db T k number);
+      },
+      one.says,
+      text_held db T k (name_of item) stored one few,
+      record { lines = one.reading.lines; entries = refl; cut = ap (λ (e : AnEdition). e.entries) one.says; short = one.short },
+    )
+
+-- ---- the tables
+
+had : (table : ℕ → Table) (db : Database) → HasOwn db.schema table → Has table db
+had table db own = (own.at, own.tree, own.has)
+
+pub held_tables : (db : Database) → HasLayout (layout_of known) db.schema → HasLookupTables db
+held_tables db own = record { headers = had _ db own.tables.1.1.1.1.0; parts = had _ db own.tables.1.1.1.1.1.0 }

@@ -1,0 +1,22 @@
+-- Indexes of editions, by the numbers of the editions.
+use Rattle.std.specs.Prelude.{◌≡◌, ℕ, List, map, nat_eq, Option, Some}
+use Rattle.std.specs.List.{AllByRecursion}
+use Rattle.std.specs.Map.{lookup}
+use Rattle.dict_index.specs.Edition.{Edition, ReadEdition, edition_of}
+use Rattle.dict_catalogue.specs.Items.{Stored, editions_of}
+use Rattle.dict_catalogue.specs.Steps.{Catalogue}
+use Rattle.store_search.specs.Entries.{Indexed, entry_of}
+
+-- the entries of the index that stands under a number
+abbrev pub entries_under : ℕ → List (ℕ × List Indexed) → Option (List Indexed)
+entries_under number indexes = lookup (nat_eq number) indexes
+
+-- The edition is what the lines of a reading cut out of its text, and under the edition's number stands an index of these lines.
+pub record HasIndexOf (indexes : List (ℕ × List Indexed)) (stored : Stored Edition) : Type 0 where
+  pub reading : ReadEdition
+  pub says : stored.content ≡ edition_of reading
+  pub stands : entries_under stored.number indexes ≡ Some (map entry_of reading.lines)
+
+-- Under the number of each edition of the catalogue, current and former, stands an index of that edition.
+abbrev pub AreIndexesOf : Catalogue → List (ℕ × List Indexed) → Type 0
+AreIndexesOf M indexes = AllByRecursion (λ item. AllByRecursion (HasIndexOf indexes) (editions_of item)) M.items

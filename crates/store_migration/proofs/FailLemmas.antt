@@ -1,0 +1,68 @@
+-- Where a part of a migration fails.
+use Rattle.std.proofs.Common.{◌≡◌, ◌⊎◌, ◌∙◌, ◌++◌, ◌∷◌, ℕ, List, true, inl, inr, ap, refl, subst}
+use Rattle.sqlite.specs.Order.{Row}
+use Rattle.sqlite.specs.State.{State, Survives}
+use Rattle.sqlite.specs.declared.error.Error.{Error}
+use Rattle.sqlite.specs.Held.{Held, state}
+use Rattle.sqlite.proofs.StateLemmas.{survives_then}
+use Rattle.sqlite_trees.specs.declared.store.Store.{Ghosts}
+use Rattle.store_sql.specs.Drops.{FailsToDrop}
+use Rattle.store_sql.specs.Inserts.{FailsToInsert}
+use Rattle.store_sql.specs.declared.records.ReadError.{ReadError}
+use Rattle.store_sql.specs.declared.records.ReadError.TheVariants.{NoRecord, Store}
+use Rattle.dict_catalogue.specs.Items.{edition_numbers}
+use Rattle.dict_catalogue.specs.Tests.{Holdings}
+use Rattle.dict_desk.specs.declared.fault.Fault.{Fault}
+use Rattle.dict_desk.specs.declared.fault.Fault.TheVariants.{Memory, Disk}
+use Rattle.store_holdings.specs.Faults.{fault_of_read}
+use Rattle.store_older_sql.proofs.CopyLemmas.{none_more}
+use Rattle.store_migration.specs.Older.{DroppedInTurn}
+use Rattle.store_migration.specs.MigrationParts.{MigrationPart, FailsBy, dropping}
+use Rattle.store_migration.specs.FailurePlaces.{FailurePlace, Dropping}
+use Rattle.store_migration.specs.Failing.{MigrationFailsInside, FailsToSign, IsBeyond}
+use Rattle.store_migration.proofs.PlaceLemmas.{Leads}
+
+module _ {S : Type 0} (g : Ghosts S) where
+  -- the part is the first of those that were handed in
+  pub fails_here : (P : FailurePlace) (part : MigrationPart) (old new : Held S) (e : ReadError) → P part (state g old).now (state g old).now → FailsBy part (state g old) (state g new) e → MigrationFailsInside g P old new e
+  fails_here P part old new e place fails = record { at = old; before = none_more (state g old); inside = λ h. h; part = part; place = place; fails = fails }
+
+  -- others went well before
+  pub fails_later : (P Q : FailurePlace) (old mid new : Held S) (e : ReadError) → Survives (state g old) (state g mid) (λ _. ⊥) → ((state g old).in_transaction ≡ true → (state g mid).in_transaction ≡ true)
+      → Leads P (state g mid).now Q (state g old).now
+      → MigrationFailsInside g P mid new e → MigrationFailsInside g Q old new e
+  fails_later P Q old mid new e survives inside leads h = record {
+    at = h.at;
+    before = survives_then (state g old) (state g mid) (state g h.at) (λ _. ⊥) (λ _. ⊥) (λ _. ⊥) (λ _ db none. none) (λ _ db none. none) survives h.before;
+    inside = λ begun. h.inside (inside begun);
+    part = h.part;
+    place = leads h.part (state g h.at).now h.place;
+    fails = h.fails;
+  }
+
+  -- the places of a call are some of another's
+  pub fails_within : (P Q : FailurePlace) (old new : Held S) (e : ReadError) → Leads P (state g old).now Q (state g old).now → MigrationFailsInside g P old new e → MigrationFailsInside g Q old new e
+  fails_within P Q old new e leads h = record { at = h.at; before = h.before; inside = h.inside; part = h.part; place = leads h.part (state g h.at).now h.place; fails = h.fails }
+
+  -- a table isn't dropped, behind those before it
+  pub fails_at : (names gone : List (List ℕ)) (name : List ℕ) (rest : List (List ℕ)) → gone ++ name ∷ rest ≡ names → (old mid new : Held S) (e : Error) → Survives (state g old) (state g mid) (λ _. ⊥)
+      → ((state g old).in_transaction ≡ true → (state g mid).in_transaction ≡ true) → DroppedInTurn gone (state g old).now (state g mid).now → FailsToDrop name (state g mid) (state g new) e → MigrationFailsInside g
+      (Dropping names) old new (Store e)
+  fails_at names gone name rest these old mid new e survives inside dropped fails = record {
+    at = mid;
+    before = survives;
+    inside = inside;
+    part = dropping name;
+    place = record { gone = gone; name = name; rest = rest; these = these; is = refl; dropped = dropped };
+    fails = fails;
+  }
+
+-- a row that wasn't put in, told as another one that is the same
+pub inserted_as : (name : List ℕ) (row same : Row) (old new : State) (e : Error) → FailsToInsert name row old new e → row ≡ same → FailsToInsert name same old new e
+inserted_as name row same old new e fails is = subst (λ (r : Row). FailsToInsert name r old new e) is fails
+
+-- before anything was begun
+pub why_not_begun : (summary : Holdings (List ℕ)) (e : ReadError) (fault : Fault) → fault ≡ fault_of_read e → FailsToSign (edition_numbers summary.items) e
+    → (fault ≡ Memory) ⊎ ((fault ≡ Disk) × IsBeyond summary)
+why_not_begun summary NoRecord fault told h = inr (told, λ both. h both.1)
+why_not_begun summary (Store e) fault told h = inl (told ∙ ap (λ e. fault_of_read (Store e)) h)

@@ -1,0 +1,6 @@
+use Rattle.std.proofs.Common.{◌∙◌}
+use Rattle.store_migration.proofs.FileLemmas.{part_count_is}
+use Rattle.store_migration.proofs.files.part_count.Goals as goal
+
+pub returns-clause-count : goal.returns-clause-count
+returns-clause-count c = c.div_ceil.ensures ∙ part_count_is c.args.octets.now

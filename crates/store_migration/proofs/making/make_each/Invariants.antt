@@ -1,0 +1,17 @@
+use Rattle.std.proofs.Common.{◌≡◌, ◌<◌, IsTrue, take, map}
+use Rattle.sqlite.specs.State.{HasCleanDisk, Survives, KeepsCommit}
+use Rattle.store_sql.specs.Effects.{GoesOn, seen}
+use Rattle.store_sql.specs.Creates.{MadeInTurn}
+use Rattle.store_sql.specs.Statements.{make, RunInTurn}
+use Rattle.store_migration.proofs.making.make_each.Given as goal
+
+abbrev pub invariant-each : goal.invariant-each
+invariant-each g l = record {
+  same_reference : l.tx.conn.ghost_name ≡ l.fn.tx.conn.ghost_name;
+  made : HasCleanDisk (seen g.S.Store l.tx) → MadeInTurn (take l.table-index l.tables) (seen g.S.Store l.fn.tx).now (seen g.S.Store l.tx).now;
+  ran : HasCleanDisk (seen g.S.Store l.tx) → RunInTurn g.S.Store (map make (take l.table-index l.tables)) l.fn.tx.conn.now l.tx.conn.now;
+  goes : HasCleanDisk (seen g.S.Store l.tx) → 0 < l.table-index → GoesOn (seen g.S.Store l.fn.tx) (seen g.S.Store l.tx);
+  mode : HasCleanDisk (seen g.S.Store l.tx) → IsTrue (seen g.S.Store l.fn.tx).in_transaction → IsTrue (seen g.S.Store l.tx).in_transaction;
+  keeps : HasCleanDisk (seen g.S.Store l.tx) → KeepsCommit (seen g.S.Store l.fn.tx) (seen g.S.Store l.tx);
+  survives : Survives (seen g.S.Store l.fn.tx) (seen g.S.Store l.tx) (λ _. ⊥);
+}

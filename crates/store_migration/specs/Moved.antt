@@ -1,0 +1,64 @@
+-- A whole migration, before its commit.
+use Rattle.std.specs.Prelude.{◌≡◌, ℕ, ℤ, true, IsTrue, List, codes, map}
+use Rattle.sqlite.specs.Effect.{Database, IsDatabase}
+use Rattle.sqlite.specs.State.{State}
+use Rattle.sqlite.specs.Tree.{Trees}
+use Rattle.store_records.specs.Records.{HeaderRecord}
+use Rattle.store_sql.specs.Added.{AreAdded}
+use Rattle.store_sql.specs.Creates.{IsMade}
+use Rattle.store_sql.specs.Effects.{IsAdded, IsRemoved}
+use Rattle.store_sql.specs.Encodings.{mark_row}
+use Rattle.store_edition_sql.specs.HeaderRecords.{header_row}
+use Rattle.store_edition_sql.specs.HeaderTable.{header}
+use Rattle.store_edition_sql.specs.PartTable.{part}
+use Rattle.store_rows.specs.Versions.{known}
+use Rattle.store_rows.specs.Written.{mark_record}
+use Rattle.store_migration.specs.declared.older.Older.{Older}
+use Rattle.store_migration.specs.Older.{DroppedInTurn, gone_names}
+use Rattle.store_migration.specs.Steps.{AreParted}
+
+-- the mark was taken out, and that of the known version was put in, with this count of installs
+pub record IsMarkedAnew (installs : ℕ) (old new : Database) : Type 0 where
+  pub cleared : Database
+  pub taken : IsRemoved (codes "mark") (λ _. true) old cleared
+  pub put : IsAdded (codes "mark") (mark_row (mark_record known installs)) cleared new
+
+-- the table of parts was made, the files of these editions were put into it, and the old tables were dropped; these are the
+-- editions' headers
+pub record AreTakenApart (older : Older) (numbers : List ℤ) (headers : List HeaderRecord) (old new : Database) : Type 0 where
+  pub with_table : Database
+  pub with_files : Database
+  pub made : IsMade (part 0) old with_table
+  pub parted : AreParted older numbers headers with_table with_files
+  pub gone : DroppedInTurn (gone_names older) with_files new
+
+-- the table of editions was made again, without texts, and these headers were put in
+pub record AreHeaded (headers : List HeaderRecord) (old new : Database) : Type 0 where
+  pub with_table : Database
+  pub made : IsMade (header 0) old with_table
+  pub added : AreAdded (codes "edition") (map header_row headers) with_table new
+
+-- all of it, and then the mark was written anew
+pub record IsMoved (older : Older) (numbers : List ℤ) (installs : ℕ) (old new : Database) : Type 0 where
+  pub headers : List HeaderRecord
+  pub apart : Database
+  pub headed : Database
+  pub takes : AreTakenApart older numbers headers old apart
+  pub heads : AreHeaded headers apart headed
+  pub marked : IsMarkedAnew installs headed new
+
+-- what is made of an open store
+pub record IsOutcome (older : Older) (numbers : List ℤ) (installs : ℕ) (old : State) (new : Database) : Type 0 where
+  pub was_open : IsTrue old.is_open
+  pub moved : IsMoved older numbers installs old.now new
+
+-- trees that a stop may leave: those of a database of this kind
+abbrev pub AreTreesOf : (Database → Type 0) → Trees → Type 0
+AreTreesOf P trees = (db : Database) × (trees ≡ db.trees) × IsDatabase db × P db
+
+-- the store is open and shows what is committed, which is of this kind, and a stop leaves such a database alone
+pub record IsCommitted (P : Database → Type 0) (s : State) : Type 0 where
+  pub is_open : IsTrue s.is_open
+  pub settled : s.now ≡ s.committed
+  pub holds : P s.committed
+  pub only : (trees : Trees) → s.may_leave trees → AreTreesOf P trees

@@ -1,0 +1,205 @@
+// A database of an older version becomes one of the next, in one transaction.
+ghost use Rattle.std.specs.Prelude.{◌≡◌, ◌≤◌, ◌<◌, true, false, map, pos, IsTrue, IfOk, IfErr, OnOk, OnErr};
+ghost use Rattle.sqlite.specs.Effect.{IsDatabase};
+ghost use Rattle.sqlite.specs.Held.{state};
+ghost use Rattle.sqlite.specs.State.{HasCleanDisk, IsLive, KeepsCommit, Survives};
+ghost use Rattle.sqlite.specs.Tree.{Trees};
+ghost use Rattle.dict_catalogue.specs.Items.{edition_numbers as numbers_in};
+ghost use Rattle.dict_catalogue.specs.Steps.{Catalogue, summary_of};
+ghost use Rattle.dict_catalogue.specs.Views.{summary_shown};
+ghost use Rattle.dict_desk.specs.Faults.{is_disk};
+ghost use Rattle.store_records.specs.Typed.{owned_header};
+ghost use Rattle.store_rows.specs.Versions.{layout_of, known};
+ghost use Rattle.store_sql.specs.Effects.{WhileOpen, seen};
+ghost use Rattle.store_holdings.specs.Holds.{Holds, IsLeftAs, Rests};
+ghost use Rattle.store_holdings.specs.Writing.{StaysCommitted};
+ghost use Rattle.store_migration.specs.Migrated.{IsMigrated, MayMigrate};
+ghost use Rattle.store_migration.specs.Moved.{AreTakenApart, AreTreesOf, IsCommitted, IsOutcome};
+ghost use Rattle.store_migration.specs.Older.{IsOld, layout_as};
+ghost use Rattle.store_migration.specs.FailurePlaces.{InApart, InMove};
+ghost use Rattle.store_migration.specs.Spared.{SparesOthers};
+ghost use Rattle.store_migration.specs.Failing.{MigrationFailsInside, MigrationFailsToEnd, FailsToMigrate, FailsToSign};
+ghost use Rattle.store_holdings.specs.Faults.{IsOfStore};
+
+use crate::dropping::drop_old;
+use crate::editions::part_editions;
+use crate::heading::head_editions;
+use crate::marking::renew_mark;
+use crate::older::Older;
+use dict_catalogue::{Summary, edition_numbers};
+use dict_desk::Fault;
+use sqlite::{Alter, Connection, Transaction};
+use std::alloc::Global;
+use store_edition_sql::create_part_table;
+use store_holdings::fault_of_read;
+use store_records::HeaderRecord;
+use store_sql::commit::commit;
+use store_sql::records::ReadError;
+
+/// The greatest number that a column holds.
+const MAX_NUMBER: u64 = 9_223_372_036_854_775_807;
+
+// Makes the table of parts, puts the files of these editions in, and drops the old tables. It answers the editions' headers.
+fn take_apart<S: Alter>(
+    alloc: Global,
+    tx: &mut Transaction<'_, S>,
+    layout: Older,
+    numbers: &[i64],
+) -> Result<Vec<HeaderRecord<String>>, ReadError>
+    requires { WhileOpen (seen S.Store tx.old) (IsOld layout) }
+    ensures same_reference { tx.new.conn.ghost_name ≡ tx.old.conn.ghost_name }
+    ensures apart { HasCleanDisk (seen S.Store tx.new) → IfOk result (λ headers. AreTakenApart layout numbers.now (map owned_header headers.items) (seen S.Store tx.old).now (seen S.Store tx.new).now) }
+    ensures opened { HasCleanDisk (seen S.Store tx.new) → OnOk result (IsTrue (seen S.Store tx.old).is_open) }
+    ensures inside { HasCleanDisk (seen S.Store tx.new) → OnOk result ((seen S.Store tx.new).in_transaction ≡ true) }
+    ensures failed { HasCleanDisk (seen S.Store tx.new) → IfErr result (MigrationFailsInside S.Store (InApart layout numbers.now) tx.old.conn.now tx.new.conn.now) }
+    ensures keeps { HasCleanDisk (seen S.Store tx.new) → KeepsCommit (seen S.Store tx.old) (seen S.Store tx.new) }
+    ensures survives { Survives (seen S.Store tx.old) (seen S.Store tx.new) (λ _. ⊥) }
+{
+    create_part_table(tx)?;
+    let headers = part_editions(alloc, tx, layout, numbers)?;
+    drop_old(tx, layout)?;
+    Ok(headers)
+}
+
+// All that is done before the commit.
+fn migrate_inside<S: Alter>(
+    alloc: Global,
+    tx: &mut Transaction<'_, S>,
+    layout: Older,
+    numbers: &[i64],
+    installs: u64,
+) -> Result<(), ReadError>
+    requires installs { installs ≤ 9223372036854775807 }
+    requires old { WhileOpen (seen S.Store tx.old) (IsOld layout) }
+    ensures same_reference { tx.new.conn.ghost_name ≡ tx.old.conn.ghost_name }
+    ensures moved { HasCleanDisk (seen S.Store tx.new) → OnOk result (IsOutcome layout numbers.now installs (seen S.Store tx.old) (seen S.Store tx.new).now × IsDatabase (seen S.Store tx.new).now) }
+    ensures inside { HasCleanDisk (seen S.Store tx.new) → OnOk result ((seen S.Store tx.new).in_transaction ≡ true) }
+    ensures failed { HasCleanDisk (seen S.Store tx.new) → IfErr result (MigrationFailsInside S.Store (InMove layout numbers.now installs) tx.old.conn.now tx.new.conn.now) }
+    ensures keeps { HasCleanDisk (seen S.Store tx.new) → KeepsCommit (seen S.Store tx.old) (seen S.Store tx.new) }
+    ensures survives { Survives (seen S.Store tx.old) (seen S.Store tx.new) (λ _. ⊥) }
+{
+    let headers = take_apart(alloc, tx, layout, numbers)?;
+    head_editions(tx, &headers)?;
+    renew_mark(tx, installs)?;
+    Ok(())
+}
+
+// The transaction of a migration, and its commit.
+fn migrate_from<S: Alter>(
+    alloc: Global,
+    conn: &mut Connection<S>,
+    layout: Older,
+    numbers: &[i64],
+    installs: u64,
+) -> Result<(), Fault>
+    requires autocommit { conn.old.in_transaction ≡ false }
+    requires installs { installs ≤ 9223372036854775807 }
+    requires old { WhileOpen (state S.Store conn.old) (IsOld layout) }
+    ensures made { HasCleanDisk (state S.Store conn.new) → OnOk result (IsCommitted (IsOutcome layout numbers.now installs (state S.Store conn.old)) (state S.Store conn.new)) }
+    ensures stays { HasCleanDisk (state S.Store conn.new) → OnErr result (StaysCommitted (state S.Store conn.old) (state S.Store conn.new)) }
+    ensures adds_none { IfErr result (λ fault. is_disk fault ≡ false → Survives (state S.Store conn.old) (state S.Store conn.new) (λ _. ⊥)) }
+    ensures failed { HasCleanDisk (state S.Store conn.new) → IfErr result (MigrationFailsToEnd S.Store (InMove layout numbers.now installs) (IsOutcome layout numbers.now installs (state S.Store conn.old)) conn.old conn.new) }
+    ensures kinds { IfErr result IsOfStore }
+    ensures autocommit { (state S.Store conn.new).in_transaction ≡ false }
+    ensures crash { Survives (state S.Store conn.old) (state S.Store conn.new) (AreTreesOf (IsOutcome layout numbers.now installs (state S.Store conn.old))) }
+{
+    let mut tx = conn.transaction();
+    if let Err(error) = migrate_inside(alloc, &mut tx, layout, numbers, installs) {
+        return Err(fault_of_read(error));
+    }
+    match commit(tx) {
+        Ok(()) => Ok(()),
+        Err(_) => Err(Fault::Disk),
+    }
+}
+
+// What an open connection shows and has committed are sound databases. It does nothing.
+fn is_live<S: Alter>(conn: &Connection<S>)
+    ensures { IsLive (state S.Store conn.now) }
+{
+    let _schema = conn.schema();
+}
+
+// The same numbers as a column holds them. `NoRecord` tells that no column holds one of them.
+fn signed_numbers(alloc: Global, numbers: &[u64]) -> Result<Vec<i64>, ReadError>
+    ensures same { IfOk result (λ signed. signed.items ≡ map pos numbers.now) }
+    ensures failed { IfErr result (FailsToSign numbers.now) }
+{
+    let mut signed = Vec::new(alloc);
+    for number in numbers {
+        if *number > MAX_NUMBER {
+            return Err(ReadError::NoRecord);
+        }
+        signed.push(*number as i64)?;
+    }
+    Ok(signed)
+}
+
+// The numbers of a summary's editions, as a column holds them.
+fn numbers_of(alloc: Global, summary: &Summary) -> Result<Vec<i64>, ReadError>
+    ensures same { IfOk result (λ numbers. numbers.items ≡ map pos (numbers_in (summary_shown summary.now).items)) }
+    ensures failed { IfErr result (FailsToSign (numbers_in (summary_shown summary.now).items)) }
+{
+    let numbers = edition_numbers(alloc, &summary.items)?;
+    signed_numbers(alloc, &numbers)
+}
+
+// How the tables of an older version are laid out.
+fn older_layout(version: u64) -> Older
+    requires older { (1 ≤ version) × (version < known) }
+    ensures { layout_of version ≡ layout_as result }
+{
+    if version == 1 {
+        return Older::Plain;
+    }
+    if version == 4 {
+        return Older::Shown;
+    }
+    Older::Keyed
+}
+
+/// Makes of the tables of an older version those of the known one, by one commit: of the same catalogue, the index of each edition,
+/// with what is shown of each entry, and its text as parts of files. What an older version derived of headwords isn't looked at. It
+/// holds one edition at a time. The tables of others stay as they are.
+///
+/// `Memory` tells that a growth was refused before the commit: all is as it was. `Disk` tells that a statement failed for
+/// another cause, or the commit did, for whatever cause: the next opening finds the catalogue under the older version or under
+/// the known one. While the store is open, it shows what it did before.
+pub fn migrate<S: Alter>(
+    alloc: Global,
+    conn: &mut Connection<S>,
+    version: u64,
+    summary: &Summary,
+) -> Result<(), Fault>
+    requires autocommit { conn.old.in_transaction ≡ false }
+    requires older { (1 ≤ version) × (version < known) }
+    requires holds { HasCleanDisk (state S.Store conn.old) → IsTrue (state S.Store conn.old).is_open → (M : Catalogue) × Rests version (state S.Store conn.old) M × (summary_of M ≡ summary_shown summary.now) }
+    ensures rests { HasCleanDisk (state S.Store conn.new) → OnOk result ((M : Catalogue) → Holds version (state S.Store conn.old).committed M → Rests known (state S.Store conn.new) M) }
+    ensures migrated { HasCleanDisk (state S.Store conn.new) → OnOk result (IsMigrated version (state S.Store conn.old).committed (state S.Store conn.new).committed) }
+    ensures spares { HasCleanDisk (state S.Store conn.new) → OnOk result (SparesOthers (state S.Store conn.old).committed (state S.Store conn.new).committed) }
+    ensures beside { Survives (state S.Store conn.old) (state S.Store conn.new) (λ trees. IsTrue (state S.Store conn.old).is_open × AreTreesOf (SparesOthers (state S.Store conn.old).committed) trees) }
+    ensures only { HasCleanDisk (state S.Store conn.new) → OnOk result ((M : Catalogue) → Holds version (state S.Store conn.old).committed M → (trees : Trees) → (state S.Store conn.new).may_leave trees → IsLeftAs known M trees) }
+    ensures lives { HasCleanDisk (state S.Store conn.new) → IsTrue (state S.Store conn.new).is_open → IsTrue (state S.Store conn.old).is_open }
+    ensures stays { HasCleanDisk (state S.Store conn.new) → OnErr result (StaysCommitted (state S.Store conn.old) (state S.Store conn.new)) }
+    ensures adds_none { IfErr result (λ fault. is_disk fault ≡ false → Survives (state S.Store conn.old) (state S.Store conn.new) (λ _. ⊥)) }
+    ensures failed { HasCleanDisk (state S.Store conn.new) → IfErr result (FailsToMigrate S.Store version (summary_shown summary.now) conn.old conn.new) }
+    ensures kinds { IfErr result IsOfStore }
+    ensures autocommit { (state S.Store conn.new).in_transaction ≡ false }
+    ensures crash { Survives (state S.Store conn.old) (state S.Store conn.new) (MayMigrate (state S.Store conn.old)) }
+{
+    let numbers = match numbers_of(alloc, summary) {
+        Ok(numbers) => numbers,
+        Err(error) => return Err(fault_of_read(error)),
+    };
+    if summary.installs > MAX_NUMBER {
+        return Err(Fault::Disk);
+    }
+    is_live(conn);
+    migrate_from(
+        alloc,
+        conn,
+        older_layout(version),
+        &numbers,
+        summary.installs,
+    )
+}

@@ -1,0 +1,101 @@
+-- What is read row by row, and what it has given so far.
+use Rattle.std.specs.Prelude.{◌≡◌, ◌⊎◌, ◌+◌, ℕ, ℤ, Bool, true, List, [], ◌∷◌, ◌++◌, Option, Some, None}
+use Rattle.sqlite.specs.declared.types.Value.TheVariants.{Int}
+use Rattle.sqlite.specs.declared.error.Error.TheVariants.{SqliteFailure}
+use Rattle.sqlite.specs.declared.error.ErrorCode.TheVariants.{OutOfMemory}
+use Rattle.sqlite.specs.Order.{Row}
+use Rattle.sqlite.specs.Table.{Table}
+use Rattle.sqlite.specs.Effect.{Database}
+use Rattle.sqlite.specs.State.{IsUnchanged}
+use Rattle.sqlite.specs.Held.{Held, state}
+use Rattle.sqlite.specs.Given as kit
+use Rattle.sqlite_trees.specs.declared.store.Store.{Ghosts}
+use Rattle.store_sql.specs.Effects.{Has, equals_number}
+use Rattle.store_sql.specs.Columns.{Content, HasColumns}
+use Rattle.store_sql.specs.declared.records.ReadError.{ReadError}
+use Rattle.store_sql.specs.declared.records.ReadError.TheVariants.{NoRecord, Store}
+use Rattle.store_sql.specs.Reads.{IsSelection, FailsToRead}
+use Rattle.store_tables.specs.Keyed.{keyed_table_of, old_entry}
+use Rattle.store_older_sql.specs.Texts.{keyed_rowid_text, keyed_select_text}
+use Rattle.store_tables.specs.declared.keyed.KeyedTable.{KeyedTable}
+use Rattle.store_tables.specs.declared.keyed.KeyedTable.TheVariants.{Entry, Word, Gram}
+
+-- which rows are read, one at a time: those of a whole table, in the order of the rowids, or of one edition; or the entries of schemas 2 and 3
+pub data OlderScan : Type 0 where
+  ByRowid : KeyedTable → OlderScan
+  Of : KeyedTable → ℤ → OlderScan
+  OldByRowid : OlderScan
+  OldOf : ℤ → OlderScan
+
+abbrev pub older_scan_table : OlderScan → ℕ → Table
+older_scan_table (ByRowid table) = keyed_table_of table
+older_scan_table (Of table edition) = keyed_table_of table
+older_scan_table OldByRowid = old_entry
+older_scan_table (OldOf edition) = old_entry
+
+abbrev pub scan_name : OlderScan → List ℕ
+scan_name what = (older_scan_table what 0).name
+
+-- the database has the tables that are read
+abbrev pub HasScanTables : OlderScan → Database → Type 0
+HasScanTables what db = Has (older_scan_table what) db
+
+-- the text that is run, and the values that it is given
+abbrev pub older_scan_text : OlderScan → List ℕ
+older_scan_text (ByRowid table) = keyed_rowid_text table
+older_scan_text (Of table edition) = keyed_select_text table
+older_scan_text OldByRowid = keyed_rowid_text Entry
+older_scan_text (OldOf edition) = keyed_select_text Entry
+
+abbrev pub older_scan_values : OlderScan → Row
+older_scan_values (ByRowid table) = []
+older_scan_values (Of table edition) = Int edition ∷ []
+older_scan_values OldByRowid = []
+older_scan_values (OldOf edition) = Int edition ∷ []
+
+-- which rows of the table are read
+abbrev pub older_scan_test : OlderScan → Row → Bool
+older_scan_test (Of table edition) = equals_number 1 edition
+older_scan_test (OldOf edition) = equals_number 1 edition
+older_scan_test _ = λ _. true
+
+abbrev pub edition_order : KeyedTable → List ℕ
+edition_order Entry = 2 ∷ []
+edition_order Word = 2 ∷ 3 ∷ []
+edition_order Gram = 2 ∷ 3 ∷ []
+
+abbrev pub older_scan_order : OlderScan → List ℕ
+older_scan_order (ByRowid table) = 0 ∷ []
+older_scan_order (Of table edition) = edition_order table
+older_scan_order OldByRowid = 0 ∷ []
+older_scan_order (OldOf edition) = 2 ∷ []
+
+-- all rows that are read, in their order
+abbrev pub AreAllOlder : OlderScan → Database → List Row → Type 0
+AreAllOlder what db rows = IsSelection (scan_name what) (older_scan_test what) (older_scan_order what) db rows
+
+-- the first of these rows
+abbrev pub IsFrontOfOlder : OlderScan → Database → List Row → Type 0
+IsFrontOfOlder what db rows = (tail : List Row) × AreAllOlder what db (rows ++ tail)
+
+module _ {S : Type 0} (g : Ghosts S) where
+  -- the connection reads this, and has given these rows
+  pub record HasGivenOlder (what : OlderScan) (h : Held S) (given : List Row) : Type 0 where
+    pub runs : kit.HasGiven g (older_scan_text what) (older_scan_values what) h given
+    pub has : HasScanTables what (state g h).now
+    pub front : IsFrontOfOlder what (state g h).now given
+
+  -- one more row is given, or those so far are all
+  abbrev pub GivesOnOlder : OlderScan → Held S → List Row → Option Row → Type 0
+  GivesOnOlder what new given (Some row) = HasGivenOlder what new (given ++ row ∷ [])
+  GivesOnOlder what new given None = AreAllOlder what (state g new).now given
+
+  -- the next row was taken, behind which the reading stands now
+  abbrev pub PassesOlder : OlderScan → Held S → Held S → List Row → Row → Type 0
+  PassesOlder what old new given row = IsUnchanged (state g old) (state g new) × HasGivenOlder what new (given ++ row ∷ [])
+
+  -- The next row is no record; or memory was refused for its record; or the store failed or the limit was met, and nothing more is given.
+  abbrev pub FailsToGiveOlder : List Content → OlderScan → Held S → Held S → List Row → ReadError → Type 0
+  FailsToGiveOlder columns what old new given NoRecord = (row : Row) × PassesOlder what old new given row × ¬ HasColumns columns row
+  FailsToGiveOlder columns what old new given (Store e) =
+      (FailsToRead (state g old) (state g new) e × kit.IsEnded new) ⊎ ((e ≡ SqliteFailure OutOfMemory) × (row : Row) × PassesOlder what old new given row)

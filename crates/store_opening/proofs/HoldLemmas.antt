@@ -1,0 +1,58 @@
+-- What a file holds of which all rows were read.
+use Rattle.std.proofs.Common.{◌≡◌, ℕ, List}
+use Rattle.sqlite.specs.Effect.{Database}
+use Rattle.dict_catalogue.specs.Steps.{Catalogue, summary_of}
+use Rattle.dict_catalogue.specs.Tests.{Holdings}
+use Rattle.store_rows.specs.Stands.{Stands}
+use Rattle.store_rows.specs.Tables.{Tables}
+use Rattle.store_rows.specs.Versions.{layout_of}
+use Rattle.store_rows.specs.declared.reader.Reader.{Reader}
+use Rattle.store_holdings.specs.Holds.{Holds, HasLayout, HoldsNoneAs}
+use Rattle.store_opening.specs.Opens.{HasAll, HasSummary, HasOthersApart}
+
+-- ---- all rows
+
+pub has_summary : (version : ℕ) (db : Database) (reader : Reader) (front after : Tables) → HasAll version db reader front after → (M : Catalogue) → Stands version after M → (holdings : Holdings (List ℕ)) → summary_of M ≡ holdings → HasSummary version db holdings
+has_summary version db reader front after a M s holdings is = record {
+  catalogue = M;
+  tables = after;
+  keeps = a.keeps;
+  apart = (a.known.editions.apart, (a.known.contents.apart, tt));
+  shown = a.shown;
+  stands = s;
+  summary = is;
+}
+
+-- ---- so it holds a catalogue
+
+pub holds_of : (version : ℕ) (db : Database) (holdings : Holdings (List ℕ)) → HasLayout (layout_of version) db.schema → HasOthersApart db → HasSummary version db holdings → (M : Catalogue) × Holds version db M × (summary_of M ≡ holdings)
+holds_of version db holdings own apart s = (
+  s.catalogue,
+  record {
+    own = own;
+    tables = s.tables;
+    keeps = (
+      record { rows = s.keeps.0; apart = apart.0.0 },
+      (
+        record { rows = s.keeps.1.0; apart = apart.0.1 },
+        (
+          record { rows = s.keeps.1.1.0; apart = apart.0.2 },
+          (
+            record { rows = s.keeps.1.1.1.0; apart = apart.1 },
+            (record { rows = s.keeps.1.1.1.1.0; apart = s.apart.0 }, (record { rows = s.keeps.1.1.1.1.1.0; apart = s.apart.1.0 }, tt)),
+          ),
+        ),
+      ),
+    );
+    shown = s.shown;
+    stands = s.stands;
+  },
+  s.summary,
+)
+
+-- a schema without the tables, or without room for the later one, is that of no such database
+pub none_without : (version : ℕ) (db : Database) → (HasLayout (layout_of version) db.schema → ⊥) → HoldsNoneAs version db
+none_without version db none M h = none h.own
+
+pub others_apart : (version : ℕ) (db : Database) (M : Catalogue) → Holds version db M → HasOthersApart db
+others_apart version db M h = ((h.keeps.0.apart, h.keeps.1.0.apart, h.keeps.1.1.0.apart), h.keeps.1.1.1.0.apart)

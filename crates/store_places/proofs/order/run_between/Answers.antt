@@ -1,0 +1,29 @@
+use Rattle.std.proofs.Common.{◌≡◌, ℕ, ◌<◌, ◌≤◌, true, false, drop, take, length, get_or, ap, sym, ◌∙◌, subst, arith, rules}
+use Rattle.std.proofs.lemmas.List.{length-take-le, take-take}
+use Rattle.std.proofs.lemmas.List.Sorted.{IsPartitionPoint-from_clause}
+use Rattle.std.specs.List.Sorted.{IsPartitionedBy, IsPartitionPoint}
+use Rattle.store_places.proofs.PlaceLemmas.{up_to, parted_up_to, parted_near, near_point, run_is}
+use Rattle.store_places.proofs.order.run_between.Goals as goal
+
+pub returns : goal.returns
+returns c =
+    let keys = c.args.texts.now in
+    let xs = c.args.sorted.now in
+    let low = c.args.low.now in
+    let high = c.args.high.now in
+    let from = c.count_before-from.result in
+    let count = c.partition_point-count.result in
+    let near = c.reach.result in
+    let rest : c.split_at.result.1.now ≡ drop from xs = c.split_at.ensures.back in
+    let within : near ≤ length (drop from xs) = subst (λ l. near ≤ length l) rest c.reach.ensures.bound in
+    let some : c.split_at-2.result.0.now ≡ take near (drop from xs) = c.split_at-2.ensures.front ∙ ap (take near) rest in
+    let parted = parted_up_to keys xs from high c.requires.rising in
+    let all = subst (IsPartitionedBy (up_to keys high)) (sym some) (parted_near (up_to keys high) (drop from xs) near within parted) in
+    let point = IsPartitionPoint-from_clause (up_to keys high) _ _ c.partition_point-count.ensures.partitioned all (λ a r q k. search rules) in
+    let there = subst (λ l. IsPartitionPoint (λ y. up_to keys high y ≡ true) (λ y. up_to keys high y ≡ false) l count) some point in
+    let size : length (take near (drop from xs)) ≡ near = length-take-le near (drop from xs) within in
+    let few : count ≤ near = omega (arith, subst (λ l. count ≤ length l) some c.partition_point-count.ensures.bound, size) in
+    let past : (d : ℕ) → near < length (drop from xs) → up_to keys high (get_or (drop from xs) near d) ≡ false = λ d lt. subst (λ l. up_to keys high (get_or l near d) ≡ false) rest (c.reach.ensures.past d (subst (λ l. near < length l) (sym rest) lt)) in
+    let second = near_point (up_to keys high) (drop from xs) parted near count past within few there in
+    let run : c.split_at-3.result.0.now ≡ take count (drop from xs) = c.split_at-3.ensures.front ∙ ap (take count) some ∙ take-take count near (drop from xs) few in
+    run ∙ run_is keys xs low high from count c.count_before-from.ensures.bound (omega (arith, few, within)) c.count_before-from.ensures.point second

@@ -1,0 +1,25 @@
+use Rattle.std.proofs.Common.{length, ap, sym, ◌∙◌, subst}
+use Rattle.std.specs.List.{zip}
+use Rattle.dict_match.specs.Words.{words_between_blanks}
+use Rattle.store_places.specs.Pieces.{AreOccurrences}
+use Rattle.store_places.specs.Wording.{words_with_places}
+use Rattle.store_places.proofs.PieceLemmas.{goes_none}
+use Rattle.store_places.proofs.wording.sort_more.Goals as goal
+
+pub returns-then-branch : goal.returns-then-branch
+returns-then-branch c = record { same = c.requires.same; are = c.requires.are; indexes = c.step.ensures }
+
+pub each_once-order-requires : goal.each_once-order-requires
+each_once-order-requires c =
+    let value = c.as_slice.ensures.value in
+    record {
+      same = c.requires.same ∙ ap length (sym value);
+      all = ap (zip c.args.sorted.found) value ∙ c.requires.are;
+      order = c.in_ok-end.ensures;
+    }
+
+pub returns : goal.returns
+returns c = record {
+  all = subst (λ l. AreOccurrences words_between_blanks c.args.keys.now (words_with_places c.args.sorted.found l c.each_once-order.result.items)) c.as_slice.ensures.value c.each_once-order.ensures;
+  first = goes_none _ _ _ c.new.ensures c.in_ok-lists.ensures;
+}

@@ -1,0 +1,139 @@
+-- Why a reading fails that tells of no damage.
+use Rattle.std.proofs.Common.{◌≡◌, ◌≤◌, ℕ, Bool, true, false, cond, inl, inr, List, [], ◌∷◌, ◌++◌, map, filter, length, codes, sym, subst, ◌∙◌, arith}
+use Rattle.std.specs.Prelude.{Result, Ok, Err, IfErr, IsErrAnd, IsSome}
+use Rattle.std.proofs.lemmas.List.{length-map, length-append}
+use Rattle.std.proofs.lemmas.List.Sorted.{length_permutation}
+use Rattle.sqlite.specs.Order.{Row}
+use Rattle.sqlite.specs.Effect.{Database}
+use Rattle.sqlite.specs.State.{State, HasCleanDisk, Survives, HasCause, IsUnchanged, store_error}
+use Rattle.sqlite.specs.Held.{Held, state}
+use Rattle.sqlite.specs.declared.error.Error.{Error}
+use Rattle.sqlite_trees.specs.declared.store.Store.{Ghosts}
+use Rattle.sqlite_trees.specs.declared.error.StoreError.{StoreError}
+use Rattle.sqlite_trees.specs.declared.error.StoreError.TheVariants.{OutOfMemory, Io, Corrupt, Full, Broken, Unstorable}
+use Rattle.store_tables.specs.Tables.{table_of}
+use Rattle.store_tables.specs.declared.tables.StoreTable.TheVariants.{Edition, Entry, Kept}
+use Rattle.store_sql.specs.Columns.{Content}
+use Rattle.store_sql.specs.Reads.{IsSelection, FailsToRead, FailsToList, rowid_and_number}
+use Rattle.store_edition_sql.specs.Chosen.{is_of_file}
+use Rattle.store_sql.specs.Streams.{Scan, FailsToMove}
+use Rattle.store_sql.specs.Streams as store
+use Rattle.store_scans.specs.Cursors.{Cursor, CursorHasGiven, IsScannedToEnd, IsFrontOfScan}
+use Rattle.store_scans.specs.Cursors.Cursor.{InStore, ShownEntriesOf, ShownEntriesByRowid, OldEntriesOf, OldEntriesByRowid, PartsOf, PartsByRowid, HeadersByRowid}
+use Rattle.store_scans.proofs.CursorLemmas.{fails_to_move}
+use Rattle.store_sql.specs.Streams.Scan.{AllEditions, AllEntries, EntriesOf, AllKept, KeptById, ByRowid, EditionNumbers}
+use Rattle.store_sql.specs.Effects.{rows_of, equals_number}
+use Rattle.store_sql.specs.declared.records.ReadError.{ReadError}
+use Rattle.store_sql.specs.declared.records.ReadError.TheVariants.{NoRecord, Store}
+use Rattle.store_sql.proofs.StreamLemmas.{passed_on}
+use Rattle.store_rows.specs.declared.fault.RowsFault.{RowsFault}
+use Rattle.store_rows.specs.declared.fault.RowsFault.TheVariants as rows
+use Rattle.store_scans.specs.declared.fault.ReadingFault.{ReadingFault}
+use Rattle.store_scans.specs.declared.fault.ReadingFault.TheVariants.{Damaged, Memory, Disk}
+use Rattle.store_scans.specs.Reading.{Same, StaysUnlessShut, IsVast, IsExcusedReading, fault_of_store, reading_fault_of, fault_of_rows}
+use Rattle.store_scans.proofs.StateLemmas.{clean_before, same_as, same_stays, failed_stays}
+
+by_cause : (old new : State) (cause : StoreError) → HasCause old new ⊥ cause → IsExcusedReading old new (fault_of_store (store_error cause))
+by_cause old new OutOfMemory h = tt
+by_cause old new Io h = inl h
+by_cause old new Corrupt h = inl h
+by_cause old new Full h = inl h
+by_cause old new Broken h = inr (inl h)
+by_cause old new Unstorable h = absurd h
+
+pub store_cause : (old new : State) (e : Error) → FailsToRead old new e → IsExcusedReading old new (fault_of_store e)
+store_cause old new e (inl fails) = subst (λ e. IsExcusedReading old new (fault_of_store e)) (sym fails.1) (by_cause old new fails.0 fails.2)
+store_cause old new e (inr limit) = subst (λ e. IsExcusedReading old new (fault_of_store e)) (sym limit.0) (inr (inr (inl limit.1)))
+
+pub list_cause : (columns : List Content) (rows : List Row) (old new : State) (e : ReadError) → FailsToList columns rows old new e → IsExcusedReading old new (reading_fault_of e)
+list_cause columns rows old new NoRecord h = tt
+list_cause columns rows old new (Store e) (inl fails) = store_cause old new e fails
+list_cause columns rows old new (Store e) (inr refused) = subst (λ e. IsExcusedReading old new (fault_of_store e)) (sym refused.1) tt
+
+pub next_cause : {S : Type 0} (g : Ghosts S) (columns : List Content) (what : Cursor) (old new : Held S) (given : List Row) (e : ReadError) → CursorHasGiven g what old given → FailsToMove g columns old new e → IsExcusedReading (state g old) (state g new) (reading_fault_of e)
+next_cause g columns what old new given NoRecord h m = tt
+next_cause g columns what old new given (Store e) h (inl fails) = store_cause (state g old) (state g new) e (fails_to_move g what old new given e h fails.0)
+next_cause g columns what old new given (Store e) h (inr refused) = subst (λ e. IsExcusedReading (state g old) (state g new) (fault_of_store e)) (sym refused.0) tt
+
+pub rows_cause : (old new : State) (fault : RowsFault) → IsExcusedReading old new (fault_of_rows fault)
+rows_cause old new rows.Damaged = tt
+rows_cause old new rows.Memory = tt
+
+-- after a call that has read, and changed nothing
+pub cause_then : (old mid new : State) → Survives old mid (λ _. ⊥) → Same old mid → (fault : ReadingFault) → IsExcusedReading mid new fault → IsExcusedReading old new fault
+cause_then old mid new survives same Damaged h = tt
+cause_then old mid new survives same Memory h = tt
+cause_then old mid new survives same Disk (inl more) = inl (let fewer = survives.counts in omega (arith, fewer, more))
+cause_then old mid new survives same Disk (inr (inl shut)) = inr (inl (sym same.is_open ∙ shut))
+cause_then old mid new survives same Disk (inr (inr (inl limit))) = inr (inr (inl (subst IsSome survives.limit limit)))
+cause_then old mid new survives same Disk (inr (inr (inr vast))) = inr (inr (inr (subst IsVast same.now vast)))
+
+-- ---- a scan that has given so many rows is of a table with no fewer
+
+few_passed : (test : Row → Bool) (xs : List Row) → length (filter test xs) ≤ length xs
+few_passed test [] = omega arith
+few_passed test (x ∷ xs) = by_test (test x) (few_passed test xs)
+  where
+    by_test : (b : Bool) → length (filter test xs) ≤ length xs → length (cond b (x ∷ filter test xs) (filter test xs)) ≤ length (x ∷ xs)
+    by_test true few = omega (arith, few)
+    by_test false few = omega (arith, few)
+
+store_vast : (what : Scan) (db : Database) (rows : List Row) → store.IsWhole what db rows → 18446744073709551615 ≤ length rows → IsVast db
+store_vast AllEditions db rows whole many = inl (Edition, let size = length_permutation (rows_of (codes "edition") db) rows whole.same in omega (arith, size, many))
+store_vast AllEntries db rows whole many = inl (Entry, let size = length_permutation (rows_of (codes "entry") db) rows whole.same in omega (arith, size, many))
+store_vast (EntriesOf number) db rows whole many =
+    inl (Entry, let size = length_permutation (filter (equals_number 1 number) (rows_of (codes "entry") db)) rows whole.same in let few = few_passed (equals_number 1 number) (rows_of (codes "entry") db) in omega (arith, size, few, many))
+store_vast AllKept db rows whole many = inl (Kept, let size = length_permutation (rows_of (codes "kept") db) rows whole.same in omega (arith, size, many))
+store_vast KeptById db rows whole many = inl (Kept, let size = length_permutation (rows_of (codes "kept") db) rows whole.same in omega (arith, size, many))
+store_vast (ByRowid table) db rows whole many = inl (table, let size = length_permutation (rows_of (table_of table 0).name db) rows whole.same in omega (arith, size, many))
+store_vast EditionNumbers db rows whole many =
+    inl (Edition, let size = length_permutation (map rowid_and_number (rows_of (codes "edition") db)) rows whole.same in let each = length-map (rows_of (codes "edition") db) rowid_and_number in omega (arith, size, each, many))
+
+-- some of the rows of a table of entries, or of parts
+entries_vast : (test : Row → Bool) (order : List ℕ) (db : Database) (rows : List Row) → IsSelection (codes "entry") test order db rows → 18446744073709551615 ≤ length rows → IsVast db
+entries_vast test order db rows whole many =
+    inl (Entry, let size = length_permutation (filter test (rows_of (codes "entry") db)) rows whole.same in let few = few_passed test (rows_of (codes "entry") db) in omega (arith, size, few, many))
+
+parts_vast : (test : Row → Bool) (order : List ℕ) (db : Database) (rows : List Row) → IsSelection (codes "dictcat_part") test order db rows → 18446744073709551615 ≤ length rows → IsVast db
+parts_vast test order db rows whole many =
+    inr (let size = length_permutation (filter test (rows_of (codes "dictcat_part") db)) rows whole.same in let few = few_passed test (rows_of (codes "dictcat_part") db) in omega (arith, size, few, many))
+
+whole_vast : (what : Cursor) (db : Database) (rows : List Row) → IsScannedToEnd what db rows → 18446744073709551615 ≤ length rows → IsVast db
+whole_vast (InStore scan) db rows whole many = store_vast scan db rows whole many
+whole_vast (ShownEntriesOf edition) db rows whole many = entries_vast (equals_number 1 edition) (2 ∷ []) db rows whole many
+whole_vast ShownEntriesByRowid db rows whole many = entries_vast (λ _. true) (0 ∷ []) db rows whole many
+whole_vast (OldEntriesOf edition) db rows whole many = entries_vast (equals_number 1 edition) (2 ∷ []) db rows whole many
+whole_vast OldEntriesByRowid db rows whole many = entries_vast (λ _. true) (0 ∷ []) db rows whole many
+whole_vast (PartsOf edition file) db rows whole many = parts_vast (is_of_file edition file) (3 ∷ []) db rows whole many
+whole_vast PartsByRowid db rows whole many = parts_vast (λ _. true) (0 ∷ []) db rows whole many
+whole_vast HeadersByRowid db rows whole many = inl (Edition, let size = length_permutation (rows_of (codes "edition") db) rows whole.same in omega (arith, size, many))
+
+pub front_vast : (what : Cursor) (db : Database) (rows : List Row) → IsFrontOfScan what db rows → 18446744073709551615 ≤ length rows → IsVast db
+front_vast what db rows front many = whole_vast what db (rows ++ front.0) front.1 (let size = length-append rows front.0 in omega (arith, size, many))
+
+-- ---- as the calls tell it
+
+pub cause_passed : {X : Type 0} (old new : State) (fault : ReadingFault) (result : Result X ReadingFault) → IsErrAnd result (λ f. f ≡ fault) → IsExcusedReading old new fault → IfErr result (IsExcusedReading old new)
+cause_passed old new fault result is h = passed_on (IsExcusedReading old new) fault result is h
+
+pub cause_later : {X : Type 0} (old mid new : State) (fault : ReadingFault) (result : Result X ReadingFault) → IsErrAnd result (λ f. f ≡ fault) → Survives old mid (λ _. ⊥) → Survives mid new (λ _. ⊥) → (HasCleanDisk mid → Same old mid) → HasCleanDisk new
+    → IsExcusedReading mid new fault → IfErr result (IsExcusedReading old new)
+cause_later old mid new fault result is one two same clean h = passed_on (IsExcusedReading old new) fault result is (cause_then old mid new one (same (clean_before old mid new two clean)) fault h)
+
+pub cause_last : {X : Type 0} (old mid new : State) (result : Result X ReadingFault) → Survives old mid (λ _. ⊥) → Survives mid new (λ _. ⊥) → (HasCleanDisk mid → Same old mid) → HasCleanDisk new → IfErr result (IsExcusedReading mid new) → IfErr result (IsExcusedReading old new)
+cause_last old mid new (Ok x) one two same clean h = tt
+cause_last old mid new (Err fault) one two same clean h = cause_then old mid new one (same (clean_before old mid new two clean)) fault h
+
+-- a scan that was begun and then fails
+pub cause_on : {S X : Type 0} (g : Ghosts S) (what : Cursor) (old mid new : Held S) (result : Result X ReadingFault) → (HasCleanDisk (state g mid) → CursorHasGiven g what mid [] × IsUnchanged (state g old) (state g mid)) → Survives (state g old) (state g mid) (λ _. ⊥) → Survives (state g mid) (state g new) (λ _. ⊥) → HasCleanDisk (state g new)
+    → IfErr result (λ fault. (any : Cursor) → CursorHasGiven g any mid [] → IsExcusedReading (state g mid) (state g new) fault) → IfErr result (IsExcusedReading (state g old) (state g new))
+cause_on g what old mid new (Ok x) begun one two clean h = tt
+cause_on g what old mid new (Err fault) begun one two clean h =
+    let first = begun (clean_before (state g old) (state g mid) (state g new) two clean) in
+    cause_then (state g old) (state g mid) (state g new) one (same_as (state g old) (state g mid) first.1) fault (h what first.0)
+
+-- what a row that isn't given leaves
+pub move_stays : {S : Type 0} (g : Ghosts S) (columns : List Content) (what : Cursor) (old new : Held S) (given : List Row) (e : ReadError) → CursorHasGiven g what old given → FailsToMove g columns old new e → StaysUnlessShut (state g old) (state g new)
+move_stays g columns what old new given NoRecord h (row, same, moved, none) = same_stays (state g old) (state g new) (same_as (state g old) (state g new) same)
+move_stays g columns what old new given (Store e) h (inl fails) = failed_stays (state g old) (state g new) e (fails_to_move g what old new given e h fails.0)
+move_stays g columns what old new given (Store e) h (inr (refused, row, same, moved)) = same_stays (state g old) (state g new) (same_as (state g old) (state g new) same)

@@ -1,0 +1,102 @@
+// The rows of editions and of their files: no two under one rowid, and none of an edition that isn't there.
+ghost use Rattle.std.specs.Prelude.{◌≡◌, codes, IfErr, OnOk};
+ghost use Rattle.sqlite.specs.State.{HasCleanDisk};
+ghost use Rattle.sqlite.specs.Held.{state};
+ghost use Rattle.store_tables.specs.Tables.{edition};
+ghost use Rattle.store_edition_sql.specs.HeaderTable.{header};
+ghost use Rattle.store_edition_sql.specs.PartTable.{part};
+ghost use Rattle.store_sql.specs.Effects.{Has, WhileOpen};
+ghost use Rattle.store_rows.specs.Versions.{Parted};
+ghost use Rattle.store_holdings.specs.Readings.{IsReadable, whole_editions, editions, contents};
+ghost use Rattle.store_scans.specs.Reading.{Same, OnlyReads, IsExcusedReading};
+ghost use Rattle.store_scans.specs.Census.{AreKnownApart, AreNumberedApart, is_known_part};
+
+use crate::census::{Census, PartCensus};
+use crate::fault::{ReadingFault, fault_of_store};
+use crate::scan::take_all;
+use sqlite::{Alter, Connection};
+use std::alloc::Global;
+use store_edition_sql::{StoredHeader, StoredPart, read_headers_by_rowid, read_parts_by_rowid};
+use store_records::StoredRow;
+use store_rows::RowidReader;
+use store_sql::records::EditionNumber;
+use store_sql::stream::read_edition_numbers;
+
+/// Tests that no two editions have one rowid, and that each has one of these numbers. Their texts aren't read.
+///
+/// `Damaged` tells that it isn't so, or that a row is of another kind than a record.
+pub fn test_editions<S: Alter>(
+    alloc: Global,
+    conn: &mut Connection<S>,
+    numbers: &[i64],
+) -> Result<(), ReadingFault>
+    requires { WhileOpen (state S.Store conn.old) (Has edition) }
+    ensures reads { OnlyReads (state S.Store conn.old) (state S.Store conn.new) }
+    ensures failed { HasCleanDisk (state S.Store conn.new) → IfErr result (IsExcusedReading (state S.Store conn.old) (state S.Store conn.new)) }
+    ensures same { HasCleanDisk (state S.Store conn.new) → OnOk result (Same (state S.Store conn.old) (state S.Store conn.new)) }
+    ensures whole { HasCleanDisk (state S.Store conn.new) → OnOk result (AreNumberedApart numbers.now (codes "edition") (state S.Store conn.old).now) }
+    ensures damaged { HasCleanDisk (state S.Store conn.new) → IfErr result (λ fault. fault ≡ ReadingFault.Damaged → IsReadable whole_editions (state S.Store conn.old).now → AreNumberedApart numbers.now (codes "edition") (state S.Store conn.old).now → ⊥) }
+{
+    let mut rows = match read_edition_numbers(conn) {
+        Ok(rows) => rows,
+        Err(error) => return Err(fault_of_store(error)),
+    };
+    let mut census = Census {
+        numbers,
+        rowids: RowidReader::new(),
+    };
+    take_all::<S, StoredRow<EditionNumber>, Census<'_>>(alloc, &mut rows, &mut census)
+}
+
+/// The same of editions whose texts stand in parts.
+pub fn test_headers<S: Alter>(
+    alloc: Global,
+    conn: &mut Connection<S>,
+    numbers: &[i64],
+) -> Result<(), ReadingFault>
+    requires { WhileOpen (state S.Store conn.old) (Has header) }
+    ensures reads { OnlyReads (state S.Store conn.old) (state S.Store conn.new) }
+    ensures failed { HasCleanDisk (state S.Store conn.new) → IfErr result (IsExcusedReading (state S.Store conn.old) (state S.Store conn.new)) }
+    ensures same { HasCleanDisk (state S.Store conn.new) → OnOk result (Same (state S.Store conn.old) (state S.Store conn.new)) }
+    ensures whole { HasCleanDisk (state S.Store conn.new) → OnOk result (AreNumberedApart numbers.now (codes "edition") (state S.Store conn.old).now) }
+    ensures damaged { HasCleanDisk (state S.Store conn.new) → IfErr result (λ fault. fault ≡ ReadingFault.Damaged → IsReadable (editions Parted) (state S.Store conn.old).now → AreNumberedApart numbers.now (codes "edition") (state S.Store conn.old).now → ⊥) }
+{
+    let mut rows = match read_headers_by_rowid(conn) {
+        Ok(rows) => rows,
+        Err(error) => return Err(fault_of_store(error)),
+    };
+    let mut census = Census {
+        numbers,
+        rowids: RowidReader::new(),
+    };
+    take_all::<S, StoredHeader, Census<'_>>(alloc, &mut rows, &mut census)
+}
+
+/// Tests that no two parts have one rowid, and that each is one of the index or of the text of an edition that has one of these
+/// numbers. One scan does both, and holds one part.
+///
+/// `Damaged` tells that it isn't so, or that a row is of another kind than a part.
+pub fn test_parts<S: Alter>(
+    alloc: Global,
+    conn: &mut Connection<S>,
+    numbers: &[i64],
+) -> Result<(), ReadingFault>
+    requires { WhileOpen (state S.Store conn.old) (Has part) }
+    ensures reads { OnlyReads (state S.Store conn.old) (state S.Store conn.new) }
+    ensures failed { HasCleanDisk (state S.Store conn.new) → IfErr result (IsExcusedReading (state S.Store conn.old) (state S.Store conn.new)) }
+    ensures same { HasCleanDisk (state S.Store conn.new) → OnOk result (Same (state S.Store conn.old) (state S.Store conn.new)) }
+    ensures whole { HasCleanDisk (state S.Store conn.new) → OnOk result (AreKnownApart (is_known_part numbers.now) (codes "dictcat_part") (state S.Store conn.old).now) }
+    ensures damaged { HasCleanDisk (state S.Store conn.new) → IfErr result (λ fault. fault ≡ ReadingFault.Damaged → IsReadable (contents Parted) (state S.Store conn.old).now → AreKnownApart (is_known_part numbers.now) (codes "dictcat_part") (state S.Store conn.old).now → ⊥) }
+{
+    let mut rows = match read_parts_by_rowid(conn) {
+        Ok(rows) => rows,
+        Err(error) => return Err(fault_of_store(error)),
+    };
+    let mut census = PartCensus {
+        census: Census {
+            numbers,
+            rowids: RowidReader::new(),
+        },
+    };
+    take_all::<S, StoredPart, PartCensus<'_>>(alloc, &mut rows, &mut census)
+}

@@ -1,0 +1,5 @@
+use Rattle.store_places.proofs.SelectionLemmas.{selects}
+use Rattle.store_search.proofs.laws.selection_law.Goals as goal
+
+pub returns : goal.returns
+returns c = selects

@@ -1,0 +1,60 @@
+-- The texts of the statements leave a transaction open.
+use Rattle.std.proofs.Common.{ℕ, List}
+use Rattle.std.specs.Prelude.{Option}
+use Rattle.sqlite.specs.Source.{Source}
+use Rattle.sqlite.specs.Table.{Table}
+use Rattle.sqlite.specs.Term.{Term}
+use Rattle.sqlite_ast.specs.declared.Expr.{Expr}
+use Rattle.sqlite_syntax.specs.declared.statement.Parsed.{Parsed}
+use Rattle.store_tables.specs.declared.tables.StoreTable.{StoreTable}
+use Rattle.store_tables.specs.declared.tables.StoreTable.TheVariants as store
+use Rattle.store_sql.specs.Creates.{create_text}
+use Rattle.store_sql.specs.Deletes.{clear_text}
+use Rattle.store_sql.specs.Drops.{drop_text}
+use Rattle.store_sql.specs.Transactions.{EndsNothing}
+use Rattle.store_sql.proofs.CreateLemmas as create
+use Rattle.store_sql.proofs.CreateLemmas.{ReadsCreate, def_in}
+use Rattle.store_sql.proofs.DeleteTexts as delete
+use Rattle.store_sql.proofs.DeleteTexts.{ReadsDelete}
+use Rattle.store_sql.proofs.DropLemmas as drop
+use Rattle.store_sql.proofs.DropLemmas.{ReadsDrop}
+use Rattle.store_sql.proofs.KindLemmas.{insert_ends_nothing, delete_ends_nothing, create_ends_nothing, drop_ends_nothing}
+use Rattle.store_sql.proofs.TextLemmas.{ReadsInsert, cols_in, rows_in}
+use Rattle.std.proofs.Common.{false}
+
+module _ (text : List ℕ) (p : Parsed) where
+  pub insert_ends_none : (table : ℕ → Table) (s : Source) → ReadsInsert text p table s → EndsNothing text
+  insert_ends_none table s r = insert_ends_nothing text p r.read (table 0).name (cols_in p.statement) (rows_in p.statement) (r.statement 0)
+
+  pub delete_ends_none : (table : ℕ → Table) (condition : Option Expr) (filter : List Term) (left : ℕ) → ReadsDelete text p table condition filter left → EndsNothing text
+  delete_ends_none table condition filter left r = delete_ends_nothing text p r.read (table 0).name condition (r.statement 0)
+
+  pub create_ends_none : (table : Table) → ReadsCreate text p table → EndsNothing text
+  create_ends_none table r = create_ends_nothing text p r.read (def_in p.statement) r.statement
+
+  pub drop_ends_none : (table : ℕ → Table) → ReadsDrop text p table → EndsNothing text
+  drop_ends_none table r = drop_ends_nothing text p r.read false (table 0).name (r.statement 0)
+
+pub make_ends_none : (t : StoreTable) → EndsNothing (create_text t)
+make_ends_none store.Mark = create_ends_none _ create.read_mark _ create.reads_mark
+make_ends_none store.Item = create_ends_none _ create.read_item _ create.reads_item
+make_ends_none store.Member = create_ends_none _ create.read_member _ create.reads_member
+make_ends_none store.Edition = create_ends_none _ create.read_edition _ create.reads_edition
+make_ends_none store.Entry = create_ends_none _ create.read_entry _ create.reads_entry
+make_ends_none store.Kept = create_ends_none _ create.read_kept _ create.reads_kept
+
+pub clear_ends_none : (t : StoreTable) → EndsNothing (clear_text t)
+clear_ends_none store.Mark = delete_ends_none _ delete.read_mark _ _ _ _ delete.reads_mark
+clear_ends_none store.Item = delete_ends_none _ delete.read_item _ _ _ _ delete.reads_item
+clear_ends_none store.Member = delete_ends_none _ delete.read_member _ _ _ _ delete.reads_member
+clear_ends_none store.Edition = delete_ends_none _ delete.read_every_edition _ _ _ _ delete.reads_every_edition
+clear_ends_none store.Entry = delete_ends_none _ delete.read_every_entry _ _ _ _ delete.reads_every_entry
+clear_ends_none store.Kept = delete_ends_none _ delete.read_every_kept _ _ _ _ delete.reads_every_kept
+
+pub take_ends_none : (t : StoreTable) → EndsNothing (drop_text t)
+take_ends_none store.Mark = drop_ends_none _ drop.read_mark _ drop.reads_mark
+take_ends_none store.Item = drop_ends_none _ drop.read_item _ drop.reads_item
+take_ends_none store.Member = drop_ends_none _ drop.read_member _ drop.reads_member
+take_ends_none store.Edition = drop_ends_none _ drop.read_edition _ drop.reads_edition
+take_ends_none store.Entry = drop_ends_none _ drop.read_entry _ drop.reads_entry
+take_ends_none store.Kept = drop_ends_none _ drop.read_kept _ drop.reads_kept

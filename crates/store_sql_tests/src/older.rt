@@ -1,0 +1,80 @@
+//! The tables `edition` and `entry` of schema 4, read inside a transaction, and the first of them dropped.
+
+use crate::checks::{holds, same_text};
+use crate::opened::open;
+use crate::texts::{raw, told};
+use sqlite::{Alter, Connection, Error};
+use std::alloc::Global;
+use std::process::Abort;
+use std::test::Fail;
+use store_older_sql::{drop_old_edition, editions_inside, has_keyed_table, shown_entries_inside};
+use store_sql::records::ReadError;
+use store_sql::transaction::{commit_open, roll_back};
+use store_tables::{KeyedTable, StoreTable, has_table, is_name_used};
+
+const EDITIONS: &str =
+    "[Stored { rowid: 2, value: Edition { number: 2, owner: \"gem\", title: \"Gems\", info: \"\", body: [111, 114, 101] } }]";
+
+const ENTRIES: &str =
+    "[Stored { rowid: 2, value: KeyedEntry { edition: 2, ord: 0, headword: \"gem\", start: 0, length: 3, key: [], reversed: [103], shown: \"Gem\" } }, \
+     Stored { rowid: 1, value: KeyedEntry { edition: 2, ord: 1, headword: \"ore\", start: 3, length: 0, key: [111], reversed: [], shown: \"ore\" } }]";
+
+fn editions_of<S: Alter>(
+    alloc: Global,
+    conn: &mut Connection<S>,
+    number: i64,
+) -> Result<String, ReadError> {
+    open(conn)?;
+    if !has_table(conn.schema(), StoreTable::Edition) {
+        return Err(ReadError::Store(Error::InvalidQuery));
+    }
+    let found = told(alloc, editions_inside(alloc, conn, number));
+    roll_back(conn);
+    found
+}
+
+fn entries_of<S: Alter>(
+    alloc: Global,
+    conn: &mut Connection<S>,
+    edition: i64,
+) -> Result<String, ReadError> {
+    open(conn)?;
+    if !has_keyed_table(conn.schema(), KeyedTable::Entry) {
+        return Err(ReadError::Store(Error::InvalidQuery));
+    }
+    let found = told(alloc, shown_entries_inside(alloc, conn, edition));
+    roll_back(conn);
+    found
+}
+
+fn drop_editions<S: Alter>(conn: &mut Connection<S>) -> Result<usize, Error> {
+    open(conn)?;
+    if !has_table(conn.schema(), StoreTable::Edition) {
+        return Err(Error::InvalidQuery);
+    }
+    drop_old_edition(conn)?;
+    commit_open(conn)
+}
+
+/// An edition comes with its text, and its entries in the order of their places, whatever their keys are. Where the table of editions went its name is free.
+pub(crate) fn run<S: Alter>(
+    rt: &impl Abort,
+    alloc: Global,
+    conn: &mut Connection<S>,
+) -> Result<(), Fail> {
+    raw(
+        conn,
+        "CREATE TABLE edition (number INTEGER NOT NULL PRIMARY KEY, owner TEXT NOT NULL, title TEXT NOT NULL, info TEXT NOT NULL, body BLOB NOT NULL) STRICT; INSERT INTO edition VALUES (2, 'gem', 'Gems', '', x'6f7265'), (1, '', '', '', x'')",
+    )?;
+    raw(
+        conn,
+        "CREATE TABLE entry (edition INTEGER NOT NULL, ord INTEGER NOT NULL, headword TEXT NOT NULL, start INTEGER NOT NULL, length INTEGER NOT NULL, key BLOB NOT NULL, rkey BLOB NOT NULL, shown TEXT NOT NULL, PRIMARY KEY (edition, ord)) STRICT; INSERT INTO entry VALUES (2, 1, 'ore', 3, 0, x'6f', x'', 'ore'), (2, 0, 'gem', 0, 3, x'', x'67', 'Gem'), (1, 0, 'opal', 0, 7, x'', x'', 'opal')",
+    )?;
+    let editions = editions_of(alloc, conn, 2)?;
+    same_text(rt, editions.as_str(), EDITIONS);
+    let entries = entries_of(alloc, conn, 2)?;
+    same_text(rt, entries.as_str(), ENTRIES);
+    drop_editions(conn)?;
+    holds(rt, !is_name_used(conn.schema(), b"edition"), "edition");
+    Ok(())
+}

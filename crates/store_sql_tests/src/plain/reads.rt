@@ -1,0 +1,177 @@
+//! What is read of each table.
+
+use crate::checks::same_text;
+use crate::rest::told_rest;
+use crate::texts::told;
+use sqlite::{Alter, Connection, Error, Rows};
+use std::alloc::Global;
+use std::process::Abort;
+use std::test::Fail;
+use store_records::{EntryRecord, KeptRecord, Mark, StoredRow};
+use store_sql::read::{editions_numbered, items, kept_replies_of, members};
+use store_sql::records::{EditionNumber, ReadError};
+use store_sql::stream::{
+    next_record, read_by_rowid, read_edition_numbers, read_entries_of, read_kept_replies,
+};
+use store_tables::{StoreTable, has_table};
+
+// What is read as a list, and what row by row.
+#[derive(Clone, Copy)]
+enum Wanted {
+    Items,
+    Members,
+    EditionsNumbered(i64),
+    KeptRepliesOf(&'static str),
+    Streamed(Stream),
+}
+
+#[derive(Clone, Copy)]
+enum Stream {
+    Marks,
+    EditionNumbers,
+    EntriesOf(i64),
+    KeptReplies,
+    KeptPastAFault,
+}
+
+const MARKS: &str =
+    "[Stored { rowid: 1, value: Mark { id: 1, magic: \"dictcat\", version: 2, installs: 8 } }, \
+     Stored { rowid: 2, value: Mark { id: 2, magic: \"\", version: 9223372036854775807, installs: -1 } }]";
+
+const ITEMS: &str =
+    "[Stored { rowid: 0, value: Item { place: 0, name: \"gem\", kind: 0, title: None, current: Some(9223372036854775807), former: None } }, \
+     Stored { rowid: 1, value: Item { place: 1, name: \"all\", kind: 1, title: Some(\"It's \\\"all\\\"\"), current: None, former: None } }]";
+
+const MEMBERS: &str =
+    "[Stored { rowid: 3, value: Member { owner: \"a\", ord: 0, name: \"gem\" } }, \
+     Stored { rowid: 2, value: Member { owner: \"a\", ord: 1, name: \"ore\" } }, \
+     Stored { rowid: 1, value: Member { owner: \"b\", ord: 0, name: \"gem\" } }]";
+
+const SECOND: &str =
+    "[Stored { rowid: 2, value: Edition { number: 2, owner: \"owner\", title: \"title\", info: \"it's \\\"quoted\\\"\\u{1}\\t\\n\", body: [0, 255, 39, 34] } }]";
+
+const NUMBERS: &str = "[Stored { rowid: 2, value: EditionNumber { number: 2 } }, \
+     Stored { rowid: 3, value: EditionNumber { number: 3 } }]";
+
+const OF_FIRST: &str =
+    "[Stored { rowid: 3, value: Entry { edition: 1, ord: 0, headword: \"\", start: 0, length: 9223372036854775807 } }, \
+     Stored { rowid: 2, value: Entry { edition: 1, ord: 1, headword: \"opal\", start: 1, length: 9223372036854775807 } }]";
+
+const REPLIES: &str =
+    "[Stored { rowid: 2, value: Kept { id: \"it's\", number: 1, verb: \"install\", name: \"gem\", edition: None } }, \
+     Stored { rowid: 1, value: Kept { id: \"r2\", number: 2, verb: \"install\", name: \"gem\", edition: Some(9223372036854775807) } }, \
+     Stored { rowid: 3, value: Kept { id: \"r3\", number: 3, verb: \"retire\", name: \"gem\", edition: None } }, \
+     Stored { rowid: 4, value: Kept { id: \"r4\", number: 4, verb: \"retire\", name: \"ore\", edition: None } }]";
+
+const REPLIES_PAST_FIRST: &str =
+    "[Stored { rowid: 1, value: Kept { id: \"r2\", number: 2, verb: \"install\", name: \"gem\", edition: Some(9223372036854775807) } }, \
+     Stored { rowid: 3, value: Kept { id: \"r3\", number: 3, verb: \"retire\", name: \"gem\", edition: None } }, \
+     Stored { rowid: 4, value: Kept { id: \"r4\", number: 4, verb: \"retire\", name: \"ore\", edition: None } }]";
+
+const SECOND_REPLY: &str =
+    "[Stored { rowid: 1, value: Kept { id: \"r2\", number: 2, verb: \"install\", name: \"gem\", edition: Some(9223372036854775807) } }]";
+
+// What is read, and its records as text. Marks have every number of 64 bits. Items come in the order of their places, with a title or an edition or none; members by owner and then in their order; editions in the order of their numbers, and texts may be empty, and have quote signs and control characters; entries of an edition in their order; kept replies in the order of their numbers.
+static READS: [(Wanted, &str); 11] = [
+    (Wanted::Streamed(Stream::Marks), MARKS),
+    (Wanted::Items, ITEMS),
+    (Wanted::Members, MEMBERS),
+    (Wanted::EditionsNumbered(1), "[]"),
+    (Wanted::EditionsNumbered(2), SECOND),
+    (Wanted::Streamed(Stream::EditionNumbers), NUMBERS),
+    (Wanted::Streamed(Stream::EntriesOf(1)), OF_FIRST),
+    (Wanted::Streamed(Stream::KeptReplies), REPLIES),
+    (Wanted::KeptRepliesOf("r2"), SECOND_REPLY),
+    (Wanted::KeptRepliesOf("R2"), "[]"),
+    (Wanted::Streamed(Stream::KeptPastAFault), REPLIES_PAST_FIRST),
+];
+
+// The text of the kept replies behind the first, which is refused where a mark is asked for.
+fn told_past_a_fault<S: Alter>(alloc: Global, rows: &mut Rows<'_, S>) -> Result<String, ReadError> {
+    let next: Result<Option<StoredRow<Mark<String>>>, ReadError> = next_record(rows);
+    let is_refused = matches!(&next, Err(ReadError::NoRecord));
+    drop(next);
+    if is_refused {
+        told_rest::<S, StoredRow<KeptRecord<String>>>(alloc, rows)
+    } else {
+        Err(ReadError::Store(Error::InvalidQuery))
+    }
+}
+
+fn begin<S: Alter>(conn: &mut Connection<S>, stream: Stream) -> Result<Rows<'_, S>, Error> {
+    let schema = conn.schema();
+    if !has_table(schema, StoreTable::Mark)
+        || !has_table(schema, StoreTable::Edition)
+        || !has_table(schema, StoreTable::Entry)
+        || !has_table(schema, StoreTable::Kept)
+    {
+        return Err(Error::InvalidQuery);
+    }
+    match stream {
+        Stream::Marks => read_by_rowid(conn, StoreTable::Mark),
+        Stream::EditionNumbers => read_edition_numbers(conn),
+        Stream::EntriesOf(edition) => read_entries_of(conn, edition),
+        Stream::KeptReplies | Stream::KeptPastAFault => read_kept_replies(conn),
+    }
+}
+
+fn told_of<S: Alter>(
+    alloc: Global,
+    rows: &mut Rows<'_, S>,
+    stream: Stream,
+) -> Result<String, ReadError> {
+    match stream {
+        Stream::Marks => told_rest::<S, StoredRow<Mark<String>>>(alloc, rows),
+        Stream::EditionNumbers => told_rest::<S, StoredRow<EditionNumber>>(alloc, rows),
+        Stream::EntriesOf(_) => told_rest::<S, StoredRow<EntryRecord<String>>>(alloc, rows),
+        Stream::KeptReplies => told_rest::<S, StoredRow<KeptRecord<String>>>(alloc, rows),
+        Stream::KeptPastAFault => told_past_a_fault(alloc, rows),
+    }
+}
+
+fn read_stream<S: Alter>(
+    alloc: Global,
+    conn: &mut Connection<S>,
+    stream: Stream,
+) -> Result<String, ReadError> {
+    let mut rows = begin(conn, stream)?;
+    let told = told_of(alloc, &mut rows, stream);
+    drop(rows);
+    told
+}
+
+// What is wanted, as text.
+fn read<S: Alter>(
+    alloc: Global,
+    conn: &mut Connection<S>,
+    wanted: Wanted,
+) -> Result<String, ReadError> {
+    let schema = conn.schema();
+    if !has_table(schema, StoreTable::Item)
+        || !has_table(schema, StoreTable::Member)
+        || !has_table(schema, StoreTable::Edition)
+        || !has_table(schema, StoreTable::Kept)
+    {
+        return Err(ReadError::Store(Error::InvalidQuery));
+    }
+    match wanted {
+        Wanted::Items => told(alloc, items(alloc, conn)),
+        Wanted::Members => told(alloc, members(alloc, conn)),
+        Wanted::EditionsNumbered(number) => told(alloc, editions_numbered(alloc, conn, number)),
+        Wanted::KeptRepliesOf(id) => told(alloc, kept_replies_of(alloc, conn, id)),
+        Wanted::Streamed(stream) => read_stream(alloc, conn, stream),
+    }
+}
+
+/// What each table has. A row that is asked for as another record is refused, and those behind it are read.
+pub(crate) fn look<S: Alter>(
+    rt: &impl Abort,
+    alloc: Global,
+    conn: &mut Connection<S>,
+) -> Result<(), Fail> {
+    for (wanted, expected) in &READS {
+        let text = read(alloc, conn, *wanted)?;
+        same_text(rt, text.as_str(), *expected);
+    }
+    Ok(())
+}

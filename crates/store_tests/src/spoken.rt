@@ -1,0 +1,85 @@
+//! Sessions over a database.
+use crate::checks::{holds, same_text};
+use dict_desk::{Fault, Lookup};
+use dict_proto::{LimitedSink, OverRead};
+use dict_session::{Session, SessionEnd, Step};
+use sqlite::{Alter, Connection};
+use std::alloc::{AllocError, Global};
+use std::process::Abort;
+use std::test::Fail;
+use store_desk::session_over;
+use store_fixtures::connection_of;
+
+const BANNER: &str = "220 dict.example.org dictcat ready <7@dict.example.org>\r\n";
+
+// A session with this input; the connection, and how it ended.
+fn spoken<S: Alter + Drop>(
+    alloc: Global,
+    conn: Connection<S>,
+    input: &str,
+    writer: &mut LimitedSink,
+) -> (Connection<S>, &'static str) {
+    if !conn.is_autocommit() {
+        return (conn, "in a transaction");
+    }
+    let mut reader = OverRead::new(input.as_bytes());
+    match session_over(alloc, conn, &mut reader, writer, "dict.example.org", 7) {
+        Ok((desk, Ok(SessionEnd::Quit))) => (connection_of(desk), "quit"),
+        Ok((desk, Ok(SessionEnd::InputEnd))) => (connection_of(desk), "input end"),
+        Ok((desk, Err(_))) => (connection_of(desk), "a failure"),
+        Err((conn, Fault::NotACatalogue)) => (conn, "no catalogue"),
+        Err((conn, _)) => (conn, "another fault"),
+    }
+}
+
+// Whether the session wrote this behind its banner, or nothing, and ended so.
+fn is_told(writer: &LimitedSink, end: &str, wanted: &str) -> bool {
+    let text = str::from_utf8(writer.taken()).unwrap_or("not UTF-8");
+    let text = text.strip_prefix(BANNER).unwrap_or(text);
+    wanted.strip_prefix(text) == Some(end)
+}
+
+/// A session with this input writes this behind its banner, and how it ended.
+pub(crate) fn speak<S: Alter + Drop>(
+    rt: &impl Abort,
+    alloc: Global,
+    conn: Connection<S>,
+    input: &str,
+    wanted: &str,
+) -> (Connection<S>, Result<(), Fail>) {
+    let mut writer = match LimitedSink::new(alloc, 10_000) {
+        Ok(writer) => writer,
+        Err(_) => return (conn, Err(Fail::new("no memory"))),
+    };
+    let (conn, end) = spoken(alloc, conn, input, &mut writer);
+    holds(rt, is_told(&writer, end, wanted), input);
+    (conn, Ok(()))
+}
+
+const DEFINED: &str =
+    "150 1 definitions retrieved\r\n151 \"opal\" gem \"Gems\"\r\nopal\r\n  a stone\r\n.\r\n250 ok\r\n";
+
+// What a session comes to that is sent one line, and what it writes into a sink with this room.
+fn told_with_room<L: Lookup>(
+    alloc: Global,
+    desk: &mut L,
+    room: usize,
+) -> Result<String, AllocError> {
+    let mut sink = LimitedSink::new(alloc, room)?;
+    let mut session = Session::new(alloc, "dict.example.org", 7)?;
+    let step = session.feed(alloc, b"DEFINE gem OPAL\r\n", desk, &mut sink);
+    let taken = str::from_utf8(sink.taken()).unwrap_or("not UTF-8");
+    format!(in alloc; "{step:?} {taken}")
+}
+
+/// A client that takes fewer octets than the answer has is sent its first ones; and one that takes all, all.
+pub(crate) fn cut<L: Lookup>(rt: &impl Abort, alloc: Global, desk: &mut L) -> Result<(), Fail> {
+    for room in 0..=80usize {
+        let step = if room < 80 { Step::Broken } else { Step::More };
+        let front = DEFINED.get(..room).unwrap_or("no front");
+        let wanted = format!(in alloc; "{step:?} {front}")?;
+        let found = told_with_room(alloc, desk, room)?;
+        same_text(rt, found.as_str(), wanted.as_str(), "a client");
+    }
+    Ok(())
+}
