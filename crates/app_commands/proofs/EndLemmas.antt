@@ -102,7 +102,8 @@ spared_other (CannotBind address) reader writer h other = h
 spared_other CannotWait reader writer h other = h
 spared_other Memory reader writer h other = h
 
-module _ {K D B L : Type 0} (k : lookup.Ghosts K) (d : desks.Ghosts D K) (c : catalogues.Ghosts D K) (n : network.Ghosts B L SystemSockets) (expects : K → Expected → K → Type 0) (prepares : K → Result Bool Fault → K → Type 0) (plain : PlainState) (old new : D) where
+module _ {K D B L : Type 0} (k : lookup.Ghosts K) (d : desks.Ghosts D K) (c : catalogues.Ghosts D K) (n : network.Ghosts B L SystemSockets) (expects : K → Expected → K → Type 0) (prepares : K → Result Bool Fault → K → Type 0)
+    (plain : PlainState) (old new : D) where
   -- a status is at most 4
   pub statuses : (files : List ℕ → Option (List ℕ)) (words : List (List ℕ)) (status : ℕ) (reader writer faults : StreamChange)
       → CommandEnds k d c n expects prepares files plain old new words status reader writer faults → status ≤ 4
@@ -159,7 +160,8 @@ module _ {K D B L : Type 0} (k : lookup.Ghosts K) (d : desks.Ghosts D K) (c : ca
   misread files words reader writer faults (inr (h, same)) = (h.2, h.3)
 
   -- a session over a file that was told as broken
-  spoken_failed : (words : List (List ℕ)) (file : _) (fault : ProgramFault) (reader writer : StreamChange) → AskForTask words (SpeaksOver file) → SessionEnds k d c file.now old new (Err fault) reader writer → IsFailed k d c expects prepares plain old new words reader writer
+  spoken_failed : (words : List (List ℕ)) (file : _) (fault : ProgramFault) (reader writer : StreamChange) → AskForTask words (SpeaksOver file) → SessionEnds k d c file.now old new (Err fault) reader writer
+      → IsFailed k d c expects prepares plain old new words reader writer
   spoken_failed words file (Line refusal line) reader writer asks h = inl h.1
   spoken_failed words file (Edition refusal) reader writer asks h = inl h.1
   spoken_failed words file (Refused refusal) reader writer asks h = inl h.1
@@ -194,7 +196,8 @@ module _ {K D B L : Type 0} (k : lookup.Ghosts K) (d : desks.Ghosts D K) (c : ca
   task_failed files words (Create file) fault reader writer asks h e = inl (h.1, h.2)
   task_failed files words (Lists file) fault reader writer asks h e = spoiled_failed k d c expects prepares plain old new words fault reader writer h.1 (list_spoils k d file.now old new fault writer h.0)
   task_failed files words (Audit file) fault reader writer asks h e = spoiled_failed k d c expects prepares plain old new words fault reader writer h.1 (audit_spoils k d c file.now old new fault writer h.0)
-  task_failed files words (Changes file name id what) fault reader writer asks h e = spoiled_failed k d c expects prepares plain old new words fault reader writer h.1 (task_spoils k d files old new file.now name.now id.now what fault writer h.0)
+  task_failed files words (Changes file name id what) fault reader writer asks h e =
+      spoiled_failed k d c expects prepares plain old new words fault reader writer h.1 (task_spoils k d files old new file.now name.now id.now what fault writer h.0)
   task_failed files words (Serves file dict http rounds) fault reader writer asks h e =
       serves_failed k d c expects prepares plain old new n words file.now dict.now http.now rounds fault reader writer h.1 e (λ served. (Serves file dict http rounds, asks, served, h.1)) h.0
   task_failed files words (SpeaksOver file) fault reader writer asks h e = spoken_failed words file fault reader writer asks h
@@ -263,7 +266,8 @@ module _ {K D B L : Type 0} (k : lookup.Ghosts K) (d : desks.Ghosts D K) (c : ca
   change_unchanged files path name id (changes.Place at) writer (inl h) = inl h
   change_unchanged files path name id (changes.Place at) writer (inr (desk, left, closed, is, does, shut, (made, spared))) = inr (desk, left, closed, is, does, shut, spared refl)
 
-  task_unchanged : (files : List ℕ → Option (List ℕ)) (task : Task) (reader writer : StreamChange) → TaskEnds k d c n expects prepares files plain old new task (Err Memory) reader writer → IsUnchanged k d c expects prepares old new task writer
+  task_unchanged : (files : List ℕ → Option (List ℕ)) (task : Task) (reader writer : StreamChange) → TaskEnds k d c n expects prepares files plain old new task (Err Memory) reader writer
+      → IsUnchanged k d c expects prepares old new task writer
   task_unchanged files (Plain name index text) reader writer h = tt
   task_unchanged files (Create file) reader writer h = tt
   task_unchanged files (Lists file) reader writer h = tt

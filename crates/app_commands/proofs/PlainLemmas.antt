@@ -19,7 +19,8 @@ use Rattle.dict_catalogue.specs.Steps.{accepted, refused, empty_catalogue, step,
 use Rattle.dict_catalogue.specs.declared.fault.CommandRefusal.{CommandRefusal}
 use Rattle.dict_catalogue.specs.declared.fault.CommandRefusal.TheVariants.{BadName}
 
-refused_by : (name : List ℕ) (edition : Edition) (b : Bool) (refusal : CommandRefusal) → (decided empty_catalogue (codes "plain") (install name edition) (if b then None else Some BadName)).reply ≡ refused refusal → (refusal ≡ BadName) × (b ≡ false)
+refused_by : (name : List ℕ) (edition : Edition) (b : Bool) (refusal : CommandRefusal) → (decided empty_catalogue (codes "plain") (install name edition) (if b then None else Some BadName)).reply ≡ refused refusal
+    → (refusal ≡ BadName) × (b ≡ false)
 refused_by name edition true refusal e = cc
 refused_by name edition false refusal e = (cc, refl)
 

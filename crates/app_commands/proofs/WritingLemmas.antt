@@ -104,7 +104,8 @@ module _ {K D : Type 0} (k : lookup.Ghosts K) (d : desks.Ghosts D K) where
     serves_spoils path dict http rounds fault writer (kept, inr (desk, opened, inr (served, done, same, bound))) = inr (desk, served, done)
 
     -- a server is never refused
-    pub serves_refused : (path dict http : List ℕ) (rounds : Option ℕ) (fault : ProgramFault) (writer : StreamChange) → 1 ≡ status_of fault → ServesOn k d n expects prepares path dict http rounds old new (Err fault) writer → IsUntouched writer
+    pub serves_refused : (path dict http : List ℕ) (rounds : Option ℕ) (fault : ProgramFault) (writer : StreamChange) → 1 ≡ status_of fault → ServesOn k d n expects prepares path dict http rounds old new (Err fault) writer
+        → IsUntouched writer
     serves_refused path dict http rounds fault writer e h = elim (serves_spoils path dict http rounds fault writer h) [
       | inl spoils ↦ spoils_not_3 fault writer (λ f. omega (arith, e, f)) spoils
       | inr served ↦ absurd (ends_not_1 k.is_closed (WasShutBy k d new) (IsNotReopened k.leaves_one_of d.is_unreopened d.still_leaves new path) served.1.stretches served.1.last fault served.1.ends e)
@@ -129,7 +130,8 @@ module _ {K D : Type 0} (k : lookup.Ghosts K) (d : desks.Ghosts D K) (c : catalo
     spoiled_failed words fault reader writer r (inr h) = inr (inr (inl (r, h.1)))
 
     -- the server failed before it told its addresses, or afterwards
-    pub serves_failed : {B L : Type 0} (n : network.Ghosts B L SystemSockets) (words : List (List ℕ)) (path dict http : List ℕ) (rounds : Option ℕ) (fault : ProgramFault) (reader writer : StreamChange) → IsUntouched reader → 3 ≡ status_of fault
+    pub serves_failed : {B L : Type 0} (n : network.Ghosts B L SystemSockets) (words : List (List ℕ)) (path dict http : List ℕ) (rounds : Option ℕ) (fault : ProgramFault) (reader writer : StreamChange) → IsUntouched reader → 3
+        ≡ status_of fault
         → (IsServedUntil k d expects prepares path dict http rounds old new fault writer → IsCutOff k d c expects prepares old new words fault reader writer) → ServesOn k d n expects prepares path dict http rounds old new (Err fault) writer
         → IsFailed k d c expects prepares plain old new words reader writer
     serves_failed n words path dict http rounds fault reader writer r e cut h = elim (serves_spoils k d n expects prepares old new path dict http rounds fault writer h) [

@@ -136,7 +136,8 @@ module _ {K D : Type 0} (k : lookup.Ghosts K) (d : desks.Ghosts D K) (files : Li
   ChangeTaskEnds old new file name id (changes.Virtual title members) end writer = ChangeEnds k d file id (put_virtual name title.now (words_shown members.items)) old new end writer
   ChangeTaskEnds old new file name id (changes.Place at) end writer = ChangeEnds k d file id (place name at) old new end writer
 
-module _ {K D B L : Type 0} (k : lookup.Ghosts K) (d : desks.Ghosts D K) (c : catalogues.Ghosts D K) (n : network.Ghosts B L SystemSockets) (expects : K → Expected → K → Type 0) (prepares : K → Result Bool Fault → K → Type 0) (files : List ℕ → Option (List ℕ)) (plain : PlainState) (old new : D) where
+module _ {K D B L : Type 0} (k : lookup.Ghosts K) (d : desks.Ghosts D K) (c : catalogues.Ghosts D K) (n : network.Ghosts B L SystemSockets) (expects : K → Expected → K → Type 0) (prepares : K → Result Bool Fault → K → Type 0)
+    (files : List ℕ → Option (List ℕ)) (plain : PlainState) (old new : D) where
   -- a task ends so
   abbrev pub TaskEnds : Task → Result (Unit {0}) ProgramFault → StreamChange → StreamChange → Type 0
   TaskEnds (tasks.Plain name index text) end reader writer = FilesEnd (standing plain) files name.now index.now text.now end reader writer × (new ≡ old)

@@ -69,9 +69,11 @@ module _ {K D : Type 0} (k : lookup.Ghosts K) (d : desks.Ghosts D K) where
       EndsOn path (λ desk left closed. InstallEnds k.shows k.leaves_one_of k.is_trusted k.is_closed files desk left name id index text result writer × WasSpared desk left result) old new result writer
 
   -- the catalogue of the file with a path was served at two addresses that a network bound, for so many rounds, or wasn't
-  unfoldable pub ServesOn : {B L : Type 0} → network.Ghosts B L SystemSockets → (K → Expected → K → Type 0) → (K → Result Bool Fault → K → Type 0) → List ℕ → List ℕ → List ℕ → Option ℕ → D → D → Result (Unit {0}) ProgramFault → StreamChange → Type 0
+  unfoldable pub ServesOn : {B L : Type 0} → network.Ghosts B L SystemSockets → (K → Expected → K → Type 0) → (K → Result Bool Fault → K → Type 0) → List ℕ → List ℕ → List ℕ → Option ℕ → D → D → Result (Unit {0}) ProgramFault
+      → StreamChange → Type 0
   ServesOn n expects prepares path dict http rounds old new result writer =
-      (kept : Option Driver) × ServeEnds k.shows k.leaves_one_of k.is_trusted d.is_opened k.has_failed k.is_closed expects prepares (Begins n) (λ path. d.is_unopened path old new) (WasShutBy k d new) (IsNotReopened k.leaves_one_of d.is_unreopened d.still_leaves new) (d.history old) (d.history new) path dict http rounds result writer kept
+      (kept : Option Driver) × ServeEnds k.shows k.leaves_one_of k.is_trusted d.is_opened k.has_failed k.is_closed expects prepares (Begins n) (λ path. d.is_unopened path old new) (WasShutBy k d new)
+      (IsNotReopened k.leaves_one_of d.is_unreopened d.still_leaves new) (d.history old) (d.history new) path dict http rounds result writer kept
 
   module _ (c : catalogues.Ghosts D K) where
     -- the file that was closed holds alone a catalogue that the desk showed: this is told where it returned what was written to it

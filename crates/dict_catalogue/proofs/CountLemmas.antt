@@ -181,7 +181,8 @@ numbers_after {A} installs (install name content) items range names once = λ nu
     let zero : (installs + 1 == number) ≡ true → total (weight number) items ≡ 0 =
     λ e. sym (numbers_count number items) ∙ absent installs number (edition_numbers items) range (omega (arith, same_number (installs + 1) number e)) in
     rw (numbers_count number (items_after (installs + 1) (install name content) items))
-    (by_test (λ (left : List (Item A)). total (weight number) left ≤ 1) (is_known items name) (changed_in_place (installs + 1) (install name content) items) (items ++ regular name (record { number = installs + 1; content = content }) None ∷ [])
+    (by_test (λ (left : List (Item A)). total (weight number) left ≤ 1) (is_known items name) (changed_in_place (installs + 1) (install name content) items)
+    (items ++ regular name (record { number = installs + 1; content = content }) None ∷ [])
     (λ e. omega (
       arith,
       sum_grown (weight number) (λ item. cond (is_named name item) (cond (installs + 1 == number) 1 0) 0) (turned (installs + 1) (install name content))

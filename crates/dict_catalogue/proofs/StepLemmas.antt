@@ -7,7 +7,8 @@ use Rattle.dict_text.specs.Names.{is_request_id}
 use Rattle.dict_catalogue.specs.Commands.{Command}
 use Rattle.dict_catalogue.specs.Tests.{Test, wants, tests_of, first_failing, refusal_of}
 use Rattle.dict_catalogue.specs.Effects.{KeptReply}
-use Rattle.dict_catalogue.specs.Steps.{KeptFor, Catalogue, holdings, kept_under, refused, Outcome, with_effect, decided, answered, step, AllHold, FailsFirst, IsStep, id_unlawful, id_kept, test_failed, none_failed, CommandRequest, after, acts, acts_unless_kept, is_none_refused, acting}
+use Rattle.dict_catalogue.specs.Steps.{KeptFor, Catalogue, holdings, kept_under, refused, Outcome, with_effect, decided, answered, step, AllHold, FailsFirst, IsStep, id_unlawful, id_kept, test_failed, none_failed}
+use Rattle.dict_catalogue.specs.Steps.{CommandRequest, after, acts, acts_unless_kept, is_none_refused, acting}
 use Rattle.dict_catalogue.specs.declared.fault.CommandRefusal.{CommandRefusal}
 use Rattle.dict_catalogue.specs.declared.fault.CommandRefusal.TheVariants.{BadRequestId}
 

@@ -5,7 +5,8 @@ use Rattle.std.specs.Prelude.{map, filter, not, cond, Some, None, nat_lt, â—Œ==â
 use Rattle.std.specs.List.{list_any, take-map, drop-map}
 use Rattle.std.proofs.lemmas.List.{map-append, length-map, length-append}
 use Rattle.dict_text.specs.Names.{is_name, is_title}
-use Rattle.dict_catalogue.specs.Items.{Stored, Item, regular, virtual, is_regular, is_virtual, has_former, is_named, lists, is_known, names_regular, names_virtual, names_former, is_listed, is_among, current_of, current_number, numbers_of, edition_numbers, stored_as, item_as}
+use Rattle.dict_catalogue.specs.Items.{Stored, Item, regular, virtual, is_regular, is_virtual, has_former, is_named, lists, is_known, names_regular, names_virtual, names_former, is_listed, is_among, current_of}
+use Rattle.dict_catalogue.specs.Items.{current_number, numbers_of, edition_numbers, stored_as, item_as}
 use Rattle.dict_catalogue.specs.Commands.{Command, install, rollback, retire, put_virtual, place, target, command_as}
 use Rattle.dict_catalogue.specs.Tests.{wants, Holdings, holdings_as, member_tests, has_turn, has_room, has_member_count, tests_of, refusal_of, first_failing}
 use Rattle.dict_index.specs.Edition.{Edition}

@@ -10,7 +10,8 @@ use Rattle.std.proofs.lemmas.List.Folds.{list_any-append}
 use Rattle.dict_index.specs.Edition.{Edition}
 use Rattle.dict_index.specs.WellFormed.{IsWellFormedEdition}
 use Rattle.dict_text.specs.Names.{is_name, is_request_id}
-use Rattle.dict_catalogue.specs.Items.{Stored, Item, regular, virtual, name_of, is_regular, is_virtual, members_of, editions_of, is_named, lists, is_among, is_known, names_regular, names_virtual, is_listed, current_number, numbers_of, edition_numbers}
+use Rattle.dict_catalogue.specs.Items.{Stored, Item, regular, virtual, name_of, is_regular, is_virtual, members_of, editions_of, is_named, lists, is_among, is_known, names_regular, names_virtual, is_listed}
+use Rattle.dict_catalogue.specs.Items.{current_number, numbers_of, edition_numbers}
 use Rattle.dict_catalogue.specs.Commands.{Command, install, rollback, retire, put_virtual, place, target, verb_of}
 use Rattle.dict_catalogue.specs.Tests.{Holdings, tests_of, has_room, has_turn}
 use Rattle.dict_catalogue.specs.Effects.{installed, swapped, put_anew, changed_in_place, others_than, moved, items_after, installs_after, effect, reply_to, edition_told}
@@ -45,7 +46,8 @@ lawful_virtual before name title members tests utf8 =
     let counted = and_parts (nat_le 1 (length members)) (nat_le (length members) 64) tests.1.1.1.0 in
     (tests.0, (utf8, tests.1.1.0), at_least 1 (length members) counted.0, at_least (length members) 64 counted.1, tested_once before.items members _ tests.1.1.1.1)
 
-items_lawful : (number : ℕ) (command : Command Edition) (before : Holdings Edition) → AllHold (tests_of before command) → IsLawfulCommand command → AllByRecursion IsLawfulItem before.items → AllByRecursion IsLawfulItem (items_after number command before.items)
+items_lawful : (number : ℕ) (command : Command Edition) (before : Holdings Edition) → AllHold (tests_of before command) → IsLawfulCommand command → AllByRecursion IsLawfulItem before.items
+    → AllByRecursion IsLawfulItem (items_after number command before.items)
 items_lawful number (install name content) before tests l h =
     all_after IsLawfulItem IsLawfulItem number (install name content) before.items (λ item p. p) (λ item p. lawful_installed (record { number = number; content = content }) item p) tests.0 h
 items_lawful number (rollback name) before tests l h =
@@ -134,10 +136,15 @@ unfolding IfInstalled
 range_after installs (install name content) items h =
     range_of (installs + 1) (items_after (installs + 1) (install name content) items)
     (each_after (InRange installs) (InRange (installs + 1)) (installs + 1) (install name content) items (λ one p. (p.0, omega (arith, p.1))) (omega arith, omega arith) (in_range installs items h))
-range_after installs (rollback name) items h = range_of installs (items_after (installs + 1) (rollback name) items) (each_after (InRange installs) (InRange installs) (installs + 1) (rollback name) items (λ one p. p) tt (in_range installs items h))
-range_after installs (retire name) items h = range_of installs (items_after (installs + 1) (retire name) items) (each_after (InRange installs) (InRange installs) (installs + 1) (retire name) items (λ one p. p) tt (in_range installs items h))
-range_after installs (put_virtual name title members) items h = range_of installs (items_after (installs + 1) (put_virtual name title members) items) (each_after (InRange installs) (InRange installs) (installs + 1) (put_virtual name title members) items (λ one p. p) tt (in_range installs items h))
-range_after installs (place name at) items h = range_of installs (items_after (installs + 1) (place name at) items) (each_after (InRange installs) (InRange installs) (installs + 1) (place name at) items (λ one p. p) tt (in_range installs items h))
+range_after installs (rollback name) items h =
+    range_of installs (items_after (installs + 1) (rollback name) items) (each_after (InRange installs) (InRange installs) (installs + 1) (rollback name) items (λ one p. p) tt (in_range installs items h))
+range_after installs (retire name) items h =
+    range_of installs (items_after (installs + 1) (retire name) items) (each_after (InRange installs) (InRange installs) (installs + 1) (retire name) items (λ one p. p) tt (in_range installs items h))
+range_after installs (put_virtual name title members) items h =
+    range_of installs (items_after (installs + 1) (put_virtual name title members) items)
+    (each_after (InRange installs) (InRange installs) (installs + 1) (put_virtual name title members) items (λ one p. p) tt (in_range installs items h))
+range_after installs (place name at) items h =
+    range_of installs (items_after (installs + 1) (place name at) items) (each_after (InRange installs) (InRange installs) (installs + 1) (place name at) items (λ one p. p) tt (in_range installs items h))
 
 -- members
 
@@ -170,7 +177,8 @@ known_swapped after (regular n current None) h = tt
 known_swapped after (regular n current (Some former)) h = tt
 known_swapped after (virtual n title members) h = h
 
-known_put : (after : List (Item Edition)) (name title : List ℕ) (members : List (List ℕ)) (item : Item Edition) → HasKnownMembers after (virtual name title members) → HasKnownMembers after item → HasKnownMembers after (put_anew name title members item)
+known_put : (after : List (Item Edition)) (name title : List ℕ) (members : List (List ℕ)) (item : Item Edition) → HasKnownMembers after (virtual name title members) → HasKnownMembers after item
+    → HasKnownMembers after (put_anew name title members item)
 known_put after name title members (regular n current former) new h = tt
 known_put after name title members (virtual n t ms) new h = new
 
@@ -241,7 +249,8 @@ last_regular number name content b e = rw (e, text_itself name) refl
 
 current_installed : (number : ℕ) (name : List ℕ) (content : Edition) (items : List (Item Edition)) → names_virtual items name ≡ false → is_some (current_number (items_after number (install name content) items) name) ≡ true
 current_installed number name content items v =
-    by_test (λ (after : List (Item Edition)). is_some (current_number after name) ≡ true) (is_known items name) (changed_in_place number (install name content) items) (items ++ regular name (record { number = number; content = content }) None ∷ [])
+    by_test (λ (after : List (Item Edition)). is_some (current_number after name) ≡ true) (is_known items name) (changed_in_place number (install name content) items)
+    (items ++ regular name (record { number = number; content = content }) None ∷ [])
     (λ e. current_there (changed_in_place number (install name content) items) name (known_turned number (install name content) items name ∙ e) (virtual_named_turned number (install name content) items name ∙ v))
     (λ e. current_there (items ++ regular name (record { number = number; content = content }) None ∷ []) name
     (any_append_right (is_named name) items (regular name (record { number = number; content = content }) None ∷ []) (last_named number name content))

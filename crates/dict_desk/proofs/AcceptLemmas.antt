@@ -52,7 +52,8 @@ held_new : (installs : ℕ) (command : Command Edition) (editions : List (Stored
 unfolding IfInstalled
 held_new installs (install name content) editions early =
     let one : Stored Edition = record { number = installs + 1; content = content } in
-    find-append (λ (stored : Stored Edition). stored.number == installs + 1) editions (one ∷ []) ∙ (ap (λ found. option_or found (edition_by_number (installs + 1) (one ∷ []))) (none_early installs (installs + 1) editions (omega arith) early)
+    find-append (λ (stored : Stored Edition). stored.number == installs + 1) editions (one ∷ [])
+    ∙ (ap (λ found. option_or found (edition_by_number (installs + 1) (one ∷ []))) (none_early installs (installs + 1) editions (omega arith) early)
     ∙ ap (λ b. cond b (Some one) None) (eq-eqb (installs + 1) (installs + 1) refl))
 held_new installs (rollback name) editions early = tt
 held_new installs (retire name) editions early = tt
@@ -64,7 +65,8 @@ own_number : (editions : List (Stored Edition)) → AllByRecursion (λ (stored :
 own_number [] = tt
 own_number (first ∷ editions) = (
   ap (λ b. b || list_any (λ one. one == first.number) (map (λ (stored : Stored Edition). stored.number) editions)) (eq-eqb first.number first.number refl),
-  all_weaker (λ (stored : Stored Edition). list_any (λ one. one == stored.number) (map (λ (stored : Stored Edition). stored.number) editions) ≡ true) (λ (stored : Stored Edition). list_any (λ one. one == stored.number) (first.number ∷ map (λ (stored : Stored Edition). stored.number) editions) ≡ true)
+  all_weaker (λ (stored : Stored Edition). list_any (λ one. one == stored.number) (map (λ (stored : Stored Edition). stored.number) editions) ≡ true)
+      (λ (stored : Stored Edition). list_any (λ one. one == stored.number) (first.number ∷ map (λ (stored : Stored Edition). stored.number) editions) ≡ true)
       (λ stored h. any_append_right (λ one. one == stored.number) (first.number ∷ []) (map (λ (stored : Stored Edition). stored.number) editions) h) editions (own_number editions),
 )
 
@@ -74,7 +76,8 @@ own_numbers (item ∷ items) = (
   all_weaker (λ (stored : Stored Edition). list_any (λ one. one == stored.number) (numbers_of item) ≡ true) (λ (stored : Stored Edition). list_any (λ one. one == stored.number) (numbers_of item ++ edition_numbers items) ≡ true)
       (λ stored h. any_append_left (λ one. one == stored.number) (numbers_of item) (edition_numbers items) h) (editions_of item) (own_number (editions_of item)),
   all_weaker (EachEdition (λ stored. list_any (λ one. one == stored.number) (edition_numbers items) ≡ true)) (EachEdition (λ stored. list_any (λ one. one == stored.number) (numbers_of item ++ edition_numbers items) ≡ true))
-      (λ other p. all_weaker (λ (stored : Stored Edition). list_any (λ one. one == stored.number) (edition_numbers items) ≡ true) (λ (stored : Stored Edition). list_any (λ one. one == stored.number) (numbers_of item ++ edition_numbers items) ≡ true)
+      (λ other p. all_weaker (λ (stored : Stored Edition). list_any (λ one. one == stored.number) (edition_numbers items) ≡ true)
+      (λ (stored : Stored Edition). list_any (λ one. one == stored.number) (numbers_of item ++ edition_numbers items) ≡ true)
       (λ stored h. any_append_right (λ one. one == stored.number) (numbers_of item) (edition_numbers items) h) (editions_of other) p) items (own_numbers items),
 )
 
@@ -110,7 +113,8 @@ both_all : {X : Type 0} (P Q : X → Type 0) (xs : List X) → AllByRecursion P 
 both_all P Q [] h g = tt
 both_all P Q (x ∷ xs) h g = ((h.0, g.0), both_all P Q xs h.1 g.1)
 
-each_both : (P Q R : Stored Edition → Type 0) → ((one : Stored Edition) → P one × Q one → R one) → (items : List (Item Edition)) → AllByRecursion (EachEdition P) items → AllByRecursion (EachEdition Q) items → AllByRecursion (EachEdition R) items
+each_both : (P Q R : Stored Edition → Type 0) → ((one : Stored Edition) → P one × Q one → R one) → (items : List (Item Edition)) → AllByRecursion (EachEdition P) items → AllByRecursion (EachEdition Q) items
+    → AllByRecursion (EachEdition R) items
 each_both P Q R w [] h g = tt
 each_both P Q R w (item ∷ items) h g = (all_weaker (λ one. P one × Q one) R w (editions_of item) (both_all P Q (editions_of item) h.0 g.0), each_both P Q R w items h.1 g.1)
 
@@ -121,7 +125,8 @@ held_after : (M : Catalogue) (id : List ℕ) (command : Command Edition) (editio
 held_after M id command editions gone is held early =
     let new = newly_installed (M.installs + 1) command in
     let after = items_after (M.installs + 1) command M.items in
-    let longer : AllByRecursion (EachEdition (IsFoundByNumber (editions ++ new))) after = each_after (IsFoundByNumber editions) (IsFoundByNumber (editions ++ new)) (M.installs + 1) command M.items (held_longer editions new) (held_new M.installs command editions early) held in
+    let longer : AllByRecursion (EachEdition (IsFoundByNumber (editions ++ new))) after =
+    each_after (IsFoundByNumber editions) (IsFoundByNumber (editions ++ new)) (M.installs + 1) command M.items (held_longer editions new) (held_new M.installs command editions early) held in
     let kept : AllByRecursion (EachEdition (λ stored. is_not_gone gone stored ≡ true)) after =
     all_weaker (EachEdition (λ stored. list_any (λ one. one == stored.number) (edition_numbers after) ≡ true)) (EachEdition (λ stored. is_not_gone gone stored ≡ true))
     (λ item p. all_weaker (λ (stored : Stored Edition). list_any (λ one. one == stored.number) (edition_numbers after) ≡ true) (λ (stored : Stored Edition). is_not_gone gone stored ≡ true)
@@ -138,7 +143,9 @@ from_title editions one h = ap (λ found. titled one.number (unwrap_or (option_m
 
 from_titles : (editions : List (Stored Edition)) (item : Item Edition) → EachEdition (IsFoundByNumber editions) item → item_from editions (item_as (λ edition. edition.title) item) ≡ item
 from_titles editions (regular name current None) h = ap (λ one. regular name one None) (from_title editions current h.0)
-from_titles editions (regular name current (Some former)) h = ap (λ one. regular name one (Some (stored_from editions (record { number = former.number; content = former.content.title })))) (from_title editions current h.0) ∙ ap (λ one. regular name current (Some one)) (from_title editions former h.1.0)
+from_titles editions (regular name current (Some former)) h =
+    ap (λ one. regular name one (Some (stored_from editions (record { number = former.number; content = former.content.title })))) (from_title editions current h.0)
+    ∙ ap (λ one. regular name current (Some one)) (from_title editions former h.1.0)
 from_titles editions (virtual name title members) h = refl
 
 whole_items : (editions : List (Stored Edition)) (items : List (Item Edition)) → AllByRecursion (EachEdition (IsFoundByNumber editions)) items → map (item_from editions) (map (item_as (λ edition. edition.title)) items) ≡ items
@@ -216,7 +223,8 @@ module _ (summary after : Holdings (List ℕ)) (editions : List (Stored Edition)
     whole = summed ∙ ap summary_of (sym catalogue_is);
     held = subst (λ (c : Catalogue). AllByRecursion (EachEdition (IsFoundByNumber left)) c.items) (sym catalogue_is) held_here;
     early = all_append (λ (stored : Stored Edition). stored.number ≤ after.installs) (filter (is_not_gone gone) editions) (newly_installed after.installs command)
-        (all_filter (λ (stored : Stored Edition). stored.number ≤ after.installs) (is_not_gone gone) editions (all_weaker (λ (stored : Stored Edition). stored.number ≤ summary.installs) (λ (stored : Stored Edition). stored.number ≤ after.installs) (λ stored p. grows p) editions parts.early))
+        (all_filter (λ (stored : Stored Edition). stored.number ≤ after.installs) (is_not_gone gone) editions
+        (all_weaker (λ (stored : Stored Edition). stored.number ≤ summary.installs) (λ (stored : Stored Edition). stored.number ≤ after.installs) (λ stored p. grows p) editions parts.early))
         (subst (λ (n : ℕ). AllByRecursion (λ (stored : Stored Edition). stored.number ≤ n) (newly_installed n command)) (sym installs_are) (new_early command summary.installs));
     filed = subst (ArePlaces places_after) (sym (map-append filed_shown replies (filed ∷ []))) (places_more (map filed_shown replies) (filed_shown filed) places places_after parts.filed id_unused placed_so);
     well_formed = subst IsWellFormed (sym catalogue_is) (step_well_formed M id command lawful parts.well_formed);
@@ -236,7 +244,8 @@ module _ (summary after : Holdings (List ℕ)) (editions : List (Stored Edition)
       grows p = let more = installs_grow command summary.installs in let is = installs_are in omega arith
 
 -- the parts that are left, and the catalogue that they make
-pub accepted_parts : (summary : Holdings (List ℕ)) (editions left news : List (Stored Edition)) (replies replies_after : List Filed) (places places_after : List ℕ → Option ℕ) (before : Catalogue) (id : List ℕ) (command : Command Edition) (change : PlannedChange) (filed : Filed)
+pub accepted_parts : (summary : Holdings (List ℕ)) (editions left news : List (Stored Edition)) (replies replies_after : List Filed) (places places_after : List ℕ → Option ℕ) (before : Catalogue) (id : List ℕ)
+    (command : Command Edition) (change : PlannedChange) (filed : Filed)
     → catalogue_from summary editions replies ≡ before → AreInStep summary editions replies places → IsLawfulCommand command → is_request_id id ≡ true → kept_under before.kept id ≡ None
     → IsChangeOf before (step before id command) change → filed_shown filed ≡ record { id = id; reply = kept_shown change.kept }
     → news ≡ newly_installed change.summary.installs command → left ≡ filter (is_not_gone change.gone.items) editions ++ news → replies_after ≡ replies ++ filed ∷ []
@@ -253,8 +262,10 @@ accepted_parts summary editions left news replies replies_after places places_af
     let left_all : left ≡ filter (is_not_gone change.gone.items) editions ++ newly_installed after.installs command = left_is ∙ ap (λ ns. filter (is_not_gone change.gone.items) editions ++ ns) news_are in
     let parts_then = parts_after summary after editions replies places places_after id command change.gone.items reply filed parts lawful id_lawful unused_here told_here summed_here went_here filed_is placed in
     let catalogue_then = catalogue_is summary after editions replies places places_after id command change.gone.items reply filed parts lawful id_lawful unused_here told_here summed_here went_here filed_is placed in (
-      subst (λ (es : List (Stored Edition)). AreInStep after es replies_after places_after) (sym left_all) (subst (λ (rs : List Filed). AreInStep after (filter (is_not_gone change.gone.items) editions ++ newly_installed after.installs command) rs places_after) (sym replies_are) parts_then),
-      ap (λ (es : List (Stored Edition)). catalogue_from after es replies_after) left_all ∙ (ap (λ (rs : List Filed). catalogue_from after (filter (is_not_gone change.gone.items) editions ++ newly_installed after.installs command) rs) replies_are
+      subst (λ (es : List (Stored Edition)). AreInStep after es replies_after places_after) (sym left_all)
+          (subst (λ (rs : List Filed). AreInStep after (filter (is_not_gone change.gone.items) editions ++ newly_installed after.installs command) rs places_after) (sym replies_are) parts_then),
+      ap (λ (es : List (Stored Edition)). catalogue_from after es replies_after) left_all
+          ∙ (ap (λ (rs : List Filed). catalogue_from after (filter (is_not_gone change.gone.items) editions ++ newly_installed after.installs command) rs) replies_are
           ∙ (catalogue_then ∙ ap (λ (c : Catalogue). (step c id command).catalogue) seen)),
     )
 

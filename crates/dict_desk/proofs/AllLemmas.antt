@@ -140,7 +140,8 @@ answered_by Shows Before Mid After at acted id command (Err Damaged) outcome is 
 answered_by Shows Before Mid After at acted id command (Err NewerSchema) outcome is applies leaves = absurd applies
 
 -- so all of one more are answered
-pub all_one_more : (First Shows : Catalogue → Type 0) (Before Mid After : Left) (M : Catalogue) (requests more : List CommandRequest) (one : CommandRequest) (outcomes : List (Result Kept CommandRefusal)) (answer : Result Kept Fault) (outcome : Result Kept CommandRefusal)
+pub all_one_more : (First Shows : Catalogue → Type 0) (Before Mid After : Left) (M : Catalogue) (requests more : List CommandRequest) (one : CommandRequest) (outcomes : List (Result Kept CommandRefusal))
+    (answer : Result Kept Fault) (outcome : Result Kept CommandRefusal)
     → more ≡ requests ++ one ∷ [] → settled_answer answer ≡ Ok outcome
     → Applies Shows (after M requests) (step (after M requests) one.id one.command) answer
     → Leaves Mid After (is_some (kept_under (after M requests).kept one.id)) (step (after M requests) one.id one.command).catalogue answer
@@ -158,7 +159,8 @@ all_one_more First Shows Before Mid After M requests more one outcomes answer ou
     })
 
 -- a command failed, and so many stand
-pub halts : (First Shows : Catalogue → Type 0) (Before Mid After : Left) (M : Catalogue) (all : List CommandRequest) (stand : ℕ) (one : CommandRequest) (outcomes : List (Result Kept CommandRefusal)) (answer : Result Kept Fault) (fault : Fault)
+pub halts : (First Shows : Catalogue → Type 0) (Before Mid After : Left) (M : Catalogue) (all : List CommandRequest) (stand : ℕ) (one : CommandRequest) (outcomes : List (Result Kept CommandRefusal)) (answer : Result Kept Fault)
+    (fault : Fault)
     → take (stand + 1) all ≡ take stand all ++ one ∷ [] → settled_answer answer ≡ Err fault
     → Applies Shows (after M (take stand all)) (step (after M (take stand all)) one.id one.command) answer
     → Leaves Mid After (is_some (kept_under (after M (take stand all)).kept one.id)) (step (after M (take stand all)) one.id one.command).catalogue answer
@@ -261,7 +263,8 @@ fails_by (Err Damaged) fault so = ap (λ r. Err (fault_or fault r)) so
 fails_by (Err NewerSchema) fault so = ap (λ r. Err (fault_or fault r)) so
 
 -- one more command was applied behind the others
-pub applied_one_more : {K : Type 0} (applies : K → CommandRequest → Result Kept Fault → K → Type 0) (old between new : K) (front : List CommandRequest) (outcomes : List (Result Kept CommandRefusal)) (one : CommandRequest) (outcome : Result Kept CommandRefusal)
+pub applied_one_more : {K : Type 0} (applies : K → CommandRequest → Result Kept Fault → K → Type 0) (old between new : K) (front : List CommandRequest) (outcomes : List (Result Kept CommandRefusal)) (one : CommandRequest)
+    (outcome : Result Kept CommandRefusal)
     → AreApplied applies old front outcomes between → applies between one (standing_answer outcome) new → AreApplied applies old (front ++ one ∷ []) (outcomes ++ outcome ∷ []) new
 applied_one_more applies old between new [] [] one outcome all last = (new, subst (λ k. applies k one (standing_answer outcome) new) all last, refl)
 applied_one_more applies old between new [] (other ∷ outcomes) one outcome all last = absurd all

@@ -33,7 +33,8 @@ leaves_any Before After wide is_kept after (Err Damaged) h ms left = absurd h
 leaves_any Before After wide is_kept after (Err NewerSchema) h ms left = absurd h
 
 -- a lookup that failed leaves what a command leaves that failed so
-pub leaves_failed : (Before After : List (Option Catalogue) → Type 0) → IsWide After → ((ms : List (Option Catalogue)) → Before ms → After ms) → (is_kept : Bool) (after : Catalogue) (fault : Fault) → IsOfLookup fault → Leaves Before After is_kept after (Err fault)
+pub leaves_failed : (Before After : List (Option Catalogue) → Type 0) → IsWide After → ((ms : List (Option Catalogue)) → Before ms → After ms) → (is_kept : Bool) (after : Catalogue) (fault : Fault) → IsOfLookup fault
+    → Leaves Before After is_kept after (Err fault)
 leaves_failed Before After wide no_more is_kept after (Refused refusal) of = absurd of
 leaves_failed Before After wide no_more is_kept after Memory of = no_more
 leaves_failed Before After wide no_more is_kept after Disk of = λ ms left. wide ms (Some after ∷ ms) (λ m. contains_later (Some after) m ms) (no_more ms left)

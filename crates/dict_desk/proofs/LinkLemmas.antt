@@ -75,7 +75,8 @@ last_there xs k t last other h = record {
 
 -- ---- one more entry with its link
 
-at_more : (xs : List OwnedEntry) (k : OwnedEntry) (i : ℕ) (e : OwnedEntry) (P : List OwnedEntry → OwnedEntry → Type 0) → slice_get (xs ++ k ∷ []) i ≡ Some e → (slice_get xs i ≡ Some e → P (take i xs) e) → P xs k → P (take i (xs ++ k ∷ [])) e
+at_more : (xs : List OwnedEntry) (k : OwnedEntry) (i : ℕ) (e : OwnedEntry) (P : List OwnedEntry → OwnedEntry → Type 0) → slice_get (xs ++ k ∷ []) i ≡ Some e → (slice_get xs i ≡ Some e → P (take i xs) e) → P xs k
+    → P (take i (xs ++ k ∷ [])) e
 at_more [] k zero e P is early late = let same : k ≡ e = cc in subst (P []) same late
 at_more [] k (suc i) e P is early late = cc
 at_more (x ∷ xs) k zero e P is early late = early is

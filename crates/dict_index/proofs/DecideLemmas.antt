@@ -246,9 +246,11 @@ line_test Shown text before line = if_it_has_fourth line IsShown is_shown
 line_test BodyText text before line = if_it_says line (λ said. IsText (body_in text said)) (λ said. is_text (body_in text said))
 line_test BodyLine text before line = if_it_says line (λ said. HasShortLines (body_in text said)) (λ said. all (λ l. length l ≤ 1021) (λ l. at_most (length l) 1021) (text_lines (body_in text said)))
 line_test Reserved text before line = if_it_says line (λ said. IsTrue (is_reserved (reserved_key_of said.headword)) → IsTrue (is_known_reserved (reserved_key_of said.headword)))
-    (λ said. implied (IsTrue (is_reserved (reserved_key_of said.headword))) (IsTrue (is_known_reserved (reserved_key_of said.headword))) (is_true (is_reserved (reserved_key_of said.headword))) (is_true (is_known_reserved (reserved_key_of said.headword))))
+    (λ said. implied (IsTrue (is_reserved (reserved_key_of said.headword))) (IsTrue (is_known_reserved (reserved_key_of said.headword))) (is_true (is_reserved (reserved_key_of said.headword)))
+    (is_true (is_known_reserved (reserved_key_of said.headword))))
 line_test ReservedTwice text before line = if_it_says line (λ said. IsTrue (is_known_reserved (reserved_key_of said.headword)) → NoneHasKey before (reserved_key_of said.headword))
-    (λ said. implied (IsTrue (is_known_reserved (reserved_key_of said.headword))) (NoneHasKey before (reserved_key_of said.headword)) (is_true (is_known_reserved (reserved_key_of said.headword))) (none_has_key before (reserved_key_of said.headword)))
+    (λ said. implied (IsTrue (is_known_reserved (reserved_key_of said.headword))) (NoneHasKey before (reserved_key_of said.headword)) (is_true (is_known_reserved (reserved_key_of said.headword)))
+    (none_has_key before (reserved_key_of said.headword)))
 line_test _ text before line = inl tt
 
 -- an index ends by LF, or not

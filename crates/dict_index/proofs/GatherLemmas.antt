@@ -51,7 +51,8 @@ pub under_first : (key text : List ℕ) (said : List Line) (s : Line) → text_u
 under_first key text [] s none e = rw e refl
 under_first key text (x ∷ said) s none e = by_first (bytes_eq (reserved_key_of x.headword) key) (find (λ said. bytes_eq (reserved_key_of said.headword) key) said) _ none (λ h. under_first key text said s h e)
   where
-    by_first : (t : Bool) (a b : Option Line) → option_map (body_in text) (cond t (Some x) a) ≡ None → (option_map (body_in text) a ≡ None → option_map (body_in text) b ≡ Some (body_in text s)) → option_map (body_in text) (cond t (Some x) b) ≡ Some (body_in text s)
+    by_first : (t : Bool) (a b : Option Line) → option_map (body_in text) (cond t (Some x) a) ≡ None → (option_map (body_in text) a ≡ None → option_map (body_in text) b ≡ Some (body_in text s))
+        → option_map (body_in text) (cond t (Some x) b) ≡ Some (body_in text s)
     by_first true a b h k = absurd (let no : Some (body_in text x) ≡ None = h in cc)
     by_first false a b h k = k h
 
@@ -62,7 +63,8 @@ none_has_key key text [] (s ∷ said) h none = absurd h
 none_has_key key text (l ∷ lines) [] h none = absurd h
 none_has_key key text (l ∷ lines) (s ∷ said) h none = by_first (λ k. none_has_key key text lines said h.1 k) (bytes_eq (reserved_key_of s.headword) key) refl none
   where
-    by_first : (text_under key text said ≡ None → NoneHasKey lines key) → (t : Bool) → bytes_eq (reserved_key_of s.headword) key ≡ t → option_map (body_in text) (cond t (Some s) (find (λ said. bytes_eq (reserved_key_of said.headword) key) said)) ≡ None → NoneHasKey (l ∷ lines) key
+    by_first : (text_under key text said ≡ None → NoneHasKey lines key) → (t : Bool) → bytes_eq (reserved_key_of s.headword) key ≡ t
+        → option_map (body_in text) (cond t (Some s) (find (λ said. bytes_eq (reserved_key_of said.headword) key) said)) ≡ None → NoneHasKey (l ∷ lines) key
     by_first later true e k = absurd (let no : Some (body_in text s) ≡ None = k in cc)
     by_first later false e k = (if_says l s (λ said. reserved_key_of said.headword ≢ key) h.0 (not_from_Decides _ (bytes_eq-Decides (reserved_key_of s.headword) key) e), later k)
 

@@ -22,7 +22,8 @@ use Rattle.dict_index.proofs.GatherLemmas.{said_push, map_push, entry_lines_push
 
 module _ (text : List ℕ) (lines : List (List ℕ)) (line : List ℕ) (g h : Gathered) (e : Entry) (l : IsLine line (line_of e)) where
   -- a line that isn't reserved adds its entry
-  pub gathers_entry : is_reserved (reserved_key_of e.headword.now) ≡ false → h.entries.items ≡ g.entries.items ++ e ∷ [] → h.reserved ≡ g.reserved → HasBodyIn text e → HasItsKey e → HasGathered text lines g → HasGathered text (lines ++ line ∷ []) h
+  pub gathers_entry : is_reserved (reserved_key_of e.headword.now) ≡ false → h.entries.items ≡ g.entries.items ++ e ∷ [] → h.reserved ≡ g.reserved → HasBodyIn text e → HasItsKey e → HasGathered text lines g
+      → HasGathered text (lines ++ line ∷ []) h
   gathers_entry plain entries same body key s = record {
     said = s.said ++ line_of e ∷ [];
     are = said_push lines s.said line (line_of e) s.are l;
@@ -43,7 +44,8 @@ module _ (text : List ℕ) (lines : List (List ℕ)) (line : List ℕ) (g h : Ga
   pub passes_entry : is_reserved (reserved_key_of e.headword.now) ≡ false → PassesLine Reserved text lines line × PassesLine ReservedTwice text lines line
   passes_entry plain = (
     if_says line (line_of e) (λ said. IsTrue (is_reserved (reserved_key_of said.headword)) → IsTrue (is_known_reserved (reserved_key_of said.headword))) l (λ is_one. absurd (let bad : true ≡ false = sym is_one ∙ plain in cc)),
-    if_says line (line_of e) (λ said. IsTrue (is_known_reserved (reserved_key_of said.headword)) → NoneHasKey lines (reserved_key_of said.headword)) l (λ known. absurd (let no : true ≡ false = sym (known_is_reserved (reserved_key_of e.headword.now) known) ∙ plain in cc)),
+    if_says line (line_of e) (λ said. IsTrue (is_known_reserved (reserved_key_of said.headword)) → NoneHasKey lines (reserved_key_of said.headword)) l
+        (λ known. absurd (let no : true ≡ false = sym (known_is_reserved (reserved_key_of e.headword.now) known) ∙ plain in cc)),
   )
 
   -- a reserved line that isn't known
@@ -55,13 +57,15 @@ module _ (text : List ℕ) (lines : List (List ℕ)) (line : List ℕ) (g h : Ga
 
   -- a known line whose key an earlier one has
   pub twice_fails : is_known_reserved (reserved_key_of e.headword.now) ≡ true → is_some (get_by_text g.reserved (reserved_key_of e.headword.now)) ≡ true → HasGathered text lines g → ¬ PassesLine ReservedTwice text lines line
-  twice_fails known found s passes = there (get_by_text g.reserved (reserved_key_of e.headword.now)) found (s.reserved (reserved_key_of e.headword.now) known ∙ some_has_key (reserved_key_of e.headword.now) text lines s.said s.are (passes (line_of e) l known))
+  twice_fails known found s passes = there (get_by_text g.reserved (reserved_key_of e.headword.now)) found
+      (s.reserved (reserved_key_of e.headword.now) known ∙ some_has_key (reserved_key_of e.headword.now) text lines s.said s.are (passes (line_of e) l known))
     where
       there : {X : Type 0} (o : Option (Bor X)) → is_some o ≡ true → option_map (λ found. found.now) o ≡ None → ⊥
       there (Some x) is_there none = cc
       there None is_there none = let bad : false ≡ true = is_there in cc
 
-  under_none : is_known_reserved (reserved_key_of e.headword.now) ≡ true → is_some (get_by_text g.reserved (reserved_key_of e.headword.now)) ≡ false → (s : HasGathered text lines g) → text_under (reserved_key_of e.headword.now) text s.said ≡ None
+  under_none : is_known_reserved (reserved_key_of e.headword.now) ≡ true → is_some (get_by_text g.reserved (reserved_key_of e.headword.now)) ≡ false → (s : HasGathered text lines g)
+      → text_under (reserved_key_of e.headword.now) text s.said ≡ None
   under_none known missing s = sym (s.reserved (reserved_key_of e.headword.now) known) ∙ none_of (get_by_text g.reserved (reserved_key_of e.headword.now)) missing
     where
       none_of : {X : Type 0} (o : Option (Bor X)) → is_some o ≡ false → option_map (λ found. found.now) o ≡ None
@@ -69,7 +73,8 @@ module _ (text : List ℕ) (lines : List (List ℕ)) (line : List ℕ) (g h : Ga
       none_of None gone = refl
 
   pub once_passes : is_known_reserved (reserved_key_of e.headword.now) ≡ true → is_some (get_by_text g.reserved (reserved_key_of e.headword.now)) ≡ false → HasGathered text lines g → PassesLine ReservedTwice text lines line
-  once_passes known missing s = if_says line (line_of e) (λ said. IsTrue (is_known_reserved (reserved_key_of said.headword)) → NoneHasKey lines (reserved_key_of said.headword)) l (λ k. none_has_key (reserved_key_of e.headword.now) text lines s.said s.are (under_none known missing s))
+  once_passes known missing s = if_says line (line_of e) (λ said. IsTrue (is_known_reserved (reserved_key_of said.headword)) → NoneHasKey lines (reserved_key_of said.headword)) l
+      (λ k. none_has_key (reserved_key_of e.headword.now) text lines s.said s.are (under_none known missing s))
 
   -- a known line adds its text
   pub gathers_reserved : is_known_reserved (reserved_key_of e.headword.now) ≡ true → is_some (get_by_text g.reserved (reserved_key_of e.headword.now)) ≡ false → h.entries ≡ g.entries →
@@ -84,7 +89,8 @@ module _ (text : List ℕ) (lines : List (List ℕ)) (line : List ℕ) (g h : Ga
     reserved = λ key k. ap (option_map (λ found. found.now)) (updates key) ∙ by_key key k (bytes_eq (reserved_key_of e.headword.now) key) refl;
   }
     where
-      by_key : (key : List ℕ) → IsTrue (is_known_reserved key) → (b : Bool) → bytes_eq (reserved_key_of e.headword.now) key ≡ b → option_map (λ found. found.now) (cond b (Some e.body) (get_by_text g.reserved key)) ≡ text_under key text (s.said ++ line_of e ∷ [])
+      by_key : (key : List ℕ) → IsTrue (is_known_reserved key) → (b : Bool) → bytes_eq (reserved_key_of e.headword.now) key ≡ b → option_map (λ found. found.now) (cond b (Some e.body) (get_by_text g.reserved key))
+          ≡ text_under key text (s.said ++ line_of e ∷ [])
       by_key key k true t =
           let same_key : reserved_key_of e.headword.now ≡ key = (bytes_eq-Decides (reserved_key_of e.headword.now) key).0 t in
           ap Some body ∙ sym (under_first key text s.said (line_of e) (subst (λ q. text_under q text s.said ≡ None) same_key (under_none known missing s)) t)

@@ -188,7 +188,8 @@ module _ (index text : List ℕ) (wholes : PassWholes index text) (passed : Pass
   gathered_info g s = ap info_from (s.reserved info_key refl)
 
   -- what was gathered is the reading
-  pub reading_from : (g : Gathered) (title info : List ℕ) → HasGathered text (text_lines index) g → title_from (octets_of (get_by_text g.reserved short_key)) ≡ Some title → IsTitle title → info ≡ info_from (octets_of (get_by_text g.reserved info_key)) →
+  pub reading_from : (g : Gathered) (title info : List ℕ) → HasGathered text (text_lines index) g → title_from (octets_of (get_by_text g.reserved short_key)) ≡ Some title → IsTitle title → info
+      ≡ info_from (octets_of (get_by_text g.reserved info_key)) →
       IsReadEdition index text (record { title = title; info = info; text = text; lines = map line_of g.entries.items })
   reading_from g title info s title_is good info_is = record {
     passes = all_pass s.said s.are title (sym (gathered_title g s) ∙ title_is) good;

@@ -75,6 +75,8 @@ if_err_map (Ok x) f p = tt
 if_err_map (Err e) f p = f e p
 
 -- what is told where a line is not gathered
-pub lines_fault : (fault : EntryLineFault) (told : IndexFault) (index text : List ℕ) (n : ℕ) (line : List ℕ) → told ≡ told_at fault (n + 1) → n < length (text_lines index) → line_at index n ≡ line → PassLines index text n → IsFaultBehind fault text (take n (text_lines index)) line → IsLinesFault told index text
-lines_fault (Refused refusal) told index text n line e there at before h = subst (λ t. IsLinesFault t index text) (sym e) (n, refl, record { there = there; before = before; first = subst (LineFailsFirst line_tests refusal text (take n (text_lines index))) (sym at) h })
+pub lines_fault : (fault : EntryLineFault) (told : IndexFault) (index text : List ℕ) (n : ℕ) (line : List ℕ) → told ≡ told_at fault (n + 1) → n < length (text_lines index) → line_at index n ≡ line → PassLines index text n
+    → IsFaultBehind fault text (take n (text_lines index)) line → IsLinesFault told index text
+lines_fault (Refused refusal) told index text n line e there at before h =
+    subst (λ t. IsLinesFault t index text) (sym e) (n, refl, record { there = there; before = before; first = subst (LineFailsFirst line_tests refusal text (take n (text_lines index))) (sym at) h })
 lines_fault Memory told index text n line e there at before h = subst (λ t. IsLinesFault t index text) (sym e) tt

@@ -109,7 +109,8 @@ title_passes title h first last =
     and_from _ _ (and_from _ _ (and_from _ _ (and_from _ _ some few) (ap not h.2)) (ap not first)) (ap not last)
 
 -- the title of what lines say
-title_of_under : (short : Option (List ℕ)) (title : List ℕ) → title_from short ≡ Some title → (octets : List ℕ) × (short ≡ Some octets) × (option_map without_blanks_at_ends (slice_get (text_lines (without_key_line short_key octets)) 0) ≡ Some title)
+title_of_under : (short : Option (List ℕ)) (title : List ℕ) → title_from short ≡ Some title → (octets : List ℕ) × (short ≡ Some octets)
+    × (option_map without_blanks_at_ends (slice_get (text_lines (without_key_line short_key octets)) 0) ≡ Some title)
 title_of_under None title e = absurd (let none : let o : Option (List ℕ) = None in o ≡ Some title = e in cc)
 title_of_under (Some octets) title e = (octets, refl, e)
 
@@ -131,7 +132,8 @@ entries_good : (text : List ℕ) (said : List Line) → AllByRecursion (IsGoodLi
 entries_good text [] h = tt
 entries_good text (s ∷ said) h = by_key (is_reserved (reserved_key_of s.headword)) refl (entries_good text said h.1)
   where
-    by_key : (b : Bool) → is_reserved (reserved_key_of s.headword) ≡ b → AllByRecursion IsWellFormedEntry (map (entry_in text) (entry_lines said)) → AllByRecursion IsWellFormedEntry (map (entry_in text) (cond (not b) (s ∷ entry_lines said) (entry_lines said)))
+    by_key : (b : Bool) → is_reserved (reserved_key_of s.headword) ≡ b → AllByRecursion IsWellFormedEntry (map (entry_in text) (entry_lines said))
+        → AllByRecursion IsWellFormedEntry (map (entry_in text) (cond (not b) (s ∷ entry_lines said) (entry_lines said)))
     by_key true e later = later
     by_key false e later = (record { headword = (h.0.0, h.0.1, e); shown = h.0.3; body = h.0.2 }, later)
 
@@ -235,7 +237,8 @@ module _ (index text : List ℕ) (reading : ReadEdition) (h : IsReadEdition inde
 lines_within : (index text : List ℕ) (reading : ReadEdition) → IsReadEdition index text reading → AllByRecursion (λ said. said.offset + said.size ≤ length text) reading.lines
 lines_within index text reading h =
     subst (AllByRecursion (λ said. said.offset + said.size ≤ length text)) (sym h.entries)
-    (all_filter (λ said. said.offset + said.size ≤ length text) (λ said. not (is_reserved (reserved_key_of said.headword))) h.lines (said_all (λ said. said.offset + said.size ≤ length text) (text_lines index) h.lines h.said (λ k lt. (h.passes Interval k (λ o. lt)).1)))
+    (all_filter (λ said. said.offset + said.size ≤ length text) (λ said. not (is_reserved (reserved_key_of said.headword))) h.lines
+    (said_all (λ said. said.offset + said.size ≤ length text) (text_lines index) h.lines h.said (λ k lt. (h.passes Interval k (λ o. lt)).1)))
 
 pub intervals_within : (index : List ℕ) (reading : ReadEdition) → IsReadEdition index reading.text reading → (entries : List ReadEntry) → map line_of entries ≡ reading.lines → AllByRecursion (LiesIn reading.text) entries
 intervals_within index reading h entries e = each entries (subst (AllByRecursion (λ said. said.offset + said.size ≤ length reading.text)) (sym e) (lines_within index reading.text reading h))

@@ -119,8 +119,10 @@ one_digit byte value small e = record { values = value ∷ []; digits = ((small,
 no_tab : (h : List ℕ) → list_all (λ x. not (x == 9)) h ≡ true → HasNo 9 h
 no_tab h e = all_from (λ x. x ≢ 9) (λ x. not (x == 9)) (λ x t. eqb-false x 9 (not-true (x == 9) t)) h e
 
-says_digits : (line h : List ℕ) (o s m n : ℕ) → line ≡ h ++ (9 ∷ o ∷ 9 ∷ s ∷ []) → list_all (λ x. not (x == 9)) h ≡ true → m < 64 → o ≡ slice_index alphabet m → n < 64 → s ≡ slice_index alphabet n → IsLine line (record { headword = h; offset = m; size = n; shown = h })
-says_digits line h o s m n whole none m_small o_is n_small s_is = record { offset_text = o ∷ []; size_text = s ∷ []; fourth = None; whole = whole; no_tab = no_tab h none; fourth_no_tab = tt; offset = one_digit o m m_small o_is; size = one_digit s n n_small s_is; shown = refl }
+says_digits : (line h : List ℕ) (o s m n : ℕ) → line ≡ h ++ (9 ∷ o ∷ 9 ∷ s ∷ []) → list_all (λ x. not (x == 9)) h ≡ true → m < 64 → o ≡ slice_index alphabet m → n < 64 → s ≡ slice_index alphabet n
+    → IsLine line (record { headword = h; offset = m; size = n; shown = h })
+says_digits line h o s m n whole none m_small o_is n_small s_is =
+    record { offset_text = o ∷ []; size_text = s ∷ []; fourth = None; whole = whole; no_tab = no_tab h none; fourth_no_tab = tt; offset = one_digit o m m_small o_is; size = one_digit s n n_small s_is; shown = refl }
 
 short : Line
 short = record { headword = codes "00-database-short"; offset = 0; size = 25; shown = codes "00-database-short" }
@@ -169,7 +171,8 @@ pass_each (suc (suc zero)) lt f = pass_fire _ f
 pass_each (suc (suc (suc zero))) lt f = pass_dot _ f
 pass_each (suc (suc (suc (suc k)))) lt f = absurd (omega arith)
 
-pass_lines : (index text : List ℕ) (lines : List (List ℕ)) → lines ≡ text_lines index → ((k : ℕ) → k < length lines → (f : EditionRefusal) → PassesLine f text (take k lines) (slice_index_or lines k [])) → PassLines index text (length (text_lines index))
+pass_lines : (index text : List ℕ) (lines : List (List ℕ)) → lines ≡ text_lines index → ((k : ℕ) → k < length lines → (f : EditionRefusal) → PassesLine f text (take k lines) (slice_index_or lines k []))
+    → PassLines index text (length (text_lines index))
 pass_lines index text lines e h =
     subst (λ (ls : List (List ℕ)). (k : ℕ) → k < length ls → PassesEach line_tests text (take k ls) (slice_index_or ls k [])) e
     (λ k lt. all_of (λ f. PassesLine f text (take k lines) (slice_index_or lines k [])) (h k lt) line_tests)

@@ -56,7 +56,8 @@ found_has_name : (name : List ℕ) (ss : List Strategy) (s : Strategy) → find 
 found_has_name name [] s e = absurd (cc)
 found_has_name name (t ∷ ss) s e = by_first (bytes_eq name (strategy_name t)) refl e (found_has_name name ss s)
   where
-    by_first : (b : Bool) → bytes_eq name (strategy_name t) ≡ b → cond b (Some t) (find (λ u. bytes_eq name (strategy_name u)) ss) ≡ Some s → (find (λ u. bytes_eq name (strategy_name u)) ss ≡ Some s → name ≡ strategy_name s) → name ≡ strategy_name s
+    by_first : (b : Bool) → bytes_eq name (strategy_name t) ≡ b → cond b (Some t) (find (λ u. bytes_eq name (strategy_name u)) ss) ≡ Some s → (find (λ u. bytes_eq name (strategy_name u)) ss ≡ Some s → name ≡ strategy_name s) → name
+        ≡ strategy_name s
     by_first true h k later = let same : t ≡ s = cc in (bytes_eq-Decides name (strategy_name t)).0 h ∙ ap strategy_name same
     by_first false h k later = later k
 

@@ -64,7 +64,8 @@ pub line_words-drop_blanks : (line : List ℕ) → line_words line ≡ line_word
 line_words-drop_blanks [] = refl
 line_words-drop_blanks (b ∷ bs) = by_test (line_words-drop_blanks bs) (is_blank b) refl
   where
-    by_test : line_words bs ≡ line_words (drop (position_or_len (λ octet. not (is_blank octet)) bs) bs) → (test : Bool) → is_blank b ≡ test → line_words (b ∷ bs) ≡ line_words (drop (position_or_len (λ octet. not (is_blank octet)) (b ∷ bs)) (b ∷ bs))
+    by_test : line_words bs ≡ line_words (drop (position_or_len (λ octet. not (is_blank octet)) bs) bs) → (test : Bool) → is_blank b ≡ test → line_words (b ∷ bs)
+        ≡ line_words (drop (position_or_len (λ octet. not (is_blank octet)) (b ∷ bs)) (b ∷ bs))
     by_test more true e = line_words-blank b bs e ∙ (more ∙ ap (λ n. line_words (drop n (b ∷ bs))) (sym (later (λ octet. not (is_blank octet)) b bs (ap not e))))
     by_test more false e = ap (λ n. line_words (drop n (b ∷ bs))) (sym (here (λ octet. not (is_blank octet)) b bs (ap not e)))
 

@@ -6,10 +6,14 @@ use Rattle.std.proofs.lemmas.Bool.{leb-true}
 use Rattle.std.proofs.lemmas.Fmt.{length-decimal-le, decimal_by_steps}
 use Rattle.dict_text.specs.Lines.{text_lines}
 use Rattle.dict_proto.specs.Text.{crlf, needs_backslash, escaped, quoted, stuffed, sent_line, block}
-use Rattle.dict_proto.specs.Replies.{banner_octets, definition_count_octets, definition_line, definition_octets, match_count_octets, database_count_octets, strategy_count_octets, list_row, list_line_octets, list_end_octets, info_heading_octets, info_text_octets, help_lines, help_octets, server_lines, server_information_octets, status_octets, done_octets, closing_octets, unavailable_octets, not_recognized_octets, invalid_database_octets, invalid_strategy_octets, no_match_octets, no_databases_octets, reply_octets, illegal_parameters_octets, not_implemented_octets}
+use Rattle.dict_proto.specs.Replies.{banner_octets, definition_count_octets, definition_line, definition_octets, match_count_octets, database_count_octets, strategy_count_octets, list_row, list_line_octets}
+use Rattle.dict_proto.specs.Replies.{list_end_octets, info_heading_octets, info_text_octets, help_lines, help_octets, server_lines, server_information_octets, status_octets, done_octets, closing_octets}
+use Rattle.dict_proto.specs.Replies.{unavailable_octets, not_recognized_octets, invalid_database_octets, invalid_strategy_octets, no_match_octets, no_databases_octets, reply_octets, illegal_parameters_octets}
+use Rattle.dict_proto.specs.Replies.{not_implemented_octets}
 use Rattle.dict_proto.specs.ReplyLines.{AreShortLines, HasNoReturn, IsShort, IsWithinLimits}
 use Rattle.dict_proto.specs.declared.reply.Reply.{Reply}
-use Rattle.dict_proto.specs.declared.reply.Reply.TheVariants.{Banner, DefinitionCount, Definition, MatchCount, DatabaseCount, StrategyCount, ListLine, ListEnd, InfoHeading, InfoText, Help, ServerInformation, Status, Done, Closing, Unavailable, NotRecognized, InvalidDatabase, InvalidStrategy, NoMatch, NoDatabases, IllegalParameters, NotImplemented}
+use Rattle.dict_proto.specs.declared.reply.Reply.TheVariants.{Banner, DefinitionCount, Definition, MatchCount, DatabaseCount, StrategyCount, ListLine, ListEnd, InfoHeading, InfoText, Help, ServerInformation, Status}
+use Rattle.dict_proto.specs.declared.reply.Reply.TheVariants.{Done, Closing, Unavailable, NotRecognized, InvalidDatabase, InvalidStrategy, NoMatch, NoDatabases, IllegalParameters, NotImplemented}
 
 both_true : (a b : Bool) → (a && b) ≡ true → (a ≡ true) × (b ≡ true)
 both_true true b e = (refl, e)
@@ -195,7 +199,8 @@ server-short host n h lt =
 
 -- every line of a reply within the limits is short
 pub reply_octets-short : (reply : Reply) → IsWithinLimits reply → AreShortLines (reply_octets reply)
-unfolding is_other definition_count_octets match_count_octets database_count_octets strategy_count_octets list_end_octets info_heading_octets info_text_octets status_octets done_octets closing_octets unavailable_octets not_recognized_octets invalid_database_octets invalid_strategy_octets no_match_octets no_databases_octets illegal_parameters_octets not_implemented_octets
+unfolding is_other definition_count_octets match_count_octets database_count_octets strategy_count_octets list_end_octets info_heading_octets info_text_octets status_octets done_octets closing_octets unavailable_octets
+    not_recognized_octets invalid_database_octets invalid_strategy_octets no_match_octets no_databases_octets illegal_parameters_octets not_implemented_octets
 reply_octets-short (Banner host connection) (h, k) = one_line _ _ (banner_is host.now connection) (banner_short host.now connection h.0 k) (banner_whole host.now connection h.1 k)
 reply_octets-short (DefinitionCount count) h = numbered_line (codes "150 ") (codes " definitions retrieved") count (omega arith) refl refl h
 reply_octets-short (Definition headword name title body) (h, k, l, m) = definition-lines headword.now name.now title.now body.now h k l m

@@ -38,7 +38,8 @@ list_line-parts name text =
 
 -- the same of octets that are told to be these
 pub list_line-told : (front begun shown name text : List ℕ) → front ≡ before begun → begun ≡ name → shown ≡ name → front ++ (shown ++ (codes " " ++ (quoted text ++ (crlf ++ [])))) ≡ list_line_octets name text
-list_line-told front begun shown name text e f g = ap (λ l. l ++ (shown ++ (codes " " ++ (quoted text ++ (crlf ++ []))))) (e ∙ ap before f) ∙ (ap (λ l. before name ++ (l ++ (codes " " ++ (quoted text ++ (crlf ++ []))))) g ∙ list_line-parts name text)
+list_line-told front begun shown name text e f g =
+    ap (λ l. l ++ (shown ++ (codes " " ++ (quoted text ++ (crlf ++ []))))) (e ∙ ap before f) ∙ (ap (λ l. before name ++ (l ++ (codes " " ++ (quoted text ++ (crlf ++ []))))) g ∙ list_line-parts name text)
 
 lines_of_rows : (rows : List (List ℕ × List ℕ)) → flat_map (λ row. list_line_octets row.0 row.1) rows ≡ flat_map sent_line (map (λ row. list_row row.0 row.1) rows)
 unfolding list_line_octets

@@ -111,7 +111,8 @@ word_starts : (parts : List (List ℕ × List ℕ)) (rest : List ℕ) → parts 
     → line_words (flat_map (λ p. p.0) parts ++ rest) ≡ words_from within (flat_map (λ p. p.0) parts ++ rest)
 word_starts [] rest some h = absurd (some refl)
 word_starts ((text, content) ∷ parts) rest some h =
-    ap line_words (append_assoc text (flat_map (λ p. p.0) parts) rest) ∙ (between-word text (flat_map (λ p. p.0) parts ++ rest) (part_starts text content h.0) ∙ ap (words_from within) (sym (append_assoc text (flat_map (λ p. p.0) parts) rest)))
+    ap line_words (append_assoc text (flat_map (λ p. p.0) parts) rest) ∙ (between-word text (flat_map (λ p. p.0) parts ++ rest) (part_starts text content h.0)
+    ∙ ap (words_from within) (sym (append_assoc text (flat_map (λ p. p.0) parts) rest)))
 
 word-reads : (text content rest : List ℕ) → IsWord text content → line_words (text ++ rest) ≡ onto_all content (words_from within rest)
 word-reads text content rest (parts, some, each, spelled, means) =

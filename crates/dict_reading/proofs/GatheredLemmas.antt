@@ -61,7 +61,8 @@ module _ (index text : List ℕ) (lines : List (List ℕ)) (line : List ℕ) (g 
   known_if passes reserved = ap is_known_reserved (sym named) ∙ passes.1.1.1.1.1.1.1.0 (line_in index p) l (ap is_reserved named ∙ reserved)
 
   -- what is found under the key
-  under_name : is_known_reserved name ≡ true → (s : HasGatheredPlaces index text lines g) → option_map (λ place. body_in text (line_in index place)) (get_by_text g.reserved name) ≡ text_under (reserved_key_of (line_in index p).headword) text s.said
+  under_name : is_known_reserved name ≡ true → (s : HasGatheredPlaces index text lines g) → option_map (λ place. body_in text (line_in index place)) (get_by_text g.reserved name)
+      ≡ text_under (reserved_key_of (line_in index p).headword) text s.said
   under_name known s = s.reserved name known ∙ ap (λ key. text_under key text s.said) (sym named)
 
   pub twice_fails : is_known_reserved name ≡ true → is_some (get_by_text g.reserved name) ≡ true → HasGatheredPlaces index text lines g → ¬ PassesLine ReservedTwice text lines line

@@ -53,7 +53,8 @@ names_asked M word = by_tests (bytes_eq word (codes "*")) (bytes_eq word (codes 
     all = places_from is_regular 0 M.items
 
     by_tests : (a b : Bool) (o : Option (List ℕ)) → is_some o ≡ list_any (is_named word) M.items
-        → (a || (b || is_known M.items word)) ≡ is_some (if a then Some (record { places = all; is_first = false }) else if b then Some (record { places = all; is_first = true }) else option_map (λ (places : List ℕ). let made : AskedPlaces = record { places = places; is_first = false } in made) o)
+        → (a || (b || is_known M.items word)) ≡ is_some (if a then Some (record { places = all; is_first = false }) else if b then Some (record { places = all; is_first = true }) else option_map
+        (λ (places : List ℕ). let made : AskedPlaces = record { places = places; is_first = false } in made) o)
     by_tests true b o e = refl
     by_tests false true o e = refl
     by_tests false false None e = sym e

@@ -199,7 +199,8 @@ asked_few M word asking w e = by_tests (bytes_eq word (codes "*")) (bytes_eq wor
     all_few = omega (arith, places_few is_regular 0 M.items, w.item_limit)
 
     by_tests : (a b : Bool) (o : Option (List ℕ)) → places_under M.items word 0 M.items ≡ o
-        → (if a then Some (record { places = all; is_first = false }) else if b then Some (record { places = all; is_first = true }) else option_map (λ (places : List ℕ). let made : AskedPlaces = record { places = places; is_first = false } in made) o) ≡ Some asking
+        → (if a then Some (record { places = all; is_first = false }) else if b then Some (record { places = all; is_first = true }) else option_map
+        (λ (places : List ℕ). let made : AskedPlaces = record { places = places; is_first = false } in made) o) ≡ Some asking
         → length asking.places ≤ 64
     by_tests true b o is e = let same : all ≡ asking.places = cc in subst (λ (l : List ℕ). length l ≤ 64) same all_few
     by_tests false true o is e = let same : all ≡ asking.places = cc in subst (λ (l : List ℕ). length l ≤ 64) same all_few
@@ -224,7 +225,8 @@ searched_are M word query = by_tests (bytes_eq word (codes "*")) (bytes_eq word 
     named (Some places) = refl
 
     by_tests : (a b : Bool) → (if a then Some (databases M.items) else if b then Some (first_finding query.strategy query.key (databases M.items)) else option_map (databases_of M.items) (find (is_named word) M.items))
-        ≡ option_map given (if a then Some (record { places = all; is_first = false }) else if b then Some (record { places = all; is_first = true }) else option_map (λ (places : List ℕ). let made : AskedPlaces = record { places = places; is_first = false } in made) (places_under M.items word 0 M.items))
+        ≡ option_map given (if a then Some (record { places = all; is_first = false }) else if b then Some (record { places = all; is_first = true }) else option_map
+        (λ (places : List ℕ). let made : AskedPlaces = record { places = places; is_first = false } in made) (places_under M.items word 0 M.items))
     by_tests true b = ap Some (sym (all_stand M.items))
     by_tests false true = ap Some (ap (first_finding query.strategy query.key) (sym (all_stand M.items)) ∙ sym (first_over query M.items all))
     by_tests false false = sym (under_stands M.items word 0 M.items refl) ∙ named (places_under M.items word 0 M.items)

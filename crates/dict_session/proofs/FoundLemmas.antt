@@ -119,7 +119,8 @@ module _ (key : List ℕ) where
 
   pub definitions_over : (dbs : List Database) → definitions_answer (flat_map (definitions_in key) dbs) ≡ answer_over for_definitions dbs
   definitions_over dbs =
-      ap (λ (n : ℕ). if n == 0 then no_match_octets else count_octets Entries n ++ (flat_map definition_of (flat_map (definitions_in key) dbs) ++ end_octets Entries)) (length-flat_map (definitions_in key) (count_in for_definitions) definitions_count dbs)
+      ap (λ (n : ℕ). if n == 0 then no_match_octets else count_octets Entries n ++ (flat_map definition_of (flat_map (definitions_in key) dbs) ++ end_octets Entries))
+      (length-flat_map (definitions_in key) (count_in for_definitions) definitions_count dbs)
       ∙ ap (λ (l : List ℕ). if total (count_in for_definitions) dbs == 0 then no_match_octets else count_octets Entries (total (count_in for_definitions) dbs) ++ (l ++ end_octets Entries))
       (flat_map-flat_map definition_of (definitions_in key) dbs ∙ flat_map-same _ _ definitions_same dbs)
 
@@ -135,7 +136,8 @@ module _ (strategy : Strategy) (key : List ℕ) where
 
   pub matches_over : (dbs : List Database) → matches_answer (flat_map (matches_in strategy key) dbs) ≡ answer_over for_matches dbs
   matches_over dbs =
-      ap (λ (n : ℕ). if n == 0 then no_match_octets else count_octets Headwords n ++ (flat_map match_line (flat_map (matches_in strategy key) dbs) ++ end_octets Headwords)) (length-flat_map (matches_in strategy key) (count_in for_matches) matches_count dbs)
+      ap (λ (n : ℕ). if n == 0 then no_match_octets else count_octets Headwords n ++ (flat_map match_line (flat_map (matches_in strategy key) dbs) ++ end_octets Headwords))
+      (length-flat_map (matches_in strategy key) (count_in for_matches) matches_count dbs)
       ∙ ap (λ (l : List ℕ). if total (count_in for_matches) dbs == 0 then no_match_octets else count_octets Headwords (total (count_in for_matches) dbs) ++ (l ++ end_octets Headwords))
       (flat_map-flat_map match_line (matches_in strategy key) dbs ∙ flat_map-same _ _ matches_same dbs)
 

@@ -43,7 +43,8 @@ wrote_more d f g later SinkFailed a b c ls ms (o, spoken, h) (p, ended, more, k)
 wrote_more d f g later DeskFailed a b c ls ms (o, spoken, h) (failed, (p, breaks, k)) =
     (failed, (o ++ p, breaks_append d g.closed ls ms o p (speaks_wider d f.closed g.closed later ls o false spoken) breaks, all_after a b c o p h k))
 
-pub leaves_more : (d : Meaning → List ℕ) (f g : Condition) → (f.closed ≡ true → g.closed ≡ true) → (course : Course) (s t : Session) (a b c : Stream) (p q : List ℕ) → LeavesSession d f More s a b p → LeavesSession d g course t b c ((cut p).rest ++ q) → LeavesSession d g course t a c (p ++ q)
+pub leaves_more : (d : Meaning → List ℕ) (f g : Condition) → (f.closed ≡ true → g.closed ≡ true) → (course : Course) (s t : Session) (a b c : Stream) (p q : List ℕ) → LeavesSession d f More s a b p
+    → LeavesSession d g course t b c ((cut p).rest ++ q) → LeavesSession d g course t a c (p ++ q)
 leaves_more d f g later course s t a b c p q h k = rw (cut_append p q) (wrote_more d f g later course a b c (cut p).lines (cut ((cut p).rest ++ q)).lines h.0 k.0, k.1)
 
 -- after the end nothing is answered

@@ -19,8 +19,10 @@ use Rattle.dict_match.specs.declared.strategy.Strategy.TheVariants.{Exact, Prefi
 use Rattle.dict_proto.specs.Meaning.{Meaning, meaning, define, matching, show_databases, show_strategies, show_server, show_info, client, status, help, quit, not_recognized, illegal_parameters, not_implemented}
 use Rattle.dict_proto.specs.Text.{crlf}
 use Rattle.dict_proto.specs.ReplyLines.{AreShortLines, HasNoReturn, IsShort}
-use Rattle.dict_proto.specs.Replies.{banner_octets, database_count_octets, strategy_count_octets, list_line_octets, list_end_octets, info_heading_octets, help_octets, server_information_octets, done_octets, unavailable_octets, no_match_octets, no_databases_octets}
-use Rattle.dict_proto.specs.declared.reply.Reply.TheVariants.{Banner, DefinitionCount, Definition, MatchCount, DatabaseCount, StrategyCount, ListLine, ListEnd, InfoHeading, InfoText, Help, ServerInformation, Status, Done, Closing, Unavailable, NotRecognized, InvalidDatabase, InvalidStrategy, NoMatch, NoDatabases, IllegalParameters, NotImplemented}
+use Rattle.dict_proto.specs.Replies.{banner_octets, database_count_octets, strategy_count_octets, list_line_octets, list_end_octets, info_heading_octets, help_octets, server_information_octets, done_octets}
+use Rattle.dict_proto.specs.Replies.{unavailable_octets, no_match_octets, no_databases_octets}
+use Rattle.dict_proto.specs.declared.reply.Reply.TheVariants.{Banner, DefinitionCount, Definition, MatchCount, DatabaseCount, StrategyCount, ListLine, ListEnd, InfoHeading, InfoText, Help, ServerInformation, Status}
+use Rattle.dict_proto.specs.declared.reply.Reply.TheVariants.{Done, Closing, Unavailable, NotRecognized, InvalidDatabase, InvalidStrategy, NoMatch, NoDatabases, IllegalParameters, NotImplemented}
 use Rattle.dict_proto.proofs.ReplyLinesLemmas.{reply_octets-short}
 use Rattle.dict_catalogue.specs.Items.{Item, Stored, regular, virtual, is_named}
 use Rattle.dict_catalogue.specs.Steps.{Catalogue}
@@ -184,7 +186,8 @@ rows-short query Headwords db w =
     let words : List (List ℕ) = map shown_of entries in
     let all : AllByRecursion (IsShort 255) words = all_map IsWellFormedEntry (IsShort 255) shown_of shown-short entries (found_all query.strategy query.key db.edition w.edition) in
     short_all (row_octets Headwords db.name db.edition.title) (map (λ (shown : List ℕ). row shown []) (distinct words))
-    (all_map (IsShort 255) (λ (r : Row). AreShortLines (row_octets Headwords db.name db.edition.title r)) (λ (shown : List ℕ). row shown []) (λ shown h. line-short db.name shown w.name h) (distinct words) (distinct_all (IsShort 255) words all))
+    (all_map (IsShort 255) (λ (r : Row). AreShortLines (row_octets Headwords db.name db.edition.title r)) (λ (shown : List ℕ). row shown []) (λ shown h. line-short db.name shown w.name h) (distinct words)
+    (distinct_all (IsShort 255) words all))
 
 at-short : (M : Catalogue) → IsWellFormed M → (query : Query) (place : ℕ) → AreShortLines (octets_at_place query M.items place)
 at-short M w query place = by_item (slice_get M.items place) refl
@@ -319,7 +322,8 @@ strategies-short = short_append (strategy_count_octets (length strategies)) (fla
 
 server-short : (M : Catalogue) → IsWellFormed M → (host : List ℕ) → IsTrue (is_host host) → AreShortLines (server_answer M host)
 unfolding server_answer
-server-short M w host h = short_append (server_information_octets host (length M.items)) done_octets (reply_octets-short (ServerInformation (lent host) (length M.items)) (host-short host h, omega (arith, w.item_limit))) (reply_octets-short Done tt)
+server-short M w host h =
+    short_append (server_information_octets host (length M.items)) done_octets (reply_octets-short (ServerInformation (lent host) (length M.items)) (host-short host h, omega (arith, w.item_limit))) (reply_octets-short Done tt)
 
 status-short : (M : Catalogue) → IsWellFormed M → AreShortLines (status_answer M)
 unfolding status_answer

@@ -1,5 +1,6 @@
 -- The answers to SHOW, STATUS and HELP as replies, one after the other, and over a catalogue's summary.
-use Rattle.std.proofs.Common.{◌≡◌, ◌≢◌, ℕ, suc, List, [], ◌∷◌, ◌++◌, Bor, Bool, true, false, ◌&&◌, refl, sym, ap, ◌∙◌, append-nil, append_assoc, ◌+◌, ◌<◌, length, map, take, drop, get_or, take-append-drop, arith, subst, inl, inr, length-append}
+use Rattle.std.proofs.Common.{◌≡◌, ◌≢◌, ℕ, suc, List, [], ◌∷◌, ◌++◌, Bor, Bool, true, false, ◌&&◌, refl, sym, ap, ◌∙◌, append-nil, append_assoc, ◌+◌, ◌<◌, length, map, take, drop, get_or, take-append-drop, arith, subst}
+use Rattle.std.proofs.Common.{inl, inr, length-append}
 use Rattle.std.specs.Prelude.{Option, None, Some, Result, Ok, Err, find, option_map, ◌==◌, Contains, if◌then◌else◌}
 use Rattle.std.specs.List.{flat_map}
 use Rattle.std.specs.Str.{bytes_eq}
@@ -138,7 +139,8 @@ module _ (M : Catalogue) (name : List ℕ) (items : List (Item (List ℕ))) (e :
       by_item (Some (regular other current former)) e = cc
       by_item (Some (virtual other other_title others)) f =
           let same : members ≡ others = cc in
-          ap (λ (l : List ℕ). info_heading_octets ++ l) (ap (λ (l : List ℕ). l ++ (list_end_octets ++ done_octets)) (ap (λ (xs : List (Item (List ℕ))). members_octets xs members) e ∙ (members_are M.items members ∙ ap (λ (ms : List (List ℕ)). flat_map database_line (flat_map (databases_named M.items) ms)) same))
+          ap (λ (l : List ℕ). info_heading_octets ++ l) (ap (λ (l : List ℕ). l ++ (list_end_octets ++ done_octets))
+          (ap (λ (xs : List (Item (List ℕ))). members_octets xs members) e ∙ (members_are M.items members ∙ ap (λ (ms : List (List ℕ)). flat_map database_line (flat_map (databases_named M.items) ms)) same))
           ∙ sym (append_assoc (flat_map database_line (flat_map (databases_named M.items) others)) list_end_octets done_octets))
 
   -- the edition that SHOW INFO tells of

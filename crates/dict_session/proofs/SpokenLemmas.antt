@@ -12,7 +12,8 @@ pub speaks_append : (d : Meaning → List ℕ) (k : Bool) (ls ms : List (List �
 speaks_append d k [] ms o p ended h g = subst (λ x. Speaks d k ms (x ++ p) ended) (sym h.0) g
 speaks_append d k (l ∷ ls) ms o p ended (rest, inl h) g = (rest ++ p, inl (ap (λ x. x ++ p) h.0 ∙ append_assoc (d (meaning l)) rest p, answered (λ m. speaks_append d k ls ms rest p ended m g) (is_quit l) h.1))
   where
-    answered : (Speaks d k ls rest false → Speaks d k (ls ++ ms) (rest ++ p) ended) → (q : Bool) → MatchBool q ((rest ≡ []) × (false ≡ true)) (Speaks d k ls rest false) → MatchBool q ((rest ++ p ≡ []) × (ended ≡ true)) (Speaks d k (ls ++ ms) (rest ++ p) ended)
+    answered : (Speaks d k ls rest false → Speaks d k (ls ++ ms) (rest ++ p) ended) → (q : Bool) → MatchBool q ((rest ≡ []) × (false ≡ true)) (Speaks d k ls rest false)
+        → MatchBool q ((rest ++ p ≡ []) × (ended ≡ true)) (Speaks d k (ls ++ ms) (rest ++ p) ended)
     answered next true m = absurd (let e : false ≡ true = m.1 in cc)
     answered next false m = next m
 speaks_append d k (l ∷ ls) ms o p ended (rest, inr h) g = (rest ++ p, inr (h.0, ap (λ x. x ++ p) h.1 ∙ append_assoc unavailable_octets rest p, speaks_append d k ls ms rest p ended h.2 g))

@@ -45,7 +45,8 @@ module _ (d : Meaning → List ℕ) (looks : Meaning → Bool) where
   speaks_of j k [] o ended h = (h.0, h.1)
   speaks_of j k (l ∷ ls) o ended (rest, next, stands, inl h) = (rest, inl (h.0, by_quit (λ m. speaks_of next k ls rest ended m) (is_quit l) h.1))
     where
-      by_quit : (SpeaksThrough d looks next k ls rest ended → Speaks d k ls rest ended) → (q : Bool) → MatchBool q ((rest ≡ []) × (ended ≡ true) × (k ≡ next)) (SpeaksThrough d looks next k ls rest ended) → MatchBool q ((rest ≡ []) × (ended ≡ true)) (Speaks d k ls rest ended)
+      by_quit : (SpeaksThrough d looks next k ls rest ended → Speaks d k ls rest ended) → (q : Bool) → MatchBool q ((rest ≡ []) × (ended ≡ true) × (k ≡ next)) (SpeaksThrough d looks next k ls rest ended)
+          → MatchBool q ((rest ≡ []) × (ended ≡ true)) (Speaks d k ls rest ended)
       by_quit more true m = (m.0, m.1)
       by_quit more false m = more m
   speaks_of j k (l ∷ ls) o ended (rest, next, stands, inr h) =
@@ -69,7 +70,8 @@ module _ (d : Meaning → List ℕ) (looks : Meaning → Bool) where
   through_end j k [] ms o h = absurd (let e : true ≡ false = h.1 in cc)
   through_end j k (l ∷ ls) ms o (rest, next, stands, inl h) = (rest, next, stands, inl (h.0, by_quit (λ m. through_end next k ls ms rest m) (is_quit l) h.1))
     where
-      by_quit : (SpeaksThrough d looks next k ls rest true → SpeaksThrough d looks next k (ls ++ ms) rest true) → (q : Bool) → MatchBool q ((rest ≡ []) × (true ≡ true) × (k ≡ next)) (SpeaksThrough d looks next k ls rest true) → MatchBool q ((rest ≡ []) × (true ≡ true) × (k ≡ next)) (SpeaksThrough d looks next k (ls ++ ms) rest true)
+      by_quit : (SpeaksThrough d looks next k ls rest true → SpeaksThrough d looks next k (ls ++ ms) rest true) → (q : Bool) → MatchBool q ((rest ≡ []) × (true ≡ true) × (k ≡ next)) (SpeaksThrough d looks next k ls rest true)
+          → MatchBool q ((rest ≡ []) × (true ≡ true) × (k ≡ next)) (SpeaksThrough d looks next k (ls ++ ms) rest true)
       by_quit more true m = m
       by_quit more false m = more m
   through_end j k (l ∷ ls) ms o (rest, next, stands, inr h) = (rest, next, stands, inr (h.0, h.1, through_end next k ls ms rest h.2))
@@ -170,7 +172,8 @@ module _ (d : Meaning → List ℕ) (looks : Meaning → Bool) where
         ),
       )
 
-  pub through_line : (j : Bool) (f : Condition) (course : Course) (s : Session) (a b : Stream) (bs l : List ℕ) → cut bs ≡ record { lines = l ∷ []; rest = [] } → AnswersLine d looks j f course s a b l → LeavesThrough d looks j f course s a b bs
+  pub through_line : (j : Bool) (f : Condition) (course : Course) (s : Session) (a b : Stream) (bs l : List ℕ) → cut bs ≡ record { lines = l ∷ []; rest = [] } → AnswersLine d looks j f course s a b l
+      → LeavesThrough d looks j f course s a b bs
   through_line j f course s a b bs l e h = rw e (wrote_line j f course s a b l h, h.keeps)
 
   -- no line was ended
@@ -180,13 +183,15 @@ module _ (d : Meaning → List ℕ) (looks : Meaning → Bool) where
       rw e (([], (refl, refl, refl), puts_none a), held)
 
   -- lines that go on, and then more
-  pub wrote_more : (j : Bool) (f g : Condition) (course : Course) (a b c : Stream) (ls ms : List (List ℕ)) → WroteThrough d looks j f More a b ls → WroteThrough d looks f.closed g course b c ms → WroteThrough d looks j g course a c (ls ++ ms)
+  pub wrote_more : (j : Bool) (f g : Condition) (course : Course) (a b c : Stream) (ls ms : List (List ℕ)) → WroteThrough d looks j f More a b ls → WroteThrough d looks f.closed g course b c ms
+      → WroteThrough d looks j g course a c (ls ++ ms)
   wrote_more j f g More a b c ls ms (o, spoken, h) (p, more, k) = (o ++ p, through_append j f.closed g.closed ls ms o p false spoken more, all_after a b c o p h k)
   wrote_more j f g Quit a b c ls ms (o, spoken, h) (p, more, k) = (o ++ p, through_append j f.closed g.closed ls ms o p true spoken more, all_after a b c o p h k)
   wrote_more j f g SinkFailed a b c ls ms (o, spoken, h) (p, ended, more, k) = (o ++ p, ended, through_append j f.closed g.closed ls ms o p ended spoken more, front_after a b c o p h k)
   wrote_more j f g DeskFailed a b c ls ms (o, spoken, h) (failed, (p, breaks, k)) = (failed, (o ++ p, breaks_append j f.closed g.closed ls ms o p spoken breaks, all_after a b c o p h k))
 
-  pub through_more : (j : Bool) (f g : Condition) (course : Course) (s t : Session) (a b c : Stream) (p q : List ℕ) → LeavesThrough d looks j f More s a b p → LeavesThrough d looks f.closed g course t b c ((cut p).rest ++ q) → LeavesThrough d looks j g course t a c (p ++ q)
+  pub through_more : (j : Bool) (f g : Condition) (course : Course) (s t : Session) (a b c : Stream) (p q : List ℕ) → LeavesThrough d looks j f More s a b p → LeavesThrough d looks f.closed g course t b c ((cut p).rest ++ q)
+      → LeavesThrough d looks j g course t a c (p ++ q)
   through_more j f g course s t a b c p q h k = rw (cut_append p q) (wrote_more j f g course a b c (cut p).lines (cut ((cut p).rest ++ q)).lines h.0 k.0, k.1)
 
   -- after the end nothing is answered

@@ -9,7 +9,8 @@ use Rattle.dict_desk.specs.Asked.{Definition, Match, definitions, matches, strat
 use Rattle.dict_desk.specs.declared.lookup.What.{What}
 use Rattle.dict_desk.specs.declared.lookup.What.TheVariants.{Entries, Headwords}
 use Rattle.dict_proto.specs.Meaning.{Meaning, meaning, define, matching, show_databases, show_strategies, show_server, show_info, client, status, help, quit, not_recognized, illegal_parameters, not_implemented}
-use Rattle.dict_proto.specs.Replies.{definition_count_octets, definition_octets, match_count_octets, list_line_octets, list_end_octets, done_octets, closing_octets, not_recognized_octets, illegal_parameters_octets, not_implemented_octets, invalid_database_octets, invalid_strategy_octets, no_match_octets}
+use Rattle.dict_proto.specs.Replies.{definition_count_octets, definition_octets, match_count_octets, list_line_octets, list_end_octets, done_octets, closing_octets, not_recognized_octets, illegal_parameters_octets}
+use Rattle.dict_proto.specs.Replies.{not_implemented_octets, invalid_database_octets, invalid_strategy_octets, no_match_octets}
 use Rattle.dict_session.specs.Shows.{databases_answer, strategies_answer, server_answer, info_answer, status_answer, help_answer}
 
 -- a definition, with its text

@@ -7,7 +7,8 @@ use Rattle.dict_index.specs.Edition.{Edition}
 use Rattle.dict_catalogue.specs.Items.{Item, regular, virtual, name_of, is_named}
 use Rattle.dict_catalogue.specs.Steps.{Catalogue}
 use Rattle.dict_desk.specs.Asked.{Database, databases_of}
-use Rattle.dict_proto.specs.Replies.{database_count_octets, strategy_count_octets, list_line_octets, list_end_octets, info_heading_octets, info_text_octets, help_octets, server_information_octets, status_octets, done_octets, invalid_database_octets, no_databases_octets}
+use Rattle.dict_proto.specs.Replies.{database_count_octets, strategy_count_octets, list_line_octets, list_end_octets, info_heading_octets, info_text_octets, help_octets, server_information_octets, status_octets}
+use Rattle.dict_proto.specs.Replies.{done_octets, invalid_database_octets, no_databases_octets}
 
 -- a database's title is its current edition's
 abbrev pub title_of_item : Item Edition → List ℕ

@@ -47,5 +47,6 @@ only_line bs some none =
     ∙ ap (λ l. bs ∷ text_lines l) (sym (take_rest bs (length bs) ∙ drop-length bs))
 
 -- each line takes one of the lines that are left
-pub fewer_lines : (bs : List ℕ) (lines : List (List ℕ)) (n : ℕ) → text_lines bs ≡ lines → NoneBefore (Passes (is_byte 10) bs) 0 (length bs) n → Passes (is_byte 10) bs n → length (text_lines (take (length bs - (n + 1)) (drop (n + 1) bs))) < length lines
+pub fewer_lines : (bs : List ℕ) (lines : List (List ℕ)) (n : ℕ) → text_lines bs ≡ lines → NoneBefore (Passes (is_byte 10) bs) 0 (length bs) n → Passes (is_byte 10) bs n
+    → length (text_lines (take (length bs - (n + 1)) (drop (n + 1) bs))) < length lines
 fewer_lines bs lines n e none here = omega (arith, ap length (sym e ∙ first_line bs n none here))

@@ -74,7 +74,8 @@ module _ {S : Type 0} (g : Ghosts S) where
   -- what is committed was read, and the fault, as the program tells it, is what that holds instead; or it couldn't be read, since its store failed or memory ran out
   abbrev pub IsUnsound : DeskState S → DeskState S → ProgramFault → Type 0
   IsUnsound old new fault =
-      (why : DeskFault) × (fault ≡ told_of why) × (HasCleanDisk (state g new.conn) → TellsOfDatabase (rested (state g old.conn)).now why × IsNotHeld (rested (state g old.conn)).now why × (why ≡ Disk → HasFailedToRead (rested (state g old.conn)) (state g new.conn)))
+      (why : DeskFault) × (fault ≡ told_of why) × (HasCleanDisk (state g new.conn) → TellsOfDatabase (rested (state g old.conn)).now why × IsNotHeld (rested (state g old.conn)).now why
+      × (why ≡ Disk → HasFailedToRead (rested (state g old.conn)) (state g new.conn)))
 
   -- A session over the catalogue of an opened database ended so, and left this desk of it.
   pub record HasSpoken (conn : Held S) (desk : DeskState S) (end : Result SessionEnd SessionFault) (reader writer : StreamChange) : Type 0 where

@@ -1,5 +1,6 @@
 -- The paths that the rows of the router find, and their names.
-use Rattle.std.proofs.Common.{rules, ◌≡◌, ◌≢◌, ◌<◌, ◌-◌, ◌++◌, ◌==◌, ◌&&◌, ◌⊎◌, inl, inr, ℕ, suc, Bool, true, false, ltb, nat_eq, List, [], ◌∷◌, length, drop, get_or, Option, Some, None, option_map, codes, refl, sym, ap, ◌∙◌, subst, arith, lit<, Fits, w8}
+use Rattle.std.proofs.Common.{rules, ◌≡◌, ◌≢◌, ◌<◌, ◌-◌, ◌++◌, ◌==◌, ◌&&◌, ◌⊎◌, inl, inr, ℕ, suc, Bool, true, false, ltb, nat_eq, List, [], ◌∷◌, length, drop, get_or, Option, Some, None, option_map, codes, refl, sym, ap}
+use Rattle.std.proofs.Common.{◌∙◌, subst, arith, lit<, Fits, w8}
 use Rattle.std.proofs.Math.Facts.{Fits-lt-pow}
 use Rattle.std.specs.List.{AllByRecursion, ends_with}
 use Rattle.std.specs.Cmp.Lexicographic.{pointwise}

@@ -93,11 +93,13 @@ stays_so Shows Before M response octets shown (inl text) = answered text shown (
 stays_so Shows Before M response octets shown (inr text) = unchanged text shown (λ ms left. left)
 
 -- by what a keeper answered of two files that it had prepared: `Did` is what it tells of the command beside
-pub after_prepared : {K : Type 0} (Did : ReadEdition → Result Kept Fault → Type 0) (Shows : K → Catalogue → Type 0) (LeavesOneOf : K → List (Option Catalogue) → Type 0) (old new : K) (M : Catalogue) (id name index text octets : List ℕ) (it : Answered)
+pub after_prepared : {K : Type 0} (Did : ReadEdition → Result Kept Fault → Type 0) (Shows : K → Catalogue → Type 0) (LeavesOneOf : K → List (Option Catalogue) → Type 0) (old new : K) (M : Catalogue)
+    (id name index text octets : List ℕ) (it : Answered)
     → IsWide (LeavesOneOf new) → Shows old M → kept_under M.kept id ≡ None
     → IfDone (Ok (Some it)) (λ outcome. (reading : ReadEdition) × IsReadEdition index text reading × Did reading outcome)
     → IfDone (Ok (Some it)) (λ outcome. (reading : ReadEdition) → IsReadEdition index text reading → Applies (Shows new) M (step M id (install name (edition_of reading))) outcome)
-    → IfDone (Ok (Some it)) (λ outcome. (reading : ReadEdition) → IsReadEdition index text reading → Leaves (LeavesOneOf old) (LeavesOneOf new) (is_some (kept_under M.kept id)) (step M id (install name (edition_of reading))).catalogue outcome)
+    → IfDone (Ok (Some it)) (λ outcome. (reading : ReadEdition) → IsReadEdition index text reading
+    → Leaves (LeavesOneOf old) (LeavesOneOf new) (is_some (kept_under M.kept id)) (step M id (install name (edition_of reading))).catalogue outcome)
     → IfRefused (Ok (Some it)) (λ refusal line. IsFault index text refusal line × (new ≡ old))
     → IsAnswerOf it octets → Responds (Shows new) (LeavesOneOf old) (LeavesOneOf new) M (SettlesFiles M id name index text) octets
 after_prepared Did Shows LeavesOneOf old new M id name index text octets (prepared.Done outcome) wide shown none (reading, is, did) value left refused told =

@@ -58,7 +58,8 @@ was_back old new some same back = by (is_held_back old) refl
     by false e = back_never _ (reader_back old new e some same) back
 
 -- octets that wait for another connection's command
-pub waits_still : {K : Type 0} (expects : K → Expected → K → Type 0) (prepares : K → Result Bool Fault → K → Type 0) (behind : Bool) (hub : Hub) (desk : K) (id : ℕ) (old new : Held) → behind ≡ true → is_held_back new ≡ true → held_in new ≡ held_in old
+pub waits_still : {K : Type 0} (expects : K → Expected → K → Type 0) (prepares : K → Result Bool Fault → K → Type 0) (behind : Bool) (hub : Hub) (desk : K) (id : ℕ) (old new : Held) → behind ≡ true → is_held_back new ≡ true
+    → held_in new ≡ held_in old
     → new.is_foreseen ≡ old.is_foreseen → new.turns_left ≡ old.turns_left → new.waited ≡ min (old.waited + 1) (2 ^ 64 - 1) → AreCommand hub id (held_in old)
     → HoldsStill expects prepares behind old.is_foreseen old.turns_left old.waited hub desk desk id new
 waits_still expects prepares behind hub desk id old new is back held told left counted makes =
@@ -69,7 +70,8 @@ waits_still expects prepares behind hub desk id old new is back held told left c
     })
 
 -- the desk prepares what octets make whole, of which it was told before, or just now
-pub prepares_on : {K : Type 0} (expects : K → Expected → K → Type 0) (prepares : K → Result Bool Fault → K → Type 0) (behind : Bool) (hub : Hub) (old told new : K) (id : ℕ) (before between after : Held) → behind ≡ false → is_held_back after ≡ true
+pub prepares_on : {K : Type 0} (expects : K → Expected → K → Type 0) (prepares : K → Result Bool Fault → K → Type 0) (behind : Bool) (hub : Hub) (old told new : K) (id : ℕ) (before between after : Held) → behind ≡ false
+    → is_held_back after ≡ true
     → held_in after ≡ held_in between → between.waited ≡ before.waited → (before.is_foreseen ≡ true → (between ≡ before) × (told ≡ old))
     → (before.is_foreseen ≡ false → between.is_foreseen ≡ true → (between.turns_left ≡ 1_000_000) × AreToldOf expects hub id (held_in between) told)
     → between.is_foreseen ≡ true → after.is_foreseen ≡ true → after.turns_left < between.turns_left → after.waited ≡ min (between.waited + 1) (2 ^ 64 - 1) → prepares told (Ok true) new
@@ -94,7 +96,8 @@ prepares_on {K} expects prepares behind hub old told new id before between after
     left false is = subst (λ (b : Bool). after.turns_left < turns_for b before.turns_left) (sym is) (subst (λ (n : ℕ). after.turns_left < n) (now is foreseen).0 fewer)
 
 -- the same of what was held before, where some was, and of none
-pub still_held : {K : Type 0} (expects : K → Expected → K → Type 0) (prepares : K → Result Bool Fault → K → Type 0) (behind : Bool) (hub : Hub) (old new : K) (id own : ℕ) (before was after : Held) → was ≡ before → id ≡ own → is_held_back was ≡ true
+pub still_held : {K : Type 0} (expects : K → Expected → K → Type 0) (prepares : K → Result Bool Fault → K → Type 0) (behind : Bool) (hub : Hub) (old new : K) (id own : ℕ) (before was after : Held) → was ≡ before → id ≡ own
+    → is_held_back was ≡ true
     → HoldsStill expects prepares behind was.is_foreseen was.turns_left was.waited hub old new id after → HoldsStill expects prepares behind (are_told before) before.turns_left (turns_held before) hub old new own after
 still_held expects prepares behind hub old new id own before was after same at back holds =
     subst (λ (i : ℕ). HoldsStill expects prepares behind (are_told before) before.turns_left (turns_held before) hub old new i after) at
@@ -112,7 +115,8 @@ begins_held expects prepares behind hub old new id own before after at none hold
     first it = record { by = it.by; left_over = it.left_over; counted = it.counted }
 
 -- the same of octets that were just read
-pub filled_held : {K : Type 0} (expects : K → Expected → K → Type 0) (prepares : K → Result Bool Fault → K → Type 0) (behind told : Bool) (left turns : ℕ) (hub : Hub) (old new : K) (id own : ℕ) (after : Held) → told ≡ false → turns ≡ 0 → id ≡ own
+pub filled_held : {K : Type 0} (expects : K → Expected → K → Type 0) (prepares : K → Result Bool Fault → K → Type 0) (behind told : Bool) (left turns : ℕ) (hub : Hub) (old new : K) (id own : ℕ) (after : Held) → told ≡ false → turns
+    ≡ 0 → id ≡ own
     → HoldsStill expects prepares behind told left turns hub old new id after → HoldsStill expects prepares behind false 0 0 hub old new own after
 filled_held expects prepares behind told left turns hub old new id own after isnt none at holds =
     subst (λ (i : ℕ). HoldsStill expects prepares behind false 0 0 hub old new i after) at

@@ -121,7 +121,8 @@ piece_over refused since a b c octets events over id stage kind (inl answer) = i
 piece_over refused since a b c octets events over id stage kind (inr (editor, none, held, same)) = inr (ap is_of_editor (sym kind) ∙ editor, none, held, same ∙ stage)
 
 -- a piece is handed of a connection that was as this one, but for what else is held of it, and over such a hub
-pub handed_over : {T : Type 0} (taken coming : T → Option (List ℕ)) (made : T → Option (List Call)) (refused since : ℕ → Kind → Type 0) (a b c : Connection T) (events : List Accepted) → b ≡ record a { held = b.held } → b.held.kind ≡ a.held.kind
+pub handed_over : {T : Type 0} (taken coming : T → Option (List ℕ)) (made : T → Option (List Call)) (refused since : ℕ → Kind → Type 0) (a b c : Connection T) (events : List Accepted) → b ≡ record a { held = b.held } → b.held.kind
+    ≡ a.held.kind
     → held_in b.held ≡ held_in a.held → ((id : ℕ) (kind : Kind) → since id kind → refused id kind) → HandsOver taken coming made (held_in b.held) b c events × LeadsByPiece since (held_in b.held) b c events
     → HandsOver taken coming made (held_in a.held) a c events × LeadsByPiece refused (held_in a.held) a c events
 handed_over taken coming made refused since a b c events same kind held over (hands, leads) = (

@@ -25,7 +25,8 @@ use Rattle.net_connection.specs.declared.held.Held.{Held}
 use Rattle.net_hub.specs.declared.kind.Kind.{Kind}
 use Rattle.net_connection.specs.Outlets.{FailsOnlyStuck, PassesOctets, is_sending}
 use Rattle.net_connection.specs.Telling.{IsAnswered, IsTold, IsToldThrough}
-use Rattle.net_connection.specs.Turns.{BringAllOrNone, HandsToHub, HandsOver, LeadsByAnswer, LeadsByEnd, LeadsByPiece, LeadsByReading, LeadsByTurn, LeadsFurther, may_read, SendsOnce, ReadsOnce, Turns, TellsClosedPeer, Drains, LeadsOut, LeadsAway, Departs, stage_between, stage_drained, dropped_after, marked_after}
+use Rattle.net_connection.specs.Turns.{BringAllOrNone, HandsToHub, HandsOver, LeadsByAnswer, LeadsByEnd, LeadsByPiece, LeadsByReading, LeadsByTurn, LeadsFurther, may_read, SendsOnce, ReadsOnce, Turns, TellsClosedPeer}
+use Rattle.net_connection.specs.Turns.{Drains, LeadsOut, LeadsAway, Departs, stage_between, stage_drained, dropped_after, marked_after}
 use Rattle.net_connection.specs.declared.connection.Connection.{Connection}
 use Rattle.net_connection.specs.declared.calls.Sent.{Sent}
 use Rattle.net_connection.specs.declared.calls.Sent.TheVariants as sents
@@ -186,7 +187,8 @@ hands_over taken coming made a b events none hands = record {
 }
 
 -- an event that was refused, and then the end
-pub hands_refused : {T : Type 0} (refused : ℕ → Kind → Type 0) (taken coming : T → Option (List ℕ)) (made : T → Option (List Call)) (a b c : Connection T) (octets : List ℕ) (what : Happening) (es fs : List Accepted) → b.id ≡ a.id → b.may_receive ≡ a.may_receive
+pub hands_refused : {T : Type 0} (refused : ℕ → Kind → Type 0) (taken coming : T → Option (List ℕ)) (made : T → Option (List Call)) (a b c : Connection T) (octets : List ℕ) (what : Happening) (es fs : List Accepted) → b.id ≡ a.id
+    → b.may_receive ≡ a.may_receive
     → b.held ≡ a.held → b.queue.failures ≡ a.queue.failures → c.stage ≡ stages.Over → IsToldThrough taken coming made what None a.queue b.queue a.transport b.transport es → HandsToHub [] b c fs × IsOnly (ended b.id) fs
     → refused a.id a.held.kind → HandsOver taken coming made octets a c (es ++ fs) × LeadsByAnswer refused octets a c (es ++ fs)
 hands_refused refused taken coming made a b c octets what es fs id marks held counted over told (later, only) refuses =
@@ -401,12 +403,14 @@ leads_by_turn refused a c sents.Interrupted reading octets events well leads = l
 leads_by_turn refused a c sents.Some reading octets events well leads = leads
 leads_by_turn refused a c sents.Failed reading octets events well leads = absurd (well refl)
 
-pub calls_of_both : (a b c : Option (List Call)) (clear may : Bool) (sending : Sent) (reading : Received) (within : List Call) → sending ≢ sents.Failed → MakesCalls a b (sendings clear sending) → MakesCalls b c (reading_calls may reading ++ within)
+pub calls_of_both : (a b c : Option (List Call)) (clear may : Bool) (sending : Sent) (reading : Received) (within : List Call) → sending ≢ sents.Failed → MakesCalls a b (sendings clear sending)
+    → MakesCalls b c (reading_calls may reading ++ within)
     → MakesCalls a c (calls_of_turn clear may sending reading ++ within)
 calls_of_both a b c clear may sents.Nothing reading within well first later =
     subst (λ (l : List Call). MakesCalls a c l) (sym (append_assoc (sendings clear sents.Nothing) (reading_calls may reading) within)) (makes_joined a b c (sendings clear sents.Nothing) (reading_calls may reading ++ within) first later)
 calls_of_both a b c clear may sents.Interrupted reading within well first later =
-    subst (λ (l : List Call). MakesCalls a c l) (sym (append_assoc (sendings clear sents.Interrupted) (reading_calls may reading) within)) (makes_joined a b c (sendings clear sents.Interrupted) (reading_calls may reading ++ within) first later)
+    subst (λ (l : List Call). MakesCalls a c l) (sym (append_assoc (sendings clear sents.Interrupted) (reading_calls may reading) within))
+    (makes_joined a b c (sendings clear sents.Interrupted) (reading_calls may reading ++ within) first later)
 calls_of_both a b c clear may sents.Some reading within well first later =
     subst (λ (l : List Call). MakesCalls a c l) (sym (append_assoc (sendings clear sents.Some) (reading_calls may reading) within)) (makes_joined a b c (sendings clear sents.Some) (reading_calls may reading ++ within) first later)
 calls_of_both a b c clear may sents.Failed reading within well first later = absurd (well refl)

@@ -53,7 +53,8 @@ module _ {T : Type 0} where
   here_most one others zero d over within = omega arith
   here_most one others (suc k) d over within = let less = longest_most others k d (omega (arith, within)) in omega (arith, less, over)
 
-  later_most : (one : Connection T) (others : List (Connection T)) (n k : ℕ) (d : Connection T) → held_for one < n → ((i : ℕ) → i < length others → held_for (get_or others i d) ≤ n) → k < length (one ∷ others) → held_for (get_or (one ∷ others) k d) ≤ n
+  later_most : (one : Connection T) (others : List (Connection T)) (n k : ℕ) (d : Connection T) → held_for one < n → ((i : ℕ) → i < length others → held_for (get_or others i d) ≤ n) → k < length (one ∷ others)
+      → held_for (get_or (one ∷ others) k d) ≤ n
   later_most one others n zero d less most within = omega (arith, less)
   later_most one others n (suc k) d less most within = most k (omega (arith, within))
 

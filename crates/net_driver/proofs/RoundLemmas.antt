@@ -118,7 +118,8 @@ leads_kept from to sents.Nothing reading octets old new events keeps leads = fur
 leads_kept from to sents.Interrupted reading octets old new events keeps leads = further_kept (is_handed old.held) from to reading octets old new events keeps leads
 leads_kept from to sents.Some reading octets old new events keeps leads = further_kept (is_handed old.held) from to reading octets old new events keeps leads
 
-turn_kept : {T : Type 0} (taken coming : T → Option (List ℕ)) (made : T → Option (List Call)) (from to : ℕ → Kind → Type 0) (old new : Connection T) (moved : Bool) (events : List Accepted) → (from old.id old.held.kind → to old.id old.held.kind)
+turn_kept : {T : Type 0} (taken coming : T → Option (List ℕ)) (made : T → Option (List Call)) (from to : ℕ → Kind → Type 0) (old new : Connection T) (moved : Bool) (events : List Accepted)
+    → (from old.id old.held.kind → to old.id old.held.kind)
     → Turns taken coming made from old new moved events → Turns taken coming made to old new moved events
 turn_kept taken coming made from to old new moved events keeps turns = record {
   id = turns.id;
@@ -149,13 +150,15 @@ turn_kept taken coming made from to old new moved events keeps turns = record {
 }
 
 -- and so is why octets are held back, where one hub has all of the connection that another has
-holds_by_kept : {K : Type 0} (expects : K → Expected → K → Type 0) (prepares : K → Result Bool Fault → K → Type 0) (behind told : Bool) (between hub : Hub) (from to : K) (id : ℕ) (octets : List ℕ) → ((held : Option Holding) → HasHolding hub id held → HasHolding between id held)
+holds_by_kept : {K : Type 0} (expects : K → Expected → K → Type 0) (prepares : K → Result Bool Fault → K → Type 0) (behind told : Bool) (between hub : Hub) (from to : K) (id : ℕ) (octets : List ℕ)
+    → ((held : Option Holding) → HasHolding hub id held → HasHolding between id held)
     → HoldsBackBy expects prepares behind told between from to id octets → HoldsBackBy expects prepares behind told hub from to id octets
 holds_by_kept expects prepares true told between hub from to id octets keeps (same, makes) = (same, (λ held has. makes held (keeps held has)))
 holds_by_kept expects prepares false true between hub from to id octets keeps by = by
 holds_by_kept expects prepares false false between hub from to id octets keeps (told, are, prepared) = (told, (λ held has. are held (keeps held has)), prepared)
 
-holds_kept : {K T : Type 0} (expects : K → Expected → K → Type 0) (prepares : K → Result Bool Fault → K → Type 0) (behind : Bool) (between hub : Hub) (from to : K) (old new : Connection T) → ((held : Option Holding) → HasHolding hub old.id held → HasHolding between old.id held)
+holds_kept : {K T : Type 0} (expects : K → Expected → K → Type 0) (prepares : K → Result Bool Fault → K → Type 0) (behind : Bool) (between hub : Hub) (from to : K) (old new : Connection T)
+    → ((held : Option Holding) → HasHolding hub old.id held → HasHolding between old.id held)
     → HoldsBack expects prepares behind between from to old new → HoldsBack expects prepares behind hub from to old new
 holds_kept expects prepares behind between hub from to old new keeps back still is =
     let holds = back still is in
@@ -189,7 +192,8 @@ since_more (Some id) all one = refl
 since_more None [] one = refl
 since_more None (other ∷ all) one = by (since_more None all one) (nat_lt 0 (held_for other)) refl
   where
-    by : first_since None (all ++ one ∷ []) ≡ first_since (first_since None all) (one ∷ []) → (b : Bool) → nat_lt 0 (held_for other) ≡ b → first_since None ((other ∷ all) ++ one ∷ []) ≡ first_since (first_since None (other ∷ all)) (one ∷ [])
+    by : first_since None (all ++ one ∷ []) ≡ first_since (first_since None all) (one ∷ []) → (b : Bool) → nat_lt 0 (held_for other) ≡ b → first_since None ((other ∷ all) ++ one ∷ [])
+        ≡ first_since (first_since None (other ∷ all)) (one ∷ [])
     by rest true is = rw is refl
     by rest false is = rw is rest
 
@@ -204,7 +208,8 @@ first_more old now i after first later in_now is more =
     more ∙ ap (λ f. first_since f (after ∷ [])) is ∙ sym (since_more (first_of old) (take i now) after) ∙ ap (λ l. first_since (first_of old) l) (sym (take_more_set now i after in_now))
 
 -- the connections before this place had their turns, and the others are as they were; the command of one comes first
-pub record TurnUpTo {K T : Type 0} (stands : K → Condition) (expects : K → Expected → K → Type 0) (prepares : K → Result Bool Fault → K → Type 0) (taken coming : T → Option (List ℕ)) (made : T → Option (List Call)) (refuses : Hub → ℕ → Kind → Option HubFault → Type 0) (hub : Hub) (from to : K) (old now : List (Connection T)) (i : ℕ) (first : Option ℕ) (moved : Bool) (events : List Accepted) : Type 0 where
+pub record TurnUpTo {K T : Type 0} (stands : K → Condition) (expects : K → Expected → K → Type 0) (prepares : K → Result Bool Fault → K → Type 0) (taken coming : T → Option (List ℕ)) (made : T → Option (List Call))
+    (refuses : Hub → ℕ → Kind → Option HubFault → Type 0) (hub : Hub) (from to : K) (old now : List (Connection T)) (i : ℕ) (first : Option ℕ) (moved : Bool) (events : List Accepted) : Type 0 where
   pub len : length now ≡ length old
   pub moves : List Bool
   pub count : length moves ≡ i
@@ -227,7 +232,9 @@ pub record TurnUpTo {K T : Type 0} (stands : K → Condition) (expects : K → E
   pub are_turns : AreOfTurns events
   pub by_id : ComeById events
 
-pub turn_none : {K T : Type 0} (stands : K → Condition) (expects : K → Expected → K → Type 0) (prepares : K → Result Bool Fault → K → Type 0) (taken coming : T → Option (List ℕ)) (made : T → Option (List Call)) (refuses : Hub → ℕ → Kind → Option HubFault → Type 0) (hub : Hub) (from : K) (all : List (Connection T)) (first : Option ℕ) → first ≡ first_of all → TurnUpTo stands expects prepares taken coming made refuses hub from from all all 0 first false []
+pub turn_none : {K T : Type 0} (stands : K → Condition) (expects : K → Expected → K → Type 0) (prepares : K → Result Bool Fault → K → Type 0) (taken coming : T → Option (List ℕ)) (made : T → Option (List Call))
+    (refuses : Hub → ℕ → Kind → Option HubFault → Type 0) (hub : Hub) (from : K) (all : List (Connection T)) (first : Option ℕ) → first ≡ first_of all
+    → TurnUpTo stands expects prepares taken coming made refuses hub from from all all 0 first false []
 turn_none stands expects prepares taken coming made refuses hub from all first is = record {
   is_now = is ∙ sym (since_none _ (first_of all));
   len = refl;
@@ -259,7 +266,9 @@ front_desk : {K : Type 0} (left : List K) (to : K) (k : ℕ) (d : K) → k < len
 front_desk left to k d under = get_or_append_left left (to ∷ []) d k under
 
 -- one more connection had its turn
-pub turn_more : {K T : Type 0} (stands : K → Condition) (expects : K → Expected → K → Type 0) (prepares : K → Result Bool Fault → K → Type 0) (taken coming : T → Option (List ℕ)) (made : T → Option (List Call)) (refuses : Hub → ℕ → Kind → Option HubFault → Type 0) (hub between : Hub) (from mid to : K) (old now : List (Connection T)) (i : ℕ) (one after : Connection T) (first later : Option ℕ) (before here both : Bool) (es fs : List Accepted)
+pub turn_more : {K T : Type 0} (stands : K → Condition) (expects : K → Expected → K → Type 0) (prepares : K → Result Bool Fault → K → Type 0) (taken coming : T → Option (List ℕ)) (made : T → Option (List Call))
+    (refuses : Hub → ℕ → Kind → Option HubFault → Type 0) (hub between : Hub) (from mid to : K) (old now : List (Connection T)) (i : ℕ) (one after : Connection T) (first later : Option ℕ) (before here both : Bool)
+    (es fs : List Accepted)
     → AllPairs (λ a b. a.id < b.id) old → i < length old → get_or now i one ≡ one → later ≡ first_since first (after ∷ []) → both ≡ before || here → KeepsFrom old i hub between
     → Turns taken coming made (IsRefused refuses between) one after here fs → AreCausedBy (stands to) one after fs → StaysForReader one.held.kind between mid to fs → KeepsOrder (is_other first one.id) one.held.kind between fs
     → HoldsBack expects prepares (is_other first one.id) between mid to one after → ((stands mid).closed ≡ true → (stands to).closed ≡ true)
@@ -379,7 +388,8 @@ turn_more {K} {T} stands expects prepares taken coming made refuses hub between 
     }
 
 -- each had its turn
-pub turn_whole : {K T : Type 0} (stands : K → Condition) (expects : K → Expected → K → Type 0) (prepares : K → Result Bool Fault → K → Type 0) (taken coming : T → Option (List ℕ)) (made : T → Option (List Call)) (refuses : Hub → ℕ → Kind → Option HubFault → Type 0) (hub : Hub) (from to : K) (old now : List (Connection T)) (i : ℕ) (first : Option ℕ) (moved : Bool) (events : List Accepted) → length old ≤ i
+pub turn_whole : {K T : Type 0} (stands : K → Condition) (expects : K → Expected → K → Type 0) (prepares : K → Result Bool Fault → K → Type 0) (taken coming : T → Option (List ℕ)) (made : T → Option (List Call))
+    (refuses : Hub → ℕ → Kind → Option HubFault → Type 0) (hub : Hub) (from to : K) (old now : List (Connection T)) (i : ℕ) (first : Option ℕ) (moved : Bool) (events : List Accepted) → length old ≤ i
     → TurnUpTo stands expects prepares taken coming made refuses hub from to old now i first moved events → TurnAll stands expects prepares taken coming made refuses hub from to old now moved events
 turn_whole stands expects prepares taken coming made refuses hub from to old now i first moved events whole all =
     let at : i ≡ length old = let in_all = all.within in omega (arith, whole, in_all) in
@@ -402,7 +412,9 @@ turn_whole stands expects prepares taken coming made refuses hub from to old now
       by_id = all.by_id;
     }
 
-pub turn_ids : {K T : Type 0} {stands : K → Condition} {expects : K → Expected → K → Type 0} {prepares : K → Result Bool Fault → K → Type 0} {moved : Bool} {taken coming : T → Option (List ℕ)} {made : T → Option (List Call)} {refuses : Hub → ℕ → Kind → Option HubFault → Type 0} {hub : Hub} {from to : K} (old new : List (Connection T)) (events : List Accepted) → TurnAll stands expects prepares taken coming made refuses hub from to old new moved events → HaveSameIds old new
+pub turn_ids : {K T : Type 0} {stands : K → Condition} {expects : K → Expected → K → Type 0} {prepares : K → Result Bool Fault → K → Type 0} {moved : Bool} {taken coming : T → Option (List ℕ)} {made : T → Option (List Call)}
+    {refuses : Hub → ℕ → Kind → Option HubFault → Type 0} {hub : Hub} {from to : K} (old new : List (Connection T)) (events : List Accepted)
+    → TurnAll stands expects prepares taken coming made refuses hub from to old new moved events → HaveSameIds old new
 turn_ids old new events all = record { len = all.len; same = λ k d within. (all.turns k d within).id }
 
 pub depart_ids : {T : Type 0} {moved : Bool} {taken coming : T → Option (List ℕ)} {made : T → Option (List Call)} (old new : List (Connection T)) → DepartAll taken coming made old new moved → HaveSameIds old new
@@ -477,7 +489,9 @@ moves_opened a b one events opened departing last above own flows =
     }
 
 -- each had its turn
-pub moves_turned : {K T : Type 0} {G : Ghosts T} {stands : K → Condition} {expects : K → Expected → K → Type 0} {prepares : K → Result Bool Fault → K → Type 0} {taken coming : T → Option (List ℕ)} {made : T → Option (List Call)} {refuses : Hub → ℕ → Kind → Option HubFault → Type 0} {hub : Hub} {from to : K} (a b : Connections T G) (moved : Bool) (events : List Accepted) → TurnEach stands expects prepares taken coming made refuses hub from to a b moved events → Moves a b events
+pub moves_turned : {K T : Type 0} {G : Ghosts T} {stands : K → Condition} {expects : K → Expected → K → Type 0} {prepares : K → Result Bool Fault → K → Type 0} {taken coming : T → Option (List ℕ)} {made : T → Option (List Call)}
+    {refuses : Hub → ℕ → Kind → Option HubFault → Type 0} {hub : Hub} {from to : K} (a b : Connections T G) (moved : Bool) (events : List Accepted)
+    → TurnEach stands expects prepares taken coming made refuses hub from to a b moved events → Moves a b events
 moves_turned {taken = taken} {coming = coming} {made = made} a b moved events each =
     let last = each.last in
     let ids = turn_ids a.opened.items each.turned events each.turns in

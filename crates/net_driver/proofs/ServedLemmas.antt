@@ -28,7 +28,8 @@ closed_by_summary false (Ok value) told shows is fails = absurd (let never : fal
 closed_by_summary false (Err fault) told shows is fails = absurd (let never : false ≡ true = shows refl in cc)
 
 module _ {K T S : Type 0} {G : transport.Ghosts T} (Shows : K → Catalogue → Type 0) (LeavesOneOf : K → List (Option Catalogue) → Type 0) (IsTrusted : K → Type 0) (has_failed is_closed : K → Bool)
-    (expects : K → Expected → K → Type 0) (prepares : K → Result Bool Fault → K → Type 0) (taken coming : T → Option (List ℕ)) (made : T → Option (List Call)) (refuses : Hub → ℕ → Kind → Option HubFault → Type 0) (asked : S → Option (List (Asking T))) (told : S → List ℕ) (wait : ℕ) where
+    (expects : K → Expected → K → Type 0) (prepares : K → Result Bool Fault → K → Type 0) (taken coming : T → Option (List ℕ)) (made : T → Option (List Call)) (refuses : Hub → ℕ → Kind → Option HubFault → Type 0)
+    (asked : S → Option (List (Asking T))) (told : S → List ℕ) (wait : ℕ) where
   -- so far these were made, with so many that are left, and none of them ended it
   abbrev pub AreMade : ℕ → EventLoop T S G → K → EventLoop T S G → K → List (Round K T S G) → ℕ → Type 0
   AreMade rounds old desk now left [] rest = (rest ≡ rounds) × (now ≡ old) × (left ≡ desk)
@@ -37,7 +38,8 @@ module _ {K T S : Type 0} {G : transport.Ghosts T} (Shows : K → Catalogue → 
 
   -- one more that didn't end it
   pub made_more : (rounds rest next : ℕ) (old now : EventLoop T S G) (desk left : K) (rs : List (Round K T S G)) (one : Round K T S G) → AreMade rounds old desk now left rs rest
-      → one.before ≡ now → one.desk ≡ left → IsRoundMade Shows LeavesOneOf IsTrusted has_failed is_closed expects prepares taken coming made refuses asked told wait rest one → ended one.result (is_closed one.left) one.waited rest ≡ None → next ≡ rest - 1
+      → one.before ≡ now → one.desk ≡ left → IsRoundMade Shows LeavesOneOf IsTrusted has_failed is_closed expects prepares taken coming made refuses asked told wait rest one → ended one.result (is_closed one.left) one.waited rest
+      ≡ None → next ≡ rest - 1
       → AreMade rounds old desk one.after one.left (rs ++ one ∷ []) next
   made_more rounds rest next old now desk left [] one (same, still, kept) before over is goes less = (
     before ∙ still,
@@ -51,7 +53,8 @@ module _ {K T S : Type 0} {G : transport.Ghosts T} (Shows : K → Catalogue → 
 
   -- one that ended it
   pub made_last : (rounds rest : ℕ) (old now : EventLoop T S G) (desk left : K) (rs : List (Round K T S G)) (one : Round K T S G) (result : Result RoundsEnd Error) → AreMade rounds old desk now left rs rest
-      → one.before ≡ now → one.desk ≡ left → IsRoundMade Shows LeavesOneOf IsTrusted has_failed is_closed expects prepares taken coming made refuses asked told wait rest one → ended one.result (is_closed one.left) one.waited rest ≡ Some result
+      → one.before ≡ now → one.desk ≡ left → IsRoundMade Shows LeavesOneOf IsTrusted has_failed is_closed expects prepares taken coming made refuses asked told wait rest one → ended one.result (is_closed one.left) one.waited rest
+      ≡ Some result
       → AreRounds Shows LeavesOneOf IsTrusted has_failed is_closed expects prepares taken coming made refuses asked told wait rounds old desk one.after one.left (rs ++ one ∷ []) result
   made_last rounds rest old now desk left [] one result (same, still, kept) before over is ends = (
     before ∙ still,

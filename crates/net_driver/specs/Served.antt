@@ -52,7 +52,8 @@ ended (Ok moved) false (Ok nothing) rounds = None
 -- By what a desk shows, what a stop may leave of it, that what it stands on has returned what was written, whether its last call failed and
 -- it is closed, and what it was told of and prepared; and by what is known of transports and of sockets, and for how many nanoseconds these are waited for at most.
 module _ {K T S : Type 0} {G : transport.Ghosts T} (Shows : K → Catalogue → Type 0) (LeavesOneOf : K → List (Option Catalogue) → Type 0) (IsTrusted : K → Type 0) (has_failed is_closed : K → Bool)
-    (expects : K → Expected → K → Type 0) (prepares : K → Result Bool Fault → K → Type 0) (taken coming : T → Option (List ℕ)) (made : T → Option (List Call)) (refuses : Hub → ℕ → Kind → Option HubFault → Type 0) (asked : S → Option (List (Asking T))) (told : S → List ℕ) (wait : ℕ) where
+    (expects : K → Expected → K → Type 0) (prepares : K → Result Bool Fault → K → Type 0) (taken coming : T → Option (List ℕ)) (made : T → Option (List Call)) (refuses : Hub → ℕ → Kind → Option HubFault → Type 0)
+    (asked : S → Option (List (Asking T))) (told : S → List ℕ) (wait : ℕ) where
   -- the round is one as its own contract says it: by its events and its result
   pub record IsRound (one : Round K T S G) : Type 0 where
     pub led : HasLedOn (IsTrusted one.left) (Shows one.desk) (LeavesOneOf one.desk) (Shows one.left) (LeavesOneOf one.left) one.before.hub one.made.hub

@@ -82,7 +82,8 @@ pub record DepartAll {T : Type 0} (taken coming : T → Option (List ℕ)) (made
 -- one; a closed desk stays closed. What failed, that a reader's turn for which nothing is looked up left the desk as it was, and why octets
 -- are held back, is told of the desks of its turn. Each event is of one of these connections, in the order of their ids. Something happened
 -- where it did in one of the turns
-pub record TurnAll {K T : Type 0} (stands : K → Condition) (expects : K → Expected → K → Type 0) (prepares : K → Result Bool Fault → K → Type 0) (taken coming : T → Option (List ℕ)) (made : T → Option (List Call)) (refuses : Hub → ℕ → Kind → Option HubFault → Type 0) (hub : Hub) (from to : K) (old new : List (Connection T)) (moved : Bool) (events : List Accepted) : Type 0 where
+pub record TurnAll {K T : Type 0} (stands : K → Condition) (expects : K → Expected → K → Type 0) (prepares : K → Result Bool Fault → K → Type 0) (taken coming : T → Option (List ℕ)) (made : T → Option (List Call))
+    (refuses : Hub → ℕ → Kind → Option HubFault → Type 0) (hub : Hub) (from to : K) (old new : List (Connection T)) (moved : Bool) (events : List Accepted) : Type 0 where
   pub len : length new ≡ length old
   pub moves : List Bool
   pub count : length moves ≡ length old

@@ -72,7 +72,8 @@ pinned_stays Shows Before After before l here stays = record {
   holds = record { shows = refl; leaves = λ ms e. e };
 }
 
-pinned_gets : (host : List ℕ) (desk : Condition) (Shows : Catalogue → Type 0) (Before After : List (Option Catalogue) → Type 0) (before : Catalogue) (l : List (Option Catalogue)) (kind : Kind) (octets : List ℕ) (out : Out) (old new : Stream)
+pinned_gets : (host : List ℕ) (desk : Condition) (Shows : Catalogue → Type 0) (Before After : List (Option Catalogue) → Type 0) (before : Catalogue) (l : List (Option Catalogue)) (kind : Kind) (octets : List ℕ) (out : Out)
+    (old new : Stream)
     → Before l → Gets host desk Shows Before After before kind octets out old new
     → Pinned Shows After (λ at. Gets host desk (λ M. M ≡ at.catalogue) (λ ms. ms ≡ l) (λ ms. ms ≡ at.leaves) before kind octets out old new)
 pinned_gets host desk Shows Before After before l Dict octets out old new here gets =
@@ -85,7 +86,8 @@ pinned_gets host desk Shows Before After before l Http octets Close old new here
     let p = pinned_responds Shows Before After before l (Settles before octets) gets.answer here gets.responds in
     record { at = p.at; shows = p.shows; leaves = p.leaves; holds = record { whole = gets.whole; answer = gets.answer; responds = p.holds; puts = gets.puts } }
 
-pinned_serves : (host : List ℕ) (desk : Condition) (Shows : Catalogue → Type 0) (Before After : List (Option Catalogue) → Type 0) (before : Catalogue) (l : List (Option Catalogue)) (held : Option Holding) (what : Happening) (out : Out) (old new : Stream)
+pinned_serves : (host : List ℕ) (desk : Condition) (Shows : Catalogue → Type 0) (Before After : List (Option Catalogue) → Type 0) (before : Catalogue) (l : List (Option Catalogue)) (held : Option Holding) (what : Happening)
+    (out : Out) (old new : Stream)
     → Before l → Serves host desk Shows Before After before held what out old new
     → Pinned Shows After (λ at. Serves host desk (λ M. M ≡ at.catalogue) (λ ms. ms ≡ l) (λ ms. ms ≡ at.leaves) before held what out old new)
 pinned_serves host desk Shows Before After before l held (opened id kind) out old new here serves =
@@ -160,14 +162,16 @@ leads_on Shows Before After origin start events state stands what desk put old h
     }
 
 -- an opening is served by its greeting
-pub serves_opened : (host : List ℕ) (desk : Condition) (Shows : Catalogue → Type 0) (Before After : List (Option Catalogue) → Type 0) (before : Catalogue) (held : Option Holding) (id : ℕ) (kind : Kind) (old new : Stream) (result : Result Out HubFault)
+pub serves_opened : (host : List ℕ) (desk : Condition) (Shows : Catalogue → Type 0) (Before After : List (Option Catalogue) → Type 0) (before : Catalogue) (held : Option Holding) (id : ℕ) (kind : Kind) (old new : Stream)
+    (result : Result Out HubFault)
     → CatalogueStays Shows Before After before → IfOk result (λ out. Greets host id kind out old new)
     → IfOk result (λ out. Serves host desk Shows Before After before held (opened id kind) out old new)
 serves_opened host desk Shows Before After before held id kind old new (Ok out) stays greets = (greets, stays)
 serves_opened host desk Shows Before After before held id kind old new (Err fault) stays greets = tt
 
 -- an end is served by nothing
-pub serves_ended : (host : List ℕ) (desk : Condition) (Shows : Catalogue → Type 0) (Before After : List (Option Catalogue) → Type 0) (before : Catalogue) (held : Option Holding) (id : ℕ) (stream : Stream) (fault : HubFault) (result : Result Out HubFault)
+pub serves_ended : (host : List ℕ) (desk : Condition) (Shows : Catalogue → Type 0) (Before After : List (Option Catalogue) → Type 0) (before : Catalogue) (held : Option Holding) (id : ℕ) (stream : Stream) (fault : HubFault)
+    (result : Result Out HubFault)
     → CatalogueStays Shows Before After before → (held ≡ None → result ≡ Err fault) → ((one : Holding) → held ≡ Some one → result ≡ Ok More)
     → IfOk result (λ out. Serves host desk Shows Before After before held (ended id) out stream stream)
 serves_ended host desk Shows Before After before None id stream fault result stays absent known =

@@ -29,10 +29,12 @@ module _ {K : Type 0} (Shows : K → Catalogue → Type 0) (Leaves : K → List 
   first_goes rounds desk [] one first goes = goes
   first_goes rounds desk (other ∷ stretches) one first goes = first
 
-  alone : (has_failed : K → Bool) (expects : K → Expected → K → Type 0) (prepares : K → Result Bool Fault → K → Type 0) (one : Stretch K) (a b c : Driver) → b ≡ a → IsOver Shows Leaves Trusted Opened has_failed is_closed expects prepares one b c → AreServed Shows Leaves Trusted Opened has_failed is_closed expects prepares (one ∷ []) a c
+  alone : (has_failed : K → Bool) (expects : K → Expected → K → Type 0) (prepares : K → Result Bool Fault → K → Type 0) (one : Stretch K) (a b c : Driver) → b ≡ a
+      → IsOver Shows Leaves Trusted Opened has_failed is_closed expects prepares one b c → AreServed Shows Leaves Trusted Opened has_failed is_closed expects prepares (one ∷ []) a c
   alone has_failed expects prepares one a b c same over = (c, subst (λ (d : Driver). IsOver Shows Leaves Trusted Opened has_failed is_closed expects prepares one d c) same over, tt, refl)
 
-  pub served_more : (has_failed : K → Bool) (expects : K → Expected → K → Type 0) (prepares : K → Result Bool Fault → K → Type 0) (rounds : ℕ) (desk : K) (stretches : List (Stretch K)) (one : Stretch K) (a b c : Driver) → AreServed Shows Leaves Trusted Opened has_failed is_closed expects prepares stretches a b
+  pub served_more : (has_failed : K → Bool) (expects : K → Expected → K → Type 0) (prepares : K → Result Bool Fault → K → Type 0) (rounds : ℕ) (desk : K) (stretches : List (Stretch K)) (one : Stretch K) (a b c : Driver)
+      → AreServed Shows Leaves Trusted Opened has_failed is_closed expects prepares stretches a b
       → GoesOn rounds desk stretches one.opened one.asked
       → IsOver Shows Leaves Trusted Opened has_failed is_closed expects prepares one b c → AreServed Shows Leaves Trusted Opened has_failed is_closed expects prepares (stretches ++ one ∷ []) a c
   served_more has_failed expects prepares rounds desk [] one a b c served goes over = alone has_failed expects prepares one a b c served over

@@ -52,7 +52,8 @@ module _ {K : Type 0} (Shows : K → Catalogue → Type 0) (LeavesOneOf : K → 
     (Begins : List ℕ → List ℕ → Result Driver ProgramFault → StreamChange → Type 0) where
   -- There is no desk of the file; or there is, and no sockets were bound to both addresses, or they couldn't be told, and it was closed;
   -- or they were, it was served, and the driver that is kept is the one that served it. Nothing else was done to any file
-  abbrev pub ServeEnds : (List ℕ → ProgramFault → Type 0) → (K → Type 0) → (List ℕ → K → ProgramFault → Type 0) → Option (List (Deed K)) → Option (List (Deed K)) → List ℕ → List ℕ → List ℕ → Option ℕ → Result (Unit {0}) ProgramFault → StreamChange → Option Driver → Type 0
+  abbrev pub ServeEnds : (List ℕ → ProgramFault → Type 0) → (K → Type 0) → (List ℕ → K → ProgramFault → Type 0) → Option (List (Deed K)) → Option (List (Deed K)) → List ℕ → List ℕ → List ℕ → Option ℕ
+      → Result (Unit {0}) ProgramFault → StreamChange → Option Driver → Type 0
   ServeEnds IsUnopened Shut IsUnreopened old new path dict http rounds result writer kept =
       ((fault : ProgramFault) × (result ≡ Err fault) × IsNone (IsUnopened path) fault × IsUntouched writer × Does old new (Opens path None ∷ []) × (kept ≡ None))
       ⊎ ((desk : K) × IsNew Shows LeavesOneOf IsTrusted (IsOpened None) desk

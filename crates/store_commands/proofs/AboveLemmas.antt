@@ -127,7 +127,8 @@ installed_there summary id (Install name edition) planned change writable lies o
     let held = holds_now old it.0 it.1 in
     let all : AllTables = with_derived held.tables in
     let here : IsChange (summary_of it.0) (command_shown command) planned = subst (λ (b : Holdings (List ℕ)). IsChange b (command_shown command) planned) (sym it.2) change in
-    let fresh : HasNewNumber (installed_by planned.summary.installs command) held.tables = is_new known held.tables it.0 id (command_meant command) (change_by id command planned) held.stands (change_is it.0 id command planned here.1 lies) in
+    let fresh : HasNewNumber (installed_by planned.summary.installs command) held.tables =
+    is_new known held.tables it.0 id (command_meant command) (change_by id command planned) held.stands (change_is it.0 id command planned here.1 lies) in
     let after : HasRecords new.now (all_after known (change_by id command planned) all) = subst (λ (db : Database). HasRecords db (all_after known (change_by id command planned) all)) (sym done.settled)
     (done.holds all (record { own = held.own; keeps = held.keeps })).0 in
     text_there planned.summary.installs new.now held.tables planned.gone.items (record { owner = name.now; number = planned.summary.installs; reading = edition.now }) refl fresh writable.installs

@@ -164,7 +164,8 @@ others_spared summary old f holds clean live db turns =
     let held = holds_now old it.0 it.1 in
     (turns (with_derived held.tables) (record { own = held.own; keeps = held.keeps })).1
 
-pub others_committed : (summary : Holdings (List ℕ)) (old new : State) (f : AllTables → AllTables) → HoldsBy summary old → HasCleanDisk old → IsTrue old.is_open → IsCommitted (TurnsRecords f old.now) new → SparesTablesOfOthers old.now new.now
+pub others_committed : (summary : Holdings (List ℕ)) (old new : State) (f : AllTables → AllTables) → HoldsBy summary old → HasCleanDisk old → IsTrue old.is_open → IsCommitted (TurnsRecords f old.now) new
+    → SparesTablesOfOthers old.now new.now
 others_committed summary old new f holds clean live done = subst (λ db. SparesTablesOfOthers old.now db) (sym done.settled) (others_spared summary old f holds clean live new.committed done.holds)
 
 -- ---- what the next command needs

@@ -327,7 +327,8 @@ module _ (summary : Holdings (List ℕ)) (id : List ℕ) (command : Command Edit
     crash = survives_then old mid new (λ _. ⊥) (λ trees. IsTrue mid.is_open × ((M : Catalogue) → Holds known mid.committed M → summary_of M ≡ summary → IsLeftAs known (step M id command).catalogue trees))
         (λ trees. IsTrue old.is_open × ((M : Catalogue) → Holds known old.committed M → summary_of M ≡ summary → IsLeftAs known (step M id command).catalogue trees)) (λ clean trees none. absurd none)
         (λ clean trees left. ((kept_so clean).was_open left.0, λ M held is. left.1 M (subst (λ (db : Database). Holds known db M) (sym ((kept_so clean).committed left.0)) held) is)) one applied.crash;
-    beside = survives_then old mid new (λ _. ⊥) (λ trees. IsTrue mid.is_open × IsTreesOf (SparesTablesOfOthers mid.committed) trees) (λ trees. IsTrue old.is_open × IsTreesOf (SparesTablesOfOthers old.committed) trees) (λ clean trees none. absurd none)
+    beside = survives_then old mid new (λ _. ⊥) (λ trees. IsTrue mid.is_open × IsTreesOf (SparesTablesOfOthers mid.committed) trees) (λ trees. IsTrue old.is_open × IsTreesOf (SparesTablesOfOthers old.committed) trees)
+        (λ clean trees none. absurd none)
         (λ clean trees left. ((kept_so clean).was_open left.0, subst (λ (a : Database). IsTreesOf (SparesTablesOfOthers a) trees) ((kept_so clean).committed left.0) left.1)) one applied.beside;
     lives = λ clean live. (kept_so clean).was_open (applied.lives clean live);
     shut = later_shut;

@@ -68,7 +68,8 @@ module _ {X Y : Type 0} (g : X → Y) (xs : List X) (i : ℕ) (x : X) (lt : i < 
 module _ {S : Type 0} (g : Ghosts S) {X : Type 0} (F : List X → List Statement) (T : List X → AllTables → AllTables) (xs : List X) (i : ℕ) (some : List Statement) (f : AllTables → AllTables)
     (next : F (take i xs) ++ some ≡ F (take (i + 1) xs))
     (old mid new : Held S) (so_far : WroteStatements g (F (take i xs)) (T (take i xs)) old mid) (spares : CommitsNothing g mid new) where
-  pub loop_wrote : ((db : Database) (all : AllTables) → HasRecords db (f (T (take i xs) all)) → HasRecords db (T (take (i + 1) xs) all)) → WroteStatements g some f mid new → WroteStatements g (F (take (i + 1) xs)) (T (take (i + 1) xs)) old new
+  pub loop_wrote : ((db : Database) (all : AllTables) → HasRecords db (f (T (take i xs) all)) → HasRecords db (T (take (i + 1) xs) all)) → WroteStatements g some f mid new
+      → WroteStatements g (F (take (i + 1) xs)) (T (take (i + 1) xs)) old new
   loop_wrote turn h =
       wrote_as g (F (take (i + 1) xs)) (λ all. f (T (take i xs) all)) (T (take (i + 1) xs)) old new turn
       (subst (λ l. WroteStatements g l (λ all. f (T (take i xs) all)) old new) next (wrote_then g (F (take i xs)) some (T (take i xs)) f old mid new so_far h spares))

@@ -124,7 +124,8 @@ module _ {S : Type 0} (g : Ghosts S) (number : ℕ) where
         (loop_failed g last_ones behind xs i (taking_from number (get_or xs i d) ∷ []) (without_late (get_or xs i d)) (mapped_at (taking_from number) xs i d lt) old mid new so_far spares (mapped_grows (taking_from number)) e h)
 
   -- the rest after all of them
-  module _ (xs : List ℤ) (given : ℤ) (is : given ≡ pos number) (old mid new : Held S) (so_far : WroteStatements g (last_ones xs) (behind xs) old mid) (survives : Survives (state g mid) (state g new) (λ _. ⊥)) (spares : CommitsNothing g mid new) where
+  module _ (xs : List ℤ) (given : ℤ) (is : given ≡ pos number) (old mid new : Held S) (so_far : WroteStatements g (last_ones xs) (behind xs) old mid) (survives : Survives (state g mid) (state g new) (λ _. ⊥))
+      (spares : CommitsNothing g mid new) where
     all_taken : (db : Database) (all : AllTables) → HasRecords db (without_rest (behind xs all)) → HasRecords db (without_parts (number ∷ []) all)
     all_taken db all it =
         subst (λ (t : AllTables). HasRecords db t)

@@ -82,7 +82,8 @@ module _ {S : Type 0} (g : Ghosts S) where
   wrote_none a = record { turns = λ clean all it. (it, others_none (state g a).now); ran = λ clean. refl; inside = λ clean begun. begun }
 
   module _ (one : Statement) (old new : Held S) (survives : Survives (state g old) (state g new) (λ _. ⊥)) where
-    wrote_one : (f : AllTables → AllTables) → (HasCleanDisk (state g new) → Succeeds one (state g old) (state g new) × GoesOn (state g old) (state g new) × TurnsRecords f (state g old).now (state g new).now) → WroteStatements g (one ∷ []) f old new
+    wrote_one : (f : AllTables → AllTables) → (HasCleanDisk (state g new) → Succeeds one (state g old) (state g new) × GoesOn (state g old) (state g new) × TurnsRecords f (state g old).now (state g new).now)
+        → WroteStatements g (one ∷ []) f old new
     wrote_one f did = record {
       turns = λ clean. (did clean).2;
       ran = λ clean. run_one g one old new (did clean).0 survives;
@@ -93,7 +94,8 @@ module _ {S : Type 0} (g : Ghosts S) where
     failed_one e h = λ clean. fails_one g one old new e (h clean) survives
 
   module _ (name : List ℕ) (row : Row) (old new : Held S) (survives : Survives (state g old) (state g new) (λ _. ⊥)) where
-    pub wrote_added : (f : AllTables → AllTables) → ((a b : Database) → IsAdded name row a b → TurnsRecords f a b) → (HasCleanDisk (state g new) → Inserts name row (state g old) (state g new)) → WroteStatements g (add name row ∷ []) f old new
+    pub wrote_added : (f : AllTables → AllTables) → ((a b : Database) → IsAdded name row a b → TurnsRecords f a b) → (HasCleanDisk (state g new) → Inserts name row (state g old) (state g new))
+        → WroteStatements g (add name row ∷ []) f old new
     wrote_added f turns did = wrote_one (add name row) old new survives f (λ clean. (did clean, (did clean).1, turns (state g old).now (state g new).now (did clean).0))
 
     spared_added : {X : Type 0} (result : Result X Error) → OnOk result (Inserts name row (state g old) (state g new)) → IfErr result (FailsToInsert name row (state g old) (state g new)) → KeepsCommit (state g old) (state g new)
@@ -105,7 +107,8 @@ module _ {S : Type 0} (g : Ghosts S) where
     spares_added result on off = record { keeps = λ clean. spared_added result (on clean) (off clean); survives = survives }
 
   module _ (name : List ℕ) (test : Row → Bool) (old new : Held S) (survives : Survives (state g old) (state g new) (λ _. ⊥)) where
-    pub wrote_removed : (f : AllTables → AllTables) → ((a b : Database) → IsRemoved name test a b → TurnsRecords f a b) → (HasCleanDisk (state g new) → Removes name test (state g old) (state g new)) → WroteStatements g (remove name test ∷ []) f old new
+    pub wrote_removed : (f : AllTables → AllTables) → ((a b : Database) → IsRemoved name test a b → TurnsRecords f a b) → (HasCleanDisk (state g new) → Removes name test (state g old) (state g new))
+        → WroteStatements g (remove name test ∷ []) f old new
     wrote_removed f turns did = wrote_one (remove name test) old new survives f (λ clean. (did clean, (did clean).1, turns (state g old).now (state g new).now (did clean).0))
 
     spared_removed : {X : Type 0} (result : Result X Error) → OnOk result (Removes name test (state g old) (state g new)) → IfErr result (FailsToRemove name test (state g old) (state g new)) → KeepsCommit (state g old) (state g new)
@@ -137,7 +140,8 @@ module _ {S : Type 0} (g : Ghosts S) where
 
   -- ---- one call after another
 
-  pub wrote_then : (front back : List Statement) (f h : AllTables → AllTables) (old mid new : Held S) → WroteStatements g front f old mid → WroteStatements g back h mid new → CommitsNothing g mid new → WroteStatements g (front ++ back) (λ all. h (f all)) old new
+  pub wrote_then : (front back : List Statement) (f h : AllTables → AllTables) (old mid new : Held S) → WroteStatements g front f old mid → WroteStatements g back h mid new → CommitsNothing g mid new
+      → WroteStatements g (front ++ back) (λ all. h (f all)) old new
   wrote_then front back f h old mid new one two spares = record {
     turns = λ clean all it.
         let first = one.turns (clean_before (state g mid) (state g new) spares.survives clean) all it in
@@ -157,5 +161,6 @@ module _ {S : Type 0} (g : Ghosts S) where
   failed_before front back old new e h = λ clean. fails_before g front back old new e (h clean)
 
   -- others ran before it
-  pub failed_after : (front back : List Statement) (f : AllTables → AllTables) (old mid new : Held S) (e : Error) → WroteStatements g front f old mid → CommitsNothing g mid new → FailsToWrite g back mid new e → FailsToWrite g (front ++ back) old new e
+  pub failed_after : (front back : List Statement) (f : AllTables → AllTables) (old mid new : Held S) (e : Error) → WroteStatements g front f old mid → CommitsNothing g mid new → FailsToWrite g back mid new e
+      → FailsToWrite g (front ++ back) old new e
   failed_after front back f old mid new e one spares h = λ clean. fails_after g front back old mid new e (one.ran (clean_before (state g mid) (state g new) spares.survives clean)) (h clean)

@@ -212,7 +212,8 @@ pushed all begins all' begins' text are more is =
 pub run_past : (all begins : List ℕ) (list : List (List ℕ)) (k : ℕ) → runs all begins ≡ list → length begins ≤ k → [] ≡ get_or list k []
 run_past all begins list k is le = sym (ap (λ l. get_or l k []) (sym is) ∙ get_or_past (runs all begins) k [] (omega (arith, size all begins)))
 
-pub run_read : (all begins some : List ℕ) (list : List (List ℕ)) (k from to : ℕ) → runs all begins ≡ list → k < length begins → some ≡ all → from ≡ get_or begins k 0 → to ≡ end_at all begins k → take (to - from) (drop from some) ≡ get_or list k []
+pub run_read : (all begins some : List ℕ) (list : List (List ℕ)) (k from to : ℕ) → runs all begins ≡ list → k < length begins → some ≡ all → from ≡ get_or begins k 0 → to ≡ end_at all begins k → take (to - from) (drop from some)
+    ≡ get_or list k []
 run_read all begins some list k from to is lt same from_is to_is =
     ap (λ l. take (to - from) (drop from l)) same
     ∙ ap (λ n. take (n - from) (drop from all)) to_is
@@ -229,10 +230,12 @@ end_bounds all begins k are lt = elim (cases_lt (k + 1) (length begins)) [
   | inr le ↦ let e = get_or_past begins (k + 1) (length all) le in (omega (arith, e, are.within k lt), omega (arith, e))
 ]
 
-pub put_are : {A E : Type 0} (r : Result A E) (all begins all' begins' text : List ℕ) → AreBegins all begins → OnOk r (all' ≡ all ++ text) → OnOk r (begins' ≡ begins ++ length all ∷ []) → OnErr r (all' ≡ all) → OnErr r (begins' ≡ begins) → AreBegins all' begins'
+pub put_are : {A E : Type 0} (r : Result A E) (all begins all' begins' text : List ℕ) → AreBegins all begins → OnOk r (all' ≡ all ++ text) → OnOk r (begins' ≡ begins ++ length all ∷ []) → OnErr r (all' ≡ all)
+    → OnErr r (begins' ≡ begins) → AreBegins all' begins'
 put_are (Ok x) all begins all' begins' text are more is same same_too = (pushed all begins all' begins' text are more is).0
 put_are (Err e) all begins all' begins' text are more is same same_too = subst (λ l. AreBegins l begins') (sym same) (subst (AreBegins all) (sym same_too) are)
 
-pub put_runs : {A E : Type 0} (r : Result A E) (all begins all' begins' text : List ℕ) (list : List (List ℕ)) → runs all begins ≡ list → AreBegins all begins → OnOk r (all' ≡ all ++ text) → OnOk r (begins' ≡ begins ++ length all ∷ []) → OnOk r (runs all' begins' ≡ list ++ text ∷ [])
+pub put_runs : {A E : Type 0} (r : Result A E) (all begins all' begins' text : List ℕ) (list : List (List ℕ)) → runs all begins ≡ list → AreBegins all begins → OnOk r (all' ≡ all ++ text)
+    → OnOk r (begins' ≡ begins ++ length all ∷ []) → OnOk r (runs all' begins' ≡ list ++ text ∷ [])
 put_runs (Ok x) all begins all' begins' text list seen are more is = (pushed all begins all' begins' text are more is).1 ∙ ap (λ l. l ++ text ∷ []) seen
 put_runs (Err e) all begins all' begins' text list seen are more is = tt

@@ -106,7 +106,8 @@ module _ {S : Type 0} (g : Ghosts S) (old new : Held S) (summary : Holdings (Lis
         (all_then g was new typed mid settled M shown.well_formed put_next made_next summary open_before over_lives M holds
         (each_both (ServesEdition g was) (λ (stored : Stored Edition). stored.number ≤ M.installs) (Is g was new typed mid settled M shown.well_formed put_next)
         (λ stored a b. stays_is g was new typed mid settled M shown.well_formed put_next stored a b) M.items (shown.served first) (each_low M shown.well_formed))
-        (texts_stay M summary (sym shown.summary) M.installs (state g old).committed (state g new).committed (subst (λ (n : ℕ). KeepsTextRows n (edition_numbers summary.items) (state g old).committed (state g new).committed) installs_is stay))
+        (texts_stay M summary (sym shown.summary) M.installs (state g old).committed (state g new).committed
+        (subst (λ (n : ℕ). KeepsTextRows n (edition_numbers summary.items) (state g old).committed (state g new).committed) installs_is stay))
         (each_both (λ (stored : Stored Edition). stored.number ≤ M.installs) (λ (stored : Stored Edition). stored.number ≤ M.installs) (λ (stored : Stored Edition). entries_under stored.number settled ≡ entries_under stored.number mid)
         (λ stored low _. goes stored.number (λ e. let no : ⊥ = omega (arith, low, e, number_is) in no)) M.items (each_low M shown.well_formed) (each_low M shown.well_formed)))
 

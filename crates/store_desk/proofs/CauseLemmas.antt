@@ -83,7 +83,8 @@ module _ {S : Type 0} (g : Ghosts S) (first : DeskState S) (old new : Held S) (s
 
   -- and of a lookup that asks the store for a text at most
   found_for : (number : ℕ) → (HasCleanDisk (state g old) → IsTrue (state g old).is_open → IsAlike number (state g old).committed (state g old).now) → HasCleanDisk (state g new) → (fault : Fault) → IsOfStore fault
-      → ((fault ≡ Memory) × (new ≡ old)) ⊎ search.FailsToLookUp (search.number_in_column number) (state g old) (state g new) fault → GivesWay g first (record { conn = new; summary = summary; last = after; indexes = indexes; texts = texts }) fault
+      → ((fault ≡ Memory) × (new ≡ old)) ⊎ search.FailsToLookUp (search.number_in_column number) (state g old) (state g new) fault
+      → GivesWay g first (record { conn = new; summary = summary; last = after; indexes = indexes; texts = texts }) fault
   found_for number alike clean fault kind (inl h) = subst (GivesWay g first (record { conn = new; summary = summary; last = after; indexes = indexes; texts = texts })) (sym h.0) (old, undone clean, inl h.1)
   found_for number alike clean fault kind (inr h) = fails_for (search.IsUnreadEdition (search.number_in_column number) (state g old)) (rows_read number alike) clean fault kind h
 

@@ -41,7 +41,8 @@ pub remains_still : (summary : Holdings (List ℕ)) (old new : State) → StaysC
 remains_still summary old new stays live = subst (λ (db : Database). Remains summary old.committed db) (sym (stays.committed live)) (remains_itself summary old.committed)
 
 -- a store that shows what is committed, by what is true of every desk
-pub resting_by : {S : Type 0} (g : Ghosts S) (last : LastCall) (summary : Holdings (List ℕ)) (filing : Option Filing) (h : Held S) → is_closed last ≡ false → IsAtRest g last summary filing h → h.in_transaction ≡ false → HoldsBy summary (state g h)
+pub resting_by : {S : Type 0} (g : Ghosts S) (last : LastCall) (summary : Holdings (List ℕ)) (filing : Option Filing) (h : Held S) → is_closed last ≡ false → IsAtRest g last summary filing h → h.in_transaction ≡ false
+    → HoldsBy summary (state g h)
 resting_by g last summary filing h fine rest none = λ clean live.
     let it = rest.holds fine clean live in
     (it.0, record { is_open = live; settled = rest.settled fine clean live none; holds = it.1 }, it.2)
@@ -76,7 +77,8 @@ module _ {S : Type 0} (g : Ghosts S) (old new : Held S) (summary : Holdings (Lis
     summary = shown.summary;
     well_formed = shown.well_formed;
     holds = λ open' clean live. (remains clean live).holds M (shown.holds fine (copied_first clean) (lives clean live)) (sym shown.summary);
-    served = λ clean. each_edition (ServesEdition g (record { conn = old; summary = summary; last = before; indexes = indexes; texts = kept })) (ServesEdition g (record { conn = new; summary = summary; last = after; indexes = indexes; texts = texts }))
+    served = λ clean. each_edition (ServesEdition g (record { conn = old; summary = summary; last = before; indexes = indexes; texts = kept }))
+        (ServesEdition g (record { conn = new; summary = summary; last = after; indexes = indexes; texts = texts }))
         (λ stored one. record {
           index = one.index;
           stands = one.stands;
@@ -89,13 +91,15 @@ module _ {S : Type 0} (g : Ghosts S) (old new : Held S) (summary : Holdings (Lis
   }
 
 -- the texts that are kept
-pub copied_keeps : {T : Type 0} (summary : Holdings (List ℕ)) (before : LastCall) (result : Result T Fault) (after : LastCall) → after ≡ last_behind before result → (kept texts : List (PartNumbers × List ℕ)) → texts ≡ texts_behind result kept
+pub copied_keeps : {T : Type 0} (summary : Holdings (List ℕ)) (before : LastCall) (result : Result T Fault) (after : LastCall) → after ≡ last_behind before result → (kept texts : List (PartNumbers × List ℕ)) → texts
+    ≡ texts_behind result kept
     → KeepsTexts before summary kept → KeepsTexts after summary texts
 copied_keeps summary before (Ok value) after by kept texts is keeps = subst (KeepsTexts after summary) (sym is) (subst (λ (l : LastCall). KeepsTexts l summary kept) (sym by) keeps)
 copied_keeps summary before (Err fault) after by kept texts is keeps = subst (KeepsTexts after summary) (sym is) (record { made = tt; none = λ failed. refl })
 
 -- of the desk the connection alone is another
-pub copied_same : {S : Type 0} (old : DeskState S) (conn : Held S) (last : LastCall) (texts : List (PartNumbers × List ℕ)) (result : Result Bool Fault) → last ≡ last_behind old.last result → texts ≡ texts_behind result old.texts → result ≡ Ok true
+pub copied_same : {S : Type 0} (old : DeskState S) (conn : Held S) (last : LastCall) (texts : List (PartNumbers × List ℕ)) (result : Result Bool Fault) → last ≡ last_behind old.last result → texts ≡ texts_behind result old.texts
+    → result ≡ Ok true
     → record { conn = conn; summary = old.summary; last = last; indexes = old.indexes; texts = texts } ≡ record old { conn = conn }
 copied_same old conn last texts (Ok more) by is ok = λ i. record { conn = conn; summary = old.summary; last = by i; indexes = old.indexes; texts = is i }
 copied_same old conn last texts (Err fault) by is ok = absurd (let e = ok in cc)

@@ -119,7 +119,8 @@ module _ {S : Type 0} (g : Ghosts S) (old new : Held S) (summary : Holdings (Lis
         well_formed = shown.well_formed;
         holds = λ open' clean live. subst (λ (db : Database). Holds known db M) (sym ((goes clean).committed live)) (shown.holds fine (first clean) ((goes clean).was_open live));
         served = λ clean. served_below g (record { conn = old; summary = summary; last = last; indexes = indexes; texts = texts }) (record { conn = new; summary = summary; last = last; indexes = after; texts = texts }) M shown.well_formed
-            number (next_number M shown.well_formed number (next ∙ ap (λ (s : Holdings (List ℕ)). min (s.installs + 1) (2 ^ 64 - 1)) shown.summary)) same (λ _. fine) (goes clean).was_open (goes clean).committed (λ stored one. one.kept) (shown.served (first clean));
+            number (next_number M shown.well_formed number (next ∙ ap (λ (s : Holdings (List ℕ)). min (s.installs + 1) (2 ^ 64 - 1)) shown.summary)) same (λ _. fine) (goes clean).was_open (goes clean).committed
+            (λ stored one. one.kept) (shown.served (first clean));
       }
 
 -- ---- how it is answered

@@ -183,7 +183,8 @@ module _ {S : Type 0} (g : Ghosts S) (before : DeskState S) (new : Held S) (comm
         let there : HoldsText (state g new).committed stored.number comes.reading.text = subst (λ (n : ℕ). HoldsText (state g new).committed n comes.reading.text) (sym comes.number) comes.there in
         let short = text_short (state g new).committed M' stored.number stored.content holds has comes.reading.text there in
         let cuts : Cuts index stored.content comes.reading.text = record { lines = comes.reading.lines; entries = refl; cut = ap (λ (e : Edition). e.entries) comes.says; short = short } in
-        let stands : entries_under (M.installs + 1) mid ≡ Some index = put_at (M.installs + 1) index before.indexes mid (subst (λ (coming : Option (List Indexed)). HasPutIfSome (M.installs + 1) coming before.indexes mid) comes.coming put) in
+        let stands : entries_under (M.installs + 1) mid ≡ Some index = put_at (M.installs + 1) index before.indexes mid
+        (subst (λ (coming : Option (List Indexed)). HasPutIfSome (M.installs + 1) coming before.indexes mid) comes.coming put) in
         record {
           index = index;
           stands = same ∙ subst (λ (n : ℕ). entries_under n mid ≡ Some index) (sym comes.number) stands;

@@ -103,7 +103,8 @@ unlawful_step : (M : Catalogue) (id : List ℕ) (command : Command Edition) → 
 unlawful_step M id command unlawful = rw unlawful refl
 
 -- and over one that is shut
-pub applies_shut : {S : Type 0} (g : Ghosts S) (new : Held S) (M : Catalogue) (id : List ℕ) (command : Command Edition) (indexes : List (ℕ × List Indexed)) (texts : List (PartNumbers × List ℕ)) (summary : Holdings (List ℕ)) (result : Result Applied Fault) → IsOfShut id result
+pub applies_shut : {S : Type 0} (g : Ghosts S) (new : Held S) (M : Catalogue) (id : List ℕ) (command : Command Edition) (indexes : List (ℕ × List Indexed)) (texts : List (PartNumbers × List ℕ)) (summary : Holdings (List ℕ))
+    (result : Result Applied Fault) → IsOfShut id result
     → (HasCleanDisk (state g new) → ServesEditions g (desk_by g new M id (step M id command) indexes texts (summary_after summary result) (last_by result)) (catalogue_by M (step M id command) result))
     → ((last : LastCall) → (HasCleanDisk (state g new) → ServesEditions g (desk_by g new M id (step M id command) indexes texts summary last) M) → Shows g (desk_by g new M id (step M id command) indexes texts summary last) M)
     → Applies (Shows g (desk_by g new M id (step M id command) indexes texts (summary_after summary result) (last_by result))) M (step M id command) (reply_of result)
@@ -182,7 +183,8 @@ closed_by (Err NewerSchema) = refl
 -- ---- a desk
 
 module _ {S : Type 0} (g : Ghosts S) (old new : Held S) (summary : Holdings (List ℕ)) (filing : Option Filing) (before : LastCall) (id : List ℕ) (command : Command Edition) (result : Result Applied Fault)
-    (open_before : is_closed before ≡ false) (rest : IsAtRest g before summary filing old) (over : AppliesOver g summary id command old new result) (indexes mid settled : List (ℕ × List Indexed)) (kept texts : List (PartNumbers × List ℕ)) where
+    (open_before : is_closed before ≡ false) (rest : IsAtRest g before summary filing old) (over : AppliesOver g summary id command old new result) (indexes mid settled : List (ℕ × List Indexed))
+    (kept texts : List (PartNumbers × List ℕ)) where
   clean_first : HasCleanDisk (state g new) → HasCleanDisk (state g old)
   clean_first clean = omega (arith, over.crash.clean)
 

@@ -17,7 +17,8 @@ use Rattle.store_desk.specs.declared.making.IndexPart.TheVariants.{Entries, Part
 use Rattle.store_desk.proofs.StandingLemmas.{one_more}
 
 -- one entry more
-pub entry_next : (lines : List Line) (i : ℕ) (said : Line) (before after : List Indexed) → slice_get lines i ≡ Some said → before ≡ map entry_of (take i lines) → after ≡ before ++ entry_of said ∷ [] → after ≡ map entry_of (take (i + 1) lines)
+pub entry_next : (lines : List Line) (i : ℕ) (said : Line) (before after : List Indexed) → slice_get lines i ≡ Some said → before ≡ map entry_of (take i lines) → after ≡ before ++ entry_of said ∷ [] → after
+    ≡ map entry_of (take (i + 1) lines)
 entry_next lines i said before after there was put =
     put ∙ ap (λ (l : List Indexed). l ++ entry_of said ∷ []) was ∙ one_more entry_of lines i said (slice_get_within lines i said there) (sym (get_or_from_slice_get lines i said said there))
 

@@ -20,7 +20,8 @@ use Rattle.dict_text.proofs.AllLemmas.{all_weaker}
 use Rattle.store_rows.proofs.OrderLemmas.{all_with}
 
 -- what the tables hold of an edition, the database has under its number
-held_cut : (db : Database) (T : Tables) (k : KeepsAll Parted db (with_derived T)) (M : Catalogue) (indexes : List (ℕ × List Indexed)) (owner : List ℕ) (well : (n : ℕ) (e : Edition) → HasEdition M n e → n ≤ 9223372036854775807) (stored : Stored Edition) → HasIndex T owner indexes stored → HasEdition M stored.number stored.content → IsHeldCut db indexes stored
+held_cut : (db : Database) (T : Tables) (k : KeepsAll Parted db (with_derived T)) (M : Catalogue) (indexes : List (ℕ × List Indexed)) (owner : List ℕ) (well : (n : ℕ) (e : Edition) → HasEdition M n e → n ≤ 9223372036854775807)
+    (stored : Stored Edition) → HasIndex T owner indexes stored → HasEdition M stored.number stored.content → IsHeldCut db indexes stored
 held_cut db T k M indexes owner well stored one has =
     let reading = one.held.reading in
     record {

@@ -115,12 +115,14 @@ module _ {S T : Type 0} (g : Ghosts S) (old new : DeskState S) (requests : List 
   abbrev Answers : Result T Halted → Type 0
   Answers result = HasCleanDisk (state g new.conn) → (M : Catalogue) → Shows g old M → IfOk result (λ value. AllAnswered (Shows g new) (LeavesOneOf g old) (LeavesOneOf g new) M requests (items value))
 
-  pub call_halts : (result : Result T Halted) → (HasCleanDisk (state g new.conn) → (M : Catalogue) → Shows g old M → IfErr result (λ halted. HaltsAt (Shows g new) (LeavesOneOf g old) (LeavesOneOf g new) M requests halted.stand halted.fault))
+  pub call_halts : (result : Result T Halted) → (HasCleanDisk (state g new.conn) → (M : Catalogue) → Shows g old M
+      → IfErr result (λ halted. HaltsAt (Shows g new) (LeavesOneOf g old) (LeavesOneOf g new) M requests halted.stand halted.fault))
       → IfErr result (λ halted. KeepsFront g old new requests halted.stand)
   call_halts (Ok value) h = tt
   call_halts (Err halted) h = λ M at clean trees may. halts_keeps g old new M requests at.alone halted.stand halted.fault (h clean M at.shown) clean trees may
 
-  pub call_stands : (result : Result T Halted) → (HasCleanDisk (state g new.conn) → (M : Catalogue) → Shows g old M → IfErr result (λ halted. HaltsAt (Shows g new) (LeavesOneOf g old) (LeavesOneOf g new) M requests halted.stand halted.fault))
+  pub call_stands : (result : Result T Halted) → (HasCleanDisk (state g new.conn) → (M : Catalogue) → Shows g old M
+      → IfErr result (λ halted. HaltsAt (Shows g new) (LeavesOneOf g old) (LeavesOneOf g new) M requests halted.stand halted.fault))
       → IfErr result (λ halted. HasCleanDisk (state g new.conn) → (M : Catalogue) → KeepsAlone g old M → KeepsAt g new M requests halted.stand halted.fault)
   call_stands (Ok value) h = tt
   call_stands (Err halted) h = λ clean M at. halts_at g old new M requests at.alone halted.stand halted.fault (h clean M at.shown)

@@ -147,7 +147,8 @@ module _ {D : Type 0} {g : Ghosts D} (stays : SeenMayStay g) (desk : DeskState (
   tells_none (left.Spent both) fault h = λ ms leaves never. tt
   tells_none (left.Database conn) fault h = λ ms leaves never honest. is_of_store conn fault h honest (λ clean trees stop. let it = leaves clean trees stop in left_as trees ms it.0 it.1 it.2 never)
 
-  pub tells_none_of_front : (it : Unopened D g) (fault : Fault) → IsUnopenedOver now it fault → (before : Catalogue) (requests : List CommandRequest) (answered : ℕ) → LeavesFront over_files desk before requests answered → TellsNoHolding it fault
+  pub tells_none_of_front : (it : Unopened D g) (fault : Fault) → IsUnopenedOver now it fault → (before : Catalogue) (requests : List CommandRequest) (answered : ℕ) → LeavesFront over_files desk before requests answered
+      → TellsNoHolding it fault
   tells_none_of_front (left.Files some) fault h = λ before requests answered leaves. tt
   tells_none_of_front (left.Spent both) fault h = λ before requests answered leaves. tt
   tells_none_of_front (left.Database conn) fault h = λ before requests answered leaves honest.

@@ -40,7 +40,8 @@ module _ {S : Type 0} (g : Ghosts S) (old new : DeskState S) (same : (q : ℕ) �
 -- ---- one edition
 
 -- the edition of a number
-pub served_one : {S : Type 0} (g : Ghosts S) (desk : DeskState S) (M : Catalogue) (number : ℕ) (edition : Edition) → HasEdition M number edition → ServesEditions g desk M → ServesEdition g desk (record { number = number; content = edition })
+pub served_one : {S : Type 0} (g : Ghosts S) (desk : DeskState S) (M : Catalogue) (number : ℕ) (edition : Edition) → HasEdition M number edition → ServesEditions g desk M
+    → ServesEdition g desk (record { number = number; content = edition })
 served_one g desk M number edition has served =
     all_contains (ServesEdition g desk) (editions_of has.item) (record { number = number; content = edition }) (all_contains (λ item. AllByRecursion (ServesEdition g desk) (editions_of item)) M.items has.item served has.stands) has.stored
 

@@ -64,12 +64,15 @@ takes_delete n = record { whole = lit≤ tt; names = refl; typed = λ schema tre
 part_goes : (tree : ℕ) (n : ℤ) (row : Row) → passes (Int n ∷ []) test_edition row ≡ equals_number 1 n (shown (part tree) row)
 part_goes tree n row = and_true _ ∙ equals_is (column row 1) n
 
-pub removes_parts : (old new : State) (n : ℤ) (count : ℕ) → Has part old.now → HasApartRowids (rows_of (codes "dictcat_part") old.now) → Executes part_delete_text (Int n ∷ []) old new (Ok count) → IsRemoved (codes "dictcat_part") (equals_number 1 n) old.now new.now
-removes_parts old new n count = removes_rows part_delete_text read_delete part (Some (equals_expr (codes "edition"))) test_edition 99997 reads_delete (λ tree. refl) (Int n ∷ []) (equals_number 1 n) (λ tree row. part_goes tree n row) old new count
+pub removes_parts : (old new : State) (n : ℤ) (count : ℕ) → Has part old.now → HasApartRowids (rows_of (codes "dictcat_part") old.now) → Executes part_delete_text (Int n ∷ []) old new (Ok count)
+    → IsRemoved (codes "dictcat_part") (equals_number 1 n) old.now new.now
+removes_parts old new n count =
+    removes_rows part_delete_text read_delete part (Some (equals_expr (codes "edition"))) test_edition 99997 reads_delete (λ tree. refl) (Int n ∷ []) (equals_number 1 n) (λ tree row. part_goes tree n row) old new count
 
 pub parts_stay : (old new : State) (n : ℤ) (e : Error) → Has part old.now → HasApartRowids (rows_of (codes "dictcat_part") old.now) → ExecutesInside 0 part_delete_text (Int n ∷ []) old new (Err e)
     → (RefusesToRemove (codes "dictcat_part") (equals_number 1 n) old e × IsUnchanged old new) ⊎ Fails old new ⊥ e
-parts_stay old new n e = remove_fails part_delete_text read_delete part (Some (equals_expr (codes "edition"))) test_edition 99997 reads_delete (λ tree. refl) (Int n ∷ []) (takes_delete n) (equals_number 1 n) (λ tree row. part_goes tree n row) old new e
+parts_stay old new n e =
+    remove_fails part_delete_text read_delete part (Some (equals_expr (codes "edition"))) test_edition 99997 reads_delete (λ tree. refl) (Int n ∷ []) (takes_delete n) (equals_number 1 n) (λ tree row. part_goes tree n row) old new e
 
 pub delete_ends : EndsNothing part_delete_text
 delete_ends = delete_ends_none part_delete_text read_delete part _ _ _ reads_delete
@@ -128,7 +131,8 @@ module _ (schema : Schema) (at tree : ℕ) (is : slice_get schema.tables at ≡ 
   unfolding everything
   number_from = record { no_truth = λ y. refl; no_alias = λ y. refl; no_word = λ y. refl; combines = λ s. rw is refl }
 
-from_tests : (schema : Schema) (at tree : ℕ) → slice_get schema.tables at ≡ Some (part tree) → tests lower (context_of schema at (part tree) [] false true) [] (Some from_number_on) (fresh 2 max_budget) ≡ Ok (test_from, record (fresh 2 max_budget) { budget = 99989 })
+from_tests : (schema : Schema) (at tree : ℕ) → slice_get schema.tables at ≡ Some (part tree) → tests lower (context_of schema at (part tree) [] false true) [] (Some from_number_on) (fresh 2 max_budget)
+    ≡ Ok (test_from, record (fresh 2 max_budget) { budget = 99989 })
 unfolding tests
 from_tests schema at tree is =
     let here = cx schema at tree is in
@@ -160,12 +164,15 @@ takes_from n f m = record { whole = lit≤ tt; names = refl; typed = λ schema t
 from_goes : (tree : ℕ) (n f m : ℤ) (row : Row) → passes (Int n ∷ Int f ∷ Int m ∷ []) test_from row ≡ is_part_from n f m (shown (part tree) row)
 from_goes tree n f m row = three_same _ _ _ _ _ _ (equals_is (column row 1) n) (equals_is (column row 2) f) (from_number (column row 3) m)
 
-pub removes_from : (old new : State) (n f m : ℤ) (count : ℕ) → Has part old.now → HasApartRowids (rows_of (codes "dictcat_part") old.now) → Executes delete_from_text (Int n ∷ Int f ∷ Int m ∷ []) old new (Ok count) → IsRemoved (codes "dictcat_part") (is_part_from n f m) old.now new.now
-removes_from old new n f m count = removes_rows delete_from_text read_from part (Some from_number_on) test_from 99989 reads_from (λ tree. refl) (Int n ∷ Int f ∷ Int m ∷ []) (is_part_from n f m) (λ tree row. from_goes tree n f m row) old new count
+pub removes_from : (old new : State) (n f m : ℤ) (count : ℕ) → Has part old.now → HasApartRowids (rows_of (codes "dictcat_part") old.now) → Executes delete_from_text (Int n ∷ Int f ∷ Int m ∷ []) old new (Ok count)
+    → IsRemoved (codes "dictcat_part") (is_part_from n f m) old.now new.now
+removes_from old new n f m count =
+    removes_rows delete_from_text read_from part (Some from_number_on) test_from 99989 reads_from (λ tree. refl) (Int n ∷ Int f ∷ Int m ∷ []) (is_part_from n f m) (λ tree row. from_goes tree n f m row) old new count
 
 pub from_stay : (old new : State) (n f m : ℤ) (e : Error) → Has part old.now → HasApartRowids (rows_of (codes "dictcat_part") old.now) → ExecutesInside 0 delete_from_text (Int n ∷ Int f ∷ Int m ∷ []) old new (Err e)
     → (RefusesToRemove (codes "dictcat_part") (is_part_from n f m) old e × IsUnchanged old new) ⊎ Fails old new ⊥ e
-from_stay old new n f m e = remove_fails delete_from_text read_from part (Some from_number_on) test_from 99989 reads_from (λ tree. refl) (Int n ∷ Int f ∷ Int m ∷ []) (takes_from n f m) (is_part_from n f m) (λ tree row. from_goes tree n f m row) old new e
+from_stay old new n f m e =
+    remove_fails delete_from_text read_from part (Some from_number_on) test_from 99989 reads_from (λ tree. refl) (Int n ∷ Int f ∷ Int m ∷ []) (takes_from n f m) (is_part_from n f m) (λ tree row. from_goes tree n f m row) old new e
 
 pub from_ends : EndsNothing delete_from_text
 from_ends = delete_ends_none delete_from_text read_from part _ _ _ reads_from

@@ -92,11 +92,13 @@ module _ {S : Type 0} (g : Ghosts S) (old : Held S) (has : WhileOpen (state g ol
   began_open new (inr h) = absurd (none_returned old.schema h.0)
 
   pub begins : {X : Type 0} (result : Result X Error) (held : X → Held S) → IfOk result (λ x. Survives (state g old) (state g (held x)) (CommitsShowing header_rowid_text [] (state g old)))
-      → IfOk result (λ x. HasCleanDisk (state g (held x)) → kit.HasBegun g header_rowid_text [] old (held x)) → IfOk result (λ x. HasCleanDisk (state g (held x)) → HasGivenHeaders g (held x) [] × IsUnchanged (state g old) (state g (held x)))
+      → IfOk result (λ x. HasCleanDisk (state g (held x)) → kit.HasBegun g header_rowid_text [] old (held x))
+      → IfOk result (λ x. HasCleanDisk (state g (held x)) → HasGivenHeaders g (held x) [] × IsUnchanged (state g old) (state g (held x)))
   begins (Err e) held s h = tt
   begins (Ok x) held s h = λ clean. begun g old (held x) (has (omega (arith, s.clean, clean)) (began_open (held x) (h clean))) (h clean)
 
-  pub begins_alone : {X : Type 0} (result : Result X Error) (held : X → Held S) → IfOk result (λ x. Survives (state g old) (state g (held x)) (CommitsShowing header_rowid_text [] (state g old))) → IfOk result (λ x. Survives (state g old) (state g (held x)) (λ _. ⊥))
+  pub begins_alone : {X : Type 0} (result : Result X Error) (held : X → Held S) → IfOk result (λ x. Survives (state g old) (state g (held x)) (CommitsShowing header_rowid_text [] (state g old)))
+      → IfOk result (λ x. Survives (state g old) (state g (held x)) (λ _. ⊥))
   begins_alone (Err e) held s = tt
   begins_alone (Ok x) held s = commits_nothing (state g old) (state g (held x)) s
 

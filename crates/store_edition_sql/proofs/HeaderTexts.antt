@@ -87,8 +87,10 @@ adds_header old new h count has runs =
     let at = has.0 in
     let tree = has.1 in
     let s = old.now.schema in
-    let w = runs_as header_insert_text (header_row h) old new s refl (Insert at (Values header_terms 5)) (insert_command header_insert_text read_insert header (Values header_terms 5) reads_insert s at tree has.2) (insert_plain header_insert_text read_insert header (Values header_terms 5) reads_insert s at tree has.2) count runs in
-    adds_given old new at (codes "edition") tree (header tree).columns (header tree).key (header tree).primary (header tree).uniques (header tree).orders has.2.named has.2.is header_terms 5 (statement_of header_insert_text (understood s header_insert_text)) (header_row h)
+    let w = runs_as header_insert_text (header_row h) old new s refl (Insert at (Values header_terms 5)) (insert_command header_insert_text read_insert header (Values header_terms 5) reads_insert s at tree has.2)
+    (insert_plain header_insert_text read_insert header (Values header_terms 5) reads_insert s at tree has.2) count runs in
+    adds_given old new at (codes "edition") tree (header tree).columns (header tree).key (header tree).primary (header tree).uniques (header tree).orders has.2.named has.2.is header_terms 5
+    (statement_of header_insert_text (understood s header_insert_text)) (header_row h)
     (Int h.number ∷ Null ∷ Text h.owner ∷ Text h.title ∷ Text h.info ∷ []) count refl h.number (Null ∷ Text h.owner ∷ Text h.title ∷ Text h.info ∷ []) (header_row h) refl refl w
 
 pub header_fails : (old new : State) (h : HeaderRecord) (e : Error) → Has header old.now → ExecutesInside 0 header_insert_text (header_row h) old new (Err e)
@@ -96,10 +98,12 @@ pub header_fails : (old new : State) (h : HeaderRecord) (e : Error) → Has head
 header_fails old new h e has runs =
     let at = has.0 in
     let tree = has.1 in
-    cause old new at (codes "edition") tree (header tree).columns (header tree).key (header tree).primary (header tree).uniques (header tree).orders has.2.named has.2.is header_terms 5 header_insert_text (header_row h) (header_row h) refl refl
+    cause old new at (codes "edition") tree (header tree).columns (header tree).key (header tree).primary (header tree).uniques (header tree).orders has.2.named has.2.is header_terms 5 header_insert_text (header_row h)
+    (header_row h) refl refl
     h.number (cast_all (header tree).columns (Null ∷ Text h.owner ∷ Text h.title ∷ Text h.info ∷ [])) (rw (cast_int h.number) refl)
     (rw cast_null refl) refl e
-    (faults_inside header_insert_text read_insert (Insert at (Values header_terms 5)) (header_row h) old new e (insert_is header_insert_text read_insert header (Values header_terms 5) reads_insert old.now.schema at tree has.2) whole_insert.0 whole_insert.1 refl refl runs)
+    (faults_inside header_insert_text read_insert (Insert at (Values header_terms 5)) (header_row h) old new e (insert_is header_insert_text read_insert header (Values header_terms 5) reads_insert old.now.schema at tree has.2)
+    whole_insert.0 whole_insert.1 refl refl runs)
 
 pub add_ends_none : EndsNothing header_insert_text
 add_ends_none = insert_ends_none header_insert_text read_insert header _ reads_insert
@@ -130,12 +134,16 @@ takes_delete n = record { whole = lit≤ tt; names = refl; typed = λ schema tre
 header_goes : (tree : ℕ) (n : ℤ) (row : Row) → passes (Int n ∷ []) test_number row ≡ equals_number 1 n (shown (header tree) row)
 header_goes tree n row = and_true _ ∙ equals_is (column row 0) n
 
-pub removes_headers : (old new : State) (n : ℤ) (count : ℕ) → Has header old.now → HasApartRowids (rows_of (codes "edition") old.now) → Executes header_delete_text (Int n ∷ []) old new (Ok count) → IsRemoved (codes "edition") (equals_number 1 n) old.now new.now
-removes_headers old new n count = removes_rows header_delete_text read_delete header (Some (equals_expr (codes "number"))) test_number 99997 reads_delete (λ tree. refl) (Int n ∷ []) (equals_number 1 n) (λ tree row. header_goes tree n row) old new count
+pub removes_headers : (old new : State) (n : ℤ) (count : ℕ) → Has header old.now → HasApartRowids (rows_of (codes "edition") old.now) → Executes header_delete_text (Int n ∷ []) old new (Ok count)
+    → IsRemoved (codes "edition") (equals_number 1 n) old.now new.now
+removes_headers old new n count =
+    removes_rows header_delete_text read_delete header (Some (equals_expr (codes "number"))) test_number 99997 reads_delete (λ tree. refl) (Int n ∷ []) (equals_number 1 n) (λ tree row. header_goes tree n row) old new count
 
 pub headers_stay : (old new : State) (n : ℤ) (e : Error) → Has header old.now → HasApartRowids (rows_of (codes "edition") old.now) → ExecutesInside 0 header_delete_text (Int n ∷ []) old new (Err e)
     → (RefusesToRemove (codes "edition") (equals_number 1 n) old e × IsUnchanged old new) ⊎ Fails old new ⊥ e
-headers_stay old new n e = remove_fails header_delete_text read_delete header (Some (equals_expr (codes "number"))) test_number 99997 reads_delete (λ tree. refl) (Int n ∷ []) (takes_delete n) (equals_number 1 n) (λ tree row. header_goes tree n row) old new e
+headers_stay old new n e =
+    remove_fails header_delete_text read_delete header (Some (equals_expr (codes "number"))) test_number 99997 reads_delete (λ tree. refl) (Int n ∷ []) (takes_delete n) (equals_number 1 n) (λ tree row. header_goes tree n row) old
+    new e
 
 pub delete_ends : EndsNothing header_delete_text
 delete_ends = delete_ends_none header_delete_text read_delete header _ _ _ reads_delete

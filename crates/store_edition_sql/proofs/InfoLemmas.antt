@@ -14,7 +14,8 @@ twice : {X Y Z : Type 0} (f : X → Y) (g : Y → Z) (xs : List X) → map g (ma
 twice f g [] = refl
 twice f g (x ∷ xs) = ap (λ ys. g (f x) ∷ ys) (twice f g xs)
 
-pub told : (headers rows : List Row) → IsPermutation (map informed headers) rows → (old new : State) → IsUnchanged old new → (result : Result (Vec (String Global) Global) ReadError) → IfOk result (λ all. map (λ r. column r 0) rows ≡ map (λ info. Words (string_bytes info)) all.items)
+pub told : (headers rows : List Row) → IsPermutation (map informed headers) rows → (old new : State) → IsUnchanged old new → (result : Result (Vec (String Global) Global) ReadError)
+    → IfOk result (λ all. map (λ r. column r 0) rows ≡ map (λ info. Words (string_bytes info)) all.items)
     → IfOk result (λ all. IsPermutation (map (λ r. column r 4) headers) (map Words (map string_bytes all.items)) × IsUnchanged old new)
 told headers rows same old new unchanged (Err e) h = tt
 told headers rows same old new unchanged (Ok all) h =

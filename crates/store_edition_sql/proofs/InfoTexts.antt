@@ -1,5 +1,6 @@
 -- The text that reads the infos of the headers of a number.
-use Rattle.std.proofs.Common.{◌≡◌, ◌-◌, ◌==◌, ◌^◌, ℕ, ℤ, Bool, List, [], ◌∷◌, map, filter, codes, find, nat_le, true, false, cond, Ok, Err, Some, None, Option, Result, IfOk, IfErr, IsTrue, Vec, refl, sym, ap, subst, subst₂, ◌∙◌, lit≤, slice_get}
+use Rattle.std.proofs.Common.{◌≡◌, ◌-◌, ◌==◌, ◌^◌, ℕ, ℤ, Bool, List, [], ◌∷◌, map, filter, codes, find, nat_le, true, false, cond, Ok, Err, Some, None, Option, Result, IfOk, IfErr, IsTrue, Vec, refl, sym, ap, subst}
+use Rattle.std.proofs.Common.{subst₂, ◌∙◌, lit≤, slice_get}
 use Rattle.std.proofs.lemmas.Bool.{lt-leb}
 use Rattle.std.specs.List.Sorted.{IsPermutation}
 use Rattle.std.specs.declared.alloc.Global.{Global}
@@ -71,7 +72,8 @@ module _ (schema : Schema) (at : ℕ) (table : Table) (has : HasTable schema at 
   unfolding heading find_name in_level only hit column_in is_among declared_name
   heading_column name k c place there = let is = has.is in rw (out_column name, is, place) (rw (is, there) refl)
 
-  module _ (one : Name) (k : ℕ) (c : Column) (place : column_named table one ≡ Some k) (there : slice_get table.columns k ≡ Some c) (other : Name) (l : ℕ) (d : Column) (place' : column_named table other ≡ Some l) (there' : slice_get table.columns l ≡ Some d) (test : Option Expr) where
+  module _ (one : Name) (k : ℕ) (c : Column) (place : column_named table one ≡ Some k) (there : slice_get table.columns k ≡ Some c) (other : Name) (l : ℕ) (d : Column) (place' : column_named table other ≡ Some l)
+      (there' : slice_get table.columns l ≡ Some d) (test : Option Expr) where
     two_are : result lower (outermost schema) (level_of at table) (core_with (two one other) table.name test) (fresh 2 max_budget)
         ≡ Ok (output c.name (place_of table k) (declared table k c) ∷ output d.name (place_of table l) (declared table l d) ∷ [], record (left_of (max_budget - 1 - 1)) { last = declared table l d })
     unfolding result outputs shown' is_column
@@ -148,14 +150,19 @@ nothing_carried : (tree : ℕ) → declared (header tree) 0 number ≡ nothing
 unfolding everything
 nothing_carried tree = refl
 
-results : (schema : Schema) (at tree : ℕ) (has : HasTable schema at (header tree)) → result lower (outermost schema) (level_of at (header tree)) (core_with shows (header tree).name condition) (fresh 2 max_budget) ≡ Ok (infos_of at tree, left_of 99998)
+results : (schema : Schema) (at tree : ℕ) (has : HasTable schema at (header tree)) → result lower (outermost schema) (level_of at (header tree)) (core_with shows (header tree).name condition) (fresh 2 max_budget)
+    ≡ Ok (infos_of at tree, left_of 99998)
 results schema at tree has =
     let core = core_with shows (header tree).name condition in
-    subst₂ (λ (k : ℕ) (c : Carried). result lower (outermost schema) (level_of at (header tree)) core (fresh 2 max_budget) ≡ Ok (output (codes "info") 4 of_column ∷ output (codes "number") k c ∷ [], record (left_of 99998) { last = c })) (zeroth tree) (nothing_carried tree)
-    (subst₂ (λ (k : ℕ) (c : Carried). result lower (outermost schema) (level_of at (header tree)) core (fresh 2 max_budget) ≡ Ok (output (codes "info") k c ∷ output (codes "number") (place_of (header tree) 0) (declared (header tree) 0 number) ∷ [], record (left_of 99998) { last = declared (header tree) 0 number })) (fourth tree) (text_carried tree)
+    subst₂ (λ (k : ℕ) (c : Carried). result lower (outermost schema) (level_of at (header tree)) core (fresh 2 max_budget)
+    ≡ Ok (output (codes "info") 4 of_column ∷ output (codes "number") k c ∷ [], record (left_of 99998) { last = c })) (zeroth tree) (nothing_carried tree)
+    (subst₂ (λ (k : ℕ) (c : Carried). result lower (outermost schema) (level_of at (header tree)) core (fresh 2 max_budget)
+    ≡ Ok (output (codes "info") k c ∷ output (codes "number") (place_of (header tree) 0) (declared (header tree) 0 number) ∷ [], record (left_of 99998) { last = declared (header tree) 0 number })) (fourth tree)
+    (text_carried tree)
     (two_are schema at (header tree) has (codes "info") 3 info (info_place tree) refl (codes "number") 0 number (number_place tree) refl condition))
 
-is_tested : (schema : Schema) (at tree : ℕ) → slice_get schema.tables at ≡ Some (header tree) → tests lower (context_of schema at (header tree) (infos_of at tree) false true) [] condition (left_of 99998) ≡ Ok (test_one, plainly 99995 nothing)
+is_tested : (schema : Schema) (at tree : ℕ) → slice_get schema.tables at ≡ Some (header tree) → tests lower (context_of schema at (header tree) (infos_of at tree) false true) [] condition (left_of 99998)
+    ≡ Ok (test_one, plainly 99995 nothing)
 unfolding everything column_expr parameter_expr equals_expr
 is_tested schema at tree is = tests_equals schema at (header tree) is (codes "number") 0 number refl refl (infos_of at tree) refl refl 99998 refl refl refl
 
@@ -163,17 +170,21 @@ unsorted : (schema : Schema) (at tree : ℕ) → sorts lower (context_of schema 
 unfolding everything
 unsorted schema at tree = refl
 
-takes_none : (schema : Schema) (at tree : ℕ) → find (λ t. t.tree == (header tree).tree) schema.tables ≡ Some (header tree) → nat_le (2 ^ 31) (header tree).tree ≡ false → accepts_program schema [] (query_with (header tree).tree (infos_of at tree) test_one []) [] ≡ true
+takes_none : (schema : Schema) (at tree : ℕ) → find (λ t. t.tree == (header tree).tree) schema.tables ≡ Some (header tree) → nat_le (2 ^ 31) (header tree).tree ≡ false
+    → accepts_program schema [] (query_with (header tree).tree (infos_of at tree) test_one []) [] ≡ true
 unfolding everything
 takes_none schema at tree alone low = rw (low, alone) refl
 
-takes_number : (n : ℤ) (schema : Schema) (at tree : ℕ) → find (λ t. t.tree == (header tree).tree) schema.tables ≡ Some (header tree) → nat_le (2 ^ 31) (header tree).tree ≡ false → accepts_program schema [] (query_with (header tree).tree (infos_of at tree) test_one []) (Int n ∷ []) ≡ true
+takes_number : (n : ℤ) (schema : Schema) (at tree : ℕ) → find (λ t. t.tree == (header tree).tree) schema.tables ≡ Some (header tree) → nat_le (2 ^ 31) (header tree).tree ≡ false
+    → accepts_program schema [] (query_with (header tree).tree (infos_of at tree) test_one []) (Int n ∷ []) ≡ true
 unfolding everything
 takes_number n schema at tree alone low = rw (low, alone) refl
 
-compiles : (schema : Schema) (at tree : ℕ) (has : HasTable schema at (header tree)) → (understood schema info_text ≡ Ok (with_command read_info ([], (command_with (header tree).tree (infos_of at tree) test_one [], None)))) × (reads_listing schema info_text ≡ false)
+compiles : (schema : Schema) (at tree : ℕ) (has : HasTable schema at (header tree)) → (understood schema info_text ≡ Ok (with_command read_info ([], (command_with (header tree).tree (infos_of at tree) test_one [], None))))
+    × (reads_listing schema info_text ≡ false)
 compiles schema at tree has =
-    understood_is schema at (header tree) has shows (infos_of at tree) 99998 condition (results schema at tree has) test_one 99995 nothing (is_tested schema at tree has.is) [] [] 99995 nothing (unsorted schema at tree) (is_ordered tree) (takes_none schema at tree has.alone (lt-leb (2 ^ 31) (header tree).tree has.stored)) info_text read_info is_read (is_select tree) formats_none
+    understood_is schema at (header tree) has shows (infos_of at tree) 99998 condition (results schema at tree has) test_one 99995 nothing (is_tested schema at tree has.is) [] [] 99995 nothing (unsorted schema at tree)
+    (is_ordered tree) (takes_none schema at tree has.alone (lt-leb (2 ^ 31) (header tree).tree has.stored)) info_text read_info is_read (is_select tree) formats_none
 
 query_info : IsQuery info_text read_info header infos_of test_one []
 query_info = record {

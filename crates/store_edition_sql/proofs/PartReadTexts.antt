@@ -141,7 +141,8 @@ test_file = edition_is ∷ file_is ∷ []
 abbrev within_file : Expr
 within_file = and_expr of_edition of_file
 
-file_tests : (schema : Schema) (at tree : ℕ) → slice_get schema.tables at ≡ Some (part tree) → tests lower (context_of schema at (part tree) (outputs_of at (part tree)) false true) [] (Some within_file) (plainly 99999 nothing) ≡ Ok (test_file, plainly 99992 nothing)
+file_tests : (schema : Schema) (at tree : ℕ) → slice_get schema.tables at ≡ Some (part tree) → tests lower (context_of schema at (part tree) (outputs_of at (part tree)) false true) [] (Some within_file) (plainly 99999 nothing)
+    ≡ Ok (test_file, plainly 99992 nothing)
 unfolding tests
 file_tests schema at tree is =
     let here = cx schema at tree is in
@@ -188,7 +189,8 @@ test_one = edition_is ∷ file_is ∷ number_is ∷ []
 abbrev with_number : Expr
 with_number = and_expr (and_expr of_edition of_file) of_number
 
-one_tests : (schema : Schema) (at tree : ℕ) → slice_get schema.tables at ≡ Some (part tree) → tests lower (context_of schema at (part tree) (outputs_of at (part tree)) false true) [] (Some with_number) (plainly 99999 nothing) ≡ Ok (test_one, plainly 99988 nothing)
+one_tests : (schema : Schema) (at tree : ℕ) → slice_get schema.tables at ≡ Some (part tree) → tests lower (context_of schema at (part tree) (outputs_of at (part tree)) false true) [] (Some with_number) (plainly 99999 nothing)
+    ≡ Ok (test_one, plainly 99988 nothing)
 unfolding tests
 one_tests schema at tree is =
     let here = cx schema at tree is in

@@ -74,7 +74,8 @@ module _ {S : Type 0} (g : Ghosts S) (what : PartScan) where
   front : (old new : Held S) (given : List Row) → IsUnchanged (state g old) (state g new) → Has part (state g new).now → kit.HasGiven g (part_scan_text what) (part_scan_values what) new given → IsFrontOfParts what (state g new).now given
   front old new given same has runs =
       let s = state g new in
-      let all = begins_shown (part_scan_text what) (part_scan_values what) s s given (given_begin g (part_scan_text what) (part_scan_values what) new given runs) (still (state g old) s same) (λ c db it source. ends what s.now has c it.is db (timed (part_scan_values what) c.formats it.now)) in
+      let all = begins_shown (part_scan_text what) (part_scan_values what) s s given (given_begin g (part_scan_text what) (part_scan_values what) new given runs) (still (state g old) s same)
+      (λ c db it source. ends what s.now has c it.is db (timed (part_scan_values what) c.formats it.now)) in
       (all.0, shows what s s (given ++ all.0) has all.1)
 
   begun : (old new : Held S) → Has part (state g old).now → kit.HasBegun g (part_scan_text what) (part_scan_values what) old new → HasGivenParts g what new [] × IsUnchanged (state g old) (state g new)
@@ -103,11 +104,13 @@ module _ {S : Type 0} (g : Ghosts S) (what : PartScan) (old : Held S) (has : Whi
   began_open new (inr h) = absurd (none_returned what old.schema h.0)
 
   pub begins : {X : Type 0} (result : Result X Error) (held : X → Held S) → IfOk result (λ x. Survives (state g old) (state g (held x)) (CommitsShowing (part_scan_text what) (part_scan_values what) (state g old)))
-      → IfOk result (λ x. HasCleanDisk (state g (held x)) → kit.HasBegun g (part_scan_text what) (part_scan_values what) old (held x)) → IfOk result (λ x. HasCleanDisk (state g (held x)) → HasGivenParts g what (held x) [] × IsUnchanged (state g old) (state g (held x)))
+      → IfOk result (λ x. HasCleanDisk (state g (held x)) → kit.HasBegun g (part_scan_text what) (part_scan_values what) old (held x))
+      → IfOk result (λ x. HasCleanDisk (state g (held x)) → HasGivenParts g what (held x) [] × IsUnchanged (state g old) (state g (held x)))
   begins (Err e) held s h = tt
   begins (Ok x) held s h = λ clean. begun g what old (held x) (has (omega (arith, s.clean, clean)) (began_open (held x) (h clean))) (h clean)
 
-  pub begins_alone : {X : Type 0} (result : Result X Error) (held : X → Held S) → IfOk result (λ x. Survives (state g old) (state g (held x)) (CommitsShowing (part_scan_text what) (part_scan_values what) (state g old))) → IfOk result (λ x. Survives (state g old) (state g (held x)) (λ _. ⊥))
+  pub begins_alone : {X : Type 0} (result : Result X Error) (held : X → Held S) → IfOk result (λ x. Survives (state g old) (state g (held x)) (CommitsShowing (part_scan_text what) (part_scan_values what) (state g old)))
+      → IfOk result (λ x. Survives (state g old) (state g (held x)) (λ _. ⊥))
   begins_alone (Err e) held s = tt
   begins_alone (Ok x) held s = commits_nothing what (state g old) (state g (held x)) s
 

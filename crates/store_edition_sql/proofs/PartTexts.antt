@@ -43,7 +43,8 @@ reads_create = record { read = refl; statement = refl; formats = refl; name = re
 
 create_stands : Stands part_create_text read_create (part 0)
 unfolding everything read_create fits_kind is_free_name begins same_name value_cmp lib.Ieee.is_nan lib.Ieee.lt
-create_stands = record { whole = lit≤ tt; names = refl; is_text = refl; named = refl; unreserved = refl; formed = refl; fits = refl; short = lit≤ tt; plain = refl; keys = λ key h. (elim h [ inl is ↦ rw is (lit≤ tt) | inr more ↦ absurd more ]) }
+create_stands =
+    record { whole = lit≤ tt; names = refl; is_text = refl; named = refl; unreserved = refl; formed = refl; fits = refl; short = lit≤ tt; plain = refl; keys = λ key h. (elim h [ inl is ↦ rw is (lit≤ tt) | inr more ↦ absurd more ]) }
 
 pub makes_part : (old new : State) (count : ℕ) → IsFree old.now.schema (part 0).name → Executes part_create_text [] old new (Ok count) → IsMade (part 0) old.now new.now
 makes_part old new count = makes part_create_text read_create (part 0) reads_create old new count
@@ -76,9 +77,12 @@ adds_part old new r count has h =
     let at = has.0 in
     let tree = has.1 in
     let s = old.now.schema in
-    let w = runs_as part_insert_text (part_row r) old new s refl (Insert at (Values part_terms 5)) (insert_command part_insert_text read_insert part (Values part_terms 5) reads_insert s at tree has.2) (insert_plain part_insert_text read_insert part (Values part_terms 5) reads_insert s at tree has.2) count h in
-    adds_chosen old new at (codes "dictcat_part") tree (part tree).columns (part tree).key (part tree).primary (part tree).uniques (part tree).orders has.2.named has.2.is part_terms 5 (statement_of part_insert_text (understood s part_insert_text)) (part_row r)
-    (Null ∷ Int r.edition ∷ Int r.file ∷ Int r.number ∷ Blob r.octets ∷ []) count refl (Int r.edition ∷ Int r.file ∷ Int r.number ∷ Blob r.octets ∷ []) (part_row r) refl (λ id. (rw (cast_int r.edition, cast_int r.file, cast_int r.number) refl)) w
+    let w = runs_as part_insert_text (part_row r) old new s refl (Insert at (Values part_terms 5)) (insert_command part_insert_text read_insert part (Values part_terms 5) reads_insert s at tree has.2)
+    (insert_plain part_insert_text read_insert part (Values part_terms 5) reads_insert s at tree has.2) count h in
+    adds_chosen old new at (codes "dictcat_part") tree (part tree).columns (part tree).key (part tree).primary (part tree).uniques (part tree).orders has.2.named has.2.is part_terms 5
+    (statement_of part_insert_text (understood s part_insert_text)) (part_row r)
+    (Null ∷ Int r.edition ∷ Int r.file ∷ Int r.number ∷ Blob r.octets ∷ []) count refl (Int r.edition ∷ Int r.file ∷ Int r.number ∷ Blob r.octets ∷ []) (part_row r) refl
+    (λ id. (rw (cast_int r.edition, cast_int r.file, cast_int r.number) refl)) w
 
 pub part_fails : (old new : State) (r : Part) (e : Error) → Has part old.now → ExecutesInside 0 part_insert_text (part_row r) old new (Err e)
     → (RefusesToAdd (codes "dictcat_part") (part_row r) old e × IsUnchanged old new) ⊎ Fails old new (IsTooBig (codes "dictcat_part") (part_row r) old.now) e
@@ -88,7 +92,8 @@ part_fails old new r e has h =
     cause old new at (codes "dictcat_part") tree (part tree).columns (part tree).key (part tree).primary (part tree).uniques (part tree).orders has.2.named has.2.is part_terms 5 part_insert_text (part_row r) (part_row r) refl refl
     (next_rowid (old.now.trees tree)) (cast_all (part tree).columns (Int r.edition ∷ Int r.file ∷ Int r.number ∷ Blob r.octets ∷ [])) (rw cast_null refl)
     (rw (cast_int r.edition, cast_int r.file, cast_int r.number) (refl)) (rw (cast_int r.edition, cast_int r.file, cast_int r.number) (refl)) e
-    (faults_inside part_insert_text read_insert (Insert at (Values part_terms 5)) (part_row r) old new e (insert_is part_insert_text read_insert part (Values part_terms 5) reads_insert old.now.schema at tree has.2) whole_insert.0 whole_insert.1 refl refl h)
+    (faults_inside part_insert_text read_insert (Insert at (Values part_terms 5)) (part_row r) old new e (insert_is part_insert_text read_insert part (Values part_terms 5) reads_insert old.now.schema at tree has.2) whole_insert.0
+    whole_insert.1 refl refl h)
 
 pub add_ends_none : EndsNothing part_insert_text
 add_ends_none = insert_ends_none part_insert_text read_insert part _ reads_insert

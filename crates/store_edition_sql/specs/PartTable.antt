@@ -8,4 +8,6 @@ use Rattle.store_tables.specs.Tables.{needed, simple}
 -- ---- dictcat_part: the parts of the two files of each edition
 
 abbrev pub part : ℕ → Table
-part tree = simple (codes "dictcat_part") tree (needed (codes "edition") Integer ∷ needed (codes "file") Integer ∷ needed (codes "number") Integer ∷ needed (codes "octets") Blob ∷ []) None (1 ∷ 2 ∷ 3 ∷ []) ((1 ∷ 2 ∷ 3 ∷ []) ∷ []) (plain ∷ [])
+part tree =
+    simple (codes "dictcat_part") tree (needed (codes "edition") Integer ∷ needed (codes "file") Integer ∷ needed (codes "number") Integer ∷ needed (codes "octets") Blob ∷ []) None (1 ∷ 2 ∷ 3 ∷ []) ((1 ∷ 2 ∷ 3 ∷ []) ∷ [])
+    (plain ∷ [])

@@ -71,13 +71,15 @@ swapped {X} {Y} f g p (x ∷ xs) ys h = by (p x) h.0 (swapped f g p xs ys h.1)
     by false e rest = rest
 
 -- the entries of an edition that stays, behind those that go and before those that come
-kept_entries : (gone : List ℕ) (n : ℤ) → not (is_gone gone n) ≡ true → (ys : List EntryRecord) → entries_of n ys ≡ [] → (xs : List EntryRecord) → entries_of n (filter (λ (r : EntryRecord). not (is_gone gone r.edition)) xs ++ ys) ≡ entries_of n xs
+kept_entries : (gone : List ℕ) (n : ℤ) → not (is_gone gone n) ≡ true → (ys : List EntryRecord) → entries_of n ys ≡ [] → (xs : List EntryRecord) → entries_of n (filter (λ (r : EntryRecord). not (is_gone gone r.edition)) xs ++ ys)
+    ≡ entries_of n xs
 kept_entries gone n stay ys none [] = none
 kept_entries gone n stay ys none (x ∷ xs) = by (not (is_gone gone x.edition)) (same_number x.edition n) refl refl (kept_entries gone n stay ys none xs)
   where
     by : (b c : Bool) → not (is_gone gone x.edition) ≡ b → same_number x.edition n ≡ c → entries_of n (filter (λ (r : EntryRecord). not (is_gone gone r.edition)) xs ++ ys) ≡ entries_of n xs
         → entries_of n (cond b (x ∷ filter (λ (r : EntryRecord). not (is_gone gone r.edition)) xs) (filter (λ (r : EntryRecord). not (is_gone gone r.edition)) xs) ++ ys) ≡ cond c (x ∷ entries_of n xs) (entries_of n xs)
-    by true c eb ec rest = ap (λ d. cond d (x ∷ entries_of n (filter (λ (r : EntryRecord). not (is_gone gone r.edition)) xs ++ ys)) (entries_of n (filter (λ (r : EntryRecord). not (is_gone gone r.edition)) xs ++ ys))) ec ∙ ap (λ l. cond c (x ∷ l) l) rest
+    by true c eb ec rest = ap (λ d. cond d (x ∷ entries_of n (filter (λ (r : EntryRecord). not (is_gone gone r.edition)) xs ++ ys)) (entries_of n (filter (λ (r : EntryRecord). not (is_gone gone r.edition)) xs ++ ys))) ec
+        ∙ ap (λ l. cond c (x ∷ l) l) rest
     by false false eb ec rest = rest
     by false true eb ec rest = absurd (false≢true (sym eb ∙ ap (λ m. not (is_gone gone m)) (same_number_is x.edition n ec) ∙ stay))
 
@@ -104,7 +106,8 @@ turned a b e = by (same_number b a) refl
     by false h = refl
     by true h = absurd (false≢true (sym e ∙ ap (λ m. same_number a m) (same_number_is b a h) ∙ same_itself a))
 
-no_entries : (gone : List ℕ) (n : ℤ) (xs ys : List EntryRecord) → AllByRecursion (λ (row : EntryRecord). same_number row.edition n ≡ false) xs → entries_of n (filter (λ (r : EntryRecord). not (is_gone gone r.edition)) xs ++ ys) ≡ entries_of n ys
+no_entries : (gone : List ℕ) (n : ℤ) (xs ys : List EntryRecord) → AllByRecursion (λ (row : EntryRecord). same_number row.edition n ≡ false) xs → entries_of n (filter (λ (r : EntryRecord). not (is_gone gone r.edition)) xs ++ ys)
+    ≡ entries_of n ys
 no_entries gone n [] ys h = refl
 no_entries gone n (x ∷ xs) ys h = by (not (is_gone gone x.edition)) (no_entries gone n xs ys h.1)
   where
@@ -114,7 +117,8 @@ no_entries gone n (x ∷ xs) ys h = by (not (is_gone gone x.edition)) (no_entrie
     by false rest = rest
 
 -- the parts of editions that stay, and of the one that comes
-staying : (gone : List ℕ) (ed : Option Installed) (t : Tables) (e : EditionRecord) → not (is_gone gone e.number) ≡ true → entries_of e.number (installed_entries ed) ≡ [] → edition_parts (filter (λ (r : EntryRecord). not (is_gone gone r.edition)) t.entries ++ installed_entries ed) e ≡ edition_parts t.entries e
+staying : (gone : List ℕ) (ed : Option Installed) (t : Tables) (e : EditionRecord) → not (is_gone gone e.number) ≡ true → entries_of e.number (installed_entries ed) ≡ []
+    → edition_parts (filter (λ (r : EntryRecord). not (is_gone gone r.edition)) t.entries ++ installed_entries ed) e ≡ edition_parts t.entries e
 staying gone ed t e stay none = ap (λ l. parts_under e.number (index_octets l) e.body) (kept_entries gone e.number stay (installed_entries ed) none t.entries)
 
 parts_after : (gone : List ℕ) (ed : Option Installed) (t : Tables) → HasNewNumber ed t
@@ -132,11 +136,13 @@ parts_after gone ed t new = whole ed new
         (λ e. of_under (λ n. not (is_gone gone n)) e.number (index_octets (entries_of e.number t.entries)) e.body) t.editions []
         ∙ append-nil (filter (λ (p : Part). not (is_gone gone p.edition)) (all_parts t))
 
-    each : (o : Option Installed) (es : List EditionRecord) → AllByRecursion (λ (e : EditionRecord). entries_of e.number (installed_entries o) ≡ []) es → AllByRecursion (λ (e : EditionRecord). not (is_gone gone e.number) ≡ true → those o e ≡ edition_parts t.entries e) es
+    each : (o : Option Installed) (es : List EditionRecord) → AllByRecursion (λ (e : EditionRecord). entries_of e.number (installed_entries o) ≡ []) es
+        → AllByRecursion (λ (e : EditionRecord). not (is_gone gone e.number) ≡ true → those o e ≡ edition_parts t.entries e) es
     each o [] h = tt
     each o (e ∷ es) h = (λ stay. staying gone o t e stay h.0, each o es h.1)
 
-    fresh : (one : Installed) (es : List EditionRecord) → AllByRecursion (λ (row : EditionRecord). same_number row.number (pos one.number) ≡ false) es → AllByRecursion (λ (e : EditionRecord). entries_of e.number (installed_entries (Some one)) ≡ []) es
+    fresh : (one : Installed) (es : List EditionRecord) → AllByRecursion (λ (row : EditionRecord). same_number row.number (pos one.number) ≡ false) es
+        → AllByRecursion (λ (e : EditionRecord). entries_of e.number (installed_entries (Some one)) ≡ []) es
     fresh one [] h = tt
     fresh one (e ∷ es) h = (other_entries e.number one.number 0 one.reading.lines (turned e.number (pos one.number) h.0), fresh one es h.1)
 
@@ -150,7 +156,8 @@ parts_after gone ed t new = whole ed new
         (no_entries gone (pos one.number) t.entries (installed_entries (Some one)) h.1 ∙ own_entries one.number 0 one.reading.lines)
         ∙ ap (λ l. parts_under (pos one.number) (stored_index l) one.reading.text) (lines_back one.number 0 one.reading.lines)
 
-    whole : (o : Option Installed) → HasNewNumber o t → flat_map (those o) (filter (λ (r : EditionRecord). not (is_gone gone r.number)) t.editions ++ installed_editions o) ≡ filter (λ (p : Part). not (is_gone gone p.edition)) (all_parts t) ++ installed_parts o
+    whole : (o : Option Installed) → HasNewNumber o t → flat_map (those o) (filter (λ (r : EditionRecord). not (is_gone gone r.number)) t.editions ++ installed_editions o)
+        ≡ filter (λ (p : Part). not (is_gone gone p.edition)) (all_parts t) ++ installed_parts o
     whole None h =
         swapped (edition_parts t.entries) (those None) (λ (r : EditionRecord). not (is_gone gone r.number)) t.editions [] (each None t.editions (none t.editions))
         ∙ ap (λ l. l ++ []) filtered

@@ -25,12 +25,15 @@ before : (t : Tables) (number : ℤ) (es : List EntryRecord) → AllByRecursion 
     → flat_map (edition_parts (t.entries ++ es)) xs ≡ flat_map (edition_parts t.entries) xs
 before t number es of [] h = refl
 before t number es of (x ∷ xs) h =
-    let same : entries_of x.number (t.entries ++ es) ≡ entries_of x.number t.entries = filter-append (λ (row : EntryRecord). same_number row.edition x.number) t.entries es ∙ ap (λ l. entries_of x.number t.entries ++ l) (none_of x.number number h.0 es of) ∙ append-nil (entries_of x.number t.entries) in
+    let same : entries_of x.number (t.entries ++ es) ≡ entries_of x.number t.entries =
+    filter-append (λ (row : EntryRecord). same_number row.edition x.number) t.entries es ∙ ap (λ l. entries_of x.number t.entries ++ l) (none_of x.number number h.0 es of) ∙ append-nil (entries_of x.number t.entries) in
     (λ i. parts_under x.number (index_octets (same i)) x.body ++ before t number es of xs h.1 i)
 
-pub more : (t : Tables) (e : EditionRecord) (es : List EntryRecord) → HasNoneOf e.number t → AllByRecursion (λ (row : EntryRecord). row.edition ≡ e.number) es → all_parts (with_entries (with_edition t e) es) ≡ all_parts t ++ edition_parts es e
+pub more : (t : Tables) (e : EditionRecord) (es : List EntryRecord) → HasNoneOf e.number t → AllByRecursion (λ (row : EntryRecord). row.edition ≡ e.number) es → all_parts (with_entries (with_edition t e) es) ≡ all_parts t
+    ++ edition_parts es e
 more t e es none of =
-    let own : entries_of e.number (t.entries ++ es) ≡ entries_of e.number es = filter-append (λ (row : EntryRecord). same_number row.edition e.number) t.entries es ∙ ap (λ l. l ++ entries_of e.number es) (filter_none (λ (row : EntryRecord). same_number row.edition e.number) t.entries none.1) in
+    let own : entries_of e.number (t.entries ++ es) ≡ entries_of e.number es = filter-append (λ (row : EntryRecord). same_number row.edition e.number) t.entries es
+    ∙ ap (λ l. l ++ entries_of e.number es) (filter_none (λ (row : EntryRecord). same_number row.edition e.number) t.entries none.1) in
     flat_map-append (edition_parts (t.entries ++ es)) t.editions (e ∷ [])
     ∙ (λ i. before t e.number es of t.editions none.0 i ++ (parts_under e.number (index_octets (own i)) e.body ++ []))
     ∙ ap (λ l. all_parts t ++ l) (append-nil (edition_parts es e))

@@ -198,7 +198,8 @@ member_utf8 items lawful member e =
     any_holds (λ (item : Item Edition). is_named member item && is_regular item) IsLawfulItem (IsUtf8 member)
     (λ item named h. subst IsUtf8 (same_text (name_of item) member (and_parts (is_named member item) (is_regular item) named).0) (item_name item h)) items e lawful
 
-owned_rows : (all : List (Item Edition)) (members : List spec.Member) → AllByRecursion IsLawfulItem all → (item : Item Edition) → IsLawfulItem item → HoldsMembers members item × HasKnownMembers all item → AllByRecursion MemberRow (members_of_owner (name_of item) members)
+owned_rows : (all : List (Item Edition)) (members : List spec.Member) → AllByRecursion IsLawfulItem all → (item : Item Edition) → IsLawfulItem item → HoldsMembers members item × HasKnownMembers all item
+    → AllByRecursion MemberRow (members_of_owner (name_of item) members)
 owned_rows all members lawful item h held =
     subst (AllByRecursion MemberRow) (sym held.0)
     (all_numbered (member_record (name_of item)) (λ member. IsTrue (names_regular all member)) MemberRow
@@ -210,7 +211,8 @@ member_rows version tables M s =
     let lawful = s.well_formed.items in
     let owned : AllByRecursion (λ item. AllByRecursion MemberRow (members_of_owner (name_of item) members)) M.items =
     all_with IsLawfulItem (λ (item : Item Edition). HoldsMembers members item × HasKnownMembers M.items item) (λ item. AllByRecursion MemberRow (members_of_owner (name_of item) members))
-    (owned_rows M.items members lawful) M.items lawful (all_with (HoldsMembers members) (HasKnownMembers M.items) (λ (item : Item Edition). HoldsMembers members item × HasKnownMembers M.items item) (λ item a b. (a, b)) M.items s.members s.well_formed.members) in
+    (owned_rows M.items members lawful) M.items lawful (all_with (HoldsMembers members) (HasKnownMembers M.items) (λ (item : Item Edition). HoldsMembers members item × HasKnownMembers M.items item) (λ item a b. (a, b)) M.items
+    s.members s.well_formed.members) in
     each_in MemberRow members (λ row i.
     any_holds (is_named row.owner) (λ item. AllByRecursion MemberRow (members_of_owner (name_of item) members)) (MemberRow row)
     (λ (item : Item Edition) named all. in_all MemberRow row (members_of_owner (name_of item) members) all
@@ -276,7 +278,13 @@ entry_rows version tables M s = each_in EntryRow tables.entries (λ row i.
 -- an edition has few entries, and a number of no edition has none
 few_of : (version : ℕ) (tables : Tables) (M : Catalogue) → Stands version tables M → (number : ℤ) → (b : Bool) → has_number M.items number ≡ b → AreFew tables number
 few_of version tables M s number true known = (numbered_rows version tables M s number known).few
-few_of version tables M s number false unknown = record { edition = 0; lines = []; are = none_pass (λ (row : spec.EntryRecord). same_number row.edition number) tables.entries (each_in (λ (row : spec.EntryRecord). same_number row.edition number ≡ false) tables.entries other); few = omega arith }
+few_of version tables M s number false unknown =
+    record {
+      edition = 0;
+      lines = [];
+      are = none_pass (λ (row : spec.EntryRecord). same_number row.edition number) tables.entries (each_in (λ (row : spec.EntryRecord). same_number row.edition number ≡ false) tables.entries other);
+      few = omega arith;
+    }
   where
     other : (row : spec.EntryRecord) → IsIn row tables.entries → same_number row.edition number ≡ false
     other row i = split (same_number row.edition number) refl
@@ -290,8 +298,16 @@ few_of version tables M s number false unknown = record { edition = 0; lines = [
 -- ---- the kept replies
 
 one_reply : (kept : KeptFor) → IsLawfulReply kept → KeptRow (kept_record kept)
-one_reply kept h =
-    ((kept.id, refl, id_utf8 kept.id h.0), ((pos kept.reply.number, refl), ((verb_name kept.reply.verb, refl, verb_utf8 kept.reply.verb), ((kept.reply.name, refl, name_utf8 kept.reply.name h.1), (maybe_number (option_map pos kept.reply.edition), tt)))))
+one_reply kept h = (
+  (kept.id, refl, id_utf8 kept.id h.0),
+  (
+    (pos kept.reply.number, refl),
+    (
+      (verb_name kept.reply.verb, refl, verb_utf8 kept.reply.verb),
+      ((kept.reply.name, refl, name_utf8 kept.reply.name h.1), (maybe_number (option_map pos kept.reply.edition), tt)),
+    ),
+  ),
+)
 
 reply_rows : (version : ℕ) (tables : Tables) (M : Catalogue) → Stands version tables M → AllByRecursion KeptRow tables.kept
 reply_rows version tables M s = subst (AllByRecursion KeptRow) (sym s.kept) (all_map IsLawfulReply KeptRow kept_record one_reply M.kept s.well_formed.replies)
@@ -302,13 +318,15 @@ pub few_entries : (version : ℕ) (db : Database) (M : Catalogue) (h : Holds ver
 few_entries version db M h number = few_of version h.tables M h.stands number (has_number M.items number) refl
 
 -- rows of which some columns are looked at, the rowid among them
-looked_whole : (looked : Row → Row) → ((row : Row) → column (looked row) 0 ≡ column row 0) → (columns : List Content) (rows : List Row) → AllByRecursion (HasColumns columns) (map (λ row. drop 1 (looked row)) rows) → AllByRecursion (λ row. (n : ℤ) × (column row 0 ≡ Int n)) rows
+looked_whole : (looked : Row → Row) → ((row : Row) → column (looked row) 0 ≡ column row 0) → (columns : List Content) (rows : List Row) → AllByRecursion (HasColumns columns) (map (λ row. drop 1 (looked row)) rows)
+    → AllByRecursion (λ row. (n : ℤ) × (column row 0 ≡ Int n)) rows
     → AllByRecursion (λ row. HasColumns (Number ∷ columns) (looked row)) rows
 looked_whole looked first columns [] h ids = tt
 looked_whole looked first columns (row ∷ rows) h ids = (row_of columns (looked row) h.0 (ids.0.0, first row ∙ ids.0.1), looked_whole looked first columns rows h.1 ids.1)
 
 -- a table that keeps rows of these columns is readable
-kept_readable : (r : TableReading) (columns : List Content) → r.columns ≡ Number ∷ columns → ((row : Row) → column (r.looked row) 0 ≡ column row 0) → (db : Database) (all : AllTables) → KeepsRows r db all → AllByRecursion (HasColumns columns) (r.rows all) → IsReadable r db
+kept_readable : (r : TableReading) (columns : List Content) → r.columns ≡ Number ∷ columns → ((row : Row) → column (r.looked row) 0 ≡ column row 0) → (db : Database) (all : AllTables) → KeepsRows r db all
+    → AllByRecursion (HasColumns columns) (r.rows all) → IsReadable r db
 kept_readable r columns is first db all keeps h =
     subst (λ cs. AllByRecursion (λ row. HasColumns cs (r.looked row)) (rows_of (looks.table_name_of r) db)) (sym is)
     (looked_whole r.looked first columns (rows_of (looks.table_name_of r) db) (all_same (HasColumns columns) (r.rows all) (map (λ row. drop 1 (r.looked row)) (rows_of (looks.table_name_of r) db)) keeps.rows h) keeps.apart.integers)
@@ -347,7 +365,8 @@ module _ (version : ℕ) (db : Database) (tables : Tables) (M : Catalogue) (s : 
   editions_readable Keyed k = whole_readable k
   editions_readable Shown k = whole_readable k
   editions_readable Parted k =
-      kept_readable (looks.editions Parted) header_values refl (λ row. refl) db (with_derived tables) k (each_record EditionRow (λ e. header_row (spec.header_of e)) header_values header_cells tables.editions (edition_rows version tables M s))
+      kept_readable (looks.editions Parted) header_values refl (λ row. refl) db (with_derived tables) k
+      (each_record EditionRow (λ e. header_row (spec.header_of e)) header_values header_cells tables.editions (edition_rows version tables M s))
 
   contents_readable : (layout : Layout) → KeepsRows (looks.contents layout) db (with_derived tables) → IsReadable (looks.contents layout) db
   contents_readable Plain k = kept_readable (looks.contents Plain) entry_values refl (λ row. refl) db (with_derived tables) k (each_record EntryRow entry_row entry_values (λ e h. h.0) tables.entries (entry_rows version tables M s))

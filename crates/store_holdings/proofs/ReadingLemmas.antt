@@ -43,10 +43,19 @@ parts_kept db t k = record { rows = k.1.1.1.1.1.0.rows; apart = k.1.1.1.1.1.0.ap
 
 -- in it the entries are kept in parts alone
 pub same_kept : (db : Database) (t : AllTables) (es : List EntryRecord) → KeepsAll Parted db t → KeepsAll Parted db (record t { entries = es })
-same_kept db t es h =
-    (one looks.marks h.0 (λ u. u), (one looks.items h.1.0 (λ u. u), (one looks.members h.1.1.0 (λ u. u), (one looks.kept_replies h.1.1.1.0 (λ u. u), (one (looks.editions Parted) h.1.1.1.1.0 (λ u. u), (one (looks.contents Parted) h.1.1.1.1.1.0 (λ u. u), h.1.1.1.1.1.1))))))
+same_kept db t es h = (
+  one looks.marks h.0 (λ u. u),
+  (
+    one looks.items h.1.0 (λ u. u),
+    (
+      one looks.members h.1.1.0 (λ u. u),
+      (one looks.kept_replies h.1.1.1.0 (λ u. u), (one (looks.editions Parted) h.1.1.1.1.0 (λ u. u), (one (looks.contents Parted) h.1.1.1.1.1.0 (λ u. u), h.1.1.1.1.1.1))),
+    ),
+  ),
+)
   where
-    one : (r : TableReading) → KeepsRows r db t → (IsPermutation (r.rows t) (map (λ row. drop 1 (r.looked row)) (rows_of (looks.table_name_of r) db)) → IsPermutation (r.rows (record t { entries = es })) (map (λ row. drop 1 (r.looked row)) (rows_of (looks.table_name_of r) db))) → KeepsRows r db (record t { entries = es })
+    one : (r : TableReading) → KeepsRows r db t → (IsPermutation (r.rows t) (map (λ row. drop 1 (r.looked row)) (rows_of (looks.table_name_of r) db))
+        → IsPermutation (r.rows (record t { entries = es })) (map (λ row. drop 1 (r.looked row)) (rows_of (looks.table_name_of r) db))) → KeepsRows r db (record t { entries = es })
     one r k on = record { rows = on k.rows; apart = k.apart }
 
 -- ---- the editions of an older version

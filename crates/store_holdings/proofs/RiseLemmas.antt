@@ -50,7 +50,8 @@ of_passed test P [] h = tt
 of_passed test P (x ∷ xs) h = passed_step test P x xs (test x) refl (of_passed test P xs) h
 
 -- each element's group is in order, so two of one group are
-grouped : {X : Type 0} (near : X → X → Bool) (E R : X → X → Type 0) → ((a b : X) → E a b → near a b ≡ true) → ((a : X) → near a a ≡ true) → (xs : List X) → AllByRecursion (λ x. InOrder R (filter (near x) xs)) xs → InOrder (λ a b. E a b → R a b) xs
+grouped : {X : Type 0} (near : X → X → Bool) (E R : X → X → Type 0) → ((a b : X) → E a b → near a b ≡ true) → ((a : X) → near a a ≡ true) → (xs : List X) → AllByRecursion (λ x. InOrder R (filter (near x) xs)) xs
+    → InOrder (λ a b. E a b → R a b) xs
 grouped near E R joined itself [] h = tt
 grouped near E R joined itself (x ∷ xs) h =
     let first : InOrder R (x ∷ filter (near x) xs) = subst (λ b. InOrder R (cond b (x ∷ filter (near x) xs) (filter (near x) xs))) (itself x) h.0 in (
@@ -65,7 +66,8 @@ members_rise members item held =
     subst (InOrder (λ (a b : spec.Member). a.ord ≤ℤ b.ord)) (sym held)
     (order_weaker (λ (a b : spec.Member). Below a.ord b.ord) (λ (a b : spec.Member). a.ord ≤ℤ b.ord) (λ a b below. below.0) _ (numbered_rise (member_record (name_of item)) (λ (row : spec.Member). row.ord) (λ n x. refl) 0 (members_of item)))
 
-owner_rises : (members : List spec.Member) (items : List (Item Edition)) (owner : List ℕ) → AllByRecursion (HoldsMembers members) items → IsTrue (is_known items owner) → InOrder (λ (a b : spec.Member). a.ord ≤ℤ b.ord) (members_of_owner owner members)
+owner_rises : (members : List spec.Member) (items : List (Item Edition)) (owner : List ℕ) → AllByRecursion (HoldsMembers members) items → IsTrue (is_known items owner)
+    → InOrder (λ (a b : spec.Member). a.ord ≤ℤ b.ord) (members_of_owner owner members)
 owner_rises members items owner held known =
     any_holds (is_named owner) (HoldsMembers members) (InOrder (λ (a b : spec.Member). a.ord ≤ℤ b.ord) (members_of_owner owner members))
     (λ item named h. subst (λ name. InOrder (λ (a b : spec.Member). a.ord ≤ℤ b.ord) (members_of_owner name members)) (same_text (name_of item) owner named) (members_rise members item h)) items known held
@@ -73,15 +75,19 @@ owner_rises members items owner held known =
 entries_rise : (tables : Tables) (owner : List ℕ) (stored : Stored Edition) → HoldsEdition tables owner stored → InOrder (λ (a b : spec.EntryRecord). a.ord ≤ℤ b.ord) (entries_of (pos stored.number) tables.entries)
 entries_rise tables owner stored h =
     subst (InOrder (λ (a b : spec.EntryRecord). a.ord ≤ℤ b.ord)) (sym h.entries)
-    (order_weaker (λ (a b : spec.EntryRecord). Below a.ord b.ord) (λ (a b : spec.EntryRecord). a.ord ≤ℤ b.ord) (λ a b below. below.0) _ (numbered_rise (entry_record stored.number) (λ (row : spec.EntryRecord). row.ord) (λ n x. refl) 0 h.reading.lines))
+    (order_weaker (λ (a b : spec.EntryRecord). Below a.ord b.ord) (λ (a b : spec.EntryRecord). a.ord ≤ℤ b.ord) (λ a b below. below.0) _
+    (numbered_rise (entry_record stored.number) (λ (row : spec.EntryRecord). row.ord) (λ n x. refl) 0 h.reading.lines))
 
 item_entries : (tables : Tables) (item : Item Edition) → HoldsEditions tables item → AllByRecursion (λ number. InOrder (λ (a b : spec.EntryRecord). a.ord ≤ℤ b.ord) (entries_of (pos number) tables.entries)) (numbers_of item)
 item_entries tables item h =
-    all_map (HoldsEdition tables (name_of item)) (λ number. InOrder (λ (a b : spec.EntryRecord). a.ord ≤ℤ b.ord) (entries_of (pos number) tables.entries)) (λ (stored : Stored Edition). stored.number) (entries_rise tables (name_of item)) (editions_of item) h
+    all_map (HoldsEdition tables (name_of item)) (λ number. InOrder (λ (a b : spec.EntryRecord). a.ord ≤ℤ b.ord) (entries_of (pos number) tables.entries)) (λ (stored : Stored Edition). stored.number)
+    (entries_rise tables (name_of item)) (editions_of item) h
 
-number_rises : (tables : Tables) (items : List (Item Edition)) (number : ℤ) → AllByRecursion (HoldsEditions tables) items → IsTrue (has_number items number) → InOrder (λ (a b : spec.EntryRecord). a.ord ≤ℤ b.ord) (entries_of number tables.entries)
+number_rises : (tables : Tables) (items : List (Item Edition)) (number : ℤ) → AllByRecursion (HoldsEditions tables) items → IsTrue (has_number items number)
+    → InOrder (λ (a b : spec.EntryRecord). a.ord ≤ℤ b.ord) (entries_of number tables.entries)
 number_rises tables items number held known =
-    any_holds (λ (one : ℕ). same_number (pos one) number) (λ (one : ℕ). InOrder (λ (a b : spec.EntryRecord). a.ord ≤ℤ b.ord) (entries_of (pos one) tables.entries)) (InOrder (λ (a b : spec.EntryRecord). a.ord ≤ℤ b.ord) (entries_of number tables.entries))
+    any_holds (λ (one : ℕ). same_number (pos one) number) (λ (one : ℕ). InOrder (λ (a b : spec.EntryRecord). a.ord ≤ℤ b.ord) (entries_of (pos one) tables.entries))
+    (InOrder (λ (a b : spec.EntryRecord). a.ord ≤ℤ b.ord) (entries_of number tables.entries))
     (λ one same up. subst (λ n. InOrder (λ (a b : spec.EntryRecord). a.ord ≤ℤ b.ord) (entries_of n tables.entries)) (same_number_is (pos one) number same) up) (edition_numbers items) known
     (all_flat_map (λ one. InOrder (λ (a b : spec.EntryRecord). a.ord ≤ℤ b.ord) (entries_of (pos one) tables.entries)) numbers_of items
     (all_weaker (HoldsEditions tables) (λ item. AllByRecursion (λ one. InOrder (λ (a b : spec.EntryRecord). a.ord ≤ℤ b.ord) (entries_of (pos one) tables.entries)) (numbers_of item)) (item_entries tables) items held))
@@ -92,10 +98,12 @@ ordered version tables M s = record {
       (order_weaker (λ (a b : spec.ItemRecord). Below a.place b.place) (λ (a b : spec.ItemRecord). a.place ≤ℤ b.place) (λ a b below. below.0) _ (numbered_rise item_record (λ (row : spec.ItemRecord). row.place) item_placed 0 M.items));
   members = grouped (λ (a b : spec.Member). bytes_eq b.owner a.owner) (λ (a b : spec.Member). a.owner ≡ b.owner) (λ (a b : spec.Member). a.ord ≤ℤ b.ord)
       (λ a b same. subst (λ owner. bytes_eq owner a.owner ≡ true) same (text_itself a.owner)) (λ a. text_itself a.owner) tables.members
-      (all_weaker (λ (row : spec.Member). IsTrue (is_known M.items row.owner)) (λ row. InOrder (λ (a b : spec.Member). a.ord ≤ℤ b.ord) (members_of_owner row.owner tables.members)) (λ row known. owner_rises tables.members M.items row.owner s.members known) tables.members s.owners);
+      (all_weaker (λ (row : spec.Member). IsTrue (is_known M.items row.owner)) (λ row. InOrder (λ (a b : spec.Member). a.ord ≤ℤ b.ord) (members_of_owner row.owner tables.members))
+      (λ row known. owner_rises tables.members M.items row.owner s.members known) tables.members s.owners);
   entries = grouped (λ (a b : spec.EntryRecord). same_number b.edition a.edition) (λ (a b : spec.EntryRecord). a.edition ≡ b.edition) (λ (a b : spec.EntryRecord). a.ord ≤ℤ b.ord)
       (λ a b same. subst (λ number. same_number number a.edition ≡ true) same (same_itself a.edition)) (λ a. same_itself a.edition) tables.entries
-      (all_weaker (λ (row : spec.EntryRecord). IsTrue (has_number M.items row.edition)) (λ row. InOrder (λ (a b : spec.EntryRecord). a.ord ≤ℤ b.ord) (entries_of row.edition tables.entries)) (λ row known. number_rises tables M.items row.edition s.editions known) tables.entries s.entries);
+      (all_weaker (λ (row : spec.EntryRecord). IsTrue (has_number M.items row.edition)) (λ row. InOrder (λ (a b : spec.EntryRecord). a.ord ≤ℤ b.ord) (entries_of row.edition tables.entries))
+      (λ row known. number_rises tables M.items row.edition s.editions known) tables.entries s.entries);
   kept = subst (InOrder (λ (a b : spec.KeptRecord). a.number ≤ℤ b.number)) (sym s.kept)
       (order_weaker (λ (a b : spec.KeptRecord). Below a.number b.number) (λ (a b : spec.KeptRecord). a.number ≤ℤ b.number) (λ a b below. below.0) _ (kept_rise 1 M.kept s.well_formed.numbered));
 }

@@ -77,7 +77,8 @@ headers_of number [] = refl
 headers_of number (e ∷ es) = by (same_number e.number number) (headers_of number es)
   where
     by : (b : Bool) → filter (λ (h : HeaderRecord). same_number h.number number) (map header_of es) ≡ map header_of (editions_numbered number es)
-        → cond b (header_of e ∷ filter (λ (h : HeaderRecord). same_number h.number number) (map header_of es)) (filter (λ (h : HeaderRecord). same_number h.number number) (map header_of es)) ≡ map header_of (cond b (e ∷ editions_numbered number es) (editions_numbered number es))
+        → cond b (header_of e ∷ filter (λ (h : HeaderRecord). same_number h.number number) (map header_of es)) (filter (λ (h : HeaderRecord). same_number h.number number) (map header_of es))
+        ≡ map header_of (cond b (e ∷ editions_numbered number es) (editions_numbered number es))
     by true rest = ap (λ l. header_of e ∷ l) rest
     by false rest = rest
 

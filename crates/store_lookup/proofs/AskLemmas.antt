@@ -97,7 +97,8 @@ module _ {S : Type 0} (g : Ghosts S) where
   pub asks_none : (installs number : ℕ) (a : Held S) (x : List (PartNumbers × List ℕ)) → AsksForParts g installs number a a x x
   asks_none installs number a x = record { mode = λ none. none; survives = survives_itself (state g a); texts = λ clean other text are held. are; made = λ made. made }
 
-  pub asks_then : (installs number : ℕ) (a b c : Held S) (x y z : List (PartNumbers × List ℕ)) → AsksForParts g installs number a b x y → (HasCleanDisk (state g b) → IsAtMostRead g a b) → AsksForParts g installs number b c y z → AsksForParts g installs number a c x z
+  pub asks_then : (installs number : ℕ) (a b c : Held S) (x y z : List (PartNumbers × List ℕ)) → AsksForParts g installs number a b x y → (HasCleanDisk (state g b) → IsAtMostRead g a b) → AsksForParts g installs number b c y z
+      → AsksForParts g installs number a c x z
   asks_then installs number a b c x y z first same second = record {
     mode = λ none. second.mode (first.mode none);
     survives = survives_then (state g a) (state g b) (state g c) (λ _. ⊥) (λ _. ⊥) (λ _. ⊥) (λ _ db none. none) (λ _ db none. none) first.survives second.survives;

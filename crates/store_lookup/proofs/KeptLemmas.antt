@@ -39,7 +39,8 @@ module _ (P : PartNumbers × List ℕ → Type 0) where
       with_step (fitting most_kept_octets (put_first key text texts)) texts (leb (length text) most_kept_octets)
       (all_fitting most_kept_octets (put_first key text texts) (p, all_front (most_texts - 1) (remove_entry (same_key key) texts) (all_without key texts h))) h
 
-  found_step : (key : PartNumbers) (text : List ℕ) (kept : PartNumbers × List ℕ) (found : Option (List ℕ)) (b : Bool) → same_key key kept.0 ≡ b → cond b (Some kept.1) found ≡ Some text → P kept → (found ≡ Some text → P (key, text)) → P (key, text)
+  found_step : (key : PartNumbers) (text : List ℕ) (kept : PartNumbers × List ℕ) (found : Option (List ℕ)) (b : Bool) → same_key key kept.0 ≡ b → cond b (Some kept.1) found ≡ Some text → P kept → (found ≡ Some text → P (key, text))
+      → P (key, text)
   found_step key text kept found true is e p rest =
       let same : kept.1 ≡ text = cc in
       subst (λ (t : List ℕ). P (key, t)) same (subst (λ (k : PartNumbers). P (k, kept.1)) (sym (same_keys key kept.0 is)) p)

@@ -35,7 +35,8 @@ module _ {X : Type 0} where
 -- ---- a text that is taken out
 
 taken_step : (kept : PartNumbers × List ℕ) (texts : List (PartNumbers × List ℕ)) (key : PartNumbers) (text : List ℕ) (b : Bool) → cond b (Some kept.1) (lookup (same_key key) texts) ≡ Some text
-    → (lookup (same_key key) texts ≡ Some text → octets_of_texts texts ≡ length text + octets_of_texts (remove_entry (same_key key) texts)) → octets_of_texts (kept ∷ texts) ≡ length text + octets_of_texts (cond b texts (kept ∷ remove_entry (same_key key) texts))
+    → (lookup (same_key key) texts ≡ Some text → octets_of_texts texts ≡ length text + octets_of_texts (remove_entry (same_key key) texts)) → octets_of_texts (kept ∷ texts) ≡ length text
+    + octets_of_texts (cond b texts (kept ∷ remove_entry (same_key key) texts))
 taken_step kept texts key text true e rest =
     let same : kept.1 ≡ text = cc in
     let head = sum_by-cons (λ (k : PartNumbers × List ℕ). length k.1) kept texts in
@@ -57,7 +58,8 @@ octets_taken key text (kept ∷ texts) e = taken_step kept texts key text (same_
 abbrev fit_step : (kept : PartNumbers × List ℕ) (room : ℕ) → List (PartNumbers × List ℕ) → Bool → List (PartNumbers × List ℕ)
 fit_step kept room texts b = cond b (kept ∷ fitting (room - length kept.1) texts) []
 
-all_by : (kept : PartNumbers × List ℕ) (room : ℕ) (texts : List (PartNumbers × List ℕ)) (b : Bool) → leb (length kept.1) room ≡ b → length kept.1 ≤ room → fitting (room - length kept.1) texts ≡ texts → fit_step kept room texts b ≡ kept ∷ texts
+all_by : (kept : PartNumbers × List ℕ) (room : ℕ) (texts : List (PartNumbers × List ℕ)) (b : Bool) → leb (length kept.1) room ≡ b → length kept.1 ≤ room → fitting (room - length kept.1) texts ≡ texts → fit_step kept room texts b
+    ≡ kept ∷ texts
 all_by kept room texts true e fits rest = ap (λ l. kept ∷ l) rest
 all_by kept room texts false e fits rest = absurd (let yes = le-leb (length kept.1) room fits in cc)
 
@@ -68,7 +70,8 @@ all_fit room (kept ∷ texts) h =
     let whole = sum_by-cons (λ (k : PartNumbers × List ℕ). length k.1) kept texts in
     all_by kept room texts (leb (length kept.1) room) refl (omega (arith, whole, h)) (all_fit (room - length kept.1) texts (omega (arith, whole, h)))
 
-within_by : (kept : PartNumbers × List ℕ) (room : ℕ) (texts : List (PartNumbers × List ℕ)) (b : Bool) → leb (length kept.1) room ≡ b → octets_of_texts (fitting (room - length kept.1) texts) ≤ room - length kept.1 → octets_of_texts (fit_step kept room texts b) ≤ room
+within_by : (kept : PartNumbers × List ℕ) (room : ℕ) (texts : List (PartNumbers × List ℕ)) (b : Bool) → leb (length kept.1) room ≡ b → octets_of_texts (fitting (room - length kept.1) texts) ≤ room - length kept.1
+    → octets_of_texts (fit_step kept room texts b) ≤ room
 within_by kept room texts true e rest =
     let fits = leb-true (length kept.1) room e in
     let whole = sum_by-cons (λ (k : PartNumbers × List ℕ). length k.1) kept (fitting (room - length kept.1) texts) in
@@ -80,7 +83,8 @@ pub fitting_within : (room : ℕ) (texts : List (PartNumbers × List ℕ)) → o
 fitting_within room [] = omega arith
 fitting_within room (kept ∷ texts) = within_by kept room texts (leb (length kept.1) room) refl (fitting_within (room - length kept.1) texts)
 
-without_by : (kept : PartNumbers × List ℕ) (room : ℕ) (texts front : List (PartNumbers × List ℕ)) (b : Bool) → leb (length kept.1) room ≡ b → (length kept.1 ≤ room → fitting (room - length kept.1) front ≡ fitting (room - length kept.1) texts) → fit_step kept room front b ≡ fit_step kept room texts b
+without_by : (kept : PartNumbers × List ℕ) (room : ℕ) (texts front : List (PartNumbers × List ℕ)) (b : Bool) → leb (length kept.1) room ≡ b
+    → (length kept.1 ≤ room → fitting (room - length kept.1) front ≡ fitting (room - length kept.1) texts) → fit_step kept room front b ≡ fit_step kept room texts b
 without_by kept room texts front true e rest = ap (λ l. kept ∷ l) (rest (leb-true (length kept.1) room e))
 without_by kept room texts front false e rest = refl
 

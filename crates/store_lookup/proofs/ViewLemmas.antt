@@ -35,14 +35,16 @@ texts_without key [] = refl
 texts_without key (e ∷ entries) = without_test (same_key key e.0) e entries (remove_entry (same_key key) entries) (remove_entry (same_key key) (texts_of entries)) (texts_without key entries)
 
 -- a text that is taken out
-pub size_taken : (key : PartNumbers) (entries : Entries) (text : Vec ℕ Global) → Some text ≡ lookup (same_key key) entries → octets_of_texts (texts_of entries) ≡ length text.items + octets_of_texts (remove_entry (same_key key) (texts_of entries))
+pub size_taken : (key : PartNumbers) (entries : Entries) (text : Vec ℕ Global) → Some text ≡ lookup (same_key key) entries → octets_of_texts (texts_of entries) ≡ length text.items
+    + octets_of_texts (remove_entry (same_key key) (texts_of entries))
 size_taken key entries text found =
     octets_taken key text.items (texts_of entries) (sym (texts_looked key entries) ∙ ap (option_map (λ (t : Vec ℕ Global). t.items)) (sym found))
 
 -- ---- what is put
 
 -- what is removed was there
-shorter_step : (kept : PartNumbers × List ℕ) (texts rest : List (PartNumbers × List ℕ)) (text : List ℕ) (found : Option (List ℕ)) (b : Bool) → cond b (Some kept.1) found ≡ Some text → (found ≡ Some text → length rest + 1 ≡ length texts) → length (cond b texts (kept ∷ rest)) + 1 ≡ length (kept ∷ texts)
+shorter_step : (kept : PartNumbers × List ℕ) (texts rest : List (PartNumbers × List ℕ)) (text : List ℕ) (found : Option (List ℕ)) (b : Bool) → cond b (Some kept.1) found ≡ Some text
+    → (found ≡ Some text → length rest + 1 ≡ length texts) → length (cond b texts (kept ∷ rest)) + 1 ≡ length (kept ∷ texts)
 shorter_step kept texts rest text found true e h = omega arith
 shorter_step kept texts rest text found false e h = let less = h e in omega (arith, less)
 
@@ -59,7 +61,8 @@ same_without key [] e = refl
 same_without key (kept ∷ texts) e = same_step kept texts (remove_entry (same_key key) texts) (lookup (same_key key) texts) (same_key key kept.0) e (same_without key texts)
 
 -- the entry that is found has the key, and its text
-found_step : (key : PartNumbers) (f e : PartNumbers × Vec ℕ Global) (o : Option (PartNumbers × Vec ℕ Global)) (t : Option (List ℕ)) (b : Bool) → same_key key f.0 ≡ b → cond b (Some f) o ≡ Some e → (o ≡ Some e → (e.0 ≡ key) × (t ≡ Some e.1.items)) → (e.0 ≡ key) × (cond b (Some f.1.items) t ≡ Some e.1.items)
+found_step : (key : PartNumbers) (f e : PartNumbers × Vec ℕ Global) (o : Option (PartNumbers × Vec ℕ Global)) (t : Option (List ℕ)) (b : Bool) → same_key key f.0 ≡ b → cond b (Some f) o ≡ Some e
+    → (o ≡ Some e → (e.0 ≡ key) × (t ≡ Some e.1.items)) → (e.0 ≡ key) × (cond b (Some f.1.items) t ≡ Some e.1.items)
 found_step key f e o t true is h rest = let same : f ≡ e = cc in (ap (λ (p : PartNumbers × Vec ℕ Global). p.0) (sym same) ∙ sym (same_keys key f.0 is), ap (λ (p : PartNumbers × Vec ℕ Global). Some p.1.items) same)
 found_step key f e o t false is h rest = rest h
 
@@ -121,12 +124,14 @@ module _ (cache : LruCache PartNumbers (Vec ℕ Global)) (key : PartNumbers) (te
 
   size_new : lookup (same_key key) texts ≡ None → (o : Option (PartNumbers × Vec ℕ Global)) → slice_get cache.entries (cache.cap - 1) ≡ o → HasSize o
   size_new none None e =
-      let at : slice_get texts (most_texts - 1) ≡ None = ap (λ (k : ℕ). slice_get texts (k - 1)) (sym cap) ∙ slice_get-map (λ (e : PartNumbers × Vec ℕ Global). (e.0, e.1.items)) cache.entries (cache.cap - 1) ∙ ap (option_map (λ (e : PartNumbers × Vec ℕ Global). (e.0, e.1.items))) e in
+      let at : slice_get texts (most_texts - 1) ≡ None = ap (λ (k : ℕ). slice_get texts (k - 1)) (sym cap) ∙ slice_get-map (λ (e : PartNumbers × Vec ℕ Global). (e.0, e.1.items)) cache.entries (cache.cap - 1)
+      ∙ ap (option_map (λ (e : PartNumbers × Vec ℕ Global). (e.0, e.1.items))) e in
       let rest = ap octets_of_texts (ap (take (most_texts - 1)) (same_without key texts none) ∙ cut_none (most_texts - 1) texts at) in
       let put = sum_by-cons (λ (k : PartNumbers × List ℕ). length k.1) (key, text.items) (take (most_texts - 1) (remove_entry (same_key key) texts)) in
       omega (arith, rest, put)
   size_new none (Some f) e =
-      let at : slice_get texts (most_texts - 1) ≡ Some (f.0, f.1.items) = ap (λ (k : ℕ). slice_get texts (k - 1)) (sym cap) ∙ slice_get-map (λ (e : PartNumbers × Vec ℕ Global). (e.0, e.1.items)) cache.entries (cache.cap - 1) ∙ ap (option_map (λ (e : PartNumbers × Vec ℕ Global). (e.0, e.1.items))) e in
+      let at : slice_get texts (most_texts - 1) ≡ Some (f.0, f.1.items) = ap (λ (k : ℕ). slice_get texts (k - 1)) (sym cap) ∙ slice_get-map (λ (e : PartNumbers × Vec ℕ Global). (e.0, e.1.items)) cache.entries (cache.cap - 1)
+      ∙ ap (option_map (λ (e : PartNumbers × Vec ℕ Global). (e.0, e.1.items))) e in
       let few : length texts ≤ suc (most_texts - 1) = few_texts in
       let whole = cut_some (λ (k : PartNumbers × List ℕ). length k.1) (most_texts - 1) texts (f.0, f.1.items) few at in
       let rest = ap octets_of_texts (ap (take (most_texts - 1)) (same_without key texts none)) in

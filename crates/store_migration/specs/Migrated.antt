@@ -15,7 +15,8 @@ use Rattle.store_holdings.specs.Holds.{Holds, HasLayout, IsLeftAs}
 -- of their files. (Of records that stand for none nothing is said: entries of no edition aren't carried over.)
 pub record IsMigrated (version : ℕ) (old new : Database) : Type 0 where
   pub own : HasLayout (layout_of known) new.schema
-  pub keeps : (tables : Tables) (M : Catalogue) → KeepsAll (layout_of version) old (with_derived tables) → AreShownIn (layout_of version) tables.entries → Stands version tables M → KeepsAll (layout_of known) new (with_derived (as_version known tables))
+  pub keeps : (tables : Tables) (M : Catalogue) → KeepsAll (layout_of version) old (with_derived tables) → AreShownIn (layout_of version) tables.entries → Stands version tables M
+      → KeepsAll (layout_of known) new (with_derived (as_version known tables))
 
 -- the database holds the catalogue under a version before the known one
 pub record HoldsOlder (db : Database) (M : Catalogue) : Type 0 where

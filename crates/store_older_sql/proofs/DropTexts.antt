@@ -63,7 +63,8 @@ drops_table keyed.Entry old new count = drops (keyed_drop_text keyed.Entry) read
 drops_table keyed.Word old new count = drops (keyed_drop_text keyed.Word) read_word word reads_word old new count
 drops_table keyed.Gram old new count = drops (keyed_drop_text keyed.Gram) read_gram gram reads_gram old new count
 
-pub drop_fails_in : (t : KeyedTable) (old new : State) (e : Error) → Has (keyed_table_of t) old.now → ExecutesInside 0 (keyed_drop_text t) [] old new (Err e) → (RefusesToDrop (keyed_table_of t 0).name old e × IsUnchanged old new) ⊎ Fails old new ⊥ e
+pub drop_fails_in : (t : KeyedTable) (old new : State) (e : Error) → Has (keyed_table_of t) old.now → ExecutesInside 0 (keyed_drop_text t) [] old new (Err e) → (RefusesToDrop (keyed_table_of t 0).name old e × IsUnchanged old new)
+    ⊎ Fails old new ⊥ e
 drop_fails_in keyed.Entry old new e has = fails (keyed_drop_text keyed.Entry) read_entry entry_with_keys reads_entry whole_entry.0 whole_entry.1 old new has.0 has.1 has.2 e
 drop_fails_in keyed.Word old new e has = fails (keyed_drop_text keyed.Word) read_word word reads_word whole_word.0 whole_word.1 old new has.0 has.1 has.2 e
 drop_fails_in keyed.Gram old new e has = fails (keyed_drop_text keyed.Gram) read_gram gram reads_gram whole_gram.0 whole_gram.1 old new has.0 has.1 has.2 e

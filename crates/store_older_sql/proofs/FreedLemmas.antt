@@ -72,7 +72,8 @@ module _ (db : Database) (whole : IsDatabase db) (table : ℕ → Table) (define
     by_table : same_name it.name name ≡ true → Ends
     by_table hit =
         or_from _ _ (or_from _ _
-        (gone_any (λ (t : Table). same_name t.name name) stays db.schema.tables (λ t h same. gone_is _ (is_equal t.tree it.tree (ap (λ (u : Table). u.tree) (named_once db.schema.tables t it (listed db whole).named h has_it (same_through t.name it.name name same hit))))))
+        (gone_any (λ (t : Table). same_name t.name name) stays db.schema.tables (λ t h same.
+        gone_is _ (is_equal t.tree it.tree (ap (λ (u : Table). u.tree) (named_once db.schema.tables t it (listed db whole).named h has_it (same_through t.name it.name name same hit))))))
         (gone_any (λ (i : Index). same_name i.name name) stays_over db.schema.indexes (λ i h same. absurd (let e = same_through it.name i.name name hit same in let both : true ≡ false = sym e ∙ table_index db whole it i has_it h in cc))))
         (none_any (λ (w : Stored). same_name w.name name) db.schema.views (λ w h. other_through it.name w.name name hit (table_view db whole it w has_it h)))
 
@@ -99,7 +100,8 @@ module _ (db : Database) (whole : IsDatabase db) (table : ℕ → Table) (define
     same other =
         let p = or_parts _ _ (sym (own_is name) ∙ other) in
         let t = kept_any (λ (t : Table). same_name t.name name) stays db.schema.tables (λ t h gone. ap (λ (u : Table). same_name u.name name) (only_it t h (not_false _ gone)) ∙ p.0) in
-        let i = kept_any (λ (i : Index). same_name i.name name) stays_over db.schema.indexes (λ i h gone. any_none (λ (j : Index). same_name j.name name) (filter over db.schema.indexes) i p.1 (has_kept over db.schema.indexes i h (not_false _ gone))) in
+        let i = kept_any (λ (i : Index). same_name i.name name) stays_over db.schema.indexes
+        (λ i h gone. any_none (λ (j : Index). same_name j.name name) (filter over db.schema.indexes) i p.1 (has_kept over db.schema.indexes i h (not_false _ gone))) in
         rw (t, i) refl
 
     pub left_used : is_used left name ≡ (is_used db.schema name && not (is_own_name db.schema it name))
@@ -134,7 +136,11 @@ module _ (db : Database) (whole : IsDatabase db) (table : ℕ → Table) (define
       )
 
   all_names : AllByRecursion (λ n. (name : List ℕ) → same_name n name ≡ true → is_own_name db.schema it name ≡ true) (names_of (table 0))
-  all_names = (mine_itself, mapped (automatics (table 0) 0 0 (table 0).uniques) (mine_keys (table 0).uniques 0 0 (λ k key is. subst (λ (l : List (List ℕ)). slice_get l (0 + k) ≡ Some key) (sym uniques_are) (subst (λ n. slice_get (table 0).uniques n ≡ Some key) (omega arith) is))))
+  all_names = (
+    mine_itself,
+    mapped (automatics (table 0) 0 0 (table 0).uniques)
+        (mine_keys (table 0).uniques 0 0 (λ k key is. subst (λ (l : List (List ℕ)). slice_get l (0 + k) ≡ Some key) (sym uniques_are) (subst (λ n. slice_get (table 0).uniques n ≡ Some key) (omega arith) is))),
+  )
     where
       mapped : (is : List Index) → AllByRecursion (λ (i : Index). (name : List ℕ) → same_name i.name name ≡ true → is_own_name db.schema it name ≡ true) is
           → AllByRecursion (λ n. (name : List ℕ) → same_name n name ≡ true → is_own_name db.schema it name ≡ true) (map (λ (i : Index). i.name) is)

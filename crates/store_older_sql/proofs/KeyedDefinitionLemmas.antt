@@ -29,7 +29,8 @@ keyed_apart Gram Entry other = refl
 keyed_apart Gram Word other = refl
 keyed_apart Gram Gram other = absurd (other refl)
 
-pub from_store : (t : KeyedTable) (o : StoreTable) → same_name (keyed_table_of t 0).name (store.table_of o 0).name ≡ false → (are_named_apart (keyed_table_of t 0) (store.table_of o 0) ≡ true) × (are_named_apart (store.table_of o 0) (keyed_table_of t 0) ≡ true)
+pub from_store : (t : KeyedTable) (o : StoreTable) → same_name (keyed_table_of t 0).name (store.table_of o 0).name ≡ false → (are_named_apart (keyed_table_of t 0) (store.table_of o 0) ≡ true)
+    × (are_named_apart (store.table_of o 0) (keyed_table_of t 0) ≡ true)
 unfolding same_name
 from_store Entry made.Mark other = (refl, refl)
 from_store Entry made.Item other = (refl, refl)

@@ -64,7 +64,8 @@ unfoldable pub read_of_word : Parsed
 unfolding everything
 read_of_word = parsed_or (first (keyed_select_text keyed.Word))
 
-pub reads_of_word : ReadsTable (keyed_select_text keyed.Word) read_of_word word (Some (equals_expr (codes "edition"))) test_edition 99996 (sort_by (codes "3") ∷ sort_by (codes "4") ∷ []) (key_at 2 ∷ key_at 3 ∷ []) (2 ∷ 3 ∷ []) 99992 of_column
+pub reads_of_word : ReadsTable (keyed_select_text keyed.Word) read_of_word word (Some (equals_expr (codes "edition"))) test_edition 99996 (sort_by (codes "3") ∷ sort_by (codes "4") ∷ []) (key_at 2 ∷ key_at 3 ∷ []) (2 ∷ 3 ∷ [])
+    99992 of_column
 unfolding everything read_of_word rowid_expr rowid_shown all_shown source_of core_of select_of sort_by column_expr parameter_expr equals_expr
 reads_of_word = record {
   read = refl;
@@ -93,7 +94,8 @@ unfoldable pub read_of_gram : Parsed
 unfolding everything
 read_of_gram = parsed_or (first (keyed_select_text keyed.Gram))
 
-pub reads_of_gram : ReadsTable (keyed_select_text keyed.Gram) read_of_gram gram (Some (equals_expr (codes "edition"))) test_edition 99996 (sort_by (codes "3") ∷ sort_by (codes "4") ∷ []) (key_at 2 ∷ key_at 3 ∷ []) (2 ∷ 3 ∷ []) 99992 of_column
+pub reads_of_gram : ReadsTable (keyed_select_text keyed.Gram) read_of_gram gram (Some (equals_expr (codes "edition"))) test_edition 99996 (sort_by (codes "3") ∷ sort_by (codes "4") ∷ []) (key_at 2 ∷ key_at 3 ∷ []) (2 ∷ 3 ∷ [])
+    99992 of_column
 unfolding everything read_of_gram rowid_expr rowid_shown all_shown source_of core_of select_of sort_by column_expr parameter_expr equals_expr
 reads_of_gram = record {
   read = refl;

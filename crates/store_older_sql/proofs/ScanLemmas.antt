@@ -37,14 +37,22 @@ use Rattle.store_older_sql.proofs.ReadTexts.{read_of_entry, reads_of_entry, take
 use Rattle.store_older_sql.proofs.RowidTexts.{read_entry_by_rowid, reads_entry_by_rowid, takes_entry_by_rowid, read_word_by_rowid, reads_word_by_rowid, takes_word_by_rowid, read_gram_by_rowid, reads_gram_by_rowid, takes_gram_by_rowid}
 
 shows : (what : OlderScan) (old new : State) (rows : List Row) → HasScanTables what old.now → Shown (older_scan_text what) (older_scan_values what) old new rows → AreAllOlder what old.now rows
-shows (ByRowid keyed.Entry) old new rows has h = (shown_selects (keyed_rowid_text keyed.Entry) read_entry_by_rowid entry_with_keys _ _ _ _ _ _ _ _ reads_entry_by_rowid (λ tree. refl) [] (older_scan_test (ByRowid keyed.Entry)) (λ tree row. refl) old new rows has h).0
+shows (ByRowid keyed.Entry) old new rows has h =
+    (shown_selects (keyed_rowid_text keyed.Entry) read_entry_by_rowid entry_with_keys _ _ _ _ _ _ _ _ reads_entry_by_rowid (λ tree. refl) [] (older_scan_test (ByRowid keyed.Entry)) (λ tree row. refl) old new rows has h).0
 shows OldByRowid old new rows has h = (shown_selects (keyed_rowid_text keyed.Entry) read_old_by_rowid old_entry _ _ _ _ _ _ _ _ reads_old_by_rowid (λ tree. refl) [] (older_scan_test OldByRowid) (λ tree row. refl) old new rows has h).0
-shows (Of keyed.Entry n) old new rows has h = (shown_selects (keyed_select_text keyed.Entry) read_of_entry entry_with_keys _ _ _ _ _ _ _ _ reads_of_entry (λ tree. refl) (Int n ∷ []) (older_scan_test (Of keyed.Entry n)) (λ tree row. is_of_entry tree n row) old new rows has h).0
-shows (OldOf n) old new rows has h = (shown_selects (keyed_select_text keyed.Entry) read_old_of old_entry _ _ _ _ _ _ _ _ reads_old_of (λ tree. refl) (Int n ∷ []) (older_scan_test (OldOf n)) (λ tree row. is_old_of tree n row) old new rows has h).0
-shows (ByRowid keyed.Word) old new rows has h = (shown_selects (keyed_rowid_text keyed.Word) read_word_by_rowid word _ _ _ _ _ _ _ _ reads_word_by_rowid (λ tree. refl) [] (older_scan_test (ByRowid keyed.Word)) (λ tree row. refl) old new rows has h).0
-shows (Of keyed.Word n) old new rows has h = (shown_selects (keyed_select_text keyed.Word) read_of_word word _ _ _ _ _ _ _ _ reads_of_word (λ tree. refl) (Int n ∷ []) (older_scan_test (Of keyed.Word n)) (λ tree row. is_of_word tree n row) old new rows has h).0
-shows (ByRowid keyed.Gram) old new rows has h = (shown_selects (keyed_rowid_text keyed.Gram) read_gram_by_rowid gram _ _ _ _ _ _ _ _ reads_gram_by_rowid (λ tree. refl) [] (older_scan_test (ByRowid keyed.Gram)) (λ tree row. refl) old new rows has h).0
-shows (Of keyed.Gram n) old new rows has h = (shown_selects (keyed_select_text keyed.Gram) read_of_gram gram _ _ _ _ _ _ _ _ reads_of_gram (λ tree. refl) (Int n ∷ []) (older_scan_test (Of keyed.Gram n)) (λ tree row. is_of_gram tree n row) old new rows has h).0
+shows (Of keyed.Entry n) old new rows has h =
+    (shown_selects (keyed_select_text keyed.Entry) read_of_entry entry_with_keys _ _ _ _ _ _ _ _ reads_of_entry (λ tree. refl) (Int n ∷ []) (older_scan_test (Of keyed.Entry n)) (λ tree row. is_of_entry tree n row) old new rows has
+    h).0
+shows (OldOf n) old new rows has h =
+    (shown_selects (keyed_select_text keyed.Entry) read_old_of old_entry _ _ _ _ _ _ _ _ reads_old_of (λ tree. refl) (Int n ∷ []) (older_scan_test (OldOf n)) (λ tree row. is_old_of tree n row) old new rows has h).0
+shows (ByRowid keyed.Word) old new rows has h =
+    (shown_selects (keyed_rowid_text keyed.Word) read_word_by_rowid word _ _ _ _ _ _ _ _ reads_word_by_rowid (λ tree. refl) [] (older_scan_test (ByRowid keyed.Word)) (λ tree row. refl) old new rows has h).0
+shows (Of keyed.Word n) old new rows has h =
+    (shown_selects (keyed_select_text keyed.Word) read_of_word word _ _ _ _ _ _ _ _ reads_of_word (λ tree. refl) (Int n ∷ []) (older_scan_test (Of keyed.Word n)) (λ tree row. is_of_word tree n row) old new rows has h).0
+shows (ByRowid keyed.Gram) old new rows has h =
+    (shown_selects (keyed_rowid_text keyed.Gram) read_gram_by_rowid gram _ _ _ _ _ _ _ _ reads_gram_by_rowid (λ tree. refl) [] (older_scan_test (ByRowid keyed.Gram)) (λ tree row. refl) old new rows has h).0
+shows (Of keyed.Gram n) old new rows has h =
+    (shown_selects (keyed_select_text keyed.Gram) read_of_gram gram _ _ _ _ _ _ _ _ reads_of_gram (λ tree. refl) (Int n ∷ []) (older_scan_test (Of keyed.Gram n)) (λ tree row. is_of_gram tree n row) old new rows has h).0
 
 plainly : (what : OlderScan) (db : Database) → HasScanTables what db → IsPlain (understood db.schema (older_scan_text what))
 plainly (ByRowid keyed.Entry) db has = reads_plain (keyed_rowid_text keyed.Entry) read_entry_by_rowid entry_with_keys _ _ _ _ _ _ _ _ reads_entry_by_rowid db.schema has.0 has.1 has.2
@@ -110,10 +118,12 @@ module _ {S : Type 0} (g : Ghosts S) (what : OlderScan) where
   has_later old new same = tables_stay what (state g old).now (state g new).now (ap (λ (d : Database). d.schema) same.0.now_is)
 
   -- what was given so far is a front of the whole
-  front : (old new : Held S) (given : List Row) → IsUnchanged (state g old) (state g new) → HasScanTables what (state g new).now → kit.HasGiven g (older_scan_text what) (older_scan_values what) new given → IsFrontOfOlder what (state g new).now given
+  front : (old new : Held S) (given : List Row) → IsUnchanged (state g old) (state g new) → HasScanTables what (state g new).now → kit.HasGiven g (older_scan_text what) (older_scan_values what) new given
+      → IsFrontOfOlder what (state g new).now given
   front old new given same has runs =
       let s = state g new in
-      let all = begins_shown (older_scan_text what) (older_scan_values what) s s given (given_begin g (older_scan_text what) (older_scan_values what) new given runs) (still (state g old) s same) (λ c db it source. ends what s.now has c it.is db (timed (older_scan_values what) c.formats it.now)) in
+      let all = begins_shown (older_scan_text what) (older_scan_values what) s s given (given_begin g (older_scan_text what) (older_scan_values what) new given runs) (still (state g old) s same)
+      (λ c db it source. ends what s.now has c it.is db (timed (older_scan_values what) c.formats it.now)) in
       (all.0, shows what s s (given ++ all.0) has all.1)
 
   begun : (old new : Held S) → HasScanTables what (state g old).now → kit.HasBegun g (older_scan_text what) (older_scan_values what) old new → HasGivenOlder g what new [] × IsUnchanged (state g old) (state g new)
@@ -142,11 +152,13 @@ module _ {S : Type 0} (g : Ghosts S) (what : OlderScan) (old : Held S) (has : Wh
   began_open new (inr h) = absurd (none_returned what old.schema h.0)
 
   pub begins : {X : Type 0} (result : Result X Error) (held : X → Held S) → IfOk result (λ x. Survives (state g old) (state g (held x)) (CommitsShowing (older_scan_text what) (older_scan_values what) (state g old)))
-      → IfOk result (λ x. HasCleanDisk (state g (held x)) → kit.HasBegun g (older_scan_text what) (older_scan_values what) old (held x)) → IfOk result (λ x. HasCleanDisk (state g (held x)) → HasGivenOlder g what (held x) [] × IsUnchanged (state g old) (state g (held x)))
+      → IfOk result (λ x. HasCleanDisk (state g (held x)) → kit.HasBegun g (older_scan_text what) (older_scan_values what) old (held x))
+      → IfOk result (λ x. HasCleanDisk (state g (held x)) → HasGivenOlder g what (held x) [] × IsUnchanged (state g old) (state g (held x)))
   begins (Err e) held s h = tt
   begins (Ok x) held s h = λ clean. begun g what old (held x) (has (omega (arith, s.clean, clean)) (began_open (held x) (h clean))) (h clean)
 
-  pub begins_alone : {X : Type 0} (result : Result X Error) (held : X → Held S) → IfOk result (λ x. Survives (state g old) (state g (held x)) (CommitsShowing (older_scan_text what) (older_scan_values what) (state g old))) → IfOk result (λ x. Survives (state g old) (state g (held x)) (λ _. ⊥))
+  pub begins_alone : {X : Type 0} (result : Result X Error) (held : X → Held S) → IfOk result (λ x. Survives (state g old) (state g (held x)) (CommitsShowing (older_scan_text what) (older_scan_values what) (state g old)))
+      → IfOk result (λ x. Survives (state g old) (state g (held x)) (λ _. ⊥))
   begins_alone (Err e) held s = tt
   begins_alone (Ok x) held s = commits_nothing what (state g old) (state g (held x)) s
 

@@ -72,11 +72,13 @@ module _ (version : ℕ) (db : Database) (reader : Reader) (front taken : Tables
 
   editions_all : HasRows db taken (editions layout)
   editions_all =
-      subst (λ rows. IsPermutation ((editions layout).rows (with_derived taken)) (map (λ row. drop 1 ((editions layout).looked row)) rows)) (filter_whole (one_of numbers) (rows_of (table_name_of (editions layout)) db) all.editions.known) named.editions_are
+      subst (λ rows. IsPermutation ((editions layout).rows (with_derived taken)) (map (λ row. drop 1 ((editions layout).looked row)) rows))
+      (filter_whole (one_of numbers) (rows_of (table_name_of (editions layout)) db) all.editions.known) named.editions_are
 
   contents_all : HasRows db taken (contents layout)
   contents_all =
-      subst (λ rows. IsPermutation ((contents layout).rows (with_derived taken)) (map (λ row. drop 1 ((contents layout).looked row)) rows)) (filter_whole (is_of_contents layout numbers) (rows_of (table_name_of (contents layout)) db) all.contents.known) named.contents_are
+      subst (λ rows. IsPermutation ((contents layout).rows (with_derived taken)) (map (λ row. drop 1 ((contents layout).looked row)) rows))
+      (filter_whole (is_of_contents layout numbers) (rows_of (table_name_of (contents layout)) db) all.contents.known) named.contents_are
 
   module _ (begun : HasBegun version db front) (after : Tables) (replies : HasReplies db taken after) where
     none_yet : taken.kept ≡ []
@@ -124,7 +126,8 @@ module _ (version : ℕ) (db : Database) (reader : Reader) (front taken : Tables
 
 records_back : {R W : Type 0} (k : Codec R W) (name : List ℕ) (db : Database) (ws vs : List W) → Keeps name k.encode db ws → IsPermutation (map k.encode vs) (map (drop 1) (rows_of name db)) → IsPermutation ws vs
 records_back k name db ws vs keeps rows =
-    subst (λ xs. IsPermutation xs vs) (back ws) (subst (IsPermutation (map k.decode (map k.encode ws))) (back vs) (IsPermutation-map k.decode _ _ (IsPermutation-trans (map k.encode ws) (map (drop 1) (rows_of name db)) (map k.encode vs) keeps.rows (IsPermutation-sym _ _ rows))))
+    subst (λ xs. IsPermutation xs vs) (back ws) (subst (IsPermutation (map k.decode (map k.encode ws))) (back vs)
+    (IsPermutation-map k.decode _ _ (IsPermutation-trans (map k.encode ws) (map (drop 1) (rows_of name db)) (map k.encode vs) keeps.rows (IsPermutation-sym _ _ rows))))
   where
     back : (ws : List _) → map k.decode (map k.encode ws) ≡ ws
     back [] = refl
@@ -193,7 +196,8 @@ record AreSame (T after : Tables) : Type 0 where
   entries : (n : ℤ) → entries_of n T.entries ≡ entries_of n after.entries
 
 module _ (version : ℕ) (db : Database) (T after : Tables) (M : Catalogue) (s : Stands version T M) (goes : GoesOnFrom after T) where
-  table_same : (layout : Layout) → HasEntryTable layout → KeptAs layout db T → AreShownIn layout after.entries → Keeps (codes "edition") edition_codec.encode db T.editions → IsPermutation (map edition_codec.encode after.editions) (map (drop 1) (rows_of (codes "edition") db))
+  table_same : (layout : Layout) → HasEntryTable layout → KeptAs layout db T → AreShownIn layout after.entries → Keeps (codes "edition") edition_codec.encode db T.editions
+      → IsPermutation (map edition_codec.encode after.editions) (map (drop 1) (rows_of (codes "edition") db))
       → IsPermutation (map (entry_cells layout) after.entries) (map (looked_behind_rowid layout) (rows_of (codes "entry") db)) → AreSame T after
   table_same layout has k shown keeps rows cells =
       let editions = records_back edition_codec (codes "edition") db T.editions after.editions keeps rows in
@@ -210,7 +214,8 @@ module _ (version : ℕ) (db : Database) (T after : Tables) (M : Catalogue) (s :
       mine = let kept = headers_kept db T k.keeps in record { rows = subst (λ l. IsPermutation l (map (drop 1) (rows_of (codes "edition") db))) (sym (map_twice header_of header_row T.editions)) kept.rows; apart = kept.apart }
 
       headers : IsPermutation (map header_of T.editions) (map header_of after.editions)
-      headers = records_back header_codec (codes "edition") db (map header_of T.editions) (map header_of after.editions) mine (subst (λ l. IsPermutation l (map (drop 1) (rows_of (codes "edition") db))) (sym (map_twice header_of header_row after.editions)) rows)
+      headers = records_back header_codec (codes "edition") db (map header_of T.editions) (map header_of after.editions) mine
+          (subst (λ l. IsPermutation l (map (drop 1) (rows_of (codes "edition") db))) (sym (map_twice header_of header_row after.editions)) rows)
 
       one : (n : ℤ) → editions_numbered n T.editions ≡ editions_numbered n after.editions
       one n =
@@ -238,7 +243,8 @@ module _ (version : ℕ) (db : Database) (T after : Tables) (M : Catalogue) (s :
           let found = find version T M n s known in
           let index : HasFile db n (pos 0) (index_octets (entries_of n after.entries)) = has_index db after parts n (its_record db T M.items n found) (sym (one n) ∙ only db T M.items n found) found.is in
           let told = index_told db T M.items n found k.keeps (index_octets (entries_of n after.entries)) index in
-          let own : index_octets (entries_of n T.entries) ≡ stored_index found.holds.reading.lines = subst (λ m. index_octets (entries_of m T.entries) ≡ stored_index found.holds.reading.lines) found.is (index_is T found.stored.number found.holds.reading.lines found.holds.entries) in
+          let own : index_octets (entries_of n T.entries) ≡ stored_index found.holds.reading.lines =
+          subst (λ m. index_octets (entries_of m T.entries) ≡ stored_index found.holds.reading.lines) found.is (index_is T found.stored.number found.holds.reading.lines found.holds.entries) in
           same_index (entries_of n T.entries) (entries_of n after.entries) (goes.entries n) (own ∙ sym told)
       each n false absent =
           let none = unknown n absent T.entries s.entries in
@@ -264,7 +270,8 @@ module _ (version : ℕ) (db : Database) (after : Tables) (keeps : HasAllRows ve
         members = subst (λ ms. AllByRecursion (HoldsMembers ms) M.items) goes.members s.members;
         owners = subst (AllByRecursion (λ (row : spec.Member). IsTrue (is_known M.items row.owner))) goes.members s.owners;
         editions = all_weaker (HoldsEditions T) (HoldsEditions after)
-            (λ item g. all_weaker (HoldsEdition T (name_in item)) (HoldsEdition after (name_in item)) (λ stored h. holds_same T after (name_in item) stored (record { editions = sym (it.editions (pos stored.number)); entries = sym (it.entries (pos stored.number)) }) h) (editions_of item) g) M.items s.editions;
+            (λ item g. all_weaker (HoldsEdition T (name_in item)) (HoldsEdition after (name_in item))
+            (λ stored h. holds_same T after (name_in item) stored (record { editions = sym (it.editions (pos stored.number)); entries = sym (it.entries (pos stored.number)) }) h) (editions_of item) g) M.items s.editions;
         numbers = carried (λ (row : spec.EditionRecord). row.number) (λ row. IsTrue (has_number M.items row.number)) T.editions after.editions it.editions s.numbers;
         entries = carried (λ (row : spec.EntryRecord). row.edition) (λ row. IsTrue (has_number M.items row.edition)) T.entries after.entries it.entries s.entries;
         kept = sym (nothing_more T.kept after.kept goes.kept (same_from T.kept after.kept kept)) ∙ s.kept;

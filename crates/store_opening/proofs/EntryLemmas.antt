@@ -116,7 +116,8 @@ ord_in Shown e = refl
 ord_in Parted e = refl
 
 -- the rows of what a database keeps
-pub entries_rows : (layout : Layout) → HasEntryTable layout → (db : Database) (t : Tables) → KeepsRows (contents layout) db (with_derived t) → IsPermutation (map (entry_cells layout) t.entries) (map (looked_behind_rowid layout) (rows_of (codes "entry") db))
+pub entries_rows : (layout : Layout) → HasEntryTable layout → (db : Database) (t : Tables) → KeepsRows (contents layout) db (with_derived t)
+    → IsPermutation (map (entry_cells layout) t.entries) (map (looked_behind_rowid layout) (rows_of (codes "entry") db))
 entries_rows Plain has db t k = k.rows
 entries_rows Keyed has db t k = k.rows
 entries_rows Shown has db t k = k.rows
@@ -162,8 +163,10 @@ module _ (layout : Layout) where
 
   filter_step : (test : Row → Bool) (pass : spec.EntryRecord → Bool) (r : Row) (rows : List Row) (a b : Bool) → pass (entry_in r) ≡ a → test r ≡ b → a ≡ b → filter pass (map entry_in rows) ≡ map entry_in (filter test rows)
       → cond (pass (entry_in r)) (entry_in r ∷ filter pass (map entry_in rows)) (filter pass (map entry_in rows)) ≡ map entry_in (cond (test r) (r ∷ filter test rows) (filter test rows))
-  filter_step test pass r rows true true ea eb same rest = ap (λ b. cond b (entry_in r ∷ filter pass (map entry_in rows)) (filter pass (map entry_in rows))) ea ∙ ap (λ l. entry_in r ∷ l) rest ∙ ap (λ b. map entry_in (cond b (r ∷ filter test rows) (filter test rows))) (sym eb)
-  filter_step test pass r rows false false ea eb same rest = ap (λ b. cond b (entry_in r ∷ filter pass (map entry_in rows)) (filter pass (map entry_in rows))) ea ∙ rest ∙ ap (λ b. map entry_in (cond b (r ∷ filter test rows) (filter test rows))) (sym eb)
+  filter_step test pass r rows true true ea eb same rest = ap (λ b. cond b (entry_in r ∷ filter pass (map entry_in rows)) (filter pass (map entry_in rows))) ea ∙ ap (λ l. entry_in r ∷ l) rest
+      ∙ ap (λ b. map entry_in (cond b (r ∷ filter test rows) (filter test rows))) (sym eb)
+  filter_step test pass r rows false false ea eb same rest = ap (λ b. cond b (entry_in r ∷ filter pass (map entry_in rows)) (filter pass (map entry_in rows))) ea ∙ rest
+      ∙ ap (λ b. map entry_in (cond b (r ∷ filter test rows) (filter test rows))) (sym eb)
   filter_step test pass r rows true false ea eb same rest = absurd (cc)
   filter_step test pass r rows false true ea eb same rest = absurd (cc)
 
@@ -202,24 +205,28 @@ module _ (layout : Layout) where
     -- what holds of all entries holds of that of each row
     pub each_row : (P : spec.EntryRecord → Type 0) → AllByRecursion P es → AllByRecursion (λ row. (e : spec.EntryRecord) × (looked_behind_rowid layout row ≡ entry_cells layout e) × P e) (rows_of (codes "entry") db)
     each_row P all =
-        all_of_map (looked_behind_rowid layout) (λ s. (e : spec.EntryRecord) × (s ≡ entry_cells layout e) × P e) (λ row. (e : spec.EntryRecord) × (looked_behind_rowid layout row ≡ entry_cells layout e) × P e) (λ row h. h) (rows_of (codes "entry") db)
+        all_of_map (looked_behind_rowid layout) (λ s. (e : spec.EntryRecord) × (s ≡ entry_cells layout e) × P e) (λ row. (e : spec.EntryRecord) × (looked_behind_rowid layout row ≡ entry_cells layout e) × P e) (λ row h. h)
+        (rows_of (codes "entry") db)
         (all_same (λ s. (e : spec.EntryRecord) × (s ≡ entry_cells layout e) × P e) (map (entry_cells layout) es) (map (looked_behind_rowid layout) (rows_of (codes "entry") db)) kept (all_written P es all))
 
     pub entries_written : AreShownIn layout es → AllByRecursion IsEntryRow (rows_of (codes "entry") db)
     entries_written shown = each_row (IsShownIn layout) (each_shown layout es shown)
 
     pub entries_kept : AreShownIn layout es → IsPermutation es (map entry_in (rows_of (codes "entry") db))
-    entries_kept shown = subst (λ l. IsPermutation l (map entry_in (rows_of (codes "entry") db))) (undone es (each_shown layout es shown)) (subst (IsPermutation (map (decode_cells layout) (map (entry_cells layout) es))) (read (rows_of (codes "entry") db)) (IsPermutation-map (decode_cells layout) _ _ kept))
+    entries_kept shown = subst (λ l. IsPermutation l (map entry_in (rows_of (codes "entry") db))) (undone es (each_shown layout es shown))
+        (subst (IsPermutation (map (decode_cells layout) (map (entry_cells layout) es))) (read (rows_of (codes "entry") db)) (IsPermutation-map (decode_cells layout) _ _ kept))
       where
         read : (rows : List Row) → map (decode_cells layout) (map (looked_behind_rowid layout) rows) ≡ map entry_in rows
         read [] = refl
         read (r ∷ rows) = ap (λ l. decode_cells layout (looked_behind_rowid layout r) ∷ l) (read rows)
 
     -- those of an edition
-    pub entries_selected : AreShownIn layout es → (n : ℤ) (rows : List Row) → IsPermutation (filter (equals_number 1 n) (rows_of (codes "entry") db)) rows → IsPermutation (filter (λ (e : spec.EntryRecord). same_number e.edition n) es) (map entry_in rows) × AllByRecursion IsEntryRow rows
+    pub entries_selected : AreShownIn layout es → (n : ℤ) (rows : List Row) → IsPermutation (filter (equals_number 1 n) (rows_of (codes "entry") db)) rows
+        → IsPermutation (filter (λ (e : spec.EntryRecord). same_number e.edition n) es) (map entry_in rows) × AllByRecursion IsEntryRow rows
     entries_selected shown n rows same = (
       IsPermutation-trans (filter (λ (e : spec.EntryRecord). same_number e.edition n) es) (map entry_in (filter (equals_number 1 n) (rows_of (codes "entry") db))) (map entry_in rows)
-          (subst (IsPermutation (filter (λ (e : spec.EntryRecord). same_number e.edition n) es)) (filter_numbered n (rows_of (codes "entry") db) (entries_written shown)) (IsPermutation-filter (λ (e : spec.EntryRecord). same_number e.edition n) _ _ (entries_kept shown))) (IsPermutation-map entry_in _ _ same),
+          (subst (IsPermutation (filter (λ (e : spec.EntryRecord). same_number e.edition n) es)) (filter_numbered n (rows_of (codes "entry") db) (entries_written shown))
+          (IsPermutation-filter (λ (e : spec.EntryRecord). same_number e.edition n) _ _ (entries_kept shown))) (IsPermutation-map entry_in _ _ same),
       all_same IsEntryRow (filter (equals_number 1 n) (rows_of (codes "entry") db)) rows same (all_filter IsEntryRow (equals_number 1 n) (rows_of (codes "entry") db) (entries_written shown)),
     )
 

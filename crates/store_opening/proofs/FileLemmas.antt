@@ -86,7 +86,8 @@ text_under edition index text =
 
 -- ---- the files of an edition of which there is one record
 
-module _ (db : Database) (t : Tables) (keeps : IsPermutation (map part_row (all_parts t)) (map (drop 1) (rows_of (codes "dictcat_part") db))) (n : ℤ) (e : EditionRecord) (one : editions_numbered n t.editions ≡ e ∷ []) (at : e.number ≡ n) where
+module _ (db : Database) (t : Tables) (keeps : IsPermutation (map part_row (all_parts t)) (map (drop 1) (rows_of (codes "dictcat_part") db))) (n : ℤ) (e : EditionRecord) (one : editions_numbered n t.editions ≡ e ∷ [])
+    (at : e.number ≡ n) where
   of_file : (f : ℤ) → filter (part_test n f) (all_parts t) ≡ filter (λ (p : Part). same_number p.file f) (edition_parts t.entries e)
   of_file f =
       sym (filter_filter (λ (p : Part). same_number p.file f) (λ (p : Part). same_number p.edition n) (part_test n f) (λ p. refl) (all_parts t))

@@ -60,14 +60,16 @@ module _ (version : ℕ) (db : Database) (members : List spec.Member) (T : Table
   pub items_read : (rows : List Row) → IsListing (codes "item") (1 ∷ []) db rows → T.items ≡ map (read item_codec) rows
   items_read rows l =
       let found = listed_records item_codec (codes "item") db T.items (items_kept (layout_of version) db T K.keeps) rows l.same in
-      let up = rows_order item_codec (1 ∷ []) (λ (a b : spec.ItemRecord). a.place ≤ℤ b.place) (λ r s w v e f h. column_le 1 r s [] [] w.place v.place (behind_is r (item_row w) 0 w.place e refl) (behind_is s (item_row v) 0 v.place f refl) h) rows found.1 l.sorted in
+      let up = rows_order item_codec (1 ∷ []) (λ (a b : spec.ItemRecord). a.place ≤ℤ b.place)
+      (λ r s w v e f h. column_le 1 r s [] [] w.place v.place (behind_is r (item_row w) 0 w.place e refl) (behind_is s (item_row v) 0 v.place f refl) h) rows found.1 l.sorted in
       ordered_once (λ (row : spec.ItemRecord). row.place) T.items (map (read item_codec) rows) (same_from T.items (map (read item_codec) rows) found.0)
       (subst (InOrder (λ (a b : spec.ItemRecord). Below a.place b.place)) (sym K.stands.items) (numbered_rise item_record (λ (row : spec.ItemRecord). row.place) item_placed 0 M.items)) up
 
   pub replies_read : (rows : List Row) → IsListing (codes "kept") (2 ∷ []) db rows → T.kept ≡ map (read kept_codec) rows
   replies_read rows l =
       let found = listed_records kept_codec (codes "kept") db T.kept (replies_kept (layout_of version) db T K.keeps) rows l.same in
-      let up = rows_order kept_codec (2 ∷ []) (λ (a b : spec.KeptRecord). a.number ≤ℤ b.number) (λ r s w v e f h. column_le 2 r s [] [] w.number v.number (behind_is r (kept_row w) 1 w.number e refl) (behind_is s (kept_row v) 1 v.number f refl) h) rows found.1 l.sorted in
+      let up = rows_order kept_codec (2 ∷ []) (λ (a b : spec.KeptRecord). a.number ≤ℤ b.number)
+      (λ r s w v e f h. column_le 2 r s [] [] w.number v.number (behind_is r (kept_row w) 1 w.number e refl) (behind_is s (kept_row v) 1 v.number f refl) h) rows found.1 l.sorted in
       ordered_once (λ (row : spec.KeptRecord). row.number) T.kept (map (read kept_codec) rows) (same_from T.kept (map (read kept_codec) rows) found.0)
       (subst (InOrder (λ (a b : spec.KeptRecord). Below a.number b.number)) (sym K.stands.kept) (kept_rise 1 M.kept K.stands.well_formed.numbered)) up
 
@@ -77,7 +79,8 @@ front_read k given tail = map-append (read k) (map k.stored given) tail ∙ ap (
 
 -- ---- the mark, the items and the members
 
-pub fits_begun : (version : ℕ) (db : Database) (marks : List _) (items : List _) (members : List _) → IsListing (codes "mark") (1 ∷ []) db (map stored_mark marks) → IsListing (codes "item") (1 ∷ []) db (map stored_item items) → AllGoOnFrom version db (begun (marks_given marks) (items_given items) (members_given members))
+pub fits_begun : (version : ℕ) (db : Database) (marks : List _) (items : List _) (members : List _) → IsListing (codes "mark") (1 ∷ []) db (map stored_mark marks) → IsListing (codes "item") (1 ∷ []) db (map stored_item items)
+    → AllGoOnFrom version db (begun (marks_given marks) (items_given items) (members_given members))
 fits_begun version db marks items members lm li T M K = record {
   marks = marks_read version db (members_given members) T M K (map stored_mark marks) lm ∙ read_stored mark_codec marks;
   items = items_read version db (members_given members) T M K (map stored_item items) li ∙ read_stored item_codec items;
@@ -97,7 +100,8 @@ module _ (n : ℤ) (taken T : Tables) (goes : GoesOnFrom taken T) where
       step m false k = subst (BeginsWith (editions_numbered m T.editions)) (sym (filter_passes_not (λ (x : spec.EditionRecord). same_number x.number m) taken.editions e k)) (goes.editions m)
       step m true k =
           let same : n ≡ m = sym is ∙ same_number_is e.number m k in
-          let front : editions_numbered m (taken.editions ++ e ∷ []) ≡ e ∷ [] = filter_passes (λ (x : spec.EditionRecord). same_number x.number m) taken.editions e k ∙ ap (λ l. l ++ e ∷ []) (subst (λ z. editions_numbered z taken.editions ≡ []) same none) in
+          let front : editions_numbered m (taken.editions ++ e ∷ []) ≡ e ∷ [] = filter_passes (λ (x : spec.EditionRecord). same_number x.number m) taken.editions e k
+          ∙ ap (λ l. l ++ e ∷ []) (subst (λ z. editions_numbered z taken.editions ≡ []) same none) in
           ([], subst (λ z. editions_numbered z T.editions ≡ e ∷ []) same only ∙ ap (λ l. l ++ []) (sym front))
 
   -- the edition's entries, as far as they were read
@@ -105,7 +109,8 @@ module _ (n : ℤ) (taken T : Tables) (goes : GoesOnFrom taken T) where
   goes_entries given all begun none = record { marks = goes.marks; items = goes.items; members = goes.members; editions = goes.editions; entries = (λ m. step m (same_number n m) refl); kept = goes.kept }
     where
       step : (m : ℤ) (b : Bool) → same_number n m ≡ b → BeginsWith (entries_of m T.entries) (entries_of m (taken.entries ++ given))
-      step m false k = subst (BeginsWith (entries_of m T.entries)) (sym (filter-append (λ (x : spec.EntryRecord). same_number x.edition m) taken.entries given ∙ ap (λ l. entries_of m taken.entries ++ l) (none_of n m k given all) ∙ append-nil (entries_of m taken.entries))) (goes.entries m)
+      step m false k = subst (BeginsWith (entries_of m T.entries)) (sym (filter-append (λ (x : spec.EntryRecord). same_number x.edition m) taken.entries given ∙ ap (λ l. entries_of m taken.entries ++ l) (none_of n m k given all)
+          ∙ append-nil (entries_of m taken.entries))) (goes.entries m)
       step m true k =
           let same : n ≡ m = same_number_is n m k in
           let now : entries_of n (taken.entries ++ given) ≡ given = filter-append (λ (x : spec.EntryRecord). same_number x.edition n) taken.entries given ∙ (λ i. none i ++ all_of n given all i) in
@@ -113,11 +118,20 @@ module _ (n : ℤ) (taken T : Tables) (goes : GoesOnFrom taken T) where
 
 -- ---- the kept replies
 
-pub fits_replies : (version : ℕ) (db : Database) (taken : Tables) → AllGoOnFrom version db taken → taken.kept ≡ [] → (given : List KeptRow) → IsFront AllKept db (map stored_kept given) → AllGoOnFrom version db (with_replies taken (kept_given given))
+pub fits_replies : (version : ℕ) (db : Database) (taken : Tables) → AllGoOnFrom version db taken → taken.kept ≡ [] → (given : List KeptRow) → IsFront AllKept db (map stored_kept given)
+    → AllGoOnFrom version db (with_replies taken (kept_given given))
 fits_replies version db taken fits none given front T M K =
     let whole = replies_read version db taken.members T M K (map stored_kept given ++ front.0) front.1 ∙ front_read kept_codec given front.0 in
     let goes = fits T M K in
-    record { marks = goes.marks; items = goes.items; members = goes.members; editions = goes.editions; entries = goes.entries; kept = (map (read kept_codec) front.0, whole ∙ ap (λ l. (l ++ kept_given given) ++ map (read kept_codec) front.0) (sym none)) }
+    record {
+      marks = goes.marks;
+      items = goes.items;
+      members = goes.members;
+      editions = goes.editions;
+      entries = goes.entries;
+      kept =
+          (map (read kept_codec) front.0, whole ∙ ap (λ l. (l ++ kept_given given) ++ map (read kept_codec) front.0) (sym none));
+    }
 
 -- ---- none
 

@@ -12,7 +12,8 @@ use Rattle.store_opening.specs.Opens.{HasAll, HasSummary, HasOthersApart}
 
 -- ---- all rows
 
-pub has_summary : (version : ℕ) (db : Database) (reader : Reader) (front after : Tables) → HasAll version db reader front after → (M : Catalogue) → Stands version after M → (holdings : Holdings (List ℕ)) → summary_of M ≡ holdings → HasSummary version db holdings
+pub has_summary : (version : ℕ) (db : Database) (reader : Reader) (front after : Tables) → HasAll version db reader front after → (M : Catalogue) → Stands version after M → (holdings : Holdings (List ℕ)) → summary_of M ≡ holdings
+    → HasSummary version db holdings
 has_summary version db reader front after a M s holdings is = record {
   catalogue = M;
   tables = after;

@@ -46,7 +46,8 @@ module _ (layout : Layout) (db : Database) (n : ℕ) (given : List EntryRecord) 
   pub with_number : (ms : List ℕ) → HaveRowsIndexed layout db ms old → HaveRowsIndexed layout db (ms ++ n ∷ []) new
   with_number ms h = all_push (HasRowsIndexed layout db new) ms n (all_still ms h) fresh
 
-pub next_indexed : (layout : Layout) (db : Database) (ns : List ℕ) (i : ℕ) (given : List EntryRecord) (index : List Indexed) (old new : List (ℕ × List Indexed)) → i < length ns → HaveRowsIndexed layout db (take i ns) old → HasEntries layout db (pos (get_or ns i 0)) given → index ≡ map indexed_of given → HasPut (get_or ns i 0) index old new → HaveRowsIndexed layout db (take (i + 1) ns) new
+pub next_indexed : (layout : Layout) (db : Database) (ns : List ℕ) (i : ℕ) (given : List EntryRecord) (index : List Indexed) (old new : List (ℕ × List Indexed)) → i < length ns → HaveRowsIndexed layout db (take i ns) old
+    → HasEntries layout db (pos (get_or ns i 0)) given → index ≡ map indexed_of given → HasPut (get_or ns i 0) index old new → HaveRowsIndexed layout db (take (i + 1) ns) new
 next_indexed layout db ns i given index old new lt before entries is put =
     subst (λ ms. HaveRowsIndexed layout db ms new) (sym (take_more ns i 0 lt)) (with_number layout db (get_or ns i 0) given old new (subst (λ l. HasPut (get_or ns i 0) l old new) is put) entries (take i ns) before)
 
@@ -89,11 +90,13 @@ module _ (version : ℕ) (db : Database) (M : Catalogue) (h : Holds version db M
       let lines : r.given ≡ numbered (entry_record n) 0 held.reading.lines = sym all ∙ held.entries in
       record { held = held; stands = r.stands ∙ ap (λ l. Some (map indexed_of l)) lines ∙ ap (λ l. Some l) (indexed_lines n 0 held.reading.lines) }
 
-  of_item : (owner : List ℕ) (editions : List (Stored Edition)) → AllByRecursion (HoldsEdition h.tables owner) editions → AllByRecursion IsThere (map (λ (s : Stored Edition). s.number) editions) → AllByRecursion (HasIndex h.tables owner indexes) editions
+  of_item : (owner : List ℕ) (editions : List (Stored Edition)) → AllByRecursion (HoldsEdition h.tables owner) editions → AllByRecursion IsThere (map (λ (s : Stored Edition). s.number) editions)
+      → AllByRecursion (HasIndex h.tables owner indexes) editions
   of_item owner [] held rows = tt
   of_item owner (stored ∷ editions) held rows = (has_index owner stored held.0 rows.0, of_item owner editions held.1 rows.1)
 
-  of_items : (items : List (Item Edition)) → AllByRecursion (HoldsEditions h.tables) items → AllByRecursion IsThere (edition_numbers items) → AllByRecursion (λ item. AllByRecursion (HasIndex h.tables (name_of item) indexes) (editions_of item)) items
+  of_items : (items : List (Item Edition)) → AllByRecursion (HoldsEditions h.tables) items → AllByRecursion IsThere (edition_numbers items)
+      → AllByRecursion (λ item. AllByRecursion (HasIndex h.tables (name_of item) indexes) (editions_of item)) items
   of_items [] held rows = tt
   of_items (item ∷ items) held rows =
       let parts = all_append_parts IsThere (numbers_of item) (flat_map numbers_of items) rows in

@@ -63,7 +63,8 @@ is_marked db marks v l h =
   where
     only : (marks : List MarkRow) → map stored_mark marks ≡ (Int h.rowid ∷ mark_row (mark_of_version v h.installs)) ∷ [] → marks_given marks ≡ mark_of_version v h.installs ∷ []
     only [] e = absurd (cc)
-    only (r ∷ []) e = ap (λ m. m ∷ []) (sym (mark_back (owned_mark r.value)) ∙ ap (λ row. decode_mark (drop 1 row)) (let same : stored_mark r ≡ Int h.rowid ∷ mark_row (mark_of_version v h.installs) = cc in same) ∙ mark_back (mark_of_version v h.installs))
+    only (r ∷ []) e = ap (λ m. m ∷ []) (sym (mark_back (owned_mark r.value)) ∙ ap (λ row. decode_mark (drop 1 row)) (let same : stored_mark r ≡ Int h.rowid ∷ mark_row (mark_of_version v h.installs) = cc in same)
+        ∙ mark_back (mark_of_version v h.installs))
     only (r ∷ s ∷ marks) e = absurd (cc)
 
 pub err_is : {X E : Type 0} (result : Result X E) (e f : E) → IsErrAnd result (λ g. g ≡ e) → result ≡ Err f → e ≡ f
@@ -81,7 +82,9 @@ small_text : (bs : List ℕ) → list_all (λ b. nat_lt b 128) bs ≡ true → I
 small_text bs h = IsUtf8-from_ascii bs (ascii_text bs h)
 
 pub no_record : (db : Database) (v : ℕ) → HasMark db v → HasNoRecord mark_columns (rows_of (codes "mark") db) → ⊥
-no_record db v h n = n.2 (all_contains (HasColumns mark_columns) (rows_of (codes "mark") db) n.0 (subst (λ rows. AllByRecursion (HasColumns mark_columns) rows) (sym h.rows) (((h.rowid, refl), ((pos 1, refl), ((codes "dictcat", refl, word), ((pos v, refl), ((h.installs, refl), tt))))), tt)) n.1)
+no_record db v h n =
+    n.2 (all_contains (HasColumns mark_columns) (rows_of (codes "mark") db) n.0 (subst (λ rows. AllByRecursion (HasColumns mark_columns) rows) (sym h.rows)
+    (((h.rowid, refl), ((pos 1, refl), ((codes "dictcat", refl, word), ((pos v, refl), ((h.installs, refl), tt))))), tt)) n.1)
   where
     word : IsUtf8 (codes "dictcat")
     word = small_text (codes "dictcat") refl

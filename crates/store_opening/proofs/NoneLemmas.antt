@@ -57,19 +57,22 @@ one_item (y ∷ z ∷ zs) x e f = absurd (omega arith)
 
 -- ---- a record that isn't there once
 
-module _ {R W : Type 0} (k : Codec R W) (columns : List Content) (db : Database) (n : ℤ) (pass : W → Bool) (agrees : (row : Row) (w : W) → drop 1 row ≡ k.encode w → equals_number 1 n row ≡ pass w) (ws : List W) (keeps : Keeps (codes "edition") k.encode db ws) (x : W) (one : filter pass ws ≡ x ∷ []) where
+module _ {R W : Type 0} (k : Codec R W) (columns : List Content) (db : Database) (n : ℤ) (pass : W → Bool) (agrees : (row : Row) (w : W) → drop 1 row ≡ k.encode w → equals_number 1 n row ≡ pass w) (ws : List W)
+    (keeps : Keeps (codes "edition") k.encode db ws) (x : W) (one : filter pass ws ≡ x ∷ []) where
   not_one : AllByRecursion (HasColumns columns) (rows_of (codes "edition") db) → IsNotOne k.stored columns db n → ⊥
   not_one readable (inl h) = h.2 (all_contains (HasColumns columns) (filter (equals_number 1 n) (rows_of (codes "edition") db)) h.0 (all_filter (HasColumns columns) (equals_number 1 n) (rows_of (codes "edition") db) readable) h.1)
   not_one readable (inr h) =
       let rows = h.0 in
       let same = (selected_records k (codes "edition") db ws keeps (equals_number 1 n) pass agrees (map k.stored rows) h.1.same).0 in
-      let read_one : map (read k) (map k.stored rows) ≡ x ∷ [] = one_once x (map (read k) (map k.stored rows)) (subst (λ l. Same l (map (read k) (map k.stored rows))) one (same_from (filter pass ws) (map (read k) (map k.stored rows)) same)) in
+      let read_one : map (read k) (map k.stored rows) ≡ x ∷ [] = one_once x (map (read k) (map k.stored rows))
+      (subst (λ l. Same l (map (read k) (map k.stored rows))) one (same_from (filter pass ws) (map (read k) (map k.stored rows)) same)) in
       h.2 (one_long k.owned rows x (sym (read_stored k rows) ∙ read_one))
 
 module _ (db : Database) (T : Tables) (items : List (Item Edition)) (n : ℤ) (found : Found T items n) where
   no_whole : Keeps (codes "edition") edition_row db T.editions → AllByRecursion (HasColumns edition_columns) (rows_of (codes "edition") db) → IsNotOne edition_codec.stored edition_columns db n → ⊥
   no_whole keeps readable h =
-      not_one edition_codec edition_columns db n (λ (e : spec.EditionRecord). same_number e.number n) (λ row w e. first_number row (edition_row w) w.number n e refl) T.editions keeps (its_record db T items n found) (only db T items n found) readable h
+      not_one edition_codec edition_columns db n (λ (e : spec.EditionRecord). same_number e.number n) (λ row w e. first_number row (edition_row w) w.number n e refl) T.editions keeps (its_record db T items n found)
+      (only db T items n found) readable h
 
   pub no_edition : (layout : Layout) → KeptAs layout db T → HasNoEdition layout db n → ⊥
   no_edition Plain k h = no_whole (editions_kept Plain db T refl k.keeps) k.records.1.1.1.1.0 h
@@ -77,7 +80,8 @@ module _ (db : Database) (T : Tables) (items : List (Item Edition)) (n : ℤ) (f
   no_edition Shown k h = no_whole (editions_kept Shown db T refl k.keeps) k.records.1.1.1.1.0 h
   no_edition Parted k (inl h) =
       let mine = headers_kept db T k.keeps in
-      let keeps : Keeps (codes "edition") header_row db (map header_of T.editions) = record { rows = subst (λ l. IsPermutation l (map (drop 1) (rows_of (codes "edition") db))) (sym (map_twice header_of header_row T.editions)) mine.rows; apart = mine.apart } in
+      let keeps : Keeps (codes "edition") header_row db (map header_of T.editions) =
+      record { rows = subst (λ l. IsPermutation l (map (drop 1) (rows_of (codes "edition") db))) (sym (map_twice header_of header_row T.editions)) mine.rows; apart = mine.apart } in
       not_one header_codec header_columns db n (λ (e : spec.HeaderRecord). same_number e.number n) (λ row w e. first_number row (header_row w) w.number n e refl) (map header_of T.editions) keeps (header_of (its_record db T items n found))
       (headers_of n T.editions ∙ ap (map header_of) (only db T items n found)) k.records.1.1.1.1.0 h
   no_edition Parted k (inr none) = none k.records.1.1.1.1.1.0 (its_record db T items n found).body (has_text db T (parts_kept db T k.keeps).rows n (its_record db T items n found) (only db T items n found) found.is)
@@ -118,7 +122,8 @@ module _ (version : ℕ) (db : Database) (taken : Tables) (n : ℤ) (can : CanRe
     begun_number : (layout : Layout) (given : List spec.EntryRecord) → BeginsWithEntries layout db n given → AllByRecursion (λ (x : spec.EntryRecord). x.edition ≡ n) given
     begun_number layout given front =
         rows_number layout n front.0 given front.3
-        (all_append_parts (λ row. equals_number 1 n row ≡ true) front.0 front.1 (all_same (λ row. equals_number 1 n row ≡ true) (filter (equals_number 1 n) (rows_of (codes "entry") db)) (front.0 ++ front.1) front.2.same (all_passed (equals_number 1 n) (rows_of (codes "entry") db)))).0
+        (all_append_parts (λ row. equals_number 1 n row ≡ true) front.0 front.1 (all_same (λ row. equals_number 1 n row ≡ true) (filter (equals_number 1 n) (rows_of (codes "entry") db)) (front.0 ++ front.1) front.2.same
+        (all_passed (equals_number 1 n) (rows_of (codes "entry") db)))).0
 
     module _ (reader : Reader) (h : HasTaken version reader (with_edition taken e)) where
       wrong_rows : (layout : Layout) → HasEntryTable layout → Kept layout → HasWrongRows layout db n reader → KeepsNone version db taken.members
@@ -130,9 +135,12 @@ module _ (version : ℕ) (db : Database) (taken : Tables) (n : ℤ) (can : CanRe
           w.2 (readable layout has k w.1) written.0 written.1
         where
           readable : (layout : Layout) → HasEntryTable layout → KeptAs layout db T → Contains (filter (equals_number 1 n) (rows_of (codes "entry") db)) w.0 → HasColumns (contents layout).columns ((contents layout).looked w.0)
-          readable Plain has k there = all_contains (λ row. HasColumns (contents Plain).columns ((contents Plain).looked row)) _ w.0 (all_filter (λ row. HasColumns (contents Plain).columns ((contents Plain).looked row)) (equals_number 1 n) (rows_of (codes "entry") db) k.records.1.1.1.1.1.0) there
-          readable Keyed has k there = all_contains (λ row. HasColumns (contents Keyed).columns ((contents Keyed).looked row)) _ w.0 (all_filter (λ row. HasColumns (contents Keyed).columns ((contents Keyed).looked row)) (equals_number 1 n) (rows_of (codes "entry") db) k.records.1.1.1.1.1.0) there
-          readable Shown has k there = all_contains (λ row. HasColumns (contents Shown).columns ((contents Shown).looked row)) _ w.0 (all_filter (λ row. HasColumns (contents Shown).columns ((contents Shown).looked row)) (equals_number 1 n) (rows_of (codes "entry") db) k.records.1.1.1.1.1.0) there
+          readable Plain has k there = all_contains (λ row. HasColumns (contents Plain).columns ((contents Plain).looked row)) _ w.0
+              (all_filter (λ row. HasColumns (contents Plain).columns ((contents Plain).looked row)) (equals_number 1 n) (rows_of (codes "entry") db) k.records.1.1.1.1.1.0) there
+          readable Keyed has k there = all_contains (λ row. HasColumns (contents Keyed).columns ((contents Keyed).looked row)) _ w.0
+              (all_filter (λ row. HasColumns (contents Keyed).columns ((contents Keyed).looked row)) (equals_number 1 n) (rows_of (codes "entry") db) k.records.1.1.1.1.1.0) there
+          readable Shown has k there = all_contains (λ row. HasColumns (contents Shown).columns ((contents Shown).looked row)) _ w.0
+              (all_filter (λ row. HasColumns (contents Shown).columns ((contents Shown).looked row)) (equals_number 1 n) (rows_of (codes "entry") db) k.records.1.1.1.1.1.0) there
           readable Parted has k there = absurd has
       wrong_rows layout has keeps (inr (given, front, refused)) T M K =
           let all = begun_number layout given front in
@@ -152,7 +160,8 @@ module _ (version : ℕ) (db : Database) (taken : Tables) (n : ℤ) (can : CanRe
           let w = wrong number (sym found.is) lines (storable T found.owner found.stored found.holds found.lawful) (index_told db T M.items n found (keeps T M K).keeps octets file) in
           let given = w.0 in
           let es = numbered (entry_record number) 0 given in
-          let next : next_entries (with_edition taken e) number given ≡ es = subst (λ m. numbered (entry_record number) (length (entries_of m taken.entries)) given ≡ es) (sym found.is) (ap (λ (l : List spec.EntryRecord). numbered (entry_record number) (length l) given) can.no_entries) in
+          let next : next_entries (with_edition taken e) number given ≡ es = subst (λ m. numbered (entry_record number) (length (entries_of m taken.entries)) given ≡ es) (sym found.is)
+          (ap (λ (l : List spec.EntryRecord). numbered (entry_record number) (length l) given) can.no_entries) in
           let refused = subst (λ l. StandsForNone version (with_entries (with_edition taken e) l)) next (w.3 version (with_edition taken e) number h (taken.editions, e, refl, found.is ∙ sym number_is)) in
           let begun : BeginsWith (entries_of n T.entries) es = subst (λ l. BeginsWith l es) (sym (its_lines db T M.items n found ∙ ap (numbered (entry_record number) 0) w.2)) (numbered_begins number 0 given w.1) in
           refused T M (goes_entries n (with_edition taken e) T (now_fits T M K) es (lines_number n number (sym found.is) 0 given) begun can.no_entries) K.stands

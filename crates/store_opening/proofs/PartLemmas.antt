@@ -73,12 +73,16 @@ pub one_apart : (ns : List ℤ) (n : ℤ) → is_of ns n ≡ false → (row : Ro
 one_apart ns n new row = both_no (one_of ns row) (equals_number 1 n row) (λ h k. false≢true (sym new ∙ hit row n ns k h))
 
 -- the rows that pass one test of two that none passes both of, as they are looked at
-pub rows_join : (g : Row → Row) (p q r : Row → Bool) → ((row : Row) → r row ≡ (p row || q row)) → ((row : Row) → (p row && q row) ≡ false) → (xs fs bs : List Row) → IsPermutation fs (map g (filter p xs)) → IsPermutation bs (map g (filter q xs)) → IsPermutation (fs ++ bs) (map g (filter r xs))
+pub rows_join : (g : Row → Row) (p q r : Row → Bool) → ((row : Row) → r row ≡ (p row || q row)) → ((row : Row) → (p row && q row) ≡ false) → (xs fs bs : List Row) → IsPermutation fs (map g (filter p xs))
+    → IsPermutation bs (map g (filter q xs)) → IsPermutation (fs ++ bs) (map g (filter r xs))
 rows_join g p q r either apart xs fs bs one other =
     let split : IsPermutation (filter r xs) (filter p xs ++ filter q xs) =
-    subst (λ l. IsPermutation l (filter p xs ++ filter q xs)) (sym (filter_alike r (λ row. p row || q row) either xs)) (parts_together p q apart xs (filter p xs) (filter q xs) (IsPermutation-refl (filter p xs)) (IsPermutation-refl (filter q xs))) in
-    let mapped : IsPermutation (map g (filter r xs)) (map g (filter p xs) ++ map g (filter q xs)) = subst (IsPermutation (map g (filter r xs))) (map-append g (filter p xs) (filter q xs)) (IsPermutation-map g (filter r xs) (filter p xs ++ filter q xs) split) in
-    IsPermutation-trans (fs ++ bs) (map g (filter p xs) ++ map g (filter q xs)) (map g (filter r xs)) (IsPermutation-append fs (map g (filter p xs)) bs (map g (filter q xs)) one other) (IsPermutation-sym (map g (filter r xs)) (map g (filter p xs) ++ map g (filter q xs)) mapped)
+    subst (λ l. IsPermutation l (filter p xs ++ filter q xs)) (sym (filter_alike r (λ row. p row || q row) either xs))
+    (parts_together p q apart xs (filter p xs) (filter q xs) (IsPermutation-refl (filter p xs)) (IsPermutation-refl (filter q xs))) in
+    let mapped : IsPermutation (map g (filter r xs)) (map g (filter p xs) ++ map g (filter q xs)) =
+    subst (IsPermutation (map g (filter r xs))) (map-append g (filter p xs) (filter q xs)) (IsPermutation-map g (filter r xs) (filter p xs ++ filter q xs) split) in
+    IsPermutation-trans (fs ++ bs) (map g (filter p xs) ++ map g (filter q xs)) (map g (filter r xs)) (IsPermutation-append fs (map g (filter p xs)) bs (map g (filter q xs)) one other)
+    (IsPermutation-sym (map g (filter r xs)) (map g (filter p xs) ++ map g (filter q xs)) mapped)
 
 -- a number that is none of these is none of the first ones, nor the last
 pub parts_of : (ns : List ℤ) (n m : ℤ) → is_of (ns ++ n ∷ []) m ≡ false → (is_of ns m ≡ false) × (same_number m n ≡ false)

@@ -97,7 +97,8 @@ read_none version db reader numbers front can = record {
 
 -- ---- the next one
 
-pub can_one : (version : ℕ) (db : Database) (reader : Reader) (numbers ns : List ℤ) (front taken : Tables) (n : ℤ) → CanRead version db reader numbers front → HasReadEditions version db ns front taken → has_number (items_in reader) n ≡ true → is_of ns n ≡ false → CanReadOne version db taken n
+pub can_one : (version : ℕ) (db : Database) (reader : Reader) (numbers ns : List ℤ) (front taken : Tables) (n : ℤ) → CanRead version db reader numbers front → HasReadEditions version db ns front taken
+    → has_number (items_in reader) n ≡ true → is_of ns n ≡ false → CanReadOne version db taken n
 can_one version db reader numbers ns front taken n can done there new = record {
   fits = done.fits;
   known = (λ T M K. known T M (record { keeps = K.keeps; shown = K.shown; same_members = K.same_members ∙ done.members; stands = K.stands; records = K.records }));
@@ -152,11 +153,13 @@ module _ (db : Database) (ns : List ℤ) (n : ℤ) (new : is_of ns n ≡ false) 
 
   -- ---- of editions
 
-  whole_more : HasWholeRecord db n e → IsPermutation (map edition_row taken.editions) (map (drop 1) (filter (one_of ns) (rows_of (codes "edition") db))) → IsPermutation (map edition_row whole.editions) (map (drop 1) (filter (one_of (ns ++ n ∷ [])) (rows_of (codes "edition") db)))
+  whole_more : HasWholeRecord db n e → IsPermutation (map edition_row taken.editions) (map (drop 1) (filter (one_of ns) (rows_of (codes "edition") db)))
+      → IsPermutation (map edition_row whole.editions) (map (drop 1) (filter (one_of (ns ++ n ∷ [])) (rows_of (codes "edition") db)))
   whole_more r done =
       let rows = rows_of (codes "edition") db in
       let one : IsPermutation (edition_row e ∷ []) (map (drop 1) (filter (equals_number 1 n) rows)) =
-      subst (λ (x : spec.EditionRecord). IsPermutation (edition_row x ∷ []) (map (drop 1) (filter (equals_number 1 n) rows))) (sym r.2) (IsPermutation-map (drop 1) (stored_edition r.0 ∷ []) (filter (equals_number 1 n) rows) (IsPermutation-sym (filter (equals_number 1 n) rows) (stored_edition r.0 ∷ []) r.1.same)) in
+      subst (λ (x : spec.EditionRecord). IsPermutation (edition_row x ∷ []) (map (drop 1) (filter (equals_number 1 n) rows))) (sym r.2)
+      (IsPermutation-map (drop 1) (stored_edition r.0 ∷ []) (filter (equals_number 1 n) rows) (IsPermutation-sym (filter (equals_number 1 n) rows) (stored_edition r.0 ∷ []) r.1.same)) in
       subst (λ l. IsPermutation l (map (drop 1) (filter (one_of (ns ++ n ∷ [])) rows))) (sym (map-append edition_row taken.editions (e ∷ [])))
       (rows_join (drop 1) (one_of ns) (equals_number 1 n) (one_of (ns ++ n ∷ [])) (one_more ns n) (one_apart ns n new) rows (map edition_row taken.editions) (edition_row e ∷ []) done one)
 
@@ -167,9 +170,11 @@ module _ (db : Database) (ns : List ℤ) (n : ℤ) (new : is_of ns n ≡ false) 
   editions_more Parted (r, text) done =
       let rows = rows_of (codes "edition") db in
       let one : IsPermutation (header_row (header_of e) ∷ []) (map (drop 1) (filter (equals_number 1 n) rows)) =
-      subst (λ (h : spec.HeaderRecord). IsPermutation (header_row h ∷ []) (map (drop 1) (filter (equals_number 1 n) rows))) (sym r.2) (IsPermutation-map (drop 1) (stored_header r.0 ∷ []) (filter (equals_number 1 n) rows) (IsPermutation-sym (filter (equals_number 1 n) rows) (stored_header r.0 ∷ []) r.1.same)) in
+      subst (λ (h : spec.HeaderRecord). IsPermutation (header_row h ∷ []) (map (drop 1) (filter (equals_number 1 n) rows))) (sym r.2)
+      (IsPermutation-map (drop 1) (stored_header r.0 ∷ []) (filter (equals_number 1 n) rows) (IsPermutation-sym (filter (equals_number 1 n) rows) (stored_header r.0 ∷ []) r.1.same)) in
       subst (λ l. IsPermutation l (map (drop 1) (filter (one_of (ns ++ n ∷ [])) rows))) (sym (map-append (λ (x : spec.EditionRecord). header_row (header_of x)) taken.editions (e ∷ [])))
-      (rows_join (drop 1) (one_of ns) (equals_number 1 n) (one_of (ns ++ n ∷ [])) (one_more ns n) (one_apart ns n new) rows (map (λ (x : spec.EditionRecord). header_row (header_of x)) taken.editions) (header_row (header_of e) ∷ []) done one)
+      (rows_join (drop 1) (one_of ns) (equals_number 1 n) (one_of (ns ++ n ∷ [])) (one_more ns n) (one_apart ns n new) rows (map (λ (x : spec.EditionRecord). header_row (header_of x)) taken.editions) (header_row (header_of e) ∷ [])
+      done one)
 
   -- ---- of entries
 
@@ -178,7 +183,8 @@ module _ (db : Database) (ns : List ℤ) (n : ℤ) (new : is_of ns n ≡ false) 
   entries_more layout h done =
       let rows = rows_of (codes "entry") db in
       let one : IsPermutation (map (entry_cells layout) es) (map (looked_behind_rowid layout) (filter (equals_number 1 n) rows)) =
-      subst (λ l. IsPermutation l (map (looked_behind_rowid layout) (filter (equals_number 1 n) rows))) h.2 (IsPermutation-map (looked_behind_rowid layout) h.0 (filter (equals_number 1 n) rows) (IsPermutation-sym (filter (equals_number 1 n) rows) h.0 h.1.same)) in
+      subst (λ l. IsPermutation l (map (looked_behind_rowid layout) (filter (equals_number 1 n) rows))) h.2
+      (IsPermutation-map (looked_behind_rowid layout) h.0 (filter (equals_number 1 n) rows) (IsPermutation-sym (filter (equals_number 1 n) rows) h.0 h.1.same)) in
       subst (λ l. IsPermutation l (map (looked_behind_rowid layout) (filter (one_of (ns ++ n ∷ [])) rows))) (sym (map-append (entry_cells layout) taken.entries es))
       (rows_join (looked_behind_rowid layout) (one_of ns) (equals_number 1 n) (one_of (ns ++ n ∷ [])) (one_more ns n) (one_apart ns n new) rows (map (entry_cells layout) taken.entries) (map (entry_cells layout) es) done one)
 
@@ -187,7 +193,8 @@ module _ (db : Database) (ns : List ℤ) (n : ℤ) (new : is_of ns n ≡ false) 
   abbrev its_part : Row → Bool
   its_part row = equals_number 1 n row && is_in_file row
 
-  parts_more : HasIndexFile db n es → HasFile db n (pos 1) e.body → e.number ≡ n → editions_numbered n taken.editions ≡ [] → entries_of n taken.entries ≡ [] → IsPermutation (map part_row (all_parts taken)) (map (drop 1) (filter (is_known_part ns) (rows_of (codes "dictcat_part") db)))
+  parts_more : HasIndexFile db n es → HasFile db n (pos 1) e.body → e.number ≡ n → editions_numbered n taken.editions ≡ [] → entries_of n taken.entries ≡ []
+      → IsPermutation (map part_row (all_parts taken)) (map (drop 1) (filter (is_known_part ns) (rows_of (codes "dictcat_part") db)))
       → IsPermutation (map part_row (all_parts whole)) (map (drop 1) (filter (is_known_part (ns ++ n ∷ [])) (rows_of (codes "dictcat_part") db)))
   parts_more (octets, index, is) text at no_editions no_entries done =
       let rows = rows_of (codes "dictcat_part") db in
@@ -198,13 +205,18 @@ module _ (db : Database) (ns : List ℤ) (n : ℤ) (new : is_of ns n ≡ false) 
       ) in
       let lines : index_octets (entries_of n es) ≡ octets = ap index_octets (all_of n es numbers ∙ is.entries) ∙ ap stored_index (lines_back is.edition 0 is.lines) ∙ sym is.octets_are in
       let its : edition_parts es e ≡ file_parts n (pos 0) octets ++ file_parts n (pos 1) e.body = ap (λ m. parts_under m (index_octets (entries_of m es)) e.body) at ∙ ap (λ o. parts_under n o e.body) lines in
-      let all : all_parts whole ≡ all_parts taken ++ (file_parts n (pos 0) octets ++ file_parts n (pos 1) e.body) = more taken e es none (subst (λ m. AllByRecursion (λ (x : spec.EntryRecord). x.edition ≡ m) es) (sym at) numbers) ∙ ap (λ l. all_parts taken ++ l) its in
-      let files = rows_join (drop 1) (is_of_file n (pos 0)) (is_of_file n (pos 1)) its_part (λ row. in_either (equals_number 1 n row) (equals_number 2 (pos 0) row) (equals_number 2 (pos 1) row)) (one_file n) rows (map part_row (file_parts n (pos 0) octets)) (map part_row (file_parts n (pos 1) e.body)) index text in
-      subst (λ l. IsPermutation l (map (drop 1) (filter (is_known_part (ns ++ n ∷ [])) rows))) (sym (ap (map part_row) all ∙ map-append part_row (all_parts taken) _ ∙ ap (λ l. map part_row (all_parts taken) ++ l) (map-append part_row (file_parts n (pos 0) octets) (file_parts n (pos 1) e.body))))
-      (rows_join (drop 1) (is_known_part ns) its_part (is_known_part (ns ++ n ∷ [])) (λ row. ap (λ b. b && is_in_file row) (one_more ns n row) ∙ either_in (one_of ns row) (equals_number 1 n row) (is_in_file row)) (λ row. apart_in (one_of ns row) (equals_number 1 n row) (is_in_file row) (one_apart ns n new row)) rows
+      let all : all_parts whole ≡ all_parts taken ++ (file_parts n (pos 0) octets ++ file_parts n (pos 1) e.body) =
+      more taken e es none (subst (λ m. AllByRecursion (λ (x : spec.EntryRecord). x.edition ≡ m) es) (sym at) numbers) ∙ ap (λ l. all_parts taken ++ l) its in
+      let files = rows_join (drop 1) (is_of_file n (pos 0)) (is_of_file n (pos 1)) its_part (λ row. in_either (equals_number 1 n row) (equals_number 2 (pos 0) row) (equals_number 2 (pos 1) row)) (one_file n) rows
+      (map part_row (file_parts n (pos 0) octets)) (map part_row (file_parts n (pos 1) e.body)) index text in
+      subst (λ l. IsPermutation l (map (drop 1) (filter (is_known_part (ns ++ n ∷ [])) rows)))
+      (sym (ap (map part_row) all ∙ map-append part_row (all_parts taken) _ ∙ ap (λ l. map part_row (all_parts taken) ++ l) (map-append part_row (file_parts n (pos 0) octets) (file_parts n (pos 1) e.body))))
+      (rows_join (drop 1) (is_known_part ns) its_part (is_known_part (ns ++ n ∷ [])) (λ row. ap (λ b. b && is_in_file row) (one_more ns n row) ∙ either_in (one_of ns row) (equals_number 1 n row) (is_in_file row))
+      (λ row. apart_in (one_of ns row) (equals_number 1 n row) (is_in_file row) (one_apart ns n new row)) rows
       (map part_row (all_parts taken)) (map part_row (file_parts n (pos 0) octets) ++ map part_row (file_parts n (pos 1) e.body)) done files)
 
-  contents_more : (layout : Layout) → HasRecord layout db n e → HasEntries layout db n es → editions_numbered n taken.editions ≡ [] → entries_of n taken.entries ≡ [] → HasRowsOf (is_of_contents layout ns) db taken (contents layout) → HasRowsOf (is_of_contents layout (ns ++ n ∷ [])) db whole (contents layout)
+  contents_more : (layout : Layout) → HasRecord layout db n e → HasEntries layout db n es → editions_numbered n taken.editions ≡ [] → entries_of n taken.entries ≡ [] → HasRowsOf (is_of_contents layout ns) db taken (contents layout)
+      → HasRowsOf (is_of_contents layout (ns ++ n ∷ [])) db whole (contents layout)
   contents_more Plain r h none empty done = entries_more Plain h done
   contents_more Keyed r h none empty done = entries_more Keyed h done
   contents_more Shown r h none empty done = entries_more Shown h done
@@ -217,7 +229,8 @@ entries_shown Keyed db n es h = h.3
 entries_shown Shown db n es h = tt
 entries_shown Parted db n es h = tt
 
-module _ (version : ℕ) (db : Database) (ns : List ℤ) (front taken after : Tables) (n : ℤ) (done : HasReadEditions version db ns front taken) (can : CanReadOne version db taken n) (one : HasReadOne (layout_of version) db n taken after) (new : is_of ns n ≡ false) where
+module _ (version : ℕ) (db : Database) (ns : List ℤ) (front taken after : Tables) (n : ℤ) (done : HasReadEditions version db ns front taken) (can : CanReadOne version db taken n)
+    (one : HasReadOne (layout_of version) db n taken after) (new : is_of ns n ≡ false) where
   abbrev layout : Layout
   layout = layout_of version
 
@@ -237,7 +250,8 @@ module _ (version : ℕ) (db : Database) (ns : List ℤ) (front taken after : Ta
   entries_so = entries_number layout db n es one.entries
 
   fits : AllGoOnFrom version db now
-  fits T M K = goes_entries n (with_edition taken e) T (now_fits version db taken n can e one.record' T M K) es entries_so ([], entries_told db T M.items n (there version db taken n can T M K) layout (kept version db taken n can T M K) es one.entries ∙ sym (append-nil es)) can.no_entries
+  fits T M K = goes_entries n (with_edition taken e) T (now_fits version db taken n can e one.record' T M K) es entries_so
+      ([], entries_told db T M.items n (there version db taken n can T M K) layout (kept version db taken n can T M K) es one.entries ∙ sym (append-nil es)) can.no_entries
 
   whole_read : HasReadEditions version db (ns ++ n ∷ []) front now
   whole_read = record {

@@ -179,7 +179,8 @@ module _ (schema : Schema) (at : ℕ) (table : Table) (has : CanSelect schema at
       unfolding body
       body_is = rw (out_from table.name, bounds_are, starred_is, matching_is) refl
 
-      module _ (sorted : List Sort) (order : List (Term × Key)) (rest : ℕ) (last : Carried) (sorts_are : sorts lower (cx false true) outs sorted then ≡ Ok (order, plainly rest last)) (orders : (out-Select (text_of table.name sorted)).order ≡ sorted) where
+      module _ (sorted : List Sort) (order : List (Term × Key)) (rest : ℕ) (last : Carried) (sorts_are : sorts lower (cx false true) outs sorted then ≡ Ok (order, plainly rest last))
+          (orders : (out-Select (text_of table.name sorted)).order ≡ sorted) where
         having_is : (may_aggregate : Bool) (s : State) → having (cx may_aggregate true) None s ≡ Ok ([], s)
         unfolding having tests
         having_is true s = refl
@@ -189,7 +190,10 @@ module _ (schema : Schema) (at : ℕ) (table : Table) (has : CanSelect schema at
         unfolding keys
         no_keys s = refl
 
-        parts_are : parts schema (core table.name) sorted (fresh 1 max_budget) ≡ Ok (record { body = record { level = record { tables = bound ∷ []; shown = outs }; steps = Inner table.tree ∷ []; filter = [] }; is_grouped = false; keys = []; collations = []; having = []; order = order }, plainly rest last)
+        parts_are : parts schema (core table.name) sorted (fresh 1 max_budget) ≡ Ok (
+          record { body = record { level = record { tables = bound ∷ []; shown = outs }; steps = Inner table.tree ∷ []; filter = [] }; is_grouped = false; keys = []; collations = []; having = []; order = order },
+          plainly rest last,
+        )
         unfolding parts
         parts_are = rw (body_is, out_group table.name, no_keys then, out_having table.name, having_is false then, sorts_are) refl
 

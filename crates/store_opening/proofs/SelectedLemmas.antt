@@ -53,7 +53,8 @@ CanRead table db = (at : ℕ) × (tree : ℕ) × CanSelect db.schema at (table t
 read_rows : (schema : Schema) (at : ℕ) (table : Table) → CanSelect schema at table → (trees : Trees) → rows_of table.name (record { schema = schema; trees = trees }) ≡ map (shown table) (trees table.tree)
 read_rows schema at table has trees = let named = has.named in let is = has.is in rw (named, is) refl
 
-module _ (text : List ℕ) (p : Parsed) (table : ℕ → Table) (left : ℕ) (sorted : List Sort) (order : List (Term × Key)) (columns : List ℕ) (rest : ℕ) (last : Carried) (r : ReadsTable text p table None [] left sorted order columns rest last) where
+module _ (text : List ℕ) (p : Parsed) (table : ℕ → Table) (left : ℕ) (sorted : List Sort) (order : List (Term × Key)) (columns : List ℕ) (rest : ℕ) (last : Carried)
+    (r : ReadsTable text p table None [] left sorted order columns rest last) where
   abbrev outs : ℕ → ℕ → List Output
   outs at tree = outputs_of at (table tree)
 
@@ -88,7 +89,8 @@ module _ (text : List ℕ) (p : Parsed) (table : ℕ → Table) (left : ℕ) (so
   in_order : (rows : List Row) → IsSorted (λ a b. key_cmp 0 (map (λ (k : Term × Key). k.1) order) (map (column a) columns) (map (column b) columns)) rows → IsSorted (by_columns columns) rows
   in_order rows h k d from up = subst (λ o. is_lt o ≡ false) (r.compares (get_or rows (k + 1) d) (get_or rows k d)) (h k d from up)
 
-  answered : (values : Row) (at tree : ℕ) (trees : Trees) (rows : List Row) → IsAnswer (query_with (table tree).tree (outs at tree) [] order) (overlay trees []) values rows → IsPermutation (map (shown (table tree)) (trees (table tree).tree)) rows × IsSorted (by_columns columns) rows
+  answered : (values : Row) (at tree : ℕ) (trees : Trees) (rows : List Row) → IsAnswer (query_with (table tree).tree (outs at tree) [] order) (overlay trees []) values rows
+      → IsPermutation (map (shown (table tree)) (trees (table tree).tree)) rows × IsSorted (by_columns columns) rows
   answered values at tree trees rows a =
       let project = (query_with (table tree).tree (outs at tree) [] order).project in
       let same = lists (table tree).tree [] project order values (shown (table tree)) (λ row. map (column row) columns) (r.shows at tree values) (r.keyed tree values) trees rows a in
@@ -132,7 +134,8 @@ module _ (text : List ℕ) (p : Parsed) (table : ℕ → Table) (left : ℕ) (so
       is_one e (inl h) = absurd (let both : Err h.0 ≡ Ok this = sym h.1 ∙ means old.now.schema has.0 has.1 has.2 in cc)
       is_one e (inr h) = fits h.0 (is_it h.0 h.1) h.2
         where
-          fits : (c : Compiled) → c ≡ this → ¬ (((¬ (length text ≤ c.tail)) × (e ≡ MultipleStatement)) ⊎ (((length values ≢ length c.names) × (e ≡ InvalidParameterCount (length values) (length c.names))) ⊎ ((c.formats ≢ []) × (e ≡ SqliteFailure NoClock))))
+          fits : (c : Compiled) → c ≡ this → ¬ (((¬ (length text ≤ c.tail)) × (e ≡ MultipleStatement))
+              ⊎ (((length values ≢ length c.names) × (e ≡ InvalidParameterCount (length values) (length c.names))) ⊎ ((c.formats ≢ []) × (e ≡ SqliteFailure NoClock))))
           fits c is (inl long) = long.0 (rw is w.whole)
           fits c is (inr (inl many)) = many.0 (rw is (w.names x))
           fits c is (inr (inr late)) = late.0 (rw is refl)

@@ -47,8 +47,16 @@ same_tree n = search arith
 
 pub selects_mark : (schema : Schema) (own : HasMarkTable schema) → (at : ℕ) × CanSelect schema at (mark own.tree)
 selects_mark schema own =
-    let place = place_of schema.tables (table_named schema (codes "mark")) (mark own.tree) own.found in
-    (place.0, record { named = place.1; is = place.2; alone = first_of_one (λ (t : Table). t.tree == own.tree) schema.tables place.0 (mark own.tree) place.2 (same_tree own.tree) (length-filter (λ (t : Table). t.tree == own.tree) schema.tables ∙ own.single.single); stored = own.single.stored })
+    let place = place_of schema.tables (table_named schema (codes "mark")) (mark own.tree) own.found in (
+      place.0,
+      record {
+        named = place.1;
+        is = place.2;
+        alone = first_of_one (λ (t : Table). t.tree == own.tree) schema.tables place.0 (mark own.tree) place.2 (same_tree own.tree)
+            (length-filter (λ (t : Table). t.tree == own.tree) schema.tables ∙ own.single.single);
+        stored = own.single.stored;
+      },
+    )
 
 pub own_mark : (schema : Schema) → HasOwn schema mark → HasMarkTable schema
 own_mark schema own = record {

@@ -47,7 +47,8 @@ use Rattle.store_opening.proofs.FileLemmas.{has_index, has_text, headers_of, ind
 whole_number : (db : Database) (n : ℤ) (e : spec.EditionRecord) → HasWholeRecord db n e → e.number ≡ n
 whole_number db n e r =
     ap (λ (x : spec.EditionRecord). x.number) r.2
-    ∙ int_is r.0.value.number n (all_same (λ row. equals_number 1 n row ≡ true) (filter (equals_number 1 n) (rows_of (codes "edition") db)) (stored_edition r.0 ∷ []) r.1.same (all_passed (equals_number 1 n) (rows_of (codes "edition") db))).0
+    ∙ int_is r.0.value.number n (all_same (λ row. equals_number 1 n row ≡ true) (filter (equals_number 1 n) (rows_of (codes "edition") db)) (stored_edition r.0 ∷ []) r.1.same
+    (all_passed (equals_number 1 n) (rows_of (codes "edition") db))).0
 
 pub record_number : (layout : Layout) (db : Database) (n : ℤ) (e : spec.EditionRecord) → HasRecord layout db n e → e.number ≡ n
 record_number Plain db n e r = whole_number db n e r
@@ -62,7 +63,8 @@ pub fresh_record : (layout : Layout) (db : Database) (n : ℤ) (e : spec.Edition
 fresh_record layout db n e r taken none = record { last = (taken.editions, e, refl, sym (record_number layout db n e r)); none = none }
 
 -- the entries of a number have it
-pub rows_number : (layout : Layout) (n : ℤ) (rows : List Row) (es : List spec.EntryRecord) → map (looked_behind_rowid layout) rows ≡ map (entry_cells layout) es → AllByRecursion (λ r. equals_number 1 n r ≡ true) rows → AllByRecursion (λ (x : spec.EntryRecord). x.edition ≡ n) es
+pub rows_number : (layout : Layout) (n : ℤ) (rows : List Row) (es : List spec.EntryRecord) → map (looked_behind_rowid layout) rows ≡ map (entry_cells layout) es → AllByRecursion (λ r. equals_number 1 n r ≡ true) rows
+    → AllByRecursion (λ (x : spec.EntryRecord). x.edition ≡ n) es
 rows_number layout n [] [] is h = tt
 rows_number layout n (r ∷ rows) [] is h = tt
 rows_number layout n [] (x ∷ es) is h = absurd (cc)
@@ -72,7 +74,8 @@ rows_number layout n (r ∷ rows) (x ∷ es) is h =
     (int_is x.edition n (number_of_row layout r x n first h.0), rows_number layout n rows es rest h.1)
 
 table_number : (layout : Layout) (db : Database) (n : ℤ) (es : List spec.EntryRecord) → HasEntryRows layout db n es → AllByRecursion (λ (x : spec.EntryRecord). x.edition ≡ n) es
-table_number layout db n es h = rows_number layout n h.0 es h.2 (all_same (λ r. equals_number 1 n r ≡ true) (filter (equals_number 1 n) (rows_of (codes "entry") db)) h.0 h.1.same (all_passed (equals_number 1 n) (rows_of (codes "entry") db)))
+table_number layout db n es h =
+    rows_number layout n h.0 es h.2 (all_same (λ r. equals_number 1 n r ≡ true) (filter (equals_number 1 n) (rows_of (codes "entry") db)) h.0 h.1.same (all_passed (equals_number 1 n) (rows_of (codes "entry") db)))
 
 pub lines_number : (n : ℤ) (edition : ℕ) → n ≡ pos edition → (place : ℕ) (lines : List Line) → AllByRecursion (λ (x : spec.EntryRecord). x.edition ≡ n) (numbered (entry_record edition) place lines)
 lines_number n edition is place [] = tt
@@ -112,19 +115,23 @@ module _ (db : Database) (T : Tables) (items : List (Item Edition)) (n : ℤ) (f
 
   whole_told : Keeps (codes "edition") edition_row db T.editions → (e : spec.EditionRecord) → HasWholeRecord db n e → editions_numbered n T.editions ≡ e ∷ []
   whole_told keeps e r =
-      let same = (selected_records edition_codec (codes "edition") db T.editions keeps (equals_number 1 n) (λ row. same_number row.number n) (λ row w e. first_number row (edition_row w) w.number n e refl) (stored_edition r.0 ∷ []) r.1.same).0 in
+      let same = (selected_records edition_codec (codes "edition") db T.editions keeps (equals_number 1 n) (λ row. same_number row.number n) (λ row w e. first_number row (edition_row w) w.number n e refl) (stored_edition r.0 ∷ [])
+      r.1.same).0 in
       let is : read edition_codec (stored_edition r.0) ≡ e = read_is edition_codec (stored_edition r.0) (owned_edition r.0.value) refl ∙ sym r.2 in
       one_once e (editions_numbered n T.editions) (subst (λ x. Same (x ∷ []) (editions_numbered n T.editions)) is (same_from (read edition_codec (stored_edition r.0) ∷ []) (editions_numbered n T.editions) (IsPermutation-sym _ _ same)))
 
   parted_told : KeepsAll Parted db (with_derived T) → (e : spec.EditionRecord) → HasRecord Parted db n e → editions_numbered n T.editions ≡ e ∷ []
   parted_told keeps e (r, text) =
       let mine = headers_kept db T keeps in
-      let headers : Keeps (codes "edition") header_row db (map header_of T.editions) = record { rows = subst (λ l. IsPermutation l (map (drop 1) (rows_of (codes "edition") db))) (sym (map_twice header_of header_row T.editions)) mine.rows; apart = mine.apart } in
-      let same = (selected_records header_codec (codes "edition") db (map header_of T.editions) headers (equals_number 1 n) (λ h. same_number h.number n) (λ row w e. first_number row (header_row w) w.number n e refl) (stored_header r.0 ∷ []) r.1.same).0 in
+      let headers : Keeps (codes "edition") header_row db (map header_of T.editions) =
+      record { rows = subst (λ l. IsPermutation l (map (drop 1) (rows_of (codes "edition") db))) (sym (map_twice header_of header_row T.editions)) mine.rows; apart = mine.apart } in
+      let same = (selected_records header_codec (codes "edition") db (map header_of T.editions) headers (equals_number 1 n) (λ h. same_number h.number n) (λ row w e. first_number row (header_row w) w.number n e refl)
+      (stored_header r.0 ∷ []) r.1.same).0 in
       let is : read header_codec (stored_header r.0) ≡ owned_header r.0.value = read_is header_codec (stored_header r.0) (owned_header r.0.value) refl in
       let one : map header_of (editions_numbered n T.editions) ≡ owned_header r.0.value ∷ [] =
       one_once (owned_header r.0.value) (map header_of (editions_numbered n T.editions))
-      (subst (λ x. Same (x ∷ []) (map header_of (editions_numbered n T.editions))) is (subst (Same (read header_codec (stored_header r.0) ∷ [])) (headers_of n T.editions) (same_from (read header_codec (stored_header r.0) ∷ []) _ (IsPermutation-sym _ _ same)))) in
+      (subst (λ x. Same (x ∷ []) (map header_of (editions_numbered n T.editions))) is
+      (subst (Same (read header_codec (stored_header r.0) ∷ [])) (headers_of n T.editions) (same_from (read header_codec (stored_header r.0) ∷ []) _ (IsPermutation-sym _ _ same)))) in
       let both : header_of its_record ∷ [] ≡ owned_header r.0.value ∷ [] = sym (ap (map header_of) only) ∙ one in
       let head : header_of its_record ≡ header_of e = (let h : header_of its_record ≡ owned_header r.0.value = cc in h) ∙ sym r.2 in
       let body : its_record.body ≡ e.body = file_told db n (pos 1) its_record.body e.body (has_text db T (parts_kept db T keeps).rows n its_record only found.is) text in

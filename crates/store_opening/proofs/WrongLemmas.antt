@@ -78,7 +78,8 @@ use Rattle.store_opening.proofs.ToldLemmas.{KeptAs, kept_as}
 
 -- ---- rowids
 
-pub wrong_rowids : {R : Type 0} (stored : R → Row) (columns : List Content) (table : StoreTable) (db : Database) → AllByRecursion (HasColumns columns) (rows_of (table_of table 0).name db) → HasApartRowids (rows_of (table_of table 0).name db) →
+pub wrong_rowids : {R : Type 0} (stored : R → Row) (columns : List Content) (table : StoreTable) (db : Database) → AllByRecursion (HasColumns columns) (rows_of (table_of table 0).name db)
+    → HasApartRowids (rows_of (table_of table 0).name db) →
     HasNoRecordIn stored columns (InStore (ByRowid table)) db ⊎ (HasApartRowids (rows_of (table_of table 0).name db) → ⊥) → ⊥
 wrong_rowids stored columns table db all apart (inl w) = w.3 (last_holds (HasColumns columns) (rows_of (table_of table 0).name db) (map stored w.0) w.2.0 w.1 all w.2.1.same)
 wrong_rowids stored columns table db all apart (inr w) = w apart
@@ -138,7 +139,9 @@ module _ (version : ℕ) (db : Database) (marks : List (Beside (typed.Mark.Mark 
         items = s.items;
         members = all_weaker (HoldsMembers T.members) (HoldsMembers new) (λ item g. members_same T.members new item (same_from T.members new same) (members_order db members lo) g) M.items s.members;
         owners = all_same (λ (row : spec.Member). IsTrue (is_known M.items row.owner)) T.members new same s.owners;
-        editions = all_weaker (HoldsEditions T) (HoldsEditions changed) (λ item g. all_weaker (HoldsEdition T (name_in item)) (HoldsEdition changed (name_in item)) (λ stored h. holds_same T changed (name_in item) stored (record { editions = refl; entries = refl }) h) (editions_of item) g) M.items s.editions;
+        editions = all_weaker (HoldsEditions T) (HoldsEditions changed) (λ item g.
+            all_weaker (HoldsEdition T (name_in item)) (HoldsEdition changed (name_in item)) (λ stored h. holds_same T changed (name_in item) stored (record { editions = refl; entries = refl }) h) (editions_of item) g) M.items
+            s.editions;
         numbers = s.numbers;
         entries = s.entries;
         kept = s.kept;
@@ -177,8 +180,10 @@ more_true false b e = e
 
 pub each_known : (ns : List ℕ) → AllByRecursion (λ n. list_any (λ one. same_number (pos one) n) ns ≡ true) (map pos ns)
 each_known [] = tt
-each_known (m ∷ ns) =
-    (ap (λ b. b || list_any (λ one. same_number (pos one) (pos m)) ns) (same_itself (pos m)), all_weaker (λ n. list_any (λ one. same_number (pos one) n) ns ≡ true) (λ n. list_any (λ one. same_number (pos one) n) (m ∷ ns) ≡ true) (λ n h. more_true (same_number (pos m) n) _ h) (map pos ns) (each_known ns))
+each_known (m ∷ ns) = (
+  ap (λ b. b || list_any (λ one. same_number (pos one) (pos m)) ns) (same_itself (pos m)),
+  all_weaker (λ n. list_any (λ one. same_number (pos one) n) ns ≡ true) (λ n. list_any (λ one. same_number (pos one) n) (m ∷ ns) ≡ true) (λ n h. more_true (same_number (pos m) n) _ h) (map pos ns) (each_known ns),
+)
 
 not_false : (b : Bool) → not b ≡ true → b ≡ false
 not_false true e = absurd (false≢true e)
@@ -230,7 +235,8 @@ parts_so edition file is n [] = tt
 parts_so edition file is n (o ∷ os) = ((refl, is), parts_so edition file is (n + 1) os)
 
 edition_parts_so : (edition : ℤ) (index text : List ℕ) → AllByRecursion (IsPartOf edition) (parts_under edition index text)
-edition_parts_so edition index text = all_append (IsPartOf edition) (file_parts edition (pos 0) index) (file_parts edition (pos 1) text) (parts_so edition (pos 0) refl 0 (parts_of_octets index)) (parts_so edition (pos 1) refl 0 (parts_of_octets text))
+edition_parts_so edition index text =
+    all_append (IsPartOf edition) (file_parts edition (pos 0) index) (file_parts edition (pos 1) text) (parts_so edition (pos 0) refl 0 (parts_of_octets index)) (parts_so edition (pos 1) refl 0 (parts_of_octets text))
 
 both_true : (a b : Bool) → a ≡ true → b ≡ true → (a && b) ≡ true
 both_true true b p q = q
@@ -308,9 +314,14 @@ module _ (version : ℕ) (db : Database) (reader : Reader) (taken : Tables) (h :
   parts_named keeps =
       let rows = rows_of (codes "dictcat_part") db in
       let kept = parts_kept db T keeps in
-      let numbered_so = named (codes "dictcat_part") part_row (λ (p : spec.Part). p.edition) (λ p. refl) (all_parts T) kept.rows (all_weaker IsKnownPart (λ (p : spec.Part). is_of numbers p.edition ≡ true) (λ p k. k.0) (all_parts T) parts_known) in
+      let numbered_so = named (codes "dictcat_part") part_row (λ (p : spec.Part). p.edition) (λ p. refl) (all_parts T) kept.rows
+      (all_weaker IsKnownPart (λ (p : spec.Part). is_of numbers p.edition ≡ true) (λ p k. k.0) (all_parts T) parts_known) in
       let files = all_of_map (drop 1) IsInFile (λ row. is_in_file row ≡ true) in_file rows (all_same IsInFile (map part_row (all_parts T)) (map (drop 1) rows) kept.rows (files_written (all_parts T) parts_known)) in
-      record { apart = kept.apart; known = all_with (λ row. one_of numbers row ≡ true) (λ row. is_in_file row ≡ true) (λ row. is_known_part numbers row ≡ true) (λ row p q. both_true (one_of numbers row) (is_in_file row) p q) rows numbered_so files }
+      record {
+        apart = kept.apart;
+        known = all_with (λ row. one_of numbers row ≡ true) (λ row. is_in_file row ≡ true) (λ row. is_known_part numbers row ≡ true) (λ row p q. both_true (one_of numbers row) (is_in_file row) p q) rows
+            numbered_so files;
+      }
 
   contents_named : (layout : Layout) → KeptAs layout db T → AreKnownApart (is_of_contents layout numbers) (table_name_of (contents layout)) db
   contents_named Plain k = record { apart = k.keeps.1.1.1.1.1.0.apart; known = entries_named Plain tt k }
@@ -329,7 +340,8 @@ rows_stray version db reader taken h fits wrong T M K = wrong (K.records.1.1.1.1
 
 -- ---- the kept replies
 
-pub replies_wrong : (version : ℕ) (db : Database) (reader : Reader) (taken : Tables) → HasTaken version reader taken → AllGoOnFrom version db taken → taken.kept ≡ [] → IsWrong stored_kept kept_columns refuses_replies (InStore AllKept) db reader → KeepsNone version db taken.members
+pub replies_wrong : (version : ℕ) (db : Database) (reader : Reader) (taken : Tables) → HasTaken version reader taken → AllGoOnFrom version db taken → taken.kept ≡ []
+    → IsWrong stored_kept kept_columns refuses_replies (InStore AllKept) db reader → KeepsNone version db taken.members
 replies_wrong version db reader taken h fits none (inl w) T M K = w.3 (last_holds (HasColumns kept_columns) (rows_of (codes "kept") db) (map stored_kept w.0) w.2.0 w.1 K.records.1.1.1.0 w.2.1.same)
 replies_wrong version db reader taken h fits none (inr w) T M K = none_kept version db (with_replies taken (kept_given w.0)) (fits_replies version db taken fits none w.0 w.1) (w.2 version taken h) T M K
 
@@ -387,5 +399,6 @@ ids_apart db given l h =
     let other = h.0 in
     let once = once_true (ids_given other) (apart_once (ids_given other) (neighbours_apart NotAbove both (ids_given other) h.2 (ids_order db other h.1))) in
     let rows : IsPermutation (map stored_kept other) (map stored_kept given) = IsPermutation-trans (map stored_kept other) (rows_of (codes "kept") db) (map stored_kept given) (IsPermutation-sym _ _ h.1.same) l.same in
-    let records : IsPermutation (kept_given other) (kept_given given) = subst (λ xs. IsPermutation xs (kept_given given)) (read_stored kept_codec other) (subst (IsPermutation (map (read kept_codec) (map stored_kept other))) (read_stored kept_codec given) (IsPermutation-map (read kept_codec) _ _ rows)) in
+    let records : IsPermutation (kept_given other) (kept_given given) = subst (λ xs. IsPermutation xs (kept_given given)) (read_stored kept_codec other)
+    (subst (IsPermutation (map (read kept_codec) (map stored_kept other))) (read_stored kept_codec given) (IsPermutation-map (read kept_codec) _ _ rows)) in
     once_same (ids_given other) (ids_given given) (same_from (ids_given other) (ids_given given) (IsPermutation-map id_of (kept_given other) (kept_given given) records)) once

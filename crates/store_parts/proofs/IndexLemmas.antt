@@ -33,7 +33,8 @@ pub goes_on : (front lines : List Line) (rest : List ℕ) → AllByRecursion IsS
 goes_on [] lines rest h k e = (lines, refl, sym e)
 goes_on (x ∷ front) [] rest h k e = absurd (nothing_in_front (stored_line x) (stored_index front ++ rest) (e ∙ (ap (λ l. l ++ rest) (first_and_others x front) ∙ append_assoc (stored_line x) (10 ∷ stored_index front) rest)))
 goes_on (x ∷ front) (y ∷ lines) rest h k e =
-    let same = one_first y x (stored_index lines) (stored_index front ++ rest) k.0 h.0 (sym (first_and_others y lines) ∙ (e ∙ (ap (λ l. l ++ rest) (first_and_others x front) ∙ append_assoc (stored_line x) (10 ∷ stored_index front) rest))) in
+    let same = one_first y x (stored_index lines) (stored_index front ++ rest) k.0 h.0
+    (sym (first_and_others y lines) ∙ (e ∙ (ap (λ l. l ++ rest) (first_and_others x front) ∙ append_assoc (stored_line x) (10 ∷ stored_index front) rest))) in
     let others = goes_on front lines rest h.1 k.1 same.1 in
     (others.0, ap (λ l. y ∷ l) others.1 ∙ ap (λ s. s ∷ (front ++ others.0)) same.0, others.2)
 

@@ -56,7 +56,8 @@ digits_are : (most n : ℕ) → 1 ≤ most → n < 64 ^ most → AreDigits (digi
 digits_are zero n some small = absurd (omega arith)
 digits_are (suc most) n some small = by_test (λ one below. digits_are most (n / 64) one below) (n / 64 == 0) refl
   where
-    by_test : (1 ≤ most → n / 64 < 64 ^ most → AreDigits (digits_of most (n / 64)) most (n / 64)) → (b : Bool) → (n / 64 == 0) ≡ b → AreDigits (if b then slice_index alphabet (n % 64) ∷ [] else digits_of most (n / 64) ++ slice_index alphabet (n % 64) ∷ []) (suc most) n
+    by_test : (1 ≤ most → n / 64 < 64 ^ most → AreDigits (digits_of most (n / 64)) most (n / 64)) → (b : Bool) → (n / 64 == 0) ≡ b
+        → AreDigits (if b then slice_index alphabet (n % 64) ∷ [] else digits_of most (n / 64) ++ slice_index alphabet (n % 64) ∷ []) (suc most) n
     by_test before true e = lone_digit most n (grind (arith, nat_tests, e))
     by_test before false e =
         let more : 0 < n / 64 = grind (arith, nat_tests, e) in

@@ -58,7 +58,8 @@ any_from : (y x : ℕ) (xs : List ℕ) → x ≤ y → list_any (nat_eq y) (filt
 any_from y x [] le = refl
 any_from y x (z ∷ zs) le = by (nat_lt z x) refl (any_from y x zs le)
   where
-    by : (b : Bool) → nat_lt z x ≡ b → list_any (nat_eq y) (filter (is_place_from x) zs) ≡ list_any (nat_eq y) zs → list_any (nat_eq y) (cond (not b) (z ∷ filter (is_place_from x) zs) (filter (is_place_from x) zs)) ≡ list_any (nat_eq y) (z ∷ zs)
+    by : (b : Bool) → nat_lt z x ≡ b → list_any (nat_eq y) (filter (is_place_from x) zs) ≡ list_any (nat_eq y) zs → list_any (nat_eq y) (cond (not b) (z ∷ filter (is_place_from x) zs) (filter (is_place_from x) zs))
+        ≡ list_any (nat_eq y) (z ∷ zs)
     by true e same = same ∙ ap (λ b. b || list_any (nat_eq y) zs) (sym (not_same x y z le e))
     by false e same = ap (λ b. nat_eq y z || b) same
 

@@ -22,7 +22,8 @@ module _ {X : Type 0} where
       append_assoc merged (x ∷ []) (take (left_end - (left + 1)) (drop (left + 1) items) ++ drop right items)
       ∙ ap (λ l. merged ++ (l ++ drop right items)) (sym (ap (take (left_end - left)) here ∙ one_less left left_end x (drop (left + 1) items) some))
 
-  pub put_right : (merged items : List X) (left left_end right : ℕ) (x : X) → right < length items → x ≡ get_or items right x → IsPermutation (parts merged items left left_end right) (parts (merged ++ x ∷ []) items left left_end (right + 1))
+  pub put_right : (merged items : List X) (left left_end right : ℕ) (x : X) → right < length items → x ≡ get_or items right x
+      → IsPermutation (parts merged items left left_end right) (parts (merged ++ x ∷ []) items left left_end (right + 1))
   put_right merged items left left_end right x within is =
       let run = take (left_end - left) (drop left items) in
       let here : drop right items ≡ x ∷ drop (right + 1) items = drop_more items right x within ∙ ap (λ y. y ∷ drop (right + 1) items) (sym is) in

@@ -1,5 +1,6 @@
 -- Pairs of a piece and a place, grouped by pieces; and a piece looked for among those that rise.
-use Rattle.std.proofs.Common.{◌≡◌, ◌↔◌, ℕ, zero, suc, ◌+◌, ◌-◌, ◌<◌, ◌≤◌, Bool, true, false, cond, ◌&&◌, List, [], ◌∷◌, ◌++◌, map, take, length, get_or, filter, refl, ap, sym, ◌∙◌, subst, inl, inr, arith, append_assoc, append-nil, length-append, nat_eq, nat_lt, Result, Ok, Err}
+use Rattle.std.proofs.Common.{◌≡◌, ◌↔◌, ℕ, zero, suc, ◌+◌, ◌-◌, ◌<◌, ◌≤◌, Bool, true, false, cond, ◌&&◌, List, [], ◌∷◌, ◌++◌, map, take, length, get_or, filter, refl, ap, sym, ◌∙◌, subst, inl, inr, arith, append_assoc}
+use Rattle.std.proofs.Common.{append-nil, length-append, nat_eq, nat_lt, Result, Ok, Err}
 use Rattle.std.specs.Bool.{Decides}
 use Rattle.std.specs.Result.{MatchResult, OnOk, is_ok}
 use Rattle.std.specs.declared.cmp.Ordering.{Ordering}
@@ -107,7 +108,8 @@ put_grown (Ok x) pieces lists lists' piece place e same grows =
     (put.0, sym (ap (λ b. cond b pieces (pieces ++ piece ∷ [])) e), put.1)
 put_grown (Err x) pieces lists lists' piece place e same grows = (tt, tt, tt)
 
-pub put_begun : {A E : Type 0} (r : Result A E) (pieces lists pieces' lists' : List (List ℕ)) (piece : List ℕ) (place : ℕ) → ends_with_piece pieces piece ≡ false → length pieces ≡ length lists → pieces' ≡ pieces ++ piece ∷ [] → OnOk r (lists' ≡ lists ++ (place ∷ []) ∷ []) → PutSo r pieces lists pieces' lists' piece place
+pub put_begun : {A E : Type 0} (r : Result A E) (pieces lists pieces' lists' : List (List ℕ)) (piece : List ℕ) (place : ℕ) → ends_with_piece pieces piece ≡ false → length pieces ≡ length lists → pieces' ≡ pieces ++ piece ∷ []
+    → OnOk r (lists' ≡ lists ++ (place ∷ []) ∷ []) → PutSo r pieces lists pieces' lists' piece place
 put_begun (Ok x) pieces lists pieces' lists' piece place e same one two =
     let put = pairs_begun pieces lists pieces' lists' piece place same one two in
     (put.0, one ∙ sym (ap (λ b. cond b pieces (pieces ++ piece ∷ [])) e), put.1)
@@ -163,7 +165,8 @@ next_grouped pairs i pieces lists pieces' lists' q up lt at old put is same = re
       (subst (λ l. 0 < length l) (sym is) r.0, last_is ∙ ap (λ (p : Placed). p.0) (at ∙ get_or_default pairs i q d lt ∙ ap (λ n. get_or pairs n d) (sym here)));
 }
   where
-    by : (b : Bool) → ends_with_piece pieces q.0 ≡ b → IsStrictlySortedBy octets_cmp (cond b pieces (pieces ++ q.0 ∷ [])) × ((0 < length (cond b pieces (pieces ++ q.0 ∷ []))) × (get_or (cond b pieces (pieces ++ q.0 ∷ [])) (length (cond b pieces (pieces ++ q.0 ∷ [])) - 1) [] ≡ q.0))
+    by : (b : Bool) → ends_with_piece pieces q.0 ≡ b → IsStrictlySortedBy octets_cmp (cond b pieces (pieces ++ q.0 ∷ []))
+        × ((0 < length (cond b pieces (pieces ++ q.0 ∷ []))) × (get_or (cond b pieces (pieces ++ q.0 ∷ [])) (length (cond b pieces (pieces ++ q.0 ∷ [])) - 1) [] ≡ q.0))
     by true e = (old.rising, is_last pieces q.0 e)
     by false e =
         let size = length-append pieces (q.0 ∷ []) in (
@@ -173,7 +176,9 @@ next_grouped pairs i pieces lists pieces' lists' q up lt at old put is same = re
               let down : pair_cmp (get_or pairs (i - 1) q) (get_or pairs i q) ≡ Less = Less-from_sorted pair_cmp pairs (i - 1) i q up (omega arith) lt in
               let of_this : (get_or pairs i q).0 ≡ q.0 = ap (λ (p : Placed). p.0) (sym at) in
               let apart : octets_cmp (get_or pieces (length pieces - 1) []) q.0 ≡ Equal → ⊥ = differs (get_or pieces (length pieces - 1) []) q.0 (not_last pieces q.0 some e) in
-              let lower : ordering_then (octets_cmp (get_or pieces (length pieces - 1) []) q.0) (nat_cmp (get_or pairs (i - 1) q).1 (get_or pairs i q).1) ≡ Less = ap (λ a. ordering_then (octets_cmp a q.0) (nat_cmp (get_or pairs (i - 1) q).1 (get_or pairs i q).1)) of_last ∙ ap (λ a. ordering_then (octets_cmp (get_or pairs (i - 1) q).0 a) (nat_cmp (get_or pairs (i - 1) q).1 (get_or pairs i q).1)) (sym of_this) ∙ down in
+              let lower : ordering_then (octets_cmp (get_or pieces (length pieces - 1) []) q.0) (nat_cmp (get_or pairs (i - 1) q).1 (get_or pairs i q).1) ≡ Less =
+              ap (λ a. ordering_then (octets_cmp a q.0) (nat_cmp (get_or pairs (i - 1) q).1 (get_or pairs i q).1)) of_last
+              ∙ ap (λ a. ordering_then (octets_cmp (get_or pairs (i - 1) q).0 a) (nat_cmp (get_or pairs (i - 1) q).1 (get_or pairs i q).1)) (sym of_this) ∙ down in
               first_below (octets_cmp (get_or pieces (length pieces - 1) []) q.0) (nat_cmp (get_or pairs (i - 1) q).1 (get_or pairs i q).1) lower apart),
           (omega (arith, size), get_or_push pieces q.0 [] (length (pieces ++ q.0 ∷ []) - 1) (omega (arith, size))),
         )
@@ -277,7 +282,8 @@ pub no_members : (xs : List ℕ) → ((z : ℕ) → Contains xs z → ⊥) → x
 no_members [] never = refl
 no_members (x ∷ xs) never = absurd (never x (at_front x xs))
 
-pub are_placed : (pieces_in : List ℕ → List (List ℕ)) (keys pieces lists : List (List ℕ)) (pairs : List Placed) → AreOccurrences pieces_in keys pairs → length pieces ≡ length lists → pairs_of pieces lists ≡ pairs → IsStrictlySortedBy octets_cmp pieces → ArePlaced pieces_in keys pieces lists
+pub are_placed : (pieces_in : List ℕ → List (List ℕ)) (keys pieces lists : List (List ℕ)) (pairs : List Placed) → AreOccurrences pieces_in keys pairs → length pieces ≡ length lists → pairs_of pieces lists ≡ pairs
+    → IsStrictlySortedBy octets_cmp pieces → ArePlaced pieces_in keys pieces lists
 are_placed pieces_in keys pieces lists pairs all same are up = record {
   rising = up;
   each = λ at lt.
@@ -331,7 +337,8 @@ module _ (pieces : List (List ℕ)) (wanted : List ℕ) (up : IsStrictlySortedBy
     fits = omega (arith, old.fits, lt);
     below = old.below;
     above = λ k le inside. elim (cases_lt middle k) [
-      | inl behind ↦ less_to wanted (get_or pieces k []) (nat_list_cmp_total.trans wanted (get_or pieces middle []) (get_or pieces k []) (greater_from (get_or pieces middle []) wanted more) (Less-from_sorted octets_cmp pieces middle k [] up behind inside))
+      | inl behind ↦ less_to wanted (get_or pieces k []) (nat_list_cmp_total.trans wanted (get_or pieces middle []) (get_or pieces k []) (greater_from (get_or pieces middle []) wanted more)
+          (Less-from_sorted octets_cmp pieces middle k [] up behind inside))
       | inr back ↦ let same : k ≡ middle = omega (arith, le, back) in ap (λ n. octets_cmp (get_or pieces n []) wanted) same ∙ more
     ];
   }
@@ -386,7 +393,8 @@ pub goes_on : (pairs : List Placed) (i : ℕ) (pieces lists pieces' lists' : Lis
     → pairs_of pieces' lists' ≡ pairs_of pieces lists ++ q ∷ [] → pieces' ≡ cond (ends_with_piece pieces q.0) pieces (pieces ++ q.0 ∷ []) → length pieces' ≡ length lists' → GoesOnGrouping pairs (i + 1) pieces' lists'
 goes_on pairs i pieces lists pieces' lists' q lt at old put is same = record { same = same; grouped = λ up. next_grouped pairs i pieces lists pieces' lists' q up lt at (old.grouped up) put is same }
 
-pub all_grouped : (pieces_in : List ℕ → List (List ℕ)) (keys pieces lists : List (List ℕ)) (pairs : List Placed) (i : ℕ) → length pairs ≤ i → GoesOnGrouping pairs i pieces lists → AreOccurrences pieces_in keys pairs → ArePlaced pieces_in keys pieces lists
+pub all_grouped : (pieces_in : List ℕ → List (List ℕ)) (keys pieces lists : List (List ℕ)) (pairs : List Placed) (i : ℕ) → length pairs ≤ i → GoesOnGrouping pairs i pieces lists → AreOccurrences pieces_in keys pairs
+    → ArePlaced pieces_in keys pieces lists
 all_grouped pieces_in keys pieces lists pairs i past old all =
     let h = old.grouped all.rising in
     are_placed pieces_in keys pieces lists pairs all h.same (h.are ∙ take_all i pairs past) h.rising

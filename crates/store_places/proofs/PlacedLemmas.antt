@@ -106,7 +106,8 @@ module _ {X : Type 0} (row : X → Placed) (cmp : X → X → Ordering) (o : IsT
   rises [] h = tt
   rises (x ∷ xs) h = (each_rises x xs h.0, rises xs h.1)
 
-  pub once_sorted : (pieces_in : List ℕ → List (List ℕ)) (keys : List (List ℕ)) (sorted last : List X) → IsPermutation (occurrences_from pieces_in 0 keys) (map row sorted) → IsSorted cmp sorted → last ≡ dedup (eq_by_cmp cmp) sorted → AreOccurrences pieces_in keys (map row last)
+  pub once_sorted : (pieces_in : List ℕ → List (List ℕ)) (keys : List (List ℕ)) (sorted last : List X) → IsPermutation (occurrences_from pieces_in 0 keys) (map row sorted) → IsSorted cmp sorted → last ≡ dedup (eq_by_cmp cmp) sorted
+      → AreOccurrences pieces_in keys (map row last)
   once_sorted pieces_in keys sorted last moved up kept =
       let all = occurrences_from pieces_in 0 keys in
       record {
@@ -128,7 +129,8 @@ module _ {X : Type 0} (row : X → Placed) (cmp : X → X → Ordering) (o : IsT
         );
       }
 
-  pub sorted_once : (pieces_in : List ℕ → List (List ℕ)) (keys : List (List ℕ)) (all sorted last : List X) → map row all ≡ occurrences_from pieces_in 0 keys → IsPermutation all sorted → IsSorted cmp sorted → last ≡ dedup (eq_by_cmp cmp) sorted → AreOccurrences pieces_in keys (map row last)
+  pub sorted_once : (pieces_in : List ℕ → List (List ℕ)) (keys : List (List ℕ)) (all sorted last : List X) → map row all ≡ occurrences_from pieces_in 0 keys → IsPermutation all sorted → IsSorted cmp sorted → last
+      ≡ dedup (eq_by_cmp cmp) sorted → AreOccurrences pieces_in keys (map row last)
   sorted_once pieces_in keys all sorted last are moved up kept =
       once_sorted pieces_in keys sorted last (subst (λ l. IsPermutation l (map row sorted)) are (IsPermutation-map row all sorted moved)) up kept
 
@@ -145,12 +147,14 @@ gram_total = then_total (on_total (λ (g : PlacedGram). g.gram) nat_list_cmp_tot
 left_by : {X : Type 0} (E F : X → X → Bool) → ((x y : X) → E x y ≡ F x y) → (xs ys : List X) → ys ≡ dedup E xs → ys ≡ dedup F xs
 left_by E F same xs ys e = e ∙ ap (λ test. dedup test xs) (λ i x y. same x y i)
 
-pub placed_words : (pieces_in : List ℕ → List (List ℕ)) (keys : List (List ℕ)) (all sorted last : List PlacedWord) (E : PlacedWord → PlacedWord → Bool) → ((x y : PlacedWord) → E x y ≡ eq_by_cmp word_cmp x y) → map word_placed all ≡ occurrences_from pieces_in 0 keys
+pub placed_words : (pieces_in : List ℕ → List (List ℕ)) (keys : List (List ℕ)) (all sorted last : List PlacedWord) (E : PlacedWord → PlacedWord → Bool) → ((x y : PlacedWord) → E x y ≡ eq_by_cmp word_cmp x y) → map word_placed all
+    ≡ occurrences_from pieces_in 0 keys
     → IsPermutation all sorted → IsSorted word_cmp sorted → last ≡ dedup E sorted → AreOccurrences pieces_in keys (map word_placed last)
 placed_words pieces_in keys all sorted last E same are moved up kept =
     sorted_once word_placed word_cmp word_total (λ x y. refl) pieces_in keys all sorted last are moved up (left_by E (eq_by_cmp word_cmp) same sorted last kept)
 
-pub placed_grams : (pieces_in : List ℕ → List (List ℕ)) (keys : List (List ℕ)) (all sorted last : List PlacedGram) (E : PlacedGram → PlacedGram → Bool) → ((x y : PlacedGram) → E x y ≡ eq_by_cmp gram_cmp x y) → map gram_placed all ≡ occurrences_from pieces_in 0 keys
+pub placed_grams : (pieces_in : List ℕ → List (List ℕ)) (keys : List (List ℕ)) (all sorted last : List PlacedGram) (E : PlacedGram → PlacedGram → Bool) → ((x y : PlacedGram) → E x y ≡ eq_by_cmp gram_cmp x y) → map gram_placed all
+    ≡ occurrences_from pieces_in 0 keys
     → IsPermutation all sorted → IsSorted gram_cmp sorted → last ≡ dedup E sorted → AreOccurrences pieces_in keys (map gram_placed last)
 placed_grams pieces_in keys all sorted last E same are moved up kept =
     sorted_once gram_placed gram_cmp gram_total (λ x y. refl) pieces_in keys all sorted last are moved up (left_by E (eq_by_cmp gram_cmp) same sorted last kept)

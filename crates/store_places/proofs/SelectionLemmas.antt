@@ -60,7 +60,8 @@ pub hit_decided : (strategy : Strategy) (q k : List ℕ) → Decides (is_hit str
 hit_decided strategy q k = hit_law strategy q k
 
 -- where all that is looked at is a hit, that is what is found
-all_hit : (strategy : Strategy) (q : List ℕ) (keys : List (List ℕ)) → All IsUtf8 keys → ((k : List ℕ) → IsUtf8 k → SelectsKey (rows_for strategy q) k → Hits strategy q k) → places_where (is_selected (rows_for strategy q)) keys ≡ places_where (is_hit strategy q) keys
+all_hit : (strategy : Strategy) (q : List ℕ) (keys : List (List ℕ)) → All IsUtf8 keys → ((k : List ℕ) → IsUtf8 k → SelectsKey (rows_for strategy q) k → Hits strategy q k) → places_where (is_selected (rows_for strategy q)) keys
+    ≡ places_where (is_hit strategy q) keys
 all_hit strategy q keys text only_hits =
     let sel = is_selected (rows_for strategy q) in
     let hit = is_hit strategy q in
@@ -107,10 +108,12 @@ untested First q keys text plain = absurd (false≢true plain)
 untested Last q keys text plain = absurd (false≢true plain)
 
 -- those that pass the test among the places of keys that pass another one, which all have that pass it
-pub tested_among : (wide hit : List ℕ → Bool) (keys : List (List ℕ)) → ((z : ℕ) → z < length keys → hit (key_at keys z) ≡ true → wide (key_at keys z) ≡ true) → filter (λ place. hit (key_at keys place)) (places_where wide keys) ≡ places_where hit keys
+pub tested_among : (wide hit : List ℕ → Bool) (keys : List (List ℕ)) → ((z : ℕ) → z < length keys → hit (key_at keys z) ≡ true → wide (key_at keys z) ≡ true) → filter (λ place. hit (key_at keys place)) (places_where wide keys)
+    ≡ places_where hit keys
 tested_among wide hit keys covers =
     let mine = filter (λ place. hit (key_at keys place)) (places_where wide keys) in
-    same_rising mine (places_where hit keys) (sorted_from_strictly_increasing mine (IsStrictlyIncreasing-filter (λ place. hit (key_at keys place)) (places_where wide keys) (where_rises wide keys))) (sorted_from_strictly_increasing (places_where hit keys) (where_rises hit keys)) (λ z. (
+    same_rising mine (places_where hit keys) (sorted_from_strictly_increasing mine (IsStrictlyIncreasing-filter (λ place. hit (key_at keys place)) (places_where wide keys) (where_rises wide keys)))
+    (sorted_from_strictly_increasing (places_where hit keys) (where_rises hit keys)) (λ z. (
       (λ c.
           let r = filter_in (λ place. hit (key_at keys place)) (places_where wide keys) z c in
           (where_is hit keys z).1 (((where_is wide keys z).0 r.0).0, r.1)),
@@ -123,5 +126,6 @@ tested_among wide hit keys covers =
 pub covered : (strategy : Strategy) (q : List ℕ) (keys : List (List ℕ)) → All IsUtf8 keys → (z : ℕ) → z < length keys → is_hit strategy q (key_at keys z) ≡ true → is_selected (rows_for strategy q) (key_at keys z) ≡ true
 covered strategy q keys text z lt h = let k = key_at keys z in (selects_decided (rows_for strategy q) k).1 (among strategy q k (text_there keys z text lt) ((hit_decided strategy q k).0 h))
 
-pub tested : (strategy : Strategy) (q : List ℕ) (keys : List (List ℕ)) → All IsUtf8 keys → filter (λ place. is_hit strategy q (key_at keys place)) (places_where (is_selected (rows_for strategy q)) keys) ≡ places_where (is_hit strategy q) keys
+pub tested : (strategy : Strategy) (q : List ℕ) (keys : List (List ℕ)) → All IsUtf8 keys → filter (λ place. is_hit strategy q (key_at keys place)) (places_where (is_selected (rows_for strategy q)) keys)
+    ≡ places_where (is_hit strategy q) keys
 tested strategy q keys text = tested_among (is_selected (rows_for strategy q)) (is_hit strategy q) keys (covered strategy q keys text)

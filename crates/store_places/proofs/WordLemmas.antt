@@ -33,7 +33,8 @@ zip_more [] (b ∷ ys) x y same = absurd (omega (arith, same))
 zip_more (a ∷ xs) [] x y same = absurd (omega (arith, same))
 zip_more (a ∷ xs) (b ∷ ys) x y same = ap (λ l. (a, b) ∷ l) (zip_more xs ys x y (omega (arith, same)))
 
-pub put_one : (place : ℕ) (found found' : List (List ℕ)) (places places' : List ℕ) (w : List ℕ) (left rest : List (List ℕ)) (all : List Placed) → length found ≡ length places → found' ≡ found ++ w ∷ [] → places' ≡ places ++ place ∷ [] → left ≡ w ∷ rest
+pub put_one : (place : ℕ) (found found' : List (List ℕ)) (places places' : List ℕ) (w : List ℕ) (left rest : List (List ℕ)) (all : List Placed) → length found ≡ length places → found' ≡ found ++ w ∷ [] → places' ≡ places ++ place
+    ∷ [] → left ≡ w ∷ rest
     → zip found places ++ map (placed_at place) left ≡ all → zip found' places' ++ map (placed_at place) rest ≡ all
 put_one place found found' places places' w left rest all same one two next before =
     ap (λ l. zip l places' ++ map (placed_at place) rest) one
@@ -67,7 +68,8 @@ rows_all found places same = rows_from found places 0 (length found) same (omega
 abbrev place_of : Placed → ℕ
 place_of p = p.1
 
-joined_rise : (here rest : List Placed) (first : ℕ) → ((i : ℕ) (d : Placed) → i < length here → place_of (get_or here i d) ≡ first) → ((p : Placed) → Contains rest p → first ≤ place_of p) → IsNonDecreasingBy place_of rest → IsNonDecreasingBy place_of (here ++ rest)
+joined_rise : (here rest : List Placed) (first : ℕ) → ((i : ℕ) (d : Placed) → i < length here → place_of (get_or here i d) ≡ first) → ((p : Placed) → Contains rest p → first ≤ place_of p) → IsNonDecreasingBy place_of rest
+    → IsNonDecreasingBy place_of (here ++ rest)
 joined_rise here rest first same low up i j d le lt =
     let size = length-append here rest in
     elim (cases_lt j (length here)) [
@@ -139,7 +141,8 @@ rows_sorted keys found places sorted same are order k d low lt =
 pair_total : IsTotalOrder pair_cmp
 pair_total = then_total (on_total (λ (p : Placed). p.0) nat_list_cmp_total) (on_total (λ (p : Placed). p.1) nat_cmp_total)
 
-pub words_once : (keys found : List (List ℕ)) (places sorted last : List ℕ) → length found ≡ length places → zip found places ≡ occurrences_from words_between_blanks 0 keys → IsOrderOf found sorted → last ≡ dedup (eq_by_cmp (row_cmp found places)) sorted
+pub words_once : (keys found : List (List ℕ)) (places sorted last : List ℕ) → length found ≡ length places → zip found places ≡ occurrences_from words_between_blanks 0 keys → IsOrderOf found sorted → last
+    ≡ dedup (eq_by_cmp (row_cmp found places)) sorted
     → AreOccurrences words_between_blanks keys (words_with_places found places last)
 words_once keys found places sorted last same are order kept =
     let row = word_with_place found places in

@@ -98,12 +98,14 @@ new_there number name content items plain =
     let new : Stored Edition = record { number = number; content = content } in
     by_test (λ (after : List (Item Edition)). list_any (λ one. one == number) (edition_numbers after) ≡ true) (is_known items name) (changed_in_place number (install name content) items) (items ++ regular name new None ∷ [])
     (λ known. new_in_items number name new items refl known plain)
-    (λ unknown. ap (list_any (λ one. one == number)) (flat_map-append numbers_of items (regular name new None ∷ [])) ∙ any_append_right (λ one. one == number) (edition_numbers items) (number ∷ []) (or_first (number == number) false (nat_itself number number refl)))
+    (λ unknown. ap (list_any (λ one. one == number)) (flat_map-append numbers_of items (regular name new None ∷ []))
+    ∙ any_append_right (λ one. one == number) (edition_numbers items) (number ∷ []) (or_first (number == number) false (nat_itself number number refl)))
 
 -- ---- what goes and what stays
 
 -- the number that stays
-gone_step : (after : List ℕ) (n one : ℕ) (gone : List ℕ) (there : Bool) → list_any (λ o. o == one) after ≡ there → list_any (λ o. o == n) after ≡ true → is_gone gone (pos n) ≡ false → is_gone (cond (not there) (one ∷ gone) gone) (pos n) ≡ false
+gone_step : (after : List ℕ) (n one : ℕ) (gone : List ℕ) (there : Bool) → list_any (λ o. o == one) after ≡ there → list_any (λ o. o == n) after ≡ true → is_gone gone (pos n) ≡ false
+    → is_gone (cond (not there) (one ∷ gone) gone) (pos n) ≡ false
 gone_step after n one gone true e in_after rest = rest
 gone_step after n one gone false e in_after rest = step (one == n) refl
   where
@@ -119,7 +121,8 @@ stays (one ∷ before) after n h = gone_step after n one (filter (λ number. not
 any_same_number : (z : ℤ) (n : ℕ) (after : List ℕ) → same_number (pos n) z ≡ true → list_any (λ one. one == n) after ≡ true → list_any (λ one. same_number (pos one) z) after ≡ true
 any_same_number z n after e h = subst (λ (y : ℤ). list_any (λ one. same_number (pos one) y) after ≡ true) (same_number_is (pos n) z e) h
 
-kept_step : (z : ℤ) (n : ℕ) (after gone before : List ℕ) (there : Bool) → list_any (λ one. one == n) after ≡ there → (list_any (λ one. same_number (pos one) z) before ≡ true → is_gone gone z ≡ false → list_any (λ one. same_number (pos one) z) after ≡ true) →
+kept_step : (z : ℤ) (n : ℕ) (after gone before : List ℕ) (there : Bool) → list_any (λ one. one == n) after ≡ there
+    → (list_any (λ one. same_number (pos one) z) before ≡ true → is_gone gone z ≡ false → list_any (λ one. same_number (pos one) z) after ≡ true) →
     (same_number (pos n) z || list_any (λ one. same_number (pos one) z) before) ≡ true → is_gone (cond (not there) (n ∷ gone) gone) z ≡ false → list_any (λ one. same_number (pos one) z) after ≡ true
 kept_step z n after gone before true e rest known stay = step (same_number (pos n) z) refl
   where
@@ -130,7 +133,8 @@ kept_step z n after gone before false e rest known stay =
     let parts = any_false_parts (same_number (pos n) z) (is_gone gone z) stay in
     rest (or_rest (same_number (pos n) z) (list_any (λ one. same_number (pos one) z) before) known parts.0) parts.1
 
-pub stays_known : (before after : List ℕ) (z : ℤ) → list_any (λ one. same_number (pos one) z) before ≡ true → is_gone (filter (λ number. not (list_any (λ one. one == number) after)) before) z ≡ false → list_any (λ one. same_number (pos one) z) after ≡ true
+pub stays_known : (before after : List ℕ) (z : ℤ) → list_any (λ one. same_number (pos one) z) before ≡ true → is_gone (filter (λ number. not (list_any (λ one. one == number) after)) before) z ≡ false
+    → list_any (λ one. same_number (pos one) z) after ≡ true
 stays_known [] after z known stay = absurd (false≢true known)
 stays_known (n ∷ before) after z known stay =
     kept_step z n after (filter (λ number. not (list_any (λ o. o == number) after)) before) before (list_any (λ o. o == n) after) refl (λ k s. stays_known before after z k s) known stay
@@ -160,7 +164,8 @@ apart_numbers m n lt = step (n == m) refl
     step true same = absurd (let e : n ≡ m = nat_same n m same in omega arith)
     step false apart = apart
 
-pub numbered_apart : {X Y : Type 0} (f : ℕ → X → Y) (key : Y → ℤ) (n m : ℕ) → ((k : ℕ) (x : X) → key (f k x) ≡ pos n) → same_number (pos n) (pos m) ≡ false → (k : ℕ) (xs : List X) → AllByRecursion (λ y. same_number (key y) (pos m) ≡ false) (numbered f k xs)
+pub numbered_apart : {X Y : Type 0} (f : ℕ → X → Y) (key : Y → ℤ) (n m : ℕ) → ((k : ℕ) (x : X) → key (f k x) ≡ pos n) → same_number (pos n) (pos m) ≡ false → (k : ℕ) (xs : List X)
+    → AllByRecursion (λ y. same_number (key y) (pos m) ≡ false) (numbered f k xs)
 numbered_apart f key n m keyed apart k [] = tt
 numbered_apart f key n m keyed apart k (x ∷ xs) = (ap (λ z. same_number z (pos m)) (keyed k x) ∙ apart, numbered_apart f key n m keyed apart (k + 1) xs)
 

@@ -29,7 +29,8 @@ bare_of version installs tables M items stands are held = items_bare 0 tables.me
 pub installs_of : (version installs : ℕ) (tables : Tables) (M : Catalogue) → Stands version tables M → tables.marks ≡ mark_record version installs ∷ [] → installs ≡ M.installs
 installs_of version installs tables M stands marks = pos_same _ _ (ap (λ (r : spec.Mark). r.installs) (head_same _ _ _ _ (sym marks ∙ stands.marks)))
 
-known_weaker : {A : Type 0} (xs : List (Item A)) (ys : List (Item Edition)) → map bare xs ≡ map bare ys → (rows : List spec.Member) → AllByRecursion (λ row. IsTrue (is_known ys row.owner)) rows → AllByRecursion (λ row. is_known xs row.owner ≡ true) rows
+known_weaker : {A : Type 0} (xs : List (Item A)) (ys : List (Item Edition)) → map bare xs ≡ map bare ys → (rows : List spec.Member) → AllByRecursion (λ row. IsTrue (is_known ys row.owner)) rows
+    → AllByRecursion (λ row. is_known xs row.owner ≡ true) rows
 known_weaker xs ys e [] h = tt
 known_weaker xs ys e (row ∷ rows) h = (known_alike xs ys row.owner e ∙ h.0, known_weaker xs ys e rows h.1)
 

@@ -54,7 +54,8 @@ fit_of number (place name at) edition h = fit_none number edition h
 
 editions_apart : (number n : ℕ) (edition : Option Installed) → IsFit number edition → n < number → editions_numbered (pos n) (installed_editions edition) ≡ []
 editions_apart number n None fit lt = refl
-editions_apart number n (Some new) fit lt = filter_none (λ (row : spec.EditionRecord). same_number row.number (pos n)) (edition_record new.owner new.number new.reading ∷ []) (ap (λ m. same_number (pos m) (pos n)) fit.0 ∙ apart_numbers n number lt, tt)
+editions_apart number n (Some new) fit lt =
+    filter_none (λ (row : spec.EditionRecord). same_number row.number (pos n)) (edition_record new.owner new.number new.reading ∷ []) (ap (λ m. same_number (pos m) (pos n)) fit.0 ∙ apart_numbers n number lt, tt)
 
 entries_apart : (number n : ℕ) (edition : Option Installed) → IsFit number edition → n < number → entries_of (pos n) (installed_entries edition) ≡ []
 entries_apart number n None fit lt = refl
@@ -76,7 +77,8 @@ same_at version change old number n fit lt stay = record {
 abbrev pub IsFree : ℕ → Tables → Type 0
 IsFree number old = AllByRecursion (λ (row : spec.EditionRecord). same_number row.number (pos number) ≡ false) old.editions × AllByRecursion (λ (row : spec.EntryRecord). same_number row.edition (pos number) ≡ false) old.entries
 
-new_holds : (version : ℕ) (change : TableChange) (old : Tables) (number : ℕ) (owner : List ℕ) (stored : Stored Edition) (edition : Option Installed) → change.edition ≡ edition → IsFit number edition → IsFree number old → IsNewOf edition owner stored → HoldsEdition (tables_after version change old) owner stored
+new_holds : (version : ℕ) (change : TableChange) (old : Tables) (number : ℕ) (owner : List ℕ) (stored : Stored Edition) (edition : Option Installed) → change.edition ≡ edition → IsFit number edition → IsFree number old
+    → IsNewOf edition owner stored → HoldsEdition (tables_after version change old) owner stored
 new_holds version change old number owner stored None e fit free new = absurd new
 new_holds version change old number owner stored (Some one) e fit free new =
     let is : stored.number ≡ number = new.1 ∙ fit.0 in
@@ -112,7 +114,8 @@ AreOldOrNew old installs edition item = AllByRecursion (λ stored. IsOld old ins
 old_to : (old : Tables) (installs : ℕ) (edition : Option Installed) (item : Item Edition) → AreOld old installs item → AreOldOrNew old installs edition item
 old_to old installs edition item h = all_weaker (IsOld old installs (name_of item)) (λ stored. IsOld old installs (name_of item) stored ⊎ IsNewOf edition (name_of item) stored) (λ stored p. inl p) (editions_of item) h
 
-new_to : (number : ℕ) (name : List ℕ) (content : Edition) (edition : Option Installed) (owner : List ℕ) (stored : Stored Edition) → IsInstalledBy number (install name content) edition → IsNew name (record { number = number; content = content }) owner stored → IsNewOf edition owner stored
+new_to : (number : ℕ) (name : List ℕ) (content : Edition) (edition : Option Installed) (owner : List ℕ) (stored : Stored Edition) → IsInstalledBy number (install name content) edition
+    → IsNew name (record { number = number; content = content }) owner stored → IsNewOf edition owner stored
 new_to number name content None owner stored h new = absurd h
 new_to number name content (Some one) owner stored h new = (new.0 ∙ sym h.0, ap (λ (s : Stored Edition). s.number) new.1 ∙ sym h.1, ap (λ (s : Stored Edition). s.content) new.1 ∙ h.2)
 
@@ -121,7 +124,8 @@ or_to : (old : Tables) (installs number : ℕ) (name : List ℕ) (content : Edit
 or_to old installs number name content edition owner stored h (inl p) = inl p
 or_to old installs number name content edition owner stored h (inr p) = inr (new_to number name content edition owner stored h p)
 
-pub each_edition : (old : Tables) (installs number : ℕ) (command : Command Edition) (edition : Option Installed) (items : List (Item Edition)) → IsInstalledBy number command edition → AllByRecursion (AreOld old installs) items → AllByRecursion (AreOldOrNew old installs edition) (items_after number command items)
+pub each_edition : (old : Tables) (installs number : ℕ) (command : Command Edition) (edition : Option Installed) (items : List (Item Edition)) → IsInstalledBy number command edition → AllByRecursion (AreOld old installs) items
+    → AllByRecursion (AreOldOrNew old installs edition) (items_after number command items)
 each_edition old installs number (install name content) edition items by h =
     let new : Stored Edition = record { number = number; content = content } in
     all_weaker (AreOldOr old installs name new) (AreOldOrNew old installs edition)
@@ -133,7 +137,8 @@ each_edition old installs number (rollback name) edition items by h =
 each_edition old installs number (retire name) edition items by h =
     all_after (AreOld old installs) (AreOldOrNew old installs edition) number (retire name) items (λ item p. old_to old installs edition item p) (λ item p. old_to old installs edition item p) tt h
 each_edition old installs number (put_virtual name title members) edition items by h =
-    all_after (AreOld old installs) (AreOldOrNew old installs edition) number (put_virtual name title members) items (λ item p. old_to old installs edition item p) (λ item p. old_to old installs edition _ (put_old old installs name title members item p)) tt h
+    all_after (AreOld old installs) (AreOldOrNew old installs edition) number (put_virtual name title members) items (λ item p. old_to old installs edition item p)
+    (λ item p. old_to old installs edition _ (put_old old installs name title members item p)) tt h
 each_edition old installs number (place name at) edition items by h =
     all_after (AreOld old installs) (AreOldOrNew old installs edition) number (place name at) items (λ item p. old_to old installs edition item p) (λ item p. old_to old installs edition item p) tt h
 
@@ -145,7 +150,8 @@ from_map P f (x ∷ xs) h = (h.0, from_map P f xs h.1)
 
 by_edition : (P : ℕ → Type 0) (items : List (Item Edition)) → AllByRecursion P (edition_numbers items) → AllByRecursion (λ item. AllByRecursion (λ stored. P stored.number) (editions_of item)) items
 by_edition P items h =
-    all_weaker (λ (item : Item Edition). AllByRecursion P (numbers_of item)) (λ item. AllByRecursion (λ stored. P stored.number) (editions_of item)) (λ item p. from_map P (λ (stored : Stored Edition). stored.number) (editions_of item) p) items
+    all_weaker (λ (item : Item Edition). AllByRecursion P (numbers_of item)) (λ item. AllByRecursion (λ stored. P stored.number) (editions_of item))
+    (λ item p. from_map P (λ (stored : Stored Edition). stored.number) (editions_of item) p) items
     (all_flat_map_parts P numbers_of items h)
 
 or_first : (a b : Bool) → a ≡ true → (a || b) ≡ true
@@ -158,7 +164,11 @@ or_second false b e = e
 
 each_among : (ns : List ℕ) → AllByRecursion (λ n. list_any (λ one. one == n) ns ≡ true) ns
 each_among [] = tt
-each_among (n ∷ ns) = (or_first (n == n) (list_any (λ one. one == n) ns) (nat_itself n n refl), all_weaker (λ m. list_any (λ one. one == m) ns ≡ true) (λ m. list_any (λ one. one == m) (n ∷ ns) ≡ true) (λ m e. or_second (n == m) (list_any (λ one. one == m) ns) e) ns (each_among ns))
+each_among (n ∷ ns) = (
+  or_first (n == n) (list_any (λ one. one == n) ns) (nat_itself n n refl),
+  all_weaker (λ m. list_any (λ one. one == m) ns ≡ true) (λ m. list_any (λ one. one == m) (n ∷ ns) ≡ true)
+      (λ m e. or_second (n == m) (list_any (λ one. one == m) ns) e) ns (each_among ns),
+)
 
 below_apart : (m n : ℕ) → m < n → same_number (pos m) (pos n) ≡ false
 below_apart m n lt = step (m == n) refl
@@ -184,19 +194,23 @@ acted M id command lawful new passed =
 
 one_after : (version : ℕ) (change : TableChange) (old : Tables) (installs : ℕ) (owner : List ℕ) (stored : Stored Edition) → IsFit (installs + 1) change.edition → IsFree (installs + 1) old → is_gone change.gone (pos stored.number) ≡ false →
     IsOld old installs owner stored ⊎ IsNewOf change.edition owner stored → HoldsEdition (tables_after version change old) owner stored
-one_after version change old installs owner stored fit free stay (inl p) = holds_same old (tables_after version change old) owner stored (same_at version change old (installs + 1) stored.number fit (let le : stored.number ≤ installs = p.few in omega arith) stay) p.holds
+one_after version change old installs owner stored fit free stay (inl p) =
+    holds_same old (tables_after version change old) owner stored (same_at version change old (installs + 1) stored.number fit (let le : stored.number ≤ installs = p.few in omega arith) stay) p.holds
 one_after version change old installs owner stored fit free stay (inr p) = new_holds version change old (installs + 1) owner stored change.edition refl fit free p
 
 old_each : (old : Tables) (installs : ℕ) (items : List (Item Edition)) → AllByRecursion (HoldsEditions old) items → AllByRecursion (λ n. (1 ≤ n) × (n ≤ installs)) (edition_numbers items) → AllByRecursion (AreOld old installs) items
 old_each old installs items h range =
     all_with (HoldsEditions old) (λ (item : Item Edition). AllByRecursion (λ stored. (1 ≤ stored.number) × (stored.number ≤ installs)) (editions_of item)) (AreOld old installs)
-    (λ item p q. all_with (HoldsEdition old (name_of item)) (λ (stored : Stored Edition). (1 ≤ stored.number) × (stored.number ≤ installs)) (IsOld old installs (name_of item)) (λ stored a b. record { holds = a; few = b.1 }) (editions_of item) p q)
+    (λ item p q. all_with (HoldsEdition old (name_of item)) (λ (stored : Stored Edition). (1 ≤ stored.number) × (stored.number ≤ installs)) (IsOld old installs (name_of item)) (λ stored a b. record { holds = a; few = b.1 })
+    (editions_of item) p q)
     items h (by_edition (λ n. (1 ≤ n) × (n ≤ installs)) items range)
 
 pub free_of : (version : ℕ) (old : Tables) (M : Catalogue) → Stands version old M → IsFree (M.installs + 1) old
 free_of version old M h = (
-  all_weaker (λ (row : spec.EditionRecord). IsTrue (has_number M.items row.number)) (λ (row : spec.EditionRecord). same_number row.number (pos (M.installs + 1)) ≡ false) (λ row k. above_all M.installs (edition_numbers M.items) row.number h.well_formed.edition_range k) old.editions h.numbers,
-  all_weaker (λ (row : spec.EntryRecord). IsTrue (has_number M.items row.edition)) (λ (row : spec.EntryRecord). same_number row.edition (pos (M.installs + 1)) ≡ false) (λ row k. above_all M.installs (edition_numbers M.items) row.edition h.well_formed.edition_range k) old.entries h.entries,
+  all_weaker (λ (row : spec.EditionRecord). IsTrue (has_number M.items row.number)) (λ (row : spec.EditionRecord). same_number row.number (pos (M.installs + 1)) ≡ false)
+      (λ row k. above_all M.installs (edition_numbers M.items) row.number h.well_formed.edition_range k) old.editions h.numbers,
+  all_weaker (λ (row : spec.EntryRecord). IsTrue (has_number M.items row.edition)) (λ (row : spec.EntryRecord). same_number row.edition (pos (M.installs + 1)) ≡ false)
+      (λ row k. above_all M.installs (edition_numbers M.items) row.edition h.well_formed.edition_range k) old.entries h.entries,
 )
 
 -- the records that stay have numbers of the catalogue after
@@ -222,7 +236,8 @@ unfolding IsThere
 there_none after None e = tt
 there_none after (Some new) e = cc
 
-there : (number : ℕ) (command : Command Edition) (edition : Option Installed) (M : Catalogue) → refusal_of (holdings M) command ≡ None → IsInstalledBy number command edition → IsThere (edition_numbers (items_after number command M.items)) edition
+there : (number : ℕ) (command : Command Edition) (edition : Option Installed) (M : Catalogue) → refusal_of (holdings M) command ≡ None → IsInstalledBy number command edition
+    → IsThere (edition_numbers (items_after number command M.items)) edition
 unfolding IsThere
 there number (install name content) None M passed h = absurd h
 there number (install name content) (Some new) M passed h =
@@ -244,7 +259,8 @@ unfolding IsThere
 entries_there after None h = tt
 entries_there after (Some new) h = numbered_all (λ (row : spec.EntryRecord). IsTrue (list_any (λ one. same_number (pos one) row.edition) after)) (entry_record new.number) (λ n x. h) 0 new.reading.lines
 
-pub after_stands : (version : ℕ) (old : Tables) (M : Catalogue) (id : List ℕ) (command : Command Edition) (change : TableChange) → Stands version old M → IsLawfulCommand command → IsTrue (is_request_id id) → kept_under M.kept id ≡ None → refusal_of (holdings M) command ≡ None →
+pub after_stands : (version : ℕ) (old : Tables) (M : Catalogue) (id : List ℕ) (command : Command Edition) (change : TableChange) → Stands version old M → IsLawfulCommand command → IsTrue (is_request_id id) → kept_under M.kept id
+    ≡ None → refusal_of (holdings M) command ≡ None →
     IsTableChange M id command change → Stands version (tables_after version change old) (with_effect M id command)
 after_stands version old M id command change h lawful named new passed is =
     let after = with_effect M id command in
@@ -254,7 +270,8 @@ after_stands version old M id command change h lawful named new passed is =
     let gone : change.gone ≡ filter (λ number. not (list_any (λ one. one == number) numbers)) (edition_numbers M.items) = is.gone in
     let stay : AllByRecursion (λ n. is_gone change.gone (pos n) ≡ false) numbers =
     subst (λ (g : List ℕ). AllByRecursion (λ n. is_gone g (pos n) ≡ false) numbers) (sym gone)
-    (all_weaker (λ n. list_any (λ one. one == n) numbers ≡ true) (λ n. is_gone (filter (λ number. not (list_any (λ one. one == number) numbers)) (edition_numbers M.items)) (pos n) ≡ false) (λ n e. stays (edition_numbers M.items) numbers n e) numbers (each_among numbers)) in
+    (all_weaker (λ n. list_any (λ one. one == n) numbers ≡ true) (λ n. is_gone (filter (λ number. not (list_any (λ one. one == number) numbers)) (edition_numbers M.items)) (pos n) ≡ false)
+    (λ n e. stays (edition_numbers M.items) numbers n e) numbers (each_among numbers)) in
     let each = each_edition old M.installs (M.installs + 1) command change.edition M.items is.edition (old_each old M.installs M.items h.editions h.well_formed.edition_range) in
     let once = names_are after.items ∙ true_once (map name_of after.items) well.names in
     let listed : all_members change.summary.items ≡ all_members after.items = ap (λ s. all_members s.items) is.summary ∙ members_as (λ (edition : Edition). edition.title) after.items in
@@ -265,14 +282,17 @@ after_stands version old M id command change h lawful named new passed is =
       members = subst (λ rows. AllByRecursion (HoldsMembers rows) after.items) (sym listed) (own_members after.items once);
       owners = subst (λ rows. AllByRecursion (λ (row : spec.Member). IsTrue (is_known after.items row.owner)) rows) (sym listed) (own_owners after.items);
       editions = all_with (AreOldOrNew old M.installs change.edition) (λ (item : Item Edition). AllByRecursion (λ stored. is_gone change.gone (pos stored.number) ≡ false) (editions_of item)) (HoldsEditions (tables_after version change old))
-          (λ item p q. all_with (λ stored. IsOld old M.installs (name_of item) stored ⊎ IsNewOf change.edition (name_of item) stored) (λ (stored : Stored Edition). is_gone change.gone (pos stored.number) ≡ false) (HoldsEdition (tables_after version change old) (name_of item))
+          (λ item p q. all_with (λ stored. IsOld old M.installs (name_of item) stored ⊎ IsNewOf change.edition (name_of item) stored) (λ (stored : Stored Edition). is_gone change.gone (pos stored.number) ≡ false)
+          (HoldsEdition (tables_after version change old) (name_of item))
           (λ stored a b. one_after version change old M.installs (name_of item) stored fit (free_of version old M h) b a) (editions_of item) p q)
           after.items each (by_edition (λ n. is_gone change.gone (pos n) ≡ false) after.items stay);
       numbers = all_append (λ (row : spec.EditionRecord). IsTrue (has_number after.items row.number)) (filter (λ (row : spec.EditionRecord). not (is_gone change.gone row.number)) old.editions) (installed_editions change.edition)
-          (subst (λ (g : List ℕ). AllByRecursion (λ (row : spec.EditionRecord). IsTrue (has_number after.items row.number)) (filter (λ (row : spec.EditionRecord). not (is_gone g row.number)) old.editions)) (sym gone) (known_after (λ (row : spec.EditionRecord). row.number) (edition_numbers M.items) numbers old.editions h.numbers))
+          (subst (λ (g : List ℕ). AllByRecursion (λ (row : spec.EditionRecord). IsTrue (has_number after.items row.number)) (filter (λ (row : spec.EditionRecord). not (is_gone g row.number)) old.editions)) (sym gone)
+          (known_after (λ (row : spec.EditionRecord). row.number) (edition_numbers M.items) numbers old.editions h.numbers))
           (editions_there numbers change.edition (there (M.installs + 1) command change.edition M passed is.edition));
       entries = all_append (λ (row : spec.EntryRecord). IsTrue (has_number after.items row.edition)) (filter (λ (row : spec.EntryRecord). not (is_gone change.gone row.edition)) old.entries) (installed_entries change.edition)
-          (subst (λ (g : List ℕ). AllByRecursion (λ (row : spec.EntryRecord). IsTrue (has_number after.items row.edition)) (filter (λ (row : spec.EntryRecord). not (is_gone g row.edition)) old.entries)) (sym gone) (known_after (λ (row : spec.EntryRecord). row.edition) (edition_numbers M.items) numbers old.entries h.entries))
+          (subst (λ (g : List ℕ). AllByRecursion (λ (row : spec.EntryRecord). IsTrue (has_number after.items row.edition)) (filter (λ (row : spec.EntryRecord). not (is_gone g row.edition)) old.entries)) (sym gone)
+          (known_after (λ (row : spec.EntryRecord). row.edition) (edition_numbers M.items) numbers old.entries h.entries))
           (entries_there numbers change.edition (there (M.installs + 1) command change.edition M passed is.edition));
       kept = (λ i. h.kept i ++ kept_record (is.kept i) ∷ []) ∙ sym (map-append kept_record M.kept (record { id = id; reply = reply_to command (effect command (holdings M)) } ∷ []));
     }

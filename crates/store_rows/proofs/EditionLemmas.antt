@@ -52,9 +52,14 @@ titles_beside : (taken : Tables) (row : spec.EditionRecord) (number : ℕ) (item
 titles_beside taken row number items e none h =
     both items (others items number none) h
   where
-    both : (items : List (Item (List ℕ))) → AllByRecursion (λ item. AllByRecursion (λ one. (one == number) ≡ false) (numbers_of item)) items → AllByRecursion (HoldsTitles taken) items → AllByRecursion (HoldsTitles (with_edition taken row)) items
+    both : (items : List (Item (List ℕ))) → AllByRecursion (λ item. AllByRecursion (λ one. (one == number) ≡ false) (numbers_of item)) items → AllByRecursion (HoldsTitles taken) items
+        → AllByRecursion (HoldsTitles (with_edition taken row)) items
     both [] a h = tt
-    both (item ∷ items) a h = (titles_same taken (with_edition taken row) item (all_weaker (λ one. (one == number) ≡ false) (λ one. SameAt one taken (with_edition taken row)) (λ one apart. same_beside taken row number one e apart) (numbers_of item) a.0) h.0, both items a.1 h.1)
+    both (item ∷ items) a h = (
+      titles_same taken (with_edition taken row) item (all_weaker (λ one. (one == number) ≡ false) (λ one. SameAt one taken (with_edition taken row)) (λ one apart. same_beside taken row number one e apart)
+          (numbers_of item) a.0) h.0,
+      both items a.1 h.1,
+    )
 
 -- ---- the edition itself
 
@@ -150,7 +155,8 @@ awaited_counted owner number (regular name current (Some former)) waits = either
     either : (b : Bool) → (current.number == number) ≡ b → 1 ≤ count number (current.number ∷ former.number ∷ [])
     either true e = one_counted number current.number (former.number ∷ []) e
     either false e =
-        let later : is_awaited number former ≡ true = former_of (is_awaited number current) (is_awaited number former) (ap (λ b. b && length current.content == 0) e) (and_parts (bytes_eq name owner) (is_awaited number current || is_awaited number former) waits).1 in
+        let later : is_awaited number former ≡ true = former_of (is_awaited number current) (is_awaited number former) (ap (λ b. b && length current.content == 0) e)
+        (and_parts (bytes_eq name owner) (is_awaited number current || is_awaited number former) waits).1 in
         omega (arith, one_counted number former.number [] (and_parts (former.number == number) (length former.content == 0) later).0)
       where
         former_of : (a b : Bool) → a ≡ false → (a || b) ≡ true → b ≡ true
@@ -179,7 +185,8 @@ former_record title (Some former) = refl
 
 pub titled_record : (place number : ℕ) (title : List ℕ) (item : Item (List ℕ)) → item_record place (item_titled number title item) ≡ item_record place item
 titled_record place number title (regular name current former) =
-    by_test (λ (one : Item (List ℕ)). item_record place one ≡ item_record place (regular name current former)) (current.number == number) (regular name (with_title title current) former) (regular name current (option_map (with_title title) former))
+    by_test (λ (one : Item (List ℕ)). item_record place one ≡ item_record place (regular name current former)) (current.number == number) (regular name (with_title title current) former)
+    (regular name current (option_map (with_title title) former))
     (λ e. refl)
     (λ e i. record { place = pos place; name = name; kind = pos 0; title = None; current = Some (pos current.number); former = former_record title former i })
 titled_record place number title (virtual name old members) = refl

@@ -41,7 +41,8 @@ module _ (taken : Tables) (row : spec.EntryRecord) (hand : InHand) (is : IsEntry
 
   -- the records of the edition in hand are not none
   shown : editions_numbered (pos hand.number) taken.editions ≡ editions_numbered (pos hand.number) last.front ++ last.row ∷ []
-  shown = ap (editions_numbered (pos hand.number)) last.last ∙ filter_passes (λ (r : spec.EditionRecord). same_number r.number (pos hand.number)) last.front last.row (ap (λ n. same_number n (pos hand.number)) last.number ∙ same_itself (pos hand.number))
+  shown = ap (editions_numbered (pos hand.number)) last.last ∙ filter_passes (λ (r : spec.EditionRecord). same_number r.number (pos hand.number)) last.front last.row
+      (ap (λ n. same_number n (pos hand.number)) last.number ∙ same_itself (pos hand.number))
 
   not_none : (xs : List spec.EditionRecord) (x : spec.EditionRecord) → xs ++ x ∷ [] ≡ [] → ⊥
   not_none [] x e = cc
@@ -108,7 +109,8 @@ pub entry_taken : (version : ℕ) (old new : Reader) (taken : Tables) (row : spe
     hand'.number ≡ hand.number → hand'.text.items ≡ hand.text.items → hand'.entries ≡ hand.entries + 1 → IsEntry hand.number hand.entries hand.text.items row → hand.entries < most_entries →
     HasTaken version old taken → HasTaken version new (with_entry taken row)
 entry_taken version old new taken row hand hand' last held items installs accepted installed hn ht he is few h =
-    let known : has_number (items_in old) last.row.number ≡ true = (all_append_parts (λ (r : spec.EditionRecord). IsTrue (has_number (items_in old) r.number)) last.front (last.row ∷ []) (subst (AllByRecursion (λ (r : spec.EditionRecord). IsTrue (has_number (items_in old) r.number))) last.last h.numbers)).1.0 in
+    let known : has_number (items_in old) last.row.number ≡ true = (all_append_parts (λ (r : spec.EditionRecord). IsTrue (has_number (items_in old) r.number)) last.front (last.row ∷ [])
+    (subst (AllByRecursion (λ (r : spec.EditionRecord). IsTrue (has_number (items_in old) r.number))) last.last h.numbers)).1.0 in
     let here : has_number (items_in old) row.edition ≡ true = ap (has_number (items_in old)) (ap (λ (r : spec.EntryRecord). r.edition) is.is ∙ sym last.number) ∙ known in
     record {
       marks = h.marks ∙ ap (λ n. Rattle.store_rows.specs.Written.mark_record version n ∷ []) (sym installs);
@@ -143,7 +145,8 @@ ends_same (a ∷ []) [] x y e = absurd (cc)
 ends_same (a ∷ d ∷ xs) [] x y e = absurd (cc)
 ends_same (a ∷ xs) (b ∷ ys) x y e = ends_same xs ys x y (Rattle.store_rows.proofs.OnceLemmas.tail_same _ _ _ _ e)
 
-pub lines_lawful : (text : List ℕ) (lines : List Line) → AllByRecursion (IsWithin text) lines → AllByRecursion IsWellFormedEntry (map (entry_in text) lines) → AllByRecursion (λ line. IsWithin text line × IsWellFormedEntry (entry_in text line)) lines
+pub lines_lawful : (text : List ℕ) (lines : List Line) → AllByRecursion (IsWithin text) lines → AllByRecursion IsWellFormedEntry (map (entry_in text) lines)
+    → AllByRecursion (λ line. IsWithin text line × IsWellFormedEntry (entry_in text line)) lines
 lines_lawful text [] w h = tt
 lines_lawful text (line ∷ lines) w h = ((w.0, h.0), lines_lawful text lines w.1 h.1)
 
@@ -170,13 +173,16 @@ entry_refused version reader taken row hand last h of why tables M goes stands =
     let n : f.found.stored.number ≡ hand.number = pos_same _ _ (f.found.is ∙ last.number) in
     let text : reading.text ≡ hand.text.items = sym (ap (λ (r : spec.EditionRecord). r.body) f.is) ∙ last.text in
     let begins = goes.entries (pos hand.number) in
-    let push : entries_of (pos hand.number) (taken.entries ++ row ∷ []) ≡ entries_of (pos hand.number) taken.entries ++ row ∷ [] = filter_passes (λ (r : spec.EntryRecord). same_number r.edition (pos hand.number)) taken.entries row (ap (λ k. same_number k (pos hand.number)) edition ∙ same_itself (pos hand.number)) in
+    let push : entries_of (pos hand.number) (taken.entries ++ row ∷ []) ≡ entries_of (pos hand.number) taken.entries ++ row ∷ [] =
+    filter_passes (λ (r : spec.EntryRecord). same_number r.edition (pos hand.number)) taken.entries row (ap (λ k. same_number k (pos hand.number)) edition ∙ same_itself (pos hand.number)) in
     let whole : (entries_of (pos hand.number) taken.entries ++ row ∷ []) ++ begins.0 ≡ numbered (entry_record hand.number) 0 reading.lines =
     ap (λ xs. xs ++ begins.0) (sym push) ∙ sym begins.1 ∙ ap (λ k. entries_of (pos k) tables.entries) (sym n) ∙ f.found.holds.entries ∙ ap (λ k. numbered (entry_record k) 0 reading.lines) n in
     let lawful : IsWellFormedEdition (edition_of reading) = subst IsWellFormedEdition f.found.holds.says f.found.lawful in
     let each = lines_lawful reading.text reading.lines f.found.holds.within lawful.entries in
-    let next = next_of_all (entry_record hand.number) (λ (line : Line). IsWithin reading.text line × IsWellFormedEntry (entry_in reading.text line)) reading.lines (entries_of (pos hand.number) taken.entries) begins.0 row each (sym (append_assoc (entries_of (pos hand.number) taken.entries) (row ∷ []) begins.0) ∙ whole) in
-    let many : length reading.lines ≡ (hand.entries + 1) + length begins.0 = sym (numbered_length (entry_record hand.number) 0 reading.lines) ∙ ap length (sym whole) ∙ as_long (entries_of (pos hand.number) taken.entries) begins.0 row ∙ ap (λ k. (k + 1) + length begins.0) last.entries in
+    let next = next_of_all (entry_record hand.number) (λ (line : Line). IsWithin reading.text line × IsWellFormedEntry (entry_in reading.text line)) reading.lines (entries_of (pos hand.number) taken.entries) begins.0 row each
+    (sym (append_assoc (entries_of (pos hand.number) taken.entries) (row ∷ []) begins.0) ∙ whole) in
+    let many : length reading.lines ≡ (hand.entries + 1) + length begins.0 = sym (numbered_length (entry_record hand.number) 0 reading.lines) ∙ ap length (sym whole)
+    ∙ as_long (entries_of (pos hand.number) taken.entries) begins.0 row ∙ ap (λ k. (k + 1) + length begins.0) last.entries in
     let few : length reading.lines ≤ most_entries = subst (λ (k : ℕ). k ≤ most_entries) (length-map reading.lines (entry_in reading.text)) lawful.few in
     decide why (λ no. no next.0 (next.1 ∙ ap (λ k. entry_record hand.number k next.0) last.entries) (subst (λ (t : List ℕ). IsWithin t next.0) text next.2.0) (subst (λ (t : List ℕ). IsWellFormedEntry (entry_in t next.0)) text next.2.1))
     (λ full. omega arith)
@@ -194,7 +200,8 @@ next_is taken number line hand last of =
     let many : length (entries_of (pos number) taken.entries) ≡ hand.entries = ap (λ k. length (entries_of (pos k) taken.entries)) n ∙ last.entries in
     λ i. entry_record (n i) (many i) line
 
-pub line_is : (taken : Tables) (number : ℕ) (line : Line) (hand : InHand) → IsInHand (Some hand) taken → IsOfLast taken (next_entry taken number line) → IsLawfulLine hand.text.items line → IsEntry hand.number hand.entries hand.text.items (next_entry taken number line)
+pub line_is : (taken : Tables) (number : ℕ) (line : Line) (hand : InHand) → IsInHand (Some hand) taken → IsOfLast taken (next_entry taken number line) → IsLawfulLine hand.text.items line
+    → IsEntry hand.number hand.entries hand.text.items (next_entry taken number line)
 line_is taken number line hand last of lawful = record { line = line; is = next_is taken number line hand last of; within = lawful.within; lawful = lawful.lawful }
 
 pub line_is_none : (taken : Tables) (number : ℕ) (line : Line) (hand : InHand) → IsInHand (Some hand) taken → IsOfLast taken (next_entry taken number line) → (IsLawfulLine hand.text.items line → ⊥) ⊎ (most_entries ≤ hand.entries) →

@@ -133,10 +133,13 @@ standing version reader taken h counted titled ids =
         marks = h.marks;
         items = records;
         members = members;
-        owners = all_weaker (λ (row : spec.Member). IsTrue (is_known (items_in reader) row.owner)) (λ (row : spec.Member). IsTrue (is_known m.whole row.owner)) (λ row k. sym (known_alike (items_in reader) m.whole row.owner same) ∙ k) taken.members h.owners;
+        owners = all_weaker (λ (row : spec.Member). IsTrue (is_known (items_in reader) row.owner)) (λ (row : spec.Member). IsTrue (is_known m.whole row.owner))
+            (λ row k. sym (known_alike (items_in reader) m.whole row.owner same) ∙ k) taken.members h.owners;
         editions = m.holds;
-        numbers = all_weaker (λ (row : spec.EditionRecord). IsTrue (has_number (items_in reader) row.number)) (λ (row : spec.EditionRecord). IsTrue (has_number m.whole row.number)) (λ row k. still (items_in reader) m.whole row.number same k) taken.editions h.numbers;
-        entries = all_weaker (λ (row : spec.EntryRecord). IsTrue (has_number (items_in reader) row.edition)) (λ (row : spec.EntryRecord). IsTrue (has_number m.whole row.edition)) (λ row k. still (items_in reader) m.whole row.edition same k) taken.entries h.entries;
+        numbers = all_weaker (λ (row : spec.EditionRecord). IsTrue (has_number (items_in reader) row.number)) (λ (row : spec.EditionRecord). IsTrue (has_number m.whole row.number))
+            (λ row k. still (items_in reader) m.whole row.number same k) taken.editions h.numbers;
+        entries = all_weaker (λ (row : spec.EntryRecord). IsTrue (has_number (items_in reader) row.edition)) (λ (row : spec.EntryRecord). IsTrue (has_number m.whole row.edition))
+            (λ row k. still (items_in reader) m.whole row.edition same k) taken.entries h.entries;
         kept = h.kept.are;
       };
       items = m.same;
@@ -187,7 +190,8 @@ titled_item taken (regular name current (Some former)) there h =
     and_from (not (length current.content == 0)) (not (length former.content == 0)) (titled_one taken name current there.0 h.0) (titled_one taken name former there.1.0 h.1.0)
 titled_item taken (virtual name title members) there h = refl
 
-titled_all : (taken : Tables) (items : List (Item (List ℕ))) → AllByRecursion (λ item. AllByRecursion (λ number. editions_numbered (pos number) taken.editions ≡ [] → ⊥) (numbers_of item)) items → AllByRecursion (HoldsTitles taken) items → list_all is_titled items ≡ true
+titled_all : (taken : Tables) (items : List (Item (List ℕ))) → AllByRecursion (λ item. AllByRecursion (λ number. editions_numbered (pos number) taken.editions ≡ [] → ⊥) (numbers_of item)) items
+    → AllByRecursion (HoldsTitles taken) items → list_all is_titled items ≡ true
 titled_all taken [] there h = refl
 titled_all taken (item ∷ items) there h = and_from (is_titled item) (list_all is_titled items) (titled_item taken item there.0 h.0) (titled_all taken items there.1 h.1)
 

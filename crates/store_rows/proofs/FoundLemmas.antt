@@ -68,12 +68,14 @@ found_tail tables item items number f = record {
   there = or_second (bytes_eq (name_of item) f.owner && list_any (λ one. one == f.stored.number) (numbers_of item)) (has_stored f.owner f.stored.number items) f.there;
 }
 
-found_here : (tables : Tables) (item : Item Edition) (items : List (Item Edition)) (number : ℤ) → list_any (λ one. same_number (pos one) number) (numbers_of item) ≡ true → HoldsEditions tables item → HasWellFormedEditions item → Found tables (item ∷ items) number
+found_here : (tables : Tables) (item : Item Edition) (items : List (Item Edition)) (number : ℤ) → list_any (λ one. same_number (pos one) number) (numbers_of item) ≡ true → HoldsEditions tables item → HasWellFormedEditions item
+    → Found tables (item ∷ items) number
 found_here tables (regular name current None) items number h holds lawful =
     found_here_one (or_split (same_number (pos current.number) number) false h)
   where
     found_here_one : (same_number (pos current.number) number ≡ true) ⊎ (false ≡ true) → Found tables (regular name current None ∷ items) number
-    found_here_one (inl e) = found_head tables (regular name current None) items number current (same_number_is (pos current.number) number e) holds.0 lawful.0 (or_first (current.number == current.number) false (nat_itself current.number current.number refl))
+    found_here_one (inl e) = found_head tables (regular name current None) items number current (same_number_is (pos current.number) number e) holds.0 lawful.0
+        (or_first (current.number == current.number) false (nat_itself current.number current.number refl))
     found_here_one (inr e) = absurd (false≢true e)
 found_here tables (regular name current (Some former)) items number h holds lawful =
     found_here_two (or_split (same_number (pos current.number) number) (same_number (pos former.number) number || false) h)
@@ -101,20 +103,23 @@ found_in tables (item ∷ items) number h holds lawful =
 
 -- whatever is kept of the editions
 
-stored_as_one : {A : Type 0} (owner : List ℕ) (number : ℕ) (item : Item A) → (bytes_eq (name_of (bare item)) owner && list_any (λ one. one == number) (numbers_of (bare item))) ≡ (bytes_eq (name_of item) owner && list_any (λ one. one == number) (numbers_of item))
+stored_as_one : {A : Type 0} (owner : List ℕ) (number : ℕ) (item : Item A) → (bytes_eq (name_of (bare item)) owner && list_any (λ one. one == number) (numbers_of (bare item)))
+    ≡ (bytes_eq (name_of item) owner && list_any (λ one. one == number) (numbers_of item))
 stored_as_one owner number (regular name current None) = refl
 stored_as_one owner number (regular name current (Some former)) = refl
 stored_as_one owner number (virtual name title members) = refl
 
 pub stored_alike : {A B : Type 0} (owner : List ℕ) (number : ℕ) (xs : List (Item A)) (ys : List (Item B)) → map bare xs ≡ map bare ys → has_stored owner number xs ≡ has_stored owner number ys
 stored_alike owner number xs ys e =
-    sym (any_same (λ item. bytes_eq (name_of item) owner && list_any (λ one. one == number) (numbers_of item)) (λ item. bytes_eq (name_of item) owner && list_any (λ one. one == number) (numbers_of item)) bare (stored_as_one owner number) xs)
+    sym (any_same (λ item. bytes_eq (name_of item) owner && list_any (λ one. one == number) (numbers_of item)) (λ item. bytes_eq (name_of item) owner && list_any (λ one. one == number) (numbers_of item)) bare
+    (stored_as_one owner number) xs)
     ∙ ap (has_stored owner number) e
     ∙ any_same (λ item. bytes_eq (name_of item) owner && list_any (λ one. one == number) (numbers_of item)) (λ item. bytes_eq (name_of item) owner && list_any (λ one. one == number) (numbers_of item)) bare (stored_as_one owner number) ys
 
 -- an edition that an item of the reader has, and of which no record was taken, is awaited
 
-awaited_stored : (taken : Tables) (owner : List ℕ) (number : ℕ) (name : List ℕ) (stored : Stored (List ℕ)) → HoldsTitle taken name stored → (stored.number == number) ≡ true → editions_numbered (pos number) taken.editions ≡ [] → is_awaited number stored ≡ true
+awaited_stored : (taken : Tables) (owner : List ℕ) (number : ℕ) (name : List ℕ) (stored : Stored (List ℕ)) → HoldsTitle taken name stored → (stored.number == number) ≡ true → editions_numbered (pos number) taken.editions ≡ []
+    → is_awaited number stored ≡ true
 awaited_stored taken owner number name stored (inl h) e none = and_from (stored.number == number) (length stored.content == 0) e (ap (λ (text : List ℕ). length text == 0) h.0)
 awaited_stored taken owner number name stored (inr h) e none =
     absurd (let here : stored.number ≡ number = nat_same stored.number number e in
@@ -144,12 +149,14 @@ awaited_item taken owner number (regular name current (Some former)) h none ther
 awaited_item taken owner number (virtual name title members) h none there =
     absurd (false≢true ((and_parts (bytes_eq name owner) false there).1))
 
-pub awaited_there : (taken : Tables) (owner : List ℕ) (number : ℕ) (items : List (Item (List ℕ))) → AllByRecursion (HoldsTitles taken) items → editions_numbered (pos number) taken.editions ≡ [] → has_stored owner number items ≡ true → list_any (awaits owner number) items ≡ true
+pub awaited_there : (taken : Tables) (owner : List ℕ) (number : ℕ) (items : List (Item (List ℕ))) → AllByRecursion (HoldsTitles taken) items → editions_numbered (pos number) taken.editions ≡ [] → has_stored owner number items
+    ≡ true → list_any (awaits owner number) items ≡ true
 awaited_there taken owner number [] h none there = absurd (false≢true there)
 awaited_there taken owner number (item ∷ items) h none there =
     step (or_split (bytes_eq (name_of item) owner && list_any (λ one. one == number) (numbers_of item)) (has_stored owner number items) there) (awaited_there taken owner number items h.1 none)
   where
-    step : ((bytes_eq (name_of item) owner && list_any (λ one. one == number) (numbers_of item)) ≡ true) ⊎ (has_stored owner number items ≡ true) → (has_stored owner number items ≡ true → list_any (awaits owner number) items ≡ true) → (awaits owner number item || list_any (awaits owner number) items) ≡ true
+    step : ((bytes_eq (name_of item) owner && list_any (λ one. one == number) (numbers_of item)) ≡ true) ⊎ (has_stored owner number items ≡ true)
+        → (has_stored owner number items ≡ true → list_any (awaits owner number) items ≡ true) → (awaits owner number item || list_any (awaits owner number) items) ≡ true
     step (inl e) later = or_first (awaits owner number item) (list_any (awaits owner number) items) (awaited_item taken owner number item h.0 none e)
     step (inr e) later = or_second (awaits owner number item) (list_any (awaits owner number) items) (later e)
 
@@ -167,10 +174,12 @@ alone (z ∷ w ∷ xs) more x y e = absurd (cc)
 
 pub row_found : (version : ℕ) (tables : Tables) (M : Catalogue) (taken : Tables) (row : spec.EditionRecord) → Stands version tables M → GoesOnFrom (with_edition taken row) tables → IsFoundRow tables taken row M.items
 row_found version tables M taken row stands goes =
-    let push : editions_numbered row.number (taken.editions ++ row ∷ []) ≡ editions_numbered row.number taken.editions ++ row ∷ [] = filter_passes (λ (r : spec.EditionRecord). same_number r.number row.number) taken.editions row (same_itself row.number) in
+    let push : editions_numbered row.number (taken.editions ++ row ∷ []) ≡ editions_numbered row.number taken.editions ++ row ∷ [] =
+    filter_passes (λ (r : spec.EditionRecord). same_number r.number row.number) taken.editions row (same_itself row.number) in
     let begins = goes.editions row.number in
     let whole : editions_numbered row.number tables.editions ≡ (editions_numbered row.number taken.editions ++ row ∷ []) ++ begins.0 = begins.1 ∙ ap (λ xs. xs ++ begins.0) push in
-    let all = subst (AllByRecursion (λ (r : spec.EditionRecord). IsTrue (has_number M.items r.number))) whole (all_filter (λ (r : spec.EditionRecord). IsTrue (has_number M.items r.number)) (λ (r : spec.EditionRecord). same_number r.number row.number) tables.editions stands.numbers) in
+    let all = subst (AllByRecursion (λ (r : spec.EditionRecord). IsTrue (has_number M.items r.number))) whole
+    (all_filter (λ (r : spec.EditionRecord). IsTrue (has_number M.items r.number)) (λ (r : spec.EditionRecord). same_number r.number row.number) tables.editions stands.numbers) in
     let known : has_number M.items row.number ≡ true = (all_append_parts (λ (r : spec.EditionRecord). IsTrue (has_number M.items r.number)) (editions_numbered row.number taken.editions) (row ∷ [])
     (all_append_parts (λ (r : spec.EditionRecord). IsTrue (has_number M.items r.number)) (editions_numbered row.number taken.editions ++ row ∷ []) begins.0 all).0).1.0 in
     let found : Found tables M.items row.number = found_in tables M.items row.number known stands.editions stands.well_formed.editions in

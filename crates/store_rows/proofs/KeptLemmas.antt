@@ -24,7 +24,8 @@ numbered_more n (one ∷ replies) reply h e = (h.0, numbered_more (n + 1) replie
 counted : (installed : ℕ) (verb : Verb) (b : Bool) → is_install verb ≡ b → installed + (cond (is_install verb) 1 0 + 0) ≡ installed + cond b 1 0
 counted installed verb b e = ap (λ c. installed + (cond c 1 0 + 0)) e ∙ (let z : cond b 1 0 + 0 ≡ cond b 1 0 = omega arith in ap (λ n. installed + n) z)
 
-pub kept_more : (accepted installed : ℕ) (rows : List spec.KeptRecord) (row : spec.KeptRecord) (verb : Verb) (b : Bool) → AreKept accepted installed rows → accepted < 9223372036854775807 → IsReply (accepted + 1) verb row → is_install verb ≡ b → AreKept (accepted + 1) (installed + cond b 1 0) (rows ++ row ∷ [])
+pub kept_more : (accepted installed : ℕ) (rows : List spec.KeptRecord) (row : spec.KeptRecord) (verb : Verb) (b : Bool) → AreKept accepted installed rows → accepted < 9223372036854775807 → IsReply (accepted + 1) verb row
+    → is_install verb ≡ b → AreKept (accepted + 1) (installed + cond b 1 0) (rows ++ row ∷ [])
 kept_more accepted installed rows row verb b h few is e = record {
   replies = h.replies ++ is.reply ∷ [];
   are = (λ i. h.are i ++ is.is i ∷ []) ∙ sym (map-append kept_record h.replies (is.reply ∷ []));
@@ -63,7 +64,8 @@ kept_taken version old new taken row edition items installs kept h =
         all_numbers [] = tt
         all_numbers (number ∷ numbers) = (record { editions = refl; entries = refl }, all_numbers numbers)
 
-    titles_same : (items : List (Rattle.dict_catalogue.specs.Items.Item (List ℕ))) → AllByRecursion (Rattle.store_rows.specs.Taken.HoldsTitles taken) items → AllByRecursion (Rattle.store_rows.specs.Taken.HoldsTitles (with_kept taken row)) items
+    titles_same : (items : List (Rattle.dict_catalogue.specs.Items.Item (List ℕ))) → AllByRecursion (Rattle.store_rows.specs.Taken.HoldsTitles taken) items
+        → AllByRecursion (Rattle.store_rows.specs.Taken.HoldsTitles (with_kept taken row)) items
     titles_same [] h = tt
     titles_same (item ∷ items) h = (item_same item h.0, titles_same items h.1)
 
@@ -76,12 +78,14 @@ next_reply n (reply ∷ replies) (z ∷ zs) more row h k e =
     let rest = next_reply (n + 1) replies zs more row h.1 k.1 (tail_same _ _ _ _ e) in
     (rest.0, rest.1, rest.2, rest.3 ∙ (let z : (n + 1) + length zs ≡ n + suc (length zs) = omega arith in z))
 
-pub kept_refused : (version : ℕ) (reader : Reader) (taken : Tables) (row : spec.KeptRecord) → HasTaken version reader taken → (IsNoReply (reader.accepted + 1) row) ⊎ (9223372036854775807 ≤ reader.accepted) → StandsForNone version (with_kept taken row)
+pub kept_refused : (version : ℕ) (reader : Reader) (taken : Tables) (row : spec.KeptRecord) → HasTaken version reader taken → (IsNoReply (reader.accepted + 1) row) ⊎ (9223372036854775807 ≤ reader.accepted)
+    → StandsForNone version (with_kept taken row)
 kept_refused version reader taken row h why tables M goes stands =
     let whole : (taken.kept ++ row ∷ []) ++ goes.kept.0 ≡ map kept_record M.kept = sym goes.kept.1 ∙ stands.kept in
     let next = next_reply 1 M.kept taken.kept goes.kept.0 row stands.well_formed.replies stands.well_formed.numbered (sym (append_assoc taken.kept (row ∷ []) goes.kept.0) ∙ whole) in
     let many : length taken.kept ≡ reader.accepted = ap length h.kept.are ∙ length-map h.kept.replies kept_record ∙ h.kept.many in
-    let all : length M.kept ≡ (length taken.kept + 1) + length goes.kept.0 = sym (length-map M.kept kept_record) ∙ ap length (sym whole) ∙ length-append (taken.kept ++ row ∷ []) goes.kept.0 ∙ ap (λ n. n + length goes.kept.0) (length-append taken.kept (row ∷ [])) in
+    let all : length M.kept ≡ (length taken.kept + 1) + length goes.kept.0 = sym (length-map M.kept kept_record) ∙ ap length (sym whole) ∙ length-append (taken.kept ++ row ∷ []) goes.kept.0
+    ∙ ap (λ n. n + length goes.kept.0) (length-append taken.kept (row ∷ [])) in
     let few : length M.kept ≤ 9223372036854775807 = stands.well_formed.accepted_limit in
     decide why (λ no. no next.0 next.1 next.2 (next.3 ∙ (let z : 1 + length taken.kept ≡ reader.accepted + 1 = omega arith in z))) (λ full. omega arith)
   where

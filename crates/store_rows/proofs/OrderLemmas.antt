@@ -233,8 +233,11 @@ pos_below m n h = (pos_le m n (omega arith), λ e. let same : m ≡ n = cc in ab
 
 numbered_from : {X Y : Type 0} (f : ℕ → X → Y) (key : Y → ℤ) → ((n : ℕ) (x : X) → key (f n x) ≡ pos n) → (n : ℕ) (xs : List X) → AllByRecursion (λ y. (m : ℕ) × (key y ≡ pos m) × (n ≤ m)) (numbered f n xs)
 numbered_from f key keyed n [] = tt
-numbered_from f key keyed n (x ∷ xs) =
-    ((n, keyed n x, let le : n ≤ n = omega arith in le), all_weaker (λ y. (m : ℕ) × (key y ≡ pos m) × (n + 1 ≤ m)) (λ y. (m : ℕ) × (key y ≡ pos m) × (n ≤ m)) (λ y h. (h.0, h.1, let above : n + 1 ≤ h.0 = h.2 in omega arith)) (numbered f (n + 1) xs) (numbered_from f key keyed (n + 1) xs))
+numbered_from f key keyed n (x ∷ xs) = (
+  (n, keyed n x, let le : n ≤ n = omega arith in le),
+  all_weaker (λ y. (m : ℕ) × (key y ≡ pos m) × (n + 1 ≤ m)) (λ y. (m : ℕ) × (key y ≡ pos m) × (n ≤ m)) (λ y h. (h.0, h.1, let above : n + 1 ≤ h.0 = h.2 in omega arith))
+      (numbered f (n + 1) xs) (numbered_from f key keyed (n + 1) xs),
+)
 
 below_from : (k : ℤ) (n : ℕ) (l : ℤ) → k ≡ pos n → (m : ℕ) × (l ≡ pos m) × (n + 1 ≤ m) → Below k l
 below_from k n l e h = let above : n + 1 ≤ h.0 = h.2 in subst (λ (z : ℤ). Below z l) (sym e) (subst (Below (pos n)) (sym h.1) (pos_below n h.0 (omega arith)))
@@ -250,13 +253,15 @@ kept_from : (n : ℕ) (replies : List KeptFor) → IsNumberedFrom n replies → 
 kept_from n [] h = tt
 kept_from n (one ∷ replies) h = (
   (n, ap pos h.0, let le : n ≤ n = omega arith in le),
-  all_weaker (λ (row : spec.KeptRecord). (m : ℕ) × (row.number ≡ pos m) × (n + 1 ≤ m)) (λ row. (m : ℕ) × (row.number ≡ pos m) × (n ≤ m)) (λ row g. (g.0, g.1, let above : n + 1 ≤ g.0 = g.2 in omega arith)) (map kept_record replies) (kept_from (n + 1) replies h.1),
+  all_weaker (λ (row : spec.KeptRecord). (m : ℕ) × (row.number ≡ pos m) × (n + 1 ≤ m)) (λ row. (m : ℕ) × (row.number ≡ pos m) × (n ≤ m)) (λ row g. (g.0, g.1, let above : n + 1 ≤ g.0 = g.2 in omega arith)) (map kept_record replies)
+      (kept_from (n + 1) replies h.1),
 )
 
 pub kept_rise : (n : ℕ) (replies : List KeptFor) → IsNumberedFrom n replies → InOrder (λ (a b : spec.KeptRecord). Below a.number b.number) (map kept_record replies)
 kept_rise n [] h = tt
 kept_rise n (one ∷ replies) h = (
-  all_weaker (λ (row : spec.KeptRecord). (m : ℕ) × (row.number ≡ pos m) × (n + 1 ≤ m)) (λ row. Below (pos one.reply.number) row.number) (λ row g. below_from (pos one.reply.number) n row.number (ap pos h.0) g) (map kept_record replies) (kept_from (n + 1) replies h.1),
+  all_weaker (λ (row : spec.KeptRecord). (m : ℕ) × (row.number ≡ pos m) × (n + 1 ≤ m)) (λ row. Below (pos one.reply.number) row.number) (λ row g. below_from (pos one.reply.number) n row.number (ap pos h.0) g)
+      (map kept_record replies) (kept_from (n + 1) replies h.1),
   kept_rise (n + 1) replies h.1,
 )
 
@@ -271,7 +276,8 @@ members_same old new item same order h =
     let owner = name_of item in
     let mine = same_passed (λ (row : spec.Member). bytes_eq row.owner owner) old new same in
     let rising : InOrder (λ (a b : spec.Member). a.ord ≤ℤ b.ord) (members_of_owner owner new) =
-    order_given (λ (row : spec.Member). bytes_eq row.owner owner ≡ true) (λ (a b : spec.Member). a.owner ≡ b.owner → a.ord ≤ℤ b.ord) (λ (a b : spec.Member). a.ord ≤ℤ b.ord) (λ a b x y r. r (same_text a.owner owner x ∙ sym (same_text b.owner owner y)))
+    order_given (λ (row : spec.Member). bytes_eq row.owner owner ≡ true) (λ (a b : spec.Member). a.owner ≡ b.owner → a.ord ≤ℤ b.ord) (λ (a b : spec.Member). a.ord ≤ℤ b.ord)
+    (λ a b x y r. r (same_text a.owner owner x ∙ sym (same_text b.owner owner y)))
     (members_of_owner owner new) (all_passed (λ (row : spec.Member). bytes_eq row.owner owner) new) (order_passed (λ (a b : spec.Member). a.owner ≡ b.owner → a.ord ≤ℤ b.ord) (λ (row : spec.Member). bytes_eq row.owner owner) new order) in
     let strict = subst (InOrder (λ (a b : spec.Member). Below a.ord b.ord)) (sym h) (numbered_rise (member_record owner) (λ (row : spec.Member). row.ord) (λ n x. refl) 0 (members_of item)) in
     sym (ordered_once (λ (row : spec.Member). row.ord) (members_of_owner owner old) (members_of_owner owner new) mine strict rising) ∙ h
@@ -283,8 +289,10 @@ edition_same old new owner stored editions entries order h =
     let rows = same_passed (λ (row : spec.EditionRecord). same_number row.number number) old.editions new.editions editions in
     let mine = same_passed (λ (row : spec.EntryRecord). same_number row.edition number) old.entries new.entries entries in
     let rising : InOrder (λ (a b : spec.EntryRecord). a.ord ≤ℤ b.ord) (entries_of number new.entries) =
-    order_given (λ (row : spec.EntryRecord). same_number row.edition number ≡ true) (λ (a b : spec.EntryRecord). a.edition ≡ b.edition → a.ord ≤ℤ b.ord) (λ (a b : spec.EntryRecord). a.ord ≤ℤ b.ord) (λ a b x y r. r (same_number_is a.edition number x ∙ sym (same_number_is b.edition number y)))
-    (entries_of number new.entries) (all_passed (λ (row : spec.EntryRecord). same_number row.edition number) new.entries) (order_passed (λ (a b : spec.EntryRecord). a.edition ≡ b.edition → a.ord ≤ℤ b.ord) (λ (row : spec.EntryRecord). same_number row.edition number) new.entries order) in
+    order_given (λ (row : spec.EntryRecord). same_number row.edition number ≡ true) (λ (a b : spec.EntryRecord). a.edition ≡ b.edition → a.ord ≤ℤ b.ord) (λ (a b : spec.EntryRecord). a.ord ≤ℤ b.ord)
+    (λ a b x y r. r (same_number_is a.edition number x ∙ sym (same_number_is b.edition number y)))
+    (entries_of number new.entries) (all_passed (λ (row : spec.EntryRecord). same_number row.edition number) new.entries)
+    (order_passed (λ (a b : spec.EntryRecord). a.edition ≡ b.edition → a.ord ≤ℤ b.ord) (λ (row : spec.EntryRecord). same_number row.edition number) new.entries order) in
     let strict = subst (InOrder (λ (a b : spec.EntryRecord). Below a.ord b.ord)) (sym h.entries) (numbered_rise (entry_record stored.number) (λ (row : spec.EntryRecord). row.ord) (λ n x. refl) 0 h.reading.lines) in
     record {
       reading = h.reading;
@@ -307,7 +315,8 @@ ordered_stands version old new M same order h = record {
   members = all_weaker (HoldsMembers old.members) (HoldsMembers new.members) (λ item g. members_same old.members new.members item (same_from old.members new.members same.members) order.members g) M.items h.members;
   owners = all_same (λ (row : spec.Member). IsTrue (is_known M.items row.owner)) old.members new.members same.members h.owners;
   editions = all_weaker (HoldsEditions old) (HoldsEditions new)
-      (λ item g. all_weaker (HoldsEdition old (name_of item)) (HoldsEdition new (name_of item)) (λ stored k. edition_same old new (name_of item) stored (same_from old.editions new.editions same.editions) (same_from old.entries new.entries same.entries) order.entries k)
+      (λ item g. all_weaker (HoldsEdition old (name_of item)) (HoldsEdition new (name_of item))
+      (λ stored k. edition_same old new (name_of item) stored (same_from old.editions new.editions same.editions) (same_from old.entries new.entries same.entries) order.entries k)
       (editions_of item) g) M.items h.editions;
   numbers = all_same (λ (row : spec.EditionRecord). IsTrue (has_number M.items row.number)) old.editions new.editions same.editions h.numbers;
   entries = all_same (λ (row : spec.EntryRecord). IsTrue (has_number M.items row.edition)) old.entries new.entries same.entries h.entries;

@@ -10,7 +10,8 @@ use Rattle.store_rows.specs.Tables.{same_number, editions_numbered, entries_of}
 use Rattle.store_rows.specs.Order.{is_of, editions_of_numbers, entries_of_numbers}
 use Rattle.store_rows.proofs.TakenLemmas.{same_number_is}
 
-filter_step : {X : Type 0} (r s t : X → Bool) (x : X) (xs : List X) (a b d : Bool) → s x ≡ a → r x ≡ b → t x ≡ d → (a && b) ≡ d → filter r (filter s xs) ≡ filter t xs → filter r (cond a (x ∷ filter s xs) (filter s xs)) ≡ cond d (x ∷ filter t xs) (filter t xs)
+filter_step : {X : Type 0} (r s t : X → Bool) (x : X) (xs : List X) (a b d : Bool) → s x ≡ a → r x ≡ b → t x ≡ d → (a && b) ≡ d → filter r (filter s xs) ≡ filter t xs → filter r (cond a (x ∷ filter s xs) (filter s xs))
+    ≡ cond d (x ∷ filter t xs) (filter t xs)
 filter_step r s t x xs true true d ea eb ed both rest = ap (λ b. cond b (x ∷ filter r (filter s xs)) (filter r (filter s xs))) eb ∙ ap (λ ys. x ∷ ys) rest ∙ ap (λ b. cond b (x ∷ filter t xs) (filter t xs)) both
 filter_step r s t x xs true false d ea eb ed both rest = ap (λ b. cond b (x ∷ filter r (filter s xs)) (filter r (filter s xs))) eb ∙ rest ∙ ap (λ b. cond b (x ∷ filter t xs) (filter t xs)) both
 filter_step r s t x xs false b d ea eb ed both rest = rest ∙ ap (λ b. cond b (x ∷ filter t xs) (filter t xs)) both
@@ -75,8 +76,10 @@ numbers_more key numbers number all read part new done next =
     subst (λ xs. IsPermutation xs (read ++ part)) (sym (filter_alike (λ x. is_of (numbers ++ number ∷ []) (key x)) (λ x. is_of numbers (key x) || same_number (key x) number) (λ x. of_more numbers number (key x)) all))
     (parts_together (λ x. is_of numbers (key x)) (λ x. same_number (key x) number) (λ x. of_apart numbers number (key x) new) all read part done next)
 
-pub editions_more : (numbers : List ℤ) (number : ℤ) (all read part : List spec.EditionRecord) → is_of numbers number ≡ false → IsPermutation (editions_of_numbers numbers all) read → IsPermutation (editions_numbered number all) part → IsPermutation (editions_of_numbers (numbers ++ number ∷ []) all) (read ++ part)
+pub editions_more : (numbers : List ℤ) (number : ℤ) (all read part : List spec.EditionRecord) → is_of numbers number ≡ false → IsPermutation (editions_of_numbers numbers all) read → IsPermutation (editions_numbered number all) part
+    → IsPermutation (editions_of_numbers (numbers ++ number ∷ []) all) (read ++ part)
 editions_more = numbers_more (λ (row : spec.EditionRecord). row.number)
 
-pub entries_more : (numbers : List ℤ) (number : ℤ) (all read part : List spec.EntryRecord) → is_of numbers number ≡ false → IsPermutation (entries_of_numbers numbers all) read → IsPermutation (entries_of number all) part → IsPermutation (entries_of_numbers (numbers ++ number ∷ []) all) (read ++ part)
+pub entries_more : (numbers : List ℤ) (number : ℤ) (all read part : List spec.EntryRecord) → is_of numbers number ≡ false → IsPermutation (entries_of_numbers numbers all) read → IsPermutation (entries_of number all) part
+    → IsPermutation (entries_of_numbers (numbers ++ number ∷ []) all) (read ++ part)
 entries_more = numbers_more (λ (row : spec.EntryRecord). row.edition)

@@ -17,7 +17,8 @@ use Rattle.store_rows.specs.declared.fault.RowsFault.{RowsFault}
 use Rattle.store_rows.specs.declared.fault.RowsFault.TheVariants.{Damaged, Memory}
 use Rattle.store_rows.proofs.OnceLemmas.{head_same}
 
-pub line_told : (text body : List ℕ) (line : Line) → line.offset + line.size ≤ length text → body ≡ take line.size (drop line.offset text) → IsEditionText body → IsEntryHeadword line.headword → IsEntryShown line.shown → IsLawfulLine text line
+pub line_told : (text body : List ℕ) (line : Line) → line.offset + line.size ≤ length text → body ≡ take line.size (drop line.offset text) → IsEditionText body → IsEntryHeadword line.headword → IsEntryShown line.shown
+    → IsLawfulLine text line
 line_told text body line within cut lawful headword shown = record {
   within = within;
   lawful = record { headword = headword; shown = shown; body = subst IsEditionText cut lawful };

@@ -30,7 +30,8 @@ use Rattle.store_rows.proofs.FoundLemmas.{or_split, has_stored, stored_alike, aw
 -- ---- a record that no tables have
 
 -- the items of the reader are those of the catalogue
-pub same_items : (version : ℕ) (reader : Reader) (taken front tables : Tables) (M : Catalogue) → HasTaken version reader taken → front.items ≡ taken.items → front.members ≡ taken.members → GoesOnFrom front tables → Stands version tables M → map bare (items_in reader) ≡ map bare M.items
+pub same_items : (version : ℕ) (reader : Reader) (taken front tables : Tables) (M : Catalogue) → HasTaken version reader taken → front.items ≡ taken.items → front.members ≡ taken.members → GoesOnFrom front tables
+    → Stands version tables M → map bare (items_in reader) ≡ map bare M.items
 same_items version reader taken front tables M h fi fm goes stands =
     bare_of version reader.installs tables M (items_in reader) stands (goes.items ∙ fi ∙ h.items)
     (subst (λ (ms : List spec.Member). AllByRecursion (HoldsMembers ms) (items_in reader)) (sym (goes.members ∙ fm)) h.members)
@@ -38,7 +39,8 @@ same_items version reader taken front tables M h fi fm goes stands =
 pub number_refused : (version : ℕ) (taken : Tables) (row : spec.EditionRecord) → ((number : ℕ) → row.number ≡ pos number → ⊥) → StandsForNone version (with_edition taken row)
 number_refused version taken row h tables M goes stands = let f = row_found version tables M taken row stands goes in h f.found.stored.number (sym f.found.is)
 
-pub place_refused : (version : ℕ) (reader : Reader) (taken : Tables) (row : spec.EditionRecord) (number : ℕ) → HasTaken version reader taken → row.number ≡ pos number → list_any (awaits row.owner number) (items_in reader) ≡ false → StandsForNone version (with_edition taken row)
+pub place_refused : (version : ℕ) (reader : Reader) (taken : Tables) (row : spec.EditionRecord) (number : ℕ) → HasTaken version reader taken → row.number ≡ pos number → list_any (awaits row.owner number) (items_in reader) ≡ false
+    → StandsForNone version (with_edition taken row)
 place_refused version reader taken row number h e none tables M goes stands =
     let f = row_found version tables M taken row stands goes in
     let same = same_items version reader taken (with_edition taken row) tables M h refl refl goes stands in
@@ -99,22 +101,28 @@ awaited_none taken owner number (regular name current (Some former)) h held =
     one_of (or_split (is_awaited number current) (is_awaited number former) (and_parts (bytes_eq name owner) (is_awaited number current || is_awaited number former) h).1)
   where
     one_of : (is_awaited number current ≡ true) ⊎ (is_awaited number former ≡ true) → HasNone taken number
-    one_of (inl e) = let parts = and_parts (current.number == number) (length current.content == 0) e in subst (HasNone taken) (nat_same current.number number parts.0) (none_held taken name current held.0 (length_none current.content parts.1))
+    one_of (inl e) = let parts = and_parts (current.number == number) (length current.content == 0) e in
+        subst (HasNone taken) (nat_same current.number number parts.0) (none_held taken name current held.0 (length_none current.content parts.1))
     one_of (inr e) = let parts = and_parts (former.number == number) (length former.content == 0) e in subst (HasNone taken) (nat_same former.number number parts.0) (none_held taken name former held.1.0 (length_none former.content parts.1))
 awaited_none taken owner number (virtual name title members) h held = absurd (false≢true h)
 
 -- the items with one title more are the same but for it
-titled_records : (number : ℕ) (title : List ℕ) (front : List (Item (List ℕ))) (item : Item (List ℕ)) (behind : List (Item (List ℕ))) → numbered item_record 0 (front ++ item_titled number title item ∷ behind) ≡ numbered item_record 0 (front ++ item ∷ behind)
+titled_records : (number : ℕ) (title : List ℕ) (front : List (Item (List ℕ))) (item : Item (List ℕ)) (behind : List (Item (List ℕ))) → numbered item_record 0 (front ++ item_titled number title item ∷ behind)
+    ≡ numbered item_record 0 (front ++ item ∷ behind)
 titled_records number title front item behind =
     numbered_append item_record 0 front (item_titled number title item ∷ behind)
     ∙ ap (λ r. numbered item_record 0 front ++ r ∷ numbered item_record ((0 + length front) + 1) behind) (titled_record (0 + length front) number title item)
     ∙ sym (numbered_append item_record 0 front (item ∷ behind))
 
-titled_held : (members : List spec.Member) (number : ℕ) (title : List ℕ) (front : List (Item (List ℕ))) (item : Item (List ℕ)) (behind : List (Item (List ℕ))) → AllByRecursion (HoldsMembers members) (front ++ item ∷ behind) → AllByRecursion (HoldsMembers members) (front ++ item_titled number title item ∷ behind)
+titled_held : (members : List spec.Member) (number : ℕ) (title : List ℕ) (front : List (Item (List ℕ))) (item : Item (List ℕ)) (behind : List (Item (List ℕ))) → AllByRecursion (HoldsMembers members) (front ++ item ∷ behind)
+    → AllByRecursion (HoldsMembers members) (front ++ item_titled number title item ∷ behind)
 titled_held members number title front item behind h =
     let parts = all_append_parts (HoldsMembers members) front (item ∷ behind) h in
-    all_append (HoldsMembers members) front (item_titled number title item ∷ behind) parts.0
-    ((λ i. Rattle.store_rows.specs.Tables.members_of_owner (titled_name number title item i) members) ∙ parts.1.0 ∙ (λ i. numbered (member_record (sym (titled_name number title item) i)) 0 (sym (titled_members number title item) i)), parts.1.1)
+    all_append (HoldsMembers members) front (item_titled number title item ∷ behind) parts.0 (
+      (λ i. Rattle.store_rows.specs.Tables.members_of_owner (titled_name number title item i) members) ∙ parts.1.0
+          ∙ (λ i. numbered (member_record (sym (titled_name number title item) i)) 0 (sym (titled_members number title item) i)),
+      parts.1.1,
+    )
 
 known_still : (xs ys : List (Item (List ℕ))) → map bare xs ≡ map bare ys → (rows : List spec.Member) → AllByRecursion (λ row. IsTrue (is_known xs row.owner)) rows → AllByRecursion (λ row. IsTrue (is_known ys row.owner)) rows
 known_still xs ys e rows h = all_weaker (λ (row : spec.Member). IsTrue (is_known xs row.owner)) (λ (row : spec.Member). IsTrue (is_known ys row.owner)) (λ row k. sym (known_alike xs ys row.owner e) ∙ k) rows h
@@ -165,9 +173,11 @@ edition_taken version old new taken row number front item behind was now install
       titles = subst (AllByRecursion (HoldsTitles (with_edition taken row))) (sym now)
           (titles_taken taken row.owner number row.title row front item behind new' waits (subst Rattle.dict_catalogue.specs.WellFormed.IsEachNumberOnce once (lawful_true_numbers old.installs (items_in old) h.lawful)) titles');
       numbers = all_append (λ (r : spec.EditionRecord). IsTrue (has_number (items_in new) r.number)) taken.editions (row ∷ [])
-          (all_weaker (λ (r : spec.EditionRecord). IsTrue (has_number (items_in old) r.number)) (λ (r : spec.EditionRecord). IsTrue (has_number (items_in new) r.number)) (λ r k. has_number_still (items_in old) (items_in new) r.number same k) taken.editions h.numbers)
+          (all_weaker (λ (r : spec.EditionRecord). IsTrue (has_number (items_in old) r.number)) (λ (r : spec.EditionRecord). IsTrue (has_number (items_in new) r.number))
+          (λ r k. has_number_still (items_in old) (items_in new) r.number same k) taken.editions h.numbers)
           (ap (has_number (items_in new)) e ∙ known, tt);
-      entries = all_weaker (λ (r : spec.EntryRecord). IsTrue (has_number (items_in old) r.edition)) (λ (r : spec.EntryRecord). IsTrue (has_number (items_in new) r.edition)) (λ r k. has_number_still (items_in old) (items_in new) r.edition same k) taken.entries h.entries;
+      entries = all_weaker (λ (r : spec.EntryRecord). IsTrue (has_number (items_in old) r.edition)) (λ (r : spec.EntryRecord). IsTrue (has_number (items_in new) r.edition))
+          (λ r k. has_number_still (items_in old) (items_in new) r.edition same k) taken.entries h.entries;
       hand = in_hand taken row number new.edition held e none;
       kept = subst (λ n. Rattle.store_rows.specs.Taken.AreKept n new.installed taken.kept) (sym accepted) (subst (λ n. Rattle.store_rows.specs.Taken.AreKept old.accepted n taken.kept) (sym installed) h.kept);
     }

@@ -85,9 +85,18 @@ entries_damage Damaged old new rows i row lt is done refused = λ version taken 
     let mine : IsOfLast taken (owned_entry row.value) = (all_append_parts (IsOfLast taken) front (owned_entry row.value ∷ behind) (subst (AllByRecursion (IsOfLast taken)) cut of)).1.0 in
     let whole : with_entries (with_entry (with_entries taken front) (owned_entry row.value)) behind ≡ with_entries taken (entries_given rows) =
     ap (λ t. with_entries t behind) (one_more_entry taken front (owned_entry row.value))
-    ∙ (λ j. record { marks = taken.marks; items = taken.items; members = taken.members; editions = taken.editions; entries = (append_assoc taken.entries (front ++ owned_entry row.value ∷ []) behind ∙ ap (λ l. taken.entries ++ l) (append_assoc front (owned_entry row.value ∷ []) behind ∙ sym cut)) j; kept = taken.kept }) in
+    ∙ (λ j. record {
+      marks = taken.marks;
+      items = taken.items;
+      members = taken.members;
+      editions = taken.editions;
+      entries =
+          (append_assoc taken.entries (front ++ owned_entry row.value ∷ []) behind ∙ ap (λ l. taken.entries ++ l) (append_assoc front (owned_entry row.value ∷ []) behind ∙ sym cut)) j;
+      kept = taken.kept;
+    }) in
     subst (StandsForNone version) whole
-    (none_longer version (with_entry (with_entries taken front) (owned_entry row.value)) (with_entries (with_entry (with_entries taken front) (owned_entry row.value)) behind) (longer (with_entry (with_entries taken front) (owned_entry row.value)) behind)
+    (none_longer version (with_entry (with_entries taken front) (owned_entry row.value)) (with_entries (with_entry (with_entries taken front) (owned_entry row.value)) behind)
+    (longer (with_entry (with_entries taken front) (owned_entry row.value)) behind)
     (refused version (with_entries taken front) (done version taken h) mine))
   where
     longer : (taken : Tables) (rows : List spec.EntryRecord) → GoesOnFrom taken (with_entries taken rows)
@@ -207,9 +216,18 @@ replies_damage old new rows i row lt is done refused version taken h =
     let cut = map_cut (λ (one : Row (KeptRecord (String Global))). owned_kept one.value) rows i row lt is in
     let front = kept_given (take i rows) in
     let behind = kept_given (drop (suc i) rows) in
-    let here : StandsForNone version (with_replies taken (front ++ owned_kept row.value ∷ [])) = subst (StandsForNone version) (one_more_kept taken front (owned_kept row.value)) (refused version (with_replies taken front) (done version taken h)) in
+    let here : StandsForNone version (with_replies taken (front ++ owned_kept row.value ∷ [])) =
+    subst (StandsForNone version) (one_more_kept taken front (owned_kept row.value)) (refused version (with_replies taken front) (done version taken h)) in
     let whole : with_replies (with_replies taken (front ++ owned_kept row.value ∷ [])) behind ≡ with_replies taken (kept_given rows) =
-    (λ j. record { marks = taken.marks; items = taken.items; members = taken.members; editions = taken.editions; entries = taken.entries; kept = (append_assoc taken.kept (front ++ owned_kept row.value ∷ []) behind ∙ ap (λ l. taken.kept ++ l) (append_assoc front (owned_kept row.value ∷ []) behind ∙ sym cut)) j }) in
+    (λ j. record {
+      marks = taken.marks;
+      items = taken.items;
+      members = taken.members;
+      editions = taken.editions;
+      entries = taken.entries;
+      kept =
+          (append_assoc taken.kept (front ++ owned_kept row.value ∷ []) behind ∙ ap (λ l. taken.kept ++ l) (append_assoc front (owned_kept row.value ∷ []) behind ∙ sym cut)) j;
+    }) in
     subst (StandsForNone version) whole
     (none_longer version (with_replies taken (front ++ owned_kept row.value ∷ [])) (with_replies (with_replies taken (front ++ owned_kept row.value ∷ [])) behind)
     (record {
@@ -256,7 +274,8 @@ any_damage Memory P h = tt
 abbrev pub StandForNone : ℕ → AllRows → Type 0
 StandForNone version rows = AllByRecursion AreAllOf rows.editions.now → (M : Catalogue) → Stands version (tables_given rows) M → ⊥
 
-pub begin_damage : (fault : RowsFault) (version : ℕ) (rows : AllRows) → OnDamage fault (StandsForNone version (begun (tables_given rows).marks (tables_given rows).items (tables_given rows).members)) → OnDamage fault (StandForNone version rows)
+pub begin_damage : (fault : RowsFault) (version : ℕ) (rows : AllRows) → OnDamage fault (StandsForNone version (begun (tables_given rows).marks (tables_given rows).items (tables_given rows).members))
+    → OnDamage fault (StandForNone version rows)
 begin_damage Damaged version rows h = λ of M stands. h (tables_given rows) M (goes_begun rows) stands
 begin_damage Memory version rows h = tt
 

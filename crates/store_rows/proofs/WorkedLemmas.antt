@@ -48,7 +48,13 @@ good_text text utf8 octets lines =
 
 iron : IsWellFormedEntry (record { headword = codes "iron"; shown = codes "iron"; body = codes "iron\n  ore\n" })
 unfolding keys chars encode is_utf8 is_text_octet
-iron = record { headword = (IsUtf8-from_is_utf8 (codes "iron") refl, (omega arith, omega arith, refl, λ e. cc), refl); shown = (IsUtf8-from_is_utf8 (codes "iron") refl, (omega arith, omega arith, refl)); body = good_text (codes "iron\n  ore\n") refl refl refl }
+iron =
+    record {
+      headword = (IsUtf8-from_is_utf8 (codes "iron") refl, (omega arith, omega arith, refl, λ e. cc), refl);
+      shown = (IsUtf8-from_is_utf8 (codes "iron") refl, (omega arith, omega arith, refl));
+      body =
+          good_text (codes "iron\n  ore\n") refl refl refl;
+    }
 
 ores : IsWellFormedEdition (edition_of ore_reading)
 unfolding chars encode is_utf8 is_text_octet is_title

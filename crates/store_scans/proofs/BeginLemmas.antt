@@ -10,7 +10,8 @@ use Rattle.store_scans.specs.declared.fault.ReadingFault.TheVariants.{Damaged}
 use Rattle.store_scans.specs.Reading.{StaysUnlessShut, OnlyReads}
 use Rattle.store_scans.proofs.StateLemmas.{clean_before, same_as, same_stays, reads_then}
 
-module _ {S : Type 0} (g : Ghosts S) (what : Cursor) (old mid new : Held S) (begun : HasCleanDisk (state g mid) → CursorHasGiven g what mid [] × IsUnchanged (state g old) (state g mid)) (later : Survives (state g mid) (state g new) (λ _. ⊥)) where
+module _ {S : Type 0} (g : Ghosts S) (what : Cursor) (old mid new : Held S) (begun : HasCleanDisk (state g mid) → CursorHasGiven g what mid [] × IsUnchanged (state g old) (state g mid))
+    (later : Survives (state g mid) (state g new) (λ _. ⊥)) where
   early : HasCleanDisk (state g new) → HasCleanDisk (state g mid)
   early = clean_before (state g old) (state g mid) (state g new) later
 
@@ -25,11 +26,13 @@ module _ {S : Type 0} (g : Ghosts S) (what : Cursor) (old mid new : Held S) (beg
       first : OnlyReads (state g old) (state g mid)
       first = record { mode = mode; survives = survives; stays = (λ clean. same_stays (state g old) (state g mid) (same_as (state g old) (state g mid) (begun clean).1)) }
 
-  pub whole_on : {T E : Type 0} (result : Result T E) (P : Cursor → Database → Type 0) → (HasCleanDisk (state g new) → OnOk result ((any : Cursor) → CursorHasGiven g any mid [] → P any (state g mid).now)) → HasCleanDisk (state g new) → OnOk result (P what (state g old).now)
+  pub whole_on : {T E : Type 0} (result : Result T E) (P : Cursor → Database → Type 0) → (HasCleanDisk (state g new) → OnOk result ((any : Cursor) → CursorHasGiven g any mid [] → P any (state g mid).now))
+      → HasCleanDisk (state g new) → OnOk result (P what (state g old).now)
   whole_on (Err e) P h clean = tt
   whole_on (Ok x) P h clean = subst (P what) (begun (early clean)).1.0.now_is (h clean what (begun (early clean)).0)
 
-  pub damaged_on : {T : Type 0} (result : Result T ReadingFault) (P : Cursor → Database → Type 0) → (HasCleanDisk (state g new) → IfErr result (λ fault. fault ≡ Damaged → (any : Cursor) → CursorHasGiven g any mid [] → P any (state g mid).now)) → HasCleanDisk (state g new) →
+  pub damaged_on : {T : Type 0} (result : Result T ReadingFault) (P : Cursor → Database → Type 0)
+      → (HasCleanDisk (state g new) → IfErr result (λ fault. fault ≡ Damaged → (any : Cursor) → CursorHasGiven g any mid [] → P any (state g mid).now)) → HasCleanDisk (state g new) →
       IfErr result (λ fault. fault ≡ Damaged → P what (state g old).now)
   damaged_on (Ok x) P h clean = tt
   damaged_on (Err e) P h clean = λ is. subst (P what) (begun (early clean)).1.0.now_is (h clean is what (begun (early clean)).0)

@@ -50,7 +50,8 @@ list_cause columns rows old new NoRecord h = tt
 list_cause columns rows old new (Store e) (inl fails) = store_cause old new e fails
 list_cause columns rows old new (Store e) (inr refused) = subst (λ e. IsExcusedReading old new (fault_of_store e)) (sym refused.1) tt
 
-pub next_cause : {S : Type 0} (g : Ghosts S) (columns : List Content) (what : Cursor) (old new : Held S) (given : List Row) (e : ReadError) → CursorHasGiven g what old given → FailsToMove g columns old new e → IsExcusedReading (state g old) (state g new) (reading_fault_of e)
+pub next_cause : {S : Type 0} (g : Ghosts S) (columns : List Content) (what : Cursor) (old new : Held S) (given : List Row) (e : ReadError) → CursorHasGiven g what old given → FailsToMove g columns old new e
+    → IsExcusedReading (state g old) (state g new) (reading_fault_of e)
 next_cause g columns what old new given NoRecord h m = tt
 next_cause g columns what old new given (Store e) h (inl fails) = store_cause (state g old) (state g new) e (fails_to_move g what old new given e h fails.0)
 next_cause g columns what old new given (Store e) h (inr refused) = subst (λ e. IsExcusedReading (state g old) (state g new) (fault_of_store e)) (sym refused.0) tt
@@ -116,16 +117,19 @@ front_vast what db rows front many = whole_vast what db (rows ++ front.0) front.
 pub cause_passed : {X : Type 0} (old new : State) (fault : ReadingFault) (result : Result X ReadingFault) → IsErrAnd result (λ f. f ≡ fault) → IsExcusedReading old new fault → IfErr result (IsExcusedReading old new)
 cause_passed old new fault result is h = passed_on (IsExcusedReading old new) fault result is h
 
-pub cause_later : {X : Type 0} (old mid new : State) (fault : ReadingFault) (result : Result X ReadingFault) → IsErrAnd result (λ f. f ≡ fault) → Survives old mid (λ _. ⊥) → Survives mid new (λ _. ⊥) → (HasCleanDisk mid → Same old mid) → HasCleanDisk new
+pub cause_later : {X : Type 0} (old mid new : State) (fault : ReadingFault) (result : Result X ReadingFault) → IsErrAnd result (λ f. f ≡ fault) → Survives old mid (λ _. ⊥) → Survives mid new (λ _. ⊥)
+    → (HasCleanDisk mid → Same old mid) → HasCleanDisk new
     → IsExcusedReading mid new fault → IfErr result (IsExcusedReading old new)
 cause_later old mid new fault result is one two same clean h = passed_on (IsExcusedReading old new) fault result is (cause_then old mid new one (same (clean_before old mid new two clean)) fault h)
 
-pub cause_last : {X : Type 0} (old mid new : State) (result : Result X ReadingFault) → Survives old mid (λ _. ⊥) → Survives mid new (λ _. ⊥) → (HasCleanDisk mid → Same old mid) → HasCleanDisk new → IfErr result (IsExcusedReading mid new) → IfErr result (IsExcusedReading old new)
+pub cause_last : {X : Type 0} (old mid new : State) (result : Result X ReadingFault) → Survives old mid (λ _. ⊥) → Survives mid new (λ _. ⊥) → (HasCleanDisk mid → Same old mid) → HasCleanDisk new
+    → IfErr result (IsExcusedReading mid new) → IfErr result (IsExcusedReading old new)
 cause_last old mid new (Ok x) one two same clean h = tt
 cause_last old mid new (Err fault) one two same clean h = cause_then old mid new one (same (clean_before old mid new two clean)) fault h
 
 -- a scan that was begun and then fails
-pub cause_on : {S X : Type 0} (g : Ghosts S) (what : Cursor) (old mid new : Held S) (result : Result X ReadingFault) → (HasCleanDisk (state g mid) → CursorHasGiven g what mid [] × IsUnchanged (state g old) (state g mid)) → Survives (state g old) (state g mid) (λ _. ⊥) → Survives (state g mid) (state g new) (λ _. ⊥) → HasCleanDisk (state g new)
+pub cause_on : {S X : Type 0} (g : Ghosts S) (what : Cursor) (old mid new : Held S) (result : Result X ReadingFault) → (HasCleanDisk (state g mid) → CursorHasGiven g what mid [] × IsUnchanged (state g old) (state g mid))
+    → Survives (state g old) (state g mid) (λ _. ⊥) → Survives (state g mid) (state g new) (λ _. ⊥) → HasCleanDisk (state g new)
     → IfErr result (λ fault. (any : Cursor) → CursorHasGiven g any mid [] → IsExcusedReading (state g mid) (state g new) fault) → IfErr result (IsExcusedReading (state g old) (state g new))
 cause_on g what old mid new (Ok x) begun one two clean h = tt
 cause_on g what old mid new (Err fault) begun one two clean h =
@@ -133,7 +137,8 @@ cause_on g what old mid new (Err fault) begun one two clean h =
     cause_then (state g old) (state g mid) (state g new) one (same_as (state g old) (state g mid) first.1) fault (h what first.0)
 
 -- what a row that isn't given leaves
-pub move_stays : {S : Type 0} (g : Ghosts S) (columns : List Content) (what : Cursor) (old new : Held S) (given : List Row) (e : ReadError) → CursorHasGiven g what old given → FailsToMove g columns old new e → StaysUnlessShut (state g old) (state g new)
+pub move_stays : {S : Type 0} (g : Ghosts S) (columns : List Content) (what : Cursor) (old new : Held S) (given : List Row) (e : ReadError) → CursorHasGiven g what old given → FailsToMove g columns old new e
+    → StaysUnlessShut (state g old) (state g new)
 move_stays g columns what old new given NoRecord h (row, same, moved, none) = same_stays (state g old) (state g new) (same_as (state g old) (state g new) same)
 move_stays g columns what old new given (Store e) h (inl fails) = failed_stays (state g old) (state g new) e (fails_to_move g what old new given e h fails.0)
 move_stays g columns what old new given (Store e) h (inr (refused, row, same, moved)) = same_stays (state g old) (state g new) (same_as (state g old) (state g new) same)

@@ -41,8 +41,10 @@ known_row (m ∷ numbers) row n e = λ i. (ap (λ v. same_value v (Int m)) e ∙
 
 -- ---- one row more
 
-module _ {R : Type 0} (stored : R → Row) (first : Census) (given : List R) (next : R) (old : Census) (t : TakesCensus stored first given old) (id edition : ℤ) (rowid : column (stored next) 0 ≡ Int id) (number : column (stored next) 1 ≡ Int edition) where
-  pub census_next : (new : Census) → new.numbers ≡ old.numbers → ((taken : List ℤ) → HasTakenRowids old.rowids taken → HasTakenRowids new.rowids (taken ++ id ∷ [])) → is_of old.numbers.now edition ≡ true → TakesCensus stored first (given ++ next ∷ []) new
+module _ {R : Type 0} (stored : R → Row) (first : Census) (given : List R) (next : R) (old : Census) (t : TakesCensus stored first given old) (id edition : ℤ) (rowid : column (stored next) 0 ≡ Int id)
+    (number : column (stored next) 1 ≡ Int edition) where
+  pub census_next : (new : Census) → new.numbers ≡ old.numbers → ((taken : List ℤ) → HasTakenRowids old.rowids taken → HasTakenRowids new.rowids (taken ++ id ∷ [])) → is_of old.numbers.now edition ≡ true
+      → TakesCensus stored first (given ++ next ∷ []) new
   census_next new same more known = record {
     numbers = ap (λ n. n.now) same ∙ t.numbers;
     rowids = rowids_next stored first.rowids given next id old.rowids rowid t.rowids new.rowids more;
@@ -64,7 +66,8 @@ record ArePassedApart (test : Row → Bool) (all : List Row) : Type 0 where
   apart : HasApartRowids all
   known : AllByRecursion (λ row. test row ≡ true) all
 
-module _ {R : Type 0} (stored : R → Row) (columns : List Content) (what : Cursor) (all : List Row) (db : Database) (numbers : List ℤ) (first : Census) (same : first.numbers.now ≡ numbers) (none : HasTakenRowids first.rowids []) (lists : (rows : List Row) → IsScannedToEnd what db rows → IsPermutation all rows × IsSorted (by_columns (0 ∷ [])) rows) where
+module _ {R : Type 0} (stored : R → Row) (columns : List Content) (what : Cursor) (all : List Row) (db : Database) (numbers : List ℤ) (first : Census) (same : first.numbers.now ≡ numbers) (none : HasTakenRowids first.rowids [])
+    (lists : (rows : List Row) → IsScannedToEnd what db rows → IsPermutation all rows × IsSorted (by_columns (0 ∷ [])) rows) where
   census_all : (last : Census) → TakesAll stored (TakesCensus stored) what db first last → ArePassedApart (one_of numbers) all
   census_all last h =
       let l = lists (map stored h.0) h.1 in
@@ -87,7 +90,8 @@ module _ {R : Type 0} (stored : R → Row) (columns : List Content) (what : Curs
   census_none readable apart (inr (given, begins, inl twice)) = all_wrong stored all first.rowids none given begins.0 (lists (map stored given ++ begins.0) begins.1).0 twice apart.apart
   census_none readable apart (inr (given, begins, inr (front, next, is, unknown))) = last_passes (one_of numbers) apart.known given front next is begins (subst (λ ns. one_of ns (stored next) ≡ false) same unknown)
 
-module _ {R : Type 0} (stored : R → Row) (columns : List Content) (what : Cursor) (name : List ℕ) (db : Database) (numbers : List ℤ) (first : Census) (same : first.numbers.now ≡ numbers) (none : HasTakenRowids first.rowids []) (lists : (rows : List Row) → IsScannedToEnd what db rows → IsPermutation (rows_of name db) rows × IsSorted (by_columns (0 ∷ [])) rows) where
+module _ {R : Type 0} (stored : R → Row) (columns : List Content) (what : Cursor) (name : List ℕ) (db : Database) (numbers : List ℤ) (first : Census) (same : first.numbers.now ≡ numbers) (none : HasTakenRowids first.rowids [])
+    (lists : (rows : List Row) → IsScannedToEnd what db rows → IsPermutation (rows_of name db) rows × IsSorted (by_columns (0 ∷ [])) rows) where
   pub census_whole : (last : Census) → TakesAll stored (TakesCensus stored) what db first last → AreNumberedApart numbers name db
   census_whole last h = let it = census_all stored columns what (rows_of name db) db numbers first same none lists last h in record { apart = it.apart; known = it.known }
 
@@ -112,7 +116,8 @@ module _ (db : Database) (numbers : List ℤ) (first : Census) (same : first.num
 
   pub numbers_wrong : AllByRecursion (HasColumns edition_columns) editions → AreNumberedApart numbers (codes "edition") db → IsWrong stored_number number_columns (refuses_census stored_number) (InStore EditionNumbers) db first → ⊥
   numbers_wrong readable apart w =
-      census_none stored_number number_columns (InStore EditionNumbers) (map rowid_and_number editions) db numbers first same none (λ rows l. (l.same, l.sorted)) (all_numbered (HasColumns edition_columns) (HasColumns number_columns) first_two editions readable)
+      census_none stored_number number_columns (InStore EditionNumbers) (map rowid_and_number editions) db numbers first same none (λ rows l. (l.same, l.sorted))
+      (all_numbered (HasColumns edition_columns) (HasColumns number_columns) first_two editions readable)
       (record { apart = numbered_apart editions apart.apart; known = all_numbered (λ row. one_of numbers row ≡ true) (λ row. one_of numbers row ≡ true) (λ row p. p) editions apart.known }) w
 
 -- ---- the parts of files
@@ -133,7 +138,11 @@ module _ (db : Database) (numbers : List ℤ) (first : PartCensus) (same : first
       let it = census_all stored_part part_columns PartsByRowid parts db numbers first.census same none lists last.census (h.0, h.1, h.2.census) in
       let files = all_same (λ row. is_in_file row ≡ true) (map stored_part h.0) parts (IsPermutation-sym parts (map stored_part h.0) (lists (map stored_part h.0) h.1).0)
       (all_map (λ r. is_in_file (stored_part r) ≡ true) (λ row. is_in_file row ≡ true) stored_part (λ r p. p) h.0 h.2.files) in
-      record { apart = it.apart; known = all_with (λ row. one_of numbers row ≡ true) (λ row. is_in_file row ≡ true) (λ row. is_known_part numbers row ≡ true) (λ row p q. both_true (one_of numbers row) (is_in_file row) p q) parts it.known files }
+      record {
+        apart = it.apart;
+        known = all_with (λ row. one_of numbers row ≡ true) (λ row. is_in_file row ≡ true) (λ row. is_known_part numbers row ≡ true) (λ row p q. both_true (one_of numbers row) (is_in_file row) p q) parts
+            it.known files;
+      }
 
   pub parts_wrong : AllByRecursion (HasColumns part_columns) parts → AreKnownApart (is_known_part numbers) (codes "dictcat_part") db → IsWrong stored_part part_columns refuses_part_census PartsByRowid db first → ⊥
   parts_wrong readable apart w = by w

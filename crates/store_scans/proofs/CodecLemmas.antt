@@ -68,8 +68,10 @@ module _ {R W : Type 0} (k : Codec R W) where
   all_written [] = tt
   all_written (w ∷ ws) = ((w, refl), all_written ws)
 
-  filter_step : (test : Row → Bool) (pass : W → Bool) (r : Row) (rows : List Row) (a b : Bool) → pass (read r) ≡ a → test r ≡ b → a ≡ b → filter pass (map read rows) ≡ map read (filter test rows) → cond (pass (read r)) (read r ∷ filter pass (map read rows)) (filter pass (map read rows)) ≡ map read (cond (test r) (r ∷ filter test rows) (filter test rows))
-  filter_step test pass r rows true true ea eb same rest = ap (λ b. cond b (read r ∷ filter pass (map read rows)) (filter pass (map read rows))) ea ∙ ap (λ l. read r ∷ l) rest ∙ ap (λ b. map read (cond b (r ∷ filter test rows) (filter test rows))) (sym eb)
+  filter_step : (test : Row → Bool) (pass : W → Bool) (r : Row) (rows : List Row) (a b : Bool) → pass (read r) ≡ a → test r ≡ b → a ≡ b → filter pass (map read rows) ≡ map read (filter test rows)
+      → cond (pass (read r)) (read r ∷ filter pass (map read rows)) (filter pass (map read rows)) ≡ map read (cond (test r) (r ∷ filter test rows) (filter test rows))
+  filter_step test pass r rows true true ea eb same rest = ap (λ b. cond b (read r ∷ filter pass (map read rows)) (filter pass (map read rows))) ea ∙ ap (λ l. read r ∷ l) rest
+      ∙ ap (λ b. map read (cond b (r ∷ filter test rows) (filter test rows))) (sym eb)
   filter_step test pass r rows false false ea eb same rest = ap (λ b. cond b (read r ∷ filter pass (map read rows)) (filter pass (map read rows))) ea ∙ rest ∙ ap (λ b. map read (cond b (r ∷ filter test rows) (filter test rows))) (sym eb)
   filter_step test pass r rows true false ea eb same rest = absurd (cc)
   filter_step test pass r rows false true ea eb same rest = absurd (cc)
@@ -88,7 +90,8 @@ module _ {R W : Type 0} (k : Codec R W) where
       all_read P (r ∷ rows) h = (h.0, all_read P rows h.1)
 
   -- rows that are in the order of columns
-  pub rows_order : (columns : List ℕ) (T : W → W → Type 0) → ((r s : Row) (w v : W) → drop 1 r ≡ k.encode w → drop 1 s ≡ k.encode v → is_lt (by_columns columns s r) ≡ false → T w v) → (rows : List Row) → AllByRecursion IsRow rows → IsSorted (by_columns columns) rows → InOrder T (map read rows)
+  pub rows_order : (columns : List ℕ) (T : W → W → Type 0) → ((r s : Row) (w v : W) → drop 1 r ≡ k.encode w → drop 1 s ≡ k.encode v → is_lt (by_columns columns s r) ≡ false → T w v) → (rows : List Row) → AllByRecursion IsRow rows
+      → IsSorted (by_columns columns) rows → InOrder T (map read rows)
   rows_order columns T means rows all up =
       order_read (λ a b. is_lt (by_columns columns b a) ≡ false) T rows
       (order_given IsRow (λ a b. is_lt (by_columns columns b a) ≡ false) (λ a b. T (read a) (read b))
@@ -113,7 +116,8 @@ module _ {R W : Type 0} (k : Codec R W) where
     listed_records rows same = (IsPermutation-trans ws (map read (rows_of name db)) (map read rows) records_kept (IsPermutation-map read _ _ same), all_same IsRow (rows_of name db) rows same written)
 
     -- those that pass a test
-    pub selected_records : (test : Row → Bool) (pass : W → Bool) → ((row : Row) (w : W) → drop 1 row ≡ k.encode w → test row ≡ pass w) → (rows : List Row) → IsPermutation (filter test (rows_of name db)) rows → IsPermutation (filter pass ws) (map read rows) × AllByRecursion IsRow rows
+    pub selected_records : (test : Row → Bool) (pass : W → Bool) → ((row : Row) (w : W) → drop 1 row ≡ k.encode w → test row ≡ pass w) → (rows : List Row) → IsPermutation (filter test (rows_of name db)) rows
+        → IsPermutation (filter pass ws) (map read rows) × AllByRecursion IsRow rows
     selected_records test pass agrees rows same = (
       IsPermutation-trans (filter pass ws) (map read (filter test (rows_of name db))) (map read rows)
           (subst (IsPermutation (filter pass ws)) (filter_read test pass agrees (rows_of name db) written) (IsPermutation-filter pass _ _ records_kept)) (IsPermutation-map read _ _ same),

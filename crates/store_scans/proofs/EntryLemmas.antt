@@ -36,7 +36,8 @@ next_taken number first last all t version taken h fresh = t version taken h
 
 -- ---- whatever the layout
 
-module _ {R : Type 0} (stored : R → Row) (entry : R → EntryRecord) (layout : Layout) (are : (r : R) → looked_behind_rowid layout (stored r) ≡ entry_cells layout (entry r)) (shown : (given : List R) → AreShownIn layout (map entry given)) where
+module _ {R : Type 0} (stored : R → Row) (entry : R → EntryRecord) (layout : Layout) (are : (r : R) → looked_behind_rowid layout (stored r) ≡ entry_cells layout (entry r))
+    (shown : (given : List R) → AreShownIn layout (map entry given)) where
   cells : (given : List R) → map (looked_behind_rowid layout) (map stored given) ≡ map (entry_cells layout) (map entry given)
   cells [] = refl
   cells (r ∷ given) = λ i. are r i ∷ cells given i
@@ -48,7 +49,8 @@ module _ {R : Type 0} (stored : R → Row) (entry : R → EntryRecord) (layout :
     begins_with : (given : List R) → IsFrontOfScan what db (map stored given) → BeginsWithEntries layout db number (map entry given)
     begins_with given front = (map stored given, front.0, lists (map stored given ++ front.0) front.1, cells given, shown given)
 
-    no_entry : (columns : List Content) → ((row : Row) → Contains (edition_rows number db) row → ¬ HasColumns columns row → IsNoEntryRow layout row) → HasNoRecordIn stored columns what db → (row : Row) × Contains (edition_rows number db) row × IsNoEntryRow layout row
+    no_entry : (columns : List Content) → ((row : Row) → Contains (edition_rows number db) row → ¬ HasColumns columns row → IsNoEntryRow layout row) → HasNoRecordIn stored columns what db → (row : Row)
+        × Contains (edition_rows number db) row × IsNoEntryRow layout row
     no_entry columns none w =
         let there = last_there (edition_rows number db) (map stored w.0) w.2.0 w.1 (lists ((map stored w.0 ++ w.1 ∷ []) ++ w.2.0) w.2.1).same in
         (w.1, there, none w.1 there w.3)
@@ -60,7 +62,8 @@ plain_shown [] = tt
 plain_shown (row ∷ given) = (refl, plain_shown given)
 
 module _ (db : Database) (number : ℤ) (first : IndexingReader) where
-  pub plain_whole : (last : IndexingReader) → TakesAll stored_entry takes_plain (InStore (EntriesOf number)) db first last → (all : List EntryRecord) × TakesEntries Plain db number first.reader last.reader all × (last.index ≡ first.index ++ map indexed_of all)
+  pub plain_whole : (last : IndexingReader) → TakesAll stored_entry takes_plain (InStore (EntriesOf number)) db first last → (all : List EntryRecord) × TakesEntries Plain db number first.reader last.reader all
+      × (last.index ≡ first.index ++ map indexed_of all)
   plain_whole last h = (
     entries_given h.0,
     record {
@@ -81,7 +84,8 @@ old_shown [] = tt
 old_shown (row ∷ given) = (refl, old_shown given)
 
 module _ (db : Database) (number : ℤ) (first : IndexingReader) where
-  pub old_whole : (last : IndexingReader) → TakesAll stored_old_entry takes_old (OldEntriesOf number) db first last → (all : List EntryRecord) × TakesEntries Keyed db number first.reader last.reader all × (last.index ≡ first.index ++ map indexed_of all)
+  pub old_whole : (last : IndexingReader) → TakesAll stored_old_entry takes_old (OldEntriesOf number) db first last → (all : List EntryRecord) × TakesEntries Keyed db number first.reader last.reader all
+      × (last.index ≡ first.index ++ map indexed_of all)
   old_whole last h = (
     map old_entry_in h.0,
     record {
@@ -94,14 +98,16 @@ module _ (db : Database) (number : ℤ) (first : IndexingReader) where
   pub old_wrong : IsDatabase db → Has old_entry db → IsWrong stored_old_entry old_entry_columns refuses_old (OldEntriesOf number) db first → HasWrongEntries Keyed db number first.reader
   old_wrong sound has (inl w) =
       let same = w.2.1.same in
-      let typed = last_holds (λ row. HasColumns entry_columns (take 6 row) → HasColumns old_entry_columns row) (edition_rows number db) (map stored_old_entry w.0) w.2.0 w.1 (all_filter (λ row. HasColumns entry_columns (take 6 row) → HasColumns old_entry_columns row) (equals_number 1 number) (rows_of (codes "entry") db) (old_typed db sound has)) same in
+      let typed = last_holds (λ row. HasColumns entry_columns (take 6 row) → HasColumns old_entry_columns row) (edition_rows number db) (map stored_old_entry w.0) w.2.0 w.1
+      (all_filter (λ row. HasColumns entry_columns (take 6 row) → HasColumns old_entry_columns row) (equals_number 1 number) (rows_of (codes "entry") db) (old_typed db sound has)) same in
       inl (w.1, last_there (edition_rows number db) (map stored_old_entry w.0) w.2.0 w.1 same, λ has' e is. w.3 (typed has'))
   old_wrong sound has (inr w) = inr (map old_entry_in w.0, begins_with stored_old_entry old_entry_in Keyed (λ r. refl) old_shown (OldEntriesOf number) db number (λ rows s. s) w.0 w.1, w.2)
 
 -- ---- of schema 4
 
 module _ (db : Database) (number : ℤ) (first : IndexingReader) where
-  pub shown_whole : (last : IndexingReader) → TakesAll stored_keyed_entry takes_shown (ShownEntriesOf number) db first last → (all : List EntryRecord) × TakesEntries Shown db number first.reader last.reader all × (last.index ≡ first.index ++ map indexed_of all)
+  pub shown_whole : (last : IndexingReader) → TakesAll stored_keyed_entry takes_shown (ShownEntriesOf number) db first last → (all : List EntryRecord) × TakesEntries Shown db number first.reader last.reader all
+      × (last.index ≡ first.index ++ map indexed_of all)
   shown_whole last h = (
     map shown_entry_in h.0,
     record {
@@ -114,6 +120,7 @@ module _ (db : Database) (number : ℤ) (first : IndexingReader) where
   pub shown_wrong : IsDatabase db → Has keyed_entry db → IsWrong stored_keyed_entry keyed_entry_columns refuses_shown (ShownEntriesOf number) db first → HasWrongEntries Shown db number first.reader
   shown_wrong sound has (inl w) =
       let same = w.2.1.same in
-      let typed = last_holds (λ row. HasColumns shown_columns (without_keys row) → HasColumns keyed_entry_columns row) (edition_rows number db) (map stored_keyed_entry w.0) w.2.0 w.1 (all_filter (λ row. HasColumns shown_columns (without_keys row) → HasColumns keyed_entry_columns row) (equals_number 1 number) (rows_of (codes "entry") db) (shown_typed db sound has)) same in
+      let typed = last_holds (λ row. HasColumns shown_columns (without_keys row) → HasColumns keyed_entry_columns row) (edition_rows number db) (map stored_keyed_entry w.0) w.2.0 w.1
+      (all_filter (λ row. HasColumns shown_columns (without_keys row) → HasColumns keyed_entry_columns row) (equals_number 1 number) (rows_of (codes "entry") db) (shown_typed db sound has)) same in
       inl (w.1, last_there (edition_rows number db) (map stored_keyed_entry w.0) w.2.0 w.1 same, λ has' e is. w.3 (typed has'))
   shown_wrong sound has (inr w) = inr (map shown_entry_in w.0, begins_with stored_keyed_entry shown_entry_in Shown (λ r. refl) (λ given. tt) (ShownEntriesOf number) db number (λ rows s. s) w.0 w.1, w.2)

@@ -50,7 +50,8 @@ numbers_push n (r ∷ given) next h e =
     let later : number_of_part next ≡ pos (n + 1 + length given) = e ∙ ap pos (let same : n + length (r ∷ given) ≡ n + 1 + length given = omega arith in same) in
     λ i. first i ∷ numbers_push (n + 1) given next rest later i
 
-pub parts_next : (first : List ℕ) (given : List StoredPart) (next : StoredPart) (old new : List ℕ) (number : ℕ) → TakesParts first given old → number_of_part next ≡ pos number → IsNext old number (octets_of_part next) → parts_of new ≡ parts_of old ++ octets_of_part next ∷ []
+pub parts_next : (first : List ℕ) (given : List StoredPart) (next : StoredPart) (old new : List ℕ) (number : ℕ) → TakesParts first given old → number_of_part next ≡ pos number → IsNext old number (octets_of_part next)
+    → parts_of new ≡ parts_of old ++ octets_of_part next ∷ []
     → TakesParts first (given ++ next ∷ []) new
 parts_next first given next old new number t is one more = record {
   parts = more ∙ ap (λ l. l ++ octets_of_part next ∷ []) t.parts ∙ append_assoc (parts_of first) (map octets_of_part given) (octets_of_part next ∷ []) ∙ ap (λ l. parts_of first ++ l) (sym (map-append octets_of_part given (next ∷ [])));
@@ -73,7 +74,8 @@ last_number n (r ∷ given) next h =
     let rest : AreNumbered (n + 1) (given ++ next ∷ []) = cc in
     last_number (n + 1) given next rest ∙ ap pos (let same : n + 1 + length given ≡ n + length (r ∷ given) = omega arith in same)
 
-pub parts_refused : (first : List ℕ) (given : List StoredPart) (next : StoredPart) (old : List ℕ) → TakesParts first given old → ((number : ℕ) → number_of_part next ≡ pos number → IsNext old number (octets_of_part next) → ⊥) → RefusesParts first (given ++ next ∷ [])
+pub parts_refused : (first : List ℕ) (given : List StoredPart) (next : StoredPart) (old : List ℕ) → TakesParts first given old → ((number : ℕ) → number_of_part next ≡ pos number → IsNext old number (octets_of_part next) → ⊥)
+    → RefusesParts first (given ++ next ∷ [])
 parts_refused first given next old t wrong numbers file more is =
     wrong (length (parts_of old)) (last_number (length (parts_of first)) given next numbers ∙ ap pos (sym many_parts)) (record {
       numbered = refl;
@@ -134,7 +136,8 @@ file_read db number file octets h rows s =
     let mine = records_in part_codec (file_parts number file octets) all h in
     let up = rows_order part_codec (3 ∷ []) (λ (a b : Part). a.number ≤ℤ b.number) rises rows (all_same (IsRow part_codec) all rows s.same mine.1) s.sorted in
     sym (ordered_once (λ (p : Part). p.number) (file_parts number file octets) (map (read part_codec) rows)
-    (same_from (file_parts number file octets) (map (read part_codec) rows) (IsPermutation-trans (file_parts number file octets) (map (read part_codec) all) (map (read part_codec) rows) mine.0 (IsPermutation-map (read part_codec) all rows s.same)))
+    (same_from (file_parts number file octets) (map (read part_codec) rows) (IsPermutation-trans (file_parts number file octets) (map (read part_codec) all) (map (read part_codec) rows) mine.0
+    (IsPermutation-map (read part_codec) all rows s.same)))
     (parts_rise number file octets) up)
 
 octets_back : (number file : ℤ) (n : ℕ) (os : List (List ℕ)) → map (λ (p : Part). p.octets) (numbered (part_at number file) n os) ≡ os
@@ -147,7 +150,8 @@ file_told db number file x y h k =
     let all = filter (is_of_file number file) (rows_of (codes "dictcat_part") db) in
     let one = (records_in part_codec (file_parts number file x) all h).0 in
     let other = (records_in part_codec (file_parts number file y) all k).0 in
-    let both : IsPermutation (file_parts number file x) (file_parts number file y) = IsPermutation-trans (file_parts number file x) (map (read part_codec) all) (file_parts number file y) one (IsPermutation-sym (file_parts number file y) (map (read part_codec) all) other) in
+    let both : IsPermutation (file_parts number file x) (file_parts number file y) =
+    IsPermutation-trans (file_parts number file x) (map (read part_codec) all) (file_parts number file y) one (IsPermutation-sym (file_parts number file y) (map (read part_codec) all) other) in
     let same : file_parts number file x ≡ file_parts number file y =
     ordered_once (λ (p : Part). p.number) (file_parts number file x) (file_parts number file y) (same_from (file_parts number file x) (file_parts number file y) both) (parts_rise number file x)
     (order_weaker (λ (a b : Part). Below a.number b.number) (λ (a b : Part). a.number ≤ℤ b.number) (λ a b below. below.0) (file_parts number file y) (parts_rise number file y)) in
@@ -168,7 +172,8 @@ fronts number file n (o ∷ os) (r ∷ given) more e =
 
 pub file_wrong : (db : Database) (number file : ℤ) (first : List ℕ) → first ≡ [] → IsWrong stored_part part_columns RefusesParts (PartsOf number file) db first → HasNoFile db number file
 file_wrong db number file first none (inl w) readable octets h =
-    w.3 (last_holds (HasColumns part_columns) (filter (is_of_file number file) (rows_of (codes "dictcat_part") db)) (map stored_part w.0) w.2.0 w.1 (all_filter (HasColumns part_columns) (is_of_file number file) (rows_of (codes "dictcat_part") db) readable) w.2.1.same)
+    w.3 (last_holds (HasColumns part_columns) (filter (is_of_file number file) (rows_of (codes "dictcat_part") db)) (map stored_part w.0) w.2.0 w.1
+    (all_filter (HasColumns part_columns) (is_of_file number file) (rows_of (codes "dictcat_part") db) readable) w.2.1.same)
 file_wrong db number file first none (inr (given, front, refused)) readable octets h =
     let begun : parts_of first ≡ [] = ap parts_of none ∙ parts_of_none in
     let tail = map (read part_codec) front.0 in

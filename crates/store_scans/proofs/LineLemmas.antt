@@ -23,11 +23,13 @@ use Rattle.store_scans.specs.declared.indexing_reader.IndexingReader.{IndexingRe
 
 -- ---- one line
 
-pub line_taken : (old new : Reader) (line : Line) → ((version : ℕ) (taken : Tables) (number : ℕ) → HasTaken version old taken → IsOfLast taken (next_entry taken number line) → HasTaken version new (with_entry taken (next_entry taken number line)))
+pub line_taken : (old new : Reader) (line : Line) → ((version : ℕ) (taken : Tables) (number : ℕ) → HasTaken version old taken → IsOfLast taken (next_entry taken number line)
+    → HasTaken version new (with_entry taken (next_entry taken number line)))
     → AreLinesTaken old new (line ∷ [])
 line_taken old new line h version taken number before last = h version taken number before last
 
-pub line_refused : (old : Reader) (line : Line) → ((version : ℕ) (taken : Tables) (number : ℕ) → HasTaken version old taken → IsOfLast taken (next_entry taken number line) → StandsForNone version (with_entry taken (next_entry taken number line)))
+pub line_refused : (old : Reader) (line : Line) → ((version : ℕ) (taken : Tables) (number : ℕ) → HasTaken version old taken → IsOfLast taken (next_entry taken number line)
+    → StandsForNone version (with_entry taken (next_entry taken number line)))
     → AreNoLines old (line ∷ [])
 line_refused old line h version taken number before last = h version taken number before last
 
@@ -60,7 +62,8 @@ many taken number lines =
 
 module _ (first old : Reader) (lines : List Line) (line : Line) (t : AreLinesTaken first old lines) where
   -- the entries with those of one line more
-  pushed : (taken : Tables) (number : ℕ) → (taken.entries ++ next_entries taken number lines) ++ next_entries (with_entries taken (next_entries taken number lines)) number (line ∷ []) ≡ taken.entries ++ next_entries taken number (lines ++ line ∷ [])
+  pushed : (taken : Tables) (number : ℕ) → (taken.entries ++ next_entries taken number lines) ++ next_entries (with_entries taken (next_entries taken number lines)) number (line ∷ []) ≡ taken.entries
+      ++ next_entries taken number (lines ++ line ∷ [])
   pushed taken number =
       append_assoc taken.entries (next_entries taken number lines) _
       ∙ ap (λ (k : ℕ). taken.entries ++ (next_entries taken number lines ++ entry_record number k line ∷ [])) (many taken number lines)
@@ -72,7 +75,8 @@ module _ (first old : Reader) (lines : List Line) (line : Line) (t : AreLinesTak
 
   pub lines_refused : AreNoLines old (line ∷ []) → AreNoLines first (lines ++ line ∷ [])
   lines_refused wrong version taken number h last =
-      subst (λ (entries : List EntryRecord). StandsForNone version (record taken { entries = entries })) (pushed taken number) (wrong version (with_entries taken (next_entries taken number lines)) number (t version taken number h last) last)
+      subst (λ (entries : List EntryRecord). StandsForNone version (record taken { entries = entries })) (pushed taken number)
+      (wrong version (with_entries taken (next_entries taken number lines)) number (t version taken number h last) last)
 
 pub lines_added : (first old new : IndexingReader) (lines : List Line) (line : Line) → AreLinesAdded first old lines → AreLinesAdded old new (line ∷ []) → AreLinesAdded first new (lines ++ line ∷ [])
 lines_added first old new lines line t more = record {
@@ -89,7 +93,8 @@ no_lines_added reader = record {
 -- ---- the octets of an index
 
 -- what is left behind some lines, where no stored line begins it
-pub no_line_left : (first : Reader) (octets rest : List ℕ) (lines : List Line) → AllByRecursion IsStorable lines → octets ≡ stored_index lines ++ rest → rest ≢ [] → ((said : Line) (behind : List ℕ) → IsStorable said → rest ≢ stored_line said ++ 10 ∷ behind) → IsWrongIndex first octets
+pub no_line_left : (first : Reader) (octets rest : List ℕ) (lines : List Line) → AllByRecursion IsStorable lines → octets ≡ stored_index lines ++ rest → rest ≢ []
+    → ((said : Line) (behind : List ℕ) → IsStorable said → rest ≢ stored_line said ++ 10 ∷ behind) → IsWrongIndex first octets
 no_line_left first octets rest lines storable is some none others all same = absurd (no_more lines others rest storable all some none (sym same ∙ is))
 
 -- or where one does that isn't taken

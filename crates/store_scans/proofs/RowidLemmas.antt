@@ -77,7 +77,8 @@ module _ {R : Type 0} (stored : R → Row) (all : List Row) (first : RowidReader
         apart = subst (IsDistinct same_value) (sym (columns_of stored given ∙ h.1)) (distinct ids apart);
       })
 
-pub rowids_whole : {R : Type 0} (stored : R → Row) (table : StoreTable) (db : Database) (first last : RowidReader) → HasTakenRowids first [] → TakesAll stored (takes_rowids stored) (InStore (ByRowid table)) db first last → HasApartRowids (rows_of (table_of table 0).name db)
+pub rowids_whole : {R : Type 0} (stored : R → Row) (table : StoreTable) (db : Database) (first last : RowidReader) → HasTakenRowids first [] → TakesAll stored (takes_rowids stored) (InStore (ByRowid table)) db first last
+    → HasApartRowids (rows_of (table_of table 0).name db)
 rowids_whole stored table db first last none h = all_apart stored (rows_of (table_of table 0).name db) first none h.0 last h.1.same h.1.sorted h.2
 
 -- ---- rowids that aren't
@@ -102,14 +103,16 @@ unfolding IsDistinct
 front_apart [] vs h = tt
 front_apart (n ∷ ids) vs h = (all_unlike n ids vs h.0, front_apart ids vs h.1)
 
-pub all_wrong : {R : Type 0} (stored : R → Row) (all : List Row) (first : RowidReader) → HasTakenRowids first [] → (given : List R) (tail : List Row) → IsPermutation all (map stored given ++ tail) → refuses_rowids stored first given → HasApartRowids all → ⊥
+pub all_wrong : {R : Type 0} (stored : R → Row) (all : List Row) (first : RowidReader) → HasTakenRowids first [] → (given : List R) (tail : List Row) → IsPermutation all (map stored given ++ tail)
+    → refuses_rowids stored first given → HasApartRowids all → ⊥
 all_wrong stored all first none given tail same h apart =
     let ids = h.0 in
     let there = apart_same all (map stored given ++ tail) same apart in
     let columns = map-append (λ (r : Row). column r 0) (map stored given) tail ∙ ap (λ l. l ++ map (λ (r : Row). column r 0) tail) (columns_of stored given ∙ h.1) in
     h.2 [] none (front_apart ids (map (λ (r : Row). column r 0) tail) (subst (IsDistinct same_value) columns there.apart))
 
-pub rowids_wrong : {R : Type 0} (stored : R → Row) (table : StoreTable) (db : Database) (first : RowidReader) → HasTakenRowids first [] → HasRefused stored (refuses_rowids stored) (InStore (ByRowid table)) db first → HasApartRowids (rows_of (table_of table 0).name db) → ⊥
+pub rowids_wrong : {R : Type 0} (stored : R → Row) (table : StoreTable) (db : Database) (first : RowidReader) → HasTakenRowids first [] → HasRefused stored (refuses_rowids stored) (InStore (ByRowid table)) db first
+    → HasApartRowids (rows_of (table_of table 0).name db) → ⊥
 rowids_wrong stored table db first none h = all_wrong stored (rows_of (table_of table 0).name db) first none h.0 h.1.0 h.1.1.same h.2
 
 -- ---- the rowids of the editions, of which the texts aren't read

@@ -28,7 +28,12 @@ rows_damaged rows.Memory e = cc
 pub refused_next : {S R T : Type 0} (g : Ghosts S) (stored : R → Row) (columns : List Content) (refuses : T → List R → Type 0) (what : Cursor) (first : T) (given : List R) (r : R) (old new : Held S) →
     IsUnchanged (state g old) (state g new) → CursorHasGiven g what new (map stored given ++ stored r ∷ []) → refuses first (given ++ r ∷ []) → IsWrong stored columns refuses what (state g old).now first
 refused_next g stored columns refuses what first given r old new same gave wrong =
-    inr (given ++ r ∷ [], subst (IsFrontOfScan what (state g old).now) (sym (map-append stored given (r ∷ []))) (subst (λ (d : Database). IsFrontOfScan what d (map stored given ++ stored r ∷ [])) same.0.now_is (front_of g what new (map stored given ++ stored r ∷ []) gave)), wrong)
+    inr (
+      given ++ r ∷ [],
+      subst (IsFrontOfScan what (state g old).now) (sym (map-append stored given (r ∷ [])))
+          (subst (λ (d : Database). IsFrontOfScan what d (map stored given ++ stored r ∷ [])) same.0.now_is (front_of g what new (map stored given ++ stored r ∷ []) gave)),
+      wrong,
+    )
 
 -- ---- a row that is no record
 
@@ -36,11 +41,13 @@ no_damage : (e : Error) → fault_of_store e ≡ Damaged → ⊥
 no_damage (SqliteFailure code.OutOfMemory) is = absurd (cc)
 no_damage e is = absurd (cc)
 
-pub no_record_next : {S R : Type 0} (g : Ghosts S) (stored : R → Row) (columns : List Content) (what : Cursor) (given : List R) (old new : Held S) (e : ReadError) → reading_fault_of e ≡ Damaged → CursorHasGiven g what old (map stored given) → FailsToMove g columns old new e → HasNoRecordIn stored columns what (state g old).now
+pub no_record_next : {S R : Type 0} (g : Ghosts S) (stored : R → Row) (columns : List Content) (what : Cursor) (given : List R) (old new : Held S) (e : ReadError) → reading_fault_of e ≡ Damaged
+    → CursorHasGiven g what old (map stored given) → FailsToMove g columns old new e → HasNoRecordIn stored columns what (state g old).now
 no_record_next g stored columns what given old new NoRecord is h moved =
     let it = no_record g old new (map stored given) columns what h moved in
     (given, it.0, subst (λ (d : Database). IsFrontOfScan what d (map stored given ++ it.0 ∷ [])) it.1.0.now_is (front_of g what new (map stored given ++ it.0 ∷ []) it.2), it.3)
 no_record_next g stored columns what given old new (Store e) is h moved = absurd (no_damage e is)
 
-pub taken_more : {S R T : Type 0} (g : Ghosts S) (stored : R → Row) (takes : T → List R → T → Type 0) (what : Cursor) (first : T) (given : List R) (r : R) (new : Held S) (last : T) → CursorHasGiven g what new (map stored given ++ stored r ∷ []) → takes first (given ++ r ∷ []) last → TakesSo g stored takes what first (given ++ r ∷ []) new last
+pub taken_more : {S R T : Type 0} (g : Ghosts S) (stored : R → Row) (takes : T → List R → T → Type 0) (what : Cursor) (first : T) (given : List R) (r : R) (new : Held S) (last : T)
+    → CursorHasGiven g what new (map stored given ++ stored r ∷ []) → takes first (given ++ r ∷ []) last → TakesSo g stored takes what first (given ++ r ∷ []) new last
 taken_more g stored takes what first given r new last gave taken = record { given_are = subst (CursorHasGiven g what new) (sym (map-append stored given (r ∷ []))) gave; taken = taken }

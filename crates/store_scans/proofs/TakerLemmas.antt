@@ -71,7 +71,8 @@ module _ {R : Type 0} (entry : R → spec.EntryRecord) (first : Reader) (given :
   entries_are entries = append_assoc entries (map entry given) (entry next ∷ []) ∙ ap (λ l. entries ++ l) (sym (map-append entry given (next ∷ [])))
 
   pub entries_next : (new : Reader) → AreTaken old new (entry next ∷ []) → AreTaken first new (map entry (given ++ next ∷ []))
-  entries_next new more version taken h = subst (λ (entries : List spec.EntryRecord). HasTaken version new (record taken { entries = entries })) (entries_are taken.entries) (more version (with_entries taken (map entry given)) (t version taken h))
+  entries_next new more version taken h = subst (λ (entries : List spec.EntryRecord). HasTaken version new (record taken { entries = entries })) (entries_are taken.entries)
+      (more version (with_entries taken (map entry given)) (t version taken h))
 
   pub entries_refused : AreNotTaken old (entry next ∷ []) → AreNotTaken first (map entry (given ++ next ∷ []))
   entries_refused wrong version taken h are =

@@ -23,7 +23,8 @@ pub ids_wrong : (db : Database) (first : IdReader) → HasTakenIds first [] → 
 ids_wrong db first none (inl h) = inl h
 ids_wrong db first none (inr h) = inr (h.0, h.1, h.2 [] none)
 
-pub rowids_found : {R : Type 0} (stored : R → Row) (columns : List Content) (table : StoreTable) (db : Database) (first : RowidReader) → HasTakenRowids first [] → IsWrong stored columns (refuses_rowids stored) (InStore (ByRowid table)) db first →
+pub rowids_found : {R : Type 0} (stored : R → Row) (columns : List Content) (table : StoreTable) (db : Database) (first : RowidReader) → HasTakenRowids first []
+    → IsWrong stored columns (refuses_rowids stored) (InStore (ByRowid table)) db first →
     HasNoRecordIn stored columns (InStore (ByRowid table)) db ⊎ (HasApartRowids (rows_of (table_of table 0).name db) → ⊥)
 rowids_found stored columns table db first none (inl h) = inl h
 rowids_found stored columns table db first none (inr h) = inr (rowids_wrong stored table db first none h)

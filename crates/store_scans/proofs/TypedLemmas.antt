@@ -71,11 +71,13 @@ last_two a b c d e f g more r h p q =
 -- the columns of an entry with keys, and what stands behind them
 abbrev columns : List Column → List Column
 columns more =
-    needed (codes "edition") kind.Integer ∷ needed (codes "ord") kind.Integer ∷ needed (codes "headword") kind.Text ∷ needed (codes "start") kind.Integer ∷ needed (codes "length") kind.Integer ∷ needed (codes "key") kind.Blob ∷ needed (codes "rkey") kind.Blob ∷ more
+    needed (codes "edition") kind.Integer ∷ needed (codes "ord") kind.Integer ∷ needed (codes "headword") kind.Text ∷ needed (codes "start") kind.Integer ∷ needed (codes "length") kind.Integer ∷ needed (codes "key") kind.Blob
+    ∷ needed (codes "rkey") kind.Blob ∷ more
 
 module _ (more : List Column) (r : Row) (typed : are_typed None 0 (columns more) (drop 1 r) ≡ true) (present : are_present None 0 (columns more) r ≡ true) where
   kept : (is_null (column r 6) ≡ false) × (is_null (column r 7) ≡ false)
-  kept = last_two (needed (codes "edition") kind.Integer) (needed (codes "ord") kind.Integer) (needed (codes "headword") kind.Text) (needed (codes "start") kind.Integer) (needed (codes "length") kind.Integer) (needed (codes "key") kind.Blob) (needed (codes "rkey") kind.Blob) more r present refl refl
+  kept = last_two (needed (codes "edition") kind.Integer) (needed (codes "ord") kind.Integer) (needed (codes "headword") kind.Text) (needed (codes "start") kind.Integer) (needed (codes "length") kind.Integer)
+      (needed (codes "key") kind.Blob) (needed (codes "rkey") kind.Blob) more r present refl refl
 
   key : (b : List ℕ) × (column r 6 ≡ Blob b)
   key = octets (column r 6) (subst (λ v. is_of kind.Blob v ≡ true) (sym (behind_column r 5)) (typed_at (columns more) 0 (drop 1 r) typed 5 _ refl (refl, refl))) kept.0
@@ -95,7 +97,8 @@ module _ (tree : ℕ) (schema : Schema) (trees : Trees) where
       let fits = (and_parts (are_typed None 0 (columns []) (drop 1 r)) (has_computed (old_entry tree) r) typed).0 in
       (h.0, (h.1.0, (h.1.1.0, (h.1.1.1.0, (h.1.1.1.1.0, (h.1.1.1.1.1.0, (key [] r fits present, (reversed [] r fits present, tt))))))))
 
-  rows_typed : (rows : List Row) → AllByRecursion (λ r. passes Datatype schema trees (old_entry tree) r ≡ true) rows → AllByRecursion (λ r. passes NotNull schema trees (old_entry tree) r ≡ true) rows → AllByRecursion IsTyped (map (shown (old_entry tree)) rows)
+  rows_typed : (rows : List Row) → AllByRecursion (λ r. passes Datatype schema trees (old_entry tree) r ≡ true) rows → AllByRecursion (λ r. passes NotNull schema trees (old_entry tree) r ≡ true) rows
+      → AllByRecursion IsTyped (map (shown (old_entry tree)) rows)
   rows_typed [] h k = tt
   rows_typed (r ∷ rows) h k = (one_typed r h.0 k.0, rows_typed rows h.1 k.1)
 
@@ -132,7 +135,8 @@ module _ (tree : ℕ) (schema : Schema) (trees : Trees) where
       let fits = (and_parts (are_typed None 0 (columns last) (drop 1 r)) (has_computed (entry_with_keys tree) r) typed).0 in
       (h.0, (h.1.0, (h.1.1.0, (h.1.1.1.0, (h.1.1.1.1.0, (h.1.1.1.1.1.0, (key last r fits present, (reversed last r fits present, (h.1.1.1.1.1.1.0, tt)))))))))
 
-  rows_shown : (rows : List Row) → AllByRecursion (λ r. passes Datatype schema trees (entry_with_keys tree) r ≡ true) rows → AllByRecursion (λ r. passes NotNull schema trees (entry_with_keys tree) r ≡ true) rows → AllByRecursion IsShownTyped (map (shown (entry_with_keys tree)) rows)
+  rows_shown : (rows : List Row) → AllByRecursion (λ r. passes Datatype schema trees (entry_with_keys tree) r ≡ true) rows → AllByRecursion (λ r. passes NotNull schema trees (entry_with_keys tree) r ≡ true) rows
+      → AllByRecursion IsShownTyped (map (shown (entry_with_keys tree)) rows)
   rows_shown [] h k = tt
   rows_shown (r ∷ rows) h k = (one_shown r h.0 k.0, rows_shown rows h.1 k.1)
 

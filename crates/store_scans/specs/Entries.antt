@@ -37,7 +37,8 @@ HasEntryRows layout db number all = (rows : List Row) × IsSelection (codes "ent
 
 -- they begin with those of these entries
 abbrev pub BeginsWithEntries : Layout → Database → ℤ → List EntryRecord → Type 0
-BeginsWithEntries layout db number first = (rows : List Row) × (tail : List Row) × IsSelection (codes "entry") (equals_number 1 number) (2 ∷ []) db (rows ++ tail) × (map (looked_behind_rowid layout) rows ≡ map (entry_cells layout) first) × AreShownIn layout first
+BeginsWithEntries layout db number first =
+    (rows : List Row) × (tail : List Row) × IsSelection (codes "entry") (equals_number 1 number) (2 ∷ []) db (rows ++ tail) × (map (looked_behind_rowid layout) rows ≡ map (entry_cells layout) first) × AreShownIn layout first
 
 -- the row is of another kind than a record, or that of no entry
 abbrev pub IsNoEntryRow : Layout → Row → Type 0

@@ -72,7 +72,8 @@ pub record HasShown (eq : Equal) (entries : List Indexed) (places : List ℕ) (i
 pub none_shown : (eq : Equal) (entries : List Indexed) (places : List ℕ) (keys : List (Bor (List ℕ))) (firsts : List ℕ) → keys ≡ [] → firsts ≡ [] → HasShown eq entries places 0 keys firsts
 none_shown eq entries places keys firsts one two = record { seen = none_seen eq keys one; firsts_are = ap (texts_of entries) two }
 
-pub one_shown : (eq : Equal) (entries : List Indexed) (places : List ℕ) (i : ℕ) (keys keys' : List (Bor (List ℕ))) (firsts firsts' : List ℕ) (one : Bor (List ℕ)) (added : Bool) → Law → i < length places → HasShown eq entries places i keys firsts
+pub one_shown : (eq : Equal) (entries : List Indexed) (places : List ℕ) (i : ℕ) (keys keys' : List (Bor (List ℕ))) (firsts firsts' : List ℕ) (one : Bor (List ℕ)) (added : Bool) → Law → i < length places
+    → HasShown eq entries places i keys firsts
     → one.now ≡ (entry_at entries (get_or places i 0)).shown → ((q : Bor (List ℕ)) → eq one q ≡ bytes_eq q.now one.now) → ((q : Bor (List ℕ)) → list_any (eq q) keys' ≡ cond (eq one q) true (list_any (eq q) keys))
     → added ≡ not (list_any (eq one) keys) → firsts' ≡ cond added (firsts ++ get_or places i 0 ∷ []) firsts → HasShown eq entries places (i + 1) keys' firsts'
 one_shown eq entries places i keys keys' firsts firsts' one added law lt old is same put tell new =
@@ -86,7 +87,8 @@ one_shown eq entries places i keys keys' firsts firsts' one added law lt old is 
       firsts_are = ap (texts_of entries) new ∙ by added (list_any (bytes_eq t) T) there ∙ sym (law T t) ∙ sym (ap distinct next);
     }
   where
-    by : (a b : Bool) → a ≡ not b → texts_of entries (cond a (firsts ++ get_or places i 0 ∷ []) firsts) ≡ cond b (distinct (texts_of entries (take i places))) (distinct (texts_of entries (take i places)) ++ (entry_at entries (get_or places i 0)).shown ∷ [])
+    by : (a b : Bool) → a ≡ not b → texts_of entries (cond a (firsts ++ get_or places i 0 ∷ []) firsts)
+        ≡ cond b (distinct (texts_of entries (take i places))) (distinct (texts_of entries (take i places)) ++ (entry_at entries (get_or places i 0)).shown ∷ [])
     by true true e = cc
     by true false e = texts_more entries firsts (get_or places i 0) ∙ ap (λ l. l ++ (entry_at entries (get_or places i 0)).shown ∷ []) old.firsts_are
     by false true e = old.firsts_are

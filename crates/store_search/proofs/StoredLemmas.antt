@@ -27,7 +27,8 @@ keys_stored (key ∷ keys) texts [] a b = absurd (omega (arith, a))
 keys_stored (key ∷ keys) [] (span ∷ spans) a b = absurd (omega (arith, b))
 keys_stored (key ∷ keys) (text ∷ texts) (span ∷ spans) a b = ap (λ l. key ∷ l) (keys_stored keys texts spans (omega (arith, a)) (omega (arith, b)))
 
-pub stored_push : (keys texts : List (List ℕ)) (spans : List Span) (key text : List ℕ) (span : Span) → length keys ≡ length spans → length texts ≡ length spans → stored (keys ++ key ∷ []) (texts ++ text ∷ []) (spans ++ span ∷ []) ≡ stored keys texts spans ++ indexed key text span ∷ []
+pub stored_push : (keys texts : List (List ℕ)) (spans : List Span) (key text : List ℕ) (span : Span) → length keys ≡ length spans → length texts ≡ length spans → stored (keys ++ key ∷ []) (texts ++ text ∷ []) (spans ++ span ∷ [])
+    ≡ stored keys texts spans ++ indexed key text span ∷ []
 stored_push [] [] [] key text span a b = refl
 stored_push [] [] (s ∷ spans) key text span a b = absurd (omega (arith, a))
 stored_push [] (t ∷ texts) [] key text span a b = absurd (omega (arith, b))
@@ -47,7 +48,8 @@ shown_at (k ∷ keys) [] (s ∷ spans) at a b = absurd (omega (arith, b))
 shown_at (k ∷ keys) (t ∷ texts) (s ∷ spans) zero a b = refl
 shown_at (k ∷ keys) (t ∷ texts) (s ∷ spans) (suc at) a b = shown_at keys texts spans at (omega (arith, a)) (omega (arith, b))
 
-span_at : (keys texts : List (List ℕ)) (spans : List Span) (at : ℕ) (d : Span) → length keys ≡ length spans → length texts ≡ length spans → at < length spans → ((get_or spans at d).start ≡ (entry_at (stored keys texts spans) at).start) × ((get_or spans at d).size ≡ (entry_at (stored keys texts spans) at).size)
+span_at : (keys texts : List (List ℕ)) (spans : List Span) (at : ℕ) (d : Span) → length keys ≡ length spans → length texts ≡ length spans → at < length spans
+    → ((get_or spans at d).start ≡ (entry_at (stored keys texts spans) at).start) × ((get_or spans at d).size ≡ (entry_at (stored keys texts spans) at).size)
 span_at keys texts [] at d a b lt = absurd (omega (arith, lt))
 span_at [] texts (s ∷ spans) at d a b lt = absurd (omega (arith, a))
 span_at (k ∷ keys) [] (s ∷ spans) at d a b lt = absurd (omega (arith, b))
@@ -57,7 +59,8 @@ span_at (k ∷ keys) (t ∷ texts) (s ∷ spans) (suc at) d a b lt = span_at key
 none_at : (keys texts : List (List ℕ)) (spans : List Span) (at : ℕ) → length keys ≡ length spans → length texts ≡ length spans → length spans ≤ at → entry_at (stored keys texts spans) at ≡ no_entry
 none_at keys texts spans at a b le = get_or_past (stored keys texts spans) at no_entry (omega (arith, le, size_stored keys texts spans a b))
 
-pub any_span_at : (keys texts : List (List ℕ)) (spans : List Span) (at : ℕ) → length keys ≡ length spans → length texts ≡ length spans → ((get_or spans at no_span).start ≡ (entry_at (stored keys texts spans) at).start) × ((get_or spans at no_span).size ≡ (entry_at (stored keys texts spans) at).size)
+pub any_span_at : (keys texts : List (List ℕ)) (spans : List Span) (at : ℕ) → length keys ≡ length spans → length texts ≡ length spans → ((get_or spans at no_span).start ≡ (entry_at (stored keys texts spans) at).start)
+    × ((get_or spans at no_span).size ≡ (entry_at (stored keys texts spans) at).size)
 any_span_at keys texts spans at a b = elim (cases_lt at (length spans)) [
   | inl less ↦ span_at keys texts spans at no_span a b less
   | inr le ↦
@@ -76,7 +79,8 @@ text_at texts at all none = elim (cases_lt at (length texts)) [
 -- ---- as the functions put them
 
 module _ {A E : Type 0} (keys texts keys' texts' : List (List ℕ)) (spans spans' : List Span) (key text : List ℕ) (span : Span) (are : AreStored keys texts spans) (k : IsUtf8 key) (t : IsUtf8 text) where
-  pub put_are : (r : Result A E) → OnOk r (keys' ≡ keys ++ key ∷ []) → OnOk r (texts' ≡ texts ++ text ∷ []) → OnOk r (spans' ≡ spans ++ span ∷ []) → OnErr r (keys' ≡ keys) → OnErr r (texts' ≡ texts) → OnErr r (spans' ≡ spans) → AreStored keys' texts' spans'
+  pub put_are : (r : Result A E) → OnOk r (keys' ≡ keys ++ key ∷ []) → OnOk r (texts' ≡ texts ++ text ∷ []) → OnOk r (spans' ≡ spans ++ span ∷ []) → OnErr r (keys' ≡ keys) → OnErr r (texts' ≡ texts) → OnErr r (spans' ≡ spans)
+      → AreStored keys' texts' spans'
   put_are (Ok x) one two three a b c = record {
     keys_size = omega (arith, ap length one, ap length three, length-append keys (key ∷ []), length-append spans (span ∷ []), are.keys_size);
     texts_size = omega (arith, ap length two, ap length three, length-append texts (text ∷ []), length-append spans (span ∷ []), are.texts_size);
@@ -85,7 +89,8 @@ module _ {A E : Type 0} (keys texts keys' texts' : List (List ℕ)) (spans spans
   }
   put_are (Err e) one two three a b c = subst (λ l. AreStored l texts' spans') (sym a) (subst (λ l. AreStored keys l spans') (sym b) (subst (AreStored keys texts) (sym c) are))
 
-  pub put_stored : (r : Result A E) (list : List Indexed) → stored keys texts spans ≡ list → OnOk r (keys' ≡ keys ++ key ∷ []) → OnOk r (texts' ≡ texts ++ text ∷ []) → OnOk r (spans' ≡ spans ++ span ∷ []) → OnOk r (stored keys' texts' spans' ≡ list ++ indexed key text span ∷ [])
+  pub put_stored : (r : Result A E) (list : List Indexed) → stored keys texts spans ≡ list → OnOk r (keys' ≡ keys ++ key ∷ []) → OnOk r (texts' ≡ texts ++ text ∷ []) → OnOk r (spans' ≡ spans ++ span ∷ [])
+      → OnOk r (stored keys' texts' spans' ≡ list ++ indexed key text span ∷ [])
   put_stored (Ok x) list is one two three =
       ap (λ l. stored l texts' spans') one ∙ ap (λ l. stored (keys ++ key ∷ []) l spans') two ∙ ap (stored (keys ++ key ∷ []) (texts ++ text ∷ [])) three
       ∙ stored_push keys texts spans key text span are.keys_size are.texts_size ∙ ap (λ l. l ++ indexed key text span ∷ []) is

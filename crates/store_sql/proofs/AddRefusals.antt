@@ -34,7 +34,8 @@ text_suits None = refl
 text_suits (Some t) = refl
 
 -- the texts take the values, of whichever type they are
-item_accepts : (place : ℤ) (name : List ℕ) (kind : ℤ) (title : Option (List ℕ)) (current former : Option ℤ) → accepts_terms item_terms (item_row (record { place = place; name = name; kind = kind; title = title; current = current; former = former })) ≡ true
+item_accepts : (place : ℤ) (name : List ℕ) (kind : ℤ) (title : Option (List ℕ)) (current former : Option ℤ)
+    → accepts_terms item_terms (item_row (record { place = place; name = name; kind = kind; title = title; current = current; former = former })) ≡ true
 item_accepts place name kind None None None = refl
 item_accepts place name kind None None (Some x) = refl
 item_accepts place name kind None (Some x) None = refl
@@ -75,9 +76,11 @@ pub item_fails : (old new : State) (i : ItemRecord) (e : Error) → Has item old
 item_fails old new i e has h =
     let at = has.0 in
     let tree = has.1 in
-    cause old new at (codes "item") tree (item tree).columns (item tree).key (item tree).primary (item tree).uniques (item tree).orders has.2.named has.2.is item_terms 7 insert_item (item_row i) (item_row i) refl (item_accepts i.place i.name i.kind i.title i.current i.former)
+    cause old new at (codes "item") tree (item tree).columns (item tree).key (item tree).primary (item tree).uniques (item tree).orders has.2.named has.2.is item_terms 7 insert_item (item_row i) (item_row i) refl
+    (item_accepts i.place i.name i.kind i.title i.current i.former)
     i.place (cast_all (item tree).columns (Null ∷ Text i.name ∷ Int i.kind ∷ text_or_null i.title ∷ number_or_null i.current ∷ number_or_null i.former ∷ [])) (rw (cast_int i.place) refl)
-    (rw (cast_null, cast_int i.kind, cast_text i.title, cast_number i.current, cast_number i.former) (and_from _ _ refl (and_from _ _ refl (and_from _ _ refl (and_from _ _ (text_suits i.title) (and_from _ _ (number_suits i.current) (and_from _ _ (number_suits i.former) refl))))))) (rw (cast_int i.kind) (refl)) e
+    (rw (cast_null, cast_int i.kind, cast_text i.title, cast_number i.current, cast_number i.former)
+    (and_from _ _ refl (and_from _ _ refl (and_from _ _ refl (and_from _ _ (text_suits i.title) (and_from _ _ (number_suits i.current) (and_from _ _ (number_suits i.former) refl))))))) (rw (cast_int i.kind) (refl)) e
     (faults_inside insert_item read_item (Insert at (Values item_terms 7)) (item_row i) old new e (insert_is insert_item read_item item (Values item_terms 7) reads_item old.now.schema at tree has.2) whole_item.0 whole_item.1 refl refl h)
 
 -- ---- member
@@ -94,7 +97,8 @@ member_fails old new m e has h =
     cause old new at (codes "member") tree (member tree).columns (member tree).key (member tree).primary (member tree).uniques (member tree).orders has.2.named has.2.is member_terms 4 insert_member (member_row m) (member_row m) refl refl
     (next_rowid (old.now.trees tree)) (cast_all (member tree).columns (Text m.owner ∷ Int m.ord ∷ Text m.name ∷ [])) (rw cast_null refl)
     (rw (cast_int m.ord) (refl)) (rw (cast_int m.ord) (refl)) e
-    (faults_inside insert_member read_member (Insert at (Values member_terms 4)) (member_row m) old new e (insert_is insert_member read_member member (Values member_terms 4) reads_member old.now.schema at tree has.2) whole_member.0 whole_member.1 refl refl h)
+    (faults_inside insert_member read_member (Insert at (Values member_terms 4)) (member_row m) old new e (insert_is insert_member read_member member (Values member_terms 4) reads_member old.now.schema at tree has.2) whole_member.0
+    whole_member.1 refl refl h)
 
 -- ---- kept
 
@@ -107,7 +111,8 @@ pub kept_fails : (old new : State) (k : KeptRecord) (e : Error) → Has kept old
 kept_fails old new k e has h =
     let at = has.0 in
     let tree = has.1 in
-    cause old new at (codes "kept") tree (kept tree).columns (kept tree).key (kept tree).primary (kept tree).uniques (kept tree).orders has.2.named has.2.is kept_terms 6 insert_kept (kept_row k) (kept_row k) refl (kept_accepts k.id k.number k.verb k.name k.edition)
+    cause old new at (codes "kept") tree (kept tree).columns (kept tree).key (kept tree).primary (kept tree).uniques (kept tree).orders has.2.named has.2.is kept_terms 6 insert_kept (kept_row k) (kept_row k) refl
+    (kept_accepts k.id k.number k.verb k.name k.edition)
     (next_rowid (old.now.trees tree)) (cast_all (kept tree).columns (Text k.id ∷ Int k.number ∷ Text k.verb ∷ Text k.name ∷ number_or_null k.edition ∷ [])) (rw cast_null refl)
     (rw (cast_int k.number, cast_number k.edition) (and_from _ _ refl (and_from _ _ refl (and_from _ _ refl (and_from _ _ refl (and_from _ _ (number_suits k.edition) refl)))))) (rw (cast_int k.number) (refl)) e
     (faults_inside insert_kept read_kept (Insert at (Values kept_terms 6)) (kept_row k) old new e (insert_is insert_kept read_kept kept (Values kept_terms 6) reads_kept old.now.schema at tree has.2) whole_kept.0 whole_kept.1 refl refl h)

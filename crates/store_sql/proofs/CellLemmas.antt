@@ -21,7 +21,8 @@ of_column (c ∷ cs) (v ∷ vs) zero what there has =
     subst (λ w. IsOf w v) same has.0
 of_column (c ∷ cs) (v ∷ vs) (suc at) what there has = of_column cs vs at what there has.1
 
-decodes_not : (columns : List Content) (row : Row) (at : ℕ) (what : Content) (e : ReadError) → content_at columns at ≡ Some what → (e ≡ NoRecord → ¬ IsOf what (column row at)) → (e ≢ NoRecord → e ≡ Store (SqliteFailure OutOfMemory)) → FailsToDecode columns row e
+decodes_not : (columns : List Content) (row : Row) (at : ℕ) (what : Content) (e : ReadError) → content_at columns at ≡ Some what → (e ≡ NoRecord → ¬ IsOf what (column row at))
+    → (e ≢ NoRecord → e ≡ Store (SqliteFailure OutOfMemory)) → FailsToDecode columns row e
 decodes_not columns row at what NoRecord there other refused = λ has. other refl (of_column columns row at what there has)
 decodes_not columns row at what (Store e) there other refused =
     let same : Store e ≡ Store (SqliteFailure OutOfMemory) = refused (λ no. let apart : Store e ≡ NoRecord = no in cc) in
@@ -29,6 +30,7 @@ decodes_not columns row at what (Store e) there other refused =
     inner
 
 -- the column at this place is read with an error, which is handed on
-pub refused_at : {X : Type 0} (columns : List Content) (row : Row) (at : ℕ) (what : Content) (e : ReadError) (result : Result X ReadError) → content_at columns at ≡ Some what → (e ≡ NoRecord → ¬ IsOf what (column row at)) → (e ≢ NoRecord → e ≡ Store (SqliteFailure OutOfMemory)) → IsErrAnd result (λ f. f ≡ e) → IfErr result (FailsToDecode columns row)
+pub refused_at : {X : Type 0} (columns : List Content) (row : Row) (at : ℕ) (what : Content) (e : ReadError) (result : Result X ReadError) → content_at columns at ≡ Some what → (e ≡ NoRecord → ¬ IsOf what (column row at))
+    → (e ≢ NoRecord → e ≡ Store (SqliteFailure OutOfMemory)) → IsErrAnd result (λ f. f ≡ e) → IfErr result (FailsToDecode columns row)
 refused_at columns row at what e (Ok x) there other refused is = tt
 refused_at columns row at what e (Err f) there other refused is = subst (FailsToDecode columns row) (sym is) (decodes_not columns row at what e there other refused)

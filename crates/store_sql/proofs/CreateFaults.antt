@@ -109,7 +109,8 @@ module _ (text : List ℕ) (p : Parsed) (table : Table) (r : ReadsCreate text p 
   pub make_fails : (e : Error) → ExecutesInside 0 text [] old new (Err e) → (RefusesToMake table old e × IsUnchanged old new) ⊎ Fails old new ⊥ e
   make_fails e h =
       let cause = faults_inside text p CreateTable [] old new e (compiles text p table r old.now.schema free.unused) s.whole s.names refl refl h in
-      elim (subst (λ t. (Does old.step_limit (mode_of old) [] old.now t None CreateTable (Err (Some e)) × IsUnchanged old new) ⊎ Fails old new (Does old.step_limit (mode_of old) [] old.now t None CreateTable (Err None)) e) (r.whole ([], (CreateTable, None))) cause) [
+      elim (subst (λ t. (Does old.step_limit (mode_of old) [] old.now t None CreateTable (Err (Some e)) × IsUnchanged old new) ⊎ Fails old new (Does old.step_limit (mode_of old) [] old.now t None CreateTable (Err None)) e)
+      (r.whole ([], (CreateTable, None))) cause) [
         | inl refuses ↦ inl (create_fails (Some e) refuses.0, refuses.1)
         | inr f ↦ inr (fails_for old new e _ ⊥ (create_fails None) f)
       ]
@@ -122,11 +123,25 @@ mark_stands = record { whole = lit≤ tt; names = refl; is_text = refl; named = 
 
 pub item_stands : Stands (create_text store.Item) read_item (item 0)
 unfolding everything read_item fits_kind is_free_name begins same_name value_cmp lib.Ieee.is_nan lib.Ieee.lt
-item_stands = record { whole = lit≤ tt; names = refl; is_text = refl; named = refl; unreserved = refl; formed = refl; fits = refl; short = lit≤ tt; plain = refl; keys = λ key h. (elim h [ inl is ↦ rw is (lit≤ tt) | inr more ↦ absurd more ]) }
+item_stands =
+    record { whole = lit≤ tt; names = refl; is_text = refl; named = refl; unreserved = refl; formed = refl; fits = refl; short = lit≤ tt; plain = refl; keys = λ key h. (elim h [ inl is ↦ rw is (lit≤ tt) | inr more ↦ absurd more ]) }
 
 pub member_stands : Stands (create_text store.Member) read_member (member 0)
 unfolding everything read_member fits_kind is_free_name begins same_name value_cmp lib.Ieee.is_nan lib.Ieee.lt
-member_stands = record { whole = lit≤ tt; names = refl; is_text = refl; named = refl; unreserved = refl; formed = refl; fits = refl; short = lit≤ tt; plain = refl; keys = λ key h. (elim h [ inl is ↦ rw is (lit≤ tt) | inr more ↦ elim more [ inl is ↦ rw is (lit≤ tt) | inr none ↦ absurd none ] ]) }
+member_stands =
+    record {
+      whole = lit≤ tt;
+      names = refl;
+      is_text = refl;
+      named = refl;
+      unreserved = refl;
+      formed = refl;
+      fits = refl;
+      short = lit≤ tt;
+      plain = refl;
+      keys = λ key h.
+          (elim h [ inl is ↦ rw is (lit≤ tt) | inr more ↦ elim more [ inl is ↦ rw is (lit≤ tt) | inr none ↦ absurd none ] ]);
+    }
 
 pub edition_stands : Stands (create_text store.Edition) read_edition (edition 0)
 unfolding everything read_edition fits_kind is_free_name begins same_name value_cmp lib.Ieee.is_nan lib.Ieee.lt
@@ -134,13 +149,28 @@ edition_stands = record { whole = lit≤ tt; names = refl; is_text = refl; named
 
 pub entry_stands : Stands (create_text store.Entry) read_entry (entry 0)
 unfolding everything read_entry fits_kind is_free_name begins same_name value_cmp lib.Ieee.is_nan lib.Ieee.lt
-entry_stands = record { whole = lit≤ tt; names = refl; is_text = refl; named = refl; unreserved = refl; formed = refl; fits = refl; short = lit≤ tt; plain = refl; keys = λ key h. (elim h [ inl is ↦ rw is (lit≤ tt) | inr more ↦ absurd more ]) }
+entry_stands =
+    record { whole = lit≤ tt; names = refl; is_text = refl; named = refl; unreserved = refl; formed = refl; fits = refl; short = lit≤ tt; plain = refl; keys = λ key h. (elim h [ inl is ↦ rw is (lit≤ tt) | inr more ↦ absurd more ]) }
 
 pub kept_stands : Stands (create_text store.Kept) read_kept (kept 0)
 unfolding everything read_kept fits_kind is_free_name begins same_name value_cmp lib.Ieee.is_nan lib.Ieee.lt
-kept_stands = record { whole = lit≤ tt; names = refl; is_text = refl; named = refl; unreserved = refl; formed = refl; fits = refl; short = lit≤ tt; plain = refl; keys = λ key h. (elim h [ inl is ↦ rw is (lit≤ tt) | inr more ↦ elim more [ inl is ↦ rw is (lit≤ tt) | inr none ↦ absurd none ] ]) }
+kept_stands =
+    record {
+      whole = lit≤ tt;
+      names = refl;
+      is_text = refl;
+      named = refl;
+      unreserved = refl;
+      formed = refl;
+      fits = refl;
+      short = lit≤ tt;
+      plain = refl;
+      keys = λ key h.
+          (elim h [ inl is ↦ rw is (lit≤ tt) | inr more ↦ elim more [ inl is ↦ rw is (lit≤ tt) | inr none ↦ absurd none ] ]);
+    }
 
-pub make_fails_in : (t : StoreTable) (old new : State) → IsFree old.now.schema (table_of t 0).name → (e : Error) → ExecutesInside 0 (create_text t) [] old new (Err e) → (RefusesToMake (table_of t 0) old e × IsUnchanged old new) ⊎ Fails old new ⊥ e
+pub make_fails_in : (t : StoreTable) (old new : State) → IsFree old.now.schema (table_of t 0).name → (e : Error) → ExecutesInside 0 (create_text t) [] old new (Err e) → (RefusesToMake (table_of t 0) old e × IsUnchanged old new)
+    ⊎ Fails old new ⊥ e
 make_fails_in store.Mark = make_fails (create_text store.Mark) read_mark (mark 0) reads_mark mark_stands
 make_fails_in store.Item = make_fails (create_text store.Item) read_item (item 0) reads_item item_stands
 make_fails_in store.Member = make_fails (create_text store.Member) read_member (member 0) reads_member member_stands

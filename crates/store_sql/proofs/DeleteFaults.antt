@@ -73,7 +73,8 @@ module _ (old new : State) (at : ℕ) (table : Table) (has : HasTable old.now.sc
       left : (rows : List Row) → Answers old.now (program old new at table has tests text params 0) params rows → with_tree db table.tree (edited db (edit old new at table has tests text params 0 rows)) ≡ without_rows old.now table test
       left rows answers = ap (with_tree db table.tree) (left_rows old new at table has tests text params 0 apart test tested rows answers ∙ filter_same (passes params tests) (λ r. test (shown table r)) tested (db table.tree))
 
-      narrowed : (rows : List Row) → Answers old.now (program old new at table has tests text params 0) params rows → (why : Refusal) → IsRefused old.now.schema Enforced db (edit old new at table has tests text params 0 rows) why → RefusesLoss table test old.now (edit_error why)
+      narrowed : (rows : List Row) → Answers old.now (program old new at table has tests text params 0) params rows → (why : Refusal) → IsRefused old.now.schema Enforced db (edit old new at table has tests text params 0 rows) why
+          → RefusesLoss table test old.now (edit_error why)
       narrowed rows answers (Violates Unique) h = inl (refl, subst (λ trees. ¬ Keeps Unique old.now.schema trees) (left rows answers) h)
       narrowed rows answers (Violates PrimaryKey) h = absurd (let e = h in cc)
       narrowed rows answers (Violates Datatype) h = absurd (let e = h in cc)
@@ -85,7 +86,8 @@ module _ (old new : State) (at : ℕ) (table : Table) (has : HasTable old.now.sc
       narrowed rows answers BadReference h = absurd (let both : true ≡ false = sym (fits (nat_lt 0 (length (edit old new at table has tests text params 0 rows).gone))) ∙ h in cc)
       narrowed rows answers TooDeep h = absurd h
 
-      step_stopped : (rows : List Row) → Answers old.now (program old new at table has tests text params 0) params rows → (end : Option Refusal) → Writes old.now.schema Enforced db (edit old new at table has tests text params 0 rows) (Err end) → Ends (option_map edit_error end)
+      step_stopped : (rows : List Row) → Answers old.now (program old new at table has tests text params 0) params rows → (end : Option Refusal)
+          → Writes old.now.schema Enforced db (edit old new at table has tests text params 0 rows) (Err end) → Ends (option_map edit_error end)
       step_stopped rows answers end h = elim (failed_step old.now.schema Enforced db (edit old new at table has tests text params 0 rows) end (no_works old new at table has tests text params 0 rows) h) [
         | inl refused ↦ subst (λ o. Ends (option_map edit_error o)) (sym refused.2) (inr (narrowed rows answers refused.0 refused.1))
         | inr big ↦ absurd big.1
@@ -104,13 +106,16 @@ module _ (old new : State) (at : ℕ) (table : Table) (has : HasTable old.now.sc
         | inr last ↦ absurd (no_stop last.2)
       ]
 
-      lacks : (it : Written) → Deletes (task old new at table has tests text params 0) (program old new at table has tests text params 0) db (Ok it) → Refers All old.now.schema (without_rows old.now table test) → Refers All old.now.schema it.trees
+      lacks : (it : Written) → Deletes (task old new at table has tests text params 0) (program old new at table has tests text params 0) db (Ok it) → Refers All old.now.schema (without_rows old.now table test)
+          → Refers All old.now.schema it.trees
       lacks it h refers =
           let gone = took old new at table has tests text params 0 it h in
           let same = with_same db gone.1 table.tree (edited db (edit old new at table has tests text params 0 gone.0)) gone.3.rows old.now.schema.tables gone.3.tables in
-          subst (Refers All old.now.schema) (sym gone.4) (same_refers old.now.schema (without_rows old.now table test) gone.1 (flipped _ _ old.now.schema.tables (subst (λ (trees : Trees). AllByRecursion (λ t. gone.1 t.tree ≡ trees t.tree) old.now.schema.tables) (left gone.0 gone.2) same)) refers)
+          subst (Refers All old.now.schema) (sym gone.4) (same_refers old.now.schema (without_rows old.now table test) gone.1
+          (flipped _ _ old.now.schema.tables (subst (λ (trees : Trees). AllByRecursion (λ t. gone.1 t.tree ≡ trees t.tree) old.now.schema.tables) (left gone.0 gone.2) same)) refers)
 
-      concluded : (o : Option Error) (it : Written) → Deletes (task old new at table has tests text params 0) (program old new at table has tests text params 0) db (Ok it) → Concludes (task old new at table has tests text params 0) (mode_of old) None it (Err o) → Ends o
+      concluded : (o : Option Error) (it : Written) → Deletes (task old new at table has tests text params 0) (program old new at table has tests text params 0) db (Ok it)
+          → Concludes (task old new at table has tests text params 0) (mode_of old) None it (Err o) → Ends o
       concluded o it done (inl tested') = subst Ends (sym (same_stop tested'.2 ∙ tested'.1.1)) (inr (inr (refl, λ refers. tested'.1.0 (lacks it done refers))))
       concluded o it done (inr rest) = elim rest.2 [ inl shows ↦ absurd (no_stop shows.1) | inr gives ↦ absurd (no_stop gives.2) ]
 

@@ -61,13 +61,15 @@ out_equals name = refl
 abbrev pub after : ℕ → State → Carried → State
 after n s carried = record s { budget = s.budget - n; written = None; last = carried }
 
-module _ (schema : Schema) (at : ℕ) (table : Table) (is : slice_get schema.tables at ≡ Some table) (name : Name) (k : ℕ) (c : Column) (place : column_named table name ≡ Some k) (has : slice_get table.columns k ≡ Some c) (shows : List Output) where
+module _ (schema : Schema) (at : ℕ) (table : Table) (is : slice_get schema.tables at ≡ Some table) (name : Name) (k : ℕ) (c : Column) (place : column_named table name ≡ Some k) (has : slice_get table.columns k ≡ Some c)
+    (shows : List Output) where
   module _ (may_aggregate may_alias : Bool) where
     column_is : (s : State) → column (context_of schema at table shows may_aggregate may_alias) None name s ≡ Ok (col 1 (place_of table k), record s { last = declared table k c })
     unfolding column find_name in_level only hit column_in term_of column_at is_among
     column_is s = rw (is, place, is, has) refl
 
-    pub lower_column : (d : ℕ) (s : State) → nat_lt 1 s.budget ≡ true → s.written ≡ None → lower_to (suc d) (context_of schema at table shows may_aggregate may_alias) (column_expr name) s ≡ Ok (col 1 (place_of table k), after 1 s (declared table k c))
+    pub lower_column : (d : ℕ) (s : State) → nat_lt 1 s.budget ≡ true → s.written ≡ None → lower_to (suc d) (context_of schema at table shows may_aggregate may_alias) (column_expr name) s
+        ≡ Ok (col 1 (place_of table k), after 1 s (declared table k c))
     unfolding lower_to node opened spend begin finish passes
     lower_column d s rich clear = rw (rich, out_column name, clear, column_is (record s { budget = s.budget - 1; written = None; last = nothing })) refl
 

@@ -18,7 +18,8 @@ use Rattle.store_sql.specs.Effects.{Has, HasApartRowids, rows_of, shown}
 use Rattle.store_sql.specs.Refusals.{RefusesToRemove}
 use Rattle.store_sql.proofs.ListLemmas.{passes}
 use Rattle.store_sql.proofs.DeleteLemmas.{doomed}
-use Rattle.store_sql.proofs.DeleteTexts.{ReadsDelete, command, compiles, read_mark, read_item, read_member, read_every_edition, read_every_entry, read_every_kept, reads_mark, reads_item, reads_member, reads_every_edition, reads_every_entry, reads_every_kept}
+use Rattle.store_sql.proofs.DeleteTexts.{ReadsDelete, command, compiles, read_mark, read_item, read_member, read_every_edition, read_every_entry, read_every_kept, reads_mark, reads_item, reads_member}
+use Rattle.store_sql.proofs.DeleteTexts.{reads_every_edition, reads_every_entry, reads_every_kept}
 use Rattle.store_sql.proofs.DeleteFaults.{cause}
 use Rattle.store_sql.proofs.FaultLemmas.{faults_inside}
 use Rattle.store_tables.specs.declared.tables.StoreTable.{StoreTable}
@@ -68,7 +69,8 @@ module _ (text : List ℕ) (p : Parsed) (table : ℕ → Table) (condition : Opt
         let tree = has.1 in
         let s = old.now.schema in
         subst (λ n. (RefusesToRemove n test old e × IsUnchanged old new) ⊎ Fails old new ⊥ e) (named tree)
-        (cause old new at (table tree) has.2 filter text params (subst (λ n. HasApartRowids (rows_of n old.now)) (sym (named tree)) apart) test (tested tree) (takes.typed s tree has.2.alone (lt-leb (2 ^ 31) (table tree).tree has.2.stored)) (no_overflow tree) e
+        (cause old new at (table tree) has.2 filter text params (subst (λ n. HasApartRowids (rows_of n old.now)) (sym (named tree)) apart) test (tested tree)
+        (takes.typed s tree has.2.alone (lt-leb (2 ^ 31) (table tree).tree has.2.stored)) (no_overflow tree) e
         (faults_inside text p (command text p table condition filter left r s at tree has.2) params old new e (compiles text p table condition filter left r s at tree has.2) takes.whole takes.names refl refl h))
 
 pub clear_fails : (t : StoreTable) (old new : State) (e : Error) → Has (table_of t) old.now → HasApartRowids (rows_of (table_of t 0).name old.now) → ExecutesInside 0 (clear_text t) [] old new (Err e)

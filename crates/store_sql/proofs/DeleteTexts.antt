@@ -38,7 +38,8 @@ pub record ReadsDelete (text : List ℕ) (p : Parsed) (table : ℕ → Table) (c
   pub read : first text ≡ Ok p
   pub statement : (tree : ℕ) → p.statement ≡ written.Delete (table tree).name condition []
   pub formats : p.formats ≡ []
-  pub tests : (schema : Schema) (at tree : ℕ) → slice_get schema.tables at ≡ Some (table tree) → tests lower (context_of schema at (table tree) [] false true) [] condition (fresh 2 max_budget) ≡ Ok (filter, record (fresh 2 max_budget) { budget = left })
+  pub tests : (schema : Schema) (at tree : ℕ) → slice_get schema.tables at ≡ Some (table tree) → tests lower (context_of schema at (table tree) [] false true) [] condition (fresh 2 max_budget)
+      ≡ Ok (filter, record (fresh 2 max_budget) { budget = left })
   pub accepted : (schema : Schema) (tree : ℕ) → find (λ t. t.tree == (table tree).tree) schema.tables ≡ Some (table tree) → nat_le (2 ^ 31) (table tree).tree ≡ false → accepts_program schema [] (doomed (table tree) filter) [] ≡ true
 
 unfoldable pub read_mark : Parsed
@@ -115,7 +116,8 @@ module _ (text : List ℕ) (p : Parsed) (table : ℕ → Table) (condition : Opt
         subst (λ n. IsRemoved n test old.now new.now) (named tree)
         (removes old new at (table tree) has.2 filter (statement_of text (understood s text)) params count (subst (λ n. HasApartRowids (rows_of n old.now)) (sym (named tree)) apart) test (tested tree) w)
 
-pub clears_rows : (t : StoreTable) (old new : State) (count : ℕ) → Has (table_of t) old.now → HasApartRowids (rows_of (table_of t 0).name old.now) → Executes (clear_text t) [] old new (Ok count) → IsRemoved (table_of t 0).name (λ _. true) old.now new.now
+pub clears_rows : (t : StoreTable) (old new : State) (count : ℕ) → Has (table_of t) old.now → HasApartRowids (rows_of (table_of t 0).name old.now) → Executes (clear_text t) [] old new (Ok count)
+    → IsRemoved (table_of t 0).name (λ _. true) old.now new.now
 clears_rows store.Mark old new count = removes_rows (clear_text store.Mark) read_mark mark None [] 100000 reads_mark (λ tree. refl) [] (λ _. true) (λ tree row. refl) old new count
 clears_rows store.Item old new count = removes_rows (clear_text store.Item) read_item item None [] 100000 reads_item (λ tree. refl) [] (λ _. true) (λ tree row. refl) old new count
 clears_rows store.Member old new count = removes_rows (clear_text store.Member) read_member member None [] 100000 reads_member (λ tree. refl) [] (λ _. true) (λ tree row. refl) old new count

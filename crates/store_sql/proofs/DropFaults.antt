@@ -24,7 +24,8 @@ use Rattle.store_sql.specs.Drops.{drop_text}
 use Rattle.store_tables.specs.Tables.{table_of}
 use Rattle.store_sql.specs.Refusals.{RefusesToDrop}
 use Rattle.store_sql.proofs.InsertLemmas.{same_value}
-use Rattle.store_sql.proofs.DropLemmas.{ReadsDrop, compiles, refuses, unacted, not_taken, not_counted, read_mark, reads_mark, read_item, reads_item, read_member, reads_member, read_edition, reads_edition, read_entry, reads_entry, read_kept, reads_kept}
+use Rattle.store_sql.proofs.DropLemmas.{ReadsDrop, compiles, refuses, unacted, not_taken, not_counted, read_mark, reads_mark, read_item, reads_item, read_member, reads_member, read_edition, reads_edition, read_entry}
+use Rattle.store_sql.proofs.DropLemmas.{reads_entry, read_kept, reads_kept}
 use Rattle.store_sql.proofs.FaultLemmas.{faults_inside, fails_for, same_stop, no_stop}
 
 not_uncounted : (task : Task) (db : Trees) (o : Option Error) (counted : Bool) (t : Option Table) → counted ≡ false → ¬ UncountsIn task db (if counted then t else None) (Err o)
@@ -134,7 +135,8 @@ whole_kept : Reads store.Kept read_kept
 unfolding everything read_kept
 whole_kept = (lit≤ tt, refl)
 
-pub drop_fails_in : (table : StoreTable) (old new : State) (e : Error) → Has (table_of table) old.now → ExecutesInside 0 (drop_text table) [] old new (Err e) → (RefusesToDrop (table_of table 0).name old e × IsUnchanged old new) ⊎ Fails old new ⊥ e
+pub drop_fails_in : (table : StoreTable) (old new : State) (e : Error) → Has (table_of table) old.now → ExecutesInside 0 (drop_text table) [] old new (Err e) → (RefusesToDrop (table_of table 0).name old e × IsUnchanged old new)
+    ⊎ Fails old new ⊥ e
 drop_fails_in store.Mark old new e has = fails (drop_text store.Mark) read_mark mark reads_mark whole_mark.0 whole_mark.1 old new has.0 has.1 has.2 e
 drop_fails_in store.Item old new e has = fails (drop_text store.Item) read_item item reads_item whole_item.0 whole_item.1 old new has.0 has.1 has.2 e
 drop_fails_in store.Member old new e has = fails (drop_text store.Member) read_member member reads_member whole_member.0 whole_member.1 old new has.0 has.1 has.2 e

@@ -86,7 +86,8 @@ module _ (name : List ℕ) (stays : Table → Bool) where
 -- ---- no foreign key leads into it, so none acts
 
 module _ (schema : Schema) (at : ℕ) (table : Table) (has : HasTable schema at table) where
-  acts_by : (keys : Keys) (refs : List Reference) → AllByRecursion (λ (ref : Reference). is_in table.tree (find (λ t. same_name t.name ref.parent) schema.tables) ≡ false) refs → list_any (λ (ref : Reference). same_name table.name ref.parent && is_some (deed_for keys true ref)) refs ≡ false
+  acts_by : (keys : Keys) (refs : List Reference) → AllByRecursion (λ (ref : Reference). is_in table.tree (find (λ t. same_name t.name ref.parent) schema.tables) ≡ false) refs
+      → list_any (λ (ref : Reference). same_name table.name ref.parent && is_some (deed_for keys true ref)) refs ≡ false
   acts_by keys [] h = refl
   acts_by keys (ref ∷ refs) h = rw (not_parent schema at table has ref h.0) (acts_by keys refs h.1)
 
@@ -147,7 +148,8 @@ module _ (text : List ℕ) (p : Parsed) (table : ℕ → Table) (r : ReadsDrop t
       let first = went (rw is at w.changed) in
       let same : first.0 ≡ old.now.trees = same_value (not_taken _ _ _ (acted Enforced) first.1) in
       let second = went first.2 in
-      let still : second.0 ≡ first.0 = not_counted (record { limit = old.step_limit; keys = Enforced; schema = old.now.schema; table = table tree; params = [] }) _ _ (table tree).is_counted (sequence old.now.schema) (r.uncounted tree) second.1 in
+      let still : second.0 ≡ first.0 = not_counted (record { limit = old.step_limit; keys = Enforced; schema = old.now.schema; table = table tree; params = [] }) _ _ (table tree).is_counted (sequence old.now.schema)
+      (r.uncounted tree) second.1 in
       let third = went second.2 in
       let fourth = went third.2 in
       let now : new.now ≡ fourth.0 = ap (λ (q : Tally × Database). q.1) (same_value fourth.2) in
@@ -156,8 +158,12 @@ module _ (text : List ℕ) (p : Parsed) (table : ℕ → Table) (r : ReadsDrop t
       let there : table_in (table tree).name old.now ≡ Some (table tree) = found (λ t. same_name t.name (table tree).name) old.now.schema.tables ∙ found_is old.now.schema at (table tree) it in
       subst (λ n. IsDropped n old.now new.now) name (record {
         schema = λ t is_it. schema ∙ ap (λ (u : Table). without_table old.now.schema u.tree) (some (sym there ∙ is_it));
-        gone = λ sound. subst (λ (s : Schema). table_named s (table tree).name ≡ None) (sym schema) (no_place (λ t. same_name t.name (table tree).name) _ (none_left (table tree).name (λ t. not (t.tree == (table tree).tree)) old.now.schema.tables (table tree) (found_is old.now.schema at (table tree) it) (ap not (itself (table tree).tree)) sound.lists.listed.named) 0);
-        others = subst (λ (d : Database). AllByRecursion (λ t. d.trees t.tree ≡ old.now.trees t.tree) d.schema.tables) (sym now) (subst (λ (s : Schema). AllByRecursion (λ t. fourth.0.trees t.tree ≡ old.now.trees t.tree) s.tables) (sym fourth.1.0) (subst (λ trees. AllByRecursion (λ t. fourth.0.trees t.tree ≡ trees t.tree) (without_table old.now.schema (table tree).tree).tables) (still ∙ same) fourth.1.1));
+        gone = λ sound. subst (λ (s : Schema). table_named s (table tree).name ≡ None) (sym schema)
+            (no_place (λ t. same_name t.name (table tree).name) _ (none_left (table tree).name (λ t. not (t.tree == (table tree).tree)) old.now.schema.tables (table tree) (found_is old.now.schema at (table tree) it)
+            (ap not (itself (table tree).tree)) sound.lists.listed.named) 0);
+        others = subst (λ (d : Database). AllByRecursion (λ t. d.trees t.tree ≡ old.now.trees t.tree) d.schema.tables) (sym now)
+            (subst (λ (s : Schema). AllByRecursion (λ t. fourth.0.trees t.tree ≡ old.now.trees t.tree) s.tables) (sym fourth.1.0)
+            (subst (λ trees. AllByRecursion (λ t. fourth.0.trees t.tree ≡ trees t.tree) (without_table old.now.schema (table tree).tree).tables) (still ∙ same) fourth.1.1));
         unread = w.frozen;
         sound = w.sound;
       })

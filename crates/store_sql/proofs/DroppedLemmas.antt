@@ -33,7 +33,8 @@ module _ (table : ℕ → Table) (defined : IsDefinition table) (old new : Datab
     pub drop_rows : rows_of (other 0).name new ≡ rows_of (other 0).name old
     drop_rows =
         let was = own_in other also old its in
-        let at : find (λ v. same_name v.name (other 0).name) new.schema.tables ≡ Some (other its.tree) = ap (λ (s : Schema). find (λ v. same_name v.name (other 0).name) s.tables) left ∙ still_found old.schema table defined own other also apart its in
+        let at : find (λ v. same_name v.name (other 0).name) new.schema.tables ≡ Some (other its.tree) =
+        ap (λ (s : Schema). find (λ v. same_name v.name (other 0).name) s.tables) left ∙ still_found old.schema table defined own other also apart its in
         let is : table_in (other 0).name new ≡ Some (other its.tree) = found (λ v. same_name v.name (other 0).name) new.schema.tables ∙ at in
         let same : new.trees (other its.tree).tree ≡ old.trees (other its.tree).tree = found_is (λ v. new.trees v.tree ≡ old.trees v.tree) (λ v. same_name v.name (other 0).name) new.schema.tables (other its.tree) dropped.others at in
         rw (is, was, same) refl
@@ -47,11 +48,13 @@ module _ (table : ℕ → Table) (defined : IsDefinition table) (old new : Datab
   pub drop_unused : IsDatabase old → index_named old.schema (table 0).name ≡ None → view_named old.schema (table 0).name ≡ None → is_used new.schema (table 0).name ≡ false
   drop_unused sound index view =
       let t = dropped.gone sound in
-      let i : index_named new.schema (table 0).name ≡ None = ap (λ (s : Schema). index_named s (table 0).name) left ∙ none_left (λ (i : Index). not (i.table == own.tree)) (λ (i : Index). same_name i.name (table 0).name) 0 0 old.schema.indexes index in
+      let i : index_named new.schema (table 0).name ≡ None = ap (λ (s : Schema). index_named s (table 0).name) left
+      ∙ none_left (λ (i : Index). not (i.table == own.tree)) (λ (i : Index). same_name i.name (table 0).name) 0 0 old.schema.indexes index in
       let v : view_named new.schema (table 0).name ≡ None = ap (λ (s : Schema). view_named s (table 0).name) left ∙ view in
       rw (t, i, v) refl
 
-  pub drop_frees : (name : List ℕ) → table_named old.schema name ≡ None → view_named old.schema name ≡ None → AllByRecursion (λ (index : Index). same_name index.name name ≡ true → index.table ≡ own.tree) old.schema.indexes → is_used new.schema name ≡ false
+  pub drop_frees : (name : List ℕ) → table_named old.schema name ≡ None → view_named old.schema name ≡ None → AllByRecursion (λ (index : Index). same_name index.name name ≡ true → index.table ≡ own.tree) old.schema.indexes
+      → is_used new.schema name ≡ false
   drop_frees name table' view mine = subst (λ s. is_used s name ≡ false) (sym left) (freed_left old.schema table defined own name table' view mine)
 
   pub drop_still_free : (name : List ℕ) → is_used old.schema name ≡ false → is_used new.schema name ≡ false

@@ -1,5 +1,6 @@
 -- Why a text that writes is refused, whatever it writes.
-use Rattle.std.proofs.Common.{◌≡◌, ◌≢◌, ◌⊎◌, ◌≤◌, ℕ, zero, suc, List, [], ◌∷◌, length, Bool, true, false, not, ◌||◌, Option, Some, None, Ok, Err, Result, inl, inr, refl, sym, ap, subst, ◌∙◌, append-nil, length-append, arith, find, option_map, option_and_then}
+use Rattle.std.proofs.Common.{◌≡◌, ◌≢◌, ◌⊎◌, ◌≤◌, ℕ, zero, suc, List, [], ◌∷◌, length, Bool, true, false, not, ◌||◌, Option, Some, None, Ok, Err, Result, inl, inr, refl, sym, ap, subst, ◌∙◌, append-nil, length-append}
+use Rattle.std.proofs.Common.{arith, find, option_map, option_and_then}
 use Rattle.std.proofs.lemmas.Bool.{cases_Bool}
 use Rattle.std.specs.List.{AllByRecursion, list_any, list_all}
 use Rattle.sqlite.specs.Order.{Row}
@@ -87,7 +88,8 @@ module _ (text : List ℕ) (p : Parsed) (command : Command) (params : Row) (old 
     is_one (inl h) = absurd (let both : Err h.0 ≡ Ok it = sym h.1 ∙ is in cc)
     is_one (inr h) = fits h.0 (is_it h.0 h.1) h.2
       where
-        fits : (c : Compiled) → c ≡ it → ¬ (((¬ (length text ≤ c.tail)) × (e ≡ MultipleStatement)) ⊎ (((length params ≢ length c.names) × (e ≡ InvalidParameterCount (length params) (length c.names))) ⊎ ((c.formats ≢ []) × (e ≡ SqliteFailure NoClock))))
+        fits : (c : Compiled) → c ≡ it → ¬ (((¬ (length text ≤ c.tail)) × (e ≡ MultipleStatement))
+            ⊎ (((length params ≢ length c.names) × (e ≡ InvalidParameterCount (length params) (length c.names))) ⊎ ((c.formats ≢ []) × (e ≡ SqliteFailure NoClock))))
         fits c same (inl long) = long.0 (rw same whole)
         fits c same (inr (inl many)) = many.0 (rw same given)
         fits c same (inr (inr late)) = late.0 (rw same refl)
@@ -167,7 +169,8 @@ module _ (schema : Schema) (a b : Trees) (same : AllByRecursion (λ t. a t.tree 
   held_in row columns t rows (Some places) = held_by row columns t rows places (declared_order t places)
 
   held_as : (row : Row) (ref : Reference) (found : Option Table) → ((t : Table) → found ≡ Some t → a t.tree ≡ b t.tree)
-      → is_held a ref.columns row (option_and_then (λ t. option_and_then (key_in t) (key_places t ref.parent_columns)) found) ≡ is_held b ref.columns row (option_and_then (λ t. option_and_then (key_in t) (key_places t ref.parent_columns)) found)
+      → is_held a ref.columns row (option_and_then (λ t. option_and_then (key_in t) (key_places t ref.parent_columns)) found)
+      ≡ is_held b ref.columns row (option_and_then (λ t. option_and_then (key_in t) (key_places t ref.parent_columns)) found)
   held_as row ref None there = refl
   held_as row ref (Some t) there = held_in row ref.columns t (there t refl) (key_places t ref.parent_columns)
 
@@ -186,10 +189,14 @@ module _ (schema : Schema) (a b : Trees) (same : AllByRecursion (λ t. a t.tree 
   refers_rows refs [] h = tt
   refers_rows refs (row ∷ rows) h = (refers_row row refs h.0, refers_rows refs rows h.1)
 
-  refers_tables : (ts : List Table) → AllByRecursion (λ t. a t.tree ≡ b t.tree) ts → AllByRecursion (λ t. AllByRecursion (λ row. list_all (λ ref. not (is_among All ref) || has_parent schema.tables a row ref) t.references ≡ true) (a t.tree)) ts
+  refers_tables : (ts : List Table) → AllByRecursion (λ t. a t.tree ≡ b t.tree) ts
+      → AllByRecursion (λ t. AllByRecursion (λ row. list_all (λ ref. not (is_among All ref) || has_parent schema.tables a row ref) t.references ≡ true) (a t.tree)) ts
       → AllByRecursion (λ t. AllByRecursion (λ row. list_all (λ ref. not (is_among All ref) || has_parent schema.tables b row ref) t.references ≡ true) (b t.tree)) ts
   refers_tables [] rows h = tt
-  refers_tables (t ∷ ts) rows h = (subst (AllByRecursion (λ row. list_all (λ ref. not (is_among All ref) || has_parent schema.tables b row ref) t.references ≡ true)) rows.0 (refers_rows t.references (a t.tree) h.0), refers_tables ts rows.1 h.1)
+  refers_tables (t ∷ ts) rows h = (
+    subst (AllByRecursion (λ row. list_all (λ ref. not (is_among All ref) || has_parent schema.tables b row ref) t.references ≡ true)) rows.0 (refers_rows t.references (a t.tree) h.0),
+    refers_tables ts rows.1 h.1,
+  )
 
   pub same_refers : Refers All schema a → Refers All schema b
   same_refers h = refers_tables schema.tables same h

@@ -1,5 +1,6 @@
 -- What an INSERT of one row does to the rows of a table, whatever else the schema has.
-use Rattle.std.proofs.Common.{◌≡◌, ◌≢◌, ◌⊎◌, ◌==◌, ◌/◌, Ordering, Less, Equal, Greater, inl, inr, ℕ, ℤ, List, [], ◌∷◌, map, length, slice_get, Bool, true, false, ◌&&◌, ◌||◌, cond, Option, Some, None, Ok, Err, Result, refl, sym, ap, subst, subst₂, ◌∙◌, append-nil}
+use Rattle.std.proofs.Common.{◌≡◌, ◌≢◌, ◌⊎◌, ◌==◌, ◌/◌, Ordering, Less, Equal, Greater, inl, inr, ℕ, ℤ, List, [], ◌∷◌, map, length, slice_get, Bool, true, false, ◌&&◌, ◌||◌, cond, Option, Some, None, Ok, Err, Result}
+use Rattle.std.proofs.Common.{refl, sym, ap, subst, subst₂, ◌∙◌, append-nil}
 use Rattle.std.proofs.lemmas.List.Sorted.{IsPermutation-refl, IsPermutation-cons, IsPermutation-trans, IsPermutation-map, IsPermutation-middle}
 use Rattle.std.specs.List.Sorted.{IsPermutation}
 use Rattle.std.specs.List.{flat_map, filter_map}
@@ -198,11 +199,13 @@ module _ (old new : State) (at : ℕ) (name : List ℕ) (tree : ℕ) (columns : 
           subst (IsAdded name cells old.now) (sym done.2) (added_by done.0 done.1 (subst (SparesFrozen old.now) done.2 w.frozen) (subst IsDatabase done.2 w.sound))
 
     -- where the table has no key of its own, the rowid is chosen
-    pub adds_chosen : (values cells : Row) → row ≡ Null ∷ values → ((id : ℤ) → shown table (Int id ∷ cast_all columns values) ≡ Int id ∷ cells) → Writes old new None (Insert at (Values terms width)) text params count → IsAdded name cells old.now new.now
+    pub adds_chosen : (values cells : Row) → row ≡ Null ∷ values → ((id : ℤ) → shown table (Int id ∷ cast_all columns values) ≡ Int id ∷ cells) → Writes old new None (Insert at (Values terms width)) text params count
+        → IsAdded name cells old.now new.now
     adds_chosen values cells null shows w =
         adds (next_rowid (db tree)) (cast_all columns values) cells (ap (λ r. (edit_of db table [] Chosen 0 (r ∷ [])).news) null ∙ rw cast_null refl) (shows (next_rowid (db tree))) w
 
     -- where the key is the rowid, it is the one that is given
-    pub adds_given : (id : ℤ) (values cells : Row) → row ≡ Int id ∷ values → shown table (Int id ∷ cast_all columns values) ≡ Int id ∷ cells → Writes old new None (Insert at (Values terms width)) text params count → IsAdded name cells old.now new.now
+    pub adds_given : (id : ℤ) (values cells : Row) → row ≡ Int id ∷ values → shown table (Int id ∷ cast_all columns values) ≡ Int id ∷ cells → Writes old new None (Insert at (Values terms width)) text params count
+        → IsAdded name cells old.now new.now
     adds_given id values cells given shows w =
         adds id (cast_all columns values) cells (ap (λ r. (edit_of db table [] Chosen 0 (r ∷ [])).news) given ∙ rw (cast_int id) refl) shows w

@@ -62,16 +62,19 @@ module _ (K : Command → Type 0) (schema : Schema) (p : Parsed) (kind : (base :
   planned_gives : IfOk (planned schema p) (λ plan. K plan.1.0)
   unfolding planned
   planned_gives =
-      then_with {A = Command × Option Returning} {B = List (List ℕ) × (Command × Option Returning)} (λ m. K m.0) (λ plan. K plan.1.0) (meaning schema p (small p.names + small (timed schema p.formats p.statement))) (λ found. Ok (timed schema p.formats p.statement, found))
+      then_with {A = Command × Option Returning} {B = List (List ℕ) × (Command × Option Returning)} (λ m. K m.0) (λ plan. K plan.1.0) (meaning schema p (small p.names + small (timed schema p.formats p.statement)))
+      (λ found. Ok (timed schema p.formats p.statement, found))
       (meaning_gives (small p.names + small (timed schema p.formats p.statement))) (λ found k. k)
 
-compiled_gives : (K : Command → Type 0) (text : List ℕ) (p : Parsed) → first text ≡ Ok p → ((schema : Schema) (base : ℕ) → IfOk (command schema p.formats base p.statement) K) → (schema : Schema) → IfOk (compiled schema text) (λ c. K c.command)
+compiled_gives : (K : Command → Type 0) (text : List ℕ) (p : Parsed) → first text ≡ Ok p → ((schema : Schema) (base : ℕ) → IfOk (command schema p.formats base p.statement) K) → (schema : Schema)
+    → IfOk (compiled schema text) (λ c. K c.command)
 unfolding compiled
 compiled_gives K text p read kind schema =
     rw read (then_with {A = List (List ℕ) × (Command × Option Returning)} {B = Compiled} (λ plan. K plan.1.0) (λ c. K c.command) (planned schema p) (λ plan. Ok (with_command p plan)) (planned_gives K schema p (kind schema)) (λ plan k. k))
 
 -- a text whose statement is of a kind of commands, over any schema
-pub kind_of_text : (K : Command → Type 0) (text : List ℕ) (p : Parsed) → first text ≡ Ok p → ((schema : Schema) (base : ℕ) → IfOk (command schema p.formats base p.statement) K) → (schema : Schema) → IfOk (understood schema text) (λ c. K c.command)
+pub kind_of_text : (K : Command → Type 0) (text : List ℕ) (p : Parsed) → first text ≡ Ok p → ((schema : Schema) (base : ℕ) → IfOk (command schema p.formats base p.statement) K) → (schema : Schema)
+    → IfOk (understood schema text) (λ c. K c.command)
 kind_of_text K text p read kind = understood_gives (λ c. K c.command) text (compiled_gives K text p read kind)
 
 -- ---- each form of statement

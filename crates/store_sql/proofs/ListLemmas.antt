@@ -1,5 +1,6 @@
 -- What a query over one table answers: its rows that pass the test, in the order of its keys.
-use Rattle.std.proofs.Common.{◌≡◌, ℕ, ◌-◌, ◌^◌, ◌+◌, ◌<◌, pos, negsuc, List, [], ◌∷◌, map, length, filter, slice_get, Bool, true, false, cond, None, Ordering, nat_le, refl, sym, ap, subst, subst₂, ◌∙◌, arith, IsSorted, get_or, All, unwrap_or, inl, inr}
+use Rattle.std.proofs.Common.{◌≡◌, ℕ, ◌-◌, ◌^◌, ◌+◌, ◌<◌, pos, negsuc, List, [], ◌∷◌, map, length, filter, slice_get, Bool, true, false, cond, None, Ordering, nat_le, refl, sym, ap, subst, subst₂, ◌∙◌, arith, IsSorted}
+use Rattle.std.proofs.Common.{get_or, All, unwrap_or, inl, inr}
 use Rattle.std.proofs.lemmas.List.{length-map, get_or-map}
 use Rattle.std.proofs.lemmas.List.Elements.{All-map}
 use Rattle.std.proofs.lemmas.Bool.{cases_Bool}

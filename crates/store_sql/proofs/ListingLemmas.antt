@@ -46,7 +46,8 @@ keep_shown table p q same (r ∷ rows) = elim (cases_Bool (q (shown table r))) [
   | inr left ↦ rw (same r, left) (keep_shown table p q same rows)
 ]
 
-module _ (text : List ℕ) (p : Parsed) (table : ℕ → Table) (condition : Option Expr) (tests' : List Term) (left : ℕ) (sorted : List Sort) (order : List (Term × Key)) (columns : List ℕ) (rest : ℕ) (last : Carried) (r : ReadsTable text p table condition tests' left sorted order columns rest last) where
+module _ (text : List ℕ) (p : Parsed) (table : ℕ → Table) (condition : Option Expr) (tests' : List Term) (left : ℕ) (sorted : List Sort) (order : List (Term × Key)) (columns : List ℕ) (rest : ℕ) (last : Carried)
+    (r : ReadsTable text p table condition tests' left sorted order columns rest last) where
   abbrev pub outs : ℕ → ℕ → List Output
   outs at tree = outputs_of at (table tree)
 
@@ -59,7 +60,8 @@ module _ (text : List ℕ) (p : Parsed) (table : ℕ → Table) (condition : Opt
 
     compiles : (understood schema text ≡ Ok (with_command p ([], (command_with (table tree).tree (outs at tree) tests' order, None)))) × (reads_listing schema text ≡ false)
     compiles =
-        understood_is schema at (table tree) has starred (outs at tree) (max_budget - 1) condition (starred_is schema at (table tree) has (r.no_rowid tree) (r.few at tree) (r.some at tree) condition) tests' left nothing (r.tests schema at tree has.is) sorted order rest last (r.sorts schema at tree) is_ordered (r.accepted schema at tree has.alone (lt-leb (2 ^ 31) (table tree).tree has.stored)) text p r.read is_select r.formats
+        understood_is schema at (table tree) has starred (outs at tree) (max_budget - 1) condition (starred_is schema at (table tree) has (r.no_rowid tree) (r.few at tree) (r.some at tree) condition) tests' left nothing
+        (r.tests schema at tree has.is) sorted order rest last (r.sorts schema at tree) is_ordered (r.accepted schema at tree has.alone (lt-leb (2 ^ 31) (table tree).tree has.stored)) text p r.read is_select r.formats
 
   pub query : IsQuery text p table outs tests' order
   query = record {
@@ -95,7 +97,8 @@ module _ (text : List ℕ) (p : Parsed) (table : ℕ → Table) (condition : Opt
     reads_nothing_else s = survives_weaker old new _ _ (λ clean db. commits_none text p (select_of (table 0).name condition sorted) r.read (r.statement 0) params old db) s
 
 -- a selection by no test is the whole
-pub lists_whole : (name : List ℕ) (columns : List ℕ) (old new : State) (result : Result (Vec Row Global) Error) → IfOk result (λ rows. IsSelection name (λ _. true) columns old.now rows.items × IsUnchanged old new) → IfOk result (λ rows. IsListing name columns old.now rows.items × IsUnchanged old new)
+pub lists_whole : (name : List ℕ) (columns : List ℕ) (old new : State) (result : Result (Vec Row Global) Error) → IfOk result (λ rows. IsSelection name (λ _. true) columns old.now rows.items × IsUnchanged old new)
+    → IfOk result (λ rows. IsListing name columns old.now rows.items × IsUnchanged old new)
 lists_whole name columns old new (Err e) h = tt
 lists_whole name columns old new (Ok rows) h = (record { same = subst (λ l. IsPermutation l rows.items) (all_pass (rows_of name old.now)) h.0.same; sorted = h.0.sorted }, h.1)
 

@@ -61,7 +61,8 @@ module _ (table : Table) (old new : Database) (made : IsMade table old new) wher
 
   -- no index was over it before
   unowned : IsDatabase old → AllByRecursion (λ index. (index.table == next_tree old.schema) ≡ false) old.schema.indexes
-  unowned sound = weaker (λ index. (row : Row) × IsIndexRow old.schema.tables row index) (λ (index : Index). (index.table == next_tree old.schema) ≡ false) each old.schema.indexes (zip_each (IsIndexRow old.schema.tables) _ old.schema.indexes sound.lists.listed.indexes)
+  unowned sound = weaker (λ index. (row : Row) × IsIndexRow old.schema.tables row index) (λ (index : Index). (index.table == next_tree old.schema) ≡ false) each old.schema.indexes
+      (zip_each (IsIndexRow old.schema.tables) _ old.schema.indexes sound.lists.listed.indexes)
     where
       each : (index : Index) → (row : Row) × IsIndexRow old.schema.tables row index → (index.table == next_tree old.schema) ≡ false
       each index h =
@@ -129,8 +130,11 @@ turn_others : (ts : List StoreTable) (old new : Database) → MadeInTurn ts old 
 turn_others [] old new h = subst (λ (d : Database). AllByRecursion (λ u. d.trees u.tree ≡ old.trees u.tree) old.schema.tables) (sym h) (same_all old old.schema.tables)
 turn_others (t ∷ ts) old new h = one_others (table_of t 0) old h.0 h.1 new (turn_others ts h.0 new h.2)
 
-leaves_all : (t : StoreTable) (old new : Database) → IsMade (table_of t 0) old new → (ts : List StoreTable) → AllByRecursion (λ o. t ≡ o → ⊥) ts → AllByRecursion (λ o. LeavesRoom old.schema (table_of o 0)) ts → AllByRecursion (λ o. LeavesRoom new.schema (table_of o 0)) ts
-leaves_all t old new made ts apart room = all_both (λ o. t ≡ o → ⊥) (λ o. LeavesRoom old.schema (table_of o 0)) (λ o. LeavesRoom new.schema (table_of o 0)) (λ o a b. one_leaves (table_of t) (store_defined t) old new made (table_of o 0) (store_apart t o a) b) ts apart room
+leaves_all : (t : StoreTable) (old new : Database) → IsMade (table_of t 0) old new → (ts : List StoreTable) → AllByRecursion (λ o. t ≡ o → ⊥) ts → AllByRecursion (λ o. LeavesRoom old.schema (table_of o 0)) ts
+    → AllByRecursion (λ o. LeavesRoom new.schema (table_of o 0)) ts
+leaves_all t old new made ts apart room =
+    all_both (λ o. t ≡ o → ⊥) (λ o. LeavesRoom old.schema (table_of o 0)) (λ o. LeavesRoom new.schema (table_of o 0)) (λ o a b. one_leaves (table_of t) (store_defined t) old new made (table_of o 0) (store_apart t o a) b) ts apart
+    room
 
 turn_own : (ts : List StoreTable) (old new : Database) → AreApart ts → MadeInTurn ts old new → IsDatabase old → AllByRecursion (λ t. LeavesRoom old.schema (table_of t 0)) ts → AllByRecursion (λ t. HasOwn new.schema (table_of t)) ts
 turn_own [] old new apart h sound room = tt
@@ -203,7 +207,8 @@ take_one i xs x at = take_more i xs x at
     take_more (suc i) [] x at = absurd (let e = at in cc)
     take_more (suc i) (y ∷ xs) x at = let next : suc i + 1 ≡ suc (i + 1) = omega arith in rw next (ap (λ l. y ∷ l) (take_more i xs x at))
 
-module _ (ts : List StoreTable) (i : ℕ) (t : StoreTable) (at : slice_get ts i ≡ Some t) (apart : AreApart ts) (old mid : State) (ready : IsTrue old.is_open → IsReady old.now) (keeps : KeepsCommit old mid) (done : MadeInTurn (take i ts) old.now mid.now) where
+module _ (ts : List StoreTable) (i : ℕ) (t : StoreTable) (at : slice_get ts i ≡ Some t) (apart : AreApart ts) (old mid : State) (ready : IsTrue old.is_open → IsReady old.now) (keeps : KeepsCommit old mid)
+    (done : MadeInTurn (take i ts) old.now mid.now) where
   pub next_free : IsTrue mid.is_open → IsFree mid.now.schema (table_of t 0).name
   next_free open' = turn_free (take i ts) t old.now mid.now (apart_before i ts t apart at) (ready (keeps.was_open open')) done
 

@@ -56,7 +56,8 @@ out_shown : (name : Name) → out-Shown (column_shown name) ≡ Shown-F.One (col
 unfolding everything column_shown
 out_shown name = refl
 
-module _ (schema : Schema) (at : ℕ) (table : Table) (has : HasTable schema at table) (no_rowid : column_named table (codes "rowid") ≡ None) (name : Name) (k : ℕ) (c : Column) (place : column_named table name ≡ Some k) (there : slice_get table.columns k ≡ Some c) where
+module _ (schema : Schema) (at : ℕ) (table : Table) (has : HasTable schema at table) (no_rowid : column_named table (codes "rowid") ≡ None) (name : Name) (k : ℕ) (c : Column) (place : column_named table name ≡ Some k)
+    (there : slice_get table.columns k ≡ Some c) where
   abbrev column_output : Output
   column_output = record { name = c.name; is_alias = false; is_column = true; term = col 1 (place_of table k); carried = declared table k c }
 
@@ -64,9 +65,20 @@ module _ (schema : Schema) (at : ℕ) (table : Table) (has : HasTable schema at 
   unfolding heading find_name in_level only hit column_in is_among declared_name
   heading_column = let is = has.is in rw (out_column name, is, place) (rw (is, there) refl)
 
-  beside_is : result lower (outermost schema) (level_of at table) (core_with (beside name) table.name None) (fresh 2 max_budget) ≡ Ok (rowid_output table ∷ column_output ∷ [], record (left_of (max_budget - 1 - 1)) { last = declared table k c })
+  beside_is : result lower (outermost schema) (level_of at table) (core_with (beside name) table.name None) (fresh 2 max_budget)
+      ≡ Ok (rowid_output table ∷ column_output ∷ [], record (left_of (max_budget - 1 - 1)) { last = declared table k c })
   unfolding result outputs shown' is_column
-  beside_is = rw (out_beside name table.name, out_one, lower_rowid schema at table has no_rowid [] true true (fresh 2 max_budget) refl refl, heading_is schema at table has no_rowid [] true true, out_rowid, out_shown name, lower_column schema at table has.is name k c place there [] true true 699 (left_of (max_budget - 1)) refl refl, heading_column, out_column name) refl
+  beside_is = rw (
+    out_beside name table.name,
+    out_one,
+    lower_rowid schema at table has no_rowid [] true true (fresh 2 max_budget) refl refl,
+    heading_is schema at table has no_rowid [] true true,
+    out_rowid,
+    out_shown name,
+    lower_column schema at table has.is name k c place there [] true true 699 (left_of (max_budget - 1)) refl refl,
+    heading_column,
+    out_column name,
+  ) refl
 
 -- ---- the text
 
@@ -115,7 +127,8 @@ nothing_carried : (tree : ℕ) → declared (edition tree) 0 number ≡ nothing
 unfolding everything
 nothing_carried tree = refl
 
-results : (schema : Schema) (at tree : ℕ) (has : HasTable schema at (edition tree)) → result lower (outermost schema) (level_of at (edition tree)) (core_with (beside (codes "number")) (edition tree).name None) (fresh 2 max_budget) ≡ Ok (numbers_of at tree, left_of 99998)
+results : (schema : Schema) (at tree : ℕ) (has : HasTable schema at (edition tree)) → result lower (outermost schema) (level_of at (edition tree)) (core_with (beside (codes "number")) (edition tree).name None) (fresh 2 max_budget)
+    ≡ Ok (numbers_of at tree, left_of 99998)
 results schema at tree has =
     subst₂ (λ (k : ℕ) (c : Carried). result lower (outermost schema) (level_of at (edition tree)) (core_with (beside (codes "number")) (edition tree).name None) (fresh 2 max_budget)
     ≡ Ok (rowid_output (edition tree) ∷ record { name = codes "number"; is_alias = false; is_column = true; term = col 1 k; carried = c } ∷ [], record (left_of 99998) { last = c })) (first_place tree) (nothing_carried tree)
@@ -125,7 +138,8 @@ sorted_by : (schema : Schema) (at tree : ℕ) → sorts lower (context_of schema
 unfolding everything sort_by
 sorted_by schema at tree = refl
 
-takes_any : (schema : Schema) (at tree : ℕ) → find (λ t. t.tree == (edition tree).tree) schema.tables ≡ Some (edition tree) → nat_le (2 ^ 31) (edition tree).tree ≡ false → accepts_program schema [] (query_with (edition tree).tree (numbers_of at tree) [] (key_at 0 ∷ [])) [] ≡ true
+takes_any : (schema : Schema) (at tree : ℕ) → find (λ t. t.tree == (edition tree).tree) schema.tables ≡ Some (edition tree) → nat_le (2 ^ 31) (edition tree).tree ≡ false
+    → accepts_program schema [] (query_with (edition tree).tree (numbers_of at tree) [] (key_at 0 ∷ [])) [] ≡ true
 unfolding everything
 takes_any schema at tree alone low = rw (low, alone) refl
 
@@ -133,9 +147,11 @@ no_tests : (schema : Schema) (at tree : ℕ) → tests lower (context_of schema 
 unfolding everything
 no_tests schema at tree = refl
 
-compiles : (schema : Schema) (at tree : ℕ) (has : HasTable schema at (edition tree)) → (understood schema select_numbers ≡ Ok (with_command read_numbers ([], (command_with (edition tree).tree (numbers_of at tree) [] (key_at 0 ∷ []), None)))) × (reads_listing schema select_numbers ≡ false)
+compiles : (schema : Schema) (at tree : ℕ) (has : HasTable schema at (edition tree))
+    → (understood schema select_numbers ≡ Ok (with_command read_numbers ([], (command_with (edition tree).tree (numbers_of at tree) [] (key_at 0 ∷ []), None)))) × (reads_listing schema select_numbers ≡ false)
 compiles schema at tree has =
-    understood_is schema at (edition tree) has (beside (codes "number")) (numbers_of at tree) 99998 None (results schema at tree has) [] 99998 nothing (no_tests schema at tree) by_number (key_at 0 ∷ []) 99996 nothing (sorted_by schema at tree) (is_ordered tree) (takes_any schema at tree has.alone (lt-leb (2 ^ 31) (edition tree).tree has.stored)) select_numbers read_numbers is_read (is_select tree) formats_none
+    understood_is schema at (edition tree) has (beside (codes "number")) (numbers_of at tree) 99998 None (results schema at tree has) [] 99998 nothing (no_tests schema at tree) by_number (key_at 0 ∷ []) 99996 nothing
+    (sorted_by schema at tree) (is_ordered tree) (takes_any schema at tree has.alone (lt-leb (2 ^ 31) (edition tree).tree has.stored)) select_numbers read_numbers is_read (is_select tree) formats_none
 
 pub query_numbers : IsQuery select_numbers read_numbers edition numbers_of [] (key_at 0 ∷ [])
 query_numbers = record {

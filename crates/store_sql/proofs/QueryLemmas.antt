@@ -60,7 +60,8 @@ pub record ShowsRow (table : ℕ → Table) (outs : ℕ → ℕ → List Output)
 pub record TakesValues (text : List ℕ) (p : Parsed) (table : ℕ → Table) (outs : ℕ → ℕ → List Output) (tests' : List Term) (order : List (Term × Key)) (values : Row) : Type 0 where
   pub whole : length text ≤ p.tail
   pub names : length values ≡ length p.names
-  pub typed : (schema : Schema) (at tree : ℕ) → find (λ t. t.tree == (table tree).tree) schema.tables ≡ Some (table tree) → nat_le (2 ^ 31) (table tree).tree ≡ false → accepts_program schema [] (query_with (table tree).tree (outs at tree) tests' order) values ≡ true
+  pub typed : (schema : Schema) (at tree : ℕ) → find (λ t. t.tree == (table tree).tree) schema.tables ≡ Some (table tree) → nat_le (2 ^ 31) (table tree).tree ≡ false
+      → accepts_program schema [] (query_with (table tree).tree (outs at tree) tests' order) values ≡ true
 
 pub read_rows : (schema : Schema) (at : ℕ) (table : Table) → HasTable schema at table → (trees : Trees) → rows_of table.name (record { schema = schema; trees = trees }) ≡ map (shown table) (trees table.tree)
 read_rows schema at table has trees = let named = has.named in let is = has.is in rw (named, is) refl
@@ -126,7 +127,8 @@ module _ (text : List ℕ) (p : Parsed) (table : ℕ → Table) (outs : ℕ → 
       is_one e (inl h) = absurd (let both : Err h.0 ≡ Ok this = sym h.1 ∙ means old.now.schema has in cc)
       is_one e (inr h) = fits h.0 (is_it old.now.schema has h.0 h.1) h.2
         where
-          fits : (c : Compiled) → c ≡ this → ¬ (((¬ (length text ≤ c.tail)) × (e ≡ MultipleStatement)) ⊎ (((length values ≢ length c.names) × (e ≡ InvalidParameterCount (length values) (length c.names))) ⊎ ((c.formats ≢ []) × (e ≡ SqliteFailure NoClock))))
+          fits : (c : Compiled) → c ≡ this → ¬ (((¬ (length text ≤ c.tail)) × (e ≡ MultipleStatement))
+              ⊎ (((length values ≢ length c.names) × (e ≡ InvalidParameterCount (length values) (length c.names))) ⊎ ((c.formats ≢ []) × (e ≡ SqliteFailure NoClock))))
           fits c is (inl long) = long.0 (rw is w.whole)
           fits c is (inr (inl many)) = many.0 (rw is w.names)
           fits c is (inr (inr late)) = late.0 (rw is refl)

@@ -33,7 +33,8 @@ use Rattle.store_sql.proofs.ListingLemmas.{query}
 pub record Takes {X : Type 0} (text : List ℕ) (p : Parsed) (table : ℕ → Table) (tests : List Term) (order : List (Term × Key)) (given : X → Row) : Type 0 where
   pub whole : length text ≤ p.tail
   pub names : (x : X) → length (given x) ≡ length p.names
-  pub typed : (schema : Schema) (at tree : ℕ) → find (λ t. t.tree == (table tree).tree) schema.tables ≡ Some (table tree) → nat_le (2 ^ 31) (table tree).tree ≡ false → (x : X) → accepts_program schema [] (query_over at (table tree) tests order) (given x) ≡ true
+  pub typed : (schema : Schema) (at tree : ℕ) → find (λ t. t.tree == (table tree).tree) schema.tables ≡ Some (table tree) → nat_le (2 ^ 31) (table tree).tree ≡ false → (x : X)
+      → accepts_program schema [] (query_over at (table tree) tests order) (given x) ≡ true
 
 abbrev pub nothing : Unit {0} → Row
 nothing _ = []
@@ -80,7 +81,8 @@ pub takes_one_kept : Takes select_one_kept read_one_kept kept test_one_kept (key
 unfolding everything read_one_kept
 takes_one_kept = record { whole = lit≤ tt; names = λ x. refl; typed = λ schema at tree alone low x. rw (low, alone) refl }
 
-module _ (text : List ℕ) (p : Parsed) (table : ℕ → Table) (condition : Option Expr) (tests' : List Term) (left : ℕ) (sorted : List Sort) (order : List (Term × Key)) (columns : List ℕ) (rest : ℕ) (last : Carried) (r : ReadsTable text p table condition tests' left sorted order columns rest last) where
+module _ (text : List ℕ) (p : Parsed) (table : ℕ → Table) (condition : Option Expr) (tests' : List Term) (left : ℕ) (sorted : List Sort) (order : List (Term × Key)) (columns : List ℕ) (rest : ℕ) (last : Carried)
+    (r : ReadsTable text p table condition tests' left sorted order columns rest last) where
   abbrev outs : ℕ → ℕ → List Output
   outs at tree = outputs_of at (table tree)
 

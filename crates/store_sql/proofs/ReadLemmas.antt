@@ -178,7 +178,8 @@ abbrev pub outputs_of : ℕ → Table → List Output
 outputs_of at table = columns_from None table (bound_in at table) 0 (rowid_output table ∷ []) table.columns
 
 abbrev pub draft_with : ℕ → List Output → List Term → List (Term × Key) → Draft
-draft_with tree outs filter order = record { from = inner tree end; filter = filter; group = None; project = map (λ (o : Output). o.term) outs; distinct = false; collations = []; order = order; limit = lit (Int (negsuc 0)); offset = lit (Int (pos 0)) }
+draft_with tree outs filter order =
+    record { from = inner tree end; filter = filter; group = None; project = map (λ (o : Output). o.term) outs; distinct = false; collations = []; order = order; limit = lit (Int (negsuc 0)); offset = lit (Int (pos 0)) }
 
 abbrev pub query_with : ℕ → List Output → List Term → List (Term × Key) → Query
 query_with tree outs filter order = query_of (draft_with tree outs filter order)
@@ -213,7 +214,8 @@ module _ (schema : Schema) (at : ℕ) (table : Table) (has : HasTable schema at 
   heading_is = let is = has.is in let stored = lt-ltb table.tree (2 ^ 31) has.stored in rw (out_rowid, is, no_rowid, stored) (rw is refl)
 
 -- `rowid, *`
-module _ (schema : Schema) (at : ℕ) (table : Table) (has : HasTable schema at table) (no_rowid : column_named table (codes "rowid") ≡ None) (few : nat_lt 2000 (length (outputs_of at table)) ≡ false) (some : nat_lt 1 (length (outputs_of at table)) ≡ true) where
+module _ (schema : Schema) (at : ℕ) (table : Table) (has : HasTable schema at table) (no_rowid : column_named table (codes "rowid") ≡ None) (few : nat_lt 2000 (length (outputs_of at table)) ≡ false)
+    (some : nat_lt 1 (length (outputs_of at table)) ≡ true) where
   stars_are : stars schema None (rowid_output table ∷ []) (bound_in at table ∷ []) ≡ Ok (outputs_of at table)
   unfolding stars columns_of
   stars_are = let is = has.is in rw (is, few, some) refl
@@ -264,7 +266,8 @@ module _ (schema : Schema) (at : ℕ) (table : Table) (has : HasTable schema at 
     unfolding body
     body_is = rw (out_from shows table.name test, bounds_are, result_is, matching_is) refl
 
-    module _ (sorted : List Sort) (order : List (Term × Key)) (rest : ℕ) (last : Carried) (sorts_are : sorts lower (cx false true) outs sorted then ≡ Ok (order, plainly rest last)) (orders : (out-Select (select_with shows table.name test sorted)).order ≡ sorted) where
+    module _ (sorted : List Sort) (order : List (Term × Key)) (rest : ℕ) (last : Carried) (sorts_are : sorts lower (cx false true) outs sorted then ≡ Ok (order, plainly rest last))
+        (orders : (out-Select (select_with shows table.name test sorted)).order ≡ sorted) where
       having_is : (may_aggregate : Bool) (s : State) → having (cx may_aggregate true) None s ≡ Ok ([], s)
       unfolding having tests
       having_is true s = refl
@@ -274,7 +277,17 @@ module _ (schema : Schema) (at : ℕ) (table : Table) (has : HasTable schema at 
       unfolding keys
       no_keys s = refl
 
-      parts_are : parts schema core sorted (fresh 1 max_budget) ≡ Ok (record { body = record { level = record { tables = bound ∷ []; shown = outs }; steps = Inner table.tree ∷ []; filter = filter }; is_grouped = false; keys = []; collations = []; having = []; order = order }, plainly rest last)
+      parts_are : parts schema core sorted (fresh 1 max_budget) ≡ Ok (
+        record {
+          body = record { level = record { tables = bound ∷ []; shown = outs }; steps = Inner table.tree ∷ []; filter = filter };
+          is_grouped = false;
+          keys = [];
+          collations = [];
+          having = [];
+          order = order;
+        },
+        plainly rest last,
+      )
       unfolding parts
       parts_are = rw (body_is, out_group shows table.name test, no_keys then, out_having shows table.name test, having_is false then, sorts_are) refl
 

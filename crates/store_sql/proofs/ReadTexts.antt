@@ -50,12 +50,14 @@ pub record ReadsTable (text : List ℕ) (p : Parsed) (table : ℕ → Table) (co
   pub no_rowid : (tree : ℕ) → column_named (table tree) (codes "rowid") ≡ None
   pub few : (at tree : ℕ) → nat_lt 2000 (length (outputs_of at (table tree))) ≡ false
   pub some : (at tree : ℕ) → nat_lt 1 (length (outputs_of at (table tree))) ≡ true
-  pub tests : (schema : Schema) (at tree : ℕ) → slice_get schema.tables at ≡ Some (table tree) → tests lower (context_of schema at (table tree) (outputs_of at (table tree)) false true) [] condition (record (fresh 2 max_budget) { budget = max_budget - 1 }) ≡ Ok (filter, plainly left nothing)
+  pub tests : (schema : Schema) (at tree : ℕ) → slice_get schema.tables at ≡ Some (table tree)
+      → tests lower (context_of schema at (table tree) (outputs_of at (table tree)) false true) [] condition (record (fresh 2 max_budget) { budget = max_budget - 1 }) ≡ Ok (filter, plainly left nothing)
   pub sorts : (schema : Schema) (at tree : ℕ) → sorts lower (context_of schema at (table tree) (outputs_of at (table tree)) false true) (outputs_of at (table tree)) sorted (plainly left nothing) ≡ Ok (order, plainly rest last)
   pub shows : (at tree : ℕ) (params r : Row) → eval_all (query_over at (table tree) filter order).project (params ∷ r ∷ []) ≡ shown (table tree) r
   pub keyed : (tree : ℕ) (params r : Row) → eval_all (map (λ (k : Term × Key). k.0) order) (params ∷ r ∷ []) ≡ map (column (shown (table tree) r)) columns
   pub compares : (a b : Row) → key_cmp 0 (map (λ (k : Term × Key). k.1) order) (map (column a) columns) (map (column b) columns) ≡ by_columns columns a b
-  pub accepted : (schema : Schema) (at tree : ℕ) → find (λ t. t.tree == (table tree).tree) schema.tables ≡ Some (table tree) → nat_le (2 ^ 31) (table tree).tree ≡ false → accepts_program schema [] (query_over at (table tree) filter order) [] ≡ true
+  pub accepted : (schema : Schema) (at tree : ℕ) → find (λ t. t.tree == (table tree).tree) schema.tables ≡ Some (table tree) → nat_le (2 ^ 31) (table tree).tree ≡ false
+      → accepts_program schema [] (query_over at (table tree) filter order) [] ≡ true
 
 unfoldable pub read_mark : Parsed
 unfolding everything

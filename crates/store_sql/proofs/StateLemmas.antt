@@ -17,7 +17,8 @@ use Rattle.sqlite.specs.Steps.{FailsToCommit}
 use Rattle.store_sql.specs.Reads.{FailsToRead}
 use Rattle.store_sql.proofs.FaultLemmas.{fails_for}
 
-pub inside : {A : Type 0} (text : List ℕ) (params : Row) (old new : State) (result : Result ℕ Error) → (IsTrue old.is_open → (count : ℕ) → Executes text params old new (Ok count) → A) → (old.in_transaction ≡ false → result ≡ Err (SqliteFailure code.TransactionState))
+pub inside : {A : Type 0} (text : List ℕ) (params : Row) (old new : State) (result : Result ℕ Error) → (IsTrue old.is_open → (count : ℕ) → Executes text params old new (Ok count) → A)
+    → (old.in_transaction ≡ false → result ≡ Err (SqliteFailure code.TransactionState))
     → (IsTrue old.in_transaction → ExecutesInside 0 text params old new result) → OnOk result (A × GoesOn old new)
 inside text params old new (Err e) does ended runs = tt
 inside text params old new (Ok count) does ended runs = elim (cases_Bool old.in_transaction) [

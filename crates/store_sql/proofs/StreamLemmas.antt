@@ -42,7 +42,9 @@ use Rattle.store_sql.proofs.NumberTexts.{read_numbers, numbers_of, query_numbers
 use Rattle.store_sql.proofs.QueryLemmas.{IsQuery, TakesValues, is_plain, ends_in, query_fails}
 use Rattle.store_sql.proofs.ReadTexts.{ReadsTable, key_at, read_edition, reads_edition, read_entry, reads_entry, read_some_entries, reads_some_entries, read_kept, reads_kept}
 use Rattle.store_sql.proofs.ReadFaults.{Takes, nothing, a_number, takes_values, takes_edition, takes_entry, takes_some_entries, takes_kept}
-use Rattle.store_sql.proofs.RowidTexts.{read_kept_by_id, reads_kept_by_id, takes_kept_by_id, read_mark_by_rowid, reads_mark_by_rowid, takes_mark_by_rowid, read_item_by_rowid, reads_item_by_rowid, takes_item_by_rowid, read_member_by_rowid, reads_member_by_rowid, takes_member_by_rowid, read_edition_by_rowid, reads_edition_by_rowid, takes_edition_by_rowid, read_entry_by_rowid, reads_entry_by_rowid, takes_entry_by_rowid, read_kept_by_rowid, reads_kept_by_rowid, takes_kept_by_rowid}
+use Rattle.store_sql.proofs.RowidTexts.{read_kept_by_id, reads_kept_by_id, takes_kept_by_id, read_mark_by_rowid, reads_mark_by_rowid, takes_mark_by_rowid, read_item_by_rowid, reads_item_by_rowid, takes_item_by_rowid}
+use Rattle.store_sql.proofs.RowidTexts.{read_member_by_rowid, reads_member_by_rowid, takes_member_by_rowid, read_edition_by_rowid, reads_edition_by_rowid, takes_edition_by_rowid, read_entry_by_rowid}
+use Rattle.store_sql.proofs.RowidTexts.{reads_entry_by_rowid, takes_entry_by_rowid, read_kept_by_rowid, reads_kept_by_rowid, takes_kept_by_rowid}
 use Rattle.store_sql.proofs.ListingLemmas.{all_pass, outs, query, shown_selects, entry_read}
 
 -- the text of the scan, and what it answers
@@ -55,7 +57,8 @@ pub record ReadsScan (what : Scan) : Type 1 where
   pub takes : TakesValues (scan_text what) parsed (scan_table what) outs tests order (scan_values what)
   pub shows : (old new : State) (rows : List Row) → Has (scan_table what) old.now → Shown (scan_text what) (scan_values what) old new rows → IsWhole what old.now rows
 
-module _ (what : Scan) (p : Parsed) (condition : Option Expr) (tests' : List Term) (left : ℕ) (sorted : List Sort) (order : List (Term × Key)) (columns : List ℕ) (rest : ℕ) (last : Carried) (r : ReadsTable (scan_text what) p (scan_table what) condition tests' left sorted order columns rest last) where
+module _ (what : Scan) (p : Parsed) (condition : Option Expr) (tests' : List Term) (left : ℕ) (sorted : List Sort) (order : List (Term × Key)) (columns : List ℕ) (rest : ℕ) (last : Carried)
+    (r : ReadsTable (scan_text what) p (scan_table what) condition tests' left sorted order columns rest last) where
   -- rows of a table with all columns
   rows_scan : {X : Type 0} (given : X → Row) (x : X) → given x ≡ scan_values what → Takes (scan_text what) p (scan_table what) tests' order given
       → ((old new : State) (rows : List Row) → Has (scan_table what) old.now → Shown (scan_text what) (scan_values what) old new rows → IsWhole what old.now rows) → ReadsScan what
@@ -70,7 +73,8 @@ module _ (what : Scan) (p : Parsed) (condition : Option Expr) (tests' : List Ter
   }
 
   -- all rows of a table, in order
-  module _ (named : (tree : ℕ) → (scan_table what tree).name ≡ (scan_table what 0).name) (none : [] ≡ scan_values what) (tested : (tree : ℕ) (row : Row) → passes (scan_values what) tests' row ≡ true) (whole : (db : Database) (rows : List Row) → IsListing (scan_table what 0).name columns db rows → IsWhole what db rows) where
+  module _ (named : (tree : ℕ) → (scan_table what tree).name ≡ (scan_table what 0).name) (none : [] ≡ scan_values what) (tested : (tree : ℕ) (row : Row) → passes (scan_values what) tests' row ≡ true)
+      (whole : (db : Database) (rows : List Row) → IsListing (scan_table what 0).name columns db rows → IsWhole what db rows) where
     shows_listing : (old new : State) (rows : List Row) → Has (scan_table what) old.now → Shown (scan_text what) (scan_values what) old new rows → IsWhole what old.now rows
     shows_listing old new rows has h =
         let it = (shown_selects (scan_text what) p (scan_table what) condition tests' left sorted order columns rest last r named (scan_values what) (λ _. true) tested old new rows has h).0 in
@@ -133,7 +137,8 @@ module _ {S : Type 0} (g : Ghosts S) (what : Scan) where
   front : (old new : Held S) (given : List Row) → IsUnchanged (state g old) (state g new) → Has (scan_table what) (state g new).now → kit.HasGiven g (scan_text what) (scan_values what) new given → IsFront what (state g new).now given
   front old new given same has runs =
       let s = state g new in
-      let all = begins_shown (scan_text what) (scan_values what) s s given (given_begin g (scan_text what) (scan_values what) new given runs) (still (state g old) s same) (λ c db it source. ends what s.now has c it.is db (timed (scan_values what) c.formats it.now)) in
+      let all = begins_shown (scan_text what) (scan_values what) s s given (given_begin g (scan_text what) (scan_values what) new given runs) (still (state g old) s same)
+      (λ c db it source. ends what s.now has c it.is db (timed (scan_values what) c.formats it.now)) in
       (all.0, shows what s s (given ++ all.0) has all.1)
 
   pub begun : (old new : Held S) → Has (scan_table what) (state g old).now → kit.HasBegun g (scan_text what) (scan_values what) old new → HasGiven g what new [] × IsUnchanged (state g old) (state g new)
@@ -157,7 +162,8 @@ module _ {S : Type 0} (g : Ghosts S) (what : Scan) where
   fails_to_decode columns old new given row (Store e) passed refused = inr (refused, row, passed)
 
 -- the next row is no record, or memory was refused for it
-pub stops_at : {S : Type 0} (g : Ghosts S) (columns : List Content) (old new : Held S) (row : Row) (e : ReadError) → IsUnchanged (state g old) (state g new) → kit.Advances g old new (Some row) → FailsToDecode columns row e → FailsToMove g columns old new e
+pub stops_at : {S : Type 0} (g : Ghosts S) (columns : List Content) (old new : Held S) (row : Row) (e : ReadError) → IsUnchanged (state g old) (state g new) → kit.Advances g old new (Some row) → FailsToDecode columns row e
+    → FailsToMove g columns old new e
 stops_at g columns old new row NoRecord same moved none = (row, same, moved, none)
 stops_at g columns old new row (Store e) same moved refused = inr (refused, row, same, moved)
 
@@ -169,11 +175,13 @@ module _ {S : Type 0} (g : Ghosts S) (what : Scan) (old : Held S) (has : WhileOp
   began_open new (inr h) = absurd (none_returned what old.schema h.0)
 
   pub begins : {X : Type 0} (result : Result X Error) (held : X → Held S) → IfOk result (λ x. Survives (state g old) (state g (held x)) (CommitsShowing (scan_text what) (scan_values what) (state g old)))
-      → IfOk result (λ x. HasCleanDisk (state g (held x)) → kit.HasBegun g (scan_text what) (scan_values what) old (held x)) → IfOk result (λ x. HasCleanDisk (state g (held x)) → HasGiven g what (held x) [] × IsUnchanged (state g old) (state g (held x)))
+      → IfOk result (λ x. HasCleanDisk (state g (held x)) → kit.HasBegun g (scan_text what) (scan_values what) old (held x))
+      → IfOk result (λ x. HasCleanDisk (state g (held x)) → HasGiven g what (held x) [] × IsUnchanged (state g old) (state g (held x)))
   begins (Err e) held s h = tt
   begins (Ok x) held s h = λ clean. begun g what old (held x) (has (omega (arith, s.clean, clean)) (began_open (held x) (h clean))) (h clean)
 
-  pub begins_alone : {X : Type 0} (result : Result X Error) (held : X → Held S) → IfOk result (λ x. Survives (state g old) (state g (held x)) (CommitsShowing (scan_text what) (scan_values what) (state g old))) → IfOk result (λ x. Survives (state g old) (state g (held x)) (λ _. ⊥))
+  pub begins_alone : {X : Type 0} (result : Result X Error) (held : X → Held S) → IfOk result (λ x. Survives (state g old) (state g (held x)) (CommitsShowing (scan_text what) (scan_values what) (state g old)))
+      → IfOk result (λ x. Survives (state g old) (state g (held x)) (λ _. ⊥))
   begins_alone (Err e) held s = tt
   begins_alone (Ok x) held s = commits_nothing what (state g old) (state g (held x)) s
 
@@ -188,7 +196,8 @@ module _ {S : Type 0} (g : Ghosts S) (what : Scan) (old : Held S) (has : WhileOp
 pub no_record : (columns : List Content) (all rows : List Row) → IsPermutation all rows → HasNoRecord columns rows → HasNoRecord columns all
 no_record columns all rows same h = (h.0, Contains-permutation rows all h.0 (IsPermutation-sym all rows same) h.1, h.2)
 
-pub fails_to_read_into : {X : Type 0} (columns : List Content) (all rows : List Row) (old new : State) (result : Result X ReadError) → IsPermutation all rows → IsUnchanged old new → IfErr result (FailsToDecodeAll columns rows) → IfErr result (FailsToList columns all old new)
+pub fails_to_read_into : {X : Type 0} (columns : List Content) (all rows : List Row) (old new : State) (result : Result X ReadError) → IsPermutation all rows → IsUnchanged old new → IfErr result (FailsToDecodeAll columns rows)
+    → IfErr result (FailsToList columns all old new)
 fails_to_read_into columns all rows old new (Ok x) same h gap = tt
 fails_to_read_into columns all rows old new (Err NoRecord) same h gap = (h, no_record columns all rows same gap)
 fails_to_read_into columns all rows old new (Err (Store e)) same h gap = inr (h, gap)

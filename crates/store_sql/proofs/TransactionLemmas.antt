@@ -11,7 +11,8 @@ use Rattle.sqlite.specs.Order.{Row}
 use Rattle.sqlite.specs.Tree.{Trees}
 use Rattle.sqlite.specs.Effect.{Database}
 use Rattle.sqlite.specs.Does.{Tally, Does}
-use Rattle.sqlite.specs.State.{State, Executes, ExecutesIn, ExecutesInside, Fails, RunsCommand, Runs, RunsAlone, IsNotRun, IsStatement, IsUnchanged, IsRolledBack, CommitsBy, CommitsShowing, MayCommit, mode_of, IsNoStatement, IsMisplaced, shows_rows, text_of, Survives, Shows}
+use Rattle.sqlite.specs.State.{State, Executes, ExecutesIn, ExecutesInside, Fails, RunsCommand, Runs, RunsAlone, IsNotRun, IsStatement, IsUnchanged, IsRolledBack, CommitsBy, CommitsShowing, MayCommit, mode_of}
+use Rattle.sqlite.specs.State.{IsNoStatement, IsMisplaced, shows_rows, text_of, Survives, Shows}
 use Rattle.sqlite.specs.Steps.{FailsToCommit}
 use Rattle.sqlite.specs.Clock.{timed}
 use Rattle.sqlite.specs.Listing.{understood}
@@ -81,7 +82,8 @@ still_open old new mode is s = subst (λ (b : Bool). Shows old new new.now (if b
 unchanged_open : (old new : State) → IsTrue old.in_transaction → IsUnchanged old new → Shows old new new.now old.committed true
 unchanged_open old new inside same = record { was_open = same.0.was_open; is_open = same.0.is_open; now_is = refl; committed_is = same.0.committed_is; mode = same.0.mode ∙ inside }
 
-goes_on : (old new : State) → IsTrue old.in_transaction → (count : ℕ) (shown : Option Returning) (command : Command) → LeavesOpen command → (words : List ℕ) (given : Row) → Runs old new shown command words given count → Shows old new new.now old.committed true
+goes_on : (old new : State) → IsTrue old.in_transaction → (count : ℕ) (shown : Option Returning) (command : Command) → LeavesOpen command → (words : List ℕ) (given : Row) → Runs old new shown command words given count
+    → Shows old new new.now old.committed true
 goes_on old new inside count shown (Select q names) k words given w = absurd w
 goes_on old new inside count shown (Insert at from) k words given w = still_open old new old.in_transaction inside w.shown
 goes_on old new inside count shown (InsertOr at how from clauses) k words given w = still_open old new old.in_transaction inside w.shown
@@ -131,7 +133,8 @@ module _ (old new : State) (text : List ℕ) (params : Row) (silent : ShowsNoWri
 abbrev commit : Compiled
 commit = with_command read_commit ([], (Commit, None))
 
-ends_writes_none : (command : Command) → (command ≡ Commit) ⊎ (command ≡ Rollback) → (limit : Option ℕ) (mode : Mode) (params : Row) (db : Database) (text : List ℕ) (shown : Option Returning) (made : Tally × Database) → ¬ Does limit mode params db text shown command (Ok made)
+ends_writes_none : (command : Command) → (command ≡ Commit) ⊎ (command ≡ Rollback) → (limit : Option ℕ) (mode : Mode) (params : Row) (db : Database) (text : List ℕ) (shown : Option Returning) (made : Tally × Database)
+    → ¬ Does limit mode params db text shown command (Ok made)
 ends_writes_none command ends limit mode params db text None made h = elim ends [ inl is ↦ absurd (let w = rw is at h in cc) | inr is ↦ absurd (let w = rw is at h in cc) ]
 ends_writes_none command ends limit mode params db text (Some what) made h = elim ends [ inl is ↦ absurd (let w = rw is at h in cc) | inr is ↦ absurd (let w = rw is at h in cc) ]
 
@@ -142,7 +145,8 @@ commit_commits : (old : State) (shown : Option Returning) (command : Command) �
 commit_commits old shown command is words given db (inl (h, same)) = same
 commit_commits old shown command is words given db (inr write) = absurd (ends_writes_none command (inl is) old.step_limit (mode_of old) given old.now words shown (write.1, write.2) write.3)
 
-commit_shows : (old new : State) (count : ℕ) (shown : Option Returning) (command : Command) → command ≡ Commit → (words : List ℕ) (given : Row) → Runs old new shown command words given count → IsTrue old.in_transaction × Shows old new old.now old.now false
+commit_shows : (old new : State) (count : ℕ) (shown : Option Returning) (command : Command) → command ≡ Commit → (words : List ℕ) (given : Row) → Runs old new shown command words given count → IsTrue old.in_transaction
+    × Shows old new old.now old.now false
 commit_shows old new count shown command is words given h = let ran = subst (λ (k : Command). Runs old new shown k words given count) is h in (ran.0, ran.1)
 
 -- a text that is understood as one command, with no parameter, over any schema

@@ -38,7 +38,8 @@ module _ {S : Type 0} (g : Ghosts S) where
     run_next xs i x at old mid new first done survives =
         subst (λ l. RunInTurn g l old new) (sym (ap (map f) (take_one i xs x at) ∙ map-append f (take i xs) (x ∷ []))) (run_then (map f (take i xs)) (f x ∷ []) old mid new first (run_one (f x) mid new done survives))
 
-    pub fails_next : (xs : List X) (i : ℕ) (x : X) → slice_get xs i ≡ Some x → (old mid new : Held S) (e : Error) → RunInTurn g (map f (take i xs)) old mid → FailsTo (f x) (state g mid) (state g new) e → Survives (state g mid) (state g new) (λ _. ⊥)
+    pub fails_next : (xs : List X) (i : ℕ) (x : X) → slice_get xs i ≡ Some x → (old mid new : Held S) (e : Error) → RunInTurn g (map f (take i xs)) old mid → FailsTo (f x) (state g mid) (state g new) e
+        → Survives (state g mid) (state g new) (λ _. ⊥)
         → FailsInTurn g (map f xs) old new e
     fails_next [] i x at old mid new e first failed survives = absurd (let same = at in cc)
     fails_next (y ∷ xs) zero x at old mid new e first failed survives =

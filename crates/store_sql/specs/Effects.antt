@@ -82,7 +82,8 @@ equals_text at t r = same_value (column r at) (Words t)
 abbrev pub CountsFaults : State → State → Error → Type 0
 CountsFaults old new e = is_disk_error e ≡ true → MoreFaults old.faults new.faults
 
--- A statement of a transaction failed: nothing was committed. It was refused and nothing has changed, or the store failed and the transaction is undone. Outside of a transaction nothing is run. (Of a connection that was shut before it isn't told how big the row is.)
+-- A statement of a transaction failed: nothing was committed. It was refused and nothing has changed, or the store failed and the transaction is undone. Outside of a transaction nothing is run. (Of a connection that was shut before it
+-- isn't told how big the row is.)
 pub record FailsIn (Refuses : Error → Type 0) (TooBig : Type 0) (old new : State) (e : Error) : Type 0 where
   pub keeps : KeepsCommit old new
   pub cause : IsTrue old.in_transaction → (Refuses e × IsUnchanged old new) ⊎ Fails old new (IsTrue old.is_open → TooBig) e

@@ -10,6 +10,7 @@ use Rattle.store_sql.proofs.Callers.{apart_none}
 pub apart_made : (table : Table) (old new : Database) → IsMade table old new → HasApartRowids (rows_of table.name new)
 apart_made table old new made = subst HasApartRowids (sym made.empty) apart_none
 
-pub after_commit : {X E : Type 0} (name : List ℕ) (result : Result X E) (old new : State) → OnOk result (IsTrue old.in_transaction × Shows old new old.now old.now false) → HasApartRowids (rows_of name old.now) → OnOk result (HasApartRowids (rows_of name new.now))
+pub after_commit : {X E : Type 0} (name : List ℕ) (result : Result X E) (old new : State) → OnOk result (IsTrue old.in_transaction × Shows old new old.now old.now false) → HasApartRowids (rows_of name old.now)
+    → OnOk result (HasApartRowids (rows_of name new.now))
 after_commit name (Err e) old new h apart = tt
 after_commit name (Ok x) old new h apart = subst (λ (d : Database). HasApartRowids (rows_of name d)) (sym h.1.now_is) apart

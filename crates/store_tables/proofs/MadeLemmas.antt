@@ -129,7 +129,8 @@ other_keys t m o other = over_tree t (λ index. is_further_key o index ≡ false
     each index over = let e : (index.table == o.tree) ≡ false = ap (λ n. n == o.tree) over ∙ other in rw e refl
 
 -- their names don't depend on their trees
-keys_named : (t u : Table) → t.name ≡ u.name → (P : List ℕ → Type 0) (at m k : ℕ) (keys : List (List ℕ)) → AllByRecursion P (map (λ (i : Index). i.name) (automatics t at m keys)) → AllByRecursion (λ (i : Index). P i.name) (automatics u at k keys)
+keys_named : (t u : Table) → t.name ≡ u.name → (P : List ℕ → Type 0) (at m k : ℕ) (keys : List (List ℕ)) → AllByRecursion P (map (λ (i : Index). i.name) (automatics t at m keys))
+    → AllByRecursion (λ (i : Index). P i.name) (automatics u at k keys)
 keys_named t u same P at m k [] h = tt
 keys_named t u same P at m k (key ∷ keys) h = (subst (λ name. P (codes "sqlite_autoindex_" ++ (name ++ (codes "_" ++ decimal (at + 1))))) same h.0, keys_named t u same P (at + 1) (m + 1) (k + 1) keys h.1)
 
@@ -157,7 +158,8 @@ module _ (schema : Schema) (table : ℕ → Table) (defined : IsDefinition table
 
   -- ---- it has the table that was made
 
-  module _ (unused : is_used schema (table 0).name ≡ false) (free : is_referred schema (table 0).name ≡ false) (low : next_tree schema < 2 ^ 31) (owned : AllByRecursion (λ index. (index.table == next_tree schema) ≡ false) schema.indexes) where
+  module _ (unused : is_used schema (table 0).name ≡ false) (free : is_referred schema (table 0).name ≡ false) (low : next_tree schema < 2 ^ 31)
+      (owned : AllByRecursion (λ index. (index.table == next_tree schema) ≡ false) schema.indexes) where
     named : table_named (with_made schema table) made.name ≡ Some (0 + length schema.tables)
     named =
         let none : table_named schema made.name ≡ None = rw (name_in table defined (next_tree schema)) (no_table schema (table 0).name unused) in
@@ -322,7 +324,8 @@ module _ (schema : Schema) (table : ℕ → Table) (defined : IsDefinition table
       subst (λ s. LeavesRoom s other) (made_is schema table defined) (record {
         unused = free_still other.name apart.0 room.unused;
         unreferred = unreferred_still other.name room.unreferred;
-        unindexed = joined (λ (i : Index). i.name) (λ name. is_apart (names_of (table 0)) name ≡ true) (λ (i : Index). is_used schema i.name ≡ false) (λ (i : Index). is_used (with_made schema table) i.name ≡ false) (λ i a f. free_still i.name a f)
+        unindexed = joined (λ (i : Index). i.name) (λ name. is_apart (names_of (table 0)) name ≡ true) (λ (i : Index). is_used schema i.name ≡ false) (λ (i : Index). is_used (with_made schema table) i.name ≡ false)
+            (λ i a f. free_still i.name a f)
             (automatics other 0 0 other.uniques) apart.1 room.unindexed;
       })
 
@@ -398,14 +401,20 @@ all_six a b c d e f none =
     (n1.0, n1.1, n2.1, n3.1, n4.1, n5.1)
 
 module _ (schema : Schema) (room : HasRoom schema) where
-  names : (is_used schema (codes "mark") ≡ false) × (is_used schema (codes "item") ≡ false) × (is_used schema (codes "member") ≡ false) × (is_used schema (codes "edition") ≡ false) × (is_used schema (codes "entry") ≡ false) × (is_used schema (codes "kept") ≡ false)
-  names = six (is_used schema (codes "mark")) (is_used schema (codes "item")) (is_used schema (codes "member")) (is_used schema (codes "edition")) (is_used schema (codes "entry")) (is_used schema (codes "kept")) (is_used schema (codes "word")) (is_used schema (codes "gram")) room.unused
+  names : (is_used schema (codes "mark") ≡ false) × (is_used schema (codes "item") ≡ false) × (is_used schema (codes "member") ≡ false) × (is_used schema (codes "edition") ≡ false) × (is_used schema (codes "entry") ≡ false)
+      × (is_used schema (codes "kept") ≡ false)
+  names = six (is_used schema (codes "mark")) (is_used schema (codes "item")) (is_used schema (codes "member")) (is_used schema (codes "edition")) (is_used schema (codes "entry")) (is_used schema (codes "kept"))
+      (is_used schema (codes "word")) (is_used schema (codes "gram")) room.unused
 
-  referred : (is_referred schema (codes "mark") ≡ false) × (is_referred schema (codes "item") ≡ false) × (is_referred schema (codes "member") ≡ false) × (is_referred schema (codes "edition") ≡ false) × (is_referred schema (codes "entry") ≡ false) × (is_referred schema (codes "kept") ≡ false)
-  referred = six (is_referred schema (codes "mark")) (is_referred schema (codes "item")) (is_referred schema (codes "member")) (is_referred schema (codes "edition")) (is_referred schema (codes "entry")) (is_referred schema (codes "kept")) (is_referred schema (codes "word")) (is_referred schema (codes "gram")) room.unreferred
+  referred : (is_referred schema (codes "mark") ≡ false) × (is_referred schema (codes "item") ≡ false) × (is_referred schema (codes "member") ≡ false) × (is_referred schema (codes "edition") ≡ false)
+      × (is_referred schema (codes "entry") ≡ false) × (is_referred schema (codes "kept") ≡ false)
+  referred = six (is_referred schema (codes "mark")) (is_referred schema (codes "item")) (is_referred schema (codes "member")) (is_referred schema (codes "edition")) (is_referred schema (codes "entry"))
+      (is_referred schema (codes "kept")) (is_referred schema (codes "word")) (is_referred schema (codes "gram")) room.unreferred
 
-  indexes : (is_used schema (codes "sqlite_autoindex_item_1") ≡ false) × (is_used schema (codes "sqlite_autoindex_member_1") ≡ false) × (is_used schema (codes "sqlite_autoindex_member_2") ≡ false) × (is_used schema (codes "sqlite_autoindex_entry_1") ≡ false) × (is_used schema (codes "sqlite_autoindex_kept_1") ≡ false) × (is_used schema (codes "sqlite_autoindex_kept_2") ≡ false)
-  indexes = all_six (is_used schema (codes "sqlite_autoindex_item_1")) (is_used schema (codes "sqlite_autoindex_member_1")) (is_used schema (codes "sqlite_autoindex_member_2")) (is_used schema (codes "sqlite_autoindex_entry_1")) (is_used schema (codes "sqlite_autoindex_kept_1")) (is_used schema (codes "sqlite_autoindex_kept_2")) room.unindexed
+  indexes : (is_used schema (codes "sqlite_autoindex_item_1") ≡ false) × (is_used schema (codes "sqlite_autoindex_member_1") ≡ false) × (is_used schema (codes "sqlite_autoindex_member_2") ≡ false)
+      × (is_used schema (codes "sqlite_autoindex_entry_1") ≡ false) × (is_used schema (codes "sqlite_autoindex_kept_1") ≡ false) × (is_used schema (codes "sqlite_autoindex_kept_2") ≡ false)
+  indexes = all_six (is_used schema (codes "sqlite_autoindex_item_1")) (is_used schema (codes "sqlite_autoindex_member_1")) (is_used schema (codes "sqlite_autoindex_member_2")) (is_used schema (codes "sqlite_autoindex_entry_1"))
+      (is_used schema (codes "sqlite_autoindex_kept_1")) (is_used schema (codes "sqlite_autoindex_kept_2")) room.unindexed
 
   pub room_for : (o : StoreTable) → LeavesRoom schema (table_of o 0)
   unfolding digits

@@ -33,6 +33,7 @@ module _ (schema : Schema) (at : ℕ) (table : Table) (has : HasTable schema at 
   -- a foreign key that doesn't lead into its tree doesn't name it
   pub not_parent : (ref : Reference) → is_in table.tree (find (λ t. same_name t.name ref.parent) schema.tables) ≡ false → same_name table.name ref.parent ≡ false
   not_parent ref out = elim (cases_Bool (same_name table.name ref.parent)) [
-    | inl hit ↦ absurd (let parent = sym (find_same (λ t. same_name t.name table.name) (λ t. same_name t.name ref.parent) (λ t. same_as table.name ref.parent t.name hit) schema.tables) ∙ found_is in let both : true ≡ false = sym (itself table.tree) ∙ rw parent at out in cc)
+    | inl hit ↦ absurd (let parent = sym (find_same (λ t. same_name t.name table.name) (λ t. same_name t.name ref.parent) (λ t. same_as table.name ref.parent t.name hit) schema.tables) ∙ found_is in let both : true ≡ false =
+        sym (itself table.tree) ∙ rw parent at out in cc)
     | inr miss ↦ miss
   ]

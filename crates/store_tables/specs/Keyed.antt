@@ -10,11 +10,15 @@ use Rattle.store_tables.specs.declared.keyed.KeyedTable.TheVariants.{Entry, Word
 -- ---- entry: the headwords of each edition, where their bodies stand, and the key of each, read in either direction
 
 abbrev pub entry_with_keys : ℕ → Table
-entry_with_keys tree = simple (codes "entry") tree (needed (codes "edition") Integer ∷ needed (codes "ord") Integer ∷ needed (codes "headword") Text ∷ needed (codes "start") Integer ∷ needed (codes "length") Integer ∷ needed (codes "key") Blob ∷ needed (codes "rkey") Blob ∷ needed (codes "shown") Text ∷ []) None (1 ∷ 2 ∷ []) ((1 ∷ 2 ∷ []) ∷ []) (plain ∷ [])
+entry_with_keys tree =
+    simple (codes "entry") tree (needed (codes "edition") Integer ∷ needed (codes "ord") Integer ∷ needed (codes "headword") Text ∷ needed (codes "start") Integer ∷ needed (codes "length") Integer ∷ needed (codes "key") Blob
+    ∷ needed (codes "rkey") Blob ∷ needed (codes "shown") Text ∷ []) None (1 ∷ 2 ∷ []) ((1 ∷ 2 ∷ []) ∷ []) (plain ∷ [])
 
 -- the same in schemas 2 and 3, which are only read and dropped
 abbrev pub old_entry : ℕ → Table
-old_entry tree = simple (codes "entry") tree (needed (codes "edition") Integer ∷ needed (codes "ord") Integer ∷ needed (codes "headword") Text ∷ needed (codes "start") Integer ∷ needed (codes "length") Integer ∷ needed (codes "key") Blob ∷ needed (codes "rkey") Blob ∷ []) None (1 ∷ 2 ∷ []) ((1 ∷ 2 ∷ []) ∷ []) (plain ∷ [])
+old_entry tree =
+    simple (codes "entry") tree (needed (codes "edition") Integer ∷ needed (codes "ord") Integer ∷ needed (codes "headword") Text ∷ needed (codes "start") Integer ∷ needed (codes "length") Integer ∷ needed (codes "key") Blob
+    ∷ needed (codes "rkey") Blob ∷ []) None (1 ∷ 2 ∷ []) ((1 ∷ 2 ∷ []) ∷ []) (plain ∷ [])
 
 -- ---- word: the words of each key
 

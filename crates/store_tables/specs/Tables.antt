@@ -46,7 +46,9 @@ mark tree = simple (codes "mark") tree (needed (codes "id") Integer ∷ needed (
 -- ---- item: the databases in order
 
 abbrev pub item : ℕ → Table
-item tree = simple (codes "item") tree (needed (codes "place") Integer ∷ needed (codes "name") Text ∷ needed (codes "kind") Integer ∷ optional (codes "title") Text ∷ optional (codes "current") Integer ∷ optional (codes "former") Integer ∷ []) (Some 0) (0 ∷ []) ((2 ∷ []) ∷ []) (plain ∷ [])
+item tree =
+    simple (codes "item") tree (needed (codes "place") Integer ∷ needed (codes "name") Text ∷ needed (codes "kind") Integer ∷ optional (codes "title") Text ∷ optional (codes "current") Integer ∷ optional (codes "former") Integer
+    ∷ []) (Some 0) (0 ∷ []) ((2 ∷ []) ∷ []) (plain ∷ [])
 
 -- ---- member: the members of the virtual databases
 
@@ -61,12 +63,16 @@ edition tree = simple (codes "edition") tree (needed (codes "number") Integer �
 -- ---- entry: the headwords of each edition, and where their bodies stand
 
 abbrev pub entry : ℕ → Table
-entry tree = simple (codes "entry") tree (needed (codes "edition") Integer ∷ needed (codes "ord") Integer ∷ needed (codes "headword") Text ∷ needed (codes "start") Integer ∷ needed (codes "length") Integer ∷ []) None (1 ∷ 2 ∷ []) ((1 ∷ 2 ∷ []) ∷ []) (plain ∷ [])
+entry tree =
+    simple (codes "entry") tree (needed (codes "edition") Integer ∷ needed (codes "ord") Integer ∷ needed (codes "headword") Text ∷ needed (codes "start") Integer ∷ needed (codes "length") Integer ∷ []) None (1 ∷ 2 ∷ [])
+    ((1 ∷ 2 ∷ []) ∷ []) (plain ∷ [])
 
 -- ---- kept: the kept replies
 
 abbrev pub kept : ℕ → Table
-kept tree = simple (codes "kept") tree (needed (codes "id") Text ∷ needed (codes "number") Integer ∷ needed (codes "verb") Text ∷ needed (codes "name") Text ∷ optional (codes "edition") Integer ∷ []) None (1 ∷ []) ((1 ∷ []) ∷ (2 ∷ []) ∷ []) (plain ∷ plain ∷ [])
+kept tree =
+    simple (codes "kept") tree (needed (codes "id") Text ∷ needed (codes "number") Integer ∷ needed (codes "verb") Text ∷ needed (codes "name") Text ∷ optional (codes "edition") Integer ∷ []) None (1 ∷ [])
+    ((1 ∷ []) ∷ (2 ∷ []) ∷ []) (plain ∷ plain ∷ [])
 
 -- ---- by name
 

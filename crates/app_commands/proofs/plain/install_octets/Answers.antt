@@ -14,12 +14,33 @@ unfolding catalogue_of
 returns-in-Ok-install g c = λ trusted shown.
     let edition = edition_of c.in-Ok.edition in
     let applied = c.in-Ok-install.ensures.value trusted empty_catalogue shown in
-    record { edition = edition; lawful = install_accepted c.args.name.now edition _ applied.0; said = (c.in-Ok.edition, subst (λ (octets : List ℕ). IsReadEdition octets c.args.text.items c.in-Ok.edition) c.deref.ensures.value (subst (λ (octets : List ℕ). IsReadEdition c.deref.result.now octets c.in-Ok.edition) c.deref-2.ensures.value c.in-Ok.ensures.edition), refl); shows = applied.1 }
+    record {
+      edition = edition;
+      lawful = install_accepted c.args.name.now edition _ applied.0;
+      said = (
+        c.in-Ok.edition,
+        subst (λ (octets : List ℕ). IsReadEdition octets c.args.text.items c.in-Ok.edition) c.deref.ensures.value
+            (subst (λ (octets : List ℕ). IsReadEdition c.deref.result.now octets c.in-Ok.edition) c.deref-2.ensures.value c.in-Ok.ensures.edition),
+        refl,
+      );
+      shows = applied.1;
+    }
 
 pub returns-in-Err-Refused : goal.returns-in-Err-Refused
 returns-in-Err-Refused g c = λ trusted shown.
     let edition = edition_of c.in-Ok.edition in
     let applied = subst (λ (fault : DeskFault). Applies (g.D.Lookup.shows c.install.new.desk) empty_catalogue (step empty_catalogue (codes "plain") (install c.args.name.now edition)) (Err fault))
     c.in-Err-Refused.field-0-is (c.in-Err-Refused.ensures.value trusted empty_catalogue shown) in
-    let told = install_refused c.args.name.now edition c.in-Err-Refused.refusal applied.0 in
-    (c.in-Err-Refused.refusal-is ∙ told.0, told.1, (edition, (c.in-Ok.edition, subst (λ (octets : List ℕ). IsReadEdition octets c.args.text.items c.in-Ok.edition) c.deref.ensures.value (subst (λ (octets : List ℕ). IsReadEdition c.deref.result.now octets c.in-Ok.edition) c.deref-2.ensures.value c.in-Ok.ensures.edition), refl)))
+    let told = install_refused c.args.name.now edition c.in-Err-Refused.refusal applied.0 in (
+      c.in-Err-Refused.refusal-is ∙ told.0,
+      told.1,
+      (
+        edition,
+        (
+          c.in-Ok.edition,
+          subst (λ (octets : List ℕ). IsReadEdition octets c.args.text.items c.in-Ok.edition) c.deref.ensures.value
+              (subst (λ (octets : List ℕ). IsReadEdition c.deref.result.now octets c.in-Ok.edition) c.deref-2.ensures.value c.in-Ok.ensures.edition),
+          refl,
+        ),
+      ),
+    )

@@ -42,5 +42,7 @@ loop-place-preserved g c =
 pub returns-clause-all : goal.returns-clause-all
 returns-clause-all g c = λ e.
     subst (λ (rows : List Row). g.T.RowSink.takes c.args.sink.now rows c.loop-place.sink)
-    (ap (λ n. rows_listed c.args.strategy c.args.query.now (take n c.args.entries.now)) (let ends : c.loop-place.place ≡ c.args.span.end = omega (arith, c.loop-place-test.false, c.loop-place.auto.place-end c.requires.within.ordered) in ends) ∙ listed_within c.args.strategy c.args.query.now c.args.entries.now c.args.span.first c.args.span.end c.requires.within)
+    (ap (λ n. rows_listed c.args.strategy c.args.query.now (take n c.args.entries.now))
+    (let ends : c.loop-place.place ≡ c.args.span.end = omega (arith, c.loop-place-test.false, c.loop-place.auto.place-end c.requires.within.ordered) in ends)
+    ∙ listed_within c.args.strategy c.args.query.now c.args.entries.now c.args.span.first c.args.span.end c.requires.within)
     c.loop-place.invariant

@@ -26,5 +26,6 @@ loop-entry-preserved c =
       lines = grind (arith, common_steps);
       keys = subst (AllByRecursion IsKeyedByHeadword) (sym items) (all_push IsKeyedByHeadword before kept c.loop-entry.invariant.keys c.in_ok-kept.ensures.key);
       links = subst AreLinked (sym items) (linked_more before kept c.loop-entry.invariant.links last);
-      places = subst (HasPlaces c.insert.new.self) (sym items) (places_more c.loop-entry.places c.insert.new.self shown before kept c.len.result (c.len.ensures ∙ c.loop-entry.owned.ok.0) c.in_ok-earlier.ensures.updates same c.loop-entry.invariant.places);
+      places = subst (HasPlaces c.insert.new.self) (sym items) (places_more c.loop-entry.places c.insert.new.self shown before kept c.len.result (c.len.ensures ∙ c.loop-entry.owned.ok.0) c.in_ok-earlier.ensures.updates same
+          c.loop-entry.invariant.places);
     }

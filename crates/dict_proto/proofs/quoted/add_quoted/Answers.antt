@@ -31,7 +31,8 @@ pub returns-in_err-add_all : goal.returns-in_err-add_all
 returns-in_err-add_all g c =
     let (done, split, joined) = c.loop-front.invariant in
     gathers_err _ _ _ c.args.gathered.now.octets.items _ (quoted c.args.text.now) c.from_residual-in_err-add_all.ensures.0
-    (broken _ _ _ c.args.gathered.now.octets.items _ c.args.text.now done _ _ (one_more c.args.text.now done c.loop-front.rest.now c.in-Some.front.now c.in-Some.back.now c.in-Some.octet split c.in-Some.ensures.octets) joined c.in_err-add_all.ensures)
+    (broken _ _ _ c.args.gathered.now.octets.items _ c.args.text.now done _ _ (one_more c.args.text.now done c.loop-front.rest.now c.in-Some.front.now c.in-Some.back.now c.in-Some.octet split c.in-Some.ensures.octets) joined
+    c.in_err-add_all.ensures)
 
 pub loop-front-preserved : goal.loop-front-preserved
 loop-front-preserved g c =

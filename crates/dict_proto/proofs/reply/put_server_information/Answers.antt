@@ -15,7 +15,8 @@ unfolding sent_line server_lines server_information_octets
 parts host count = ap (λ l. codes "114 server information" ++ (crlf ++ l)) (joined (codes "dictcat on ") host (codes "databases ") (decimal count) crlf (46 ∷ crlf))
 
 -- the same where the host's octets are told
-told : (shown host : List ℕ) (count : ℕ) → shown ≡ host → codes "114 server information" ++ (crlf ++ (codes "dictcat on " ++ (shown ++ (crlf ++ (codes "databases " ++ (decimal count ++ (crlf ++ (codes "." ++ crlf)))))))) ≡ server_information_octets host count
+told : (shown host : List ℕ) (count : ℕ) → shown ≡ host → codes "114 server information" ++ (crlf ++ (codes "dictcat on " ++ (shown ++ (crlf ++ (codes "databases " ++ (decimal count ++ (crlf ++ (codes "." ++ crlf))))))))
+    ≡ server_information_octets host count
 told shown host count e = rw e (parts host count)
 
 pub returns : goal.returns

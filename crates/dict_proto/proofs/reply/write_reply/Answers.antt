@@ -1,4 +1,6 @@
-use Rattle.dict_proto.specs.Replies.{definition_count_octets, match_count_octets, database_count_octets, strategy_count_octets, list_end_octets, info_heading_octets, info_text_octets, status_octets, done_octets, closing_octets, unavailable_octets, not_recognized_octets, invalid_database_octets, invalid_strategy_octets, no_match_octets, no_databases_octets, illegal_parameters_octets, not_implemented_octets}
+use Rattle.dict_proto.specs.Replies.{definition_count_octets, match_count_octets, database_count_octets, strategy_count_octets, list_end_octets, info_heading_octets, info_text_octets, status_octets, done_octets}
+use Rattle.dict_proto.specs.Replies.{closing_octets, unavailable_octets, not_recognized_octets, invalid_database_octets, invalid_strategy_octets, no_match_octets, no_databases_octets, illegal_parameters_octets}
+use Rattle.dict_proto.specs.Replies.{not_implemented_octets}
 use Rattle.dict_proto.proofs.reply.write_reply.Goals as goal
 
 pub returns-in-DefinitionCount : goal.returns-in-DefinitionCount

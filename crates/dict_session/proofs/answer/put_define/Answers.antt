@@ -21,7 +21,8 @@ returns-in-Ok-None-clause-value g c = λ trusted M shown.
 pub returns-clause-value : goal.returns-clause-value
 returns-clause-value g c = λ trusted M shown.
     let failed = g.L.Lookup.has_failed c.put_found.new.desk in
-    let held = some_asked M c.args.name.now c.in-Ok-Some.asked (g.met.L.Lookup.well_formed c.args.desk.now M shown) (subst (λ (o : Option Asked). HoldsAsked o (asked_in M.items c.args.name.now)) c.in-Ok-Some.field-0-is (c.in-Ok-Some.ensures.value M shown)) in
+    let held = some_asked M c.args.name.now c.in-Ok-Some.asked (g.met.L.Lookup.well_formed c.args.desk.now M shown)
+    (subst (λ (o : Option Asked). HoldsAsked o (asked_in M.items c.args.name.now)) c.in-Ok-Some.field-0-is (c.in-Ok-Some.ensures.value M shown)) in
     let asked = c.in-Ok-Some.asked in
     subst (λ (answer : List ℕ). PutsAnswer failed c.put_found.result (g.K.Sink.stream c.args.sink.now) (g.K.Sink.stream c.put_found.new.sink) answer (counted_rows Entries) true)
     (ap (λ (key : List ℕ). found_octets (for_definitions key) M.items (answering (for_definitions key) M.items asked.places.items asked.is_first)) c.in-Ok.ensures ∙ define_held M c.args.name.now c.args.word.now asked held)
@@ -38,5 +39,6 @@ returns-in_default-clause-looks g c = λ M shown. quiet (names_databases M c.arg
 
 pub returns-clause-looks : goal.returns-clause-looks
 returns-clause-looks g c = λ M shown.
-    let held = some_asked M c.args.name.now c.in-Ok-Some.asked (g.met.L.Lookup.well_formed c.args.desk.now M shown) (subst (λ (o : Option Asked). HoldsAsked o (asked_in M.items c.args.name.now)) c.in-Ok-Some.field-0-is (c.in-Ok-Some.ensures.value M shown)) in
+    let held = some_asked M c.args.name.now c.in-Ok-Some.asked (g.met.L.Lookup.well_formed c.args.desk.now M shown)
+    (subst (λ (o : Option Asked). HoldsAsked o (asked_in M.items c.args.name.now)) c.in-Ok-Some.field-0-is (c.in-Ok-Some.ensures.value M shown)) in
     loud (names_databases M c.args.name.now) c.put_found.result _ _ (names_asked M c.args.name.now ∙ ap (λ (o : Option AskedPlaces). is_some o) held.1)

@@ -23,14 +23,16 @@ returns-in-Ok-None-clause-value g c = λ trusted M shown.
 pub returns-in_default-clause-value : goal.returns-in_default-clause-value
 returns-in_default-clause-value g c = λ trusted M shown.
     let failed = g.L.Lookup.has_failed c.args.desk.now in
-    let held = some_asked M c.args.name.now c.in-Ok-Some.asked (g.met.L.Lookup.well_formed c.args.desk.now M shown) (subst (λ (o : Option Asked). HoldsAsked o (asked_in M.items c.args.name.now)) c.in-Ok-Some.field-0-is (c.in-Ok-Some.ensures.value M shown)) in
+    let held = some_asked M c.args.name.now c.in-Ok-Some.asked (g.met.L.Lookup.well_formed c.args.desk.now M shown)
+    (subst (λ (o : Option Asked). HoldsAsked o (asked_in M.items c.args.name.now)) c.in-Ok-Some.field-0-is (c.in-Ok-Some.ensures.value M shown)) in
     subst (λ (answer : List ℕ). PutsAnswer failed c.put_whole-in_default.result (g.K.Sink.stream c.args.sink.now) (g.K.Sink.stream c.put_whole-in_default.new.sink) answer (counted_rows Headwords) true)
     (sym (match_unnamed M c.args.name.now c.args.strategy.now c.args.word.now c.in-Ok-Some.asked held c.in_default.ensures)) (c.put_whole-in_default.ensures failed (counted_rows Headwords) true)
 
 pub returns-clause-value : goal.returns-clause-value
 returns-clause-value g c = λ trusted M shown.
     let failed = g.L.Lookup.has_failed c.put_found.new.desk in
-    let held = some_asked M c.args.name.now c.in-Ok-Some.asked (g.met.L.Lookup.well_formed c.args.desk.now M shown) (subst (λ (o : Option Asked). HoldsAsked o (asked_in M.items c.args.name.now)) c.in-Ok-Some.field-0-is (c.in-Ok-Some.ensures.value M shown)) in
+    let held = some_asked M c.args.name.now c.in-Ok-Some.asked (g.met.L.Lookup.well_formed c.args.desk.now M shown)
+    (subst (λ (o : Option Asked). HoldsAsked o (asked_in M.items c.args.name.now)) c.in-Ok-Some.field-0-is (c.in-Ok-Some.ensures.value M shown)) in
     let asked = c.in-Ok-Some.asked in
     let strategy = c.in-Some.strategy in
     subst (λ (answer : List ℕ). PutsAnswer failed c.put_found.result (g.K.Sink.stream c.args.sink.now) (g.K.Sink.stream c.put_found.new.sink) answer (counted_rows Headwords) true)
@@ -52,6 +54,7 @@ returns-in_default-key_of-clause-looks g c = λ M shown. quiet _ c.put_unavailab
 
 pub returns-clause-looks : goal.returns-clause-looks
 returns-clause-looks g c = λ M shown.
-    let held = some_asked M c.args.name.now c.in-Ok-Some.asked (g.met.L.Lookup.well_formed c.args.desk.now M shown) (subst (λ (o : Option Asked). HoldsAsked o (asked_in M.items c.args.name.now)) c.in-Ok-Some.field-0-is (c.in-Ok-Some.ensures.value M shown)) in
+    let held = some_asked M c.args.name.now c.in-Ok-Some.asked (g.met.L.Lookup.well_formed c.args.desk.now M shown)
+    (subst (λ (o : Option Asked). HoldsAsked o (asked_in M.items c.args.name.now)) c.in-Ok-Some.field-0-is (c.in-Ok-Some.ensures.value M shown)) in
     loud (names_databases M c.args.name.now && is_some (strategy_of c.args.strategy.now)) c.put_found.result _ _
     (ap (λ b. b && is_some (strategy_of c.args.strategy.now)) (names_asked M c.args.name.now ∙ ap (λ (o : Option AskedPlaces). is_some o) held.1) ∙ ap (λ (o : Option Strategy). is_some o) (sym c.in-Some.ensures))

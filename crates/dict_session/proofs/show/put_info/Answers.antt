@@ -21,7 +21,8 @@ returns-in-None-clause-value g c = λ trusted M shown.
     let items = map item_shown c.deref-items.result.now in
     let same = (ap (λ (items : List SummaryItem). map item_shown items) c.deref-items.ensures.value ∙ ap (λ h. h.items) (c.in-Ok.ensures.value M shown)) in
     let named : None ≡ find (is_named c.args.name.now) items = found_shown item_shown (is_named c.args.name.now) c.deref-items.result.now None c.in-None.ensures in
-    subst (λ (answer : List ℕ). PutsAnswer failed c.put_whole.result (g.K.Sink.stream c.args.sink.now) (g.K.Sink.stream c.put_whole.new.sink) answer one_row true) (info_unknown M c.args.name.now items same named) (c.put_whole.ensures failed one_row true)
+    subst (λ (answer : List ℕ). PutsAnswer failed c.put_whole.result (g.K.Sink.stream c.args.sink.now) (g.K.Sink.stream c.put_whole.new.sink) answer one_row true) (info_unknown M c.args.name.now items same named)
+    (c.put_whole.ensures failed one_row true)
 
 pub returns-in-Some-Virtual-clause-value : goal.returns-in-Some-Virtual-clause-value
 returns-in-Some-Virtual-clause-value g c = λ trusted M shown.
@@ -34,7 +35,8 @@ returns-in-Some-Virtual-clause-value g c = λ trusted M shown.
     ap (λ x. Some (item_shown x)) (sym c.in-Some-Virtual.field-0-is) ∙ found_shown item_shown (is_named c.args.name.now) c.deref-items.result.now (Some c.in-Some-Virtual.field-0.now) c.in-Some-Virtual.ensures in
     c.whole.ensures (g.K.Sink.stream c.args.sink.now) (g.K.Sink.stream c.put_members.new.sink) (info_answer M c.args.name.now) (g.L.Lookup.has_failed c.args.desk.now) one_row true
     (subst (Puts c.put_members.result (g.K.Sink.stream c.args.sink.now) (g.K.Sink.stream c.put_members.new.sink))
-    (ap (λ (texts : List (List ℕ)). info_heading_octets ++ (members_octets items texts ++ (list_end_octets ++ done_octets))) (ap texts_shown (c.deref.ensures.value ∙ ap (λ v. v.items) c.in-Some-Virtual.members-is)) ∙ info_virtual M c.args.name.now items same own title members named) c.put_members.ensures)
+    (ap (λ (texts : List (List ℕ)). info_heading_octets ++ (members_octets items texts ++ (list_end_octets ++ done_octets))) (ap texts_shown (c.deref.ensures.value ∙ ap (λ v. v.items) c.in-Some-Virtual.members-is))
+    ∙ info_virtual M c.args.name.now items same own title members named) c.put_members.ensures)
 
 pub returns-in-Some-Regular-clause-value : goal.returns-in-Some-Regular-clause-value
 returns-in-Some-Regular-clause-value g c = λ trusted M shown.

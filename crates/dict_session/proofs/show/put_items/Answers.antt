@@ -15,7 +15,8 @@ returns-in_err-put_item_lines g c =
     let lines = flat_map shown_line items in
     let n = length c.args.items.now in
     subst (Puts c.from_residual-in_err-put_item_lines.result (g.K.Sink.stream c.args.sink.now) (g.K.Sink.stream c.put_item_lines.new.sink)) (items_some items n (sym (length-map c.args.items.now item_shown)) c.if-count-eq0.false)
-    (puts_err _ _ _ _ c.from_residual-in_err-put_item_lines.ensures.0 (front_after _ _ _ (database_count_octets n) (lines ++ (list_end_octets ++ done_octets)) c.in_ok-write_reply.ensures (front_longer _ _ lines (list_end_octets ++ done_octets) c.in_err-put_item_lines.ensures)))
+    (puts_err _ _ _ _ c.from_residual-in_err-put_item_lines.ensures.0 (front_after _ _ _ (database_count_octets n) (lines ++ (list_end_octets ++ done_octets)) c.in_ok-write_reply.ensures
+    (front_longer _ _ lines (list_end_octets ++ done_octets) c.in_err-put_item_lines.ensures)))
 
 pub returns : goal.returns
 returns g c =

@@ -10,10 +10,15 @@ use Rattle.dict_session.proofs.show.put_member_lines.Goals as goal
 
 pub returns-in_err-put_named : goal.returns-in_err-put_named
 returns-in_err-put_named g c =
-    puts_err _ _ _ _ c.from_residual.ensures.0 (loop_front (λ (member : List ℕ). flat_map (line_if_named member) (map item_shown c.args.items.now)) string_bytes c.args.members.now c.loop-member.member-index c.member-item.result (omega arith) c.member-item.is
-    (g.K.Sink.stream c.args.sink.now) (g.K.Sink.stream c.loop-member.sink) (g.K.Sink.stream c.put_named.new.sink) c.loop-member.invariant (subst (λ (name : List ℕ). PutsFront (g.K.Sink.stream c.loop-member.sink) (g.K.Sink.stream c.put_named.new.sink) (flat_map (line_if_named name) (map item_shown c.args.items.now))) c.as_str.ensures.value c.in_err-put_named.ensures))
+    puts_err _ _ _ _ c.from_residual.ensures.0 (loop_front (λ (member : List ℕ). flat_map (line_if_named member) (map item_shown c.args.items.now)) string_bytes c.args.members.now c.loop-member.member-index c.member-item.result
+    (omega arith) c.member-item.is
+    (g.K.Sink.stream c.args.sink.now) (g.K.Sink.stream c.loop-member.sink) (g.K.Sink.stream c.put_named.new.sink) c.loop-member.invariant
+    (subst (λ (name : List ℕ). PutsFront (g.K.Sink.stream c.loop-member.sink) (g.K.Sink.stream c.put_named.new.sink) (flat_map (line_if_named name) (map item_shown c.args.items.now))) c.as_str.ensures.value
+    c.in_err-put_named.ensures))
 
 pub loop-member-preserved : goal.loop-member-preserved
 loop-member-preserved g c =
     loop_more (λ (member : List ℕ). flat_map (line_if_named member) (map item_shown c.args.items.now)) string_bytes c.args.members.now c.loop-member.member-index c.member-item.result (omega arith) c.member-item.is
-    (g.K.Sink.stream c.args.sink.now) (g.K.Sink.stream c.loop-member.sink) (g.K.Sink.stream c.put_named.new.sink) c.loop-member.invariant (subst (λ (name : List ℕ). PutsAll (g.K.Sink.stream c.loop-member.sink) (g.K.Sink.stream c.put_named.new.sink) (flat_map (line_if_named name) (map item_shown c.args.items.now))) c.as_str.ensures.value c.in_ok-put_named.ensures)
+    (g.K.Sink.stream c.args.sink.now) (g.K.Sink.stream c.loop-member.sink) (g.K.Sink.stream c.put_named.new.sink) c.loop-member.invariant
+    (subst (λ (name : List ℕ). PutsAll (g.K.Sink.stream c.loop-member.sink) (g.K.Sink.stream c.put_named.new.sink) (flat_map (line_if_named name) (map item_shown c.args.items.now))) c.as_str.ensures.value
+    c.in_ok-put_named.ensures)

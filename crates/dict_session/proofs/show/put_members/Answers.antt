@@ -8,7 +8,8 @@ use Rattle.dict_session.proofs.show.put_members.Goals as goal
 pub returns-in_err-put_member_lines : goal.returns-in_err-put_member_lines
 returns-in_err-put_member_lines g c =
     let lines = members_octets (map item_shown c.args.items.now) (texts_shown c.args.members.now) in
-    puts_err _ _ _ _ c.from_residual-in_err-put_member_lines.ensures.0 (front_after _ _ _ info_heading_octets (lines ++ (list_end_octets ++ done_octets)) c.in_ok-write_reply.ensures (front_longer _ _ lines (list_end_octets ++ done_octets) c.in_err-put_member_lines.ensures))
+    puts_err _ _ _ _ c.from_residual-in_err-put_member_lines.ensures.0 (front_after _ _ _ info_heading_octets (lines ++ (list_end_octets ++ done_octets)) c.in_ok-write_reply.ensures
+    (front_longer _ _ lines (list_end_octets ++ done_octets) c.in_err-put_member_lines.ensures))
 
 pub returns : goal.returns
 returns g c =

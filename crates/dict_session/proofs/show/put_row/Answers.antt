@@ -16,7 +16,8 @@ returns-in-Ok-All-clause-value g c = λ trusted M edition shown has.
     let failed = g.L.Lookup.has_failed c.info.new.self in
     let taken = (c.in-Ok-All.ensures.value trusted M edition shown has).all (ap Ok c.in-Ok-All.field-0-is) in
     subst (λ (answer : List ℕ). PutsAnswer failed c.put_whole.result (g.K.Sink.stream c.args.row.now.sink.now) (g.K.Sink.stream c.put_whole.new.sink) answer one_row true) (row_is edition)
-    (whole_after one_row failed c.put_whole.result (g.K.Sink.stream c.args.row.now.sink.now) (g.K.Sink.stream c.info.new.sink.sink.now) (g.K.Sink.stream c.put_whole.new.sink) (flat_map info_row (info_rows edition)) done_octets taken.0 (c.put_whole.ensures failed no_rows false))
+    (whole_after one_row failed c.put_whole.result (g.K.Sink.stream c.args.row.now.sink.now) (g.K.Sink.stream c.info.new.sink.sink.now) (g.K.Sink.stream c.put_whole.new.sink) (flat_map info_row (info_rows edition)) done_octets
+    taken.0 (c.put_whole.ensures failed no_rows false))
 
 pub returns-in-Ok-All-clause-same_reference : goal.returns-in-Ok-All-clause-same_reference
 returns-in-Ok-All-clause-same_reference g c = let (rows, handed) = c.in-Ok-All.ensures.handed in (handed.all (ap Ok c.in-Ok-All.field-0-is)).1
@@ -47,7 +48,8 @@ returns-else-row-clause-value g c = λ trusted M edition shown has.
     let answer = info_heading_octets ++ (info_text_octets edition.info ++ done_octets) in
     let (front, rest, parts, taken) = (c.in-Err.ensures.value trusted M edition shown has).failed in
     none_before failed c.put_unavailable.result (g.K.Sink.stream c.args.row.now.sink.now) (g.K.Sink.stream c.info.new.sink.sink.now) (g.K.Sink.stream c.put_unavailable.new.sink) answer one_row true
-    (none_begun (g.K.Sink.stream c.args.row.now.sink.now) (g.K.Sink.stream c.info.new.sink.sink.now) front (sym c.if-row.false ∙ (taken.2 ∙ ap (λ b. b || has_some front) c.requires)) taken.0) (c.put_unavailable.ensures answer failed one_row)
+    (none_begun (g.K.Sink.stream c.args.row.now.sink.now) (g.K.Sink.stream c.info.new.sink.sink.now) front (sym c.if-row.false ∙ (taken.2 ∙ ap (λ b. b || has_some front) c.requires)) taken.0)
+    (c.put_unavailable.ensures answer failed one_row)
 
 pub returns-else-row-clause-same_reference : goal.returns-else-row-clause-same_reference
 returns-else-row-clause-same_reference g c = let (rows, handed) = c.in-Err.ensures.handed in let (front, rest, parts, taken) = handed.failed in taken.1

@@ -13,4 +13,5 @@ returns-in-Ok g c = λ M shown failed.
 
 pub returns-in-Err : goal.returns-in-Err
 returns-in-Err g c = λ M shown failed.
-    subst (PutsAnswer failed c.put_unavailable.result (g.K.Sink.stream c.args.sink.now) (g.K.Sink.stream c.put_unavailable.new.sink) (server_answer M c.args.host.now) no_rows) (sym (not_open _ c.in-Err.ensures.open)) (c.put_unavailable.ensures (server_answer M c.args.host.now) failed no_rows)
+    subst (PutsAnswer failed c.put_unavailable.result (g.K.Sink.stream c.args.sink.now) (g.K.Sink.stream c.put_unavailable.new.sink) (server_answer M c.args.host.now) no_rows) (sym (not_open _ c.in-Err.ensures.open))
+    (c.put_unavailable.ensures (server_answer M c.args.host.now) failed no_rows)

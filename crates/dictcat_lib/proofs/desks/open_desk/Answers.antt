@@ -21,7 +21,17 @@ returns-in-Ok-clause-opened g c = record {
   opened = record {
     conn = c.in_ok-conn.conn;
     opened = c.in_ok-conn.ensures.opened;
-    adopted = record { fine = c.in-Ok.ensures.open.0; shows = c.in-Ok.ensures.rests; only = c.in-Ok.ensures.only; same = c.in-Ok.ensures.same; unwritten = c.in-Ok.ensures.unwritten; migrated = c.in-Ok.ensures.migrated; others = c.in-Ok.ensures.others; beside = c.in-Ok.ensures.beside };
+    adopted = record {
+      fine = c.in-Ok.ensures.open.0;
+      shows = c.in-Ok.ensures.rests;
+      only = c.in-Ok.ensures.only;
+      same = c.in-Ok.ensures.same;
+      unwritten = c.in-Ok.ensures.unwritten;
+      migrated = c.in-Ok.ensures.migrated;
+      others =
+          c.in-Ok.ensures.others;
+      beside = c.in-Ok.ensures.beside;
+    };
     shows = λ clean M held.
         let early : HasCleanDisk (file_state c.in_ok-conn.conn) = omega (arith, c.in-Ok.ensures.migrated.clean, clean) in
         let found = (c.in_ok-conn.ensures.opened.live early).1 in
@@ -32,7 +42,17 @@ returns-in-Ok-clause-opened g c = record {
 
 pub returns-in-Err-clause-opened : goal.returns-in-Err-clause-opened
 returns-in-Err-clause-opened g c =
-    let adopted : IsNotAdopted over_files c.in_ok-conn.conn c.in-Err.conn c.in-Err.fault = record { kind = c.in-Err.ensures.kinds; told = c.in-Err.ensures.told; not_held = c.in-Err.ensures.not_held; same = c.in-Err.ensures.stays; adds_none = c.in-Err.ensures.adds_none; crash = c.in-Err.ensures.crash; beside = c.in-Err.ensures.beside_left } in (
+    let adopted : IsNotAdopted over_files c.in_ok-conn.conn c.in-Err.conn c.in-Err.fault =
+    record {
+      kind = c.in-Err.ensures.kinds;
+      told = c.in-Err.ensures.told;
+      not_held = c.in-Err.ensures.not_held;
+      same = c.in-Err.ensures.stays;
+      adds_none = c.in-Err.ensures.adds_none;
+      crash = c.in-Err.ensures.crash;
+      beside =
+          c.in-Err.ensures.beside_left;
+    } in (
       inr (
         c.in-Err.conn,
         c.in-Err.fault,

@@ -16,7 +16,8 @@ returns-in-Err-clause-spoken g c = (
   inr (
     c.in-Err.conn,
     c.in-Err.fault,
-    rejected_from g.met.O.FileOpener.stays g.O.FileOpener.image c.in_ok-conn.conn c.in-Err.conn c.in-Err.fault c.in_ok-conn.ensures.opened c.in-Err.ensures.unopened c.in-Err.ensures.failed c.in-Err.ensures.autocommit c.in-Err.ensures.not_left,
+    rejected_from g.met.O.FileOpener.stays g.O.FileOpener.image c.in_ok-conn.conn c.in-Err.conn c.in-Err.fault c.in_ok-conn.ensures.opened c.in-Err.ensures.unopened c.in-Err.ensures.failed c.in-Err.ensures.autocommit
+        c.in-Err.ensures.not_left,
     c.from.ensures,
     rw c.hold.ensures c.close_file.ensures,
   ),

@@ -21,6 +21,8 @@ loop-digit-preserved c =
     let more = digits_value_more 10 c.args.digits.now c.loop-digit.digit-index c.loop-digit-test.true in
     record {
       value = omega (arith, more, same, c.loop-digit.invariant.value);
-      digits = ap (list_all is_ascii_digit) (take_more c.args.digits.now c.loop-digit.digit-index 0 c.loop-digit-test.true) ∙ (list_all-append is_ascii_digit (take c.loop-digit.digit-index c.args.digits.now) (get_or c.args.digits.now c.loop-digit.digit-index 0 ∷ []) ∙ both _ _ c.loop-digit.invariant.digits (sym c.if-not-is_ascii_digit.ensures.value));
+      digits = ap (list_all is_ascii_digit) (take_more c.args.digits.now c.loop-digit.digit-index 0 c.loop-digit-test.true)
+          ∙ (list_all-append is_ascii_digit (take c.loop-digit.digit-index c.args.digits.now) (get_or c.args.digits.now c.loop-digit.digit-index 0 ∷ [])
+          ∙ both _ _ c.loop-digit.invariant.digits (sym c.if-not-is_ascii_digit.ensures.value));
       below = omega (arith, grows, same, small, c.loop-digit.invariant.below);
     }

@@ -18,7 +18,16 @@ open_by_summary true result fault told tells is fine = sym (is ∙ ap is_err (te
 open_by_summary false result fault told tells is fine = refl
 
 pub loop-made-init : goal.loop-made-init
-loop-made-init g c = record { by_rounds = ([], (omega arith, refl, refl)); grown = omega arith; counted = λ few. omega arith; is_open = λ lt. absurd (omega (arith, lt)); trust = λ trusted. trusted; led = led_still (moves_same c.args.event_loop.now.connections c.args.event_loop.now.connections refl (λ id octets now. now)) }
+loop-made-init g c =
+    record {
+      by_rounds = ([], (omega arith, refl, refl));
+      grown = omega arith;
+      counted = λ few. omega arith;
+      is_open = λ lt. absurd (omega (arith, lt));
+      trust = λ trusted. trusted;
+      led =
+          led_still (moves_same c.args.event_loop.now.connections c.args.event_loop.now.connections refl (λ id octets now. now));
+    }
 
 pub returns-in_err-has_moved-clause-led : goal.returns-in_err-has_moved-clause-led
 returns-in_err-has_moved-clause-led g c =
@@ -56,7 +65,8 @@ returns-in_err-has_moved-clause-by_rounds g c =
     } in
     rw (error.1, error.2) (
       held.0 ++ one ∷ [],
-      made_last g.K.Lookup.shows g.K.Lookup.leaves_one_of g.K.Lookup.is_trusted g.K.Lookup.has_failed g.K.Lookup.is_closed g.K.Preparer.expects g.K.Preparer.prepares g.T.Transport.taken g.T.Transport.coming g.T.Transport.made g.S.Opening.refuses g.S.Sockets.asked g.S.Sockets.told (as_nanos c.args.wait)
+      made_last g.K.Lookup.shows g.K.Lookup.leaves_one_of g.K.Lookup.is_trusted g.K.Lookup.has_failed g.K.Lookup.is_closed g.K.Preparer.expects g.K.Preparer.prepares g.T.Transport.taken g.T.Transport.coming g.T.Transport.made
+          g.S.Opening.refuses g.S.Sockets.asked g.S.Sockets.told (as_nanos c.args.wait)
           c.args.rounds rest c.args.event_loop.now c.loop-made.event_loop c.args.desk.now c.loop-made.desk held.0 one (Err c.in_err-has_moved.field-0.0) held.1 refl refl
           (record {
             some = omega (arith, c.loop-made-test.true);
@@ -82,7 +92,8 @@ returns-then-is_err-clause-by_rounds g c =
     let closed : g.K.Lookup.is_closed c.round.new.desk ≡ true = closed_by_summary _ _ _ c.summary.ensures.open c.is_err.ensures.value c.if-is_err.true in
     let one : Round _ _ _ _ = record { before = c.loop-made.event_loop; desk = c.loop-made.desk; result = Ok moved; made = after; left = c.round.new.desk; waited = Ok tt; after = after } in (
       held.0 ++ one ∷ [],
-      made_last g.K.Lookup.shows g.K.Lookup.leaves_one_of g.K.Lookup.is_trusted g.K.Lookup.has_failed g.K.Lookup.is_closed g.K.Preparer.expects g.K.Preparer.prepares g.T.Transport.taken g.T.Transport.coming g.T.Transport.made g.S.Opening.refuses g.S.Sockets.asked g.S.Sockets.told (as_nanos c.args.wait)
+      made_last g.K.Lookup.shows g.K.Lookup.leaves_one_of g.K.Lookup.is_trusted g.K.Lookup.has_failed g.K.Lookup.is_closed g.K.Preparer.expects g.K.Preparer.prepares g.T.Transport.taken g.T.Transport.coming g.T.Transport.made
+          g.S.Opening.refuses g.S.Sockets.asked g.S.Sockets.told (as_nanos c.args.wait)
           c.args.rounds rest c.args.event_loop.now c.loop-made.event_loop c.args.desk.now c.loop-made.desk held.0 one (Ok (Closed (rest - 1))) held.1 refl refl
           (record {
             some = omega (arith, c.loop-made-test.true);
@@ -112,7 +123,8 @@ returns-in_err-wait_if-clause-by_rounds g c =
     let one : Round _ _ _ _ = record { before = c.loop-made.event_loop; desk = c.loop-made.desk; result = Ok moved; made = made; left = c.round.new.desk; waited = Err fault; after = after } in
     rw (error.1, error.2) (
       held.0 ++ one ∷ [],
-      made_last g.K.Lookup.shows g.K.Lookup.leaves_one_of g.K.Lookup.is_trusted g.K.Lookup.has_failed g.K.Lookup.is_closed g.K.Preparer.expects g.K.Preparer.prepares g.T.Transport.taken g.T.Transport.coming g.T.Transport.made g.S.Opening.refuses g.S.Sockets.asked g.S.Sockets.told (as_nanos c.args.wait)
+      made_last g.K.Lookup.shows g.K.Lookup.leaves_one_of g.K.Lookup.is_trusted g.K.Lookup.has_failed g.K.Lookup.is_closed g.K.Preparer.expects g.K.Preparer.prepares g.T.Transport.taken g.T.Transport.coming g.T.Transport.made
+          g.S.Opening.refuses g.S.Sockets.asked g.S.Sockets.told (as_nanos c.args.wait)
           c.args.rounds rest c.args.event_loop.now c.loop-made.event_loop c.args.desk.now c.loop-made.desk held.0 one (Err fault) held.1 refl refl
           (record {
             some = omega (arith, c.loop-made-test.true);
@@ -124,7 +136,8 @@ returns-in_err-wait_if-clause-by_rounds g c =
               idle = c.in_ok-has_moved.ensures.idle;
               failure = c.in_ok-has_moved.ensures.failure;
             };
-            waits = subst (λ b. WaitsIf g.S.Sockets.asked (as_nanos c.args.wait) (g.S.Sockets.told after.sockets) b (Err fault) made after) (c.is_wait_due.ensures ∙ ap (λ b. is_waited (Ok moved) b rest) (sym closed)) c.in_err-wait_if.ensures.behind;
+            waits = subst (λ b. WaitsIf g.S.Sockets.asked (as_nanos c.args.wait) (g.S.Sockets.told after.sockets) b (Err fault) made after) (c.is_wait_due.ensures ∙ ap (λ b. is_waited (Ok moved) b rest) (sym closed))
+                c.in_err-wait_if.ensures.behind;
           })
           (subst (λ b. ended (Ok moved) b (Err fault) rest ≡ Some (Err fault)) (sym closed) refl),
     )
@@ -133,7 +146,8 @@ pub returns-clause-by_rounds : goal.returns-clause-by_rounds
 returns-clause-by_rounds g c =
     let held = c.loop-made.invariant.by_rounds in (
       held.0,
-      made_whole g.K.Lookup.shows g.K.Lookup.leaves_one_of g.K.Lookup.is_trusted g.K.Lookup.has_failed g.K.Lookup.is_closed g.K.Preparer.expects g.K.Preparer.prepares g.T.Transport.taken g.T.Transport.coming g.T.Transport.made g.S.Opening.refuses g.S.Sockets.asked g.S.Sockets.told (as_nanos c.args.wait)
+      made_whole g.K.Lookup.shows g.K.Lookup.leaves_one_of g.K.Lookup.is_trusted g.K.Lookup.has_failed g.K.Lookup.is_closed g.K.Preparer.expects g.K.Preparer.prepares g.T.Transport.taken g.T.Transport.coming g.T.Transport.made
+          g.S.Opening.refuses g.S.Sockets.asked g.S.Sockets.told (as_nanos c.args.wait)
           c.args.rounds (c.args.rounds - c.loop-made.made) c.args.event_loop.now c.loop-made.event_loop c.args.desk.now c.loop-made.desk held.0 held.1 (omega (arith, c.loop-made-test.false)),
     )
 
@@ -148,7 +162,8 @@ loop-made-preserved g c = record {
       let closed : g.K.Lookup.is_closed c.round.new.desk ≡ false = open_by_summary _ _ _ _ c.summary.ensures.closed c.is_err.ensures.value c.if-is_err.false in
       let one : Round _ _ _ _ = record { before = c.loop-made.event_loop; desk = c.loop-made.desk; result = Ok moved; made = made; left = c.round.new.desk; waited = Ok tt; after = after } in (
         held.0 ++ one ∷ [],
-        made_more g.K.Lookup.shows g.K.Lookup.leaves_one_of g.K.Lookup.is_trusted g.K.Lookup.has_failed g.K.Lookup.is_closed g.K.Preparer.expects g.K.Preparer.prepares g.T.Transport.taken g.T.Transport.coming g.T.Transport.made g.S.Opening.refuses g.S.Sockets.asked g.S.Sockets.told (as_nanos c.args.wait)
+        made_more g.K.Lookup.shows g.K.Lookup.leaves_one_of g.K.Lookup.is_trusted g.K.Lookup.has_failed g.K.Lookup.is_closed g.K.Preparer.expects g.K.Preparer.prepares g.T.Transport.taken g.T.Transport.coming g.T.Transport.made
+            g.S.Opening.refuses g.S.Sockets.asked g.S.Sockets.told (as_nanos c.args.wait)
             c.args.rounds rest (c.args.rounds - (c.loop-made.made + 1)) c.args.event_loop.now c.loop-made.event_loop c.args.desk.now c.loop-made.desk held.0 one held.1 refl refl
             (record {
               some = omega (arith, c.loop-made-test.true);
@@ -160,7 +175,8 @@ loop-made-preserved g c = record {
                 idle = c.in_ok-has_moved.ensures.idle;
                 failure = c.in_ok-has_moved.ensures.failure;
               };
-              waits = subst (λ b. WaitsIf g.S.Sockets.asked (as_nanos c.args.wait) (g.S.Sockets.told after.sockets) b (Ok tt) made after) (c.is_wait_due.ensures ∙ ap (λ b. is_waited (Ok moved) b rest) (sym closed)) c.in_ok-wait_if.ensures.behind;
+              waits = subst (λ b. WaitsIf g.S.Sockets.asked (as_nanos c.args.wait) (g.S.Sockets.told after.sockets) b (Ok tt) made after) (c.is_wait_due.ensures ∙ ap (λ b. is_waited (Ok moved) b rest) (sym closed))
+                  c.in_ok-wait_if.ensures.behind;
             })
             (subst (λ b. ended (Ok moved) b (Ok tt) rest ≡ None) (sym closed) refl) (omega arith),
       );

@@ -14,5 +14,6 @@ invariant-loop-one g l = record {
   closed : g.K.Lookup.is_closed l.fn.desk ≡ true → g.K.Lookup.is_closed l.desk ≡ true;
   others : KeepsFrom l.fn.all.items l.one-index l.fn.hub l.hub;
   led : HasLedOn (g.K.Lookup.is_trusted l.desk) (g.K.Lookup.shows l.fn.desk) (g.K.Lookup.leaves_one_of l.fn.desk) (g.K.Lookup.shows l.desk) (g.K.Lookup.leaves_one_of l.desk) l.fn.hub l.hub
-      (λ events. TurnUpTo (condition g.K.Lookup.has_failed g.K.Lookup.is_closed) g.K.Preparer.expects g.K.Preparer.prepares g.T.Transport.taken g.T.Transport.coming g.T.Transport.made g.O.Opening.refuses l.fn.hub l.fn.desk l.desk l.fn.all.items l.one-items l.one-index l.first l.has_moved events);
+      (λ events. TurnUpTo (condition g.K.Lookup.has_failed g.K.Lookup.is_closed) g.K.Preparer.expects g.K.Preparer.prepares g.T.Transport.taken g.T.Transport.coming g.T.Transport.made g.O.Opening.refuses l.fn.hub l.fn.desk l.desk
+      l.fn.all.items l.one-items l.one-index l.first l.has_moved events);
 }

@@ -8,20 +8,31 @@ use Rattle.net_serving.proofs.StretchLemmas.{ends_more, first_goes, goes_more, s
 use Rattle.net_serving.proofs.serving.serve_rounds.Goals as goal
 
 pub loop-pending-init : goal.loop-pending-init
-loop-pending-init g c = record { served = ([], refl, tt, (λ some. (refl, refl)), gone_first c.args.path.now c.args.desk c.args.rounds (g.D.DeskOpener.history c.args.desks.now)); opened = λ some. c.requires; stands = inl c.requires; made = λ few. refl }
+loop-pending-init g c =
+    record { served = ([], refl, tt, (λ some. (refl, refl)), gone_first c.args.path.now c.args.desk c.args.rounds (g.D.DeskOpener.history c.args.desks.now)); opened = λ some. c.requires; stands = inl c.requires; made = λ few. refl }
 
 pub returns-in_err-pending-clause-served : goal.returns-in_err-pending-clause-served
 returns-in_err-pending-clause-served g c =
     let held = c.loop-pending.invariant.served in
     let goes = held.3 c.loop-pending-test.true in
     let over = c.in_err-pending.ensures.served in
-    let one : Stretch _ = record { opened = c.loop-pending.pending.desk; left = over.0; asked = c.loop-pending.pending.left; rounds = c.serve_stretch.new.driver.event_loop.rounds - c.loop-pending.driver.event_loop.rounds; ended = over.1 } in
+    let one : Stretch _ = record {
+      opened = c.loop-pending.pending.desk;
+      left = over.0;
+      asked = c.loop-pending.pending.left;
+      rounds = c.serve_stretch.new.driver.event_loop.rounds - c.loop-pending.driver.event_loop.rounds;
+      ended =
+          over.1;
+    } in
     let error = err_from_is_err_and c.from_residual.result c.from_residual.ensures.1 in (
       held.0 ++ one ∷ [],
-      served_more g.K.Lookup.shows g.K.Lookup.leaves_one_of g.K.Lookup.is_trusted g.D.DeskOpener.is_opened g.K.Lookup.is_closed g.K.Lookup.has_failed g.K.Preparer.expects g.K.Preparer.prepares c.args.rounds c.args.desk held.0 one c.args.driver.now c.loop-pending.driver
+      served_more g.K.Lookup.shows g.K.Lookup.leaves_one_of g.K.Lookup.is_trusted g.D.DeskOpener.is_opened g.K.Lookup.is_closed g.K.Lookup.has_failed g.K.Preparer.expects g.K.Preparer.prepares c.args.rounds c.args.desk held.0 one
+          c.args.driver.now c.loop-pending.driver
           c.serve_stretch.new.driver held.1 goes over.2,
       first_goes g.K.Lookup.shows g.K.Lookup.leaves_one_of g.K.Lookup.is_trusted g.D.DeskOpener.is_opened g.K.Lookup.is_closed c.args.rounds c.args.desk held.0 one held.2 goes,
-      rw (error.1, error.2) (ends_more g.K.Lookup.shows g.K.Lookup.leaves_one_of g.K.Lookup.is_trusted g.D.DeskOpener.is_opened g.K.Lookup.is_closed (WasShut g.K.Lookup.shows g.K.Lookup.leaves_one_of g.K.Lookup.is_trusted g.D.DeskOpener.is_safe g.D.DeskOpener.holds_alone g.D.DeskOpener.still_leaves g.D.DeskOpener.is_uncopied c.serve_stretch.new.desks) (IsNotReopened g.K.Lookup.leaves_one_of g.D.DeskOpener.is_unreopened g.D.DeskOpener.still_leaves c.serve_stretch.new.desks c.args.path.now) held.0 one
+      rw (error.1, error.2) (ends_more g.K.Lookup.shows g.K.Lookup.leaves_one_of g.K.Lookup.is_trusted g.D.DeskOpener.is_opened g.K.Lookup.is_closed
+          (WasShut g.K.Lookup.shows g.K.Lookup.leaves_one_of g.K.Lookup.is_trusted g.D.DeskOpener.is_safe g.D.DeskOpener.holds_alone g.D.DeskOpener.still_leaves g.D.DeskOpener.is_uncopied c.serve_stretch.new.desks)
+          (IsNotReopened g.K.Lookup.leaves_one_of g.D.DeskOpener.is_unreopened g.D.DeskOpener.still_leaves c.serve_stretch.new.desks c.args.path.now) held.0 one
           c.serve_stretch.new.driver _ over.3),
       rw error.1 (turned c.args.path.now c.args.desk held.0 one c.loop-pending.pending.left c.loop-pending-test.true (g.D.DeskOpener.history c.args.desks.now) (g.D.DeskOpener.history c.loop-pending.desks)
           (g.D.DeskOpener.history c.serve_stretch.new.desks) held.4 None over.5),
@@ -32,15 +43,24 @@ loop-pending-preserved g c =
     let held = c.loop-pending.invariant.served in
     let goes = held.3 c.loop-pending-test.true in
     let over = c.in_ok-pending.ensures.served in
-    let one : Stretch _ = record { opened = c.loop-pending.pending.desk; left = over.0; asked = c.loop-pending.pending.left; rounds = c.serve_stretch.new.driver.event_loop.rounds - c.loop-pending.driver.event_loop.rounds; ended = over.1 } in
+    let one : Stretch _ = record {
+      opened = c.loop-pending.pending.desk;
+      left = over.0;
+      asked = c.loop-pending.pending.left;
+      rounds = c.serve_stretch.new.driver.event_loop.rounds - c.loop-pending.driver.event_loop.rounds;
+      ended =
+          over.1;
+    } in
     record {
       served = (
         held.0 ++ one ∷ [],
-        served_more g.K.Lookup.shows g.K.Lookup.leaves_one_of g.K.Lookup.is_trusted g.D.DeskOpener.is_opened g.K.Lookup.is_closed g.K.Lookup.has_failed g.K.Preparer.expects g.K.Preparer.prepares c.args.rounds c.args.desk held.0 one c.args.driver.now c.loop-pending.driver
+        served_more g.K.Lookup.shows g.K.Lookup.leaves_one_of g.K.Lookup.is_trusted g.D.DeskOpener.is_opened g.K.Lookup.is_closed g.K.Lookup.has_failed g.K.Preparer.expects g.K.Preparer.prepares c.args.rounds c.args.desk held.0 one
+            c.args.driver.now c.loop-pending.driver
             c.serve_stretch.new.driver held.1 goes over.2,
         first_goes g.K.Lookup.shows g.K.Lookup.leaves_one_of g.K.Lookup.is_trusted g.D.DeskOpener.is_opened g.K.Lookup.is_closed c.args.rounds c.args.desk held.0 one held.2 goes,
         λ some. (let gave = over.4 some in
-            goes_more g.K.Lookup.shows g.K.Lookup.leaves_one_of g.K.Lookup.is_trusted g.D.DeskOpener.is_opened g.K.Lookup.is_closed c.args.rounds c.args.desk held.0 one c.in_ok-pending.pending.desk c.in_ok-pending.pending.left gave.0 gave.1 gave.2 gave.3),
+            goes_more g.K.Lookup.shows g.K.Lookup.leaves_one_of g.K.Lookup.is_trusted g.D.DeskOpener.is_opened g.K.Lookup.is_closed c.args.rounds c.args.desk held.0 one c.in_ok-pending.pending.desk c.in_ok-pending.pending.left
+            gave.0 gave.1 gave.2 gave.3),
         gone_more c.args.path.now c.args.desk held.0 one c.loop-pending.pending.left c.loop-pending-test.true (g.D.DeskOpener.history c.args.desks.now) (g.D.DeskOpener.history c.loop-pending.desks)
             (g.D.DeskOpener.history c.serve_stretch.new.desks) held.4 c.in_ok-pending.pending.desk c.in_ok-pending.pending.left over.5 (λ some. (over.4 some).4),
       );

@@ -24,7 +24,8 @@ returns-clause-wrote g c =
     whole_range (parts_under (pos c.args.number) c.args.index.now c.text.result.now) c.part_count.result c.part_count.ensures ∙ parts_installed new c.args.index.now c.text.result.now c.requires.index c.text.ensures.value in
     let wrote0 : WroteStatements g.S.Store (map adding_part parts) (with_more_parts parts) first s0 = subst (λ l. WroteStatements g.S.Store (map adding_part l) (with_more_parts l) first s0) are c.in_ok-add_parts.ensures.wrote in
     wrote_as g.S.Store (installing (Some new)) (λ (all : AllTables). with_more_editions (one ∷ []) (with_more_parts parts all)) (with_installed (Some new)) first s1 (installed_turned new)
-    (wrote_then g.S.Store (map adding_part parts) (adding_edition one ∷ []) (with_more_parts parts) (with_more_editions (one ∷ [])) first s0 s1 wrote0 (c.in_ok-add_record.ensures.wrote c.args.edition.now (sym c.title.ensures) (sym c.info.ensures)) c.add_record.ensures.spares)
+    (wrote_then g.S.Store (map adding_part parts) (adding_edition one ∷ []) (with_more_parts parts) (with_more_editions (one ∷ [])) first s0 s1 wrote0
+    (c.in_ok-add_record.ensures.wrote c.args.edition.now (sym c.title.ensures) (sym c.info.ensures)) c.add_record.ensures.spares)
 
 pub returns-clause-spares : goal.returns-clause-spares
 returns-clause-spares g c =
@@ -60,4 +61,5 @@ returns-in_err-add_record-clause-failed g c =
     let wrote0 : WroteStatements g.S.Store (map adding_part parts) (with_more_parts parts) first s0 = subst (λ l. WroteStatements g.S.Store (map adding_part l) (with_more_parts l) first s0) are c.in_ok-add_parts.ensures.wrote in
     let e = c.in_err-add_record.field-0.0 in
     passed_on (FailsToWrite g.S.Store (installing (Some new)) first s1) e c.from_residual-in_err-add_record.result c.from_residual-in_err-add_record.ensures.1
-    (failed_after g.S.Store (map adding_part parts) (adding_edition one ∷ []) (with_more_parts parts) first s0 s1 e wrote0 c.add_record.ensures.spares (c.in_err-add_record.ensures.failed c.args.edition.now (sym c.title.ensures) (sym c.info.ensures)))
+    (failed_after g.S.Store (map adding_part parts) (adding_edition one ∷ []) (with_more_parts parts) first s0 s1 e wrote0 c.add_record.ensures.spares
+    (c.in_err-add_record.ensures.failed c.args.edition.now (sym c.title.ensures) (sym c.info.ensures)))

@@ -28,7 +28,8 @@ returns-clause-usable g c =
     let new = (g.T.OpenTransaction.held c.insert_header.new.tx) in
     let spares = spares_added g.S.Store (codes "edition") (header_row (lent_header c.header_row-row.result)) first new c.insert_header.ensures.survives c.insert_header.result c.insert_header.ensures.added c.insert_header.ensures.failed in
     let record_of = edition_record c.args.owner.now c.args.number reading in
-    let wrote : WroteStatements g.S.Store (adding_edition record_of ∷ []) (with_more_editions (record_of ∷ [])) first new = wrote_header g.S.Store (lent_header c.header_row-row.result) record_of (c.header_row-row.ensures reading refl refl) first new
+    let wrote : WroteStatements g.S.Store (adding_edition record_of ∷ []) (with_more_editions (record_of ∷ [])) first new =
+    wrote_header g.S.Store (lent_header c.header_row-row.result) record_of (c.header_row-row.ensures reading refl refl) first new
     c.insert_header.ensures.survives c.in_ok-insert_header.ensures.added in
     usable_then g.S.Store (adding_edition record_of ∷ []) (with_more_editions (record_of ∷ [])) first new c.requires.usable wrote spares
 
@@ -49,4 +50,5 @@ returns-in_err-insert_header-clause-failed g c =
     let e = c.in_err-insert_header.field-0.0 in
     passed_on (λ e. (reading : ReadEdition) → reading.title ≡ c.args.title.now → reading.info ≡ c.args.info.now → FailsToWrite g.S.Store (adding_edition (edition_record c.args.owner.now c.args.number reading) ∷ []) first new e) e
     c.from_residual.result c.from_residual.ensures.1
-    (λ reading t i. failed_header g.S.Store (lent_header c.header_row-row.result) (edition_record c.args.owner.now c.args.number reading) (c.header_row-row.ensures reading t i) first new c.insert_header.ensures.survives e c.in_err-insert_header.ensures.failed)
+    (λ reading t i. failed_header g.S.Store (lent_header c.header_row-row.result) (edition_record c.args.owner.now c.args.number reading) (c.header_row-row.ensures reading t i) first new c.insert_header.ensures.survives e
+    c.in_err-insert_header.ensures.failed)

@@ -38,7 +38,8 @@ each-preserved g c =
 
 pub returns-clause-wrote : goal.returns-clause-wrote
 returns-clause-wrote g c =
-    subst (λ l. WroteStatements g.S.Store (flat_map taking l) (without_editions l) (g.T.OpenTransaction.held c.args.tx.now) (g.T.OpenTransaction.held c.each.tx)) (take_all c.each.number-index c.args.gone.now c.each-test.false) c.each.invariant.wrote
+    subst (λ l. WroteStatements g.S.Store (flat_map taking l) (without_editions l) (g.T.OpenTransaction.held c.args.tx.now) (g.T.OpenTransaction.held c.each.tx)) (take_all c.each.number-index c.args.gone.now c.each-test.false)
+    c.each.invariant.wrote
 
 pub returns-in_err-take_edition-clause-spares : goal.returns-in_err-take_edition-clause-spares
 returns-in_err-take_edition-clause-spares g c =

@@ -31,7 +31,8 @@ returns-in-Err-clause-applied g c =
 
 pub returns-in-Err-clause-failed : goal.returns-in-Err-clause-failed
 returns-in-Err-clause-failed g c clean = λ real.
-    rest_fails g.S.Store (summary_shown c.args.summary.now) c.args.id.now (install_read c.args.name.now c.args.reading.now) c.args.change c.args.conn.now c.commit_read.new.conn c.requires.id c.requires.planned.0 (read_lawful c.args.name.now c.args.reading.now c.requires.read) (read_lies c.args.name.now c.args.reading.now c.requires.read)
+    rest_fails g.S.Store (summary_shown c.args.summary.now) c.args.id.now (install_read c.args.name.now c.args.reading.now) c.args.change c.args.conn.now c.commit_read.new.conn c.requires.id c.requires.planned.0
+    (read_lawful c.args.name.now c.args.reading.now c.requires.read) (read_lies c.args.name.now c.args.reading.now c.requires.read)
     (c.requires.free (clean_before (state g.S.Store c.args.conn.now) (state g.S.Store c.commit_read.new.conn) c.commit_read.ensures.crash clean)) c.in-Err.fault (c.in-Err.ensures.failed clean)
 
 pub returns-clause-installed : goal.returns-clause-installed
@@ -39,8 +40,10 @@ returns-clause-installed g c = λ clean live.
     let old = state g.S.Store c.args.conn.now in
     let new = state g.S.Store c.commit_read.new.conn in
     let made = c.in_default.ensures.made clean in
-    let done : IsCommitted (TurnsRecords (all_after known (change_by c.args.id.now (install_read c.args.name.now c.args.reading.now) c.args.change)) old.committed) (rested new) = record { is_open = made.is_open; settled = refl; holds = made.holds; only = made.only } in
-    installed_there (summary_shown c.args.summary.now) c.args.id.now (install_read c.args.name.now c.args.reading.now) c.args.change c.requires.planned.0 c.requires.planned.1 (read_lies c.args.name.now c.args.reading.now c.requires.read) (rested old) (rested new) c.requires.holds
+    let done : IsCommitted (TurnsRecords (all_after known (change_by c.args.id.now (install_read c.args.name.now c.args.reading.now) c.args.change)) old.committed) (rested new) =
+    record { is_open = made.is_open; settled = refl; holds = made.holds; only = made.only } in
+    installed_there (summary_shown c.args.summary.now) c.args.id.now (install_read c.args.name.now c.args.reading.now) c.args.change c.requires.planned.0 c.requires.planned.1
+    (read_lies c.args.name.now c.args.reading.now c.requires.read) (rested old) (rested new) c.requires.holds
     (clean_before old new c.commit_read.ensures.crash clean) (c.commit_read.ensures.lives clean live)
     done
 

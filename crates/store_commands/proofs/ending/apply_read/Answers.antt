@@ -39,5 +39,6 @@ returns-in_default-clause-settled g c = λ clean live. c.is_autocommit.ensures.s
 
 pub returns-in_default-clause-survives : goal.returns-in_default-clause-survives
 returns-in_default-clause-survives g c =
-    survives_then (state g.S.Store c.args.conn.now) (state g.S.Store c.apply_files.new.conn) (state g.S.Store c.roll_back.new.conn) (λ _. ⊥) (λ _. ⊥) (λ _. ⊥) (λ _ db none. none) (λ _ db none. none) (none_by c.apply_files.result c.in_default.not-Some c.apply_files.ensures.survives)
+    survives_then (state g.S.Store c.args.conn.now) (state g.S.Store c.apply_files.new.conn) (state g.S.Store c.roll_back.new.conn) (λ _. ⊥) (λ _. ⊥) (λ _. ⊥) (λ _ db none. none) (λ _ db none. none)
+    (none_by c.apply_files.result c.in_default.not-Some c.apply_files.ensures.survives)
     c.roll_back.ensures.survives

@@ -28,7 +28,8 @@ apply_planned-requires-clause-planned g c = (
 pub apply_planned-requires-clause-awaits : goal.apply_planned-requires-clause-awaits
 apply_planned-requires-clause-awaits g c =
     let new = state g.S.Store c.read_change.new.conn in
-    subst (λ (name : List ℕ). HasCleanDisk new → IsTrue new.is_open → AwaitsRest (change_by c.args.id.now (install_read name c.args.reading.now) c.in-Some.change) new.committed new.now) (sym c.as_str-name.ensures.value) c.in-Some.ensures.awaits
+    subst (λ (name : List ℕ). HasCleanDisk new → IsTrue new.is_open → AwaitsRest (change_by c.args.id.now (install_read name c.args.reading.now) c.in-Some.change) new.committed new.now) (sym c.as_str-name.ensures.value)
+    c.in-Some.ensures.awaits
 
 pub apply_planned-requires-clause-holds : goal.apply_planned-requires-clause-holds
 apply_planned-requires-clause-holds g c =
@@ -46,7 +47,8 @@ returns-clause-finished g c =
     record {
       lawful = c.requires.id;
       inside = c.in-Some.ensures.opened;
-      applied = applied_later (summary_shown c.args.summary.now) c.args.id.now (install name (edition_of c.args.reading.now)) old mid new c.apply_planned.result c.requires.id c.read_change.ensures.keeps c.read_change.ensures.survives applied;
+      applied = applied_later (summary_shown c.args.summary.now) c.args.id.now (install name (edition_of c.args.reading.now)) old mid new c.apply_planned.result c.requires.id c.read_change.ensures.keeps
+          c.read_change.ensures.survives applied;
       failed = λ clean.
           let early = clean_before mid new applied.crash clean in
           each_err c.apply_planned.result _ _ (λ fault h real. (c.read_change.new.conn, c.in-Some.ensures.same early, c.read_change.ensures.survives, h real)) (rw c.as_str-name.ensures.value at (c.apply_planned.ensures.failed clean));

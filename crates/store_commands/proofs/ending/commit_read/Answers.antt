@@ -113,7 +113,8 @@ returns-in-Ok-clause-lives g c = λ clean live.
     let old = c.args.conn.now in
     let mid = c.write_read.new.tx in
     let end = c.commit_open.new.conn in
-    open_before g.S.Store (change_by c.args.id.now (install_read c.args.name.now c.args.reading.now) c.args.change.now) old mid (c.in_default.ensures.wrote.ran (clean_before (state g.S.Store mid) (state g.S.Store end) c.commit_open.ensures.survives clean))
+    open_before g.S.Store (change_by c.args.id.now (install_read c.args.name.now c.args.reading.now) c.args.change.now) old mid
+    (c.in_default.ensures.wrote.ran (clean_before (state g.S.Store mid) (state g.S.Store end) c.commit_open.ensures.survives clean))
 
 pub returns-in-Err-clause-failed : goal.returns-in-Err-clause-failed
 returns-in-Err-clause-failed g c clean =

@@ -28,7 +28,8 @@ returns-clause-wrote g c =
     let s2 = (g.T.OpenTransaction.held c.add_record.new.tx) in
     let spares2 = c.add_record.ensures.spares in
     let wrote2 : WroteStatements g.S.Store (map adding_edition (installed_editions (installed_by c.args.change.now.summary.installs (install_read c.args.name.now c.args.reading.now))))
-    (with_more_editions (installed_editions (installed_by c.args.change.now.summary.installs (install_read c.args.name.now c.args.reading.now)))) s1 s2 = c.in_ok-add_record.ensures.wrote c.args.reading.now (sym c.title.ensures) (sym c.info.ensures) in
+    (with_more_editions (installed_editions (installed_by c.args.change.now.summary.installs (install_read c.args.name.now c.args.reading.now)))) s1 s2 =
+    c.in_ok-add_record.ensures.wrote c.args.reading.now (sym c.title.ensures) (sym c.info.ensures) in
     let s3 = (g.T.OpenTransaction.held c.add_reply.new.tx) in
     let spares3 = c.add_reply.ensures.spares in
     let wrote3 : WroteStatements g.S.Store (replying (record { id = c.args.id.now; reply = kept_shown c.args.change.now.kept })) (with_reply (record { id = c.args.id.now; reply = kept_shown c.args.change.now.kept })) s2 s3 =
@@ -42,7 +43,8 @@ returns-clause-wrote g c =
     (wrote_then g.S.Store (flat_map taking c.args.change.now.gone.items)
     ((map adding_edition (installed_editions (installed_by c.args.change.now.summary.installs (install_read c.args.name.now c.args.reading.now)))) ++ (replying (record { id = c.args.id.now; reply = kept_shown c.args.change.now.kept })))
     (without_editions c.args.change.now.gone.items) (λ (all : AllTables).
-    ((with_reply (record { id = c.args.id.now; reply = kept_shown c.args.change.now.kept })) ((with_more_editions (installed_editions (installed_by c.args.change.now.summary.installs (install_read c.args.name.now c.args.reading.now)))) all))) s0 s1
+    ((with_reply (record { id = c.args.id.now; reply = kept_shown c.args.change.now.kept }))
+    ((with_more_editions (installed_editions (installed_by c.args.change.now.summary.installs (install_read c.args.name.now c.args.reading.now)))) all))) s0 s1
     s3 wrote1 (wrote_then g.S.Store (map adding_edition (installed_editions (installed_by c.args.change.now.summary.installs (install_read c.args.name.now c.args.reading.now))))
     (replying (record { id = c.args.id.now; reply = kept_shown c.args.change.now.kept })) (with_more_editions (installed_editions (installed_by c.args.change.now.summary.installs (install_read c.args.name.now c.args.reading.now))))
     (λ (all : AllTables). ((with_reply (record { id = c.args.id.now; reply = kept_shown c.args.change.now.kept })) all)) s1 s2 s3 wrote2 wrote3 spares3) (spares_then g.S.Store s1 s2 s3 spares2 spares3))
@@ -122,7 +124,8 @@ returns-in_err-take_editions-clause-failed g c =
     (replying (record { id = c.args.id.now; reply = kept_shown c.args.change.now.kept }))))
     (λ (all : AllTables). with_members (map item_shown c.args.change.now.summary.items.items) (with_items (map item_shown c.args.change.now.summary.items.items) (with_mark c.args.change.now.summary.installs all))) first
     s0 s1 e wrote0 spares1 (failed_before g.S.Store (flat_map taking c.args.change.now.gone.items)
-    ((map adding_edition (installed_editions (installed_by c.args.change.now.summary.installs (install_read c.args.name.now c.args.reading.now)))) ++ (replying (record { id = c.args.id.now; reply = kept_shown c.args.change.now.kept }))) s0 s1 e
+    ((map adding_edition (installed_editions (installed_by c.args.change.now.summary.installs (install_read c.args.name.now c.args.reading.now))))
+    ++ (replying (record { id = c.args.id.now; reply = kept_shown c.args.change.now.kept }))) s0 s1 e
     (rw c.deref.ensures.value at c.in_err-take_editions.ensures.failed)))
 
 pub returns-in_err-add_record-clause-failed : goal.returns-in_err-add_record-clause-failed
@@ -165,11 +168,13 @@ returns-in_err-add_reply-clause-failed g c =
     let s2 = (g.T.OpenTransaction.held c.add_record.new.tx) in
     let spares2 = c.add_record.ensures.spares in
     let wrote2 : WroteStatements g.S.Store (map adding_edition (installed_editions (installed_by c.args.change.now.summary.installs (install_read c.args.name.now c.args.reading.now))))
-    (with_more_editions (installed_editions (installed_by c.args.change.now.summary.installs (install_read c.args.name.now c.args.reading.now)))) s1 s2 = c.in_ok-add_record.ensures.wrote c.args.reading.now (sym c.title.ensures) (sym c.info.ensures) in
+    (with_more_editions (installed_editions (installed_by c.args.change.now.summary.installs (install_read c.args.name.now c.args.reading.now)))) s1 s2 =
+    c.in_ok-add_record.ensures.wrote c.args.reading.now (sym c.title.ensures) (sym c.info.ensures) in
     let s3 = (g.T.OpenTransaction.held c.add_reply.new.tx) in
     let spares3 = c.add_reply.ensures.spares in
     let e = c.in_err-add_reply.field-0.0 in
-    passed_on (FailsToWrite g.S.Store (finishing known (change_by c.args.id.now (install_read c.args.name.now c.args.reading.now) c.args.change.now)) first s3) e c.from_residual-in_err-add_reply.result c.from_residual-in_err-add_reply.ensures.1
+    passed_on (FailsToWrite g.S.Store (finishing known (change_by c.args.id.now (install_read c.args.name.now c.args.reading.now) c.args.change.now)) first s3) e c.from_residual-in_err-add_reply.result
+    c.from_residual-in_err-add_reply.ensures.1
     (failed_after g.S.Store (summary_anew known c.args.change.now.summary.installs (map item_shown c.args.change.now.summary.items.items))
     ((flat_map taking c.args.change.now.gone.items) ++ ((map adding_edition (installed_editions (installed_by c.args.change.now.summary.installs (install_read c.args.name.now c.args.reading.now)))) ++
     (replying (record { id = c.args.id.now; reply = kept_shown c.args.change.now.kept }))))
@@ -179,5 +184,6 @@ returns-in_err-add_reply-clause-failed g c =
     ((map adding_edition (installed_editions (installed_by c.args.change.now.summary.installs (install_read c.args.name.now c.args.reading.now)))) ++ (replying (record { id = c.args.id.now; reply = kept_shown c.args.change.now.kept })))
     (without_editions c.args.change.now.gone.items) s0 s1 s3 e wrote1 (spares_then g.S.Store s1 s2 s3 spares2 spares3)
     (failed_after g.S.Store (map adding_edition (installed_editions (installed_by c.args.change.now.summary.installs (install_read c.args.name.now c.args.reading.now))))
-    (replying (record { id = c.args.id.now; reply = kept_shown c.args.change.now.kept })) (with_more_editions (installed_editions (installed_by c.args.change.now.summary.installs (install_read c.args.name.now c.args.reading.now)))) s1 s2 s3 e wrote2
+    (replying (record { id = c.args.id.now; reply = kept_shown c.args.change.now.kept })) (with_more_editions (installed_editions (installed_by c.args.change.now.summary.installs (install_read c.args.name.now c.args.reading.now))))
+    s1 s2 s3 e wrote2
     spares3 c.in_err-add_reply.ensures.failed)))

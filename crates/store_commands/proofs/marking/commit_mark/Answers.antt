@@ -104,7 +104,8 @@ returns-in-Err-clause-faulted g c clean told =
     let early : HasCleanDisk (state g.S.Store mid) = omega (arith, c.drop-tx.ensures.survives.clean, late) in
     let within = subst (λ (h : Held _). FailsInTurn g.S.Store (mark_anew known c.args.installs) h mid c.in-Err.error) c.transaction-tx.ensures.begun (c.in-Err.ensures.failed early) in
     subst (λ (h : Held _). MoreFaults (state g.S.Store old).faults (state g.S.Store h).faults) same
-    (told_more (state g.S.Store old) (state g.S.Store mid) (state g.S.Store end) (told_counts g.S.Store (mark_anew known c.args.installs) (record old { in_transaction = true }) mid c.in-Err.error within (c.fault_filed.ensures.disk told)) c.drop-tx.ensures.survives.counts)
+    (told_more (state g.S.Store old) (state g.S.Store mid) (state g.S.Store end)
+    (told_counts g.S.Store (mark_anew known c.args.installs) (record old { in_transaction = true }) mid c.in-Err.error within (c.fault_filed.ensures.disk told)) c.drop-tx.ensures.survives.counts)
 
 pub returns-in-Err-commit-clause-failed : goal.returns-in-Err-commit-clause-failed
 returns-in-Err-commit-clause-failed g c clean =
@@ -132,7 +133,8 @@ returns-in-Err-commit-clause-faulted g c clean told =
     let end = c.commit.new.tx.0 in
     let same : end ≡ c.conn-2-1.given.0 = search rules in
     let late : HasCleanDisk (state g.S.Store end) = subst (λ h. HasCleanDisk (state g.S.Store h)) (sym same) clean in
-    let more : MoreFaults (state g.S.Store mid).faults (state g.S.Store end).faults = commit_counts (state g.S.Store mid) (state g.S.Store end) c.in-Err-commit.error (c.in-Err-commit.ensures.failed late) (c.fault_filed-in-Err-commit.ensures.disk told) in
+    let more : MoreFaults (state g.S.Store mid).faults (state g.S.Store end).faults =
+    commit_counts (state g.S.Store mid) (state g.S.Store end) c.in-Err-commit.error (c.in-Err-commit.ensures.failed late) (c.fault_filed-in-Err-commit.ensures.disk told) in
     let begins : Survives (state g.S.Store old) (state g.S.Store mid) (λ _. ⊥) = survives_begin g.S.Store old (state g.S.Store mid) (λ _. ⊥)
     (subst (λ h. Survives (state g.S.Store h) (state g.S.Store mid) (λ _. ⊥)) c.transaction-tx.ensures.begun c.write_mark.ensures.spares.survives) in
     subst (λ (h : Held _). MoreFaults (state g.S.Store old).faults (state g.S.Store h).faults) same (omega (arith, begins.counts, more))

@@ -17,7 +17,8 @@ returns-clause-wrote g c =
     let wrote0 : WroteStatements g.S.Store (mark_anew known c.args.summary.now.installs) (with_mark c.args.summary.now.installs) first s0 = c.in_default.ensures.wrote in
     let s1 = (g.T.OpenTransaction.held c.write_items.new.tx) in
     let spares1 = c.write_items.ensures.spares in
-    let wrote1 : WroteStatements g.S.Store (items_anew (map item_shown c.args.summary.now.items.items)) (with_items (map item_shown c.args.summary.now.items.items)) s0 s1 = rw c.deref.ensures.value at c.in_default-write_items.ensures.wrote in
+    let wrote1 : WroteStatements g.S.Store (items_anew (map item_shown c.args.summary.now.items.items)) (with_items (map item_shown c.args.summary.now.items.items)) s0 s1 =
+    rw c.deref.ensures.value at c.in_default-write_items.ensures.wrote in
     let s2 = (g.T.OpenTransaction.held c.write_members.new.tx) in
     let spares2 = c.write_members.ensures.spares in
     on_ok_weaker c.write_members.result (λ done.
@@ -78,7 +79,8 @@ returns-clause-failed g c =
     let wrote0 : WroteStatements g.S.Store (mark_anew known c.args.summary.now.installs) (with_mark c.args.summary.now.installs) first s0 = c.in_default.ensures.wrote in
     let s1 = (g.T.OpenTransaction.held c.write_items.new.tx) in
     let spares1 = c.write_items.ensures.spares in
-    let wrote1 : WroteStatements g.S.Store (items_anew (map item_shown c.args.summary.now.items.items)) (with_items (map item_shown c.args.summary.now.items.items)) s0 s1 = rw c.deref.ensures.value at c.in_default-write_items.ensures.wrote in
+    let wrote1 : WroteStatements g.S.Store (items_anew (map item_shown c.args.summary.now.items.items)) (with_items (map item_shown c.args.summary.now.items.items)) s0 s1 =
+    rw c.deref.ensures.value at c.in_default-write_items.ensures.wrote in
     let s2 = (g.T.OpenTransaction.held c.write_members.new.tx) in
     let spares2 = c.write_members.ensures.spares in
     IfErr-weaker c.write_members.result _ (FailsToWrite g.S.Store (summary_anew known c.args.summary.now.installs (map item_shown c.args.summary.now.items.items)) first s2) (λ e failed.

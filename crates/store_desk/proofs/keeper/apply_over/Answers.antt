@@ -17,7 +17,8 @@ returns-then-is_autocommit-clause-over g c =
     let none : c.args.conn.now.in_transaction ≡ false = search rules in
     applied_alone g.S.Store (summary_shown c.args.summary.now) c.args.id.now
     (command_meant c.args.command.now) c.args.conn.now c.apply.new.conn c.apply.result none c.requires.settled c.apply.ensures.crash c.apply.ensures.holds c.apply.ensures.lives
-    c.apply.ensures.value c.apply.ensures.spares c.apply.ensures.shut c.apply.ensures.failed c.apply.ensures.above c.apply.ensures.refused c.apply.ensures.others c.apply.ensures.beside c.apply.ensures.grows c.apply.ensures.kinds c.apply.ensures.range c.apply.ensures.autocommit
+    c.apply.ensures.value c.apply.ensures.spares c.apply.ensures.shut c.apply.ensures.failed c.apply.ensures.above c.apply.ensures.refused c.apply.ensures.others c.apply.ensures.beside c.apply.ensures.grows c.apply.ensures.kinds
+    c.apply.ensures.range c.apply.ensures.autocommit
 
 pub apply_anew-requires-clause-holds : goal.apply_anew-requires-clause-holds
 apply_anew-requires-clause-holds g c = λ clean live. let it = c.requires.holds clean live in (it.0, record { is_open = live; settled = refl; holds = it.1 }, it.2)

@@ -20,7 +20,17 @@ pub returns-clause-leaves : goal.returns-clause-leaves
 returns-clause-leaves g c = λ ms before. c.run-end.ensures.desk.leaves ms (leaves_after g.S.Store c.args.connection c.in-Ok.desk.conn c.is_whole.ensures.live (g.met.S.Store.stays c.args.connection.store) c.in-Ok.ensures.migrated ms before)
 
 pub returns-in-Err-clause-unopened : goal.returns-in-Err-clause-unopened
-returns-in-Err-clause-unopened g c = record { kind = c.in-Err.ensures.kinds; told = c.in-Err.ensures.told; not_held = c.in-Err.ensures.not_held; same = c.in-Err.ensures.stays; adds_none = c.in-Err.ensures.adds_none; crash = c.in-Err.ensures.crash; beside = c.in-Err.ensures.beside_left }
+returns-in-Err-clause-unopened g c =
+    record {
+      kind = c.in-Err.ensures.kinds;
+      told = c.in-Err.ensures.told;
+      not_held = c.in-Err.ensures.not_held;
+      same = c.in-Err.ensures.stays;
+      adds_none = c.in-Err.ensures.adds_none;
+      crash = c.in-Err.ensures.crash;
+      beside =
+          c.in-Err.ensures.beside_left;
+    }
 
 pub returns-in-Err-clause-leaves_unopened : goal.returns-in-Err-clause-leaves_unopened
 returns-in-Err-clause-leaves_unopened g c = λ ms before. leaves_after g.S.Store c.args.connection c.in-Err.left.0 c.is_whole.ensures.live (g.met.S.Store.stays c.args.connection.store) c.in-Err.ensures.crash ms before

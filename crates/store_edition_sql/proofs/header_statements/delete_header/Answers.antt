@@ -24,5 +24,7 @@ pub returns-clause-failed : goal.returns-clause-failed
 returns-clause-failed g c clean =
     let old = state g.S.Store (g.T.OpenTransaction.held c.args.tx.now) in
     let new = state g.S.Store (g.T.OpenTransaction.held c.execute.new.self) in
-    fails_in _ ⊥ (removes_aside (codes "edition") (equals_number 1 c.args.number) old) old new header_delete_text (Int c.args.number ∷ []) c.execute.result (λ outside. ((c.execute.ensures.ended outside).0, ap (state g.S.Store) (c.execute.ensures.ended outside).1)) (λ within. (rw (bound_int _ c.args.number c.ranges.number c.params-to_sql.ensures) at (c.execute.ensures.runs clean within)))
+    fails_in _ ⊥ (removes_aside (codes "edition") (equals_number 1 c.args.number) old) old new header_delete_text (Int c.args.number ∷ []) c.execute.result
+    (λ outside. ((c.execute.ensures.ended outside).0, ap (state g.S.Store) (c.execute.ensures.ended outside).1))
+    (λ within. (rw (bound_int _ c.args.number c.ranges.number c.params-to_sql.ensures) at (c.execute.ensures.runs clean within)))
     (λ open' e. let it = c.requires (omega (arith, c.execute.ensures.survives.clean)) open' in headers_stay old new c.args.number e it.has it.apart)

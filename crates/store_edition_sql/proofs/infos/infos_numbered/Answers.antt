@@ -19,4 +19,5 @@ returns-clause-failed g c clean =
     let rows = c.in_ok-rows.rows.items in
     let it = c.in_ok-rows.ensures.selected clean in
     let same = subst (λ (n : ℤ). IsPermutation (map informed (headers_with n (state g.S.Store c.args.conn.now).now)) rows) (to_z-of_z w64 c.args.number c.ranges.number) it.0 in
-    fails_to_read_into info_columns (map informed (headers_with c.args.number (state g.S.Store c.args.conn.now).now)) rows (state g.S.Store c.args.conn.now) (state g.S.Store c.info_rows.new.conn) c.infos_in.result same it.1 (rw c.deref.ensures.value at c.infos_in.ensures.refused)
+    fails_to_read_into info_columns (map informed (headers_with c.args.number (state g.S.Store c.args.conn.now).now)) rows (state g.S.Store c.args.conn.now) (state g.S.Store c.info_rows.new.conn) c.infos_in.result same it.1
+    (rw c.deref.ensures.value at c.infos_in.ensures.refused)

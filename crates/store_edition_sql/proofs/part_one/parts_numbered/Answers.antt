@@ -14,4 +14,5 @@ returns-clause-failed g c clean =
     let new = state g.S.Store c.part_rows.new.conn in
     let rows = c.in_ok-rows.rows.items in
     let it = rw (to_z-of_z w64 c.args.edition c.ranges.edition, to_z-of_z w64 c.args.file c.ranges.file, to_z-of_z w64 c.args.number c.ranges.number) at (c.in_ok-rows.ensures.selected clean) in
-    fails_to_read_into part_columns (filter (is_numbered c.args.edition c.args.file c.args.number) (rows_of (codes "dictcat_part") old.now)) rows old new c.records_of.result it.0.same it.1 (rw c.deref.ensures.value at c.records_of.ensures.refused)
+    fails_to_read_into part_columns (filter (is_numbered c.args.edition c.args.file c.args.number) (rows_of (codes "dictcat_part") old.now)) rows old new c.records_of.result it.0.same it.1
+    (rw c.deref.ensures.value at c.records_of.ensures.refused)

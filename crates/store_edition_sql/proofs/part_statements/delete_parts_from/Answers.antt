@@ -18,11 +18,18 @@ returns-clause-removed g c clean =
     let new = state g.S.Store (g.T.OpenTransaction.held c.execute.new.self) in
     inside delete_from_text (Int c.args.edition ∷ Int c.args.file ∷ Int c.args.number ∷ []) old new c.execute.result
     (λ open' count. let it = c.requires (omega (arith, c.execute.ensures.survives.clean)) open' in removes_from old new c.args.edition c.args.file c.args.number count it.has it.apart)
-    (λ outside. (c.execute.ensures.ended outside).0) (λ within. (rw (bound_int _ c.args.edition c.ranges.edition c.params-to_sql.ensures, bound_int _ c.args.file c.ranges.file c.params-to_sql-2.ensures, bound_int _ c.args.number c.ranges.number c.params-to_sql-3.ensures) at (c.execute.ensures.runs clean within)))
+    (λ outside. (c.execute.ensures.ended outside).0) (λ within. (rw (
+      bound_int _ c.args.edition c.ranges.edition c.params-to_sql.ensures,
+      bound_int _ c.args.file c.ranges.file c.params-to_sql-2.ensures,
+      bound_int _ c.args.number c.ranges.number c.params-to_sql-3.ensures,
+    ) at (c.execute.ensures.runs clean within)))
 
 pub returns-clause-failed : goal.returns-clause-failed
 returns-clause-failed g c clean =
     let old = state g.S.Store (g.T.OpenTransaction.held c.args.tx.now) in
     let new = state g.S.Store (g.T.OpenTransaction.held c.execute.new.self) in
-    fails_in _ ⊥ (removes_aside (codes "dictcat_part") (is_part_from c.args.edition c.args.file c.args.number) old) old new delete_from_text (Int c.args.edition ∷ Int c.args.file ∷ Int c.args.number ∷ []) c.execute.result (λ outside. ((c.execute.ensures.ended outside).0, ap (state g.S.Store) (c.execute.ensures.ended outside).1)) (λ within. (rw (bound_int _ c.args.edition c.ranges.edition c.params-to_sql.ensures, bound_int _ c.args.file c.ranges.file c.params-to_sql-2.ensures, bound_int _ c.args.number c.ranges.number c.params-to_sql-3.ensures) at (c.execute.ensures.runs clean within)))
+    fails_in _ ⊥ (removes_aside (codes "dictcat_part") (is_part_from c.args.edition c.args.file c.args.number) old) old new delete_from_text (Int c.args.edition ∷ Int c.args.file ∷ Int c.args.number ∷ []) c.execute.result
+    (λ outside. ((c.execute.ensures.ended outside).0, ap (state g.S.Store) (c.execute.ensures.ended outside).1))
+    (λ within. (rw (bound_int _ c.args.edition c.ranges.edition c.params-to_sql.ensures, bound_int _ c.args.file c.ranges.file c.params-to_sql-2.ensures, bound_int _ c.args.number c.ranges.number c.params-to_sql-3.ensures) at
+    (c.execute.ensures.runs clean within)))
     (λ open' e. let it = c.requires (omega (arith, c.execute.ensures.survives.clean)) open' in from_stay old new c.args.edition c.args.file c.args.number e it.has it.apart)

@@ -23,7 +23,12 @@ returns-clause-added g c clean =
     let fits_file : SFits w64 c.args.given.now.file = search rules in
     let fits_number : SFits w64 c.args.given.now.number = search rules in
     inside part_insert_text (part_row given) old new c.execute.result (λ open' count. adds_part old new given count (c.requires (omega (arith, c.execute.ensures.survives.clean)) open')) (λ outside. (c.execute.ensures.ended outside).0)
-    (λ within. rw ((bound_int _ c.args.given.now.edition fits_edition c.params-to_sql.ensures), (bound_int _ c.args.given.now.file fits_file c.params-to_sql-2.ensures), (bound_int _ c.args.given.now.number fits_number c.params-to_sql-3.ensures), c.params-to_sql-4.ensures) at (c.execute.ensures.runs clean within))
+    (λ within. rw (
+      (bound_int _ c.args.given.now.edition fits_edition c.params-to_sql.ensures),
+      (bound_int _ c.args.given.now.file fits_file c.params-to_sql-2.ensures),
+      (bound_int _ c.args.given.now.number fits_number c.params-to_sql-3.ensures),
+      c.params-to_sql-4.ensures,
+    ) at (c.execute.ensures.runs clean within))
 
 pub returns-clause-failed : goal.returns-clause-failed
 returns-clause-failed g c clean =
@@ -34,5 +39,10 @@ returns-clause-failed g c clean =
     let fits_file : SFits w64 c.args.given.now.file = search rules in
     let fits_number : SFits w64 c.args.given.now.number = search rules in
     fails_in _ _ (adds_aside (codes "dictcat_part") (part_row given) old) old new part_insert_text _ c.execute.result (λ outside. ((c.execute.ensures.ended outside).0, ap (state g.S.Store) (c.execute.ensures.ended outside).1))
-    (λ within. rw ((bound_int _ c.args.given.now.edition fits_edition c.params-to_sql.ensures), (bound_int _ c.args.given.now.file fits_file c.params-to_sql-2.ensures), (bound_int _ c.args.given.now.number fits_number c.params-to_sql-3.ensures), c.params-to_sql-4.ensures) at (c.execute.ensures.runs clean within))
+    (λ within. rw (
+      (bound_int _ c.args.given.now.edition fits_edition c.params-to_sql.ensures),
+      (bound_int _ c.args.given.now.file fits_file c.params-to_sql-2.ensures),
+      (bound_int _ c.args.given.now.number fits_number c.params-to_sql-3.ensures),
+      c.params-to_sql-4.ensures,
+    ) at (c.execute.ensures.runs clean within))
     (λ open' e. part_fails old new given e (c.requires (omega (arith, c.execute.ensures.survives.clean)) open'))

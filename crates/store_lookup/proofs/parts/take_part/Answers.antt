@@ -20,7 +20,8 @@ pub returns-in-Some-clause-value : goal.returns-in-Some-clause-value
 returns-in-Some-clause-value g c clean text has = part_kept c.args.number c.args.part c.in-Some.octets.items c.args.texts.now (sym c.in-Some.ensures.text) text has.kept
 
 pub returns-in-Some-clause-taken : goal.returns-in-Some-clause-taken
-returns-in-Some-clause-taken g c clean text holds below = subst (λ (kept : Option (List ℕ)). c.args.rows_taken.now ≡ more_taken c.args.rows_taken.now (rows_read_for kept)) c.in-Some.ensures.text (none_more c.args.rows_taken.now (omega arith))
+returns-in-Some-clause-taken g c clean text holds below =
+    subst (λ (kept : Option (List ℕ)). c.args.rows_taken.now ≡ more_taken c.args.rows_taken.now (rows_read_for kept)) c.in-Some.ensures.text (none_more c.args.rows_taken.now (omega arith))
 
 pub returns-in-Some-clause-counted : goal.returns-in-Some-clause-counted
 returns-in-Some-clause-counted g c = (0, none_more c.args.rows_taken.now (omega arith))

@@ -43,7 +43,8 @@ returns-in_err-clear_table-clause-failed g c clean =
     let new = c.clear_table.new.tx.conn.now in
     let e = c.in_err-clear_table.field-0.0 in
     let Q = InMark c.args.installs in
-    passed_on (λ e. MigrationFailsInside g.S.Store Q old new (Store e)) e c.from_residual.result c.from_residual.ensures.1 (fails_here g.S.Store Q clearing_marks old new (Store e) (inl (refl, refl)) (c.in_err-clear_table.ensures.failed clean))
+    passed_on (λ e. MigrationFailsInside g.S.Store Q old new (Store e)) e c.from_residual.result c.from_residual.ensures.1
+    (fails_here g.S.Store Q clearing_marks old new (Store e) (inl (refl, refl)) (c.in_err-clear_table.ensures.failed clean))
 
 pub returns-in_err-insert_mark-clause-failed : goal.returns-in_err-insert_mark-clause-failed
 returns-in_err-insert_mark-clause-failed g c clean =

@@ -132,7 +132,8 @@ returns-clause-failed g c clean =
     let installs = c.args.summary.now.installs in
     let clean0 : HasCleanDisk old = omega (arith, c.migrate_from.ensures.crash.clean, clean) in
     let numbers = c.deref.ensures.value ∙ c.in-Ok.ensures.same in
-    each_err c.migrate_from.result (MigrationFailsToEnd g.S.Store (InMove older c.deref.result.now installs) (IsOutcome older c.deref.result.now installs old) c.args.conn.now new) (FailsToMigrate g.S.Store c.args.version summary c.args.conn.now new)
+    each_err c.migrate_from.result (MigrationFailsToEnd g.S.Store (InMove older c.deref.result.now installs) (IsOutcome older c.deref.result.now installs old) c.args.conn.now new)
+    (FailsToMigrate g.S.Store c.args.version summary c.args.conn.now new)
     (λ fault h. inr (record {
       older = older;
       layout = c.older_layout.ensures;

@@ -18,7 +18,8 @@ pub returns-clause-selected : goal.returns-clause-selected
 returns-clause-selected g c clean =
     let old = state g.S.Store (g.T.OpenTransaction.held c.args.tx.now) in
     let new = state g.S.Store (g.T.OpenTransaction.held c.query_all.new.self) in
-    selects select_one_edition read_one_edition edition _ _ _ _ _ _ _ _ reads_one_edition (λ tree. refl) (Int c.args.number ∷ []) (equals_number 1 c.args.number) (λ tree row. edition_read tree c.args.number row) old new c.query_all.result (c.requires (omega (arith, c.query_all.ensures.survives.clean)))
+    selects select_one_edition read_one_edition edition _ _ _ _ _ _ _ _ reads_one_edition (λ tree. refl) (Int c.args.number ∷ []) (equals_number 1 c.args.number) (λ tree row. edition_read tree c.args.number row) old new
+    c.query_all.result (c.requires (omega (arith, c.query_all.ensures.survives.clean)))
     (rw (bound_int _ c.args.number c.ranges.number c.params-to_sql.ensures) at (c.query_all.ensures.ok clean))
 
 pub returns-clause-failed : goal.returns-clause-failed

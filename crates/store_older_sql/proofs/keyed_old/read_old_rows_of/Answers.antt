@@ -6,11 +6,17 @@ use Rattle.store_older_sql.proofs.keyed_old.read_old_rows_of.Goals as goal
 
 pub returns : goal.returns
 returns g c = (
-  (refl, c.query.follows.holds, not_begun g.S.Store (OldOf c.args.edition) c.args.conn.now c.requires c.query.result c.query.follows.lender-at-none (rw (bound_int _ c.args.edition c.ranges.edition c.params-to_sql.ensures) at c.query.follows.holds-at-none)),
+  (
+    refl,
+    c.query.follows.holds,
+    not_begun g.S.Store (OldOf c.args.edition) c.args.conn.now c.requires c.query.result c.query.follows.lender-at-none
+        (rw (bound_int _ c.args.edition c.ranges.edition c.params-to_sql.ensures) at c.query.follows.holds-at-none),
+  ),
   record {
     refused = tt;
     same_reference = c.query.ensures.same_reference;
-    begun = begins g.S.Store (OldOf c.args.edition) c.args.conn.now c.requires c.query.result (λ rows. rows.conn.now) (rw (bound_int _ c.args.edition c.ranges.edition c.params-to_sql.ensures) at c.query.ensures.survives) (rw (bound_int _ c.args.edition c.ranges.edition c.params-to_sql.ensures) at c.query.ensures.begun);
+    begun = begins g.S.Store (OldOf c.args.edition) c.args.conn.now c.requires c.query.result (λ rows. rows.conn.now) (rw (bound_int _ c.args.edition c.ranges.edition c.params-to_sql.ensures) at c.query.ensures.survives)
+        (rw (bound_int _ c.args.edition c.ranges.edition c.params-to_sql.ensures) at c.query.ensures.begun);
     mode = c.query.ensures.mode;
     survives = begins_alone g.S.Store (OldOf c.args.edition) c.args.conn.now c.requires c.query.result (λ rows. rows.conn.now) (rw (bound_int _ c.args.edition c.ranges.edition c.params-to_sql.ensures) at c.query.ensures.survives);
   },

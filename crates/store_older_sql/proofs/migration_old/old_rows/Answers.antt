@@ -18,7 +18,8 @@ pub returns-clause-selected : goal.returns-clause-selected
 returns-clause-selected g c clean =
     let old = state g.S.Store (g.T.OpenTransaction.held c.args.tx.now) in
     let new = state g.S.Store (g.T.OpenTransaction.held c.query_all.new.self) in
-    selects entry_select_text read_select old_entry _ _ _ _ _ _ _ _ reads_select (λ tree. refl) (Int c.args.edition ∷ []) (equals_number 1 c.args.edition) (λ tree row. old_read tree c.args.edition row) old new c.query_all.result (c.requires (omega (arith, c.query_all.ensures.survives.clean)))
+    selects entry_select_text read_select old_entry _ _ _ _ _ _ _ _ reads_select (λ tree. refl) (Int c.args.edition ∷ []) (equals_number 1 c.args.edition) (λ tree row. old_read tree c.args.edition row) old new c.query_all.result
+    (c.requires (omega (arith, c.query_all.ensures.survives.clean)))
     (rw (bound_int _ c.args.edition c.ranges.edition c.params-to_sql.ensures) at (c.query_all.ensures.ok clean))
 
 pub returns-clause-failed : goal.returns-clause-failed

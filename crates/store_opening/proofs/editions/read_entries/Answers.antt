@@ -18,7 +18,8 @@ returns-in-Plain-clause-whole g c clean =
     let last = c.read_plain_entries.new.reader in
     let read = c.read_plain_entries.result in
     subst (λ layout. OnOk read ((es : List EntryRecord) × TakesEntries (layout_in layout) old.now c.args.number first.reader last.reader es × (last.index ≡ first.index ++ map indexed_of es))) (sym c.in-Plain.is)
-    (subst (λ n. OnOk read ((es : List EntryRecord) × TakesEntries Plain old.now n first.reader last.reader es × (last.index ≡ first.index ++ map indexed_of es))) (to_z-of_z w64 c.args.number c.ranges.number) (c.read_plain_entries.ensures.whole clean))
+    (subst (λ n. OnOk read ((es : List EntryRecord) × TakesEntries Plain old.now n first.reader last.reader es × (last.index ≡ first.index ++ map indexed_of es))) (to_z-of_z w64 c.args.number c.ranges.number)
+    (c.read_plain_entries.ensures.whole clean))
 
 pub returns-in-Plain-clause-damaged : goal.returns-in-Plain-clause-damaged
 returns-in-Plain-clause-damaged g c clean =
@@ -34,7 +35,8 @@ returns-in-Keyed-clause-whole g c clean =
     let last = c.read_old_entries.new.reader in
     let read = c.read_old_entries.result in
     subst (λ layout. OnOk read ((es : List EntryRecord) × TakesEntries (layout_in layout) old.now c.args.number first.reader last.reader es × (last.index ≡ first.index ++ map indexed_of es))) (sym c.in-Keyed.is)
-    (subst (λ n. OnOk read ((es : List EntryRecord) × TakesEntries Keyed old.now n first.reader last.reader es × (last.index ≡ first.index ++ map indexed_of es))) (to_z-of_z w64 c.args.number c.ranges.number) (c.read_old_entries.ensures.whole clean))
+    (subst (λ n. OnOk read ((es : List EntryRecord) × TakesEntries Keyed old.now n first.reader last.reader es × (last.index ≡ first.index ++ map indexed_of es))) (to_z-of_z w64 c.args.number c.ranges.number)
+    (c.read_old_entries.ensures.whole clean))
 
 pub returns-in-Keyed-clause-damaged : goal.returns-in-Keyed-clause-damaged
 returns-in-Keyed-clause-damaged g c clean =
@@ -50,7 +52,8 @@ returns-in-Shown-clause-whole g c clean =
     let last = c.read_shown_entries.new.reader in
     let read = c.read_shown_entries.result in
     subst (λ layout. OnOk read ((es : List EntryRecord) × TakesEntries (layout_in layout) old.now c.args.number first.reader last.reader es × (last.index ≡ first.index ++ map indexed_of es))) (sym c.in-Shown.is)
-    (subst (λ n. OnOk read ((es : List EntryRecord) × TakesEntries Shown old.now n first.reader last.reader es × (last.index ≡ first.index ++ map indexed_of es))) (to_z-of_z w64 c.args.number c.ranges.number) (c.read_shown_entries.ensures.whole clean))
+    (subst (λ n. OnOk read ((es : List EntryRecord) × TakesEntries Shown old.now n first.reader last.reader es × (last.index ≡ first.index ++ map indexed_of es))) (to_z-of_z w64 c.args.number c.ranges.number)
+    (c.read_shown_entries.ensures.whole clean))
 
 pub returns-in-Shown-clause-damaged : goal.returns-in-Shown-clause-damaged
 returns-in-Shown-clause-damaged g c clean =
@@ -66,7 +69,8 @@ returns-in-Parted-clause-whole g c clean =
     let last = c.read_filed_entries.new.reader in
     let read = c.read_filed_entries.result in
     subst (λ layout. OnOk read ((es : List EntryRecord) × TakesEntries (layout_in layout) old.now c.args.number first.reader last.reader es × (last.index ≡ first.index ++ map indexed_of es))) (sym c.in-Parted.is)
-    (subst (λ n. OnOk read ((es : List EntryRecord) × TakesEntries Parted old.now n first.reader last.reader es × (last.index ≡ first.index ++ map indexed_of es))) (to_z-of_z w64 c.args.number c.ranges.number) (c.read_filed_entries.ensures.whole clean))
+    (subst (λ n. OnOk read ((es : List EntryRecord) × TakesEntries Parted old.now n first.reader last.reader es × (last.index ≡ first.index ++ map indexed_of es))) (to_z-of_z w64 c.args.number c.ranges.number)
+    (c.read_filed_entries.ensures.whole clean))
 
 pub returns-in-Parted-clause-damaged : goal.returns-in-Parted-clause-damaged
 returns-in-Parted-clause-damaged g c clean =

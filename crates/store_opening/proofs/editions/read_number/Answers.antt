@@ -30,7 +30,8 @@ pub returns-in_err-edition-clause-damaged : goal.returns-in_err-edition-clause-d
 returns-in_err-edition-clause-damaged g c clean =
     let old = state g.S.Store c.args.conn.now in
     let n = c.args.number in
-    let wrong : (fault : ReadingFault) → Type 0 = λ fault. fault ≡ Damaged → (taken : Tables) → HasTaken c.args.version c.args.reader.now.reader taken → CanReadOne c.args.version old.now taken n → KeepsNone c.args.version old.now taken.members in
+    let wrong : (fault : ReadingFault) → Type 0 = λ fault. fault ≡ Damaged → (taken : Tables) → HasTaken c.args.version c.args.reader.now.reader taken → CanReadOne c.args.version old.now taken n
+    → KeepsNone c.args.version old.now taken.members in
     passed_on wrong c.in_err-edition.field-0.0 c.from_residual.result c.from_residual.ensures.1
     (λ is taken h can. edition_missing c.args.version old.now taken n can
     (subst (λ m. HasNoEdition (layout_of c.args.version) old.now m) (to_z-of_z w64 n c.ranges.number) (subst (λ l. HasNoEdition l old.now (to_z w64 (of_z w64 n))) c.layout_of.ensures (c.in_err-edition.ensures.damaged clean is))))
@@ -39,7 +40,8 @@ pub returns-in-Err-clause-damaged : goal.returns-in-Err-clause-damaged
 returns-in-Err-clause-damaged g c clean is taken h can =
     let old = state g.S.Store c.args.conn.now in
     let n = c.args.number in
-    let one = subst (λ m. HasRecord (layout_of c.args.version) old.now m (owned_edition c.in_ok-edition.edition)) (to_z-of_z w64 n c.ranges.number) (subst (λ l. HasRecord l old.now (to_z w64 (of_z w64 n)) (owned_edition c.in_ok-edition.edition)) c.layout_of.ensures (c.in_ok-edition.ensures.one clean)) in
+    let one = subst (λ m. HasRecord (layout_of c.args.version) old.now m (owned_edition c.in_ok-edition.edition)) (to_z-of_z w64 n c.ranges.number)
+    (subst (λ l. HasRecord l old.now (to_z w64 (of_z w64 n)) (owned_edition c.in_ok-edition.edition)) c.layout_of.ensures (c.in_ok-edition.ensures.one clean)) in
     edition_refused c.args.version old.now taken n can (owned_edition c.in_ok-edition.edition) one c.args.reader.now.reader h (λ v before k. c.in-Err.ensures.damaged v before (c.let_go.ensures.taken v before k))
 
 pub read_edition-requires : goal.read_edition-requires
@@ -69,7 +71,8 @@ returns-clause-whole g c clean =
     on_ok_weaker c.read_entries.result
     (λ all taken h none.
     let it = subst (λ (d : Database). TakesEntries layout d n c.edition.new.self c.read_entries.new.reader.reader all.0) same
-    (subst (λ m. TakesEntries layout mid.now m c.edition.new.self c.read_entries.new.reader.reader all.0) back (subst (λ l. TakesEntries l mid.now (to_z w64 (of_z w64 n)) c.edition.new.self c.read_entries.new.reader.reader all.0) c.layout_of-2.ensures all.1)) in (
+    (subst (λ m. TakesEntries layout mid.now m c.edition.new.self c.read_entries.new.reader.reader all.0) back
+    (subst (λ l. TakesEntries l mid.now (to_z w64 (of_z w64 n)) c.edition.new.self c.read_entries.new.reader.reader all.0) c.layout_of-2.ensures all.1)) in (
       with_entries (with_edition taken e) all.0,
       it.taken c.args.version (with_edition taken e) (c.in_default.ensures.taken c.args.version taken (c.let_go.ensures.taken c.args.version taken h)) (fresh_record layout old.now n e one taken none),
       record { edition = e; given = all.0; record' = one; entries = it.has; after_is = refl },
@@ -88,7 +91,8 @@ returns-clause-indexed g c clean =
     on_ok_weaker c.read_entries.result
     (λ all. (
       all.0,
-      subst (λ (d : Database). HasEntries layout d n all.0) same (subst (λ m. HasEntries layout mid.now m all.0) (to_z-of_z w64 n c.ranges.number) (subst (λ l. HasEntries l mid.now (to_z w64 (of_z w64 n)) all.0) c.layout_of-2.ensures all.1.has)),
+      subst (λ (d : Database). HasEntries layout d n all.0) same (subst (λ m. HasEntries layout mid.now m all.0) (to_z-of_z w64 n c.ranges.number)
+          (subst (λ l. HasEntries l mid.now (to_z w64 (of_z w64 n)) all.0) c.layout_of-2.ensures all.1.has)),
       all.2 ∙ ap (λ l. l ++ map indexed_of all.0) (c.replace.ensures.after ∙ c.new.ensures),
     ))
     (c.read_entries.ensures.whole clean)
@@ -107,7 +111,8 @@ returns-clause-damaged g c clean =
     let same = (c.in_ok-edition.ensures.same early).now in
     if_err_then _ _ c.read_entries.result
     (λ fault wrong told taken h can. edition_wrong c.args.version old.now taken n can e one c.edition.new.self (c.in_default.ensures.taken c.args.version taken (c.let_go.ensures.taken c.args.version taken h))
-    (subst (λ (d : Database). HasWrongEntries layout d n c.edition.new.self) same (subst (λ m. HasWrongEntries layout mid.now m c.edition.new.self) back (subst (λ l. HasWrongEntries l mid.now (to_z w64 (of_z w64 n)) c.edition.new.self) c.layout_of-2.ensures (wrong told)))))
+    (subst (λ (d : Database). HasWrongEntries layout d n c.edition.new.self) same
+    (subst (λ m. HasWrongEntries layout mid.now m c.edition.new.self) back (subst (λ l. HasWrongEntries l mid.now (to_z w64 (of_z w64 n)) c.edition.new.self) c.layout_of-2.ensures (wrong told)))))
     (c.read_entries.ensures.damaged clean)
 
 pub returns-in_err-edition-clause-failed : goal.returns-in_err-edition-clause-failed
@@ -120,4 +125,5 @@ returns-in-Err-clause-failed g c clean =
 
 pub returns-clause-failed : goal.returns-clause-failed
 returns-clause-failed g c clean =
-    cause_last (state g.S.Store c.args.conn.now) (state g.S.Store c.read_edition.new.conn) (state g.S.Store c.read_entries.new.conn) c.read_entries.result c.read_edition.ensures.reads.survives c.read_entries.ensures.reads.survives c.in_ok-edition.ensures.same clean (c.read_entries.ensures.failed clean)
+    cause_last (state g.S.Store c.args.conn.now) (state g.S.Store c.read_edition.new.conn) (state g.S.Store c.read_entries.new.conn) c.read_entries.result c.read_edition.ensures.reads.survives c.read_entries.ensures.reads.survives
+    c.in_ok-edition.ensures.same clean (c.read_entries.ensures.failed clean)

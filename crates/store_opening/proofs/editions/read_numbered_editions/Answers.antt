@@ -118,4 +118,5 @@ returns-clause-indexed g c clean ns is =
 
 pub returns-in_err-read_number-clause-failed : goal.returns-in_err-read_number-clause-failed
 returns-in_err-read_number-clause-failed g c clean =
-    cause_later (state g.S.Store c.args.conn.now) (state g.S.Store c.loop-number.conn) (state g.S.Store c.read_number.new.conn) c.in_err-read_number.field-0.0 c.from_residual.result c.from_residual.ensures.1 c.loop-number.invariant.survives c.read_number.ensures.reads.survives c.loop-number.invariant.same clean (c.in_err-read_number.ensures.failed clean)
+    cause_later (state g.S.Store c.args.conn.now) (state g.S.Store c.loop-number.conn) (state g.S.Store c.read_number.new.conn) c.in_err-read_number.field-0.0 c.from_residual.result c.from_residual.ensures.1
+    c.loop-number.invariant.survives c.read_number.ensures.reads.survives c.loop-number.invariant.same clean (c.in_err-read_number.ensures.failed clean)

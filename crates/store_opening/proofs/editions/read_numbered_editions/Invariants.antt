@@ -18,5 +18,6 @@ invariant-loop-number g l =
       survives : Survives old now (λ _. ⊥);
       same : HasCleanDisk now → Same old now;
       indexed : HasCleanDisk now → (ns : List ℕ) → l.numbers ≡ map pos ns → HaveRowsIndexed (layout_of l.version) old.now (take l.number-index ns) l.indexes;
-      read : HasCleanDisk now → (front : Tables) → CanRead l.version old.now l.fn.reader.reader l.numbers front → (after : Tables) × HasTaken l.version l.reader.reader after × HasReadEditions l.version old.now (take l.number-index l.numbers) front after;
+      read : HasCleanDisk now → (front : Tables) → CanRead l.version old.now l.fn.reader.reader l.numbers front → (after : Tables) × HasTaken l.version l.reader.reader after
+          × HasReadEditions l.version old.now (take l.number-index l.numbers) front after;
     }

@@ -34,14 +34,19 @@ returns-in-Ok-clause-rests g c clean =
     let first = c.in_ok-version.ensures.same early in
     let then = c.in-Ok.ensures.same clean in
     let marked = c.in_ok-version.ensures.marked early in
-    let here = subst (λ (l : List MarkRow). IsListing (codes "mark") (1 ∷ []) mid.now (map stored_mark l)) (sym c.deref.ensures.value) (subst (λ (d : Database). IsListing (codes "mark") (1 ∷ []) d (map stored_mark c.in_ok-version.marks.items)) (sym first.0.now) marked.0) in
+    let here = subst (λ (l : List MarkRow). IsListing (codes "mark") (1 ∷ []) mid.now (map stored_mark l)) (sym c.deref.ensures.value)
+    (subst (λ (d : Database). IsListing (codes "mark") (1 ∷ []) d (map stored_mark c.in_ok-version.marks.items)) (sym first.0.now) marked.0) in
     let found = c.in-Ok.ensures.holds clean here in
     let auto' : IsTrue c.is_autocommit.result = search rules in
     let open' : IsTrue old.is_open = sym first.0.is_open ∙ first.1 in
     let settled = c.is_autocommit.ensures.settled auto' open' in
     let one = then.now ∙ first.0.now in
-    let two = then.committed ∙ first.0.committed in
-    (found.0, record { is_open = then.is_open ∙ first.1; settled = one ∙ settled ∙ sym two; holds = subst (λ (d : Database). Holds c.in_ok-version.version d found.0) (first.0.now ∙ settled ∙ sym two) found.1 }, found.2, subst (λ (d : Database). IsHeldIndexed c.in_ok-version.version d found.0 c.in-Ok.indexes) (first.0.now ∙ settled ∙ sym two) found.3)
+    let two = then.committed ∙ first.0.committed in (
+      found.0,
+      record { is_open = then.is_open ∙ first.1; settled = one ∙ settled ∙ sym two; holds = subst (λ (d : Database). Holds c.in_ok-version.version d found.0) (first.0.now ∙ settled ∙ sym two) found.1 },
+      found.2,
+      subst (λ (d : Database). IsHeldIndexed c.in_ok-version.version d found.0 c.in-Ok.indexes) (first.0.now ∙ settled ∙ sym two) found.3,
+    )
 
 pub returns-in-Err-clause-damaged : goal.returns-in-Err-clause-damaged
 returns-in-Err-clause-damaged g c clean is =
@@ -51,7 +56,8 @@ returns-in-Err-clause-damaged g c clean is =
     let early : HasCleanDisk mid = clean_before old mid new c.read_tables-read.ensures.reads.survives clean in
     let first = c.in_ok-version.ensures.same early in
     let marked = c.in_ok-version.ensures.marked early in
-    let here = subst (λ (l : List MarkRow). IsListing (codes "mark") (1 ∷ []) mid.now (map stored_mark l)) (sym c.deref.ensures.value) (subst (λ (d : Database). IsListing (codes "mark") (1 ∷ []) d (map stored_mark c.in_ok-version.marks.items)) (sym first.0.now) marked.0) in
+    let here = subst (λ (l : List MarkRow). IsListing (codes "mark") (1 ∷ []) mid.now (map stored_mark l)) (sym c.deref.ensures.value)
+    (subst (λ (d : Database). IsListing (codes "mark") (1 ∷ []) d (map stored_mark c.in_ok-version.marks.items)) (sym first.0.now) marked.0) in
     let same : c.told.result ≡ desk.Damaged = cc in
     let fault = told_damaged c.in-Err.fault (sym c.told.ensures.is ∙ same) in
     let none = subst (HoldsNoneAs c.in_ok-version.version) first.0.now (c.in-Err.ensures.damaged clean fault here) in

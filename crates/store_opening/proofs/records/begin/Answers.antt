@@ -32,9 +32,14 @@ returns-in-Ok-begun-clause-begun g c clean lm =
     let early : HasCleanDisk mid = clean_before old mid new c.members.ensures.survives clean in
     let li = c.in-Ok.ensures.listed early in
     let lo = subst (λ (d : Database). IsListing (codes "member") (1 ∷ 2 ∷ []) d (map stored_member c.in-Ok-members.members.items)) li.1.0.now_is (c.in-Ok-members.ensures.listed clean).0 in
-    let taken = subst (λ (l : List (StoredRow (typed.Member.Member (String Global)))). HasTaken c.args.version c.in-Ok-begun.reader (begun (marks_given c.args.marks.now) (items_given c.in-Ok.items.items) (members_given l))) c.deref-2.ensures.value
-    (subst (λ (l : List (StoredRow (typed.ItemRecord.ItemRecord (String Global)))). HasTaken c.args.version c.in-Ok-begun.reader (begun (marks_given c.args.marks.now) (items_given l) (members_given c.deref-2.result.now))) c.deref.ensures.value c.in-Ok-begun.ensures.taken) in
-    (begun (marks_given c.args.marks.now) (items_given c.in-Ok.items.items) (members_given c.in-Ok-members.members.items), taken, has_begun c.args.version old.now c.args.marks.now c.in-Ok.items.items c.in-Ok-members.members.items lm li.0 lo)
+    let taken = subst (λ (l : List (StoredRow (typed.Member.Member (String Global)))). HasTaken c.args.version c.in-Ok-begun.reader (begun (marks_given c.args.marks.now) (items_given c.in-Ok.items.items) (members_given l)))
+    c.deref-2.ensures.value
+    (subst (λ (l : List (StoredRow (typed.ItemRecord.ItemRecord (String Global)))). HasTaken c.args.version c.in-Ok-begun.reader (begun (marks_given c.args.marks.now) (items_given l) (members_given c.deref-2.result.now)))
+    c.deref.ensures.value c.in-Ok-begun.ensures.taken) in (
+      begun (marks_given c.args.marks.now) (items_given c.in-Ok.items.items) (members_given c.in-Ok-members.members.items),
+      taken,
+      has_begun c.args.version old.now c.args.marks.now c.in-Ok.items.items c.in-Ok-members.members.items lm li.0 lo,
+    )
 
 pub returns-in-Err-clause-damaged : goal.returns-in-Err-clause-damaged
 returns-in-Err-clause-damaged g c clean is lm M h =
@@ -66,7 +71,8 @@ returns-in-Err-begun-clause-damaged g c clean is lm =
 
 pub returns-in-Err-clause-failed : goal.returns-in-Err-clause-failed
 returns-in-Err-clause-failed g c clean =
-    subst (IsExcusedReading (state g.S.Store c.args.conn.now) (state g.S.Store c.items.new.conn)) (sym c.fault_of_read.ensures) (list_cause item_columns _ (state g.S.Store c.args.conn.now) (state g.S.Store c.items.new.conn) c.in-Err.error (c.in-Err.ensures.failed clean))
+    subst (IsExcusedReading (state g.S.Store c.args.conn.now) (state g.S.Store c.items.new.conn)) (sym c.fault_of_read.ensures)
+    (list_cause item_columns _ (state g.S.Store c.args.conn.now) (state g.S.Store c.items.new.conn) c.in-Err.error (c.in-Err.ensures.failed clean))
 
 pub returns-in-Err-members-clause-failed : goal.returns-in-Err-members-clause-failed
 returns-in-Err-members-clause-failed g c clean =
@@ -74,7 +80,8 @@ returns-in-Err-members-clause-failed g c clean =
     let mid = state g.S.Store c.items.new.conn in
     let new = state g.S.Store c.members.new.conn in
     subst (IsExcusedReading old new) (sym c.fault_of_read-in-Err-members.ensures)
-    (cause_then old mid new c.items.ensures.survives (same_as old mid (c.in-Ok.ensures.listed (clean_before old mid new c.members.ensures.survives clean)).1) _ (list_cause member_columns _ mid new c.in-Err-members.error (c.in-Err-members.ensures.failed clean)))
+    (cause_then old mid new c.items.ensures.survives (same_as old mid (c.in-Ok.ensures.listed (clean_before old mid new c.members.ensures.survives clean)).1) _
+    (list_cause member_columns _ mid new c.in-Err-members.error (c.in-Err-members.ensures.failed clean)))
 
 pub returns-in-Err-begun-clause-failed : goal.returns-in-Err-begun-clause-failed
 returns-in-Err-begun-clause-failed g c clean =

@@ -43,7 +43,8 @@ read_kept-requires g c =
     let mid = state g.S.Store c.test_strays.new.conn in
     let two = state g.S.Store c.read_named.new.conn in
     let both = reads_then old mid two c.test_strays.ensures.reads c.read_named.ensures.reads in
-    while_same (HasVersionTables c.args.version) old two both.survives (λ clean. same_then old mid two (c.in_ok-test_strays.ensures.same (clean_before old mid two c.read_named.ensures.reads.survives clean)) (c.in_ok-read_named.ensures.same clean)) c.requires
+    while_same (HasVersionTables c.args.version) old two both.survives (λ clean.
+    same_then old mid two (c.in_ok-test_strays.ensures.same (clean_before old mid two c.read_named.ensures.reads.survives clean)) (c.in_ok-read_named.ensures.same clean)) c.requires
 
 pub returns-clause-indexed : goal.returns-clause-indexed
 returns-clause-indexed g c clean =
@@ -72,8 +73,12 @@ returns-clause-all g c clean =
     (λ replies front h b.
     let version = c.args.version in
     let named = c.in_ok-read_named.ensures.named late front h (subst (λ (d : Database). HasBegun version d front) (sym one) b) in
-    let got = replies named.0 named.1 in
-    (got.0, got.1, has_all version old.now c.args.reader.now.reader front named.0 (c.in_ok-test_strays.ensures.known early) (subst (λ (d : Database). HasNamed version d c.args.reader.now.reader front named.0) one named.2) b got.0 (subst (λ (d : Database). HasReplies d named.0 got.0) same got.2)))
+    let got = replies named.0 named.1 in (
+      got.0,
+      got.1,
+      has_all version old.now c.args.reader.now.reader front named.0 (c.in_ok-test_strays.ensures.known early) (subst (λ (d : Database). HasNamed version d c.args.reader.now.reader front named.0) one named.2) b got.0
+          (subst (λ (d : Database). HasReplies d named.0 got.0) same got.2),
+    ))
     (c.read_kept.ensures.replies clean)
 
 pub returns-clause-damaged : goal.returns-clause-damaged
@@ -101,12 +106,17 @@ returns-in_err-test_strays-clause-failed g c clean =
 
 pub returns-in_err-read_named-clause-failed : goal.returns-in_err-read_named-clause-failed
 returns-in_err-read_named-clause-failed g c clean =
-    cause_later (state g.S.Store c.args.conn.now) (state g.S.Store c.test_strays.new.conn) (state g.S.Store c.read_named.new.conn) c.in_err-read_named.field-0.0 c.from_residual-in_err-read_named.result c.from_residual-in_err-read_named.ensures.1 c.test_strays.ensures.reads.survives c.read_named.ensures.reads.survives
+    cause_later (state g.S.Store c.args.conn.now) (state g.S.Store c.test_strays.new.conn) (state g.S.Store c.read_named.new.conn) c.in_err-read_named.field-0.0 c.from_residual-in_err-read_named.result
+    c.from_residual-in_err-read_named.ensures.1 c.test_strays.ensures.reads.survives c.read_named.ensures.reads.survives
     c.in_ok-test_strays.ensures.same clean (c.in_err-read_named.ensures.failed clean)
 
 pub returns-clause-failed : goal.returns-clause-failed
 returns-clause-failed g c clean =
-    cause_last (state g.S.Store c.args.conn.now) (state g.S.Store c.read_named.new.conn) (state g.S.Store c.read_kept.new.conn) c.read_kept.result (reads_then (state g.S.Store c.args.conn.now) (state g.S.Store c.test_strays.new.conn) (state g.S.Store c.read_named.new.conn) c.test_strays.ensures.reads c.read_named.ensures.reads).survives c.read_kept.ensures.reads.survives (λ late. same_then (state g.S.Store c.args.conn.now) (state g.S.Store c.test_strays.new.conn) (state g.S.Store c.read_named.new.conn) (c.in_ok-test_strays.ensures.same (clean_before (state g.S.Store c.args.conn.now) (state g.S.Store c.test_strays.new.conn) (state g.S.Store c.read_named.new.conn) c.read_named.ensures.reads.survives late)) (c.in_ok-read_named.ensures.same late)) clean (c.read_kept.ensures.failed clean)
+    cause_last (state g.S.Store c.args.conn.now) (state g.S.Store c.read_named.new.conn) (state g.S.Store c.read_kept.new.conn) c.read_kept.result
+    (reads_then (state g.S.Store c.args.conn.now) (state g.S.Store c.test_strays.new.conn) (state g.S.Store c.read_named.new.conn) c.test_strays.ensures.reads c.read_named.ensures.reads).survives
+    c.read_kept.ensures.reads.survives (λ late. same_then (state g.S.Store c.args.conn.now) (state g.S.Store c.test_strays.new.conn) (state g.S.Store c.read_named.new.conn)
+    (c.in_ok-test_strays.ensures.same (clean_before (state g.S.Store c.args.conn.now) (state g.S.Store c.test_strays.new.conn) (state g.S.Store c.read_named.new.conn) c.read_named.ensures.reads.survives late))
+    (c.in_ok-read_named.ensures.same late)) clean (c.read_kept.ensures.failed clean)
 
 pub read_named-requires : goal.read_named-requires
 read_named-requires g c =

@@ -27,7 +27,8 @@ use Rattle.store_opening.proofs.records.read_kept.Goals as goal
 pub returns-in_err-read_replies-clause-damaged : goal.returns-in_err-read_replies-clause-damaged
 returns-in_err-read_replies-clause-damaged g c clean =
     let old = state g.S.Store c.args.conn.now in
-    let wrong : (fault : ReadingFault) → Type 0 = λ fault. fault ≡ Damaged → (taken : Tables) → HasTaken c.args.version c.args.reader.now taken → AllGoOnFrom c.args.version old.now taken → taken.kept ≡ [] → KeepsNone c.args.version old.now taken.members in
+    let wrong : (fault : ReadingFault) → Type 0 = λ fault. fault ≡ Damaged → (taken : Tables) → HasTaken c.args.version c.args.reader.now taken → AllGoOnFrom c.args.version old.now taken → taken.kept ≡ []
+    → KeepsNone c.args.version old.now taken.members in
     passed_on wrong c.in_err-read_replies.field-0.0 c.from_residual.result c.from_residual.ensures.1
     (λ is taken h fits none. replies_wrong c.args.version old.now c.args.reader.now taken h fits none (c.in_err-read_replies.ensures.damaged clean is))
 
@@ -64,4 +65,5 @@ returns-in_err-read_replies-clause-failed g c clean =
 
 pub returns-clause-failed : goal.returns-clause-failed
 returns-clause-failed g c clean =
-    cause_last (state g.S.Store c.args.conn.now) (state g.S.Store c.read_replies.new.conn) (state g.S.Store c.test_ids.new.conn) c.test_ids.result c.read_replies.ensures.reads.survives c.test_ids.ensures.reads.survives c.in_ok-read_replies.ensures.same clean (c.test_ids.ensures.failed clean)
+    cause_last (state g.S.Store c.args.conn.now) (state g.S.Store c.read_replies.new.conn) (state g.S.Store c.test_ids.new.conn) c.test_ids.result c.read_replies.ensures.reads.survives c.test_ids.ensures.reads.survives
+    c.in_ok-read_replies.ensures.same clean (c.test_ids.ensures.failed clean)

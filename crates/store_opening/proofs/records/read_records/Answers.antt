@@ -68,7 +68,8 @@ returns-in-Ok-clause-indexed g c clean lm =
     let has = subst (λ (d : Database). HasAll version d c.in_ok-reader.reader begun.0 all.0) same all.2 in
     let found = c.in-Ok.ensures.stands version all.0 all.1 has.ids in
     let numbers = sym (numbers_taken version c.in_ok-reader.reader begun.0 all.0 found.0 begun.1 has.goes found.1) ∙ numbers_summed found.0 (summary_shown c.in-Ok.summary) found.2 in
-    subst (λ ns. HaveRowsIndexed (layout_of version) old.now ns c.read_all.new.indexes) numbers (subst (λ (d : Database). HaveRowsIndexed (layout_of version) d (edition_numbers (items_in c.in_ok-reader.reader)) c.read_all.new.indexes) same (c.in_default.ensures.indexed clean))
+    subst (λ ns. HaveRowsIndexed (layout_of version) old.now ns c.read_all.new.indexes) numbers
+    (subst (λ (d : Database). HaveRowsIndexed (layout_of version) d (edition_numbers (items_in c.in_ok-reader.reader)) c.read_all.new.indexes) same (c.in_default.ensures.indexed clean))
 
 pub returns-in-Err-finish-clause-damaged : goal.returns-in-Err-finish-clause-damaged
 returns-in-Err-finish-clause-damaged g c clean is lm =

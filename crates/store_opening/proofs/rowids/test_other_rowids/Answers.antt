@@ -46,4 +46,5 @@ returns-in_err-test_small-clause-failed g c clean =
 
 pub returns-clause-failed : goal.returns-clause-failed
 returns-clause-failed g c clean =
-    cause_last (state g.S.Store c.args.conn.now) (state g.S.Store c.test_small.new.conn) (state g.S.Store c.test_rowids.new.conn) c.test_rowids.result c.test_small.ensures.reads.survives c.test_rowids.ensures.reads.survives c.in_ok-test_small.ensures.same clean (c.test_rowids.ensures.failed clean)
+    cause_last (state g.S.Store c.args.conn.now) (state g.S.Store c.test_small.new.conn) (state g.S.Store c.test_rowids.new.conn) c.test_rowids.result c.test_small.ensures.reads.survives c.test_rowids.ensures.reads.survives
+    c.in_ok-test_small.ensures.same clean (c.test_rowids.ensures.failed clean)

@@ -61,9 +61,14 @@ returns-in_err-test_rowids-clause-failed g c clean =
 
 pub returns-in_err-test_rowids-2-clause-failed : goal.returns-in_err-test_rowids-2-clause-failed
 returns-in_err-test_rowids-2-clause-failed g c clean =
-    cause_later (state g.S.Store c.args.conn.now) (state g.S.Store c.test_rowids.new.conn) (state g.S.Store c.test_rowids-2.new.conn) c.in_err-test_rowids-2.field-0.0 c.from_residual-in_err-test_rowids-2.result c.from_residual-in_err-test_rowids-2.ensures.1 c.test_rowids.ensures.reads.survives c.test_rowids-2.ensures.reads.survives
+    cause_later (state g.S.Store c.args.conn.now) (state g.S.Store c.test_rowids.new.conn) (state g.S.Store c.test_rowids-2.new.conn) c.in_err-test_rowids-2.field-0.0 c.from_residual-in_err-test_rowids-2.result
+    c.from_residual-in_err-test_rowids-2.ensures.1 c.test_rowids.ensures.reads.survives c.test_rowids-2.ensures.reads.survives
     c.in_ok-test_rowids.ensures.same clean (c.in_err-test_rowids-2.ensures.failed clean)
 
 pub returns-clause-failed : goal.returns-clause-failed
 returns-clause-failed g c clean =
-    cause_last (state g.S.Store c.args.conn.now) (state g.S.Store c.test_rowids-2.new.conn) (state g.S.Store c.test_rowids-3.new.conn) c.test_rowids-3.result (reads_then (state g.S.Store c.args.conn.now) (state g.S.Store c.test_rowids.new.conn) (state g.S.Store c.test_rowids-2.new.conn) c.test_rowids.ensures.reads c.test_rowids-2.ensures.reads).survives c.test_rowids-3.ensures.reads.survives (λ late. same_then (state g.S.Store c.args.conn.now) (state g.S.Store c.test_rowids.new.conn) (state g.S.Store c.test_rowids-2.new.conn) (c.in_ok-test_rowids.ensures.same (clean_before (state g.S.Store c.args.conn.now) (state g.S.Store c.test_rowids.new.conn) (state g.S.Store c.test_rowids-2.new.conn) c.test_rowids-2.ensures.reads.survives late)) (c.in_ok-test_rowids-2.ensures.same late)) clean (c.test_rowids-3.ensures.failed clean)
+    cause_last (state g.S.Store c.args.conn.now) (state g.S.Store c.test_rowids-2.new.conn) (state g.S.Store c.test_rowids-3.new.conn) c.test_rowids-3.result
+    (reads_then (state g.S.Store c.args.conn.now) (state g.S.Store c.test_rowids.new.conn) (state g.S.Store c.test_rowids-2.new.conn) c.test_rowids.ensures.reads c.test_rowids-2.ensures.reads).survives
+    c.test_rowids-3.ensures.reads.survives (λ late. same_then (state g.S.Store c.args.conn.now) (state g.S.Store c.test_rowids.new.conn) (state g.S.Store c.test_rowids-2.new.conn)
+    (c.in_ok-test_rowids.ensures.same (clean_before (state g.S.Store c.args.conn.now) (state g.S.Store c.test_rowids.new.conn) (state g.S.Store c.test_rowids-2.new.conn) c.test_rowids-2.ensures.reads.survives late))
+    (c.in_ok-test_rowids-2.ensures.same late)) clean (c.test_rowids-3.ensures.failed clean)

@@ -54,7 +54,8 @@ returns-clause-damaged g c clean =
     let early : HasCleanDisk mid = clean_before old mid new c.test_contents.ensures.reads.survives clean in
     let same = (c.in_ok-test_records.ensures.same early).now in
     if_err_then _ _ c.test_contents.result
-    (λ fault wrong is readable known. wrong is (subst (IsReadable (contents layout)) (sym same) readable.1.0) (subst (λ (d : Database). AreKnownApart (is_of_contents layout c.args.numbers.now) (table_name_of (contents layout)) d) (sym same) known.contents))
+    (λ fault wrong is readable known. wrong is (subst (IsReadable (contents layout)) (sym same) readable.1.0)
+    (subst (λ (d : Database). AreKnownApart (is_of_contents layout c.args.numbers.now) (table_name_of (contents layout)) d) (sym same) known.contents))
     (c.test_contents.ensures.damaged clean)
 
 pub returns-in_err-test_records-clause-failed : goal.returns-in_err-test_records-clause-failed
@@ -63,4 +64,5 @@ returns-in_err-test_records-clause-failed g c clean =
 
 pub returns-clause-failed : goal.returns-clause-failed
 returns-clause-failed g c clean =
-    cause_last (state g.S.Store c.args.conn.now) (state g.S.Store c.test_records.new.conn) (state g.S.Store c.test_contents.new.conn) c.test_contents.result c.test_records.ensures.reads.survives c.test_contents.ensures.reads.survives c.in_ok-test_records.ensures.same clean (c.test_contents.ensures.failed clean)
+    cause_last (state g.S.Store c.args.conn.now) (state g.S.Store c.test_records.new.conn) (state g.S.Store c.test_contents.new.conn) c.test_contents.result c.test_records.ensures.reads.survives
+    c.test_contents.ensures.reads.survives c.in_ok-test_records.ensures.same clean (c.test_contents.ensures.failed clean)

@@ -22,4 +22,5 @@ returns-clause-one g c clean =
 
 pub returns-in-Err-clause-failed : goal.returns-in-Err-clause-failed
 returns-in-Err-clause-failed g c clean =
-    subst (IsExcusedReading (state g.S.Store c.args.conn.now) (state g.S.Store c.editions_numbered.new.conn)) (sym c.fault_of_read.ensures) (list_cause edition_columns _ (state g.S.Store c.args.conn.now) (state g.S.Store c.editions_numbered.new.conn) c.in-Err.error (c.in-Err.ensures.failed clean))
+    subst (IsExcusedReading (state g.S.Store c.args.conn.now) (state g.S.Store c.editions_numbered.new.conn)) (sym c.fault_of_read.ensures)
+    (list_cause edition_columns _ (state g.S.Store c.args.conn.now) (state g.S.Store c.editions_numbered.new.conn) c.in-Err.error (c.in-Err.ensures.failed clean))

@@ -21,4 +21,5 @@ returns-clause-one g c clean =
 
 pub returns-in-Err-clause-failed : goal.returns-in-Err-clause-failed
 returns-in-Err-clause-failed g c clean =
-    subst (IsExcusedReading (state g.S.Store c.args.conn.now) (state g.S.Store c.headers_numbered.new.conn)) (sym c.fault_of_read.ensures) (list_cause header_columns _ (state g.S.Store c.args.conn.now) (state g.S.Store c.headers_numbered.new.conn) c.in-Err.error (c.in-Err.ensures.failed clean))
+    subst (IsExcusedReading (state g.S.Store c.args.conn.now) (state g.S.Store c.headers_numbered.new.conn)) (sym c.fault_of_read.ensures)
+    (list_cause header_columns _ (state g.S.Store c.args.conn.now) (state g.S.Store c.headers_numbered.new.conn) c.in-Err.error (c.in-Err.ensures.failed clean))

@@ -19,8 +19,10 @@ loop-place-preserved c = λ up more_up.
     let old = c.loop-place.invariant up more_up in
     let rest = c.from_place-rest.ensures old.rises in
     elim c.if-begins_with.branch [
-      | then-begins_with+in_ok-push w ↦ one_gone fewer more i x c.loop-place.rest.now c.from_place-rest.result.now c.loop-place.both.items c.if-begins_with.both.items true up old c.loop-place-test.true refl rest (sym w.if-begins_with.true ∙ c.begins_with.ensures) (ap (λ (v : Vec ℕ Global). v.items) w.both-is ∙ w.in_ok-push.ensures.items)
-      | else-begins_with w ↦ one_gone fewer more i x c.loop-place.rest.now c.from_place-rest.result.now c.loop-place.both.items c.if-begins_with.both.items false up old c.loop-place-test.true refl rest (sym w.if-begins_with.false ∙ c.begins_with.ensures) (ap (λ (v : Vec ℕ Global). v.items) w.both-is ∙ sym (append-nil c.loop-place.both.items))
+      | then-begins_with+in_ok-push w ↦ one_gone fewer more i x c.loop-place.rest.now c.from_place-rest.result.now c.loop-place.both.items c.if-begins_with.both.items true up old c.loop-place-test.true refl rest
+          (sym w.if-begins_with.true ∙ c.begins_with.ensures) (ap (λ (v : Vec ℕ Global). v.items) w.both-is ∙ w.in_ok-push.ensures.items)
+      | else-begins_with w ↦ one_gone fewer more i x c.loop-place.rest.now c.from_place-rest.result.now c.loop-place.both.items c.if-begins_with.both.items false up old c.loop-place-test.true refl rest
+          (sym w.if-begins_with.false ∙ c.begins_with.ensures) (ap (λ (v : Vec ℕ Global). v.items) w.both-is ∙ sym (append-nil c.loop-place.both.items))
     ]
 
 pub returns : goal.returns

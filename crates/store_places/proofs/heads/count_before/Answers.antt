@@ -30,6 +30,7 @@ returns-clause-point c =
     let there = subst (λ l. IsPartitionPoint (λ y. p y ≡ true) (λ y. p y ≡ false) l count) rest point in
     let sizes = length-drop first (take last xs) in
     let few : first + count ≤ last = omega (arith, subst (λ l. count ≤ length l) rest c.partition_point-2.ensures.bound, sizes, size, c.likely_run-first.ensures) in
-    let front : (d : ℕ) → 0 < first → p (get_or (take last xs) (first - 1) d) ≡ true = λ d lt. subst (λ x. p x ≡ true) (sym (get_or-take last xs (first - 1) d (omega (arith, lt, c.likely_run-first.ensures)))) (c.is_within.ensures.front is d lt) in
+    let front : (d : ℕ) → 0 < first → p (get_or (take last xs) (first - 1) d) ≡ true = λ d lt.
+    subst (λ x. p x ≡ true) (sym (get_or-take last xs (first - 1) d (omega (arith, lt, c.likely_run-first.ensures)))) (c.is_within.ensures.front is d lt) in
     let inside : first ≤ length (take last xs) = omega (arith, size, c.likely_run-first.ensures) in
     near_point p xs parted last (first + count) (λ d lt. c.is_within.ensures.behind is d lt) within few (far_point p (take last xs) first count front_part front inside there)

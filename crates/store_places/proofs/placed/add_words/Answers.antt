@@ -11,8 +11,12 @@ loop-word-init c =
     (tt, tt, ap (λ ws. words_placed c.args.list.now.items ++ map (placed_at c.args.place) ws) (sym all))
 
 pub loop-word-preserved : goal.loop-word-preserved
-loop-word-preserved c =
-    (tt, tt, put_more word_placed (placed_at c.args.place) c.loop-word.list.items c.push.new.self.items _ c.in-Some.word.now c.loop-word.word-iterator c.next.new.self _ c.in_ok-push.ensures.items refl c.in-Some.ensures.steps c.loop-word.invariant.2)
+loop-word-preserved c = (
+  tt,
+  tt,
+  put_more word_placed (placed_at c.args.place) c.loop-word.list.items c.push.new.self.items _ c.in-Some.word.now c.loop-word.word-iterator c.next.new.self _ c.in_ok-push.ensures.items refl c.in-Some.ensures.steps
+      c.loop-word.invariant.2,
+)
 
 pub returns : goal.returns
 returns c = none_left word_placed (placed_at c.args.place) c.loop-word.list.items c.loop-word.word-iterator _ c.in-None.ensures.steps.0 c.loop-word.invariant.2

@@ -24,7 +24,8 @@ returns c =
     let there = subst (λ l. IsPartitionPoint (λ y. up_to keys high y ≡ true) (λ y. up_to keys high y ≡ false) l count) some point in
     let size : length (take near (drop from xs)) ≡ near = length-take-le near (drop from xs) within in
     let few : count ≤ near = omega (arith, subst (λ l. count ≤ length l) some c.partition_point-count.ensures.bound, size) in
-    let past : (d : ℕ) → near < length (drop from xs) → up_to keys high (get_or (drop from xs) near d) ≡ false = λ d lt. subst (λ l. up_to keys high (get_or l near d) ≡ false) rest (c.reach_reversed.ensures.past d (subst (λ l. near < length l) (sym rest) lt)) in
+    let past : (d : ℕ) → near < length (drop from xs) → up_to keys high (get_or (drop from xs) near d) ≡ false = λ d lt.
+    subst (λ l. up_to keys high (get_or l near d) ≡ false) rest (c.reach_reversed.ensures.past d (subst (λ l. near < length l) (sym rest) lt)) in
     let second = near_point (up_to keys high) (drop from xs) parted near count past within few there in
     let run : c.split_at-3.result.0.now ≡ take count (drop from xs) = c.split_at-3.ensures.front ∙ ap (take count) some ∙ take-take count near (drop from xs) few in
     run ∙ run_is keys xs low high from count c.partition_point-from.ensures.bound (omega (arith, few, within)) first second

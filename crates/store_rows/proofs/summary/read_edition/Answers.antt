@@ -21,4 +21,5 @@ pub returns-clause-damaged : goal.returns-clause-damaged
 returns-clause-damaged c =
     let same = rw c.deref.ensures.value at c.read_entries.ensures.damaged in
     IfErr-weaker c.read_entries.result _ _ (λ fault why. group_damage fault c.args.reader.now c.edition.new.self c.args.rows.now
-    (λ version taken h. subst (λ (row : spec.EditionRecord). HasTaken version c.edition.new.self (with_edition taken row)) c.in_ok-copied_edition.ensures (c.in_ok-edition.ensures.taken version taken (c.args.reader.now.edition, h))) why) same
+    (λ version taken h. subst (λ (row : spec.EditionRecord). HasTaken version c.edition.new.self (with_edition taken row)) c.in_ok-copied_edition.ensures (c.in_ok-edition.ensures.taken version taken (c.args.reader.now.edition, h)))
+    why) same

@@ -12,7 +12,8 @@ returns-in_err-read_edition-clause-damaged c =
     rw (p.1, p.2) (groups_damage _ c.args.reader.now c.loop-row.reader c.args.rows.now c.loop-row.row-index c.row-item.result c.loop-row-test.true c.row-item.is c.loop-row.invariant c.in_err-read_edition.ensures.damaged)
 
 pub loop-row-preserved : goal.loop-row-preserved
-loop-row-preserved c = groups_next c.args.reader.now c.loop-row.reader c.read_edition.new.reader c.args.rows.now c.loop-row.row-index c.row-item.result c.loop-row-test.true c.row-item.is c.loop-row.invariant c.in_ok-read_edition.ensures.taken
+loop-row-preserved c =
+    groups_next c.args.reader.now c.loop-row.reader c.read_edition.new.reader c.args.rows.now c.loop-row.row-index c.row-item.result c.loop-row-test.true c.row-item.is c.loop-row.invariant c.in_ok-read_edition.ensures.taken
 
 pub returns-clause-taken : goal.returns-clause-taken
 returns-clause-taken c = λ version taken h.

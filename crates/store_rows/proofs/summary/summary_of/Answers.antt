@@ -19,7 +19,8 @@ pub returns-in_err-read_replies-clause-damaged : goal.returns-in_err-read_replie
 returns-in_err-read_replies-clause-damaged c =
     let p = err_from_is_err_and c.from_residual-in_err-read_replies.result c.from_residual-in_err-read_replies.ensures.1 in
     let h = c.in_ok-read_editions.ensures.taken c.args.version _ c.in_ok-reader.ensures.taken in
-    rw (p.1, p.2) (any_damage _ (StandForNone c.args.version c.args.tables.now) (λ of M stands. c.in_err-read_replies.ensures.damaged c.args.version _ h (tables_given c.args.tables.now) M (goes_same (tables_given c.args.tables.now)) stands))
+    rw (p.1, p.2) (any_damage _ (StandForNone c.args.version c.args.tables.now) (λ of M stands.
+    c.in_err-read_replies.ensures.damaged c.args.version _ h (tables_given c.args.tables.now) M (goes_same (tables_given c.args.tables.now)) stands))
 
 pub returns-then-not-has_ids_once-clause-damaged : goal.returns-then-not-has_ids_once-clause-damaged
 returns-then-not-has_ids_once-clause-damaged c = λ of M stands. ids_refused c.args.version (tables_given c.args.tables.now) M (sym c.has_ids_once.ensures ∙ c.if-not-has_ids_once.true) stands

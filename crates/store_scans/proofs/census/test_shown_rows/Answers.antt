@@ -38,7 +38,10 @@ returns-clause-whole g c clean =
     let end = c.take_all.new.rows.conn.now in
     let same : end ≡ c.conn-2-1.given.0 = search rules in
     let late : HasCleanDisk (state g.S.Store end) = subst (λ h. HasCleanDisk (state g.S.Store h)) (sym same) clean in
-    on_ok_weaker c.take_all.result (λ all. census_whole stored_keyed_entry keyed_entry_columns ShownEntriesByRowid (codes "entry") (state g.S.Store old).now c.args.numbers.now (record { numbers = c.args.numbers; rowids = c.new.result }) refl c.new.ensures (λ rows h. selection_lists (codes "entry") (state g.S.Store old).now rows h) c.take_all.new.taker all) (whole_on g.S.Store ShownEntriesByRowid old mid end c.in-Ok.ensures.begun c.take_all.ensures.survives c.take_all.result (λ what db. TakesAll stored_keyed_entry (TakesCensus stored_keyed_entry) what db (record { numbers = c.args.numbers; rowids = c.new.result }) c.take_all.new.taker) c.take_all.ensures.whole late)
+    on_ok_weaker c.take_all.result (λ all. census_whole stored_keyed_entry keyed_entry_columns ShownEntriesByRowid (codes "entry") (state g.S.Store old).now c.args.numbers.now
+    (record { numbers = c.args.numbers; rowids = c.new.result }) refl c.new.ensures (λ rows h. selection_lists (codes "entry") (state g.S.Store old).now rows h) c.take_all.new.taker all)
+    (whole_on g.S.Store ShownEntriesByRowid old mid end c.in-Ok.ensures.begun c.take_all.ensures.survives c.take_all.result
+    (λ what db. TakesAll stored_keyed_entry (TakesCensus stored_keyed_entry) what db (record { numbers = c.args.numbers; rowids = c.new.result }) c.take_all.new.taker) c.take_all.ensures.whole late)
 
 pub returns-clause-damaged : goal.returns-clause-damaged
 returns-clause-damaged g c clean =
@@ -50,8 +53,12 @@ returns-clause-damaged g c clean =
     let begun = c.in-Ok.ensures.begun (clean_before (state g.S.Store old) (state g.S.Store mid) (state g.S.Store end) c.take_all.ensures.survives late) in
     let open' = begun.1.0.was_open in
     let sound : IsDatabase (state g.S.Store old).now = (c.is_live.ensures open').0 in
-    let has : Has entry_with_keys (state g.S.Store old).now = c.requires (clean_before (state g.S.Store old) (state g.S.Store old) (state g.S.Store mid) c.in-Ok.ensures.survives (clean_before (state g.S.Store old) (state g.S.Store mid) (state g.S.Store end) c.take_all.ensures.survives late)) open' in
-    if_err_then _ _ c.take_all.result (λ fault wrong is. λ readable apart. census_wrong stored_keyed_entry keyed_entry_columns ShownEntriesByRowid (codes "entry") (state g.S.Store old).now c.args.numbers.now (record { numbers = c.args.numbers; rowids = c.new.result }) refl c.new.ensures (λ rows h. selection_lists (codes "entry") (state g.S.Store old).now rows h) (shown_readable (state g.S.Store old).now sound has readable) apart (wrong is)) (damaged_on g.S.Store ShownEntriesByRowid old mid end c.in-Ok.ensures.begun c.take_all.ensures.survives c.take_all.result (λ what db. IsWrong stored_keyed_entry keyed_entry_columns (refuses_census stored_keyed_entry) what db (record { numbers = c.args.numbers; rowids = c.new.result })) c.take_all.ensures.damaged late)
+    let has : Has entry_with_keys (state g.S.Store old).now = c.requires (clean_before (state g.S.Store old) (state g.S.Store old) (state g.S.Store mid) c.in-Ok.ensures.survives
+    (clean_before (state g.S.Store old) (state g.S.Store mid) (state g.S.Store end) c.take_all.ensures.survives late)) open' in
+    if_err_then _ _ c.take_all.result (λ fault wrong is. λ readable apart. census_wrong stored_keyed_entry keyed_entry_columns ShownEntriesByRowid (codes "entry") (state g.S.Store old).now c.args.numbers.now
+    (record { numbers = c.args.numbers; rowids = c.new.result }) refl c.new.ensures (λ rows h. selection_lists (codes "entry") (state g.S.Store old).now rows h) (shown_readable (state g.S.Store old).now sound has readable)
+    apart (wrong is)) (damaged_on g.S.Store ShownEntriesByRowid old mid end c.in-Ok.ensures.begun c.take_all.ensures.survives c.take_all.result
+    (λ what db. IsWrong stored_keyed_entry keyed_entry_columns (refuses_census stored_keyed_entry) what db (record { numbers = c.args.numbers; rowids = c.new.result })) c.take_all.ensures.damaged late)
 
 pub returns-clause-failed : goal.returns-clause-failed
 returns-clause-failed g c clean =

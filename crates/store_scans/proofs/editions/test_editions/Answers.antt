@@ -34,7 +34,9 @@ returns-clause-whole g c clean =
     let end = c.take_all.new.rows.conn.now in
     let same : end ≡ c.conn-2-1.given.0 = search rules in
     let late : HasCleanDisk (state g.S.Store end) = subst (λ h. HasCleanDisk (state g.S.Store h)) (sym same) clean in
-    on_ok_weaker c.take_all.result (λ all. numbers_whole (state g.S.Store old).now c.args.numbers.now (record { numbers = c.args.numbers; rowids = c.new.result }) refl c.new.ensures c.take_all.new.taker all) (whole_on g.S.Store (InStore EditionNumbers) old mid end c.in-Ok.ensures.begun c.take_all.ensures.survives c.take_all.result (λ what db. TakesAll stored_number (TakesCensus stored_number) what db (record { numbers = c.args.numbers; rowids = c.new.result }) c.take_all.new.taker) c.take_all.ensures.whole late)
+    on_ok_weaker c.take_all.result (λ all. numbers_whole (state g.S.Store old).now c.args.numbers.now (record { numbers = c.args.numbers; rowids = c.new.result }) refl c.new.ensures c.take_all.new.taker all)
+    (whole_on g.S.Store (InStore EditionNumbers) old mid end c.in-Ok.ensures.begun c.take_all.ensures.survives c.take_all.result
+    (λ what db. TakesAll stored_number (TakesCensus stored_number) what db (record { numbers = c.args.numbers; rowids = c.new.result }) c.take_all.new.taker) c.take_all.ensures.whole late)
 
 pub returns-clause-damaged : goal.returns-clause-damaged
 returns-clause-damaged g c clean =
@@ -43,7 +45,9 @@ returns-clause-damaged g c clean =
     let end = c.take_all.new.rows.conn.now in
     let same : end ≡ c.conn-2-1.given.0 = search rules in
     let late : HasCleanDisk (state g.S.Store end) = subst (λ h. HasCleanDisk (state g.S.Store h)) (sym same) clean in
-    if_err_then _ _ c.take_all.result (λ fault wrong is. λ readable apart. numbers_wrong (state g.S.Store old).now c.args.numbers.now (record { numbers = c.args.numbers; rowids = c.new.result }) refl c.new.ensures readable apart (wrong is)) (damaged_on g.S.Store (InStore EditionNumbers) old mid end c.in-Ok.ensures.begun c.take_all.ensures.survives c.take_all.result (λ what db. IsWrong stored_number number_columns (refuses_census stored_number) what db (record { numbers = c.args.numbers; rowids = c.new.result })) c.take_all.ensures.damaged late)
+    if_err_then _ _ c.take_all.result (λ fault wrong is. λ readable apart. numbers_wrong (state g.S.Store old).now c.args.numbers.now (record { numbers = c.args.numbers; rowids = c.new.result }) refl c.new.ensures readable apart
+    (wrong is)) (damaged_on g.S.Store (InStore EditionNumbers) old mid end c.in-Ok.ensures.begun c.take_all.ensures.survives c.take_all.result
+    (λ what db. IsWrong stored_number number_columns (refuses_census stored_number) what db (record { numbers = c.args.numbers; rowids = c.new.result })) c.take_all.ensures.damaged late)
 
 pub returns-clause-failed : goal.returns-clause-failed
 returns-clause-failed g c clean =

@@ -33,7 +33,9 @@ returns-clause-whole g c clean =
     let end = c.take_all.new.rows.conn.now in
     let same : end ≡ c.conn-2-1.given.0 = search rules in
     let late : HasCleanDisk (state g.S.Store end) = subst (λ h. HasCleanDisk (state g.S.Store h)) (sym same) clean in
-    on_ok_weaker c.take_all.result (λ all. census_whole stored_header header_columns HeadersByRowid (codes "edition") (state g.S.Store old).now c.args.numbers.now (record { numbers = c.args.numbers; rowids = c.new.result }) refl c.new.ensures (λ rows h. (h.same, h.sorted)) c.take_all.new.taker all) (whole_on g.S.Store HeadersByRowid old mid end c.in-Ok.ensures.begun c.take_all.ensures.survives c.take_all.result (λ what db. TakesAll stored_header (TakesCensus stored_header) what db (record { numbers = c.args.numbers; rowids = c.new.result }) c.take_all.new.taker) c.take_all.ensures.whole late)
+    on_ok_weaker c.take_all.result (λ all. census_whole stored_header header_columns HeadersByRowid (codes "edition") (state g.S.Store old).now c.args.numbers.now (record { numbers = c.args.numbers; rowids = c.new.result }) refl
+    c.new.ensures (λ rows h. (h.same, h.sorted)) c.take_all.new.taker all) (whole_on g.S.Store HeadersByRowid old mid end c.in-Ok.ensures.begun c.take_all.ensures.survives c.take_all.result
+    (λ what db. TakesAll stored_header (TakesCensus stored_header) what db (record { numbers = c.args.numbers; rowids = c.new.result }) c.take_all.new.taker) c.take_all.ensures.whole late)
 
 pub returns-clause-damaged : goal.returns-clause-damaged
 returns-clause-damaged g c clean =
@@ -42,7 +44,10 @@ returns-clause-damaged g c clean =
     let end = c.take_all.new.rows.conn.now in
     let same : end ≡ c.conn-2-1.given.0 = search rules in
     let late : HasCleanDisk (state g.S.Store end) = subst (λ h. HasCleanDisk (state g.S.Store h)) (sym same) clean in
-    if_err_then _ _ c.take_all.result (λ fault wrong is. λ readable apart. census_wrong stored_header header_columns HeadersByRowid (codes "edition") (state g.S.Store old).now c.args.numbers.now (record { numbers = c.args.numbers; rowids = c.new.result }) refl c.new.ensures (λ rows h. (h.same, h.sorted)) readable apart (wrong is)) (damaged_on g.S.Store HeadersByRowid old mid end c.in-Ok.ensures.begun c.take_all.ensures.survives c.take_all.result (λ what db. IsWrong stored_header header_columns (refuses_census stored_header) what db (record { numbers = c.args.numbers; rowids = c.new.result })) c.take_all.ensures.damaged late)
+    if_err_then _ _ c.take_all.result (λ fault wrong is. λ readable apart. census_wrong stored_header header_columns HeadersByRowid (codes "edition") (state g.S.Store old).now c.args.numbers.now
+    (record { numbers = c.args.numbers; rowids = c.new.result }) refl c.new.ensures (λ rows h. (h.same, h.sorted)) readable apart (wrong is))
+    (damaged_on g.S.Store HeadersByRowid old mid end c.in-Ok.ensures.begun c.take_all.ensures.survives c.take_all.result
+    (λ what db. IsWrong stored_header header_columns (refuses_census stored_header) what db (record { numbers = c.args.numbers; rowids = c.new.result })) c.take_all.ensures.damaged late)
 
 pub returns-clause-failed : goal.returns-clause-failed
 returns-clause-failed g c clean =

@@ -28,7 +28,8 @@ returns-clause-reads g c =
     let end = c.take_all.new.rows.conn.now in
     let same : end ≡ c.conn-2-1.given.0 = search rules in
     subst (λ h. OnlyReads (state g.S.Store old) (state g.S.Store h)) same
-    (reads_on g.S.Store (OldEntriesOf c.args.number) old mid end (rw (to_z-of_z w64 c.args.number c.ranges.number) at c.in-Ok.ensures.begun) c.take_all.ensures.survives c.in-Ok.ensures.mode c.in-Ok.ensures.survives c.take_all.ensures.mode c.take_all.ensures.stays)
+    (reads_on g.S.Store (OldEntriesOf c.args.number) old mid end (rw (to_z-of_z w64 c.args.number c.ranges.number) at c.in-Ok.ensures.begun) c.take_all.ensures.survives c.in-Ok.ensures.mode c.in-Ok.ensures.survives
+    c.take_all.ensures.mode c.take_all.ensures.stays)
 
 pub returns-clause-whole : goal.returns-clause-whole
 returns-clause-whole g c clean =
@@ -37,7 +38,9 @@ returns-clause-whole g c clean =
     let end = c.take_all.new.rows.conn.now in
     let same : end ≡ c.conn-2-1.given.0 = search rules in
     let late : HasCleanDisk (state g.S.Store end) = subst (λ h. HasCleanDisk (state g.S.Store h)) (sym same) clean in
-    on_ok_weaker c.take_all.result (λ all. old_whole (state g.S.Store old).now c.args.number c.args.reader.now c.take_all.new.taker all) (whole_on g.S.Store (OldEntriesOf c.args.number) old mid end (rw (to_z-of_z w64 c.args.number c.ranges.number) at c.in-Ok.ensures.begun) c.take_all.ensures.survives c.take_all.result (λ what db. TakesAll stored_old_entry takes_old what db c.args.reader.now c.take_all.new.taker) c.take_all.ensures.whole late)
+    on_ok_weaker c.take_all.result (λ all. old_whole (state g.S.Store old).now c.args.number c.args.reader.now c.take_all.new.taker all)
+    (whole_on g.S.Store (OldEntriesOf c.args.number) old mid end (rw (to_z-of_z w64 c.args.number c.ranges.number) at c.in-Ok.ensures.begun) c.take_all.ensures.survives c.take_all.result
+    (λ what db. TakesAll stored_old_entry takes_old what db c.args.reader.now c.take_all.new.taker) c.take_all.ensures.whole late)
 
 pub returns-clause-damaged : goal.returns-clause-damaged
 returns-clause-damaged g c clean =
@@ -49,8 +52,11 @@ returns-clause-damaged g c clean =
     let begun = (rw (to_z-of_z w64 c.args.number c.ranges.number) at c.in-Ok.ensures.begun) (clean_before (state g.S.Store old) (state g.S.Store mid) (state g.S.Store end) c.take_all.ensures.survives late) in
     let open' = begun.1.0.was_open in
     let sound : IsDatabase (state g.S.Store old).now = (c.is_live.ensures open').0 in
-    let has : Has old_entry (state g.S.Store old).now = c.requires (clean_before (state g.S.Store old) (state g.S.Store old) (state g.S.Store mid) c.in-Ok.ensures.survives (clean_before (state g.S.Store old) (state g.S.Store mid) (state g.S.Store end) c.take_all.ensures.survives late)) open' in
-    if_err_then _ _ c.take_all.result (λ fault wrong is. old_wrong (state g.S.Store old).now c.args.number c.args.reader.now sound has (wrong is)) (damaged_on g.S.Store (OldEntriesOf c.args.number) old mid end (rw (to_z-of_z w64 c.args.number c.ranges.number) at c.in-Ok.ensures.begun) c.take_all.ensures.survives c.take_all.result (λ what db. IsWrong stored_old_entry old_entry_columns refuses_old what db c.args.reader.now) c.take_all.ensures.damaged late)
+    let has : Has old_entry (state g.S.Store old).now = c.requires (clean_before (state g.S.Store old) (state g.S.Store old) (state g.S.Store mid) c.in-Ok.ensures.survives
+    (clean_before (state g.S.Store old) (state g.S.Store mid) (state g.S.Store end) c.take_all.ensures.survives late)) open' in
+    if_err_then _ _ c.take_all.result (λ fault wrong is. old_wrong (state g.S.Store old).now c.args.number c.args.reader.now sound has (wrong is))
+    (damaged_on g.S.Store (OldEntriesOf c.args.number) old mid end (rw (to_z-of_z w64 c.args.number c.ranges.number) at c.in-Ok.ensures.begun) c.take_all.ensures.survives c.take_all.result
+    (λ what db. IsWrong stored_old_entry old_entry_columns refuses_old what db c.args.reader.now) c.take_all.ensures.damaged late)
 
 pub returns-clause-failed : goal.returns-clause-failed
 returns-clause-failed g c clean =
@@ -60,7 +66,8 @@ returns-clause-failed g c clean =
     let same : end ≡ c.conn-2-1.given.0 = search rules in
     let late : HasCleanDisk (state g.S.Store end) = subst (λ h. HasCleanDisk (state g.S.Store h)) (sym same) clean in
     subst (λ h. IfErr c.take_all.result (IsExcusedReading (state g.S.Store old) (state g.S.Store h))) same
-    (cause_on g.S.Store (OldEntriesOf c.args.number) old mid end c.take_all.result (rw (to_z-of_z w64 c.args.number c.ranges.number) at c.in-Ok.ensures.begun) c.in-Ok.ensures.survives c.take_all.ensures.survives late (c.take_all.ensures.failed late))
+    (cause_on g.S.Store (OldEntriesOf c.args.number) old mid end c.take_all.result (rw (to_z-of_z w64 c.args.number c.ranges.number) at c.in-Ok.ensures.begun) c.in-Ok.ensures.survives c.take_all.ensures.survives late
+    (c.take_all.ensures.failed late))
 
 pub returns-in-Err-clause-failed : goal.returns-in-Err-clause-failed
 returns-in-Err-clause-failed g c clean =

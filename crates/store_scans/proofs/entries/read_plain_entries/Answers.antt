@@ -26,7 +26,8 @@ returns-clause-reads g c =
     let end = c.take_all.new.rows.conn.now in
     let same : end ≡ c.conn-2-1.given.0 = search rules in
     subst (λ h. OnlyReads (state g.S.Store old) (state g.S.Store h)) same
-    (reads_on g.S.Store (InStore (EntriesOf c.args.number)) old mid end (rw (to_z-of_z w64 c.args.number c.ranges.number) at c.in-Ok.ensures.begun) c.take_all.ensures.survives c.in-Ok.ensures.mode c.in-Ok.ensures.survives c.take_all.ensures.mode c.take_all.ensures.stays)
+    (reads_on g.S.Store (InStore (EntriesOf c.args.number)) old mid end (rw (to_z-of_z w64 c.args.number c.ranges.number) at c.in-Ok.ensures.begun) c.take_all.ensures.survives c.in-Ok.ensures.mode c.in-Ok.ensures.survives
+    c.take_all.ensures.mode c.take_all.ensures.stays)
 
 pub returns-clause-whole : goal.returns-clause-whole
 returns-clause-whole g c clean =
@@ -35,7 +36,9 @@ returns-clause-whole g c clean =
     let end = c.take_all.new.rows.conn.now in
     let same : end ≡ c.conn-2-1.given.0 = search rules in
     let late : HasCleanDisk (state g.S.Store end) = subst (λ h. HasCleanDisk (state g.S.Store h)) (sym same) clean in
-    on_ok_weaker c.take_all.result (λ all. plain_whole (state g.S.Store old).now c.args.number c.args.reader.now c.take_all.new.taker all) (whole_on g.S.Store (InStore (EntriesOf c.args.number)) old mid end (rw (to_z-of_z w64 c.args.number c.ranges.number) at c.in-Ok.ensures.begun) c.take_all.ensures.survives c.take_all.result (λ what db. TakesAll stored_entry takes_plain what db c.args.reader.now c.take_all.new.taker) c.take_all.ensures.whole late)
+    on_ok_weaker c.take_all.result (λ all. plain_whole (state g.S.Store old).now c.args.number c.args.reader.now c.take_all.new.taker all)
+    (whole_on g.S.Store (InStore (EntriesOf c.args.number)) old mid end (rw (to_z-of_z w64 c.args.number c.ranges.number) at c.in-Ok.ensures.begun) c.take_all.ensures.survives c.take_all.result
+    (λ what db. TakesAll stored_entry takes_plain what db c.args.reader.now c.take_all.new.taker) c.take_all.ensures.whole late)
 
 pub returns-clause-damaged : goal.returns-clause-damaged
 returns-clause-damaged g c clean =
@@ -44,7 +47,9 @@ returns-clause-damaged g c clean =
     let end = c.take_all.new.rows.conn.now in
     let same : end ≡ c.conn-2-1.given.0 = search rules in
     let late : HasCleanDisk (state g.S.Store end) = subst (λ h. HasCleanDisk (state g.S.Store h)) (sym same) clean in
-    if_err_then _ _ c.take_all.result (λ fault wrong is. plain_wrong (state g.S.Store old).now c.args.number c.args.reader.now (wrong is)) (damaged_on g.S.Store (InStore (EntriesOf c.args.number)) old mid end (rw (to_z-of_z w64 c.args.number c.ranges.number) at c.in-Ok.ensures.begun) c.take_all.ensures.survives c.take_all.result (λ what db. IsWrong stored_entry entry_columns refuses_plain what db c.args.reader.now) c.take_all.ensures.damaged late)
+    if_err_then _ _ c.take_all.result (λ fault wrong is. plain_wrong (state g.S.Store old).now c.args.number c.args.reader.now (wrong is))
+    (damaged_on g.S.Store (InStore (EntriesOf c.args.number)) old mid end (rw (to_z-of_z w64 c.args.number c.ranges.number) at c.in-Ok.ensures.begun) c.take_all.ensures.survives c.take_all.result
+    (λ what db. IsWrong stored_entry entry_columns refuses_plain what db c.args.reader.now) c.take_all.ensures.damaged late)
 
 pub returns-clause-failed : goal.returns-clause-failed
 returns-clause-failed g c clean =
@@ -54,7 +59,8 @@ returns-clause-failed g c clean =
     let same : end ≡ c.conn-2-1.given.0 = search rules in
     let late : HasCleanDisk (state g.S.Store end) = subst (λ h. HasCleanDisk (state g.S.Store h)) (sym same) clean in
     subst (λ h. IfErr c.take_all.result (IsExcusedReading (state g.S.Store old) (state g.S.Store h))) same
-    (cause_on g.S.Store (InStore (EntriesOf c.args.number)) old mid end c.take_all.result (rw (to_z-of_z w64 c.args.number c.ranges.number) at c.in-Ok.ensures.begun) c.in-Ok.ensures.survives c.take_all.ensures.survives late (c.take_all.ensures.failed late))
+    (cause_on g.S.Store (InStore (EntriesOf c.args.number)) old mid end c.take_all.result (rw (to_z-of_z w64 c.args.number c.ranges.number) at c.in-Ok.ensures.begun) c.in-Ok.ensures.survives c.take_all.ensures.survives late
+    (c.take_all.ensures.failed late))
 
 pub returns-in-Err-clause-failed : goal.returns-in-Err-clause-failed
 returns-in-Err-clause-failed g c clean =

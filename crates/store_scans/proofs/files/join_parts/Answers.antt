@@ -21,7 +21,8 @@ returns-clause-reads g c =
     let end = c.take_all.new.rows.conn.now in
     let same : end ≡ c.conn-2-1.given.0 = search rules in
     subst (λ h. OnlyReads (state g.S.Store old) (state g.S.Store h)) same
-    (reads_on g.S.Store (PartsOf c.args.number c.args.file) old mid end (rw (to_z-of_z w64 c.args.number c.ranges.number, to_z-of_z w64 c.args.file c.ranges.file) at c.in-Ok.ensures.begun) c.take_all.ensures.survives c.in-Ok.ensures.mode c.in-Ok.ensures.survives c.take_all.ensures.mode c.take_all.ensures.stays)
+    (reads_on g.S.Store (PartsOf c.args.number c.args.file) old mid end (rw (to_z-of_z w64 c.args.number c.ranges.number, to_z-of_z w64 c.args.file c.ranges.file) at c.in-Ok.ensures.begun) c.take_all.ensures.survives
+    c.in-Ok.ensures.mode c.in-Ok.ensures.survives c.take_all.ensures.mode c.take_all.ensures.stays)
 
 pub returns-clause-whole : goal.returns-clause-whole
 returns-clause-whole g c clean =
@@ -30,7 +31,8 @@ returns-clause-whole g c clean =
     let end = c.take_all.new.rows.conn.now in
     let same : end ≡ c.conn-2-1.given.0 = search rules in
     let late : HasCleanDisk (state g.S.Store end) = subst (λ h. HasCleanDisk (state g.S.Store h)) (sym same) clean in
-    (whole_on g.S.Store (PartsOf c.args.number c.args.file) old mid end (rw (to_z-of_z w64 c.args.number c.ranges.number, to_z-of_z w64 c.args.file c.ranges.file) at c.in-Ok.ensures.begun) c.take_all.ensures.survives c.take_all.result (λ what db. TakesAll stored_part TakesParts what db c.args.joiner.now c.take_all.new.taker) c.take_all.ensures.whole late)
+    (whole_on g.S.Store (PartsOf c.args.number c.args.file) old mid end (rw (to_z-of_z w64 c.args.number c.ranges.number, to_z-of_z w64 c.args.file c.ranges.file) at c.in-Ok.ensures.begun) c.take_all.ensures.survives
+    c.take_all.result (λ what db. TakesAll stored_part TakesParts what db c.args.joiner.now c.take_all.new.taker) c.take_all.ensures.whole late)
 
 pub returns-clause-damaged : goal.returns-clause-damaged
 returns-clause-damaged g c clean =
@@ -39,7 +41,8 @@ returns-clause-damaged g c clean =
     let end = c.take_all.new.rows.conn.now in
     let same : end ≡ c.conn-2-1.given.0 = search rules in
     let late : HasCleanDisk (state g.S.Store end) = subst (λ h. HasCleanDisk (state g.S.Store h)) (sym same) clean in
-    (damaged_on g.S.Store (PartsOf c.args.number c.args.file) old mid end (rw (to_z-of_z w64 c.args.number c.ranges.number, to_z-of_z w64 c.args.file c.ranges.file) at c.in-Ok.ensures.begun) c.take_all.ensures.survives c.take_all.result (λ what db. IsWrong stored_part part_columns RefusesParts what db c.args.joiner.now) c.take_all.ensures.damaged late)
+    (damaged_on g.S.Store (PartsOf c.args.number c.args.file) old mid end (rw (to_z-of_z w64 c.args.number c.ranges.number, to_z-of_z w64 c.args.file c.ranges.file) at c.in-Ok.ensures.begun) c.take_all.ensures.survives
+    c.take_all.result (λ what db. IsWrong stored_part part_columns RefusesParts what db c.args.joiner.now) c.take_all.ensures.damaged late)
 
 pub returns-clause-failed : goal.returns-clause-failed
 returns-clause-failed g c clean =
@@ -49,7 +52,8 @@ returns-clause-failed g c clean =
     let same : end ≡ c.conn-2-1.given.0 = search rules in
     let late : HasCleanDisk (state g.S.Store end) = subst (λ h. HasCleanDisk (state g.S.Store h)) (sym same) clean in
     subst (λ h. IfErr c.take_all.result (IsExcusedReading (state g.S.Store old) (state g.S.Store h))) same
-    (cause_on g.S.Store (PartsOf c.args.number c.args.file) old mid end c.take_all.result (rw (to_z-of_z w64 c.args.number c.ranges.number, to_z-of_z w64 c.args.file c.ranges.file) at c.in-Ok.ensures.begun) c.in-Ok.ensures.survives c.take_all.ensures.survives late (c.take_all.ensures.failed late))
+    (cause_on g.S.Store (PartsOf c.args.number c.args.file) old mid end c.take_all.result (rw (to_z-of_z w64 c.args.number c.ranges.number, to_z-of_z w64 c.args.file c.ranges.file) at c.in-Ok.ensures.begun) c.in-Ok.ensures.survives
+    c.take_all.ensures.survives late (c.take_all.ensures.failed late))
 
 pub returns-in-Err-clause-failed : goal.returns-in-Err-clause-failed
 returns-in-Err-clause-failed g c clean =

@@ -17,7 +17,8 @@ returns-clause-read c =
     let first = c.args.reader.now in
     let last = c.read_lines.new.reader in
     on_ok_weaker c.read_lines.result
-    (λ read. subst (λ n. (all : List EntryRecord) × IsStoredIndexOf n c.args.octets.now all × AreNextTaken n first.reader last.reader all × (last.index ≡ first.index ++ map indexed_of all)) (sym c.in-Some.ensures.number ∙ to_z-of_z w64 c.args.number c.ranges.number) (index_read c.in-Some._number first last c.args.octets.now read))
+    (λ read. subst (λ n. (all : List EntryRecord) × IsStoredIndexOf n c.args.octets.now all × AreNextTaken n first.reader last.reader all × (last.index ≡ first.index ++ map indexed_of all))
+    (sym c.in-Some.ensures.number ∙ to_z-of_z w64 c.args.number c.ranges.number) (index_read c.in-Some._number first last c.args.octets.now read))
     c.read_lines.ensures.read
 
 pub returns-clause-damaged : goal.returns-clause-damaged

@@ -36,7 +36,8 @@ pub returns-in_err-line-clause-damaged : goal.returns-in_err-line-clause-damaged
 returns-in_err-line-clause-damaged c =
     let had = c.lines.invariant in
     passed_on (λ (fault : RowsFault). fault ≡ Damaged → IsWrongIndex c.args.reader.now.reader c.args.octets.now) c.in_err-line.field-0.0 c.from_residual.result c.from_residual.ensures.1
-    (λ is. line_left c.args.reader.now.reader c.lines.reader.reader c.args.octets.now c.lines.rest.now c.in-Some.behind.now had.0 (columns_line c.in-Some.line) had.1 c.in-Some.ensures.read.0 had.2 c.in-Some.ensures.read.1 had.3.taken (c.in_err-line.ensures.damaged is))
+    (λ is. line_left c.args.reader.now.reader c.lines.reader.reader c.args.octets.now c.lines.rest.now c.in-Some.behind.now had.0 (columns_line c.in-Some.line) had.1 c.in-Some.ensures.read.0 had.2 c.in-Some.ensures.read.1
+    had.3.taken (c.in_err-line.ensures.damaged is))
 
 pub returns-clause-read : goal.returns-clause-read
 returns-clause-read c =

@@ -21,9 +21,11 @@ returns-in_err-take_next-clause-damaged g c clean =
     let mid = c.rows.rows.conn.now in
     let new = c.take_next.new.rows.conn.now in
     let early : HasCleanDisk (state g.S.Store mid) = clean_before (state g.S.Store old) (state g.S.Store mid) (state g.S.Store new) c.take_next.ensures.survives clean in
-    let wrong : (fault : ReadingFault) → Type 0 = λ fault. fault ≡ Damaged → (what : Cursor) → CursorHasGiven g.S.Store what old [] → IsWrong g.R.Record.stored g.R.Record.columns g.T.Taker.refuses what (state g.S.Store old).now c.args.taker.now in
+    let wrong : (fault : ReadingFault) → Type 0 = λ fault. fault ≡ Damaged → (what : Cursor) → CursorHasGiven g.S.Store what old []
+    → IsWrong g.R.Record.stored g.R.Record.columns g.T.Taker.refuses what (state g.S.Store old).now c.args.taker.now in
     passed_on wrong c.in_err-take_next.field-0.0 c.from_residual.result c.from_residual.ensures.1
-    (λ is what h. let had = c.rows.invariant.takes early what h in subst (λ (d : Database). IsWrong g.R.Record.stored g.R.Record.columns g.T.Taker.refuses what d c.args.taker.now) (c.rows.invariant.same early).now (c.in_err-take_next.ensures.damaged clean is what c.args.taker.now had.0 had.1))
+    (λ is what h. let had = c.rows.invariant.takes early what h in subst (λ (d : Database). IsWrong g.R.Record.stored g.R.Record.columns g.T.Taker.refuses what d c.args.taker.now) (c.rows.invariant.same early).now
+    (c.in_err-take_next.ensures.damaged clean is what c.args.taker.now had.0 had.1))
 
 pub returns-then-not-branch-clause-whole : goal.returns-then-not-branch-clause-whole
 returns-then-not-branch-clause-whole g c clean what h =
@@ -46,7 +48,8 @@ rows-preserved g c =
       reference = c.take_next.ensures.same_reference ∙ c.rows.invariant.reference;
       mode = λ m. c.take_next.ensures.mode (c.rows.invariant.mode m);
       survives = survives_then (state g.S.Store old) (state g.S.Store mid) (state g.S.Store new) (λ _. ⊥) (λ _. ⊥) (λ _. ⊥) (λ _ db none. none) (λ _ db none. none) c.rows.invariant.survives c.take_next.ensures.survives;
-      same = λ clean. same_then (state g.S.Store old) (state g.S.Store mid) (state g.S.Store new) (c.rows.invariant.same (clean_before (state g.S.Store old) (state g.S.Store mid) (state g.S.Store new) c.take_next.ensures.survives clean)) (c.in_ok-take_next.ensures.same clean);
+      same = λ clean. same_then (state g.S.Store old) (state g.S.Store mid) (state g.S.Store new)
+          (c.rows.invariant.same (clean_before (state g.S.Store old) (state g.S.Store mid) (state g.S.Store new) c.take_next.ensures.survives clean)) (c.in_ok-take_next.ensures.same clean);
       takes = λ clean what h.
           let had = c.rows.invariant.takes (clean_before (state g.S.Store old) (state g.S.Store mid) (state g.S.Store new) c.take_next.ensures.survives clean) what h in
           let one = c.take_next.ensures.more clean (c.in_ok-take_next.was ∙ ap Ok yes) what c.args.taker.now had.0 had.1 in
@@ -63,11 +66,13 @@ returns-in_err-take_next-clause-failed g c clean =
     let early : HasCleanDisk (state g.S.Store mid) = clean_before (state g.S.Store old) (state g.S.Store mid) (state g.S.Store new) c.take_next.ensures.survives clean in
     passed_on (λ fault. (what : Cursor) → CursorHasGiven g.S.Store what old [] → IsExcusedReading (state g.S.Store old) (state g.S.Store new) fault) c.in_err-take_next.field-0.0 c.from_residual.result c.from_residual.ensures.1
     (λ what h. let had = c.rows.invariant.takes early what h in
-    cause_then (state g.S.Store old) (state g.S.Store mid) (state g.S.Store new) c.rows.invariant.survives (c.rows.invariant.same early) c.in_err-take_next.field-0.0 (c.in_err-take_next.ensures.failed clean what (map g.R.Record.stored had.0) had.1.given_are))
+    cause_then (state g.S.Store old) (state g.S.Store mid) (state g.S.Store new) c.rows.invariant.survives (c.rows.invariant.same early) c.in_err-take_next.field-0.0
+    (c.in_err-take_next.ensures.failed clean what (map g.R.Record.stored had.0) had.1.given_are))
 
 pub returns-clause-failed : goal.returns-clause-failed
 returns-clause-failed g c clean what h =
     let had = c.rows.invariant.takes clean what h in
     let size = length-map had.0 g.R.Record.stored in
     let turns = had.2 in
-    inr (inr (inr (subst IsVast (c.rows.invariant.same clean).now (front_vast what (state g.S.Store c.rows.rows.conn.now).now (map g.R.Record.stored had.0) (front_of g.S.Store what c.rows.rows.conn.now (map g.R.Record.stored had.0) had.1.given_are) (omega (arith, size, turns))))))
+    inr (inr (inr (subst IsVast (c.rows.invariant.same clean).now (front_vast what (state g.S.Store c.rows.rows.conn.now).now (map g.R.Record.stored had.0)
+    (front_of g.S.Store what c.rows.rows.conn.now (map g.R.Record.stored had.0) had.1.given_are) (omega (arith, size, turns))))))

@@ -15,5 +15,6 @@ invariant-rows g l =
       mode : old.in_transaction ≡ false → now.in_transaction ≡ false;
       survives : Survives (state g.S.Store old) (state g.S.Store now) (λ _. ⊥);
       same : HasCleanDisk (state g.S.Store now) → Same (state g.S.Store old) (state g.S.Store now);
-      takes : HasCleanDisk (state g.S.Store now) → (what : Cursor) → CursorHasGiven g.S.Store what old [] → (given : List g.row.R.Denot) × TakesSo g.S.Store g.R.Record.stored g.T.Taker.takes what l.fn.taker given now l.taker × (l._turn ≤ length given);
+      takes : HasCleanDisk (state g.S.Store now) → (what : Cursor) → CursorHasGiven g.S.Store what old [] → (given : List g.row.R.Denot) × TakesSo g.S.Store g.R.Record.stored g.T.Taker.takes what l.fn.taker given now l.taker
+          × (l._turn ≤ length given);
     }

@@ -30,7 +30,8 @@ returns-clause-whole g c clean =
     let end = c.take_all.new.rows.conn.now in
     let same : end ≡ c.conn-2-1.given.0 = search rules in
     let late : HasCleanDisk (state g.S.Store end) = subst (λ h. HasCleanDisk (state g.S.Store h)) (sym same) clean in
-    whole_on g.S.Store (InStore AllKept) old mid end c.in-Ok.ensures.begun c.take_all.ensures.survives c.take_all.result (λ what db. TakesAll stored_kept takes_replies what db c.args.reader.now c.take_all.new.taker) c.take_all.ensures.whole late
+    whole_on g.S.Store (InStore AllKept) old mid end c.in-Ok.ensures.begun c.take_all.ensures.survives c.take_all.result (λ what db. TakesAll stored_kept takes_replies what db c.args.reader.now c.take_all.new.taker)
+    c.take_all.ensures.whole late
 
 pub returns-clause-damaged : goal.returns-clause-damaged
 returns-clause-damaged g c clean =
@@ -39,7 +40,8 @@ returns-clause-damaged g c clean =
     let end = c.take_all.new.rows.conn.now in
     let same : end ≡ c.conn-2-1.given.0 = search rules in
     let late : HasCleanDisk (state g.S.Store end) = subst (λ h. HasCleanDisk (state g.S.Store h)) (sym same) clean in
-    damaged_on g.S.Store (InStore AllKept) old mid end c.in-Ok.ensures.begun c.take_all.ensures.survives c.take_all.result (λ what db. IsWrong stored_kept kept_columns refuses_replies what db c.args.reader.now) c.take_all.ensures.damaged late
+    damaged_on g.S.Store (InStore AllKept) old mid end c.in-Ok.ensures.begun c.take_all.ensures.survives c.take_all.result (λ what db. IsWrong stored_kept kept_columns refuses_replies what db c.args.reader.now)
+    c.take_all.ensures.damaged late
 
 pub returns-clause-failed : goal.returns-clause-failed
 returns-clause-failed g c clean =

@@ -33,7 +33,9 @@ returns-clause-whole g c clean =
     let end = c.take_all.new.rows.conn.now in
     let same : end ≡ c.conn-2-1.given.0 = search rules in
     let late : HasCleanDisk (state g.S.Store end) = subst (λ h. HasCleanDisk (state g.S.Store h)) (sym same) clean in
-    on_ok_weaker c.take_all.result (λ all. ids_whole (state g.S.Store old).now c.new.result c.take_all.new.taker c.new.ensures all) (whole_on g.S.Store (InStore KeptById) old mid end c.in-Ok.ensures.begun c.take_all.ensures.survives c.take_all.result (λ what db. TakesAll stored_kept takes_ids what db c.new.result c.take_all.new.taker) c.take_all.ensures.whole late)
+    on_ok_weaker c.take_all.result (λ all. ids_whole (state g.S.Store old).now c.new.result c.take_all.new.taker c.new.ensures all)
+    (whole_on g.S.Store (InStore KeptById) old mid end c.in-Ok.ensures.begun c.take_all.ensures.survives c.take_all.result (λ what db. TakesAll stored_kept takes_ids what db c.new.result c.take_all.new.taker)
+    c.take_all.ensures.whole late)
 
 pub returns-clause-damaged : goal.returns-clause-damaged
 returns-clause-damaged g c clean =
@@ -42,7 +44,9 @@ returns-clause-damaged g c clean =
     let end = c.take_all.new.rows.conn.now in
     let same : end ≡ c.conn-2-1.given.0 = search rules in
     let late : HasCleanDisk (state g.S.Store end) = subst (λ h. HasCleanDisk (state g.S.Store h)) (sym same) clean in
-    if_err_then _ _ c.take_all.result (λ fault wrong is. ids_wrong (state g.S.Store old).now c.new.result c.new.ensures (wrong is)) (damaged_on g.S.Store (InStore KeptById) old mid end c.in-Ok.ensures.begun c.take_all.ensures.survives c.take_all.result (λ what db. IsWrong stored_kept kept_columns refuses_ids what db c.new.result) c.take_all.ensures.damaged late)
+    if_err_then _ _ c.take_all.result (λ fault wrong is. ids_wrong (state g.S.Store old).now c.new.result c.new.ensures (wrong is))
+    (damaged_on g.S.Store (InStore KeptById) old mid end c.in-Ok.ensures.begun c.take_all.ensures.survives c.take_all.result (λ what db. IsWrong stored_kept kept_columns refuses_ids what db c.new.result)
+    c.take_all.ensures.damaged late)
 
 pub returns-clause-failed : goal.returns-clause-failed
 returns-clause-failed g c clean =

@@ -32,7 +32,9 @@ returns-clause-whole g c clean =
     let end = c.take_all.new.rows.conn.now in
     let same : end ≡ c.conn-2-1.given.0 = search rules in
     let late : HasCleanDisk (state g.S.Store end) = subst (λ h. HasCleanDisk (state g.S.Store h)) (sym same) clean in
-    on_ok_weaker c.take_all.result (λ all. rowids_whole g.R.Record.stored c.args.table (state g.S.Store old).now c.new.result c.take_all.new.taker c.new.ensures all) (whole_on g.S.Store (InStore (ByRowid c.args.table)) old mid end c.in-Ok.ensures.begun c.take_all.ensures.survives c.take_all.result (λ what db. TakesAll g.R.Record.stored (takes_rowids g.R.Record.stored) what db c.new.result c.take_all.new.taker) c.take_all.ensures.whole late)
+    on_ok_weaker c.take_all.result (λ all. rowids_whole g.R.Record.stored c.args.table (state g.S.Store old).now c.new.result c.take_all.new.taker c.new.ensures all)
+    (whole_on g.S.Store (InStore (ByRowid c.args.table)) old mid end c.in-Ok.ensures.begun c.take_all.ensures.survives c.take_all.result
+    (λ what db. TakesAll g.R.Record.stored (takes_rowids g.R.Record.stored) what db c.new.result c.take_all.new.taker) c.take_all.ensures.whole late)
 
 pub returns-clause-damaged : goal.returns-clause-damaged
 returns-clause-damaged g c clean =
@@ -41,7 +43,9 @@ returns-clause-damaged g c clean =
     let end = c.take_all.new.rows.conn.now in
     let same : end ≡ c.conn-2-1.given.0 = search rules in
     let late : HasCleanDisk (state g.S.Store end) = subst (λ h. HasCleanDisk (state g.S.Store h)) (sym same) clean in
-    if_err_then _ _ c.take_all.result (λ fault wrong is. rowids_found g.R.Record.stored g.R.Record.columns c.args.table (state g.S.Store old).now c.new.result c.new.ensures (wrong is)) (damaged_on g.S.Store (InStore (ByRowid c.args.table)) old mid end c.in-Ok.ensures.begun c.take_all.ensures.survives c.take_all.result (λ what db. IsWrong g.R.Record.stored g.R.Record.columns (refuses_rowids g.R.Record.stored) what db c.new.result) c.take_all.ensures.damaged late)
+    if_err_then _ _ c.take_all.result (λ fault wrong is. rowids_found g.R.Record.stored g.R.Record.columns c.args.table (state g.S.Store old).now c.new.result c.new.ensures (wrong is))
+    (damaged_on g.S.Store (InStore (ByRowid c.args.table)) old mid end c.in-Ok.ensures.begun c.take_all.ensures.survives c.take_all.result
+    (λ what db. IsWrong g.R.Record.stored g.R.Record.columns (refuses_rowids g.R.Record.stored) what db c.new.result) c.take_all.ensures.damaged late)
 
 pub returns-clause-failed : goal.returns-clause-failed
 returns-clause-failed g c clean =

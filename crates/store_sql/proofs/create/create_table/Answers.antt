@@ -24,5 +24,6 @@ pub returns-clause-failed : goal.returns-clause-failed
 returns-clause-failed g c clean =
     let old = state g.S.Store (g.T.OpenTransaction.held c.args.tx.now) in
     let new = state g.S.Store (g.T.OpenTransaction.held c.execute.new.self) in
-    fails_in _ ⊥ (makes_aside (table_of c.args.table 0) old) old new (create_text c.args.table) [] c.execute.result (λ outside. ((c.execute.ensures.ended outside).0, ap (state g.S.Store) (c.execute.ensures.ended outside).1)) (rw c.text_of.ensures at (c.execute.ensures.runs clean))
+    fails_in _ ⊥ (makes_aside (table_of c.args.table 0) old) old new (create_text c.args.table) [] c.execute.result (λ outside. ((c.execute.ensures.ended outside).0, ap (state g.S.Store) (c.execute.ensures.ended outside).1))
+    (rw c.text_of.ensures at (c.execute.ensures.runs clean))
     (λ open'. make_fails_in c.args.table old new (c.requires (omega (arith, c.execute.ensures.survives.clean)) open'))

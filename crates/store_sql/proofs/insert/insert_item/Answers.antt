@@ -26,7 +26,17 @@ returns-clause-added g c clean =
     let fits_place : SFits w64 c.args.given.now.place = search rules in
     let fits_kind : SFits w64 c.args.given.now.kind = search rules in
     inside insert_item (item_row given) old new c.execute.result (λ open' count. adds_item old new given count (c.requires (omega (arith, c.execute.ensures.survives.clean)) open')) (λ outside. (c.execute.ensures.ended outside).0)
-    (λ within. rw ((bound_int _ c.args.given.now.place fits_place c.params-to_sql.ensures), c.params-to_sql-2.ensures, (bound_int _ c.args.given.now.kind fits_kind c.params-to_sql-3.ensures), c.params-to_sql-4.ensures, c.params-to_sql-5.ensures, c.params-to_sql-6.ensures, bound_text (λ t. t.now) c.args.given.now.title, bound_number c.args.given.now.current, bound_number c.args.given.now.former) at (c.execute.ensures.runs clean within))
+    (λ within. rw (
+      (bound_int _ c.args.given.now.place fits_place c.params-to_sql.ensures),
+      c.params-to_sql-2.ensures,
+      (bound_int _ c.args.given.now.kind fits_kind c.params-to_sql-3.ensures),
+      c.params-to_sql-4.ensures,
+      c.params-to_sql-5.ensures,
+      c.params-to_sql-6.ensures,
+      bound_text (λ t. t.now) c.args.given.now.title,
+      bound_number c.args.given.now.current,
+      bound_number c.args.given.now.former,
+    ) at (c.execute.ensures.runs clean within))
 
 pub returns-clause-failed : goal.returns-clause-failed
 returns-clause-failed g c clean =
@@ -36,5 +46,15 @@ returns-clause-failed g c clean =
     let fits_place : SFits w64 c.args.given.now.place = search rules in
     let fits_kind : SFits w64 c.args.given.now.kind = search rules in
     fails_in _ _ (adds_aside (codes "item") (item_row given) old) old new insert_item _ c.execute.result (λ outside. ((c.execute.ensures.ended outside).0, ap (state g.S.Store) (c.execute.ensures.ended outside).1))
-    (λ within. rw ((bound_int _ c.args.given.now.place fits_place c.params-to_sql.ensures), c.params-to_sql-2.ensures, (bound_int _ c.args.given.now.kind fits_kind c.params-to_sql-3.ensures), c.params-to_sql-4.ensures, c.params-to_sql-5.ensures, c.params-to_sql-6.ensures, bound_text (λ t. t.now) c.args.given.now.title, bound_number c.args.given.now.current, bound_number c.args.given.now.former) at (c.execute.ensures.runs clean within))
+    (λ within. rw (
+      (bound_int _ c.args.given.now.place fits_place c.params-to_sql.ensures),
+      c.params-to_sql-2.ensures,
+      (bound_int _ c.args.given.now.kind fits_kind c.params-to_sql-3.ensures),
+      c.params-to_sql-4.ensures,
+      c.params-to_sql-5.ensures,
+      c.params-to_sql-6.ensures,
+      bound_text (λ t. t.now) c.args.given.now.title,
+      bound_number c.args.given.now.current,
+      bound_number c.args.given.now.former,
+    ) at (c.execute.ensures.runs clean within))
     (λ open' e. item_fails old new given e (c.requires (omega (arith, c.execute.ensures.survives.clean)) open'))

@@ -25,7 +25,14 @@ returns-clause-added g c clean =
     let given : KeptRecord = lent_kept c.args.given.now in
     let fits_number : SFits w64 c.args.given.now.number = search rules in
     inside insert_kept (kept_row given) old new c.execute.result (λ open' count. adds_kept old new given count (c.requires (omega (arith, c.execute.ensures.survives.clean)) open')) (λ outside. (c.execute.ensures.ended outside).0)
-    (λ within. rw (c.params-to_sql.ensures, (bound_int _ c.args.given.now.number fits_number c.params-to_sql-2.ensures), c.params-to_sql-3.ensures, c.params-to_sql-4.ensures, c.params-to_sql-5.ensures, bound_number c.args.given.now.edition) at (c.execute.ensures.runs clean within))
+    (λ within. rw (
+      c.params-to_sql.ensures,
+      (bound_int _ c.args.given.now.number fits_number c.params-to_sql-2.ensures),
+      c.params-to_sql-3.ensures,
+      c.params-to_sql-4.ensures,
+      c.params-to_sql-5.ensures,
+      bound_number c.args.given.now.edition,
+    ) at (c.execute.ensures.runs clean within))
 
 pub returns-clause-failed : goal.returns-clause-failed
 returns-clause-failed g c clean =
@@ -34,5 +41,12 @@ returns-clause-failed g c clean =
     let given : KeptRecord = lent_kept c.args.given.now in
     let fits_number : SFits w64 c.args.given.now.number = search rules in
     fails_in _ _ (adds_aside (codes "kept") (kept_row given) old) old new insert_kept _ c.execute.result (λ outside. ((c.execute.ensures.ended outside).0, ap (state g.S.Store) (c.execute.ensures.ended outside).1))
-    (λ within. rw (c.params-to_sql.ensures, (bound_int _ c.args.given.now.number fits_number c.params-to_sql-2.ensures), c.params-to_sql-3.ensures, c.params-to_sql-4.ensures, c.params-to_sql-5.ensures, bound_number c.args.given.now.edition) at (c.execute.ensures.runs clean within))
+    (λ within. rw (
+      c.params-to_sql.ensures,
+      (bound_int _ c.args.given.now.number fits_number c.params-to_sql-2.ensures),
+      c.params-to_sql-3.ensures,
+      c.params-to_sql-4.ensures,
+      c.params-to_sql-5.ensures,
+      bound_number c.args.given.now.edition,
+    ) at (c.execute.ensures.runs clean within))
     (λ open' e. kept_fails old new given e (c.requires (omega (arith, c.execute.ensures.survives.clean)) open'))

@@ -27,7 +27,12 @@ returns-clause-added g c clean =
     let fits_version : SFits w64 c.args.given.now.version = search rules in
     let fits_installs : SFits w64 c.args.given.now.installs = search rules in
     inside insert_mark (mark_row given) old new c.execute.result (λ open' count. adds_mark old new given count (c.requires (omega (arith, c.execute.ensures.survives.clean)) open')) (λ outside. (c.execute.ensures.ended outside).0)
-    (λ within. rw ((bound_int _ c.args.given.now.id fits_id c.params-to_sql.ensures), c.params-to_sql-2.ensures, (bound_int _ c.args.given.now.version fits_version c.params-to_sql-3.ensures), (bound_int _ c.args.given.now.installs fits_installs c.params-to_sql-4.ensures)) at (c.execute.ensures.runs clean within))
+    (λ within. rw (
+      (bound_int _ c.args.given.now.id fits_id c.params-to_sql.ensures),
+      c.params-to_sql-2.ensures,
+      (bound_int _ c.args.given.now.version fits_version c.params-to_sql-3.ensures),
+      (bound_int _ c.args.given.now.installs fits_installs c.params-to_sql-4.ensures),
+    ) at (c.execute.ensures.runs clean within))
 
 pub returns-clause-failed : goal.returns-clause-failed
 returns-clause-failed g c clean =
@@ -38,5 +43,10 @@ returns-clause-failed g c clean =
     let fits_version : SFits w64 c.args.given.now.version = search rules in
     let fits_installs : SFits w64 c.args.given.now.installs = search rules in
     fails_in _ _ (adds_aside (codes "mark") (mark_row given) old) old new insert_mark _ c.execute.result (λ outside. ((c.execute.ensures.ended outside).0, ap (state g.S.Store) (c.execute.ensures.ended outside).1))
-    (λ within. rw ((bound_int _ c.args.given.now.id fits_id c.params-to_sql.ensures), c.params-to_sql-2.ensures, (bound_int _ c.args.given.now.version fits_version c.params-to_sql-3.ensures), (bound_int _ c.args.given.now.installs fits_installs c.params-to_sql-4.ensures)) at (c.execute.ensures.runs clean within))
+    (λ within. rw (
+      (bound_int _ c.args.given.now.id fits_id c.params-to_sql.ensures),
+      c.params-to_sql-2.ensures,
+      (bound_int _ c.args.given.now.version fits_version c.params-to_sql-3.ensures),
+      (bound_int _ c.args.given.now.installs fits_installs c.params-to_sql-4.ensures),
+    ) at (c.execute.ensures.runs clean within))
     (λ open' e. mark_fails old new given e (c.requires (omega (arith, c.execute.ensures.survives.clean)) open'))

@@ -12,4 +12,5 @@ returns-clause-failed g c clean =
     let rows = c.in_ok-rows.rows.items in
     let it = c.in_ok-rows.ensures.selected clean in
     let same = subst (λ n. IsPermutation (filter (equals_number 1 n) (rows_of (codes "edition") (state g.S.Store c.args.conn.now).now)) rows) (to_z-of_z w64 c.args.number c.ranges.number) it.0.same in
-    fails_to_read_into edition_columns (filter (equals_number 1 c.args.number) (rows_of (codes "edition") (state g.S.Store c.args.conn.now).now)) rows (state g.S.Store c.args.conn.now) (state g.S.Store c.one_edition_rows.new.conn) c.records_of.result same it.1 (rw c.deref.ensures.value at c.records_of.ensures.refused)
+    fails_to_read_into edition_columns (filter (equals_number 1 c.args.number) (rows_of (codes "edition") (state g.S.Store c.args.conn.now).now)) rows (state g.S.Store c.args.conn.now) (state g.S.Store c.one_edition_rows.new.conn)
+    c.records_of.result same it.1 (rw c.deref.ensures.value at c.records_of.ensures.refused)

@@ -9,4 +9,5 @@ pub returns-clause-failed : goal.returns-clause-failed
 returns-clause-failed g c clean =
     let rows = c.in_ok-rows.rows.items in
     let it = c.in_ok-rows.ensures.selected clean in
-    fails_to_read_into kept_columns (filter (equals_text 1 c.args.id.now) (rows_of (codes "kept") (state g.S.Store c.args.conn.now).now)) rows (state g.S.Store c.args.conn.now) (state g.S.Store c.one_kept_rows.new.conn) c.records_of.result it.0.same it.1 (rw c.deref.ensures.value at c.records_of.ensures.refused)
+    fails_to_read_into kept_columns (filter (equals_text 1 c.args.id.now) (rows_of (codes "kept") (state g.S.Store c.args.conn.now).now)) rows (state g.S.Store c.args.conn.now) (state g.S.Store c.one_kept_rows.new.conn)
+    c.records_of.result it.0.same it.1 (rw c.deref.ensures.value at c.records_of.ensures.refused)

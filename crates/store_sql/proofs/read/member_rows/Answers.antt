@@ -10,11 +10,13 @@ use Rattle.store_sql.proofs.read.member_rows.Goals as goal
 pub returns-clause-listed : goal.returns-clause-listed
 returns-clause-listed g c clean =
     lists_whole (codes "member") _ (state g.S.Store c.args.conn.now) (state g.S.Store c.query_all.new.self) c.query_all.result
-    (selects select_member read_member member _ _ _ _ _ _ _ _ reads_member (λ tree. refl) [] (λ _. true) (λ tree row. refl) (state g.S.Store c.args.conn.now) (state g.S.Store c.query_all.new.self) c.query_all.result (c.requires (omega (arith, c.query_all.ensures.survives.clean))) (c.query_all.ensures.ok clean))
+    (selects select_member read_member member _ _ _ _ _ _ _ _ reads_member (λ tree. refl) [] (λ _. true) (λ tree row. refl) (state g.S.Store c.args.conn.now) (state g.S.Store c.query_all.new.self) c.query_all.result
+    (c.requires (omega (arith, c.query_all.ensures.survives.clean))) (c.query_all.ensures.ok clean))
 
 pub returns-clause-failed : goal.returns-clause-failed
 returns-clause-failed g c clean =
-    fails_to_list select_member read_member member _ _ _ _ _ _ _ _ reads_member nothing takes_member tt (state g.S.Store c.args.conn.now) (state g.S.Store c.query_all.new.self) (c.requires (omega (arith, c.query_all.ensures.survives.clean))) c.query_all.result (c.query_all.ensures.err clean)
+    fails_to_list select_member read_member member _ _ _ _ _ _ _ _ reads_member nothing takes_member tt (state g.S.Store c.args.conn.now) (state g.S.Store c.query_all.new.self)
+    (c.requires (omega (arith, c.query_all.ensures.survives.clean))) c.query_all.result (c.query_all.ensures.err clean)
 
 pub returns-clause-survives : goal.returns-clause-survives
 returns-clause-survives g c =

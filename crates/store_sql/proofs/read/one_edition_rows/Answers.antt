@@ -12,15 +12,18 @@ use Rattle.store_sql.proofs.read.one_edition_rows.Goals as goal
 
 pub returns-clause-selected : goal.returns-clause-selected
 returns-clause-selected g c clean =
-    selects select_one_edition read_one_edition edition _ _ _ _ _ _ _ _ reads_one_edition (λ tree. refl) (Int c.args.number ∷ []) (equals_number 1 c.args.number) (λ tree row. edition_read tree c.args.number row) (state g.S.Store c.args.conn.now) (state g.S.Store c.query_all.new.self) c.query_all.result (c.requires (omega (arith, c.query_all.ensures.survives.clean)))
+    selects select_one_edition read_one_edition edition _ _ _ _ _ _ _ _ reads_one_edition (λ tree. refl) (Int c.args.number ∷ []) (equals_number 1 c.args.number) (λ tree row. edition_read tree c.args.number row)
+    (state g.S.Store c.args.conn.now) (state g.S.Store c.query_all.new.self) c.query_all.result (c.requires (omega (arith, c.query_all.ensures.survives.clean)))
     (rw (bound_int _ c.args.number c.ranges.number c.params-to_sql.ensures) at (c.query_all.ensures.ok clean))
 
 pub returns-clause-failed : goal.returns-clause-failed
 returns-clause-failed g c clean =
-    fails_to_list select_one_edition read_one_edition edition _ _ _ _ _ _ _ _ reads_one_edition a_number takes_one_edition c.args.number (state g.S.Store c.args.conn.now) (state g.S.Store c.query_all.new.self) (c.requires (omega (arith, c.query_all.ensures.survives.clean))) c.query_all.result
+    fails_to_list select_one_edition read_one_edition edition _ _ _ _ _ _ _ _ reads_one_edition a_number takes_one_edition c.args.number (state g.S.Store c.args.conn.now) (state g.S.Store c.query_all.new.self)
+    (c.requires (omega (arith, c.query_all.ensures.survives.clean))) c.query_all.result
     (rw (bound_int _ c.args.number c.ranges.number c.params-to_sql.ensures) at (c.query_all.ensures.err clean))
 
 pub returns-clause-survives : goal.returns-clause-survives
 returns-clause-survives g c =
-    reads_nothing_else select_one_edition read_one_edition edition _ _ _ _ _ _ _ _ reads_one_edition (λ tree. refl) (Int c.args.number ∷ []) (equals_number 1 c.args.number) (λ tree row. edition_read tree c.args.number row) (state g.S.Store c.args.conn.now) (state g.S.Store c.query_all.new.self)
+    reads_nothing_else select_one_edition read_one_edition edition _ _ _ _ _ _ _ _ reads_one_edition (λ tree. refl) (Int c.args.number ∷ []) (equals_number 1 c.args.number) (λ tree row. edition_read tree c.args.number row)
+    (state g.S.Store c.args.conn.now) (state g.S.Store c.query_all.new.self)
     (rw (bound_int _ c.args.number c.ranges.number c.params-to_sql.ensures) at c.query_all.ensures.survives)

@@ -12,7 +12,8 @@ returns-in_err-advance-clause-failed g c clean =
     let new = c.advance.new.self.conn.now in
     let e = c.in_err-advance.field-0.0 in
     let why = c.in_err-advance.ensures in
-    let fails : (what : Scan) (given : List Row) → HasGiven g.S.Store what old given → FailsToGive g.S.Store g.R.Record.columns what old new given (Store e) = λ what given h. inl (fails_to_advance g.S.Store what old new given e h (why.err clean), why.ends why.failed) in
+    let fails : (what : Scan) (given : List Row) → HasGiven g.S.Store what old given → FailsToGive g.S.Store g.R.Record.columns what old new given (Store e) = λ what given h.
+    inl (fails_to_advance g.S.Store what old new given e h (why.err clean), why.ends why.failed) in
     passed_on (λ e. (what : Scan) (given : List Row) → HasGiven g.S.Store what old given → FailsToGive g.S.Store g.R.Record.columns what old new given e) (Store e) c.from_residual.result c.from_residual.ensures.1 fails
 
 pub returns-in_err-from_row-in-Some-clause-failed : goal.returns-in_err-from_row-in-Some-clause-failed
@@ -25,7 +26,8 @@ returns-in_err-from_row-in-Some-clause-failed g c clean =
     let moved = subst (kit.Advances g.S.Store old new) (sym c.in-Some.ensures) (c.in_ok-advance.ensures.ok clean) in
     let fails : (what : Scan) (given : List Row) → HasGiven g.S.Store what old given → FailsToGive g.S.Store g.R.Record.columns what old new given e =
     λ what given h. fails_to_decode g.S.Store what g.R.Record.columns old new given row e (same, gives_on g.S.Store what old new given (Some row) same h moved) c.in_err-from_row-in-Some.ensures.refused in
-    passed_on (λ e. (what : Scan) (given : List Row) → HasGiven g.S.Store what old given → FailsToGive g.S.Store g.R.Record.columns what old new given e) e c.from_residual-in_err-from_row-in-Some.result c.from_residual-in_err-from_row-in-Some.ensures.1 fails
+    passed_on (λ e. (what : Scan) (given : List Row) → HasGiven g.S.Store what old given → FailsToGive g.S.Store g.R.Record.columns what old new given e) e c.from_residual-in_err-from_row-in-Some.result
+    c.from_residual-in_err-from_row-in-Some.ensures.1 fails
 
 pub returns-in_ok-from_row-in-Some-clause-given : goal.returns-in_ok-from_row-in-Some-clause-given
 returns-in_ok-from_row-in-Some-clause-given g c clean what given h =

@@ -18,7 +18,8 @@ returns-in-Err-make_room-clause-same c =
 
 pub invariant_of-self-in-Err-make_room : goal.invariant_of-self-in-Err-make_room
 invariant_of-self-in-Err-make_room c = (
-  parts_same (summary_shown c.self.inside.summary) c.self.inside.editions.items c.make_room.new.editions.items c.self.inside.replies.items c.make_room.new.replies.items (get_by_text c.self.inside.places) (get_by_text c.make_room.new.places) c.self.invariant.0
+  parts_same (summary_shown c.self.inside.summary) c.self.inside.editions.items c.make_room.new.editions.items c.self.inside.replies.items c.make_room.new.replies.items (get_by_text c.self.inside.places)
+      (get_by_text c.make_room.new.places) c.self.invariant.0
       c.make_room.ensures.editions c.make_room.ensures.replies c.in-Err-make_room.ensures.same,
   tt,
 )
@@ -27,7 +28,8 @@ pub invariant_of-self-2 : goal.invariant_of-self-2
 invariant_of-self-2 c =
     let left : c.put.new.editions.items ≡ filter (is_not_gone c.args.change.gone.items) c.self.inside.editions.items ++ cons_option c.in-Ok.coming.0 [] =
     c.put.ensures ∙ ap (λ (es : List (Stored Edition)). es ++ cons_option c.in-Ok.coming.0 [])
-    (c.take_out.ensures.items ∙ (ap (λ (gone : List ℕ). filter (is_not_gone gone) c.make_room.new.editions.items) c.as_slice.ensures.value ∙ ap (λ (es : List (Stored Edition)). filter (is_not_gone c.args.change.gone.items) es) c.make_room.ensures.editions)) in
+    (c.take_out.ensures.items ∙ (ap (λ (gone : List ℕ). filter (is_not_gone gone) c.make_room.new.editions.items) c.as_slice.ensures.value
+    ∙ ap (λ (es : List (Stored Edition)). filter (is_not_gone c.args.change.gone.items) es) c.make_room.ensures.editions)) in
     let filed_last : c.push_reserved.new.self.items ≡ c.self.inside.replies.items ++ c.in-Ok.coming.1 ∷ [] =
     c.push_reserved.ensures.items ∙ ap (λ (rs : List Filed). rs ++ c.in-Ok.coming.1 ∷ []) c.make_room.ensures.replies in
     let placed : (text : List ℕ) → get_by_text c.make_room.new.places text ≡ cond (bytes_eq c.args.id.now text) (Some (length c.self.inside.replies.items)) (get_by_text c.self.inside.places text) = c.in_default.ensures.noted in (
@@ -42,7 +44,8 @@ pub returns-clause-after : goal.returns-clause-after
 returns-clause-after c =
     let left : c.put.new.editions.items ≡ filter (is_not_gone c.args.change.gone.items) c.self.inside.editions.items ++ cons_option c.in-Ok.coming.0 [] =
     c.put.ensures ∙ ap (λ (es : List (Stored Edition)). es ++ cons_option c.in-Ok.coming.0 [])
-    (c.take_out.ensures.items ∙ (ap (λ (gone : List ℕ). filter (is_not_gone gone) c.make_room.new.editions.items) c.as_slice.ensures.value ∙ ap (λ (es : List (Stored Edition)). filter (is_not_gone c.args.change.gone.items) es) c.make_room.ensures.editions)) in
+    (c.take_out.ensures.items ∙ (ap (λ (gone : List ℕ). filter (is_not_gone gone) c.make_room.new.editions.items) c.as_slice.ensures.value
+    ∙ ap (λ (es : List (Stored Edition)). filter (is_not_gone c.args.change.gone.items) es) c.make_room.ensures.editions)) in
     let filed_last : c.push_reserved.new.self.items ≡ c.self.inside.replies.items ++ c.in-Ok.coming.1 ∷ [] =
     c.push_reserved.ensures.items ∙ ap (λ (rs : List Filed). rs ++ c.in-Ok.coming.1 ∷ []) c.make_room.ensures.replies in
     let placed : (text : List ℕ) → get_by_text c.make_room.new.places text ≡ cond (bytes_eq c.args.id.now text) (Some (length c.self.inside.replies.items)) (get_by_text c.self.inside.places text) = c.in_default.ensures.noted in

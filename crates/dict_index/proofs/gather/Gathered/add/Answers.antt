@@ -39,7 +39,8 @@ pub returns-then-contains_key-clause-refused : goal.returns-then-contains_key-cl
 returns-then-contains_key-clause-refused c text lines line l g =
     let headword_key = reserved_key_of c.args.read.headword.now in
     let known = tested is_known_reserved c.as_bytes-2.result.now headword_key c.is_known_key.result true (c.as_bytes-2.ensures ∙ c.requires.key) c.is_known_key.ensures c.if-not-is_known_key.false in
-    let found = tested (λ k. is_some (get_by_text c.args.self.now.reserved k)) c.as_text-name.result.now headword_key c.contains_key.result true (c.as_text-name.ensures ∙ (c.as_bytes-3.ensures ∙ c.requires.key)) c.contains_key.ensures c.if-contains_key.true in
+    let found = tested (λ k. is_some (get_by_text c.args.self.now.reserved k)) c.as_text-name.result.now headword_key c.contains_key.result true (c.as_text-name.ensures ∙ (c.as_bytes-3.ensures ∙ c.requires.key))
+    c.contains_key.ensures c.if-contains_key.true in
     (known_passes text lines line c.args.self.now c.args.self.now c.args.read l known, twice_fails text lines line c.args.self.now c.args.self.now c.args.read l known found g)
 
 pub returns-clause-added : goal.returns-clause-added

@@ -34,7 +34,8 @@ behind_lines P p q all = all_behind P (cut p).lines (cut ((cut p).rest ++ q)).li
 pub loop-octet-init : goal.loop-octet-init
 loop-octet-init g c = record {
   left = λ trusted M shown rest h.
-      subst (LeavesThrough (answer_to M (session_host c.args.self.now)) (looks_up M) (g.L.Lookup.is_closed c.args.desk.now) (condition g.L.Lookup.has_failed g.L.Lookup.is_closed c.args.desk.now) More c.args.self.now (g.K.Sink.stream c.args.sink.now) (g.K.Sink.stream c.args.sink.now)) (sym (append-nil rest))
+      subst (LeavesThrough (answer_to M (session_host c.args.self.now)) (looks_up M) (g.L.Lookup.is_closed c.args.desk.now) (condition g.L.Lookup.has_failed g.L.Lookup.is_closed c.args.desk.now) More c.args.self.now
+      (g.K.Sink.stream c.args.sink.now) (g.K.Sink.stream c.args.sink.now)) (sym (append-nil rest))
       (through_held (answer_to M (session_host c.args.self.now)) (looks_up M) (condition g.L.Lookup.has_failed g.L.Lookup.is_closed c.args.desk.now) c.args.self.now (g.K.Sink.stream c.args.sink.now) rest h.unfinished h);
   quiet = λ trusted M shown rest h all. refl;
   desk = stays_same g.L.Lookup.shows g.L.Lookup.leaves_one_of g.L.Lookup.is_trusted g.L.Lookup.is_closed c.args.desk.now;
@@ -54,7 +55,8 @@ loop-octet-preserved g c =
           let answer = answer_to M (session_host c.args.self.now) in
           let mid = condition g.L.Lookup.has_failed g.L.Lookup.is_closed c.loop-octet.desk in
           let desk = condition g.L.Lookup.has_failed g.L.Lookup.is_closed c.take.new.desk in
-          let one = subst (λ (host : List ℕ). LeavesThrough (answer_to M host) (looks_up M) mid.closed desk More c.take.new.self (g.K.Sink.stream c.loop-octet.sink) (g.K.Sink.stream c.take.new.sink) ((cut (rest ++ take i piece)).rest ++ get_or piece i 0 ∷ []))
+          let one = subst (λ (host : List ℕ). LeavesThrough (answer_to M host) (looks_up M) mid.closed desk More c.take.new.self (g.K.Sink.stream c.loop-octet.sink) (g.K.Sink.stream c.take.new.sink)
+          ((cut (rest ++ take i piece)).rest ++ get_or piece i 0 ∷ []))
           c.loop-octet.invariant.same.host (c.in-More.ensures.answers trusted M (c.loop-octet.invariant.desk.shows earlier M shown) (cut (rest ++ take i piece)).rest before.1) in
           subst (LeavesThrough answer (looks_up M) fn_closed desk More c.take.new.self (g.K.Sink.stream c.args.sink.now) (g.K.Sink.stream c.take.new.sink)) (longer rest piece i lt)
           (through_more answer (looks_up M) fn_closed mid desk More c.loop-octet.self c.take.new.self _ (g.K.Sink.stream c.loop-octet.sink) _ (rest ++ take i piece) (get_or piece i 0 ∷ []) before one));
@@ -83,7 +85,8 @@ returns-in_default g c =
           let answer = answer_to M (session_host c.args.self.now) in
           let mid = condition g.L.Lookup.has_failed g.L.Lookup.is_closed c.loop-octet.desk in
           let desk = condition g.L.Lookup.has_failed g.L.Lookup.is_closed c.take.new.desk in
-          let one = subst (λ (host : List ℕ). LeavesThrough (answer_to M host) (looks_up M) mid.closed desk c.take.result c.take.new.self (g.K.Sink.stream c.loop-octet.sink) (g.K.Sink.stream c.take.new.sink) ((cut (rest ++ take i piece)).rest ++ get_or piece i 0 ∷ []))
+          let one = subst (λ (host : List ℕ). LeavesThrough (answer_to M host) (looks_up M) mid.closed desk c.take.result c.take.new.self (g.K.Sink.stream c.loop-octet.sink) (g.K.Sink.stream c.take.new.sink)
+          ((cut (rest ++ take i piece)).rest ++ get_or piece i 0 ∷ []))
           c.loop-octet.invariant.same.host (c.take.ensures.answers trusted M (c.loop-octet.invariant.desk.shows earlier M shown) (cut (rest ++ take i piece)).rest before.1) in
           subst (LeavesThrough answer (looks_up M) fn_closed desk c.take.result c.take.new.self (g.K.Sink.stream c.args.sink.now) (g.K.Sink.stream c.take.new.sink)) (whole_piece rest piece i lt)
           (through_ended answer (looks_up M) fn_closed desk c.take.result c.take.new.self _ _ read (drop (i + 1) piece) c.in_default.not-More
@@ -103,7 +106,8 @@ pub returns-clause-answers : goal.returns-clause-answers
 returns-clause-answers g c = λ trusted M shown rest h.
     let piece = c.args.piece.now in
     let whole : rest ++ take c.loop-octet.octet-index piece ≡ rest ++ piece = ap (λ l. rest ++ l) (take_all _ piece (omega arith)) in
-    subst (LeavesThrough (answer_to M (session_host c.args.self.now)) (looks_up M) (g.L.Lookup.is_closed c.args.desk.now) (condition g.L.Lookup.has_failed g.L.Lookup.is_closed c.loop-octet.desk) More c.loop-octet.self (g.K.Sink.stream c.args.sink.now) (g.K.Sink.stream c.loop-octet.sink)) whole (c.loop-octet.invariant.left trusted M shown rest h)
+    subst (LeavesThrough (answer_to M (session_host c.args.self.now)) (looks_up M) (g.L.Lookup.is_closed c.args.desk.now) (condition g.L.Lookup.has_failed g.L.Lookup.is_closed c.loop-octet.desk) More c.loop-octet.self
+    (g.K.Sink.stream c.args.sink.now) (g.K.Sink.stream c.loop-octet.sink)) whole (c.loop-octet.invariant.left trusted M shown rest h)
 
 pub returns-clause-quiet : goal.returns-clause-quiet
 returns-clause-quiet g c = λ trusted M shown rest h all.

@@ -119,7 +119,8 @@ reads-init g c =
         g.K.Sink.stream c.greet.new.sink,
         Consumes-nil _,
         hello,
-        through_held (answer_to M c.args.host.now) (looks_up M) (condition g.L.Lookup.has_failed g.L.Lookup.is_closed c.args.desk.now) c.greet.new.self (g.K.Sink.stream c.greet.new.sink) [] (c.in-Ok.ensures.line).unfinished (c.in-More.ensures.line [] c.in-Ok.ensures.line),
+        through_held (answer_to M c.args.host.now) (looks_up M) (condition g.L.Lookup.has_failed g.L.Lookup.is_closed c.args.desk.now) c.greet.new.self (g.K.Sink.stream c.greet.new.sink) [] (c.in-Ok.ensures.line).unfinished
+            (c.in-More.ensures.line [] c.in-Ok.ensures.line),
       );
       desk = stays_same g.L.Lookup.shows g.L.Lookup.leaves_one_of g.L.Lookup.is_trusted g.L.Lookup.is_closed c.args.desk.now;
       step = c.in-More.ensures.step;
@@ -142,20 +143,27 @@ reads-preserved g c =
             b ++ piece,
             given_after _ _ _ b piece read c.in-Ok-take.ensures.given,
             omega (arith, length-append b piece, length-take-le c.in-Ok-take.n c.take.new.room c.in-Ok-take.ensures.count),
-            (greeted, hello, leaves_more answer (condition g.L.Lookup.has_failed g.L.Lookup.is_closed c.reads.desk) desk c.in-More-advance.ensures.desk.closed More c.reads.session c.advance.new.self greeted (g.K.Sink.stream c.reads.writer) _ b piece left last),
+            (
+              greeted,
+              hello,
+              leaves_more answer (condition g.L.Lookup.has_failed g.L.Lookup.is_closed c.reads.desk) desk c.in-More-advance.ensures.desk.closed More c.reads.session c.advance.new.self greeted
+                  (g.K.Sink.stream c.reads.writer) _ b piece left last,
+            ),
           ));
       through = λ trusted M shown.
           (let earlier = c.in-More-advance.ensures.desk.trust trusted in
           let (b, greeted, read, hello, left) = c.reads.invariant.through earlier M shown in
           let piece = take c.in-Ok-take.n c.take.new.room in
           let desk = condition g.L.Lookup.has_failed g.L.Lookup.is_closed c.advance.new.desk in
-          let last = subst (λ (host : List ℕ). LeavesThrough (answer_to M host) (looks_up M) (g.L.Lookup.is_closed c.reads.desk) desk More c.advance.new.self (g.K.Sink.stream c.reads.writer) (g.K.Sink.stream c.advance.new.sink) ((cut b).rest ++ piece))
+          let last = subst (λ (host : List ℕ). LeavesThrough (answer_to M host) (looks_up M) (g.L.Lookup.is_closed c.reads.desk) desk More c.advance.new.self (g.K.Sink.stream c.reads.writer) (g.K.Sink.stream c.advance.new.sink)
+          ((cut b).rest ++ piece))
           c.reads.invariant.host (c.in-More-advance.ensures.through c.reads.invariant.step trusted M (c.reads.invariant.desk.shows earlier M shown) (cut b).rest left.1) in (
             b ++ piece,
             greeted,
             Consumes-trans _ _ _ b piece read c.in-Ok-take.ensures.given.octets,
             hello,
-            through_more (answer_to M c.args.host.now) (looks_up M) (g.L.Lookup.is_closed c.args.desk.now) (condition g.L.Lookup.has_failed g.L.Lookup.is_closed c.reads.desk) desk More c.reads.session c.advance.new.self greeted (g.K.Sink.stream c.reads.writer) _ b piece left last,
+            through_more (answer_to M c.args.host.now) (looks_up M) (g.L.Lookup.is_closed c.args.desk.now) (condition g.L.Lookup.has_failed g.L.Lookup.is_closed c.reads.desk) desk More c.reads.session c.advance.new.self greeted
+                (g.K.Sink.stream c.reads.writer) _ b piece left last,
           ));
       desk = stays_after g.L.Lookup.shows g.L.Lookup.leaves_one_of g.L.Lookup.is_trusted g.L.Lookup.is_closed _ _ _ c.reads.invariant.desk c.in-More-advance.ensures.desk;
       step = ap step_at c.in-More-advance.ensures.course;
@@ -166,8 +174,15 @@ reads-preserved g c =
 pub returns-clause-answers : goal.returns-clause-answers
 returns-clause-answers g c = λ trusted M shown.
     let (b, read, turns, (greeted, hello, left)) = c.reads.invariant.left trusted M shown in
-    let answer = answer_to M c.args.host.now in
-    (b, (read.octets, inr (omega arith), answered answer (condition g.L.Lookup.has_failed g.L.Lookup.is_closed c.reads.desk) (banner_octets c.args.host.now c.args.connection) (g.K.Sink.stream c.args.writer.now) greeted hello (g.K.Sink.stream c.reads.writer) b left.0))
+    let answer = answer_to M c.args.host.now in (
+      b,
+      (
+        read.octets,
+        inr (omega arith),
+        answered answer (condition g.L.Lookup.has_failed g.L.Lookup.is_closed c.reads.desk) (banner_octets c.args.host.now c.args.connection) (g.K.Sink.stream c.args.writer.now) greeted hello
+            (g.K.Sink.stream c.reads.writer) b left.0,
+      ),
+    )
 
 pub returns-in-Quit-advance-clause-desk : goal.returns-in-Quit-advance-clause-desk
 returns-in-Quit-advance-clause-desk g c = stays_after g.L.Lookup.shows g.L.Lookup.leaves_one_of g.L.Lookup.is_trusted g.L.Lookup.is_closed _ _ _ c.reads.invariant.desk c.in-Quit-advance.ensures.desk
@@ -195,14 +210,16 @@ returns-in-Quit-advance-clause-through g c = λ trusted M shown.
     let (b, greeted, read, hello, left) = c.reads.invariant.through earlier M shown in
     let piece = take c.in-Ok-take.n c.take.new.room in
     let desk = condition g.L.Lookup.has_failed g.L.Lookup.is_closed c.advance.new.desk in
-    let last = subst (λ (host : List ℕ). LeavesThrough (answer_to M host) (looks_up M) (g.L.Lookup.is_closed c.reads.desk) desk Quit c.advance.new.self (g.K.Sink.stream c.reads.writer) (g.K.Sink.stream c.advance.new.sink) ((cut b).rest ++ piece))
+    let last = subst (λ (host : List ℕ). LeavesThrough (answer_to M host) (looks_up M) (g.L.Lookup.is_closed c.reads.desk) desk Quit c.advance.new.self (g.K.Sink.stream c.reads.writer) (g.K.Sink.stream c.advance.new.sink)
+    ((cut b).rest ++ piece))
     c.reads.invariant.host (c.in-Quit-advance.ensures.through c.reads.invariant.step trusted M (c.reads.invariant.desk.shows earlier M shown) (cut b).rest left.1) in
     inl (
       b ++ piece,
       greeted,
       Consumes-trans _ _ _ b piece read c.in-Ok-take.ensures.given.octets,
       hello,
-      (through_more (answer_to M c.args.host.now) (looks_up M) (g.L.Lookup.is_closed c.args.desk.now) (condition g.L.Lookup.has_failed g.L.Lookup.is_closed c.reads.desk) desk Quit c.reads.session c.advance.new.self greeted (g.K.Sink.stream c.reads.writer) _ b piece left last).0,
+      (through_more (answer_to M c.args.host.now) (looks_up M) (g.L.Lookup.is_closed c.args.desk.now) (condition g.L.Lookup.has_failed g.L.Lookup.is_closed c.reads.desk) desk Quit c.reads.session c.advance.new.self greeted
+          (g.K.Sink.stream c.reads.writer) _ b piece left last).0,
     )
 
 pub returns-in-SinkFailed-clause-through : goal.returns-in-SinkFailed-clause-through
@@ -211,14 +228,16 @@ returns-in-SinkFailed-clause-through g c = λ trusted M shown.
     let (b, greeted, read, hello, left) = c.reads.invariant.through earlier M shown in
     let piece = take c.in-Ok-take.n c.take.new.room in
     let desk = condition g.L.Lookup.has_failed g.L.Lookup.is_closed c.advance.new.desk in
-    let last = subst (λ (host : List ℕ). LeavesThrough (answer_to M host) (looks_up M) (g.L.Lookup.is_closed c.reads.desk) desk SinkFailed c.advance.new.self (g.K.Sink.stream c.reads.writer) (g.K.Sink.stream c.advance.new.sink) ((cut b).rest ++ piece))
+    let last = subst (λ (host : List ℕ). LeavesThrough (answer_to M host) (looks_up M) (g.L.Lookup.is_closed c.reads.desk) desk SinkFailed c.advance.new.self (g.K.Sink.stream c.reads.writer) (g.K.Sink.stream c.advance.new.sink)
+    ((cut b).rest ++ piece))
     c.reads.invariant.host (c.in-SinkFailed.ensures.through c.reads.invariant.step trusted M (c.reads.invariant.desk.shows earlier M shown) (cut b).rest left.1) in
     inl (
       b ++ piece,
       greeted,
       Consumes-trans _ _ _ b piece read c.in-Ok-take.ensures.given.octets,
       hello,
-      (through_more (answer_to M c.args.host.now) (looks_up M) (g.L.Lookup.is_closed c.args.desk.now) (condition g.L.Lookup.has_failed g.L.Lookup.is_closed c.reads.desk) desk SinkFailed c.reads.session c.advance.new.self greeted (g.K.Sink.stream c.reads.writer) _ b piece left last).0,
+      (through_more (answer_to M c.args.host.now) (looks_up M) (g.L.Lookup.is_closed c.args.desk.now) (condition g.L.Lookup.has_failed g.L.Lookup.is_closed c.reads.desk) desk SinkFailed c.reads.session c.advance.new.self greeted
+          (g.K.Sink.stream c.reads.writer) _ b piece left last).0,
     )
 
 pub returns-in-DeskFailed-clause-through : goal.returns-in-DeskFailed-clause-through
@@ -227,14 +246,16 @@ returns-in-DeskFailed-clause-through g c = λ trusted M shown.
     let (b, greeted, read, hello, left) = c.reads.invariant.through earlier M shown in
     let piece = take c.in-Ok-take.n c.take.new.room in
     let desk = condition g.L.Lookup.has_failed g.L.Lookup.is_closed c.advance.new.desk in
-    let last = subst (λ (host : List ℕ). LeavesThrough (answer_to M host) (looks_up M) (g.L.Lookup.is_closed c.reads.desk) desk DeskFailed c.advance.new.self (g.K.Sink.stream c.reads.writer) (g.K.Sink.stream c.advance.new.sink) ((cut b).rest ++ piece))
+    let last = subst (λ (host : List ℕ). LeavesThrough (answer_to M host) (looks_up M) (g.L.Lookup.is_closed c.reads.desk) desk DeskFailed c.advance.new.self (g.K.Sink.stream c.reads.writer) (g.K.Sink.stream c.advance.new.sink)
+    ((cut b).rest ++ piece))
     c.reads.invariant.host (c.in-DeskFailed.ensures.through c.reads.invariant.step trusted M (c.reads.invariant.desk.shows earlier M shown) (cut b).rest left.1) in
     inl (
       b ++ piece,
       greeted,
       Consumes-trans _ _ _ b piece read c.in-Ok-take.ensures.given.octets,
       hello,
-      (through_more (answer_to M c.args.host.now) (looks_up M) (g.L.Lookup.is_closed c.args.desk.now) (condition g.L.Lookup.has_failed g.L.Lookup.is_closed c.reads.desk) desk DeskFailed c.reads.session c.advance.new.self greeted (g.K.Sink.stream c.reads.writer) _ b piece left last).0,
+      (through_more (answer_to M c.args.host.now) (looks_up M) (g.L.Lookup.is_closed c.args.desk.now) (condition g.L.Lookup.has_failed g.L.Lookup.is_closed c.reads.desk) desk DeskFailed c.reads.session c.advance.new.self greeted
+          (g.K.Sink.stream c.reads.writer) _ b piece left last).0,
     )
 
 pub returns-clause-through : goal.returns-clause-through

@@ -14,7 +14,8 @@ use Rattle.dict_session.proofs.session.run.run.Given as goal
 abbrev pub invariant-reads : goal.invariant-reads
 invariant-reads g l = record {
   left : g.L.Lookup.is_trusted l.desk → (M : Catalogue) → g.L.Lookup.shows l.fn.desk M → (b : List ℕ) × GivesAll (g.S.Source.stream l.fn.reader) (g.S.Source.stream l.reader) b × (l._turn ≤ length b)
-      × ((greeted : Stream) × PutsAll (g.K.Sink.stream l.fn.writer) greeted (banner_octets l.host l.connection) × LeavesSession (answer_to M l.host) (condition g.L.Lookup.has_failed g.L.Lookup.is_closed l.desk) courses.More l.session greeted (g.K.Sink.stream l.writer) b);
+      × ((greeted : Stream) × PutsAll (g.K.Sink.stream l.fn.writer) greeted (banner_octets l.host l.connection)
+      × LeavesSession (answer_to M l.host) (condition g.L.Lookup.has_failed g.L.Lookup.is_closed l.desk) courses.More l.session greeted (g.K.Sink.stream l.writer) b);
   through : g.L.Lookup.is_trusted l.desk → (M : Catalogue) → g.L.Lookup.shows l.fn.desk M → (b : List ℕ) × (greeted : Stream)
       × Consumes (g.S.Source.stream l.fn.reader).octets (g.S.Source.stream l.reader).octets b × PutsAll (g.K.Sink.stream l.fn.writer) greeted (banner_octets l.host l.connection)
       × LeavesThrough (answer_to M l.host) (looks_up M) (g.L.Lookup.is_closed l.fn.desk) (condition g.L.Lookup.has_failed g.L.Lookup.is_closed l.desk) courses.More l.session greeted (g.K.Sink.stream l.writer) b;

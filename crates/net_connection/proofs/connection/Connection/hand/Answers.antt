@@ -27,7 +27,8 @@ returns-in-Ok-clause-led g c =
     let first : piece ≡ next_piece old.held.kind octets = c.next_piece-piece.ensures.value in
     let rest : held_in c.pass.new.self ≡ behind_piece old.held.kind octets = c.pass.ensures.octets ∙ ap (λ l. drop (length l) octets) first ∙ piece_dropped old.held.kind octets in
     let new = record old { stage = c.answered-self.result; held = c.pass.new.self; queue = c.deliver_through.new.queue; transport = c.deliver_through.new.transport } in
-    let answer = subst (λ a. IsToldThrough g.T.Transport.taken g.T.Transport.coming g.T.Transport.made (came old.id piece) (answer_of a) old.queue c.deliver_through.new.queue old.transport c.deliver_through.new.transport events) c.in-Ok.is told.0 in (
+    let answer = subst (λ a. IsToldThrough g.T.Transport.taken g.T.Transport.coming g.T.Transport.made (came old.id piece) (answer_of a) old.queue c.deliver_through.new.queue old.transport c.deliver_through.new.transport events)
+    c.in-Ok.is told.0 in (
       hands_told g.T.Transport.taken g.T.Transport.coming g.T.Transport.made old new octets piece c.in-Ok.out events refl refl c.pass.ensures.kind first rest
           (λ still. answered_open c.in-Ok.out old.stage (ap is_open (sym c.answered-self.ensures) ∙ still)) answer,
       leads_answered (IsRefused g.O.Opening.refuses c.args.hub.now) old new octets piece c.in-Ok.out events first rest c.answered-self.ensures answer.answered,

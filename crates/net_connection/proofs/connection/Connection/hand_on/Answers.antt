@@ -14,7 +14,8 @@ returns-then-not-is_behind-clause-led g c =
     let told = c.foresee.ensures in
     led_behind (led_quiet told.shows told.leaves told.state refl) c.hand_prepared.ensures.led c.hand_prepared.ensures.trust
     (λ events handed.
-    let both = handed_over g.T.Transport.taken g.T.Transport.coming g.T.Transport.made (IsRefused g.O.Opening.refuses c.args.hub.now) (IsRefused g.O.Opening.refuses c.foresee.new.hub) c.args.self.now c.foresee.new.self c.hand_prepared.new.self events
+    let both = handed_over g.T.Transport.taken g.T.Transport.coming g.T.Transport.made (IsRefused g.O.Opening.refuses c.args.hub.now) (IsRefused g.O.Opening.refuses c.foresee.new.hub) c.args.self.now c.foresee.new.self
+    c.hand_prepared.new.self events
     told.same told.kind told.octets (refused_over g.O.Opening.refuses c.args.hub.now c.foresee.new.hub told.kept) (handed.0, handed.1) in (
       both.0,
       both.1,
@@ -42,7 +43,8 @@ returns-clause-led g c =
     led_behind (led_quiet (λ trusted M shown. shown) (λ ms left. left) kept.state refl) c.hand.ensures.led c.hand.ensures.trust
     (λ events handed. (
       handed.0,
-      inl (answer_over (IsRefused g.O.Opening.refuses c.args.hub.now) (IsRefused g.O.Opening.refuses c.asks_change.new.hub) (held_in old.held) old c.hand.new.self events (refused_over g.O.Opening.refuses c.args.hub.now c.asks_change.new.hub kept.kept) handed.1),
+      inl (answer_over (IsRefused g.O.Opening.refuses c.args.hub.now) (IsRefused g.O.Opening.refuses c.asks_change.new.hub) (held_in old.held) old c.hand.new.self events
+          (refused_over g.O.Opening.refuses c.args.hub.now c.asks_change.new.hub kept.kept) handed.1),
       handed.2,
       λ reader quiet. handed.3 reader (quiet_kept c.args.hub.now c.asks_change.new.hub kept.kept events quiet),
       λ is editor. answered_no_command (IsRefused g.O.Opening.refuses c.asks_change.new.hub) c.args.hub.now old c.hand.new.self events editor (kept.no c.if-asks_change.false editor) handed.1,
@@ -52,7 +54,8 @@ pub returns-then-not-is_behind-clause-back : goal.returns-then-not-is_behind-cla
 returns-then-not-is_behind-clause-back g c = λ still back.
     let at = c.hand_prepared.ensures.back still back in
     let told = c.foresee.ensures in
-    prepares_on g.K.Preparer.expects g.K.Preparer.prepares c.args.is_behind c.args.hub.now c.args.desk.now c.foresee.new.desk c.hand_prepared.new.desk c.args.self.now.id c.args.self.now.held c.foresee.new.self.held c.hand_prepared.new.self.held
+    prepares_on g.K.Preparer.expects g.K.Preparer.prepares c.args.is_behind c.args.hub.now c.args.desk.now c.foresee.new.desk c.hand_prepared.new.desk c.args.self.now.id c.args.self.now.held c.foresee.new.self.held
+    c.hand_prepared.new.self.held
     c.if-not-is_behind.true back at.4 told.waited told.before told.told at.0 at.1 at.2 at.3 at.5
 
 pub returns-then-asks_change-clause-back : goal.returns-then-asks_change-clause-back

@@ -108,7 +108,8 @@ returns-then-not-self-clause-prepared g c = λ still back. back_never _ (none_ba
 
 pub returns-in-Octets-clause-prepared : goal.returns-in-Octets-clause-prepared
 returns-in-Octets-clause-prepared g c = λ still back.
-    filled_held g.K.Preparer.expects g.K.Preparer.prepares c.args.is_behind c.fill.new.self.is_foreseen c.fill.new.self.turns_left c.fill.new.self.waited c.args.hub.now c.args.desk.now c.hand_on.new.desk c.receive-received.new.self.id c.args.self.now.id
+    filled_held g.K.Preparer.expects g.K.Preparer.prepares c.args.is_behind c.fill.new.self.is_foreseen c.fill.new.self.turns_left c.fill.new.self.waited c.args.hub.now c.args.desk.now c.hand_on.new.desk
+    c.receive-received.new.self.id c.args.self.now.id
     c.hand_on.new.self.held c.fill.ensures.foreseen c.fill.ensures.waited (ap (λ it. it.id) c.receive-received.ensures.same) (c.hand_on.ensures.back still back)
 
 pub returns-in-End-clause-prepared : goal.returns-in-End-clause-prepared

@@ -13,7 +13,8 @@ invariant_of-self-2 g c =
       makes = after.makes;
       asks = λ took. after.asks (told.failed ∙ taken_is_well c.send_once-last.result (sym c.is_vain-self.ensures ∙ took));
       stuck = λ stuck. let vain = sym c.is_vain-self.ensures ∙ stuck in
-          stuck_full _ _ _ after.queue (ap length (told.none vain ∙ c.loop-self.invariant.waits) ∙ c.requires.full) (ap (λ t. length t.octets) told.refused ∙ before.room c.loop-self.invariant.well) (sent_in_vain c.send_once-last.result _ _ _ vain (before.asks c.loop-self.invariant.well) told.made);
+          stuck_full _ _ _ after.queue (ap length (told.none vain ∙ c.loop-self.invariant.waits) ∙ c.requires.full) (ap (λ t. length t.octets) told.refused ∙ before.room c.loop-self.invariant.well)
+          (sent_in_vain c.send_once-last.result _ _ _ vain (before.asks c.loop-self.invariant.well) told.made);
       counts = λ _. told.failures ∙ before.counts c.loop-self.invariant.well;
       room = λ _. ap (λ t. length t.octets) told.refused ∙ before.room c.loop-self.invariant.well;
       lazy = after.lazy;

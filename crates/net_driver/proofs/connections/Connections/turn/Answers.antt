@@ -13,7 +13,8 @@ use Rattle.net_driver.proofs.connections.Connections.turn.Goals as goal
 pub returns-then-departed-clause-led : goal.returns-then-departed-clause-led
 returns-then-departed-clause-led g c =
     led_as c.turn_all-turned.ensures.led (λ events turned.
-    let each : TurnEach (condition g.K.Lookup.has_failed g.K.Lookup.is_closed) g.K.Preparer.expects g.K.Preparer.prepares g.T.Transport.taken g.T.Transport.coming g.T.Transport.made g.O.Opening.refuses c.args.hub.now c.args.desk.now c.turn_all-turned.new.desk c.args.self.now c.settle.new.self c.depart_all-departed.result events = record {
+    let each : TurnEach (condition g.K.Lookup.has_failed g.K.Lookup.is_closed) g.K.Preparer.expects g.K.Preparer.prepares g.T.Transport.taken g.T.Transport.coming g.T.Transport.made g.O.Opening.refuses c.args.hub.now
+    c.args.desk.now c.turn_all-turned.new.desk c.args.self.now c.settle.new.self c.depart_all-departed.result events = record {
       departed = c.depart_all-departed.new.all.items;
       by_departing = c.depart_all-departed.result;
       departs = c.depart_all-departed.ensures.departs;
@@ -31,7 +32,8 @@ returns-then-departed-clause-led g c =
 pub returns-else-departed-clause-led : goal.returns-else-departed-clause-led
 returns-else-departed-clause-led g c =
     led_as c.turn_all-turned.ensures.led (λ events turned.
-    let each : TurnEach (condition g.K.Lookup.has_failed g.K.Lookup.is_closed) g.K.Preparer.expects g.K.Preparer.prepares g.T.Transport.taken g.T.Transport.coming g.T.Transport.made g.O.Opening.refuses c.args.hub.now c.args.desk.now c.turn_all-turned.new.desk c.args.self.now c.settle.new.self c.turn_all-turned.result events = record {
+    let each : TurnEach (condition g.K.Lookup.has_failed g.K.Lookup.is_closed) g.K.Preparer.expects g.K.Preparer.prepares g.T.Transport.taken g.T.Transport.coming g.T.Transport.made g.O.Opening.refuses c.args.hub.now
+    c.args.desk.now c.turn_all-turned.new.desk c.args.self.now c.settle.new.self c.turn_all-turned.result events = record {
       departed = c.depart_all-departed.new.all.items;
       by_departing = c.depart_all-departed.result;
       departs = c.depart_all-departed.ensures.departs;

@@ -38,7 +38,8 @@ returns-in-Err-clause-led g c =
     led_none (λ state at. subst (λ h. IsAt h state) (sym c.note-in-Err.ensures.hub) at) (
       moves_as self.connections c.note-in-Err.new.self.connections c.note-in-Err.ensures.connections,
       accepted_none g.S.Opening.refuses c.args.kind (listening_of c.args.kind c.note-in-Err.new.self) c.in-Err.error (g.S.Sockets.asked self.sockets) (g.S.Sockets.asked c.note-in-Err.new.self.sockets)
-          self.hub c.note-in-Err.new.self.hub self.connections c.note-in-Err.new.self.connections (c.note-in-Err.ensures.noted ∙ c.listening_by-listening.ensures ∙ ap listening_by c.kind.ensures) c.note-in-Err.ensures.hub c.note-in-Err.ensures.connections
+          self.hub c.note-in-Err.new.self.hub self.connections c.note-in-Err.new.self.connections (c.note-in-Err.ensures.noted ∙ c.listening_by-listening.ensures ∙ ap listening_by c.kind.ensures) c.note-in-Err.ensures.hub
+          c.note-in-Err.ensures.connections
           (subst (λ s. Asks (g.S.Sockets.asked self.sockets) (g.S.Sockets.asked s) (accepts c.args.kind (Err c.in-Err.error) ∷ [])) (sym c.note-in-Err.ensures.sockets)
           (subst (λ r. Asks (g.S.Sockets.asked self.sockets) (g.S.Sockets.asked c.accept.new.self) (accepts c.args.kind r ∷ [])) c.in-Err.is c.accept.ensures.asked)),
     )

@@ -46,9 +46,11 @@ returns-clause-led g c =
     (λ es fs before then. (
       moves_joined self.connections c.accept_all-by_http.new.self.connections c.turn-turned.new.self es fs before.0 then.0,
       taken_round g.S.Opening.refuses asked c.poll.new.self c.accept_all-by_dict.new.self c.accept_all-by_http.new.self es fs before.1 then.1 then.2,
-      round_made g.S.Opening.refuses asked (condition g.K.Lookup.has_failed g.K.Lookup.is_closed) g.K.Preparer.expects g.K.Preparer.prepares g.T.Transport.taken g.T.Transport.coming g.T.Transport.made (g.S.Sockets.told c.poll.new.self.sockets) c.poll.result c.args.desk.now c.turn-turned.new.desk self c.poll.new.self c.accept_all-by_dict.new.self c.accept_all-by_http.new.self _
+      round_made g.S.Opening.refuses asked (condition g.K.Lookup.has_failed g.K.Lookup.is_closed) g.K.Preparer.expects g.K.Preparer.prepares g.T.Transport.taken g.T.Transport.coming g.T.Transport.made
+          (g.S.Sockets.told c.poll.new.self.sockets) c.poll.result c.args.desk.now c.turn-turned.new.desk self c.poll.new.self c.accept_all-by_dict.new.self c.accept_all-by_http.new.self _
           c.has_any.result c.turn-turned.result es fs (ap is_ok c.in-Ok.is) c.poll.ensures before.1
-          (subst (λ d. TurnEach (condition g.K.Lookup.has_failed g.K.Lookup.is_closed) g.K.Preparer.expects g.K.Preparer.prepares g.T.Transport.taken g.T.Transport.coming g.T.Transport.made g.S.Opening.refuses c.accept_all-by_http.new.self.hub d c.turn-turned.new.desk c.accept_all-by_http.new.self.connections c.turn-turned.new.self c.turn-turned.result fs)
+          (subst (λ d. TurnEach (condition g.K.Lookup.has_failed g.K.Lookup.is_closed) g.K.Preparer.expects g.K.Preparer.prepares g.T.Transport.taken g.T.Transport.coming g.T.Transport.made g.S.Opening.refuses
+          c.accept_all-by_http.new.self.hub d c.turn-turned.new.desk c.accept_all-by_http.new.self.connections c.turn-turned.new.self c.turn-turned.result fs)
           (c.accept_all-by_http.ensures.unasked ∙ c.accept_all-by_dict.ensures.unasked) then.3) c.turn-turned.ensures.others refl c.accept_all-by_http.ensures.other refl c.accept_all-by_dict.ensures.other
           (moved_by c.has_any.result c.has_given-is_more.result c.accept_all-by_dict.result c.accept_all-by_http.result c.turn-turned.result _ _ _ c.has_any.ensures
           (c.has_given-is_more.ensures ∙ ap (λ last. nat_lt last c.turn-turned.new.self.last) (c.last_id-last.ensures ∙ c.poll.ensures.last))

@@ -42,7 +42,8 @@ returns-in-Editor-clause-gets g c = λ trusted M shown host id held holds.
       shows = subst (λ desk. g.K.Lookup.shows desk M) (sym (c.take.ensures.unasked e)) shown;
       leaves = λ ms before. subst (λ desk. g.K.Lookup.leaves_one_of desk ms) (sym (c.take.ensures.unasked e)) before;
     })
-    (λ e. subst (λ (o : List ℕ). AnswersRequest (g.K.Lookup.shows c.take.new.desk) (g.K.Lookup.leaves_one_of c.args.desk.now) (g.K.Lookup.leaves_one_of c.take.new.desk) M (o ++ c.args.piece.now) old new) h.octets_held (c.take.ensures.answers e trusted M shown))
+    (λ e. subst (λ (o : List ℕ). AnswersRequest (g.K.Lookup.shows c.take.new.desk) (g.K.Lookup.leaves_one_of c.args.desk.now) (g.K.Lookup.leaves_one_of c.take.new.desk) M (o ++ c.args.piece.now) old new) h.octets_held
+    (c.take.ensures.answers e trusted M shown))
 
 pub returns-in-Editor-clause-left : goal.returns-in-Editor-clause-left
 returns-in-Editor-clause-left g c = λ trusted M shown host id held holds.

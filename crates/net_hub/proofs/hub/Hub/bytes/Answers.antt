@@ -44,7 +44,8 @@ returns-in-More-clause-gets g c = λ trusted M shown held at.
     let f = found_at c.args.self.now.book.ids.items c.args.id c.in-Some.place (sym c.in-Some.ensures.value) in
     let h = subst (λ one. HoldsExchange c.args.self.now.host.now c.args.id one held) (sym c.index_mut.ensures.value)
     (holds_there c.args.self.now.host.now c.args.self.now.book.ids.items c.args.self.now.lines.items c.args.id held c.in-Some.place c.args.self.now.book.rising f.0 f.1 at c.index_mut.result.now) in
-    subst (λ out. Gets c.args.self.now.host.now (condition g.K.Lookup.has_failed g.K.Lookup.is_closed c.take.new.desk) (g.K.Lookup.shows c.take.new.desk) (g.K.Lookup.leaves_one_of c.args.desk.now) (g.K.Lookup.leaves_one_of c.take.new.desk) M held.kind (held.octets ++ c.args.piece.now) out (g.S.Sink.stream c.args.sink.now) (g.S.Sink.stream c.take.new.sink))
+    subst (λ out. Gets c.args.self.now.host.now (condition g.K.Lookup.has_failed g.K.Lookup.is_closed c.take.new.desk) (g.K.Lookup.shows c.take.new.desk) (g.K.Lookup.leaves_one_of c.args.desk.now)
+    (g.K.Lookup.leaves_one_of c.take.new.desk) M held.kind (held.octets ++ c.args.piece.now) out (g.S.Sink.stream c.args.sink.now) (g.S.Sink.stream c.take.new.sink))
     c.in-More.is (c.in_ok-take.ensures.gets trusted M shown c.args.self.now.host.now c.args.id held h)
 
 pub returns-in-More-clause-own : goal.returns-in-More-clause-own
@@ -71,7 +72,8 @@ returns-in-Close-clause-gets g c = λ trusted M shown held at.
     let f = found_at c.args.self.now.book.ids.items c.args.id c.in-Some.place (sym c.in-Some.ensures.value) in
     let h = subst (λ one. HoldsExchange c.args.self.now.host.now c.args.id one held) (sym c.index_mut.ensures.value)
     (holds_there c.args.self.now.host.now c.args.self.now.book.ids.items c.args.self.now.lines.items c.args.id held c.in-Some.place c.args.self.now.book.rising f.0 f.1 at c.index_mut.result.now) in
-    subst (λ out. Gets c.args.self.now.host.now (condition g.K.Lookup.has_failed g.K.Lookup.is_closed c.take.new.desk) (g.K.Lookup.shows c.take.new.desk) (g.K.Lookup.leaves_one_of c.args.desk.now) (g.K.Lookup.leaves_one_of c.take.new.desk) M held.kind (held.octets ++ c.args.piece.now) out (g.S.Sink.stream c.args.sink.now) (g.S.Sink.stream c.take.new.sink))
+    subst (λ out. Gets c.args.self.now.host.now (condition g.K.Lookup.has_failed g.K.Lookup.is_closed c.take.new.desk) (g.K.Lookup.shows c.take.new.desk) (g.K.Lookup.leaves_one_of c.args.desk.now)
+    (g.K.Lookup.leaves_one_of c.take.new.desk) M held.kind (held.octets ++ c.args.piece.now) out (g.S.Sink.stream c.args.sink.now) (g.S.Sink.stream c.take.new.sink))
     c.in-Close.is (c.in_ok-take.ensures.gets trusted M shown c.args.self.now.host.now c.args.id held h)
 
 pub returns-in-Close-clause-own : goal.returns-in-Close-clause-own

@@ -75,7 +75,14 @@ returns-clause-closes g c =
 
 pub returns-clause-caused : goal.returns-clause-caused
 returns-clause-caused g c = λ clean.
-    copied_caused g.S.Store c.args.self.now (record { conn = c.copy_over-outcome.new.conn; summary = summary_shown c.self.inside.summary; last = c.last_behind-self-inside.result; indexes = c.self.inside.indexes; texts = c.forget_behind.new.texts }) c.copy_over-outcome.result c.copy_over-outcome.ensures.kinds
+    copied_caused g.S.Store c.args.self.now (record {
+      conn = c.copy_over-outcome.new.conn;
+      summary = summary_shown c.self.inside.summary;
+      last = c.last_behind-self-inside.result;
+      indexes = c.self.inside.indexes;
+      texts =
+          c.forget_behind.new.texts;
+    }) c.copy_over-outcome.result c.copy_over-outcome.ensures.kinds
     (subst (λ (d : DeskState _). OnErr c.copy_over-outcome.result (KeepsCommit (state g.S.Store d.conn) (state g.S.Store c.copy_over-outcome.new.conn))) c.self.view_is (c.copy_over-outcome.ensures.keeps clean))
     (subst (λ (d : DeskState _). IfErr c.copy_over-outcome.result (λ fault. fault ≡ Disk → MoreFaults (state g.S.Store d.conn).faults (state g.S.Store c.copy_over-outcome.new.conn).faults)) c.self.view_is
     (c.copy_over-outcome.ensures.faulted clean))

@@ -27,19 +27,25 @@ returns-in-Ok-clause-value g c = λ clean M shown.
     let before : is_closed c.self.inside.last ≡ false = search rules in
     let live = (c.in-Ok.ensures.same clean).0.was_open in
     let honest = clean_behind (state g.S.Store c.self.inside.conn) (state g.S.Store c.kept_reply.new.conn) c.kept_reply.ensures.survives clean in
-    let holds = held g.S.Store c.self.inside.conn c.kept_reply.new.conn (summary_shown c.self.inside.summary) c.self.inside.filing c.self.inside.last Fine before c.self.invariant.0 c.kept_reply.ensures.survives (λ clean. unchanged_continues (state g.S.Store c.self.inside.conn) (state g.S.Store c.kept_reply.new.conn) (c.in-Ok.ensures.same clean)) c.self.inside.indexes c.self.inside.texts M (subst (λ (d : DeskState _). Shows g.S.Store d M) (sym c.self.view_is) shown) clean live in
+    let holds = held g.S.Store c.self.inside.conn c.kept_reply.new.conn (summary_shown c.self.inside.summary) c.self.inside.filing c.self.inside.last Fine before c.self.invariant.0 c.kept_reply.ensures.survives
+    (λ clean. unchanged_continues (state g.S.Store c.self.inside.conn) (state g.S.Store c.kept_reply.new.conn) (c.in-Ok.ensures.same clean)) c.self.inside.indexes c.self.inside.texts M
+    (subst (λ (d : DeskState _). Shows g.S.Store d M) (sym c.self.view_is) shown) clean live in
     c.in-Ok.ensures.alone clean M.kept (replies_seen g.S.Store c.self.inside.last (summary_shown c.self.inside.summary) c.self.inside.filing c.self.inside.conn before c.self.invariant.0 honest live M holds)
 
 pub returns-in-Ok-clause-shows : goal.returns-in-Ok-clause-shows
 returns-in-Ok-clause-shows g c = λ clean M shown.
     let before : is_closed c.self.inside.last ≡ false = search rules in
-    shows_on g.S.Store c.self.inside.conn c.kept_reply.new.conn (summary_shown c.self.inside.summary) c.self.inside.filing c.self.inside.last Fine before c.self.invariant.0 c.kept_reply.ensures.survives (λ clean. unchanged_continues (state g.S.Store c.self.inside.conn) (state g.S.Store c.kept_reply.new.conn) (c.in-Ok.ensures.same clean)) c.self.inside.indexes c.self.inside.texts M (subst (λ (d : DeskState _). Shows g.S.Store d M) (sym c.self.view_is) shown) c.self.inside.texts refl
+    shows_on g.S.Store c.self.inside.conn c.kept_reply.new.conn (summary_shown c.self.inside.summary) c.self.inside.filing c.self.inside.last Fine before c.self.invariant.0 c.kept_reply.ensures.survives
+    (λ clean. unchanged_continues (state g.S.Store c.self.inside.conn) (state g.S.Store c.kept_reply.new.conn) (c.in-Ok.ensures.same clean)) c.self.inside.indexes c.self.inside.texts M
+    (subst (λ (d : DeskState _). Shows g.S.Store d M) (sym c.self.view_is) shown) c.self.inside.texts refl
 
 pub invariant_of-self-in-Err : goal.invariant_of-self-in-Err
 invariant_of-self-in-Err g c =
     let before : is_closed c.self.inside.last ≡ false = search rules in
     let inside : c.self.inside.conn.in_transaction ≡ true = search rules in (
-      undone_rests g.S.Store c.self.inside.conn c.undo.new.conn (summary_shown c.self.inside.summary) c.self.inside.filing c.self.inside.last before c.self.invariant.0 (survives_both g.S.Store c.self.inside.conn c.kept_reply.new.conn c.undo.new.conn inside c.kept_reply.ensures.survives c.undo.ensures.survives) (λ clean. undone_behind g.S.Store c.self.inside.conn c.kept_reply.new.conn c.undo.new.conn inside c.kept_reply.ensures.survives c.undo.ensures.survives c.in-Err.field-0
+      undone_rests g.S.Store c.self.inside.conn c.undo.new.conn (summary_shown c.self.inside.summary) c.self.inside.filing c.self.inside.last before c.self.invariant.0
+          (survives_both g.S.Store c.self.inside.conn c.kept_reply.new.conn c.undo.new.conn inside c.kept_reply.ensures.survives c.undo.ensures.survives)
+          (λ clean. undone_behind g.S.Store c.self.inside.conn c.kept_reply.new.conn c.undo.new.conn inside c.kept_reply.ensures.survives c.undo.ensures.survives c.in-Err.field-0
           (c.in-Err.ensures.failed (clean_behind (state g.S.Store c.kept_reply.new.conn) (state g.S.Store c.undo.new.conn) c.undo.ensures.survives clean)) (c.undo.ensures.undone clean)
           (c.undo.ensures.ended clean)) c.let_go_when_ended.new.filing
           (filed_less g.S.Store c.self.inside.filing c.let_go_when_ended.new.filing c.undo.new.conn c.let_go_when_ended.ensures
@@ -58,7 +64,9 @@ pub returns-in-Err-clause-shows : goal.returns-in-Err-clause-shows
 returns-in-Err-clause-shows g c = λ clean M shown.
     let before : is_closed c.self.inside.last ≡ false = search rules in
     let inside : c.self.inside.conn.in_transaction ≡ true = search rules in
-    undone_shows g.S.Store c.self.inside.conn c.undo.new.conn (summary_shown c.self.inside.summary) c.self.inside.filing c.self.inside.last before c.self.invariant.0 (survives_both g.S.Store c.self.inside.conn c.kept_reply.new.conn c.undo.new.conn inside c.kept_reply.ensures.survives c.undo.ensures.survives) (λ clean. undone_behind g.S.Store c.self.inside.conn c.kept_reply.new.conn c.undo.new.conn inside c.kept_reply.ensures.survives c.undo.ensures.survives c.in-Err.field-0
+    undone_shows g.S.Store c.self.inside.conn c.undo.new.conn (summary_shown c.self.inside.summary) c.self.inside.filing c.self.inside.last before c.self.invariant.0
+    (survives_both g.S.Store c.self.inside.conn c.kept_reply.new.conn c.undo.new.conn inside c.kept_reply.ensures.survives c.undo.ensures.survives)
+    (λ clean. undone_behind g.S.Store c.self.inside.conn c.kept_reply.new.conn c.undo.new.conn inside c.kept_reply.ensures.survives c.undo.ensures.survives c.in-Err.field-0
     (c.in-Err.ensures.failed (clean_behind (state g.S.Store c.kept_reply.new.conn) (state g.S.Store c.undo.new.conn) c.undo.ensures.survives clean)) (c.undo.ensures.undone clean)
     (c.undo.ensures.ended clean)) c.self.inside.last c.self.inside.indexes c.self.inside.texts M (subst (λ (d : DeskState _). Shows g.S.Store d M) (sym c.self.view_is) shown)
 

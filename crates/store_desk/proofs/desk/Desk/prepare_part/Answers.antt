@@ -67,7 +67,14 @@ returns-clause-closes g c =
 
 pub returns-clause-caused : goal.returns-clause-caused
 returns-clause-caused g c = λ clean.
-    prepared_caused g.S.Store c.args.self.now (record { conn = c.prepare_next-outcome.new.conn; summary = summary_shown c.self.inside.summary; last = c.last_behind-self-inside.result; indexes = c.self.inside.indexes; texts = c.forget_behind.new.texts }) c.prepare_next-outcome.result c.prepare_next-outcome.ensures.kinds
+    prepared_caused g.S.Store c.args.self.now (record {
+      conn = c.prepare_next-outcome.new.conn;
+      summary = summary_shown c.self.inside.summary;
+      last = c.last_behind-self-inside.result;
+      indexes = c.self.inside.indexes;
+      texts =
+          c.forget_behind.new.texts;
+    }) c.prepare_next-outcome.result c.prepare_next-outcome.ensures.kinds
     (subst (λ (d : DeskState _). KeepsCommit (state g.S.Store d.conn) (state g.S.Store c.prepare_next-outcome.new.conn)) c.self.view_is (c.prepare_next-outcome.ensures.keeps clean))
     (subst (λ (d : DeskState _). IfErr c.prepare_next-outcome.result (λ fault. fault ≡ Disk → MoreFaults (state g.S.Store d.conn).faults (state g.S.Store c.prepare_next-outcome.new.conn).faults)) c.self.view_is
     (c.prepare_next-outcome.ensures.faulted clean))

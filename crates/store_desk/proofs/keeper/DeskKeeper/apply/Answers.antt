@@ -89,7 +89,15 @@ pub returns-clause-caused : goal.returns-clause-caused
 returns-clause-caused g c = λ clean.
     subst (λ desk. IfErr c.take_over.result (λ fault. is_failure fault ≡ true → FailsToApplyTo g.S.Store desk (record { id = c.args.id.now; command = command_meant c.args.command.now })
     (record { conn = c.apply_over-outcome.new.conn; summary = summary_shown c.take_over.new.summary; last = c.last_by-self-inside.result; indexes = c.settle.new.indexes; texts = c.forget_by-2.new.texts }) fault)) c.self.view_is
-    (fails_to_apply g.S.Store (record { conn = c.self.inside.conn; summary = summary_shown c.self.inside.summary; last = c.self.inside.last; indexes = c.self.inside.indexes; texts = c.self.inside.texts }) c.args.id.now (command_meant c.args.command.now) (record { conn = c.apply_over-outcome.new.conn; summary = summary_shown c.take_over.new.summary; last = c.last_by-self-inside.result; indexes = c.settle.new.indexes; texts = c.forget_by-2.new.texts })
+    (fails_to_apply g.S.Store (record { conn = c.self.inside.conn; summary = summary_shown c.self.inside.summary; last = c.self.inside.last; indexes = c.self.inside.indexes; texts = c.self.inside.texts }) c.args.id.now
+    (command_meant c.args.command.now) (record {
+      conn = c.apply_over-outcome.new.conn;
+      summary = summary_shown c.take_over.new.summary;
+      last = c.last_by-self-inside.result;
+      indexes = c.settle.new.indexes;
+      texts =
+          c.forget_by-2.new.texts;
+    })
     c.apply_over-outcome.result c.take_over.result c.take_over.ensures.reply c.apply_over-outcome.ensures.over.kinds (c.apply_over-outcome.ensures.over.failed clean))
 
 pub returns-clause-applied : goal.returns-clause-applied

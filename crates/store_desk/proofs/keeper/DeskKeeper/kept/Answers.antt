@@ -21,7 +21,9 @@ kept_reply-outcome-requires g c = λ clean live.
 pub invariant_of-self : goal.invariant_of-self
 invariant_of-self g c =
     let before : is_closed c.self.inside.last ≡ false = ap is_closed (ap (λ (d : DeskState _). d.last) c.self.view_is ∙ c.in_ok-withdraw.ensures.last) ∙ c.in_ok-withdraw.ensures.open in
-    desk_on g.S.Store c.self.inside.conn c.kept_reply-outcome.new.conn (summary_shown c.self.inside.summary) c.self.inside.filing c.self.inside.last c.last_by-self-inside.result before c.self.invariant.0 c.kept_reply-outcome.ensures.survives (λ clean. replies_continue (state g.S.Store c.self.inside.conn) (state g.S.Store c.kept_reply-outcome.new.conn) c.kept_reply-outcome.result (c.kept_reply-outcome.ensures.same clean) (c.kept_reply-outcome.ensures.failed clean))
+    desk_on g.S.Store c.self.inside.conn c.kept_reply-outcome.new.conn (summary_shown c.self.inside.summary) c.self.inside.filing c.self.inside.last c.last_by-self-inside.result before c.self.invariant.0
+    c.kept_reply-outcome.ensures.survives (λ clean. replies_continue (state g.S.Store c.self.inside.conn) (state g.S.Store c.kept_reply-outcome.new.conn) c.kept_reply-outcome.result (c.kept_reply-outcome.ensures.same clean)
+    (c.kept_reply-outcome.ensures.failed clean))
     c.kept_reply-outcome.ensures.mode c.self.inside.texts c.forget_by.new.texts c.forget_by.ensures c.self.invariant.1.made
 
 pub returns-clause-trust : goal.returns-clause-trust
@@ -37,7 +39,9 @@ returns-clause-value g c = λ clean M shown.
     let honest = clean_behind (state g.S.Store c.self.inside.conn) (state g.S.Store c.kept_reply-outcome.new.conn) c.kept_reply-outcome.ensures.survives clean in
     let mid = subst (λ (d : DeskState _). HasCleanDisk (state g.S.Store d.conn)) c.self.view_is honest in
     let first = clean_behind (state g.S.Store c.kept_beside.new.self.conn) (state g.S.Store c.withdraw.new.self.conn) c.withdraw.ensures.survives mid in
-    let holds = held g.S.Store c.self.inside.conn c.kept_reply-outcome.new.conn (summary_shown c.self.inside.summary) c.self.inside.filing c.self.inside.last c.last_by-self-inside.result before c.self.invariant.0 c.kept_reply-outcome.ensures.survives (λ clean. replies_continue (state g.S.Store c.self.inside.conn) (state g.S.Store c.kept_reply-outcome.new.conn) c.kept_reply-outcome.result (c.kept_reply-outcome.ensures.same clean) (c.kept_reply-outcome.ensures.failed clean))
+    let holds = held g.S.Store c.self.inside.conn c.kept_reply-outcome.new.conn (summary_shown c.self.inside.summary) c.self.inside.filing c.self.inside.last c.last_by-self-inside.result before c.self.invariant.0
+    c.kept_reply-outcome.ensures.survives (λ clean. replies_continue (state g.S.Store c.self.inside.conn) (state g.S.Store c.kept_reply-outcome.new.conn) c.kept_reply-outcome.result (c.kept_reply-outcome.ensures.same clean)
+    (c.kept_reply-outcome.ensures.failed clean))
     c.self.inside.indexes c.self.inside.texts M (subst (λ (d : DeskState _). Shows g.S.Store d M) (sym c.self.view_is) (c.withdraw.ensures.shows mid M (c.kept_beside.ensures.shows first M shown))) clean in
     kept_value (λ reply. (kept : _) → HoldsReplies (state g.S.Store c.self.inside.conn).now kept → option_map kept_shown reply ≡ kept_under kept c.args.id.now)
     (λ reply. option_map kept_shown reply ≡ kept_under M.kept c.args.id.now) c.kept_reply-outcome.result (state g.S.Store c.self.inside.conn) (state g.S.Store c.kept_reply-outcome.new.conn)
@@ -50,13 +54,17 @@ returns-clause-shows g c = λ clean M shown.
     let honest = clean_behind (state g.S.Store c.self.inside.conn) (state g.S.Store c.kept_reply-outcome.new.conn) c.kept_reply-outcome.ensures.survives clean in
     let mid = subst (λ (d : DeskState _). HasCleanDisk (state g.S.Store d.conn)) c.self.view_is honest in
     let first = clean_behind (state g.S.Store c.kept_beside.new.self.conn) (state g.S.Store c.withdraw.new.self.conn) c.withdraw.ensures.survives mid in
-    shows_on g.S.Store c.self.inside.conn c.kept_reply-outcome.new.conn (summary_shown c.self.inside.summary) c.self.inside.filing c.self.inside.last c.last_by-self-inside.result before c.self.invariant.0 c.kept_reply-outcome.ensures.survives (λ clean. replies_continue (state g.S.Store c.self.inside.conn) (state g.S.Store c.kept_reply-outcome.new.conn) c.kept_reply-outcome.result (c.kept_reply-outcome.ensures.same clean) (c.kept_reply-outcome.ensures.failed clean))
+    shows_on g.S.Store c.self.inside.conn c.kept_reply-outcome.new.conn (summary_shown c.self.inside.summary) c.self.inside.filing c.self.inside.last c.last_by-self-inside.result before c.self.invariant.0
+    c.kept_reply-outcome.ensures.survives (λ clean. replies_continue (state g.S.Store c.self.inside.conn) (state g.S.Store c.kept_reply-outcome.new.conn) c.kept_reply-outcome.result (c.kept_reply-outcome.ensures.same clean)
+    (c.kept_reply-outcome.ensures.failed clean))
     c.self.inside.indexes c.self.inside.texts M (subst (λ (d : DeskState _). Shows g.S.Store d M) (sym c.self.view_is) (c.withdraw.ensures.shows mid M (c.kept_beside.ensures.shows first M shown))) c.forget_by.new.texts c.forget_by.ensures
 
 pub returns-clause-leaves : goal.returns-clause-leaves
 returns-clause-leaves g c = λ ms left.
     let there = leaves_on g.S.Store c.kept_beside.new.self c.withdraw.new.self c.withdraw.ensures.survives ms (leaves_on g.S.Store c.args.self.now c.kept_beside.new.self c.kept_beside.ensures.survives ms left) in
-    leaves_on g.S.Store (record { conn = c.self.inside.conn; summary = summary_shown c.self.inside.summary; last = c.self.inside.last; indexes = c.self.inside.indexes; texts = c.self.inside.texts }) (record { conn = c.kept_reply-outcome.new.conn; summary = summary_shown c.self.inside.summary; last = c.last_by-self-inside.result; indexes = c.self.inside.indexes; texts = c.forget_by.new.texts }) c.kept_reply-outcome.ensures.survives ms
+    leaves_on g.S.Store (record { conn = c.self.inside.conn; summary = summary_shown c.self.inside.summary; last = c.self.inside.last; indexes = c.self.inside.indexes; texts = c.self.inside.texts })
+    (record { conn = c.kept_reply-outcome.new.conn; summary = summary_shown c.self.inside.summary; last = c.last_by-self-inside.result; indexes = c.self.inside.indexes; texts = c.forget_by.new.texts })
+    c.kept_reply-outcome.ensures.survives ms
     (subst (λ (d : DeskState _). LeavesOneOf g.S.Store d ms) (sym c.self.view_is) there)
 
 pub returns-clause-caused : goal.returns-clause-caused

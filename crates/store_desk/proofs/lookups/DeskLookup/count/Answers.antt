@@ -35,5 +35,6 @@ returns-clause-caused g c = λ clean.
 pub returns-clause-value : goal.returns-clause-value
 returns-clause-value g c = λ clean M edition shown has.
     let ready = subst (λ (d : DeskState _). Shows g.S.Store d M) (sym c.self.view_is) shown in
-    let one = served_one g.S.Store (record { conn = c.self.inside.conn; summary = summary_shown c.self.inside.summary; last = c.self.inside.last; indexes = c.self.inside.indexes; texts = c.self.inside.texts }) M c.args.number edition has (ready.served clean) in
+    let one = served_one g.S.Store (record { conn = c.self.inside.conn; summary = summary_shown c.self.inside.summary; last = c.self.inside.last; indexes = c.self.inside.indexes; texts = c.self.inside.texts }) M c.args.number
+    edition has (ready.served clean) in
     each_ok c.count_under-outcome.result _ _ (λ count h. h one.index edition one.stands (one.text, one.cuts)) c.count_under-outcome.ensures.value

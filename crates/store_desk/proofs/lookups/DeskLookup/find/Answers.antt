@@ -52,7 +52,9 @@ returns-clause-shows g c = λ clean M shown.
 pub returns-clause-leaves : goal.returns-clause-leaves
 returns-clause-leaves g c = λ ms left.
     let there = subst (λ (d : DeskState _). LeavesOneOf g.S.Store d ms) (sym c.self.view_is) (leaves_on g.S.Store c.args.self.now c.make_ready.new.self c.make_ready.ensures.survives ms left) in
-    leaves_on g.S.Store (record { conn = c.self.inside.conn; summary = summary_shown c.self.inside.summary; last = c.self.inside.last; indexes = c.self.inside.indexes; texts = c.self.inside.texts }) (record { conn = c.find_under-outcome.new.conn; summary = summary_shown c.self.inside.summary; last = c.last_by-self-inside.result; indexes = c.self.inside.indexes; texts = c.forget_by.new.texts }) c.find_under-outcome.ensures.survives ms there
+    leaves_on g.S.Store (record { conn = c.self.inside.conn; summary = summary_shown c.self.inside.summary; last = c.self.inside.last; indexes = c.self.inside.indexes; texts = c.self.inside.texts })
+    (record { conn = c.find_under-outcome.new.conn; summary = summary_shown c.self.inside.summary; last = c.last_by-self-inside.result; indexes = c.self.inside.indexes; texts = c.forget_by.new.texts })
+    c.find_under-outcome.ensures.survives ms there
 
 pub returns-clause-value : goal.returns-clause-value
 returns-clause-value g c = λ clean M edition shown has.
@@ -61,7 +63,8 @@ returns-clause-value g c = λ clean M edition shown has.
     (sym c.self.view_is) c.in_ok-make_ready.ensures.alike in
     let honest = clean_behind (state g.S.Store c.self.inside.conn) (state g.S.Store c.find_under-outcome.new.conn) c.find_under-outcome.ensures.survives clean in
     let ready = subst (λ (d : DeskState _). Shows g.S.Store d M) (sym c.self.view_is) (c.make_ready.ensures.shows (subst (λ (d : DeskState _). HasCleanDisk (state g.S.Store d.conn)) c.self.view_is honest) M shown) in
-    let one = served_one g.S.Store (record { conn = c.self.inside.conn; summary = summary_shown c.self.inside.summary; last = c.self.inside.last; indexes = c.self.inside.indexes; texts = c.self.inside.texts }) M c.args.number edition has (ready.served honest) in
+    let one = served_one g.S.Store (record { conn = c.self.inside.conn; summary = summary_shown c.self.inside.summary; last = c.self.inside.last; indexes = c.self.inside.indexes; texts = c.self.inside.texts }) M c.args.number
+    edition has (ready.served honest) in
     c.find_under-outcome.ensures.value clean one.index edition one.text one.stands one.cuts one.kept
     (λ live. seen_text c.args.number (state g.S.Store c.self.inside.conn).committed (state g.S.Store c.self.inside.conn).now (alike honest live) c.args.number refl one.text (one.held before live))
 

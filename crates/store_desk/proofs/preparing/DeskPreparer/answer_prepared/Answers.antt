@@ -50,10 +50,14 @@ pub returns-in-Some-finish-clause-done : goal.returns-in-Some-finish-clause-done
 returns-in-Some-finish-clause-done g c = c.in-Some-finish.ensures.done
 
 pub returns-in-Some-finish-clause-value : goal.returns-in-Some-finish-clause-value
-returns-in-Some-finish-clause-value g c = λ clean M shown reading is. (done_as g.S.Store c.args.self.now c.finish.new.self c.args.id.now c.args.name.now c.args.index.now c.args.text.now c.in-Some-finish.outcome c.one_meaning.ensures.one_reading c.in-Some-finish.ensures.done reading is).answered clean M shown
+returns-in-Some-finish-clause-value g c =
+    λ clean M shown reading is. (done_as g.S.Store c.args.self.now c.finish.new.self c.args.id.now c.args.name.now c.args.index.now c.args.text.now c.in-Some-finish.outcome c.one_meaning.ensures.one_reading
+    c.in-Some-finish.ensures.done reading is).answered clean M shown
 
 pub returns-in-Some-finish-clause-left : goal.returns-in-Some-finish-clause-left
-returns-in-Some-finish-clause-left g c = λ clean M shown reading is. (done_as g.S.Store c.args.self.now c.finish.new.self c.args.id.now c.args.name.now c.args.index.now c.args.text.now c.in-Some-finish.outcome c.one_meaning.ensures.one_reading c.in-Some-finish.ensures.done reading is).left clean M shown
+returns-in-Some-finish-clause-left g c =
+    λ clean M shown reading is. (done_as g.S.Store c.args.self.now c.finish.new.self c.args.id.now c.args.name.now c.args.index.now c.args.text.now c.in-Some-finish.outcome c.one_meaning.ensures.one_reading
+    c.in-Some-finish.ensures.done reading is).left clean M shown
 
 pub returns-in-Some-finish-clause-spares : goal.returns-in-Some-finish-clause-spares
 returns-in-Some-finish-clause-spares g c = λ ms left. c.in-Some-finish.ensures.done.2.spared ms left
@@ -62,7 +66,9 @@ pub returns-in-Some-finish-clause-kinds_done : goal.returns-in-Some-finish-claus
 returns-in-Some-finish-clause-kinds_done g c = c.in-Some-finish.ensures.kinds
 
 pub returns-in-Some-finish-clause-caused_done : goal.returns-in-Some-finish-clause-caused_done
-returns-in-Some-finish-clause-caused_done g c = λ clean reading is. (done_as g.S.Store c.args.self.now c.finish.new.self c.args.id.now c.args.name.now c.args.index.now c.args.text.now c.in-Some-finish.outcome c.one_meaning.ensures.one_reading c.in-Some-finish.ensures.done reading is).failed clean
+returns-in-Some-finish-clause-caused_done g c =
+    λ clean reading is. (done_as g.S.Store c.args.self.now c.finish.new.self c.args.id.now c.args.name.now c.args.index.now c.args.text.now c.in-Some-finish.outcome c.one_meaning.ensures.one_reading c.in-Some-finish.ensures.done
+    reading is).failed clean
 
 pub returns-in-Some-finish-clause-failed_done : goal.returns-in-Some-finish-clause-failed_done
 returns-in-Some-finish-clause-failed_done g c = c.in-Some-finish.ensures.failed

@@ -39,7 +39,8 @@ returns-clause-shows g c =
     let sure = λ (clean : AreClean d stopped.log stopped.db). let parts = and_parts (d.is_clean stopped.log) (d.is_clean stopped.db) clean in and_from (d.is_clean was.log)
     (d.is_clean was.db) (c.crash.ensures.clean parts.0) (c.crash-2.ensures.clean parts.1) in
     let back : (image : Image) → outcomes d stopped.log stopped.db image → outcomes d was.log was.db image = λ image out. (c.crash.ensures.crash image.log out.0, c.crash-2.ensures.crash image.db out.1) in
-    IfOk-weaker c.open_over.result _ _ (λ next over clean before requests answered leaves. shows_front g.met.D.Disk.seen_may_stay c.args.self was stopped c.files_of-files.ensures back sure next over clean before requests answered leaves) c.open_over.ensures.opened
+    IfOk-weaker c.open_over.result _ _ (λ next over clean before requests answered leaves.
+    shows_front g.met.D.Disk.seen_may_stay c.args.self was stopped c.files_of-files.ensures back sure next over clean before requests answered leaves) c.open_over.ensures.opened
 
 pub returns-clause-follows : goal.returns-clause-follows
 returns-clause-follows g c =

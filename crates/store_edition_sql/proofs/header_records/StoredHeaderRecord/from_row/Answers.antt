@@ -15,5 +15,13 @@ pub returns-clause-lawful : goal.returns-clause-lawful
 returns-clause-lawful c =
     let row = c.args.row.now in
     let wide : length row ≡ 5 = omega (arith, c.column_count.ensures) in
-    subst (HasColumns header_columns) (sym (cells row 5 wide))
-    ((_, c.in_ok-cell.ensures.ok), ((_, c.in_ok-cell-2.ensures.ok), ((_, c.in_ok-cell-3.ensures.ok, IsUtf8-string_bytes c.in_ok-cell-3.field-0), ((_, c.in_ok-cell-4.ensures.ok, IsUtf8-string_bytes c.in_ok-cell-4.field-0), ((_, c.in_ok-cell-5.ensures.ok, IsUtf8-string_bytes c.in_ok-cell-5.field-0), tt)))))
+    subst (HasColumns header_columns) (sym (cells row 5 wide)) (
+      (_, c.in_ok-cell.ensures.ok),
+      (
+        (_, c.in_ok-cell-2.ensures.ok),
+        (
+          (_, c.in_ok-cell-3.ensures.ok, IsUtf8-string_bytes c.in_ok-cell-3.field-0),
+          ((_, c.in_ok-cell-4.ensures.ok, IsUtf8-string_bytes c.in_ok-cell-4.field-0), ((_, c.in_ok-cell-5.ensures.ok, IsUtf8-string_bytes c.in_ok-cell-5.field-0), tt)),
+        ),
+      ),
+    )

@@ -34,4 +34,5 @@ pub returns-clause-taken : goal.returns-clause-taken
 returns-clause-taken c =
     let tested = rw c.deref.ensures.value at c.in_ok-has_lawful_items.ensures in
     let owned = rw c.deref-else-not-branch.ensures.value at c.are_owned.ensures in
-    begun_taken c.args.version _ (marks_given c.args.marks.now) (items_given c.args.items.now) (members_given c.args.members.now) c.in_ok-installs.ensures.told c.in_ok-items.ensures.read (sym tested ∙ c.if-not-branch.false) (sym owned ∙ c.if-not-are_owned.false) refl refl refl
+    begun_taken c.args.version _ (marks_given c.args.marks.now) (items_given c.args.items.now) (members_given c.args.members.now) c.in_ok-installs.ensures.told c.in_ok-items.ensures.read (sym tested ∙ c.if-not-branch.false)
+    (sym owned ∙ c.if-not-are_owned.false) refl refl refl

@@ -33,13 +33,15 @@ returns-then-not-is_edition_text-clause-damaged c = λ version taken h.
     info_refused version taken (owned_edition c.args.row) (λ lawful. false≢true (sym c.if-not-is_edition_text.true ∙ tested.1 lawful))
 
 pub returns-then-len-ge-TEXT_END-clause-damaged : goal.returns-then-len-ge-TEXT_END-clause-damaged
-returns-then-len-ge-TEXT_END-clause-damaged c = λ version taken h. text_refused version taken (owned_edition c.args.row) (λ short. let below : length c.args.row.body.items < 68719476736 = short in omega (arith, below, c.len.ensures, c.if-len-ge-TEXT_END.true))
+returns-then-len-ge-TEXT_END-clause-damaged c =
+    λ version taken h. text_refused version taken (owned_edition c.args.row) (λ short. let below : length c.args.row.body.items < 68719476736 = short in omega (arith, below, c.len.ensures, c.if-len-ge-TEXT_END.true))
 
 pub returns-clause-taken : goal.returns-clause-taken
 returns-clause-taken c = λ version taken h.
     let place = c.in-Some.place in
     let within : place < length c.args.self.now.items.items = rw c.deref.ensures.value at c.in-Some.ensures.none in
-    let found : list_any (awaits (string_bytes c.args.row.owner) c.in_ok-number.number) (map item_shown (take 1 (drop place c.args.self.now.items.items))) ≡ true = rw (c.as_str.ensures.value, c.deref.ensures.value) at c.in-Some.ensures.found in
+    let found : list_any (awaits (string_bytes c.args.row.owner) c.in_ok-number.number) (map item_shown (take 1 (drop place c.args.self.now.items.items))) ≡ true =
+    rw (c.as_str.ensures.value, c.deref.ensures.value) at c.in-Some.ensures.found in
     let split = map_found item_shown (awaits (string_bytes c.args.row.owner) c.in_ok-number.number) c.args.self.now.items.items place within found in
     let tested = rw c.as_bytes.ensures.value at c.is_edition_text.ensures in
     let lawful : is_title (string_bytes c.args.row.title) ≡ true = search rules in

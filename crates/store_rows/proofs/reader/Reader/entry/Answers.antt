@@ -22,7 +22,8 @@ on_damage Memory f h = tt
 pub returns-clause-taken : goal.returns-clause-taken
 returns-clause-taken c = both_ok c.add_entry.result c.add_entry.ensures.is c.add_entry.ensures.added (λ is added version taken h.
     let last : IsInHand (Some c.in-Some.hand) taken = subst (λ x. IsInHand x taken) c.in-Some.is h.hand in
-    entry_taken version c.args.self.now _ taken (shown_as (owned_entry c.args.row.now) c.args.shown.now) c.in-Some.hand c.add_entry.new.hand last refl refl refl refl refl c.add_entry.ensures.same.0 c.add_entry.ensures.same.1 added is.0 is.1 h)
+    entry_taken version c.args.self.now _ taken (shown_as (owned_entry c.args.row.now) c.args.shown.now) c.in-Some.hand c.add_entry.new.hand last refl refl refl refl refl c.add_entry.ensures.same.0 c.add_entry.ensures.same.1 added
+    is.0 is.1 h)
 
 pub returns-clause-damaged : goal.returns-clause-damaged
 returns-clause-damaged c = IfErr-weaker c.add_entry.result _ _ (λ fault why. on_damage fault (λ no version taken h of.

@@ -14,7 +14,8 @@ returns-clause-taken g c =
     let rowid = c.rowid.ensures ∙ ap Int (sym (to_z-of_z w64 c.rowid.result fits)) in
     let number = c.edition.ensures ∙ ap Int (sym (to_z-of_z w64 c.edition.result fits_edition)) in
     ok_both c.row.result c.row.ensures.taken c.row.ensures.known
-    (λ more known first given h. census_next g.R.Record.stored first given c.args.next c.args.self.now h (to_z w64 (of_z w64 c.rowid.result)) (to_z w64 (of_z w64 c.edition.result)) rowid number c.row.new.self c.row.ensures.numbers more known)
+    (λ more known first given h. census_next g.R.Record.stored first given c.args.next c.args.self.now h (to_z w64 (of_z w64 c.rowid.result)) (to_z w64 (of_z w64 c.edition.result)) rowid number c.row.new.self c.row.ensures.numbers
+    more known)
 
 pub returns-clause-refused : goal.returns-clause-refused
 returns-clause-refused g c =

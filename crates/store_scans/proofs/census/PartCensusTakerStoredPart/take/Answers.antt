@@ -23,7 +23,8 @@ returns-clause-taken c =
     let number = ap Int (sym (to_z-of_z w64 c.args.next.part.edition fits_edition)) in
     ok_both c.row.result c.row.ensures.taken c.row.ensures.known
     (λ more known first given h. part_next first given c.args.next c.args.self.now h (record { census = c.row.new.self })
-    (census_next stored_part first.census given c.args.next c.args.self.now.census h.census (to_z w64 (of_z w64 c.args.next.rowid)) (to_z w64 (of_z w64 c.args.next.part.edition)) rowid number c.row.new.self c.row.ensures.numbers more known) (sym c.is_in_file.ensures ∙ yes))
+    (census_next stored_part first.census given c.args.next c.args.self.now.census h.census (to_z w64 (of_z w64 c.args.next.rowid)) (to_z w64 (of_z w64 c.args.next.part.edition)) rowid number c.row.new.self c.row.ensures.numbers
+    more known) (sym c.is_in_file.ensures ∙ yes))
 
 pub returns-clause-refused : goal.returns-clause-refused
 returns-clause-refused c =
@@ -32,5 +33,6 @@ returns-clause-refused c =
     let rowid = ap Int (sym (to_z-of_z w64 c.args.next.rowid fits)) in
     let number = ap Int (sym (to_z-of_z w64 c.args.next.part.edition fits_edition)) in
     if_err_then _ _ c.row.result
-    (λ fault wrong is first given h. inl (census_refused stored_part first.census given c.args.next c.args.self.now.census h.census (to_z w64 (of_z w64 c.args.next.rowid)) (to_z w64 (of_z w64 c.args.next.part.edition)) rowid number (wrong is)))
+    (λ fault wrong is first given h. inl (census_refused stored_part first.census given c.args.next c.args.self.now.census h.census (to_z w64 (of_z w64 c.args.next.rowid)) (to_z w64 (of_z w64 c.args.next.part.edition)) rowid number
+    (wrong is)))
     c.row.ensures.damaged

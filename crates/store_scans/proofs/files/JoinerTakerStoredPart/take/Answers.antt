@@ -11,7 +11,8 @@ returns-in_default-clause-refused c = λ is first given h. parts_refused first g
 pub returns-in-Ok-clause-taken : goal.returns-in-Ok-clause-taken
 returns-in-Ok-clause-taken c = λ first given h.
     let octets = c.deref.ensures.value in
-    parts_next first given c.args.next c.args.self.now c.push.new.self c.in-Some.number h c.in-Some.ensures.number (subst (IsNext c.args.self.now c.in-Some.number) octets c.in-Ok.ensures.taken) (subst (λ o. parts_of c.push.new.self ≡ parts_of c.args.self.now ++ o ∷ []) octets c.in-Ok.ensures.parts)
+    parts_next first given c.args.next c.args.self.now c.push.new.self c.in-Some.number h c.in-Some.ensures.number (subst (IsNext c.args.self.now c.in-Some.number) octets c.in-Ok.ensures.taken)
+    (subst (λ o. parts_of c.push.new.self ≡ parts_of c.args.self.now ++ o ∷ []) octets c.in-Ok.ensures.parts)
 
 pub returns-clause-refused : goal.returns-clause-refused
 returns-clause-refused c = λ is first given h.

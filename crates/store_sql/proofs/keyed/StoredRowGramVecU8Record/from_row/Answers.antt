@@ -17,10 +17,13 @@ pub returns-in_err-cell-clause-refused : goal.returns-in_err-cell-clause-refused
 returns-in_err-cell-clause-refused c = refused_at piece_columns c.args.row.now 0 Number c.in_err-cell.field-0.0 c.from_residual.result refl c.in_err-cell.ensures.other c.in_err-cell.ensures.refused c.from_residual.ensures.1
 
 pub returns-in_err-cell-2-clause-refused : goal.returns-in_err-cell-2-clause-refused
-returns-in_err-cell-2-clause-refused c = refused_at piece_columns c.args.row.now 1 Number c.in_err-cell-2.field-0.0 c.from_residual-in_err-cell-2.result refl c.in_err-cell-2.ensures.other c.in_err-cell-2.ensures.refused c.from_residual-in_err-cell-2.ensures.1
+returns-in_err-cell-2-clause-refused c =
+    refused_at piece_columns c.args.row.now 1 Number c.in_err-cell-2.field-0.0 c.from_residual-in_err-cell-2.result refl c.in_err-cell-2.ensures.other c.in_err-cell-2.ensures.refused c.from_residual-in_err-cell-2.ensures.1
 
 pub returns-in_err-cell-3-clause-refused : goal.returns-in_err-cell-3-clause-refused
-returns-in_err-cell-3-clause-refused c = refused_at piece_columns c.args.row.now 2 Octets c.in_err-cell-3.field-0.0 c.from_residual-in_err-cell-3.result refl c.in_err-cell-3.ensures.other c.in_err-cell-3.ensures.refused c.from_residual-in_err-cell-3.ensures.1
+returns-in_err-cell-3-clause-refused c =
+    refused_at piece_columns c.args.row.now 2 Octets c.in_err-cell-3.field-0.0 c.from_residual-in_err-cell-3.result refl c.in_err-cell-3.ensures.other c.in_err-cell-3.ensures.refused c.from_residual-in_err-cell-3.ensures.1
 
 pub returns-in_err-cell-4-clause-refused : goal.returns-in_err-cell-4-clause-refused
-returns-in_err-cell-4-clause-refused c = refused_at piece_columns c.args.row.now 3 Number c.in_err-cell-4.field-0.0 c.from_residual-in_err-cell-4.result refl c.in_err-cell-4.ensures.other c.in_err-cell-4.ensures.refused c.from_residual-in_err-cell-4.ensures.1
+returns-in_err-cell-4-clause-refused c =
+    refused_at piece_columns c.args.row.now 3 Number c.in_err-cell-4.field-0.0 c.from_residual-in_err-cell-4.result refl c.in_err-cell-4.ensures.other c.in_err-cell-4.ensures.refused c.from_residual-in_err-cell-4.ensures.1

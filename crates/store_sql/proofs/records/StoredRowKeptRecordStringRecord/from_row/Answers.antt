@@ -11,23 +11,39 @@ pub returns-clause-lawful : goal.returns-clause-lawful
 returns-clause-lawful c =
     let row = c.args.row.now in
     let wide : length row ≡ 6 = omega (arith, c.column_count.ensures) in
-    subst (HasColumns kept_columns) (sym (cells row 6 wide))
-    ((_, c.in_ok-cell.ensures.ok), ((_, c.in_ok-cell-2.ensures.ok, IsUtf8-string_bytes c.in_ok-cell-2.field-0), ((_, c.in_ok-cell-3.ensures.ok), ((_, c.in_ok-cell-4.ensures.ok, IsUtf8-string_bytes c.in_ok-cell-4.field-0), ((_, c.in_ok-cell-5.ensures.ok, IsUtf8-string_bytes c.in_ok-cell-5.field-0), (number_or_null (column row 5) c.in_ok-cell-6.field-0 c.in_ok-cell-6.ensures.ok, tt))))))
+    subst (HasColumns kept_columns) (sym (cells row 6 wide)) (
+      (_, c.in_ok-cell.ensures.ok),
+      (
+        (_, c.in_ok-cell-2.ensures.ok, IsUtf8-string_bytes c.in_ok-cell-2.field-0),
+        (
+          (_, c.in_ok-cell-3.ensures.ok),
+          (
+            (_, c.in_ok-cell-4.ensures.ok, IsUtf8-string_bytes c.in_ok-cell-4.field-0),
+            ((_, c.in_ok-cell-5.ensures.ok, IsUtf8-string_bytes c.in_ok-cell-5.field-0), (number_or_null (column row 5) c.in_ok-cell-6.field-0 c.in_ok-cell-6.ensures.ok, tt)),
+          ),
+        ),
+      ),
+    )
 
 pub returns-in_err-cell-clause-refused : goal.returns-in_err-cell-clause-refused
 returns-in_err-cell-clause-refused c = refused_at kept_columns c.args.row.now 0 Number c.in_err-cell.field-0.0 c.from_residual.result refl c.in_err-cell.ensures.other c.in_err-cell.ensures.refused c.from_residual.ensures.1
 
 pub returns-in_err-cell-2-clause-refused : goal.returns-in_err-cell-2-clause-refused
-returns-in_err-cell-2-clause-refused c = refused_at kept_columns c.args.row.now 1 Name c.in_err-cell-2.field-0.0 c.from_residual-in_err-cell-2.result refl c.in_err-cell-2.ensures.other c.in_err-cell-2.ensures.refused c.from_residual-in_err-cell-2.ensures.1
+returns-in_err-cell-2-clause-refused c =
+    refused_at kept_columns c.args.row.now 1 Name c.in_err-cell-2.field-0.0 c.from_residual-in_err-cell-2.result refl c.in_err-cell-2.ensures.other c.in_err-cell-2.ensures.refused c.from_residual-in_err-cell-2.ensures.1
 
 pub returns-in_err-cell-3-clause-refused : goal.returns-in_err-cell-3-clause-refused
-returns-in_err-cell-3-clause-refused c = refused_at kept_columns c.args.row.now 2 Number c.in_err-cell-3.field-0.0 c.from_residual-in_err-cell-3.result refl c.in_err-cell-3.ensures.other c.in_err-cell-3.ensures.refused c.from_residual-in_err-cell-3.ensures.1
+returns-in_err-cell-3-clause-refused c =
+    refused_at kept_columns c.args.row.now 2 Number c.in_err-cell-3.field-0.0 c.from_residual-in_err-cell-3.result refl c.in_err-cell-3.ensures.other c.in_err-cell-3.ensures.refused c.from_residual-in_err-cell-3.ensures.1
 
 pub returns-in_err-cell-4-clause-refused : goal.returns-in_err-cell-4-clause-refused
-returns-in_err-cell-4-clause-refused c = refused_at kept_columns c.args.row.now 3 Name c.in_err-cell-4.field-0.0 c.from_residual-in_err-cell-4.result refl c.in_err-cell-4.ensures.other c.in_err-cell-4.ensures.refused c.from_residual-in_err-cell-4.ensures.1
+returns-in_err-cell-4-clause-refused c =
+    refused_at kept_columns c.args.row.now 3 Name c.in_err-cell-4.field-0.0 c.from_residual-in_err-cell-4.result refl c.in_err-cell-4.ensures.other c.in_err-cell-4.ensures.refused c.from_residual-in_err-cell-4.ensures.1
 
 pub returns-in_err-cell-5-clause-refused : goal.returns-in_err-cell-5-clause-refused
-returns-in_err-cell-5-clause-refused c = refused_at kept_columns c.args.row.now 4 Name c.in_err-cell-5.field-0.0 c.from_residual-in_err-cell-5.result refl c.in_err-cell-5.ensures.other c.in_err-cell-5.ensures.refused c.from_residual-in_err-cell-5.ensures.1
+returns-in_err-cell-5-clause-refused c =
+    refused_at kept_columns c.args.row.now 4 Name c.in_err-cell-5.field-0.0 c.from_residual-in_err-cell-5.result refl c.in_err-cell-5.ensures.other c.in_err-cell-5.ensures.refused c.from_residual-in_err-cell-5.ensures.1
 
 pub returns-in_err-cell-6-clause-refused : goal.returns-in_err-cell-6-clause-refused
-returns-in_err-cell-6-clause-refused c = refused_at kept_columns c.args.row.now 5 NumberOrNull c.in_err-cell-6.field-0.0 c.from_residual-in_err-cell-6.result refl c.in_err-cell-6.ensures.other c.in_err-cell-6.ensures.refused c.from_residual-in_err-cell-6.ensures.1
+returns-in_err-cell-6-clause-refused c =
+    refused_at kept_columns c.args.row.now 5 NumberOrNull c.in_err-cell-6.field-0.0 c.from_residual-in_err-cell-6.result refl c.in_err-cell-6.ensures.other c.in_err-cell-6.ensures.refused c.from_residual-in_err-cell-6.ensures.1
