@@ -1,11 +1,13 @@
 -- Where a part of a migration fails.
-use Rattle.std.proofs.Common.{◌≡◌, ◌⊎◌, ◌∙◌, ◌++◌, ◌∷◌, ℕ, List, true, inl, inr, ap, refl, subst}
+use Rattle.std.proofs.Common.{◌≡◌, ◌⊎◌, ◌∙◌, ◌++◌, ◌∷◌, ℕ, ℤ, List, true, inl, inr, ap, refl, subst, sym}
+use Rattle.sqlite.specs.Effect.{Database}
 use Rattle.sqlite.specs.Order.{Row}
-use Rattle.sqlite.specs.State.{State, Survives}
+use Rattle.sqlite.specs.State.{IsUnchanged, State, Survives}
 use Rattle.sqlite.specs.declared.error.Error.{Error}
 use Rattle.sqlite.specs.Held.{Held, state}
 use Rattle.sqlite.proofs.StateLemmas.{survives_then}
 use Rattle.sqlite_trees.specs.declared.store.Store.{Ghosts}
+use Rattle.store_records.specs.Records.{EntryRecord}
 use Rattle.store_sql.specs.Drops.{FailsToDrop}
 use Rattle.store_sql.specs.Inserts.{FailsToInsert}
 use Rattle.store_sql.specs.declared.records.ReadError.{ReadError}
@@ -17,8 +19,10 @@ use Rattle.dict_desk.specs.declared.fault.Fault.TheVariants.{Memory, Disk}
 use Rattle.store_holdings.specs.Faults.{fault_of_read}
 use Rattle.store_older_sql.proofs.CopyLemmas.{none_more}
 use Rattle.store_migration.specs.Older.{DroppedInTurn}
-use Rattle.store_migration.specs.MigrationParts.{MigrationPart, FailsBy, dropping}
-use Rattle.store_migration.specs.FailurePlaces.{FailurePlace, Dropping}
+use Rattle.store_migration.specs.MigrationParts.{MigrationPart, FailsBy, FailsToWriteIndex, dropping, writing}
+use Rattle.store_migration.specs.FailurePlaces.{FailurePlace, Dropping, InIndex}
+use Rattle.store_migration.specs.Steps.{AreEntriesOf}
+use Rattle.store_migration.specs.declared.older.Older.{Older}
 use Rattle.store_migration.specs.Failing.{MigrationFailsInside, FailsToSign, IsBeyond}
 use Rattle.store_migration.proofs.PlaceLemmas.{Leads}
 
@@ -26,6 +30,18 @@ module _ {S : Type 0} (g : Ghosts S) where
   -- the part is the first of those that were handed in
   pub fails_here : (P : FailurePlace) (part : MigrationPart) (old new : Held S) (e : ReadError) → P part (state g old).now (state g old).now → FailsBy part (state g old) (state g new) e → MigrationFailsInside g P old new e
   fails_here P part old new e place fails = record { at = old; before = none_more (state g old); inside = λ h. h; part = part; place = place; fails = fails }
+
+  -- the lines of the entries that were read aren't written
+  pub lines_fail : (older : Older) (number : ℤ) (old new : Held S) (entries : List EntryRecord) (e : ReadError) → Survives (state g old) (state g new) (λ _. ⊥) → IsUnchanged (state g old) (state g new)
+      → AreEntriesOf older number (state g old).now entries → FailsToWriteIndex entries e → MigrationFailsInside g (InIndex older number) old new e
+  lines_fail older number old new entries e survives same lines fails = record {
+    at = new;
+    before = survives;
+    inside = λ h. same.0.mode ∙ h;
+    part = writing older number;
+    place = inr (refl, same.0.now_is);
+    fails = (entries, subst (λ (d : Database). AreEntriesOf older number d entries) (sym same.0.now_is) lines, fails);
+  }
 
   -- others went well before
   pub fails_later : (P Q : FailurePlace) (old mid new : Held S) (e : ReadError) → Survives (state g old) (state g mid) (λ _. ⊥) → ((state g old).in_transaction ≡ true → (state g mid).in_transaction ≡ true)

@@ -1,7 +1,6 @@
-use Rattle.std.proofs.Common.{◌∙◌, [], ◌∷◌, map, codes, sym, subst, inl, inr, refl}
+use Rattle.std.proofs.Common.{[], ◌∷◌, map, codes, subst, inl, refl}
 use Rattle.std.proofs.lemmas.Int.{to_z-of_z}
 use mir.Syntax.{w64}
-use Rattle.sqlite.specs.Effect.{Database}
 use Rattle.sqlite.specs.Held.{state}
 use Rattle.store_sql.specs.Effects.{equals_number, seen}
 use Rattle.store_sql.specs.Keyed.{stored_old_entry}
@@ -10,11 +9,10 @@ use Rattle.store_sql.specs.Keyed.{old_entry_columns}
 use Rattle.store_sql.proofs.StreamLemmas.{passed_on}
 use Rattle.store_older_sql.proofs.CopyLemmas.{list_keeps, unchanged_keeps}
 use Rattle.store_migration.specs.Failing.{MigrationFailsInside}
-use Rattle.store_migration.specs.MigrationParts.{reading, writing}
+use Rattle.store_migration.specs.MigrationParts.{reading}
 use Rattle.store_migration.specs.FailurePlaces.{InIndex}
-use Rattle.store_migration.specs.Steps.{AreEntriesOf}
 use Rattle.store_migration.specs.declared.older.Older.TheVariants.{Keyed}
-use Rattle.store_migration.proofs.FailLemmas.{fails_here}
+use Rattle.store_migration.proofs.FailLemmas.{fails_here, lines_fail}
 use Rattle.store_migration.proofs.ReadLemmas.{keyed_of, keyed_selected}
 use Rattle.store_migration.proofs.index.keyed_index.Goals as goal
 
@@ -23,14 +21,8 @@ returns-clause-index g c clean =
     let s0 = seen g.S.Store c.args.tx.now in
     let items = c.in_ok-entries.entries.items in
     let it = c.in_ok-entries.ensures.selected clean in
-    let read = subst (λ n. IsSelection (codes "entry") (equals_number 1 n) (2 ∷ []) s0.now (map stored_old_entry items)) (to_z-of_z w64 c.args.number c.ranges.number) it.0 in (
-      record {
-        entries = map keyed_of items;
-        lines = keyed_selected c.args.number s0.now items read;
-        written = c.in_ok-octets.ensures.written;
-      },
-      it.1,
-    )
+    let read = subst (λ n. IsSelection (codes "entry") (equals_number 1 n) (2 ∷ []) s0.now (map stored_old_entry items)) (to_z-of_z w64 c.args.number c.ranges.number) it.0 in
+    (record { entries = map keyed_of items; lines = keyed_selected c.args.number s0.now items read; written = c.in_ok-octets.ensures.written }, it.1)
 
 pub returns-clause-keeps : goal.returns-clause-keeps
 returns-clause-keeps g c clean = unchanged_keeps (seen g.S.Store c.args.tx.now) (seen g.S.Store c.old_entries_inside.new.tx) (c.in_ok-entries.ensures.selected clean).1
@@ -59,14 +51,5 @@ returns-in_err-octets-clause-failed g c clean =
     let items = c.in_ok-entries.entries.items in
     let it = c.in_ok-entries.ensures.selected clean in
     let read = subst (λ m. IsSelection (codes "entry") (equals_number 1 m) (2 ∷ []) (state g.S.Store old).now (map stored_old_entry items)) (to_z-of_z w64 n c.ranges.number) it.0 in
-    let lines = keyed_selected n (state g.S.Store old).now items read in
-    let fails = c.in_err-octets.ensures.failed in
     passed_on (MigrationFailsInside g.S.Store (InIndex Keyed n) old new) e c.from_residual-in_err-octets.result c.from_residual-in_err-octets.ensures.1
-    (record {
-      at = new;
-      before = c.old_entries_inside.ensures.survives;
-      inside = λ h. it.1.0.mode ∙ h;
-      part = writing Keyed n;
-      place = inr (refl, it.1.0.now_is);
-      fails = (map keyed_of items, subst (λ (d : Database). AreEntriesOf Keyed n d (map keyed_of items)) (sym it.1.0.now_is) lines, fails);
-    })
+    (lines_fail g.S.Store Keyed n old new (map keyed_of items) e c.old_entries_inside.ensures.survives it.1 (keyed_selected n (state g.S.Store old).now items read) c.in_err-octets.ensures.failed)
