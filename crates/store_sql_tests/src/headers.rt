@@ -24,10 +24,10 @@ use store_sql::transaction::{OpenTransaction, begin, commit_open};
 use store_tables::{StoreTable, has_table, is_name_used, lacks_counting_table};
 
 const FIRST: &str =
-    "StoredHeader { rowid: 1, value: Header { number: 1, owner: \"gem\", title: \"Gems\", info: \"\" } }";
+    "StoredHeader { rowid: 1, value: HeaderRecord { number: 1, owner: \"gem\", title: \"Gems\", info: \"\" } }";
 
 const SECOND: &str =
-    "StoredHeader { rowid: 4, value: Header { number: 4, owner: \"ore\", title: \"\", info: \"of\\nores\" } }";
+    "StoredHeader { rowid: 4, value: HeaderRecord { number: 4, owner: \"ore\", title: \"\", info: \"of\\nores\" } }";
 
 // Makes the table where its name is free.
 fn make<S: Alter>(conn: &mut Connection<S>) -> Result<usize, Error>

@@ -11,9 +11,9 @@ use store_sql::records::ReadError;
 use store_tables::{KeyedTable, StoreTable, has_table};
 
 const FOUND: &str =
-    "[Stored { rowid: 3, value: Entry { edition: 1, ord: 0, headword: \"\", start: 7, length: 0 } }, \
-     Stored { rowid: 4, value: Entry { edition: 1, ord: 1, headword: \"gem\", start: 7, length: 9 } }, \
-     Stored { rowid: 1, value: Entry { edition: 1, ord: 2, headword: \"opal\", start: 0, length: 7 } }]";
+    "[StoredRow { rowid: 3, value: EntryRecord { edition: 1, ord: 0, headword: \"\", start: 7, length: 0 } }, \
+     StoredRow { rowid: 4, value: EntryRecord { edition: 1, ord: 1, headword: \"gem\", start: 7, length: 9 } }, \
+     StoredRow { rowid: 1, value: EntryRecord { edition: 1, ord: 2, headword: \"opal\", start: 0, length: 7 } }]";
 
 static READS: [(i64, &str); 2] = [(1, FOUND), (3, "[]")];
 

@@ -31,21 +31,21 @@ const STORED: &str =
      INSERT INTO last VALUES(1,X''),(2,NULL)";
 
 const ENTRIES: &str =
-    "[Stored { rowid: 1, value: KeyedEntry { edition: 2, ord: 0, headword: \"b\", start: 0, length: 1, key: [98], reversed: [98], shown: \"B\" } }, \
-     Stored { rowid: 2, value: KeyedEntry { edition: 1, ord: 1, headword: \"'A'\", start: 0, length: 9223372036854775807, key: [97], reversed: [97], shown: \"\" } }, \
-     Stored { rowid: 3, value: KeyedEntry { edition: 1, ord: 0, headword: \"\", start: 1, length: 0, key: [], reversed: [], shown: \" \" } }]";
+    "[StoredRow { rowid: 1, value: KeyedEntry { edition: 2, ord: 0, headword: \"b\", start: 0, length: 1, key: [98], reversed: [98], shown: \"B\" } }, \
+     StoredRow { rowid: 2, value: KeyedEntry { edition: 1, ord: 1, headword: \"'A'\", start: 0, length: 9223372036854775807, key: [97], reversed: [97], shown: \"\" } }, \
+     StoredRow { rowid: 3, value: KeyedEntry { edition: 1, ord: 0, headword: \"\", start: 1, length: 0, key: [], reversed: [], shown: \" \" } }]";
 
 const OF_FIRST: &str =
-    "[Stored { rowid: 3, value: KeyedEntry { edition: 1, ord: 0, headword: \"\", start: 1, length: 0, key: [], reversed: [], shown: \" \" } }, \
-     Stored { rowid: 2, value: KeyedEntry { edition: 1, ord: 1, headword: \"'A'\", start: 0, length: 9223372036854775807, key: [97], reversed: [97], shown: \"\" } }]";
+    "[StoredRow { rowid: 3, value: KeyedEntry { edition: 1, ord: 0, headword: \"\", start: 1, length: 0, key: [], reversed: [], shown: \" \" } }, \
+     StoredRow { rowid: 2, value: KeyedEntry { edition: 1, ord: 1, headword: \"'A'\", start: 0, length: 9223372036854775807, key: [97], reversed: [97], shown: \"\" } }]";
 
 const WORDS: &str =
-    "[Stored { rowid: 1, value: Word { edition: 1, word: [244, 143, 191, 191], ord: 0 } }, \
-     Stored { rowid: 2, value: Word { edition: 1, word: [], ord: 3 } }]";
+    "[StoredRow { rowid: 1, value: WordRecord { edition: 1, word: [244, 143, 191, 191], ord: 0 } }, \
+     StoredRow { rowid: 2, value: WordRecord { edition: 1, word: [], ord: 3 } }]";
 
 const GRAMS: &str =
-    "[Stored { rowid: 1, value: Gram { edition: 2, gram: [111, 112, 97], ord: 0 } }, \
-     Stored { rowid: 2, value: Gram { edition: 1, gram: [111, 112, 97], ord: 9223372036854775807 } }]";
+    "[StoredRow { rowid: 1, value: Gram { edition: 2, gram: [111, 112, 97], ord: 0 } }, \
+     StoredRow { rowid: 2, value: Gram { edition: 1, gram: [111, 112, 97], ord: 9223372036854775807 } }]";
 
 // A table, an edition if its rows alone are read, and what comes: rows of an edition in the order of their places, others in that of their rowids.
 static READS: [(KeyedTable, Option<i64>, &str); 5] = [

@@ -19,12 +19,12 @@ const STORED: &str =
      INSERT INTO entry VALUES(2,1,'Fire Opal',2,2,X'66697265206f70616c',X'6c61706f2065726966')";
 
 const OPAL: &str =
-    "[Stored { rowid: 1, value: OldEntry { edition: 1, ord: 0, headword: \"opal\", start: 0, length: 2, key: [111, 112, 97, 108], reversed: [108, 97, 112, 111] } }]";
+    "[StoredRow { rowid: 1, value: OldEntry { edition: 1, ord: 0, headword: \"opal\", start: 0, length: 2, key: [111, 112, 97, 108], reversed: [108, 97, 112, 111] } }]";
 
 const ALL: &str =
-    "[Stored { rowid: 1, value: OldEntry { edition: 1, ord: 0, headword: \"opal\", start: 0, length: 2, key: [111, 112, 97, 108], reversed: [108, 97, 112, 111] } }, \
-     Stored { rowid: 2, value: OldEntry { edition: 2, ord: 0, headword: \"Été\", start: 0, length: 2, key: [195, 137, 116, 195, 169], reversed: [169, 195, 116, 137, 195] } }, \
-     Stored { rowid: 3, value: OldEntry { edition: 2, ord: 1, headword: \"Fire Opal\", start: 2, length: 2, key: [102, 105, 114, 101, 32, 111, 112, 97, 108], reversed: [108, 97, 112, 111, 32, 101, 114, 105, 102] } }]";
+    "[StoredRow { rowid: 1, value: OldEntry { edition: 1, ord: 0, headword: \"opal\", start: 0, length: 2, key: [111, 112, 97, 108], reversed: [108, 97, 112, 111] } }, \
+     StoredRow { rowid: 2, value: OldEntry { edition: 2, ord: 0, headword: \"Été\", start: 0, length: 2, key: [195, 137, 116, 195, 169], reversed: [169, 195, 116, 137, 195] } }, \
+     StoredRow { rowid: 3, value: OldEntry { edition: 2, ord: 1, headword: \"Fire Opal\", start: 2, length: 2, key: [102, 105, 114, 101, 32, 111, 112, 97, 108], reversed: [108, 97, 112, 111, 32, 101, 114, 105, 102] } }]";
 
 // An edition if its entries alone are read, and what comes.
 static READS: [(Option<i64>, &str); 3] = [(Some(0), "[]"), (Some(1), OPAL), (None, ALL)];

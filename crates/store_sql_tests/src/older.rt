@@ -13,11 +13,11 @@ use store_sql::transaction::{commit_open, roll_back};
 use store_tables::{KeyedTable, StoreTable, has_table, is_name_used};
 
 const EDITIONS: &str =
-    "[Stored { rowid: 2, value: Edition { number: 2, owner: \"gem\", title: \"Gems\", info: \"\", body: [111, 114, 101] } }]";
+    "[StoredRow { rowid: 2, value: EditionRecord { number: 2, owner: \"gem\", title: \"Gems\", info: \"\", body: [111, 114, 101] } }]";
 
 const ENTRIES: &str =
-    "[Stored { rowid: 2, value: KeyedEntry { edition: 2, ord: 0, headword: \"gem\", start: 0, length: 3, key: [], reversed: [103], shown: \"Gem\" } }, \
-     Stored { rowid: 1, value: KeyedEntry { edition: 2, ord: 1, headword: \"ore\", start: 3, length: 0, key: [111], reversed: [], shown: \"ore\" } }]";
+    "[StoredRow { rowid: 2, value: KeyedEntry { edition: 2, ord: 0, headword: \"gem\", start: 0, length: 3, key: [], reversed: [103], shown: \"Gem\" } }, \
+     StoredRow { rowid: 1, value: KeyedEntry { edition: 2, ord: 1, headword: \"ore\", start: 3, length: 0, key: [111], reversed: [], shown: \"ore\" } }]";
 
 fn editions_of<S: Alter>(
     alloc: Global,

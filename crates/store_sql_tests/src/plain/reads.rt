@@ -35,41 +35,41 @@ enum Stream {
 }
 
 const MARKS: &str =
-    "[Stored { rowid: 1, value: Mark { id: 1, magic: \"dictcat\", version: 2, installs: 8 } }, \
-     Stored { rowid: 2, value: Mark { id: 2, magic: \"\", version: 9223372036854775807, installs: -1 } }]";
+    "[StoredRow { rowid: 1, value: Mark { id: 1, magic: \"dictcat\", version: 2, installs: 8 } }, \
+     StoredRow { rowid: 2, value: Mark { id: 2, magic: \"\", version: 9223372036854775807, installs: -1 } }]";
 
 const ITEMS: &str =
-    "[Stored { rowid: 0, value: Item { place: 0, name: \"gem\", kind: 0, title: None, current: Some(9223372036854775807), former: None } }, \
-     Stored { rowid: 1, value: Item { place: 1, name: \"all\", kind: 1, title: Some(\"It's \\\"all\\\"\"), current: None, former: None } }]";
+    "[StoredRow { rowid: 0, value: ItemRecord { place: 0, name: \"gem\", kind: 0, title: None, current: Some(9223372036854775807), former: None } }, \
+     StoredRow { rowid: 1, value: ItemRecord { place: 1, name: \"all\", kind: 1, title: Some(\"It's \\\"all\\\"\"), current: None, former: None } }]";
 
 const MEMBERS: &str =
-    "[Stored { rowid: 3, value: Member { owner: \"a\", ord: 0, name: \"gem\" } }, \
-     Stored { rowid: 2, value: Member { owner: \"a\", ord: 1, name: \"ore\" } }, \
-     Stored { rowid: 1, value: Member { owner: \"b\", ord: 0, name: \"gem\" } }]";
+    "[StoredRow { rowid: 3, value: Member { owner: \"a\", ord: 0, name: \"gem\" } }, \
+     StoredRow { rowid: 2, value: Member { owner: \"a\", ord: 1, name: \"ore\" } }, \
+     StoredRow { rowid: 1, value: Member { owner: \"b\", ord: 0, name: \"gem\" } }]";
 
 const SECOND: &str =
-    "[Stored { rowid: 2, value: Edition { number: 2, owner: \"owner\", title: \"title\", info: \"it's \\\"quoted\\\"\\u{1}\\t\\n\", body: [0, 255, 39, 34] } }]";
+    "[StoredRow { rowid: 2, value: EditionRecord { number: 2, owner: \"owner\", title: \"title\", info: \"it's \\\"quoted\\\"\\u{1}\\t\\n\", body: [0, 255, 39, 34] } }]";
 
-const NUMBERS: &str = "[Stored { rowid: 2, value: EditionNumber { number: 2 } }, \
-     Stored { rowid: 3, value: EditionNumber { number: 3 } }]";
+const NUMBERS: &str = "[StoredRow { rowid: 2, value: EditionNumber { number: 2 } }, \
+     StoredRow { rowid: 3, value: EditionNumber { number: 3 } }]";
 
 const OF_FIRST: &str =
-    "[Stored { rowid: 3, value: Entry { edition: 1, ord: 0, headword: \"\", start: 0, length: 9223372036854775807 } }, \
-     Stored { rowid: 2, value: Entry { edition: 1, ord: 1, headword: \"opal\", start: 1, length: 9223372036854775807 } }]";
+    "[StoredRow { rowid: 3, value: EntryRecord { edition: 1, ord: 0, headword: \"\", start: 0, length: 9223372036854775807 } }, \
+     StoredRow { rowid: 2, value: EntryRecord { edition: 1, ord: 1, headword: \"opal\", start: 1, length: 9223372036854775807 } }]";
 
 const REPLIES: &str =
-    "[Stored { rowid: 2, value: Kept { id: \"it's\", number: 1, verb: \"install\", name: \"gem\", edition: None } }, \
-     Stored { rowid: 1, value: Kept { id: \"r2\", number: 2, verb: \"install\", name: \"gem\", edition: Some(9223372036854775807) } }, \
-     Stored { rowid: 3, value: Kept { id: \"r3\", number: 3, verb: \"retire\", name: \"gem\", edition: None } }, \
-     Stored { rowid: 4, value: Kept { id: \"r4\", number: 4, verb: \"retire\", name: \"ore\", edition: None } }]";
+    "[StoredRow { rowid: 2, value: KeptRecord { id: \"it's\", number: 1, verb: \"install\", name: \"gem\", edition: None } }, \
+     StoredRow { rowid: 1, value: KeptRecord { id: \"r2\", number: 2, verb: \"install\", name: \"gem\", edition: Some(9223372036854775807) } }, \
+     StoredRow { rowid: 3, value: KeptRecord { id: \"r3\", number: 3, verb: \"retire\", name: \"gem\", edition: None } }, \
+     StoredRow { rowid: 4, value: KeptRecord { id: \"r4\", number: 4, verb: \"retire\", name: \"ore\", edition: None } }]";
 
 const REPLIES_PAST_FIRST: &str =
-    "[Stored { rowid: 1, value: Kept { id: \"r2\", number: 2, verb: \"install\", name: \"gem\", edition: Some(9223372036854775807) } }, \
-     Stored { rowid: 3, value: Kept { id: \"r3\", number: 3, verb: \"retire\", name: \"gem\", edition: None } }, \
-     Stored { rowid: 4, value: Kept { id: \"r4\", number: 4, verb: \"retire\", name: \"ore\", edition: None } }]";
+    "[StoredRow { rowid: 1, value: KeptRecord { id: \"r2\", number: 2, verb: \"install\", name: \"gem\", edition: Some(9223372036854775807) } }, \
+     StoredRow { rowid: 3, value: KeptRecord { id: \"r3\", number: 3, verb: \"retire\", name: \"gem\", edition: None } }, \
+     StoredRow { rowid: 4, value: KeptRecord { id: \"r4\", number: 4, verb: \"retire\", name: \"ore\", edition: None } }]";
 
 const SECOND_REPLY: &str =
-    "[Stored { rowid: 1, value: Kept { id: \"r2\", number: 2, verb: \"install\", name: \"gem\", edition: Some(9223372036854775807) } }]";
+    "[StoredRow { rowid: 1, value: KeptRecord { id: \"r2\", number: 2, verb: \"install\", name: \"gem\", edition: Some(9223372036854775807) } }]";
 
 // What is read, and its records as text. Marks have every number of 64 bits. Items come in the order of their places, with a title or an edition or none; members by owner and then in their order; editions in the order of their numbers, and texts may be empty, and have quote signs and control characters; entries of an edition in their order; kept replies in the order of their numbers.
 static READS: [(Wanted, &str); 11] = [
