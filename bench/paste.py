@@ -108,12 +108,12 @@ def store(figures):
     if len(idle) == 2:
         yield "64 connections over four lines: memory", *(f"{int(it) / 1000:.0f} MB" for _, it in idle), "lines"
     for step, sought, first, what in (
-            ("debian", "`wn`", "an opening", "a start with WordNet (`list`)"), ("debian", "`wn`", "`install` by", "an install of WordNet by the command line"),
-            ("limits", "Found", "opening of the largest", "a start with the largest edition, 262,144 lines, 67 MB"),
+            ("debian", "`wn`", "an opening", "an opening of WordNet by a command (`list`)"), ("debian", "`wn`", "`install` by", "an install of WordNet by the command line"),
+            ("limits", "Found", "opening of the largest", "an opening of the largest edition by a command, 262,144 lines, 67 MB"),
             ("limits", "Found", "install of 65,536 lines, first", "an install of 65,536 lines, 13 MB"),
             ("every", "Debian's dictionaries", "32 dictionaries", "all 31 packages of Debian's imported by HTTP, one after the other"),
             ("every", "Debian's dictionaries", "lines and octets", "lines and octets of them"), ("every", "Debian's dictionaries", "file and log", "their file and log"),
-            ("every", "Debian's dictionaries", "an opening", "a start with all of them (`list`)")):
+            ("every", "Debian's dictionaries", "an opening", "an opening of all of them by a command (`list`)")):
         if it := figures.row(step, sought, first):
             yield what, it[0], "not measured", step
     rows = figures.rows("install", "32 readers ask")[1:]

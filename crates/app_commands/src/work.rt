@@ -32,7 +32,7 @@ pub(crate) fn list_over<'w, K: Keeper + Drop, D: DeskOpener<K>, W: Sink>(
 ) -> Result<(), ProgramFault<'w>>
     ensures { ListEnds K.Lookup D.DeskOpener path.entry.now desks.old desks.new result (change W.stream writer.old writer.new) }
 {
-    let desk = desks.open(path)?;
+    let desk = desks.open_for_command(path)?;
     let end = list(&desk, writer);
     let _ = desks.close(desk);
     end
@@ -46,7 +46,7 @@ pub(crate) fn audit_over<'w, K: Keeper + Drop, D: Catalogues<K>, W: Sink>(
 ) -> Result<(), ProgramFault<'w>>
     ensures { AuditEnds K.Lookup D.DeskOpener D.Catalogues.own path.entry.now desks.old desks.new result (change W.stream writer.old writer.new) }
 {
-    let mut desk = desks.open(path)?;
+    let mut desk = desks.open_for_command(path)?;
     let audited = desks.audit(&mut desk);
     let closed = desks.close(desk);
     tell_sound(audited, closed, writer)
@@ -79,7 +79,7 @@ pub(crate) fn change_over<'w, K: Keeper + Drop, D: DeskOpener<K>, W: Sink>(
     ensures { ChangeEnds K.Lookup D.DeskOpener path.entry.now id.now (command_meant command.now) desks.old desks.new result
         (change W.stream writer.old writer.new) }
 {
-    let mut desk = desks.open(path)?;
+    let mut desk = desks.open_for_command(path)?;
     let end = change(&mut desk, id, command, writer);
     let _ = desks.close(desk);
     end
@@ -99,7 +99,7 @@ pub(crate) fn install_over<'w, K: Keeper + Drop, D: DeskOpener<K>, I: InputFiles
         desks.old desks.new result (change W.stream writer.old writer.new) }
     ensures order { InstallsInOrder D.DeskOpener desks.old desks.new (I.reads files.now) (I.refuses files.now) path.entry.now wanted.entry.index.now wanted.entry.text.now result }
 {
-    let mut desk = desks.open(path)?;
+    let mut desk = desks.open_for_command(path)?;
     let end = install(alloc, &mut desk, id, wanted, files, writer);
     let _ = desks.close(desk);
     end

@@ -71,6 +71,15 @@ impl<D: Disk + Drop, O: FileOpener<D>> DeskOpener<Desk<FileStore<D>>> for Catalo
     ghost is_uncopied = { λ desk one fault. IsToldUncopied desk one.left fault };
 
     fn open<'w>(&mut self, path: &'w str) -> Result<Desk<FileStore<D>>, ProgramFault<'w>> {
+        let mut desk = open_desk(self.rt, path, &mut self.start, &mut self.left)?;
+        desk.make_indexes();
+        Ok(desk)
+    }
+
+    fn open_for_command<'w>(
+        &mut self,
+        path: &'w str,
+    ) -> Result<Desk<FileStore<D>>, ProgramFault<'w>> {
         open_desk(self.rt, path, &mut self.start, &mut self.left)
     }
 
@@ -79,7 +88,9 @@ impl<D: Disk + Drop, O: FileOpener<D>> DeskOpener<Desk<FileStore<D>>> for Catalo
         path: &'w str,
         desk: Desk<FileStore<D>>,
     ) -> Result<Desk<FileStore<D>>, ProgramFault<'w>> {
-        reopen_desk(self.rt, path, desk, &mut self.left)
+        let mut desk = reopen_desk(self.rt, path, desk, &mut self.left)?;
+        desk.make_indexes();
+        Ok(desk)
     }
 
     fn close(&mut self, desk: Desk<FileStore<D>>) -> Result<(), ProgramFault<'static>> {

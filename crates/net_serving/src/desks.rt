@@ -43,6 +43,12 @@ pub trait DeskOpener<K: Keeper> {
         ensures answers { IfOk result (λ desk. K.is_closed desk ≡ false) }
         ensures history { Does (history self.old) (history self.new) (Opens path.entry.now (got result) ∷ []) };
 
+    /// Opens the file as `open` does, for a command: the first lookups in an edition may take longer.
+    fn open_for_command<'w>(&mut self, path: &'w str) -> Result<K, ProgramFault<'w>>
+        ensures opened { MatchResult result (IsNew K.shows K.leaves_one_of K.is_trusted (is_opened None)) (IsNone (is_unopened path.entry.now self.old self.new)) }
+        ensures answers { IfOk result (λ desk. K.is_closed desk ≡ false) }
+        ensures history { Does (history self.old) (history self.new) (Opens path.entry.now (got result) ∷ []) };
+
     /// Closes a desk whose store failed, and opens the same file again, which has this path. The new desk shows one of the catalogues
     /// that a stop could have left of the other. A fault is one of the file or of its catalogue, and no refusal; then a stop leaves
     /// nothing of the file that it couldn't leave of the other desk.

@@ -1,6 +1,6 @@
 -- What stands under the numbers of items, as indexes are let go of.
 use Rattle.std.proofs.Common.{◌≡◌, ◌≢◌, ℕ, ◌+◌, ◌<◌, Bool, true, false, cond, List, [], ◌∷◌, ◌++◌, map, take, length, get_or, nat_eq, refl, sym, ap, subst, ◌∙◌, arith}
-use Rattle.std.specs.Prelude.{Option, Some, None, is_some, Result, Ok, Err, IfOk, OnErr}
+use Rattle.std.specs.Prelude.{Option, Some, None, is_some, Result, Ok, Err, OnErr}
 use Rattle.std.specs.List.{AllByRecursion}
 use Rattle.std.proofs.lemmas.Bool.{eqb-true, false≢true}
 use Rattle.std.proofs.lemmas.List.{map-append, take_more}
@@ -125,13 +125,3 @@ index_in None = []
 
 pub the_index : (here index : List Indexed) (found : Option (List Indexed)) → Some here ≡ found → found ≡ Some index → index ≡ here
 the_index here index found p q = sym (ap index_in (p ∙ q))
-
-pub no_index : {P : Type 0} (index : List Indexed) (found : Option (List Indexed)) → None ≡ found → found ≡ Some index → P
-no_index index found p q = absurd (false≢true (ap is_some (p ∙ q)))
-
-pub not_none : {P : Type 0} (here : List Indexed) (found : Option (List Indexed)) → Some here ≡ found → found ≡ None → P
-not_none here found p q = absurd (false≢true (sym (ap is_some (p ∙ q))))
-
-pub if_ok_with : {T E : Type 0} (P Q : T → Type 0) → ((value : T) → P value → Q value) → (result : Result T E) → IfOk result P → IfOk result Q
-if_ok_with P Q f (Ok value) h = f value h
-if_ok_with P Q f (Err fault) h = tt

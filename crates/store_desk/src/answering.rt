@@ -21,19 +21,24 @@ use store_lookup::{Indexes, TextParts};
 // How many entries of the edition the query finds, or how many headwords are shown of them: none where no index stands under the number.
 pub(crate) fn count_under(
     alloc: Global,
-    indexes: &Indexes,
+    indexes: &mut Indexes,
     number: u64,
     strategy: Strategy,
     query: &Key,
     what: What,
     rows_taken: &mut u64,
 ) -> Result<u64, Fault>
-    ensures value { IfOk result (λ count. (index : List Indexed) (edition : Edition) → entries_under number indexes.now ≡ Some index → IsIndexOf index edition → count ≡ count_of what strategy query.now edition) }
-    ensures none { entries_under number indexes.now ≡ None → result ≡ Ok 0 }
+    ensures value { IfOk result (λ count. (index : List Indexed) (edition : Edition) → entries_under number indexes.old ≡ Some index → IsIndexOf index edition → count ≡ count_of what strategy query.now edition) }
+    ensures none { entries_under number indexes.old ≡ None → result ≡ Ok 0 }
     ensures kinds { IfErr result (λ fault. fault ≡ Fault.Memory) }
+    ensures indexes { indexes.new ≡ indexes.old }
 {
-    match indexes.get(number) {
-        Some(index) => store_lookup::count(alloc, index, strategy, query, what, rows_taken),
+    match indexes.take(number)? {
+        Some(index) => {
+            let counted = store_lookup::count(alloc, &index, strategy, query, what, rows_taken);
+            indexes.put_back(number, index);
+            counted
+        }
         None => Ok(0),
     }
 }
@@ -41,20 +46,25 @@ pub(crate) fn count_under(
 // Hands out the headwords shown of the entries of the edition that the query finds, each once. Of a number without an index nothing is told.
 pub(crate) fn heads_under<T: RowSink>(
     alloc: Global,
-    indexes: &Indexes,
+    indexes: &mut Indexes,
     number: u64,
     strategy: Strategy,
     query: &Key,
     sink: &mut T,
     rows_taken: &mut u64,
 ) -> Result<End, Fault>
-    ensures value { (index : List Indexed) (edition : Edition) → entries_under number indexes.now ≡ Some index → IsIndexOf index edition → Hands T.takes T.stops sink.old sink.new (headword_rows strategy query.now edition) result }
-    ensures none { entries_under number indexes.now ≡ None → (result ≡ Ok End.All) × (sink.new ≡ sink.old) }
+    ensures value { (index : List Indexed) (edition : Edition) → entries_under number indexes.old ≡ Some index → IsIndexOf index edition → Hands T.takes T.stops sink.old sink.new (headword_rows strategy query.now edition) result }
+    ensures none { entries_under number indexes.old ≡ None → (result ≡ Ok End.All) × (sink.new ≡ sink.old) }
     ensures handed { (rows : List ShownRow) × Hands T.takes T.stops sink.old sink.new rows result }
     ensures kinds { IfErr result (λ fault. fault ≡ Fault.Memory) }
+    ensures indexes { indexes.new ≡ indexes.old }
 {
-    match indexes.get(number) {
-        Some(index) => store_lookup::heads(alloc, index, strategy, query, sink, rows_taken),
+    match indexes.take(number)? {
+        Some(index) => {
+            let end = store_lookup::heads(alloc, &index, strategy, query, sink, rows_taken);
+            indexes.put_back(number, index);
+            end
+        }
         None => Ok(End::All),
     }
 }
@@ -65,7 +75,7 @@ pub(crate) fn find_under<S: Alter, T: RowSink>(
     conn: &mut Connection<S>,
     texts: &mut TextParts,
     installs: u64,
-    indexes: &Indexes,
+    indexes: &mut Indexes,
     number: u64,
     strategy: Strategy,
     query: &Key,
@@ -73,8 +83,8 @@ pub(crate) fn find_under<S: Alter, T: RowSink>(
     rows_taken: &mut u64,
 ) -> Result<End, Fault>
     requires { WhileOpen (state S.Store conn.old) HasLookupTables }
-    ensures value { HasCleanDisk (state S.Store conn.new) → (index : List Indexed) (edition : Edition) (text : List ℕ) → entries_under number indexes.now ≡ Some index → Cuts index edition text → ArePartsOf number text texts.old → (IsTrue (state S.Store conn.old).is_open → HoldsText (state S.Store conn.old).now number text) → Hands T.takes T.stops sink.old sink.new (found_rows strategy query.now edition) result }
-    ensures none { entries_under number indexes.now ≡ None → (result ≡ Ok End.All) × (sink.new ≡ sink.old) × (conn.new ≡ conn.old) }
+    ensures value { HasCleanDisk (state S.Store conn.new) → (index : List Indexed) (edition : Edition) (text : List ℕ) → entries_under number indexes.old ≡ Some index → Cuts index edition text → ArePartsOf number text texts.old → (IsTrue (state S.Store conn.old).is_open → HoldsText (state S.Store conn.old).now number text) → Hands T.takes T.stops sink.old sink.new (found_rows strategy query.now edition) result }
+    ensures none { entries_under number indexes.old ≡ None → (result ≡ Ok End.All) × (sink.new ≡ sink.old) × (conn.new ≡ conn.old) }
     ensures texts { HasCleanDisk (state S.Store conn.new) → (other : ℕ) (text : List ℕ) → ArePartsOf other text texts.old → (other ≡ number → IsTrue (state S.Store conn.old).is_open → HoldsText (state S.Store conn.old).now other text) → ArePartsOf other text texts.new }
     ensures made { AreOfInstalls installs texts.old → AreOfInstalls installs texts.new }
     ensures handed { (rows : List ShownRow) × Hands T.takes T.stops sink.old sink.new rows result }
@@ -83,11 +93,16 @@ pub(crate) fn find_under<S: Alter, T: RowSink>(
     ensures kinds { IfErr result IsOfStore }
     ensures mode { conn.old.in_transaction ≡ false → conn.new.in_transaction ≡ false }
     ensures survives { Survives (state S.Store conn.old) (state S.Store conn.new) (λ _. ⊥) }
+    ensures indexes { indexes.new ≡ indexes.old }
 {
-    match indexes.get(number) {
-        Some(index) => store_lookup::find(
-            alloc, conn, texts, installs, number, index, strategy, query, sink, rows_taken,
-        ),
+    match indexes.take(number)? {
+        Some(index) => {
+            let end = store_lookup::find(
+                alloc, conn, texts, installs, number, &index, strategy, query, sink, rows_taken,
+            );
+            indexes.put_back(number, index);
+            end
+        }
         None => Ok(End::All),
     }
 }

@@ -19,6 +19,7 @@ ghost use Rattle.store_desk.specs.Prepared.{Undoes};
 ghost use Rattle.store_rows.specs.Versions.{known};
 
 use crate::coming::Coming;
+use crate::indexing::make_indexes;
 use crate::last::LastCall;
 use crate::withdrawing::undo;
 use dict_catalogue::Summary;
@@ -163,6 +164,14 @@ impl<S: Alter + Drop> Desk<S> {
     /// the greatest number of its type, where it stays. Nothing rests on it: it tells what lookups cost.
     pub fn rows_taken(&self) -> u64 {
         self.rows_taken
+    }
+
+    /// Makes the index of each edition, which lookups need: else the first lookup in an edition makes it, and waits for it. Where memory is
+    /// refused, that is left to lookups.
+    pub fn make_indexes(&mut self)
+        ensures { self.new ≡ self.old }
+    {
+        make_indexes(&mut self.indexes, &self.summary.items);
     }
 
     // The connection of a desk, of which nothing else is left.

@@ -160,3 +160,30 @@ pub(crate) fn settle(
         Ok(Applied::Repeated(_)) | Err(_) => indexes.let_go(number),
     }
 }
+
+// Makes the indexes of the item's editions, as far as there is memory.
+fn make_indexes_of(indexes: &mut Indexes, item: &Item)
+    ensures { indexes.new ≡ indexes.old }
+{
+    let Item::Regular {
+        current,
+        former,
+        ..
+    } = item
+    else {
+        return;
+    };
+    let _ = indexes.make(current.number);
+    if let Some(former) = former {
+        let _ = indexes.make(former.number);
+    }
+}
+
+// Makes the indexes of all editions, as far as there is memory.
+pub(crate) fn make_indexes(indexes: &mut Indexes, items: &[Item])
+    ensures { indexes.new ≡ indexes.old }
+{
+    for item in items {
+        make_indexes_of(indexes, item);
+    }
+}

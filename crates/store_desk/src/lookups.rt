@@ -61,7 +61,7 @@ impl<S: Alter + Drop> Lookup for Desk<S> {
         }
         let outcome = count_under(
             self.alloc,
-            &self.indexes,
+            &mut self.indexes,
             number,
             strategy,
             query,
@@ -86,7 +86,7 @@ impl<S: Alter + Drop> Lookup for Desk<S> {
             &mut self.conn,
             &mut self.texts,
             self.summary.installs,
-            &self.indexes,
+            &mut self.indexes,
             number,
             strategy,
             query,
@@ -110,7 +110,7 @@ impl<S: Alter + Drop> Lookup for Desk<S> {
         }
         let outcome = heads_under(
             self.alloc,
-            &self.indexes,
+            &mut self.indexes,
             number,
             strategy,
             query,

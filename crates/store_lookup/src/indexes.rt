@@ -1,17 +1,67 @@
 // Indexes by numbers.
-ghost use Rattle.std.specs.Prelude.{◌≡◌, ℕ, nat_eq, None, Some, OnOk, OnErr, option_map, if◌then◌else◌};
+ghost use Rattle.std.specs.Prelude.{◌≡◌, ℕ, List, [], nat_eq, None, Some, Ok, IfOk, OnOk, OnErr, if◌then◌else◌};
 ghost use Rattle.std.specs.List.{list_any};
-ghost use Rattle.store_lookup.specs.Indexes.{entries_under};
+ghost use Rattle.store_search.specs.Entries.{Indexed};
+ghost use Rattle.store_lookup.specs.Indexes.{entries_under, IsOut};
 
 use std::alloc::{AllocError, Global};
 use std::collections::BTreeMap;
 use std::marker::Model;
-use store_search::Index;
+use store_search::{Index, IndexBuilder, IndexMaking};
 
-/// Indexes of editions by the numbers of the editions. No memory is taken before the first is put.
+// An index, or the entries that it is to be made of. Contracts see the entries.
+#[derive(Drop)]
+struct Slot {
+    made: Option<Index>,
+    // Without entries once it is made.
+    making: IndexMaking,
+}
+
+impl Model for Slot {
+    ghost use Rattle.std.specs.Prelude.{List, unwrap_or};
+    ghost use Rattle.store_search.specs.Entries.{Indexed};
+
+    ghost Value = { List Indexed };
+
+    ghost view = { λ slot. unwrap_or slot.made slot.making.entries };
+}
+
+impl Slot {
+    // One that is made.
+    fn made(alloc: Global, index: Index) -> Slot
+        ensures { result ≡ index }
+    {
+        Slot {
+            made: Some(index),
+            making: IndexBuilder::new(alloc).making(),
+        }
+    }
+
+    // One of which nothing is made yet.
+    fn unmade(making: IndexMaking) -> Slot
+        ensures { result ≡ making.entries }
+    {
+        Slot { made: None, making }
+    }
+
+    // The index, which is made where it isn't yet. The only error is refused memory; then the entries stay.
+    fn take(&mut self) -> Result<Index, AllocError>
+        ensures index { IfOk result (λ index. index ≡ self.old) }
+        ensures refused { OnErr result (self.new ≡ self.old) }
+    {
+        match self.made.take() {
+            Some(index) => Ok(index),
+            None => self.making.finish(),
+        }
+    }
+}
+
+/// Indexes of editions by the numbers of the editions. One may be made when it is asked for first, of the entries that were put.
+/// Contracts see the entries. No memory is taken before the first is put.
 #[derive(Drop)]
 pub struct Indexes {
-    by_number: BTreeMap<u64, Index>,
+    alloc: Global,
+    by_number: BTreeMap<u64, Slot>,
 }
 
 impl Model for Indexes {
@@ -29,15 +79,72 @@ impl Indexes {
         ensures { (q : ℕ) → entries_under q result ≡ None }
     {
         Indexes {
+            alloc,
             by_number: BTreeMap::new(alloc),
         }
     }
 
-    /// The index under a number.
-    pub fn get(&self, number: u64) -> Option<&Index>
-        ensures { option_map (λ index. index.now) result ≡ entries_under number self.now }
+    /// Takes the index under a number out, until it is put back. It is made first, where it isn't yet.
+    ///
+    /// The error is that a growth was refused, and all is as it was.
+    pub fn take(&mut self, number: u64) -> Result<Option<Index>, AllocError>
+        ensures found { IfOk result (λ found. found ≡ entries_under number self.old) }
+        ensures absent { entries_under number self.old ≡ None → result ≡ Ok None }
+        ensures out { IfOk result (λ found. (index : List Indexed) → found ≡ Some index → IsOut number index self.old self.new) }
+        ensures none { IfOk result (λ found. found ≡ None → self.new ≡ self.old) }
+        ensures refused { OnErr result (self.new ≡ self.old) }
     {
-        self.by_number.get(&number)
+        if self.by_number.get(&number).is_none() {
+            return Ok(None);
+        }
+        let empty = Slot::unmade(IndexBuilder::new(self.alloc).making());
+        let Ok(Some(taken)) = self.by_number.insert(number, empty) else {
+            return Ok(None);
+        };
+        let mut slot = taken;
+        match slot.take() {
+            Ok(index) => Ok(Some(index)),
+            Err(fault) => {
+                self.put_slot(number, slot);
+                Err(fault)
+            }
+        }
+    }
+
+    // Puts back what stood under a number.
+    fn put_slot(&mut self, number: u64, slot: Slot)
+        ensures { (before : List (ℕ × List Indexed)) → IsOut number slot before self.old → self.new ≡ before }
+    {
+        let _ = self.by_number.insert(number, slot);
+    }
+
+    /// Puts an index back that was taken out from under this number: then all is as it was before.
+    pub fn put_back(&mut self, number: u64, index: Index)
+        ensures { (before : List (ℕ × List Indexed)) → IsOut number index before self.old → self.new ≡ before }
+    {
+        let slot = Slot::made(self.alloc, index);
+        self.put_slot(number, slot);
+    }
+
+    /// Makes the index under a number, if one stands there that isn't made yet. The only error is refused memory.
+    pub fn make(&mut self, number: u64) -> Result<(), AllocError>
+        ensures { self.new ≡ self.old }
+    {
+        if let Some(index) = self.take(number)? {
+            self.put_back(number, index);
+        }
+        Ok(())
+    }
+
+    fn put_new(&mut self, number: u64, slot: Slot) -> Result<(), AllocError>
+        ensures put { OnOk result ((q : ℕ) → entries_under q self.new ≡ (if nat_eq number q then Some slot else entries_under q self.old)) }
+        ensures refused { OnErr result ((q : ℕ) → entries_under q self.new ≡ entries_under q self.old) }
+        ensures in_place { OnErr result (entries_under number self.old ≡ None) }
+    {
+        match self.by_number.insert(number, slot) {
+            Ok(_) => Ok(()),
+            Err(_) => Err(AllocError),
+        }
     }
 
     /// Puts an index under a number, in place of one that stood there.
@@ -48,10 +155,19 @@ impl Indexes {
         ensures refused { OnErr result ((q : ℕ) → entries_under q self.new ≡ entries_under q self.old) }
         ensures in_place { OnErr result (entries_under number self.old ≡ None) }
     {
-        match self.by_number.insert(number, index) {
-            Ok(_) => Ok(()),
-            Err(_) => Err(AllocError),
-        }
+        let slot = Slot::made(self.alloc, index);
+        self.put_new(number, slot)
+    }
+
+    /// Puts an index under a number that is made when it is asked for first, in place of one that stood there. The errors are those of
+    /// `put`.
+    pub fn put_unmade(&mut self, number: u64, making: IndexMaking) -> Result<(), AllocError>
+        ensures put { OnOk result ((q : ℕ) → entries_under q self.new ≡ (if nat_eq number q then Some making.entries else entries_under q self.old)) }
+        ensures refused { OnErr result ((q : ℕ) → entries_under q self.new ≡ entries_under q self.old) }
+        ensures in_place { OnErr result (entries_under number self.old ≡ None) }
+    {
+        let slot = Slot::unmade(making);
+        self.put_new(number, slot)
     }
 
     /// Lets go of the index under a number, if one stands there.

@@ -74,7 +74,7 @@ fn read_number<S: Alter>(
     read_entries(alloc, conn, layout_of(version), number, reader)
 }
 
-/// Puts the index that was made under the number of its edition, and begins another one.
+/// Puts the index of the entries that were taken under the number of their edition, unmade, and begins another one.
 fn put_index(
     alloc: Global,
     number: i64,
@@ -89,10 +89,7 @@ fn put_index(
         drop(taken);
         return Ok(());
     };
-    let Ok(made) = taken.finish() else {
-        return Err(ReadingFault::Memory);
-    };
-    match indexes.put(number, made) {
+    match indexes.put_unmade(number, taken.making()) {
         Ok(()) => Ok(()),
         Err(_) => Err(ReadingFault::Memory),
     }

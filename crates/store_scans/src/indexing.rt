@@ -1,5 +1,5 @@
 // The index of an edition, as its entries are taken.
-ghost use Rattle.std.specs.Prelude.{◌≡◌, ◌++◌, ◌∷◌, [], IfOk, IfErr, OnOk, OnErr};
+ghost use Rattle.std.specs.Prelude.{◌≡◌, ◌++◌, ◌∷◌, [], IfErr, OnOk, OnErr};
 ghost use Rattle.dict_match.specs.Key.{key_of};
 ghost use Rattle.store_records.specs.Records.{shown_as};
 ghost use Rattle.store_records.specs.Typed.{owned_entry};
@@ -9,12 +9,12 @@ ghost use Rattle.store_holdings.specs.Files.{natural};
 ghost use Rattle.store_scans.specs.Indexing.{indexed_of};
 
 use dict_index::MAX_LINES;
-use std::alloc::{AllocError, Global};
+use std::alloc::Global;
 use std::marker::Model;
 use store_parts::StoredColumns;
 use store_records::EntryRecord;
 use store_rows::RowsFault;
-use store_search::{Index, IndexBuilder};
+use store_search::{IndexBuilder, IndexMaking};
 
 /// The index of those entries of an edition that were taken so far. It has no more of them than an index of a dictionary has lines.
 #[derive(Drop)]
@@ -99,11 +99,11 @@ impl EditionIndex {
         )
     }
 
-    /// The index of the entries that were taken. The error is that memory was refused.
-    pub fn finish(self) -> Result<Index, AllocError>
-        ensures { IfOk result (λ index. index ≡ self) }
+    /// The index of the entries that were taken, of which nothing is made yet.
+    pub fn making(self) -> IndexMaking
+        ensures { result.entries ≡ self }
     {
         let EditionIndex { builder } = self;
-        builder.finish()
+        builder.making()
     }
 }

@@ -1,5 +1,5 @@
 //! The making of an index by steps.
-ghost use Rattle.std.specs.Prelude.{◌≡◌, ◌≢◌, ◌<◌, ◌≤◌, ◌^◌, false, IfOk, IfSome, IsTrue, length, map, reverse};
+ghost use Rattle.std.specs.Prelude.{◌≡◌, ◌≢◌, ◌<◌, ◌≤◌, ◌^◌, false, IfOk, IfSome, IsTrue, OnErr, length, map, reverse};
 ghost use Rattle.std.specs.List.{All, AllByRecursion};
 ghost use Rattle.std.specs.Str.{IsUtf8};
 ghost use Rattle.dict_index.specs.Views.{line_of, HasItsKey};
@@ -306,20 +306,24 @@ impl IndexMaking {
         mem::replace(&mut self.entries, Entries::new(self.alloc))
     }
 
+    /// The index of the entries, none of which is left then; what is missing of it is made. The only error is refused memory; then
+    /// the entries stay.
+    pub fn finish(&mut self) -> Result<Index, AllocError>
+        ensures index { IfOk result (λ index. index ≡ self.old.entries) }
+        ensures refused { OnErr result (self.new.entries ≡ self.old.entries) }
+    {
+        let (orders, lists) = self.take_parts()?;
+        let entries = self.take_entries();
+        Ok(index_with(entries, orders, lists))
+    }
+
     /// The index of the entries; what is missing of it is made. The only error is refused memory; then nothing of it is left.
     pub fn end(self) -> Result<Index, AllocError>
         ensures { IfOk result (λ index. index ≡ self.entries) }
     {
         let mut making = self;
-        let parts = making.take_parts();
-        let entries = making.take_entries();
+        let made = making.finish();
         drop(making);
-        match parts {
-            Ok((orders, lists)) => Ok(index_with(entries, orders, lists)),
-            Err(fault) => {
-                drop(entries);
-                Err(fault)
-            }
-        }
+        made
     }
 }

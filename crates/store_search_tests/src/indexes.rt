@@ -1,51 +1,75 @@
 //! Indexes under numbers.
+ghost use Rattle.std.specs.Prelude.{◌≤◌, IfOk, length};
 
-use crate::checks::same_text;
+use crate::checks::holds;
 use std::alloc::{AllocError, Global};
 use std::process::Abort;
 use std::test::Fail;
 use store_lookup::Indexes;
-use store_search::{Index, IndexBuilder};
+use store_search::IndexBuilder;
 
-fn index_of(alloc: Global, shown: &str) -> Result<Index, AllocError> {
+fn builder_of(alloc: Global, shown: &str) -> Result<IndexBuilder, AllocError>
+    ensures { IfOk result (λ builder. length builder ≤ 1) }
+{
     let mut builder = IndexBuilder::new(alloc);
     if builder.push(shown, shown, 0, 1).is_err() || builder.len() > 1 {
         drop(builder);
         return Err(AllocError);
     }
-    builder.finish()
+    Ok(builder)
 }
 
-fn shown_under(indexes: &Indexes, number: u64) -> &str {
-    match indexes.get(number) {
-        Some(index) => index.entry(0).shown,
-        None => "none",
+// Whether this is shown under a number, or nothing stands there.
+fn is_shown(indexes: &mut Indexes, number: u64, shown: &str) -> Result<bool, AllocError> {
+    let Some(index) = indexes.take(number)? else {
+        return Ok(shown == "none");
+    };
+    let is_so = index.entry(0).shown == shown;
+    indexes.put_back(number, index);
+    Ok(is_so)
+}
+
+// Puts an index that is made, or one that isn't yet.
+fn put(
+    alloc: Global,
+    indexes: &mut Indexes,
+    number: u64,
+    shown: &str,
+    is_made: bool,
+) -> Result<(), AllocError> {
+    let builder = builder_of(alloc, shown)?;
+    if !is_made {
+        return indexes.put_unmade(number, builder.making());
     }
-}
-
-fn put(alloc: Global, indexes: &mut Indexes, number: u64, shown: &str) -> Result<(), AllocError> {
-    let index = index_of(alloc, shown)?;
+    let index = builder.finish()?;
     indexes.put(number, index)
 }
 
-static PUT: [(u64, &str); 4] = [(1, "iron"), (2, "opal"), (3, "ruby"), (2, "fire opal")];
+static PUT: [(u64, &str, bool); 4] = [
+    (1, "iron", true),
+    (2, "opal", true),
+    (3, "ruby", false),
+    (2, "fire opal", false),
+];
 
-// Indexes are put under numbers, in place of those that were there, and let go of.
+// Indexes are put under numbers, in place of those that were there, made when they are asked for, and let go of.
 fn stand_under_numbers(
     rt: &impl Abort,
     alloc: Global,
     indexes: &mut Indexes,
 ) -> Result<(), AllocError> {
-    same_text(rt, shown_under(indexes, 1), "none");
-    for (number, shown) in &PUT {
-        put(alloc, indexes, *number, *shown)?;
+    holds(rt, is_shown(indexes, 1, "none")?, "none put");
+    for (number, shown, is_made) in &PUT {
+        put(alloc, indexes, *number, *shown, *is_made)?;
     }
-    same_text(rt, shown_under(indexes, 2), "fire opal");
+    holds(rt, is_shown(indexes, 2, "fire opal")?, "the second one");
+    holds(rt, is_shown(indexes, 2, "fire opal")?, "put back");
     indexes.let_go(1);
-    same_text(rt, shown_under(indexes, 1), "none");
+    holds(rt, is_shown(indexes, 1, "none")?, "let go of");
+    indexes.make(3)?;
     indexes.keep_only(&[3, 4]);
-    same_text(rt, shown_under(indexes, 2), "none");
-    same_text(rt, shown_under(indexes, 3), "ruby");
+    holds(rt, is_shown(indexes, 2, "none")?, "not kept");
+    holds(rt, is_shown(indexes, 3, "ruby")?, "kept");
     Ok(())
 }
 

@@ -190,6 +190,10 @@ impl<S: Alter + Drop, M: Machine<Desk<S>> + Drop> DeskOpener<Desk<S>> for Held<S
         }
     }
 
+    fn open_for_command<'w>(&mut self, path: &'w str) -> Result<Desk<S>, ProgramFault<'w>> {
+        self.open(path)
+    }
+
     /// What a stop leaves of the store is opened.
     fn reopen<'w>(&mut self, _path: &'w str, desk: Desk<S>) -> Result<Desk<S>, ProgramFault<'w>> {
         self.reopened = self.reopened.saturating_add(1);

@@ -14,7 +14,7 @@ returns g c = inr (
   c.change-end.new.desk,
   c.close.result,
   (c.in_ok-desk.ensures.opened, c.in_ok-desk.ensures.answers),
-  does_both (g.D.DeskOpener.history c.args.desks.now) (g.D.DeskOpener.history c.open.new.self) (g.D.DeskOpener.history c.close.new.self) _ _ c.in_ok-desk.ensures.history c.close.ensures.history,
+  does_both (g.D.DeskOpener.history c.args.desks.now) (g.D.DeskOpener.history c.open_for_command.new.self) (g.D.DeskOpener.history c.close.new.self) _ _ c.in_ok-desk.ensures.history c.close.ensures.history,
   c.close.ensures.shut,
   (c.change-end.ensures.changed, c.change-end.ensures.memory),
 )

@@ -1,6 +1,7 @@
-use Rattle.std.proofs.Common.{◌≡◌, false, refl, sym, ap, subst, rules}
+use Rattle.std.proofs.Common.{◌≡◌, false, sym, ap, subst, rules}
 use Rattle.dict_catalogue.specs.Views.{summary_shown}
 use Rattle.store_desk.specs.Desk.{DeskState, Shows, LeavesOneOf, is_closed}
+use Rattle.store_lookup.specs.Indexes.{entries_under}
 use Rattle.store_lookup.proofs.StateLemmas.{each_ok}
 use Rattle.store_desk.proofs.CauseLemmas.{memory_gives_way}
 use Rattle.store_desk.proofs.DeskLemmas.{texts_keep}
@@ -20,8 +21,8 @@ invariant_of-self g c =
 pub returns-clause-shows : goal.returns-clause-shows
 returns-clause-shows g c = λ clean M shown.
     let before : is_closed c.self.inside.last ≡ false = search rules in
-    shows_as g.S.Store (summary_shown c.self.inside.summary) c.self.inside.last c.last_by-self-inside.result c.self.inside.conn before c.self.inside.indexes c.self.inside.indexes
-    (λ q. refl) c.self.inside.texts c.forget_by.new.texts c.forget_by.ensures M
+    shows_as g.S.Store (summary_shown c.self.inside.summary) c.self.inside.last c.last_by-self-inside.result c.self.inside.conn before c.self.inside.indexes c.count_under-outcome.new.indexes
+    (λ q. ap (entries_under q) c.count_under-outcome.ensures.indexes) c.self.inside.texts c.forget_by.new.texts c.forget_by.ensures M
     (subst (λ (d : DeskState _). Shows g.S.Store d M) (sym c.self.view_is) shown)
 
 pub returns-clause-leaves : goal.returns-clause-leaves
@@ -29,7 +30,7 @@ returns-clause-leaves g c = λ ms left. subst (λ (d : DeskState _). LeavesOneOf
 
 pub returns-clause-caused : goal.returns-clause-caused
 returns-clause-caused g c = λ clean.
-    memory_gives_way g.S.Store c.args.self.now (record { conn = c.self.inside.conn; summary = summary_shown c.self.inside.summary; last = c.last_by-self-inside.result; indexes = c.self.inside.indexes; texts = c.forget_by.new.texts })
+    memory_gives_way g.S.Store c.args.self.now (record { conn = c.self.inside.conn; summary = summary_shown c.self.inside.summary; last = c.last_by-self-inside.result; indexes = c.count_under-outcome.new.indexes; texts = c.forget_by.new.texts })
     (ap (λ (d : DeskState _). d.conn) c.self.view_is) c.count_under-outcome.result c.count_under-outcome.ensures.kinds
 
 pub returns-clause-value : goal.returns-clause-value

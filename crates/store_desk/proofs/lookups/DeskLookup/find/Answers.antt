@@ -1,10 +1,11 @@
-use Rattle.std.proofs.Common.{◌≡◌, false, refl, sym, ap, subst, ◌∙◌}
+use Rattle.std.proofs.Common.{◌≡◌, ℕ, List, false, refl, sym, ap, subst, ◌∙◌}
 use Rattle.std.specs.Prelude.{IsTrue}
 use Rattle.sqlite.specs.Held.{state}
 use Rattle.sqlite.specs.State.{HasCleanDisk}
 use Rattle.dict_catalogue.specs.Views.{summary_shown}
 use Rattle.store_lookup.specs.Searches.{number_in_column}
 use Rattle.store_lookup.specs.Texts.{ArePartsOf}
+use Rattle.store_search.specs.Entries.{Indexed}
 use Rattle.store_lookup.proofs.HeldLemmas.{held_tables}
 use Rattle.store_desk.proofs.ServedLemmas.{seen_text, served_one}
 use Rattle.store_desk.specs.Desk.{DeskState, Shows, LeavesOneOf, is_closed}
@@ -36,7 +37,9 @@ returns-clause-shows g c = λ clean M shown.
     let before : is_closed c.self.inside.last ≡ false = ap is_closed (ap (λ (d : DeskState _). d.last) c.self.view_is ∙ c.in_ok-make_ready.ensures.last) ∙ c.in_ok-make_ready.ensures.open in
     let alike = subst (λ (d : DeskState _). HasCleanDisk (state g.S.Store d.conn) → IsTrue (state g.S.Store d.conn).is_open → IsAlike c.args.number (state g.S.Store d.conn).committed (state g.S.Store d.conn).now)
     (sym c.self.view_is) c.in_ok-make_ready.ensures.alike in
-    shows_with g.S.Store c.self.inside.conn c.find_under-outcome.new.conn
+    subst (λ (indexes : List (ℕ × List Indexed)). Shows g.S.Store
+    (record { conn = c.find_under-outcome.new.conn; summary = summary_shown c.self.inside.summary; last = c.last_by-self-inside.result; indexes = indexes; texts = c.forget_by.new.texts }) M) (sym c.find_under-outcome.ensures.indexes)
+    (shows_with g.S.Store c.self.inside.conn c.find_under-outcome.new.conn
     (summary_shown c.self.inside.summary) c.self.inside.filing c.self.inside.last c.last_by-self-inside.result before c.self.invariant.0 c.find_under-outcome.ensures.survives
     (λ clean. found_continues g.S.Store (number_in_column c.args.number) c.self.inside.conn c.find_under-outcome.new.conn c.find_under-outcome.result (c.find_under-outcome.ensures.same clean) (c.find_under-outcome.ensures.failed clean))
     c.self.inside.indexes c.self.inside.texts M (subst (λ (d : DeskState _). Shows g.S.Store d M) (sym c.self.view_is) (c.make_ready.ensures.shows (subst
@@ -47,13 +50,13 @@ returns-clause-shows g c = λ clean M shown.
     subst (ArePartsOf stored.number one.text) (sym c.forget_by.ensures)
     (parts_after c.last_by-self-inside.result stored.number one.text c.find_under-outcome.new.texts
     (c.find_under-outcome.ensures.texts clean stored.number one.text one.kept
-    (λ same live. seen_text c.args.number (state g.S.Store c.self.inside.conn).committed (state g.S.Store c.self.inside.conn).now (alike honest live) stored.number same one.text (one.held before live)))))
+    (λ same live. seen_text c.args.number (state g.S.Store c.self.inside.conn).committed (state g.S.Store c.self.inside.conn).now (alike honest live) stored.number same one.text (one.held before live))))))
 
 pub returns-clause-leaves : goal.returns-clause-leaves
 returns-clause-leaves g c = λ ms left.
     let there = subst (λ (d : DeskState _). LeavesOneOf g.S.Store d ms) (sym c.self.view_is) (leaves_on g.S.Store c.args.self.now c.make_ready.new.self c.make_ready.ensures.survives ms left) in
     leaves_on g.S.Store (record { conn = c.self.inside.conn; summary = summary_shown c.self.inside.summary; last = c.self.inside.last; indexes = c.self.inside.indexes; texts = c.self.inside.texts })
-    (record { conn = c.find_under-outcome.new.conn; summary = summary_shown c.self.inside.summary; last = c.last_by-self-inside.result; indexes = c.self.inside.indexes; texts = c.forget_by.new.texts })
+    (record { conn = c.find_under-outcome.new.conn; summary = summary_shown c.self.inside.summary; last = c.last_by-self-inside.result; indexes = c.find_under-outcome.new.indexes; texts = c.forget_by.new.texts })
     c.find_under-outcome.ensures.survives ms there
 
 pub returns-clause-value : goal.returns-clause-value
@@ -74,7 +77,7 @@ returns-clause-caused g c =
     let alike = subst (λ (d : DeskState _). HasCleanDisk (state g.S.Store d.conn) → IsTrue (state g.S.Store d.conn).is_open → IsAlike c.args.number (state g.S.Store d.conn).committed (state g.S.Store d.conn).now)
     (sym c.self.view_is) c.in_ok-make_ready.ensures.alike in
     found_gives_way g.S.Store c.args.self.now c.self.inside.conn c.find_under-outcome.new.conn
-    (summary_shown c.self.inside.summary) c.self.inside.filing c.self.inside.indexes c.forget_by.new.texts c.self.inside.last c.last_by-self-inside.result before c.self.invariant.0 c.find_under-outcome.ensures.survives
+    (summary_shown c.self.inside.summary) c.self.inside.filing c.find_under-outcome.new.indexes c.forget_by.new.texts c.self.inside.last c.last_by-self-inside.result before c.self.invariant.0 c.find_under-outcome.ensures.survives
     (λ clean. subst (λ (d : DeskState _). Undoes g.S.Store c.args.self.now.conn d.conn) (sym c.self.view_is) (c.make_ready.ensures.undone
     (subst (λ (d : DeskState _). HasCleanDisk (state g.S.Store d.conn)) c.self.view_is (clean_behind (state g.S.Store c.self.inside.conn) (state g.S.Store c.find_under-outcome.new.conn) c.find_under-outcome.ensures.survives clean))))
     c.args.number alike c.find_under-outcome.result c.find_under-outcome.ensures.kinds c.find_under-outcome.ensures.failed
