@@ -7,51 +7,69 @@ ghost use Rattle.store_lookup.specs.Indexes.{entries_under, IsOut};
 use std::alloc::{AllocError, Global};
 use std::collections::BTreeMap;
 use std::marker::Model;
+use std::mem::drop;
 use store_search::{Index, IndexBuilder, IndexMaking};
 
 // An index, or the entries that it is to be made of. Contracts see the entries.
 #[derive(Drop)]
 struct Slot {
     made: Option<Index>,
-    // Without entries once it is made.
-    making: IndexMaking,
+    // What it is made of, until it is. It stands apart, so that a slot is small: each lookup moves it.
+    making: Option<Box<IndexMaking>>,
 }
 
 impl Model for Slot {
-    ghost use Rattle.std.specs.Prelude.{List, unwrap_or};
+    ghost use Rattle.std.specs.Prelude.{List, [], option_map, unwrap_or};
     ghost use Rattle.store_search.specs.Entries.{Indexed};
 
     ghost Value = { List Indexed };
 
-    ghost view = { λ slot. unwrap_or slot.made slot.making.entries };
+    ghost view = { λ slot. unwrap_or slot.made (unwrap_or (option_map (λ making. making.value.entries) slot.making) []) };
 }
 
 impl Slot {
+    // One without entries.
+    fn empty() -> Slot
+        ensures { result ≡ [] }
+    {
+        Slot {
+            made: None,
+            making: None,
+        }
+    }
+
     // One that is made.
-    fn made(alloc: Global, index: Index) -> Slot
+    fn made(index: Index) -> Slot
         ensures { result ≡ index }
     {
         Slot {
             made: Some(index),
-            making: IndexBuilder::new(alloc).making(),
+            making: None,
         }
     }
 
-    // One of which nothing is made yet.
-    fn unmade(making: IndexMaking) -> Slot
-        ensures { result ≡ making.entries }
+    // One of which nothing is made yet. The only error is refused memory.
+    fn unmade(alloc: Global, making: IndexMaking) -> Result<Slot, AllocError>
+        ensures { IfOk result (λ slot. slot ≡ making.entries) }
     {
-        Slot { made: None, making }
+        let making = Box::new(alloc, making)?;
+        Ok(Slot {
+            made: None,
+            making: Some(making),
+        })
     }
 
     // The index, which is made where it isn't yet. The only error is refused memory; then the entries stay.
-    fn take(&mut self) -> Result<Index, AllocError>
+    fn take(&mut self, alloc: Global) -> Result<Index, AllocError>
         ensures index { IfOk result (λ index. index ≡ self.old) }
         ensures refused { OnErr result (self.new ≡ self.old) }
     {
-        match self.made.take() {
-            Some(index) => Ok(index),
-            None => self.making.finish(),
+        if let Some(index) = self.made.take() {
+            return Ok(index);
+        }
+        match &mut self.making {
+            Some(making) => making.finish(),
+            None => IndexBuilder::new(alloc).finish(),
         }
     }
 }
@@ -97,13 +115,15 @@ impl Indexes {
         if self.by_number.get(&number).is_none() {
             return Ok(None);
         }
-        let empty = Slot::unmade(IndexBuilder::new(self.alloc).making());
-        let Ok(Some(taken)) = self.by_number.insert(number, empty) else {
+        let Ok(Some(taken)) = self.by_number.insert(number, Slot::empty()) else {
             return Ok(None);
         };
         let mut slot = taken;
-        match slot.take() {
-            Ok(index) => Ok(Some(index)),
+        match slot.take(self.alloc) {
+            Ok(index) => {
+                drop(slot);
+                Ok(Some(index))
+            }
             Err(fault) => {
                 self.put_slot(number, slot);
                 Err(fault)
@@ -122,7 +142,7 @@ impl Indexes {
     pub fn put_back(&mut self, number: u64, index: Index)
         ensures { (before : List (ℕ × List Indexed)) → IsOut number index before self.old → self.new ≡ before }
     {
-        let slot = Slot::made(self.alloc, index);
+        let slot = Slot::made(index);
         self.put_slot(number, slot);
     }
 
@@ -155,18 +175,17 @@ impl Indexes {
         ensures refused { OnErr result ((q : ℕ) → entries_under q self.new ≡ entries_under q self.old) }
         ensures in_place { OnErr result (entries_under number self.old ≡ None) }
     {
-        let slot = Slot::made(self.alloc, index);
+        let slot = Slot::made(index);
         self.put_new(number, slot)
     }
 
-    /// Puts an index under a number that is made when it is asked for first, in place of one that stood there. The errors are those of
-    /// `put`.
+    /// Puts an index under a number that is made when it is asked for first, in place of one that stood there. The error is that a
+    /// growth was refused, and all is as it was.
     pub fn put_unmade(&mut self, number: u64, making: IndexMaking) -> Result<(), AllocError>
         ensures put { OnOk result ((q : ℕ) → entries_under q self.new ≡ (if nat_eq number q then Some making.entries else entries_under q self.old)) }
         ensures refused { OnErr result ((q : ℕ) → entries_under q self.new ≡ entries_under q self.old) }
-        ensures in_place { OnErr result (entries_under number self.old ≡ None) }
     {
-        let slot = Slot::unmade(making);
+        let slot = Slot::unmade(self.alloc, making)?;
         self.put_new(number, slot)
     }
 

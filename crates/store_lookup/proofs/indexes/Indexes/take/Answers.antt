@@ -12,8 +12,8 @@ returns-in-Ok-clause-absent c none =
 
 pub returns-in-Ok-clause-out : goal.returns-in-Ok-clause-out
 returns-in-Ok-clause-out c index is =
-    out_is c.args.number c.self.inside.by_number.entries c.insert.new.self.entries c.args.self.now c.unmade-empty.result index
-    c.in-Ok-Some.ensures.entries (c.in-Ok-Some.ensures.updates.0 c.args.number) (c.unmade-empty.ensures ∙ c.making.ensures.same ∙ c.new.ensures) c.in-Ok-Some.ensures.was_ordered
+    out_is c.args.number c.self.inside.by_number.entries c.insert.new.self.entries c.args.self.now c.empty.result index
+    c.in-Ok-Some.ensures.entries (c.in-Ok-Some.ensures.updates.0 c.args.number) c.empty.ensures c.in-Ok-Some.ensures.was_ordered
     (sym c.in-Ok-Some.ensures.old ∙ c.in-Ok-Some.field-0-is ∙ ap Some (sym c.in-Ok.ensures.index) ∙ is) c.self.view_is
 
 pub returns-in-Err-clause-absent : goal.returns-in-Err-clause-absent
@@ -23,6 +23,6 @@ returns-in-Err-clause-absent c none =
 pub returns-in-Err-clause-refused : goal.returns-in-Err-clause-refused
 returns-in-Err-clause-refused c =
     c.put_slot.ensures c.args.self.now
-    (out_is c.args.number c.self.inside.by_number.entries c.insert.new.self.entries c.args.self.now c.unmade-empty.result c.take.new.self
-    c.in-Ok-Some.ensures.entries (c.in-Ok-Some.ensures.updates.0 c.args.number) (c.unmade-empty.ensures ∙ c.making.ensures.same ∙ c.new.ensures) c.in-Ok-Some.ensures.was_ordered
+    (out_is c.args.number c.self.inside.by_number.entries c.insert.new.self.entries c.args.self.now c.empty.result c.take.new.self
+    c.in-Ok-Some.ensures.entries (c.in-Ok-Some.ensures.updates.0 c.args.number) c.empty.ensures c.in-Ok-Some.ensures.was_ordered
     (sym c.in-Ok-Some.ensures.old ∙ c.in-Ok-Some.field-0-is ∙ ap Some (sym c.in-Err.ensures.refused)) c.self.view_is)
