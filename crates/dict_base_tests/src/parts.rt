@@ -1,10 +1,10 @@
-//! Parts of files of lengths at the borders: split, joined and cut.
+//! Parts of files of lengths at the borders: split and joined.
 
 use crate::checks::holds;
 use std::alloc::{AllocError, Global};
 use std::process::Abort;
 use std::test::Fail;
-use store_parts::{CutFault, InMemory, Joiner, PART_SIZE, Refused, cut, part};
+use store_parts::{Joiner, PART_SIZE, Refused, part};
 
 fn file(alloc: Global, length: usize) -> Result<Vec<u8>, AllocError> {
     let mut octets = Vec::new(alloc);
@@ -39,13 +39,10 @@ fn splits_and_joins(rt: &impl Abort, octets: &[u8], joiner: &mut Joiner) {
 }
 
 fn goes_around(rt: &impl Abort, alloc: Global, length: usize) -> Result<(), AllocError> {
-    let mut roomy = Joiner::with_room(alloc, length)?;
     let octets = file(alloc, length)?;
     let mut joiner = Joiner::new(alloc);
     splits_and_joins(rt, &octets, &mut joiner);
-    drop(joiner);
-    splits_and_joins(rt, &octets, &mut roomy);
-    let joined = roomy.into_bytes();
+    let joined = joiner.into_bytes();
     holds(rt, joined == octets, "the octets");
     drop(joined);
     drop(octets);
@@ -80,45 +77,5 @@ fn refuses_what_is_no_next_part(rt: HostRuntime) -> Result<(), Fail> {
     joins_in_order(&rt, &octets, &mut joiner);
     drop(joiner);
     drop(octets);
-    Ok(())
-}
-
-// How long a file is, where an interval begins, how many octets it has, and whether the file has it.
-static INTERVALS: [(usize, u32, u32, bool); 11] = [
-    (81_921, 0, 0, true),
-    (81_921, 0, 81_921, true),
-    (81_921, 16_383, 1, true),
-    (81_921, 16_383, 2, true),
-    (81_921, 16_384, 16_384, true),
-    (81_921, 16_383, 49_154, true),
-    (81_921, 81_920, 1, true),
-    (81_921, 81_921, 0, true),
-    (PART_SIZE, 16_383, 2, false),
-    (PART_SIZE, 16_384, 1, false),
-    (PART_SIZE, 99_999, 1, false),
-];
-
-// Whether an interval of a file is cut out of it, or the file is told to end before the interval does.
-fn is_cut(alloc: Global, octets: &[u8], start: u32, size: u32, is_whole: bool) -> bool {
-    let (start, size) = (u64::from(start), u64::from(size));
-    let end = start + size;
-    match cut(alloc, &mut InMemory::new(octets), start, size) {
-        Ok(found) => {
-            let same = octets.get(start as usize..end as usize) == Some(found.as_slice());
-            drop(found);
-            is_whole && same
-        }
-        Err(fault) => !is_whole && fault == CutFault::Short,
-    }
-}
-
-#[test]
-fn cuts_an_interval(rt: HostRuntime) -> Result<(), Fail> {
-    for (length, start, size, is_whole) in &INTERVALS {
-        let octets = file(rt.alloc(), *length)?;
-        let is_so = is_cut(rt.alloc(), &octets, *start, *size, *is_whole);
-        drop(octets);
-        holds(&rt, is_so, "an interval");
-    }
     Ok(())
 }

@@ -4,4 +4,5 @@ mod changes;
 mod limits;
 mod lines;
 mod orders;
+mod readings;
 mod records;

@@ -1,8 +1,7 @@
 -- What is known of an edition that was read of two files, and of its lines as they are stored.
-use Rattle.std.proofs.Common.{◌≡◌, ℕ, suc, ◌+◌, ◌-◌, ◌^◌, ◌≤◌, ◌<◌, ◌||◌, Bool, true, false, List, [], ◌∷◌, ◌++◌, length, map, take, get_or, not, arith, refl, sym, ap, subst, ◌∙◌}
-use Rattle.std.specs.Prelude.{Option, Some, None, IfSome, IfNone, Result, Ok, Err, IfOk, OnOk, slice_get, slice_index_or}
+use Rattle.std.proofs.Common.{◌≡◌, ℕ, suc, ◌+◌, ◌-◌, ◌≤◌, ◌<◌, ◌||◌, Bool, true, false, List, [], ◌∷◌, ◌++◌, length, map, take, get_or, not, arith, refl, sym, ap, subst, ◌∙◌}
+use Rattle.std.specs.Prelude.{Option, Some, None, IfSome, IfNone, Result, Ok, Err, OnOk, slice_get, slice_index_or}
 use Rattle.std.specs.List.{AllByRecursion, AllZip}
-use Rattle.std.proofs.lemmas.Bool.{false≢true}
 use Rattle.std.proofs.lemmas.List.{take_all, take_more}
 use Rattle.std.proofs.lemmas.Option.{slice_get-get_or}
 use Rattle.dict_text.specs.Lines.{text_lines}
@@ -22,13 +21,9 @@ use Rattle.store_parts.proofs.IndexLemmas.{pushed}
 use Rattle.store_parts.proofs.StoredLemmas.{of_entries}
 use Rattle.dict_catalogue.specs.Commands.{install}
 use Rattle.dict_catalogue.specs.WellFormed.{IsLawfulCommand}
-use Rattle.dict_reading.specs.Slices.{IsSlice}
-use Rattle.dict_reading.specs.declared.reader.EditionReader.{EditionReader}
 use Rattle.store_rows.specs.Stands.{IsWithin}
 use Rattle.store_commands.specs.Decided.{LiesWithin}
-use Rattle.store_commands.specs.Installs.{AreFirstLines, AreAllLines, ReadsSlice, install_read, is_refused, lines_read}
-use Rattle.store_commands.specs.declared.install.Progress.{Progress}
-use Rattle.store_commands.specs.declared.install.Progress.TheVariants.{Reader, Refused}
+use Rattle.store_commands.specs.Installs.{AreFirstLines, AreAllLines, install_read}
 
 -- ---- an edition that was read is one that a command may install
 
@@ -95,26 +90,7 @@ pub none_by : {X P : Type 0} (found : Option X) → ((x : X) → found ≡ Some 
 none_by None never h = h
 none_by (Some x) never h = absurd (never x refl)
 
-pub if_ok : {X E : Type 0} (result : Result X E) (P Q : X → Type 0) → ((x : X) → P x → Q x) → IfOk result P → IfOk result Q
-if_ok (Ok x) P Q f h = f x h
-if_ok (Err e) P Q f h = tt
-
 -- ---- no line is read, or a test fails
-
-slice_none : (index : List ℕ) (n : ℕ) → IsSlice index n (n - n)
-slice_none index n =
-    let none : 0 ≡ n - n = omega arith in
-    subst (IsSlice index n) none (record { many = omega arith; short = λ said are. let low : 0 < 1048576 = omega arith in low })
-
-pub same_slice : (index : List ℕ) (progress : Progress) → ReadsSlice index progress progress
-same_slice index (Reader reader) = λ going. slice_none index reader.number
-same_slice index (Refused refusal line) = λ going. absurd (false≢true (sym going))
-
-pub refused_slice : (index : List ℕ) (old new : Progress) → is_refused new ≡ true → ReadsSlice index old new
-refused_slice index old new told = λ going. absurd (false≢true (sym going ∙ told))
-
-pub reader_slice : (index : List ℕ) (old : Progress) (before after : EditionReader) → old ≡ Reader before → IsSlice index before.number (after.number - before.number) → ReadsSlice index old (Reader after)
-reader_slice index old before after is h = λ going. subst (λ (p : Progress). IsSlice index (lines_read p) (after.number - lines_read p)) (sym is) h
 
 pub or_true : (b : Bool) → (b || true) ≡ true
 or_true true = refl

@@ -30,15 +30,14 @@ use Rattle.store_holdings.specs.Files.{parts_under, installed_parts}
 use Rattle.store_holdings.specs.AllTables.{AllTables, all_after}
 use Rattle.store_holdings.specs.Holds.{Keeps}
 use Rattle.store_commands.specs.KeptRecords.{HasRecords, IsUsable, HoldsReplies, TurnsRecords}
-use Rattle.store_commands.specs.Changes.{with_more_editions, with_more_parts, without_parts}
+use Rattle.store_commands.specs.Changes.{with_more_parts, without_parts}
 use Rattle.store_commands.specs.Filing.{parts_of_filing, IsDrawnUp, AreAllPartsFiled, IsOfEdition, HasNoneFiled, filed_by, IsAhead, rows_under, HasSameUnder, HasSameRows, ShowsStill, rested, IsUnderway}
 use Rattle.store_commands.specs.Finishing.{finished, IsOfChange, AwaitsRest}
 use Rattle.store_commands.specs.FiledParts.{Files, Trims}
-use Rattle.store_commands.specs.Statements.{adding_edition, adding_part}
+use Rattle.store_commands.specs.Statements.{adding_part}
 use Rattle.store_commands.specs.Writes.{WroteStatements}
 use Rattle.store_commands.specs.declared.filing.Filing.{Filing}
 use Rattle.store_commands.proofs.GoneLemmas.{tested}
-use Rattle.store_commands.proofs.LoopLemmas.{adding_none}
 use Rattle.store_commands.proofs.PartLemmas.{is_late, with_parts_that}
 use Rattle.store_commands.proofs.RowLemmas.{filter_map, next_column, compared_values}
 use Rattle.store_commands.proofs.TableLemmas.{edition_row, editions_kept, parts_kept, kept_kept, other_entries}
@@ -326,8 +325,3 @@ underway_more g f after old new early keeps inside underway files = λ clean liv
     subst (λ (db : Database). IsAhead after db (state g new).now) (sym (kept.committed live)) (files.ahead clean (state g old).committed (underway (early clean) (kept.was_open live) inside))
 
 -- ---- no record is added where no edition is installed
-
-pub wrote_no_record : {S : Type 0} (g : Ghosts S) (edition : Option Installed) → edition ≡ None → (h : Held S) → WroteStatements g (map adding_edition (installed_editions edition)) (with_more_editions (installed_editions edition)) h h
-wrote_no_record g edition is h =
-    subst (λ e. WroteStatements g (map adding_edition (installed_editions e)) (with_more_editions (installed_editions e)) h h) (sym is)
-    (adding_none g adding_edition with_more_editions (λ all. ap (λ (l : List EditionRecord). record all { editions = l }) (append-nil all.editions)) h)

@@ -9,7 +9,7 @@ use Rattle.sqlite.specs.Held.{Held, state}
 use Rattle.sqlite.proofs.StateLemmas.{survives_then, survives_weaker}
 use Rattle.sqlite_trees.specs.declared.store.Store.{Ghosts}
 use Rattle.dict_desk.specs.Faults.{is_disk, is_failure}
-use Rattle.store_holdings.specs.Faults.{fault_of, FailsToReadCatalogue}
+use Rattle.store_holdings.specs.Faults.{fault_of}
 use Rattle.dict_desk.specs.declared.fault.Fault.{Fault}
 use Rattle.dict_desk.specs.declared.fault.Fault.TheVariants.{Refused, Memory, Disk, Closed, NotACatalogue, Damaged, NewerSchema}
 use Rattle.dict_index.specs.Edition.{Edition}
@@ -198,13 +198,6 @@ undone_later g old mid new (inr looked) undone = inr (by looked.1 undone)
       unmarked = back.unmarked;
       counts = record { changes = back.counts.changes ∙ rolled.counts.changes; last_rowid = back.counts.last_rowid ∙ rolled.counts.last_rowid };
     }
-
--- a lookup in an open transaction changed nothing, or it failed
-pub looked_only : {S X : Type 0} (g : Ghosts S) (old mid : Held S) (result : Result X Fault) → old.in_transaction ≡ true → OnOk result (IsUnchanged (state g old) (state g mid))
-    → IfErr result (FailsToReadCatalogue (state g old) (state g mid)) → LooksOnly g old mid
-looked_only g old mid (Ok x) inside same failed = inr (inside, inl same)
-looked_only g old mid (Err fault) inside same (inl h) = inr (inside, inl h.0)
-looked_only g old mid (Err fault) inside same (inr h) = inr (inside, inr h.2.3)
 
 -- ---- a command after what was filed was undone
 

@@ -9,7 +9,7 @@ pub mod ApplyLemmas
 pub mod AboveLemmas
 pub mod PartLemmas
 pub mod TextLemmas
-pub mod PlaceLemmas
+pub mod LineLemmas
 pub mod AddLemmas
 pub mod FaultLemmas
 pub mod FilingLemmas

@@ -180,27 +180,6 @@ module _ {S : Type 0} (g : Ghosts S) (summary : Holdings (List ℕ)) (id : List 
         by_id true e = lawful (over e) (λ clean. settled clean e)
         by_id false e = let both = refused e in unlawful e both.0 both.1
 
--- a transaction that is open with nothing filed is one over a disk that gave other octets than were written
-pub applied_never : {S : Type 0} (g : Ghosts S) (summary : Holdings (List ℕ)) (id : List ℕ) (command : Command Edition) (h : Held S) → (HasCleanDisk (state g h) → ⊥) → IsInRange summary → AppliesOver g summary id command h h (Err Disk)
-applied_never g summary id command h never range = record {
-  value = λ clean. absurd (never clean);
-  spares = λ none. absurd (false≢true (sym none));
-  crash = survives_itself (state g h) (λ trees. IsTrue (state g h).is_open × ((M : Catalogue) → Rests known (rested (state g h)) M → summary_of M ≡ summary → IsLeftAs known (step M id command).catalogue trees));
-  shut = λ clean shut. tt;
-  lives = λ clean live. live;
-  failed = λ clean. absurd (never clean);
-  above = λ clean live. tt;
-  others = λ clean live. tt;
-  beside = survives_itself (state g h) (λ trees. IsTrue (state g h).is_open × IsTreesOf (SparesTablesOfOthers (state g h).committed) trees);
-  refused = λ clean live. absurd (never clean);
-  grows = omega arith;
-  kinds = tt;
-  range = range;
-  holds = λ clean. absurd (never clean);
-  settled = λ clean. absurd (never clean);
-  inside = λ clean inside. refl;
-}
-
 -- the install of what was prepared, as it was finished
 pub finished_over : {S : Type 0} (g : Ghosts S) (summary : Holdings (List ℕ)) (id name : List ℕ) (reading : ReadEdition) (old new : Held S) (result : Result Applied Fault) → IsFinished g summary id name reading old new result
     → (HasCleanDisk (state g new) → IsTrue (state g new).is_open → (state g new).now ≡ (state g new).committed) → HoldsBy summary (rested (state g old)) → IsInRange summary

@@ -98,10 +98,6 @@ module _ {S : Type 0} (g : Ghosts S) (first : DeskState S) (old new : Held S) (s
       → HasCleanDisk (state g new) → IfErr result (GivesWay g first (record { conn = new; summary = summary; last = after; indexes = indexes; texts = texts }))
   reply_gives_way alone result kind failed = gives_for (IsUnreadCatalogue (state g old)) (reply_read alone) result kind failed
 
--- a desk that was closed is as it was
-pub closed_gives_way : {S : Type 0} (g : Ghosts S) (old new : DeskState S) (fault : Fault) → (fault ≡ Closed) × (is_closed old.last ≡ true) × (new ≡ old) → GivesWay g old new fault
-closed_gives_way g old new fault h = subst (GivesWay g old new) (sym h.0) (h.1, h.2)
-
 -- a command
 module _ {S : Type 0} (g : Ghosts S) (old : DeskState S) (id : List ℕ) (command : Command Edition) (new : DeskState S) where
   fails_as : (fault : Fault) → IsOfApply fault → (is_failure fault ≡ true → FailsToApplyOver g old.summary id command old.conn new.conn fault) → is_failure fault ≡ true

@@ -18,7 +18,7 @@ use Rattle.store_sql.proofs.DeleteLemmas.{column_expr, parameter_expr, equals_ex
 use Rattle.store_sql.proofs.ListLemmas.{passes}
 use Rattle.store_sql.proofs.ReadFaults.{Takes, a_number, nothing as no_values}
 use Rattle.store_sql.proofs.ReadLemmas.{rowid_expr, rowid_shown, all_shown, source_of, core_of, select_of, outputs_of}
-use Rattle.store_sql.proofs.ReadTexts.{ReadsTable, key_at, sort_by}
+use Rattle.store_sql.proofs.ReadTexts.{ReadsTable, reads_table, key_at, sort_by}
 use Rattle.store_sql.proofs.TextLemmas.{parsed_or}
 use Rattle.store_edition_sql.specs.HeaderTable.{header}
 use Rattle.store_edition_sql.specs.HeaderTexts.{header_one_text, header_rowid_text}
@@ -31,21 +31,8 @@ read_by_rowid = parsed_or (first header_rowid_text)
 
 pub reads_by_rowid : ReadsTable header_rowid_text read_by_rowid header None [] 99999 (sort_by (codes "1") ∷ []) (key_at 0 ∷ []) (0 ∷ []) 99997 nothing
 unfolding everything read_by_rowid rowid_expr rowid_shown all_shown source_of core_of select_of sort_by
-reads_by_rowid = record {
-  read = refl;
-  statement = λ tree. refl;
-  formats = refl;
-  orders = λ tree. refl;
-  no_rowid = λ tree. refl;
-  few = λ at tree. refl;
-  some = λ at tree. refl;
-  tests = λ schema at tree is. refl;
-  sorts = λ schema at tree. refl;
-  shows = λ at tree params r. refl;
-  keyed = λ tree params r. refl;
-  compares = λ a b. refl;
-  accepted = λ schema at tree alone low. rw (low, alone) refl;
-}
+reads_by_rowid = reads_table refl (λ tree. refl) refl (λ tree. refl) (λ at tree. refl) (λ at tree. refl)
+    (λ schema at tree is. refl) (λ schema at tree. refl) (λ at tree params r. refl) (λ tree params r. refl) (λ a b. refl) (λ schema at tree alone low. rw (low, alone) refl)
 
 pub takes_by_rowid : Takes header_rowid_text read_by_rowid header [] (key_at 0 ∷ []) no_values
 unfolding everything read_by_rowid
@@ -66,7 +53,6 @@ reads_one = record {
   read = refl;
   statement = λ tree. refl;
   formats = refl;
-  orders = λ tree. refl;
   no_rowid = λ tree. refl;
   few = λ at tree. refl;
   some = λ at tree. refl;

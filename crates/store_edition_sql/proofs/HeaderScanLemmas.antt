@@ -1,5 +1,5 @@
 -- What follows of headers that are read one at a time.
-use Rattle.std.proofs.Common.{◌≡◌, ◌++◌, List, [], ◌∷◌, true, codes, Ok, Err, Some, None, Option, Result, IfOk, IfErr, OnOk, OnErr, IsTrue, option_map, inl, inr, refl, sym, ap, subst, arith}
+use Rattle.std.proofs.Common.{◌≡◌, ◌++◌, List, [], ◌∷◌, true, codes, Ok, Err, Some, None, Option, Result, IfOk, OnErr, IsTrue, inl, inr, refl, sym, ap, subst, arith}
 use Rattle.std.specs.List.Sorted.{IsPermutation}
 use Rattle.sqlite.specs.Order.{Row}
 use Rattle.sqlite.specs.declared.error.Error.{Error}
@@ -18,18 +18,15 @@ use Rattle.sqlite_trees.specs.declared.store.Store.{Ghosts}
 use Rattle.sqlite_resolve.specs.declared.compiled.Compiled.{Compiled}
 use Rattle.store_sql.specs.Effects.{Has, WhileOpen, rows_of}
 use Rattle.store_sql.specs.Reads.{FailsToRead}
-use Rattle.store_sql.specs.Streams.{IsNotBegun, FailsToMove}
-use Rattle.store_sql.specs.declared.records.ReadError.{ReadError}
-use Rattle.store_sql.specs.declared.records.ReadError.TheVariants.{NoRecord, Store}
+use Rattle.store_sql.specs.Streams.{IsNotBegun}
 use Rattle.store_sql.proofs.Callers.{still_has}
 use Rattle.store_sql.proofs.ListingLemmas.{all_pass, shown_selects, reads_plain}
 use Rattle.store_sql.proofs.ReadFaults.{nothing, ends_at, fails_read}
 use Rattle.store_sql.proofs.SilentLemmas.{commits_none, never_returns}
 use Rattle.store_sql.proofs.StreamLemmas.{still}
-use Rattle.store_edition_sql.specs.HeaderRecords.{header_columns}
 use Rattle.store_edition_sql.specs.HeaderTable.{header}
 use Rattle.store_edition_sql.specs.HeaderTexts.{header_rowid_text}
-use Rattle.store_edition_sql.specs.HeaderScans.{AreAllHeaders, IsFrontOfHeaders, HasGivenHeaders, GivesOnHeaders, FailsToGiveHeader}
+use Rattle.store_edition_sql.specs.HeaderScans.{AreAllHeaders, IsFrontOfHeaders, HasGivenHeaders, GivesOnHeaders}
 use Rattle.store_edition_sql.proofs.HeaderReadTexts.{read_by_rowid, reads_by_rowid, takes_by_rowid}
 
 shows : (old new : State) (rows : List Row) → Has header old.now → Shown header_rowid_text [] old new rows → AreAllHeaders old.now rows
@@ -79,11 +76,6 @@ module _ {S : Type 0} (g : Ghosts S) where
       let later = has_later old new same h.has in
       record { runs = runs; has = later; front = front old new (given ++ row ∷ []) same later runs }
 
-  pub fails_to_give : (old new : Held S) (given : List Row) (e : ReadError) → HasGivenHeaders g old given → FailsToMove g header_columns old new e → FailsToGiveHeader g old new given e
-  fails_to_give old new given NoRecord h (row, same, moved, none) = (row, (same, gives_on old new given (Some row) same h moved), none)
-  fails_to_give old new given (Store e) h (inl failed) = inl (fails_to_read (state g old) (state g new) (λ _. h.has) e (failed.0 header_rowid_text [] given h.runs), failed.1)
-  fails_to_give old new given (Store e) h (inr (refused, row, same, moved)) = inr (refused, row, (same, gives_on old new given (Some row) same h moved))
-
 -- ---- how the reading begins
 
 module _ {S : Type 0} (g : Ghosts S) (old : Held S) (has : WhileOpen (state g old) (Has header)) where
@@ -107,16 +99,3 @@ module _ {S : Type 0} (g : Ghosts S) (old : Held S) (has : WhileOpen (state g ol
   not_begun (Err e) last h =
       let alone = commits_nothing (state g old) (state g last) h.survives in
       record { failed = λ clean. fails_to_read (state g old) (state g last) (has (omega (arith, alone.clean, clean))) e (h.err clean); mode = h.mode; survives = alone }
-
--- ---- whatever is read
-
-module _ {S : Type 0} (g : Ghosts S) (old new : Held S) where
-  pub all_given : {R : Type 0} (stored : R → Row) (result : Result (Option R) ReadError) → OnOk result (IsUnchanged (state g old) (state g new)) → IfOk result (λ r. kit.Advances g old new (option_map stored r))
-      → IfOk result (λ r. (given : List Row) → HasGivenHeaders g old given → GivesOnHeaders g new given (option_map stored r))
-  all_given stored (Err e) same moved = tt
-  all_given stored (Ok r) same moved = λ given h. gives_on g old new given (option_map stored r) same h moved
-
-  pub all_failed : {R : Type 0} (result : Result (Option R) ReadError) → IfErr result (FailsToMove g header_columns old new)
-      → IfErr result (λ e. (given : List Row) → HasGivenHeaders g old given → FailsToGiveHeader g old new given e)
-  all_failed (Ok r) stopped = tt
-  all_failed (Err e) stopped = λ given h. fails_to_give g old new given e h stopped

@@ -34,7 +34,6 @@ use Rattle.sqlite_schema.specs.Names.{column_named, place_of}
 use Rattle.sqlite_schema.specs.declared.schema.Column.{Column}
 use Rattle.sqlite_syntax.specs.declared.statement.Parsed.{Parsed}
 use Rattle.sqlite_typing.specs.Types.{accepts_program}
-use Rattle.store_tables.specs.Found.{HasTable}
 use Rattle.store_tables.specs.Tables.{needed}
 use Rattle.store_sql.specs.Effects.{Has, equals_number, shown}
 use Rattle.store_sql.specs.Reads.{FailsToRead}
@@ -42,7 +41,7 @@ use Rattle.store_sql.proofs.DeleteLemmas.{column_expr, parameter_expr, equals_ex
 use Rattle.store_sql.proofs.ListLemmas.{passes}
 use Rattle.store_sql.proofs.NumberTexts.{column_shown}
 use Rattle.store_sql.proofs.QueryLemmas.{IsQuery, ShowsRow, command_with, TakesValues, read_rows, shown_answers, query_fails}
-use Rattle.store_sql.proofs.ReadLemmas.{source_of, core_with, select_with, context_of, level_of, left_of, plainly, query_with, understood_is}
+use Rattle.store_sql.proofs.ReadLemmas.{CanSelect, source_of, core_with, select_with, context_of, level_of, left_of, plainly, query_with, understood_is}
 use Rattle.store_sql.proofs.ReadTexts.{of_column}
 use Rattle.store_sql.proofs.SilentLemmas.{commits_none, shown_open}
 use Rattle.store_sql.proofs.TextLemmas.{parsed_or}
@@ -67,7 +66,7 @@ out_shown name = refl
 abbrev output : Name → ℕ → Carried → Output
 output name place carried = record { name = name; is_alias = false; is_column = true; term = col 1 place; carried = carried }
 
-module _ (schema : Schema) (at : ℕ) (table : Table) (has : HasTable schema at table) where
+module _ (schema : Schema) (at : ℕ) (table : Table) (has : CanSelect schema at table) where
   heading_column : (name : Name) (k : ℕ) (c : Column) → column_named table name ≡ Some k → slice_get table.columns k ≡ Some c → heading (context_of schema at table [] true true) (column_expr name) name ≡ c.name
   unfolding heading find_name in_level only hit column_in is_among declared_name
   heading_column name k c place there = let is = has.is in rw (out_column name, is, place) (rw (is, there) refl)
@@ -150,7 +149,7 @@ nothing_carried : (tree : ℕ) → declared (header tree) 0 number ≡ nothing
 unfolding everything
 nothing_carried tree = refl
 
-results : (schema : Schema) (at tree : ℕ) (has : HasTable schema at (header tree)) → result lower (outermost schema) (level_of at (header tree)) (core_with shows (header tree).name condition) (fresh 2 max_budget)
+results : (schema : Schema) (at tree : ℕ) (has : CanSelect schema at (header tree)) → result lower (outermost schema) (level_of at (header tree)) (core_with shows (header tree).name condition) (fresh 2 max_budget)
     ≡ Ok (infos_of at tree, left_of 99998)
 results schema at tree has =
     let core = core_with shows (header tree).name condition in
@@ -180,7 +179,7 @@ takes_number : (n : ℤ) (schema : Schema) (at tree : ℕ) → find (λ t. t.tre
 unfolding everything
 takes_number n schema at tree alone low = rw (low, alone) refl
 
-compiles : (schema : Schema) (at tree : ℕ) (has : HasTable schema at (header tree)) → (understood schema info_text ≡ Ok (with_command read_info ([], (command_with (header tree).tree (infos_of at tree) test_one [], None))))
+compiles : (schema : Schema) (at tree : ℕ) (has : CanSelect schema at (header tree)) → (understood schema info_text ≡ Ok (with_command read_info ([], (command_with (header tree).tree (infos_of at tree) test_one [], None))))
     × (reads_listing schema info_text ≡ false)
 compiles schema at tree has =
     understood_is schema at (header tree) has shows (infos_of at tree) 99998 condition (results schema at tree has) test_one 99995 nothing (is_tested schema at tree has.is) [] [] 99995 nothing (unsorted schema at tree)

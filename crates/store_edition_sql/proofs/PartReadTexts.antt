@@ -22,11 +22,11 @@ use Rattle.store_sql.proofs.CompareLemmas.{equals_is}
 use Rattle.store_sql.proofs.ListLemmas.{passes}
 use Rattle.store_sql.proofs.ReadFaults.{Takes, nothing as no_values}
 use Rattle.store_sql.proofs.ReadLemmas.{rowid_expr, rowid_shown, all_shown, source_of, core_of, select_of, outputs_of, plainly, context_of}
-use Rattle.store_sql.proofs.ReadTexts.{ReadsTable, sort_by, key_at}
+use Rattle.store_sql.proofs.ReadTexts.{ReadsTable, reads_table, sort_by, key_at}
 use Rattle.store_sql.proofs.TextLemmas.{parsed_or}
 use Rattle.store_edition_sql.specs.Chosen.{is_of_file, is_numbered}
 use Rattle.store_edition_sql.specs.PartTable.{part}
-use Rattle.store_edition_sql.specs.PartTexts.{part_list_text, part_rowid_text, file_text, part_one_text}
+use Rattle.store_edition_sql.specs.PartTexts.{part_rowid_text, file_text, part_one_text}
 use Rattle.store_edition_sql.proofs.ConditionLemmas.{name_expr, given_expr, binary_expr, compare_expr, and_expr, Names, Combines, lower_compare, lower_and}
 use Rattle.store_edition_sql.proofs.ValueLemmas.{two_same, three_same}
 
@@ -35,53 +35,14 @@ of_column = record { collation = Some Binary; is_written = false }
 
 -- ---- all
 
-unfoldable pub read_all : Parsed
-unfolding everything
-read_all = parsed_or (first part_list_text)
-
-pub reads_all : ReadsTable part_list_text read_all part None [] 99999 (sort_by (codes "2") ∷ sort_by (codes "3") ∷ sort_by (codes "4") ∷ []) (key_at 1 ∷ key_at 2 ∷ key_at 3 ∷ []) (1 ∷ 2 ∷ 3 ∷ []) 99993 of_column
-unfolding everything read_all rowid_expr rowid_shown all_shown source_of core_of select_of sort_by
-reads_all = record {
-  read = refl;
-  statement = λ tree. refl;
-  formats = refl;
-  orders = λ tree. refl;
-  no_rowid = λ tree. refl;
-  few = λ at tree. refl;
-  some = λ at tree. refl;
-  tests = λ schema at tree is. refl;
-  sorts = λ schema at tree. refl;
-  shows = λ at tree params r. refl;
-  keyed = λ tree params r. refl;
-  compares = λ a b. refl;
-  accepted = λ schema at tree alone low. rw (low, alone) refl;
-}
-
-pub takes_all : Takes part_list_text read_all part [] (key_at 1 ∷ key_at 2 ∷ key_at 3 ∷ []) no_values
-unfolding everything read_all
-takes_all = record { whole = lit≤ tt; names = λ x. refl; typed = λ schema at tree alone low x. rw (low, alone) refl }
-
 unfoldable pub read_by_rowid : Parsed
 unfolding everything
 read_by_rowid = parsed_or (first part_rowid_text)
 
 pub reads_by_rowid : ReadsTable part_rowid_text read_by_rowid part None [] 99999 (sort_by (codes "1") ∷ []) (key_at 0 ∷ []) (0 ∷ []) 99997 nothing
 unfolding everything read_by_rowid rowid_expr rowid_shown all_shown source_of core_of select_of sort_by
-reads_by_rowid = record {
-  read = refl;
-  statement = λ tree. refl;
-  formats = refl;
-  orders = λ tree. refl;
-  no_rowid = λ tree. refl;
-  few = λ at tree. refl;
-  some = λ at tree. refl;
-  tests = λ schema at tree is. refl;
-  sorts = λ schema at tree. refl;
-  shows = λ at tree params r. refl;
-  keyed = λ tree params r. refl;
-  compares = λ a b. refl;
-  accepted = λ schema at tree alone low. rw (low, alone) refl;
-}
+reads_by_rowid = reads_table refl (λ tree. refl) refl (λ tree. refl) (λ at tree. refl) (λ at tree. refl)
+    (λ schema at tree is. refl) (λ schema at tree. refl) (λ at tree params r. refl) (λ tree params r. refl) (λ a b. refl) (λ schema at tree alone low. rw (low, alone) refl)
 
 pub takes_by_rowid : Takes part_rowid_text read_by_rowid part [] (key_at 0 ∷ []) no_values
 unfolding everything read_by_rowid
@@ -164,7 +125,6 @@ reads_file = record {
   read = refl;
   statement = λ tree. refl;
   formats = refl;
-  orders = λ tree. refl;
   no_rowid = λ tree. refl;
   few = λ at tree. refl;
   some = λ at tree. refl;
@@ -214,7 +174,6 @@ reads_one = record {
   read = refl;
   statement = λ tree. refl;
   formats = refl;
-  orders = λ tree. refl;
   no_rowid = λ tree. refl;
   few = λ at tree. refl;
   some = λ at tree. refl;

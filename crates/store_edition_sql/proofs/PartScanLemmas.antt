@@ -1,5 +1,5 @@
 -- What follows of parts that are read one at a time.
-use Rattle.std.proofs.Common.{◌≡◌, ◌++◌, List, [], ◌∷◌, Ok, Err, Some, None, Option, Result, IfOk, IfErr, OnOk, OnErr, IsTrue, option_map, inl, inr, refl, sym, ap, subst, arith}
+use Rattle.std.proofs.Common.{◌≡◌, ◌++◌, List, [], ◌∷◌, Ok, Err, Some, None, Option, Result, IfOk, OnErr, IsTrue, inl, inr, refl, sym, ap, subst, arith}
 use Rattle.sqlite.specs.Order.{Row}
 use Rattle.sqlite.specs.declared.types.Value.TheVariants.{Int}
 use Rattle.sqlite.specs.declared.error.Error.{Error}
@@ -18,48 +18,39 @@ use Rattle.sqlite_trees.specs.declared.store.Store.{Ghosts}
 use Rattle.sqlite_resolve.specs.declared.compiled.Compiled.{Compiled}
 use Rattle.store_sql.specs.Effects.{Has, WhileOpen}
 use Rattle.store_sql.specs.Reads.{FailsToRead}
-use Rattle.store_sql.specs.Streams.{IsNotBegun, FailsToMove}
-use Rattle.store_sql.specs.declared.records.ReadError.{ReadError}
-use Rattle.store_sql.specs.declared.records.ReadError.TheVariants.{NoRecord, Store}
+use Rattle.store_sql.specs.Streams.{IsNotBegun}
 use Rattle.store_sql.proofs.Callers.{still_has}
 use Rattle.store_sql.proofs.ListingLemmas.{shown_selects, reads_plain}
 use Rattle.store_sql.proofs.ReadFaults.{nothing, ends_at, fails_read}
 use Rattle.store_sql.proofs.SilentLemmas.{commits_none, never_returns}
 use Rattle.store_sql.proofs.StreamLemmas.{still}
-use Rattle.store_edition_sql.specs.PartRecords.{part_columns}
 use Rattle.store_edition_sql.specs.PartTable.{part}
-use Rattle.store_edition_sql.specs.PartTexts.{part_list_text, part_rowid_text, file_text}
-use Rattle.store_edition_sql.specs.PartScans.{PartScan, part_scan_text, part_scan_values, part_scan_test, AreAllParts, IsFrontOfParts, HasGivenParts, GivesOnParts, FailsToGivePart}
-use Rattle.store_edition_sql.specs.PartScans.PartScan.{All, ByRowid, OfFile}
-use Rattle.store_edition_sql.proofs.PartReadTexts.{read_all, reads_all, takes_all, read_by_rowid, reads_by_rowid, takes_by_rowid, a_file, read_file, reads_file, takes_file, file_read}
+use Rattle.store_edition_sql.specs.PartTexts.{part_rowid_text, file_text}
+use Rattle.store_edition_sql.specs.PartScans.{PartScan, part_scan_text, part_scan_values, part_scan_test, AreAllParts, IsFrontOfParts, HasGivenParts, GivesOnParts}
+use Rattle.store_edition_sql.specs.PartScans.PartScan.{ByRowid, OfFile}
+use Rattle.store_edition_sql.proofs.PartReadTexts.{read_by_rowid, reads_by_rowid, takes_by_rowid, a_file, read_file, reads_file, takes_file, file_read}
 
 shows : (what : PartScan) (old new : State) (rows : List Row) → Has part old.now → Shown (part_scan_text what) (part_scan_values what) old new rows → AreAllParts what old.now rows
-shows All old new rows has h = (shown_selects part_list_text read_all part _ _ _ _ _ _ _ _ reads_all (λ tree. refl) [] (part_scan_test All) (λ tree row. refl) old new rows has h).0
 shows ByRowid old new rows has h = (shown_selects part_rowid_text read_by_rowid part _ _ _ _ _ _ _ _ reads_by_rowid (λ tree. refl) [] (part_scan_test ByRowid) (λ tree row. refl) old new rows has h).0
 shows (OfFile n f) old new rows has h = (shown_selects file_text read_file part _ _ _ _ _ _ _ _ reads_file (λ tree. refl) (Int n ∷ Int f ∷ []) (part_scan_test (OfFile n f)) (λ tree row. file_read tree n f row) old new rows has h).0
 
 plainly : (what : PartScan) (db : Database) → Has part db → IsPlain (understood db.schema (part_scan_text what))
-plainly All db has = reads_plain part_list_text read_all part _ _ _ _ _ _ _ _ reads_all db.schema has.0 has.1 has.2
 plainly ByRowid db has = reads_plain part_rowid_text read_by_rowid part _ _ _ _ _ _ _ _ reads_by_rowid db.schema has.0 has.1 has.2
 plainly (OfFile n f) db has = reads_plain file_text read_file part _ _ _ _ _ _ _ _ reads_file db.schema has.0 has.1 has.2
 
 ends : (what : PartScan) (now : Database) → Has part now → (c : Compiled) → understood now.schema (part_scan_text what) ≡ Ok c → (db : Database) (params : Row) → EndsIn c.command db params
-ends All now has = ends_at part_list_text read_all part _ _ _ _ _ _ _ _ reads_all now.schema has
 ends ByRowid now has = ends_at part_rowid_text read_by_rowid part _ _ _ _ _ _ _ _ reads_by_rowid now.schema has
 ends (OfFile n f) now has = ends_at file_text read_file part _ _ _ _ _ _ _ _ reads_file now.schema has
 
 pub fails_to_read : (what : PartScan) (old new : State) → (IsTrue old.is_open → Has part old.now) → (e : Error) → FailsToQuery (part_scan_text what) (part_scan_values what) old new e → FailsToRead old new e
-fails_to_read All old new has = fails_read part_list_text read_all part _ _ _ _ _ _ _ _ reads_all nothing takes_all tt old new has
 fails_to_read ByRowid old new has = fails_read part_rowid_text read_by_rowid part _ _ _ _ _ _ _ _ reads_by_rowid nothing takes_by_rowid tt old new has
 fails_to_read (OfFile n f) old new has = fails_read file_text read_file part _ _ _ _ _ _ _ _ reads_file a_file takes_file (n, f) old new has
 
 none_committed : (what : PartScan) (params : Row) (s : State) (db : Trees) → ¬ CommitsShowing (part_scan_text what) params s db
-none_committed All = commits_none part_list_text read_all _ reads_all.read (reads_all.statement 0)
 none_committed ByRowid = commits_none part_rowid_text read_by_rowid _ reads_by_rowid.read (reads_by_rowid.statement 0)
 none_committed (OfFile n f) = commits_none file_text read_file _ reads_file.read (reads_file.statement 0)
 
 none_returned : (what : PartScan) (schema : Schema) → ¬ Returns (understood schema (part_scan_text what))
-none_returned All = never_returns part_list_text read_all _ reads_all.read (reads_all.statement 0)
 none_returned ByRowid = never_returns part_rowid_text read_by_rowid _ reads_by_rowid.read (reads_by_rowid.statement 0)
 none_returned (OfFile n f) = never_returns file_text read_file _ reads_file.read (reads_file.statement 0)
 
@@ -91,11 +82,6 @@ module _ {S : Type 0} (g : Ghosts S) (what : PartScan) where
       let later = has_later old new same h.has in
       record { runs = runs; has = later; front = front old new (given ++ row ∷ []) same later runs }
 
-  pub fails_to_give : (old new : Held S) (given : List Row) (e : ReadError) → HasGivenParts g what old given → FailsToMove g part_columns old new e → FailsToGivePart g what old new given e
-  fails_to_give old new given NoRecord h (row, same, moved, none) = (row, (same, gives_on old new given (Some row) same h moved), none)
-  fails_to_give old new given (Store e) h (inl failed) = inl (fails_to_read what (state g old) (state g new) (λ _. h.has) e (failed.0 (part_scan_text what) (part_scan_values what) given h.runs), failed.1)
-  fails_to_give old new given (Store e) h (inr (refused, row, same, moved)) = inr (refused, row, (same, gives_on old new given (Some row) same h moved))
-
 -- ---- how a reading begins
 
 module _ {S : Type 0} (g : Ghosts S) (what : PartScan) (old : Held S) (has : WhileOpen (state g old) (Has part)) where
@@ -119,16 +105,3 @@ module _ {S : Type 0} (g : Ghosts S) (what : PartScan) (old : Held S) (has : Whi
   not_begun (Err e) last h =
       let alone = commits_nothing what (state g old) (state g last) h.survives in
       record { failed = λ clean. fails_to_read what (state g old) (state g last) (has (omega (arith, alone.clean, clean))) e (h.err clean); mode = h.mode; survives = alone }
-
--- ---- whatever is read
-
-module _ {S : Type 0} (g : Ghosts S) (old new : Held S) where
-  pub all_given : {R : Type 0} (stored : R → Row) (result : Result (Option R) ReadError) → OnOk result (IsUnchanged (state g old) (state g new)) → IfOk result (λ r. kit.Advances g old new (option_map stored r))
-      → IfOk result (λ r. (what : PartScan) (given : List Row) → HasGivenParts g what old given → GivesOnParts g what new given (option_map stored r))
-  all_given stored (Err e) same moved = tt
-  all_given stored (Ok r) same moved = λ what given h. gives_on g what old new given (option_map stored r) same h moved
-
-  pub all_failed : {R : Type 0} (result : Result (Option R) ReadError) → IfErr result (FailsToMove g part_columns old new)
-      → IfErr result (λ e. (what : PartScan) (given : List Row) → HasGivenParts g what old given → FailsToGivePart g what old new given e)
-  all_failed (Ok r) stopped = tt
-  all_failed (Err e) stopped = λ what given h. fails_to_give g what old new given e h stopped

@@ -1,32 +1,23 @@
 -- Parts that are read row by row, and what has been given so far.
-use Rattle.std.specs.Prelude.{◌≡◌, ◌⊎◌, ℕ, ℤ, Bool, true, List, [], ◌∷◌, ◌++◌, codes, Option, Some, None}
+use Rattle.std.specs.Prelude.{ℕ, ℤ, Bool, true, List, [], ◌∷◌, ◌++◌, codes, Option, Some, None}
 use Rattle.sqlite.specs.declared.types.Value.TheVariants.{Int}
-use Rattle.sqlite.specs.declared.error.Error.TheVariants.{SqliteFailure}
-use Rattle.sqlite.specs.declared.error.ErrorCode.TheVariants.{OutOfMemory}
 use Rattle.sqlite.specs.Order.{Row}
 use Rattle.sqlite.specs.Effect.{Database}
-use Rattle.sqlite.specs.State.{IsUnchanged}
 use Rattle.sqlite.specs.Held.{Held, state}
 use Rattle.sqlite.specs.Given as kit
 use Rattle.sqlite_trees.specs.declared.store.Store.{Ghosts}
 use Rattle.store_sql.specs.Effects.{Has}
-use Rattle.store_sql.specs.Columns.{HasColumns}
-use Rattle.store_sql.specs.declared.records.ReadError.{ReadError}
-use Rattle.store_sql.specs.declared.records.ReadError.TheVariants.{NoRecord, Store}
-use Rattle.store_sql.specs.Reads.{IsSelection, FailsToRead}
+use Rattle.store_sql.specs.Reads.{IsSelection}
 use Rattle.store_edition_sql.specs.PartTable.{part}
-use Rattle.store_edition_sql.specs.PartRecords.{part_columns}
 use Rattle.store_edition_sql.specs.Chosen.{is_of_file}
-use Rattle.store_edition_sql.specs.PartTexts.{part_list_text, part_rowid_text, file_text}
+use Rattle.store_edition_sql.specs.PartTexts.{part_rowid_text, file_text}
 
--- which parts are read: all, in the order of their key or of their rowids; or those of a file
+-- which parts are read: all, in the order of their rowids; or those of a file
 pub data PartScan : Type 0 where
-  All : PartScan
   ByRowid : PartScan
   OfFile : (edition file : ℤ) → PartScan
 
 abbrev pub part_scan_text : PartScan → List ℕ
-part_scan_text All = part_list_text
 part_scan_text ByRowid = part_rowid_text
 part_scan_text (OfFile edition file) = file_text
 
@@ -40,7 +31,6 @@ part_scan_test _ = λ _. true
 
 -- the columns that order them, where the rowid is column 0
 abbrev pub part_scan_order : PartScan → List ℕ
-part_scan_order All = 1 ∷ 2 ∷ 3 ∷ []
 part_scan_order ByRowid = 0 ∷ []
 part_scan_order (OfFile edition file) = 3 ∷ []
 
@@ -63,13 +53,3 @@ module _ {S : Type 0} (g : Ghosts S) where
   abbrev pub GivesOnParts : PartScan → Held S → List Row → Option Row → Type 0
   GivesOnParts what new given (Some row) = HasGivenParts what new (given ++ row ∷ [])
   GivesOnParts what new given None = AreAllParts what (state g new).now given
-
-  -- the next row was taken, behind which the reading stands now
-  abbrev pub PassesPart : PartScan → Held S → Held S → List Row → Row → Type 0
-  PassesPart what old new given row = IsUnchanged (state g old) (state g new) × HasGivenParts what new (given ++ row ∷ [])
-
-  -- The next row is no part; or memory was refused for it; or the store failed or the limit was met, and nothing more is given.
-  abbrev pub FailsToGivePart : PartScan → Held S → Held S → List Row → ReadError → Type 0
-  FailsToGivePart what old new given NoRecord = (row : Row) × PassesPart what old new given row × ¬ HasColumns part_columns row
-  FailsToGivePart what old new given (Store e) =
-      (FailsToRead (state g old) (state g new) e × kit.IsEnded new) ⊎ ((e ≡ SqliteFailure OutOfMemory) × (row : Row) × PassesPart what old new given row)

@@ -7,10 +7,7 @@ part_create_text = codes "CREATE TABLE dictcat_part (edition INTEGER NOT NULL, f
 abbrev pub part_insert_text : List ℕ
 part_insert_text = codes "INSERT INTO dictcat_part (edition, file, number, octets) VALUES (?1, ?2, ?3, ?4)"
 
--- all parts, in the order of their key, and of their rowids
-abbrev pub part_list_text : List ℕ
-part_list_text = codes "SELECT rowid, * FROM dictcat_part ORDER BY 2, 3, 4"
-
+-- all parts, in the order of their rowids
 abbrev pub part_rowid_text : List ℕ
 part_rowid_text = codes "SELECT rowid, * FROM dictcat_part ORDER BY 1"
 

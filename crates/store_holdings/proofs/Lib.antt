@@ -1,4 +1,5 @@
 pub mod FileLemmas
+pub mod FilePlaceLemmas
 pub mod VersionLemmas
 pub mod MoreLemmas
 pub mod RiseLemmas

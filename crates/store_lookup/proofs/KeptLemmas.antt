@@ -1,8 +1,7 @@
 -- What holds of each text that is kept.
-use Rattle.std.proofs.Common.{◌≡◌, refl, ℕ, zero, suc, ◌-◌, Bool, true, false, cond, leb, List, [], ◌∷◌, length, take, Option, Some, ◌<◌, ◌≤◌, arith, sym, subst}
+use Rattle.std.proofs.Common.{◌≡◌, refl, ℕ, zero, suc, ◌-◌, Bool, true, false, cond, leb, List, [], ◌∷◌, length, take, Option, Some, sym, subst}
 use Rattle.std.specs.List.{AllByRecursion}
 use Rattle.std.specs.Map.{lookup, remove_entry}
-use Rattle.std.proofs.lemmas.Bool.{leb-true, le-leb}
 use Rattle.store_lookup.specs.KeptTexts.{PartNumbers, same_key, most_kept_octets, most_texts, fitting, put_first, with_text}
 use Rattle.store_lookup.proofs.ViewLemmas.{same_keys}
 
@@ -52,21 +51,3 @@ module _ (P : PartNumbers × List ℕ → Type 0) where
   all_found key text (kept ∷ texts) e h = found_step key text kept (lookup (same_key key) texts) (same_key key kept.0) refl e h.0 (λ later. all_found key text texts later h.1)
 
 -- ---- which of the two a text that is put leaves
-
-put_step : (length_is : Bool) (now before : List (PartNumbers × List ℕ)) → length_is ≡ true → now ≡ cond length_is now before
-put_step true now before is = refl
-put_step false now before is = absurd (cc)
-
-stay_step : (length_is : Bool) (now before : List (PartNumbers × List ℕ)) → length_is ≡ false → before ≡ cond length_is now before
-stay_step true now before is = absurd (cc)
-stay_step false now before is = refl
-
-pub short_put : (key : PartNumbers) (text : List ℕ) (texts : List (PartNumbers × List ℕ)) → length text ≤ most_kept_octets → fitting most_kept_octets (put_first key text texts) ≡ with_text key text texts
-short_put key text texts short = put_step (leb (length text) most_kept_octets) (fitting most_kept_octets (put_first key text texts)) texts (le-leb (length text) most_kept_octets short)
-
-over_by : (a b : ℕ) (t : Bool) → leb a b ≡ t → b < a → t ≡ false
-over_by a b true e over = absurd (let low = leb-true a b e in let no : ⊥ = omega (arith, low, over) in no)
-over_by a b false e over = refl
-
-pub long_stays : (key : PartNumbers) (text : List ℕ) (texts : List (PartNumbers × List ℕ)) → most_kept_octets < length text → texts ≡ with_text key text texts
-long_stays key text texts long = stay_step (leb (length text) most_kept_octets) (fitting most_kept_octets (put_first key text texts)) texts (over_by (length text) most_kept_octets (leb (length text) most_kept_octets) refl long)

@@ -4,7 +4,7 @@ use Rattle.std.specs.Prelude.{option_map, slice_get}
 use Rattle.std.specs.Option.{option_map_or}
 use Rattle.std.specs.Map.{lookup, lookup_entry, remove_entry}
 use Rattle.std.proofs.lemmas.Bool.{eqb-true, and_parts}
-use Rattle.std.proofs.lemmas.List.{take-map, length-map, length-take}
+use Rattle.std.proofs.lemmas.List.{take-map, length-map}
 use Rattle.std.proofs.lemmas.List.Sums.{sum_by-cons}
 use Rattle.std.proofs.lemmas.Option.{slice_get-map, slice_get-get_or, slice_get_within}
 use Rattle.lru.specs.LruCache.{LruCache, put_entries, displaced, last_entry}
@@ -157,9 +157,6 @@ last_none (e ∷ entries) none = absurd (last_step e entries none)
 -- there is one
 last_within : (entries : Entries) (e : PartNumbers × Vec ℕ Global) → Some e ≡ last_entry entries → length entries ≡ suc (length entries - 1)
 last_within entries e some = let within = slice_get_within entries (length entries - 1) e (sym some) in omega (arith, within)
-
-pub last_shorter : (entries : Entries) (e : PartNumbers × Vec ℕ Global) → Some e ≡ last_entry entries → length (take (length entries - 1) entries) < length entries
-last_shorter entries e some = let size = length-take (length entries - 1) entries in let one = last_within entries e some in omega (arith, size, one)
 
 pub last_size : (entries : Entries) (e : PartNumbers × Vec ℕ Global) → Some e ≡ last_entry entries → octets_of_texts (texts_of entries) ≡ octets_of_texts (texts_of (take (length entries - 1) entries)) + length e.1.items
 last_size entries e some =

@@ -1,12 +1,10 @@
 -- Indexes of editions, by the numbers of the editions.
 use Rattle.std.specs.Prelude.{◌≡◌, ℕ, List, [], map, nat_eq, Option, Some}
 use Rattle.std.specs.BTreeMap.{insert_entry}
-use Rattle.std.specs.List.{AllByRecursion}
 use Rattle.std.specs.Map.{lookup}
 use Rattle.std.specs.Ordering.{nat_cmp}
 use Rattle.dict_index.specs.Edition.{Edition, ReadEdition, edition_of}
-use Rattle.dict_catalogue.specs.Items.{Stored, editions_of}
-use Rattle.dict_catalogue.specs.Steps.{Catalogue}
+use Rattle.dict_catalogue.specs.Items.{Stored}
 use Rattle.store_search.specs.Entries.{Indexed, entry_of}
 
 -- the entries of the index that stands under a number
@@ -18,10 +16,6 @@ pub record HasIndexOf (indexes : List (ℕ × List Indexed)) (stored : Stored Ed
   pub reading : ReadEdition
   pub says : stored.content ≡ edition_of reading
   pub stands : entries_under stored.number indexes ≡ Some (map entry_of reading.lines)
-
--- Under the number of each edition of the catalogue, current and former, stands an index of that edition.
-abbrev pub AreIndexesOf : Catalogue → List (ℕ × List Indexed) → Type 0
-AreIndexesOf M indexes = AllByRecursion (λ item. AllByRecursion (HasIndexOf indexes) (editions_of item)) M.items
 
 -- An index was taken out from under a number: an empty one stands there, and all is as it was before once the index is put in its place.
 pub record IsOut (number : ℕ) (index : List Indexed) (before now : List (ℕ × List Indexed)) : Type 0 where

@@ -195,11 +195,4 @@ impl Indexes {
     {
         let _gone = self.by_number.remove(&number);
     }
-
-    /// Lets go of all indexes but those under these numbers.
-    pub fn keep_only(&mut self, numbers: &[u64])
-        ensures { (q : ℕ) → entries_under q self.new ≡ (if list_any (nat_eq q) numbers.now then entries_under q self.old else None) }
-    {
-        self.by_number.retain(|number, _| numbers.contains(number));
-    }
 }

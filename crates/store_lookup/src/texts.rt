@@ -92,16 +92,6 @@ fn take_from(
     }
 }
 
-// The text under a key.
-fn text_under(kept: &LruCache<PartKey, Vec<u8>>, key: PartKey) -> Option<&[u8]>
-    ensures { option_map (λ text. text.now) result ≡ lookup (same_key key) (texts_of kept.now.entries) }
-{
-    match kept.peek(&key) {
-        Some(text) => Some(text.as_slice()),
-        None => None,
-    }
-}
-
 // Puts a text first, in place of the one under its key, or where there are too many, of the last.
 fn put_new(
     kept: &mut LruCache<PartKey, Vec<u8>>,
@@ -153,16 +143,6 @@ impl TextParts {
             alloc,
             kept: None,
             octets: 0,
-        }
-    }
-
-    /// The text under a key, if one is kept. It doesn't count as used by that.
-    pub fn peek(&self, key: PartKey) -> Option<&[u8]>
-        ensures { option_map (λ text. text.now) result ≡ lookup (same_key key) self.now }
-    {
-        match &self.kept {
-            Some(kept) => text_under(kept, key),
-            None => None,
         }
     }
 

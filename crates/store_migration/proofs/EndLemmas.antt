@@ -1,5 +1,5 @@
 -- What a migration that was committed leaves.
-use Rattle.std.proofs.Common.{◌≡◌, ◌∙◌, ◌==◌, ◌<◌, ◌≤◌, ℕ, ℤ, pos, true, false, List, [], ◌∷◌, ◌++◌, map, Some, None, refl, sym, ap, subst}
+use Rattle.std.proofs.Common.{◌≡◌, ◌∙◌, ◌<◌, ◌≤◌, ℕ, ℤ, pos, true, List, [], ◌∷◌, ◌++◌, map, Some, None, refl, sym, ap, subst}
 use Rattle.sqlite.specs.Effect.{Database, IsDatabase}
 use Rattle.sqlite.specs.Held.{Held, state}
 use Rattle.sqlite.specs.State.{State}
@@ -9,8 +9,7 @@ use Rattle.dict_index.specs.Edition.{Edition}
 use Rattle.dict_catalogue.specs.Items.{Item, regular, virtual, edition_numbers, item_as, numbers_of}
 use Rattle.dict_catalogue.specs.Steps.{Catalogue, summary_of}
 use Rattle.dict_catalogue.specs.Tests.{Holdings}
-use Rattle.store_tables.proofs.MadeLemmas.{differ}
-use Rattle.store_rows.specs.Versions.{Layout, Plain, Keyed, Shown, layout_of, known}
+use Rattle.store_rows.specs.Versions.{Layout, layout_of, known}
 use Rattle.store_holdings.specs.Holds.{HasLayout, Holds, IsLeftAs, Rests}
 use Rattle.store_migration.specs.Migrated.{IsMigrated, MayMigrate}
 use Rattle.store_migration.specs.Moved.{AreTreesOf, IsOutcome}
@@ -43,15 +42,6 @@ pub summary_installs : (N : Catalogue) (summary : Holdings (List ℕ)) → summa
 summary_installs N summary is = ap (λ (s : Holdings (List ℕ)). s.installs) (sym is)
 
 -- ---- layouts
-
-pub plain_one : (version : ℕ) → version ≡ 1 → layout_of version ≡ Plain
-plain_one version is = ap layout_of is
-
-pub shown_four : (version : ℕ) → version ≡ 4 → layout_of version ≡ Shown
-shown_four version is = ap layout_of is
-
-pub keyed_other : (version : ℕ) → (version == 1) ≡ false → (version == 4) ≡ false → version < 5 → layout_of version ≡ Keyed
-keyed_other version one four low = rw (one, four, differ version 5 low) refl
 
 -- ---- a store at rest that holds a catalogue under an older version
 

@@ -1,15 +1,13 @@
 -- Where a part of a migration fails.
 use Rattle.std.proofs.Common.{◌≡◌, ◌⊎◌, ◌∙◌, ◌++◌, ◌∷◌, ℕ, ℤ, List, true, inl, inr, ap, refl, subst, sym}
 use Rattle.sqlite.specs.Effect.{Database}
-use Rattle.sqlite.specs.Order.{Row}
-use Rattle.sqlite.specs.State.{IsUnchanged, State, Survives}
+use Rattle.sqlite.specs.State.{IsUnchanged, Survives}
 use Rattle.sqlite.specs.declared.error.Error.{Error}
 use Rattle.sqlite.specs.Held.{Held, state}
 use Rattle.sqlite.proofs.StateLemmas.{survives_then}
 use Rattle.sqlite_trees.specs.declared.store.Store.{Ghosts}
 use Rattle.store_records.specs.Records.{EntryRecord}
 use Rattle.store_sql.specs.Drops.{FailsToDrop}
-use Rattle.store_sql.specs.Inserts.{FailsToInsert}
 use Rattle.store_sql.specs.declared.records.ReadError.{ReadError}
 use Rattle.store_sql.specs.declared.records.ReadError.TheVariants.{NoRecord, Store}
 use Rattle.dict_catalogue.specs.Items.{edition_numbers}
@@ -72,10 +70,6 @@ module _ {S : Type 0} (g : Ghosts S) where
     place = record { gone = gone; name = name; rest = rest; these = these; is = refl; dropped = dropped };
     fails = fails;
   }
-
--- a row that wasn't put in, told as another one that is the same
-pub inserted_as : (name : List ℕ) (row same : Row) (old new : State) (e : Error) → FailsToInsert name row old new e → row ≡ same → FailsToInsert name same old new e
-inserted_as name row same old new e fails is = subst (λ (r : Row). FailsToInsert name r old new e) is fails
 
 -- before anything was begun
 pub why_not_begun : (summary : Holdings (List ℕ)) (e : ReadError) (fault : Fault) → fault ≡ fault_of_read e → FailsToSign (edition_numbers summary.items) e

@@ -142,9 +142,6 @@ module _ (older : Older) (old new : Database) (its : IsOld older old) (made : Is
     parts = own_has part new made_part;
   }
 
-  pub made_counted : lacks_sequence new.schema ≡ false
-  made_counted = made.counted
-
 pub gone_later : (older : Older) (old new : Database) → new.schema ≡ old.schema → AllByRecursion (HasOwn old.schema) (gone_tables older) → AllByRecursion (HasOwn new.schema) (gone_tables older)
 gone_later older old new same own = subst (λ (s : Schema). AllByRecursion (HasOwn s) (gone_tables older)) (sym same) own
 

@@ -10,7 +10,6 @@ pub mod EndLemmas
 pub mod MakingLemmas
 pub mod PlaceLemmas
 pub mod FailLemmas
-pub mod FileLemmas
 pub mod LineLemmas
 pub mod ReadLemmas
 pub mod OtherLemmas

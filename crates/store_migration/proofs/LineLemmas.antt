@@ -60,11 +60,6 @@ pub decides_no : (b : Bool) (octet : ℕ) (octets : List ℕ) → b ≡ list_any
 decides_no true octet octets is = some_has octet octets (sym is)
 decides_no false octet octets is = none_has octet octets (sym is)
 
--- a test of two parts, of which the second may not be asked
-pub both_decide : (A B : Type 0) (b : Bool) → A → MatchBool b B (¬ B) → MatchBool b (A × B) (¬ (A × B))
-both_decide A B true a h = (a, h)
-both_decide A B false a h = λ both. h both.1
-
 -- ---- its numbers, cast
 
 below : (n : ℕ) → n < 68719476736 → n < 18446744073709551616

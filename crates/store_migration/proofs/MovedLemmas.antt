@@ -2,7 +2,7 @@
 use Rattle.std.proofs.Common.{◌≡◌, ◌++◌, ◌∙◌, ℕ, ℤ, pos, true, false, not, List, [], ◌∷◌, map, drop, filter, codes, refl, sym, subst}
 use Rattle.std.specs.List.Sorted.{IsPermutation}
 use Rattle.std.proofs.lemmas.List.Sorted.{IsPermutation-map, IsPermutation-trans}
-use Rattle.sqlite.specs.Effect.{Database, IsDatabase}
+use Rattle.sqlite.specs.Effect.{Database}
 use Rattle.sqlite.specs.Order.{Row}
 use Rattle.sqlite.specs.Schema.{Schema}
 use Rattle.sqlite.specs.Table.{Table}
@@ -104,9 +104,6 @@ module _ (older : Older) (numbers : List ℤ) (headers : List spec.HeaderRecord)
 
   pub headed_apart : HasApartRowids (rows_of (codes "edition") new)
   headed_apart = h.added.apart (subst HasApartRowids (sym h.made.empty) apart_none)
-
-  pub headed_sound : IsDatabase new
-  headed_sound = h.added.sound h.made.sound
 
   pub headed_spares : Spares old new
   headed_spares =

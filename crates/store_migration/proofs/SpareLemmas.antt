@@ -60,10 +60,6 @@ pub part_header : same_name (part 0).name (header 0).name ≡ false
 unfolding same_name
 part_header = refl
 
-pub header_part : same_name (header 0).name (part 0).name ≡ false
-unfolding same_name
-header_part = refl
-
 pub part_away : (f : EntryForm) → IsAway (part 0).name (gone_with f)
 unfolding same_name
 part_away form.Plain = (refl, (refl, tt))

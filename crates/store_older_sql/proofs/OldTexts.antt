@@ -14,7 +14,7 @@ use Rattle.store_sql.proofs.DeleteLemmas.{column_expr, parameter_expr, equals_ex
 use Rattle.store_sql.proofs.ListLemmas.{passes}
 use Rattle.store_sql.proofs.ReadFaults.{Takes, a_number, nothing as no_values}
 use Rattle.store_sql.proofs.ReadLemmas.{rowid_expr, rowid_shown, all_shown, source_of, core_of, select_of, outputs_of}
-use Rattle.store_sql.proofs.ReadTexts.{ReadsTable, sort_by, key_at}
+use Rattle.store_sql.proofs.ReadTexts.{ReadsTable, reads_table, sort_by, key_at}
 use Rattle.store_sql.proofs.TextLemmas.{parsed_or}
 use Rattle.store_older_sql.proofs.ReadTexts.{of_column, test_edition}
 use Rattle.store_tables.specs.Keyed.{old_entry}
@@ -31,7 +31,6 @@ reads_old_of = record {
   read = refl;
   statement = λ tree. refl;
   formats = refl;
-  orders = λ tree. refl;
   no_rowid = λ tree. refl;
   few = λ at tree. refl;
   some = λ at tree. refl;
@@ -56,21 +55,8 @@ read_old_by_rowid = parsed_or (first (keyed_rowid_text keyed.Entry))
 
 pub reads_old_by_rowid : ReadsTable (keyed_rowid_text keyed.Entry) read_old_by_rowid old_entry None [] 99999 (sort_by (codes "1") ∷ []) (key_at 0 ∷ []) (0 ∷ []) 99997 nothing
 unfolding everything read_old_by_rowid rowid_expr rowid_shown all_shown source_of core_of select_of sort_by
-reads_old_by_rowid = record {
-  read = refl;
-  statement = λ tree. refl;
-  formats = refl;
-  orders = λ tree. refl;
-  no_rowid = λ tree. refl;
-  few = λ at tree. refl;
-  some = λ at tree. refl;
-  tests = λ schema at tree is. refl;
-  sorts = λ schema at tree. refl;
-  shows = λ at tree params r. refl;
-  keyed = λ tree params r. refl;
-  compares = λ a b. refl;
-  accepted = λ schema at tree alone low. rw (low, alone) refl;
-}
+reads_old_by_rowid = reads_table refl (λ tree. refl) refl (λ tree. refl) (λ at tree. refl) (λ at tree. refl)
+    (λ schema at tree is. refl) (λ schema at tree. refl) (λ at tree params r. refl) (λ tree params r. refl) (λ a b. refl) (λ schema at tree alone low. rw (low, alone) refl)
 
 pub takes_old_by_rowid : Takes (keyed_rowid_text keyed.Entry) read_old_by_rowid old_entry [] (key_at 0 ∷ []) no_values
 unfolding everything read_old_by_rowid

@@ -6,7 +6,7 @@ use Rattle.sqlite_resolve.specs.Lowering.{nothing}
 use Rattle.sqlite_syntax.specs.declared.statement.Parsed.{Parsed}
 use Rattle.store_sql.proofs.ReadFaults.{Takes, nothing as no_values}
 use Rattle.store_sql.proofs.ReadLemmas.{rowid_expr, rowid_shown, all_shown, source_of, core_of, select_of}
-use Rattle.store_sql.proofs.ReadTexts.{ReadsTable, sort_by, key_at}
+use Rattle.store_sql.proofs.ReadTexts.{ReadsTable, reads_table, sort_by, key_at}
 use Rattle.store_sql.proofs.TextLemmas.{parsed_or}
 use Rattle.store_tables.specs.Keyed.{entry_with_keys, word, gram}
 use Rattle.store_older_sql.specs.Texts.{keyed_rowid_text}
@@ -18,21 +18,8 @@ read_entry_by_rowid = parsed_or (first (keyed_rowid_text keyed.Entry))
 
 pub reads_entry_by_rowid : ReadsTable (keyed_rowid_text keyed.Entry) read_entry_by_rowid entry_with_keys None [] 99999 (sort_by (codes "1") ∷ []) (key_at 0 ∷ []) (0 ∷ []) 99997 nothing
 unfolding everything read_entry_by_rowid rowid_expr rowid_shown all_shown source_of core_of select_of sort_by
-reads_entry_by_rowid = record {
-  read = refl;
-  statement = λ tree. refl;
-  formats = refl;
-  orders = λ tree. refl;
-  no_rowid = λ tree. refl;
-  few = λ at tree. refl;
-  some = λ at tree. refl;
-  tests = λ schema at tree is. refl;
-  sorts = λ schema at tree. refl;
-  shows = λ at tree params r. refl;
-  keyed = λ tree params r. refl;
-  compares = λ a b. refl;
-  accepted = λ schema at tree alone low. rw (low, alone) refl;
-}
+reads_entry_by_rowid = reads_table refl (λ tree. refl) refl (λ tree. refl) (λ at tree. refl) (λ at tree. refl)
+    (λ schema at tree is. refl) (λ schema at tree. refl) (λ at tree params r. refl) (λ tree params r. refl) (λ a b. refl) (λ schema at tree alone low. rw (low, alone) refl)
 
 pub takes_entry_by_rowid : Takes (keyed_rowid_text keyed.Entry) read_entry_by_rowid entry_with_keys [] (key_at 0 ∷ []) no_values
 unfolding everything read_entry_by_rowid
@@ -44,21 +31,8 @@ read_word_by_rowid = parsed_or (first (keyed_rowid_text keyed.Word))
 
 pub reads_word_by_rowid : ReadsTable (keyed_rowid_text keyed.Word) read_word_by_rowid word None [] 99999 (sort_by (codes "1") ∷ []) (key_at 0 ∷ []) (0 ∷ []) 99997 nothing
 unfolding everything read_word_by_rowid rowid_expr rowid_shown all_shown source_of core_of select_of sort_by
-reads_word_by_rowid = record {
-  read = refl;
-  statement = λ tree. refl;
-  formats = refl;
-  orders = λ tree. refl;
-  no_rowid = λ tree. refl;
-  few = λ at tree. refl;
-  some = λ at tree. refl;
-  tests = λ schema at tree is. refl;
-  sorts = λ schema at tree. refl;
-  shows = λ at tree params r. refl;
-  keyed = λ tree params r. refl;
-  compares = λ a b. refl;
-  accepted = λ schema at tree alone low. rw (low, alone) refl;
-}
+reads_word_by_rowid = reads_table refl (λ tree. refl) refl (λ tree. refl) (λ at tree. refl) (λ at tree. refl)
+    (λ schema at tree is. refl) (λ schema at tree. refl) (λ at tree params r. refl) (λ tree params r. refl) (λ a b. refl) (λ schema at tree alone low. rw (low, alone) refl)
 
 pub takes_word_by_rowid : Takes (keyed_rowid_text keyed.Word) read_word_by_rowid word [] (key_at 0 ∷ []) no_values
 unfolding everything read_word_by_rowid
@@ -70,21 +44,8 @@ read_gram_by_rowid = parsed_or (first (keyed_rowid_text keyed.Gram))
 
 pub reads_gram_by_rowid : ReadsTable (keyed_rowid_text keyed.Gram) read_gram_by_rowid gram None [] 99999 (sort_by (codes "1") ∷ []) (key_at 0 ∷ []) (0 ∷ []) 99997 nothing
 unfolding everything read_gram_by_rowid rowid_expr rowid_shown all_shown source_of core_of select_of sort_by
-reads_gram_by_rowid = record {
-  read = refl;
-  statement = λ tree. refl;
-  formats = refl;
-  orders = λ tree. refl;
-  no_rowid = λ tree. refl;
-  few = λ at tree. refl;
-  some = λ at tree. refl;
-  tests = λ schema at tree is. refl;
-  sorts = λ schema at tree. refl;
-  shows = λ at tree params r. refl;
-  keyed = λ tree params r. refl;
-  compares = λ a b. refl;
-  accepted = λ schema at tree alone low. rw (low, alone) refl;
-}
+reads_gram_by_rowid = reads_table refl (λ tree. refl) refl (λ tree. refl) (λ at tree. refl) (λ at tree. refl)
+    (λ schema at tree is. refl) (λ schema at tree. refl) (λ at tree params r. refl) (λ tree params r. refl) (λ a b. refl) (λ schema at tree alone low. rw (low, alone) refl)
 
 pub takes_gram_by_rowid : Takes (keyed_rowid_text keyed.Gram) read_gram_by_rowid gram [] (key_at 0 ∷ []) no_values
 unfolding everything read_gram_by_rowid

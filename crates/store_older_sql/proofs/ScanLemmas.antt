@@ -16,12 +16,9 @@ use Rattle.sqlite.proofs.StateLemmas.{survives_weaker}
 use Rattle.sqlite.proofs.Callers.{IsPlain, EndsIn, begins_shown, given_begin, begun_plain}
 use Rattle.sqlite_trees.specs.declared.store.Store.{Ghosts}
 use Rattle.sqlite_resolve.specs.declared.compiled.Compiled.{Compiled}
-use Rattle.store_sql.specs.Columns.{Content}
 use Rattle.store_sql.specs.Effects.{WhileOpen}
 use Rattle.store_sql.specs.Reads.{FailsToRead}
-use Rattle.store_sql.specs.Streams.{IsNotBegun, FailsToMove}
-use Rattle.store_sql.specs.declared.records.ReadError.{ReadError}
-use Rattle.store_sql.specs.declared.records.ReadError.TheVariants.{NoRecord, Store}
+use Rattle.store_sql.specs.Streams.{IsNotBegun}
 use Rattle.store_sql.proofs.Callers.{still_has}
 use Rattle.store_sql.proofs.ListingLemmas.{shown_selects, reads_plain}
 use Rattle.store_sql.proofs.ReadFaults.{a_number, nothing, ends_at, fails_read}
@@ -29,7 +26,7 @@ use Rattle.store_sql.proofs.SilentLemmas.{commits_none, never_returns}
 use Rattle.store_sql.proofs.StreamLemmas.{still}
 use Rattle.store_tables.specs.Keyed.{entry_with_keys, old_entry, word, gram}
 use Rattle.store_older_sql.specs.Texts.{keyed_rowid_text, keyed_select_text}
-use Rattle.store_older_sql.specs.Scans.{OlderScan, HasScanTables, older_scan_table, older_scan_text, older_scan_values, older_scan_test, AreAllOlder, IsFrontOfOlder, HasGivenOlder, GivesOnOlder, FailsToGiveOlder}
+use Rattle.store_older_sql.specs.Scans.{OlderScan, HasScanTables, older_scan_table, older_scan_text, older_scan_values, older_scan_test, AreAllOlder, IsFrontOfOlder, HasGivenOlder, GivesOnOlder}
 use Rattle.store_older_sql.specs.Scans.OlderScan.{ByRowid, Of, OldByRowid, OldOf}
 use Rattle.store_tables.specs.declared.keyed.KeyedTable.TheVariants as keyed
 use Rattle.store_older_sql.proofs.OldTexts.{read_old_of, reads_old_of, takes_old_of, is_old_of, read_old_by_rowid, reads_old_by_rowid, takes_old_by_rowid}
@@ -138,11 +135,6 @@ module _ {S : Type 0} (g : Ghosts S) (what : OlderScan) where
       let runs = moved (older_scan_text what) (older_scan_values what) given h.runs in
       let later = has_later old new same h.has in
       record { runs = runs; has = later; front = front old new (given ++ row ∷ []) same later runs }
-
-  pub fails_to_give : (columns : List Content) (old new : Held S) (given : List Row) (e : ReadError) → HasGivenOlder g what old given → FailsToMove g columns old new e → FailsToGiveOlder g columns what old new given e
-  fails_to_give columns old new given NoRecord h (row, same, moved, none) = (row, (same, gives_on old new given (Some row) same h moved), none)
-  fails_to_give columns old new given (Store e) h (inl failed) = inl (fails_to_read what (state g old) (state g new) (λ _. h.has) e (failed.0 (older_scan_text what) (older_scan_values what) given h.runs), failed.1)
-  fails_to_give columns old new given (Store e) h (inr (refused, row, same, moved)) = inr (refused, row, (same, gives_on old new given (Some row) same h moved))
 
 -- ---- how a reading begins
 

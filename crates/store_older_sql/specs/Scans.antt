@@ -1,20 +1,14 @@
 -- What is read row by row, and what it has given so far.
-use Rattle.std.specs.Prelude.{◌≡◌, ◌⊎◌, ◌+◌, ℕ, ℤ, Bool, true, List, [], ◌∷◌, ◌++◌, Option, Some, None}
+use Rattle.std.specs.Prelude.{◌+◌, ℕ, ℤ, Bool, true, List, [], ◌∷◌, ◌++◌, Option, Some, None}
 use Rattle.sqlite.specs.declared.types.Value.TheVariants.{Int}
-use Rattle.sqlite.specs.declared.error.Error.TheVariants.{SqliteFailure}
-use Rattle.sqlite.specs.declared.error.ErrorCode.TheVariants.{OutOfMemory}
 use Rattle.sqlite.specs.Order.{Row}
 use Rattle.sqlite.specs.Table.{Table}
 use Rattle.sqlite.specs.Effect.{Database}
-use Rattle.sqlite.specs.State.{IsUnchanged}
 use Rattle.sqlite.specs.Held.{Held, state}
 use Rattle.sqlite.specs.Given as kit
 use Rattle.sqlite_trees.specs.declared.store.Store.{Ghosts}
 use Rattle.store_sql.specs.Effects.{Has, equals_number}
-use Rattle.store_sql.specs.Columns.{Content, HasColumns}
-use Rattle.store_sql.specs.declared.records.ReadError.{ReadError}
-use Rattle.store_sql.specs.declared.records.ReadError.TheVariants.{NoRecord, Store}
-use Rattle.store_sql.specs.Reads.{IsSelection, FailsToRead}
+use Rattle.store_sql.specs.Reads.{IsSelection}
 use Rattle.store_tables.specs.Keyed.{keyed_table_of, old_entry}
 use Rattle.store_older_sql.specs.Texts.{keyed_rowid_text, keyed_select_text}
 use Rattle.store_tables.specs.declared.keyed.KeyedTable.{KeyedTable}
@@ -89,13 +83,3 @@ module _ {S : Type 0} (g : Ghosts S) where
   abbrev pub GivesOnOlder : OlderScan → Held S → List Row → Option Row → Type 0
   GivesOnOlder what new given (Some row) = HasGivenOlder what new (given ++ row ∷ [])
   GivesOnOlder what new given None = AreAllOlder what (state g new).now given
-
-  -- the next row was taken, behind which the reading stands now
-  abbrev pub PassesOlder : OlderScan → Held S → Held S → List Row → Row → Type 0
-  PassesOlder what old new given row = IsUnchanged (state g old) (state g new) × HasGivenOlder what new (given ++ row ∷ [])
-
-  -- The next row is no record; or memory was refused for its record; or the store failed or the limit was met, and nothing more is given.
-  abbrev pub FailsToGiveOlder : List Content → OlderScan → Held S → Held S → List Row → ReadError → Type 0
-  FailsToGiveOlder columns what old new given NoRecord = (row : Row) × PassesOlder what old new given row × ¬ HasColumns columns row
-  FailsToGiveOlder columns what old new given (Store e) =
-      (FailsToRead (state g old) (state g new) e × kit.IsEnded new) ⊎ ((e ≡ SqliteFailure OutOfMemory) × (row : Row) × PassesOlder what old new given row)

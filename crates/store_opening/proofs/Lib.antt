@@ -1,6 +1,4 @@
 pub mod TableLemmas
-pub mod SelectLemmas
-pub mod SelectedLemmas
 pub mod FaultLemmas
 pub mod EntryLemmas
 pub mod FileLemmas

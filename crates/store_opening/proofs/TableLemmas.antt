@@ -1,5 +1,5 @@
 -- The table of the mark is one that a SELECT can read, and one that the product may write to is such a one.
-use Rattle.std.proofs.Common.{◌≡◌, ◌==◌, ◌<◌, ◌^◌, ℕ, zero, suc, List, [], ◌∷◌, length, codes, filter, find, Bool, true, Some, refl, sym, ap, ◌∙◌, slice_get, inl, inr, arith}
+use Rattle.std.proofs.Common.{◌≡◌, ◌==◌, ℕ, zero, suc, List, [], ◌∷◌, length, codes, filter, find, Bool, true, Some, refl, sym, ap, ◌∙◌, slice_get, inl, inr, arith}
 use Rattle.std.proofs.lemmas.Bool.{cases_Bool}
 use Rattle.std.proofs.lemmas.List.Sums.{length-filter}
 use Rattle.sqlite.specs.Schema.{Schema}
@@ -8,14 +8,8 @@ use Rattle.sqlite_schema.specs.Names.{table_named}
 use Rattle.store_tables.specs.Found.{HasOwn, is_further_key}
 use Rattle.store_tables.specs.Tables.{mark}
 use Rattle.store_tables.proofs.FoundLemmas.{place_of, passes_none}
+use Rattle.store_sql.proofs.ReadLemmas.{CanSelect}
 use Rattle.store_opening.specs.Marks.{HasMarkTable}
-
--- The schema has the table at this place of its list, the first in its tree, whose number is within the bound of every tree's.
-pub record CanSelect (schema : Schema) (at : ℕ) (table : Table) : Type 0 where
-  pub named : table_named schema table.name ≡ Some at
-  pub is : slice_get schema.tables at ≡ Some table
-  pub alone : find (λ t. t.tree == table.tree) schema.tables ≡ Some table
-  pub stored : table.tree < 2 ^ 31
 
 -- ---- the table of the mark is such a one
 

@@ -3,9 +3,6 @@ use Rattle.std.proofs.Common.{◌≡◌, ℕ, ◌+◌, ◌-◌, ◌*◌, ◌/◌
 use Rattle.std.proofs.lemmas.Bool.{cases_lt}
 use Rattle.std.proofs.lemmas.List.{take-append-drop, take_all, take_min, take_rest, drop-drop, length-take, take-take, drop-take, get_or_past}
 use Rattle.store_parts.specs.Parts.{parts_of}
-use Rattle.store_parts.specs.Cutting.{FailsToCut, IfShort}
-use Rattle.store_parts.specs.declared.cutting.CutFault.{CutFault}
-use Rattle.store_parts.specs.declared.cutting.CutFault.TheVariants.{Part, Short, Memory}
 use Rattle.store_parts.proofs.PartLemmas.{parts_length, parts_at}
 
 -- a place lies in the file where its part reaches it
@@ -60,18 +57,6 @@ cut_further xs old new start done whole more e f =
     ∙ (ap (λ k. take (length old) (drop start xs) ++ take (length new - length old) (drop (start + k) xs)) whole
     ∙ (ap (λ l. take (length old) (drop start xs) ++ take (length new - length old) l) (sym (drop-drop (length old) start xs))
     ∙ (take_further (drop start xs) (length old) (length new - length old) ∙ ap (λ k. take k (drop start xs)) count))))
-
--- of octets that weren't cut out of a file, behind some that were
-pub fails_further : {E : Type 0} (fault : CutFault E) (P Q : E → Type 0) (a b c : Type 0) → ((e : E) → P e → Q e) → (a → b) → FailsToCut P a ⊥ fault → FailsToCut Q b c fault
-fails_further (Part e) P Q a b c gives goes failed = gives e failed
-fails_further Short P Q a b c gives goes failed = goes failed
-fails_further Memory P Q a b c gives goes failed = absurd failed
-
--- what follows of a file that was too short, where that is so by what was given
-pub short_further : {E : Type 0} (fault : CutFault E) (gives_way : E → Type 0) (goes_on P Q : Type 0) → FailsToCut gives_way goes_on ⊥ fault → (goes_on → IfShort P fault) → (P → Q) → IfShort Q fault
-short_further (Part e) gives_way goes_on P Q failed s h = tt
-short_further Short gives_way goes_on P Q failed s h = h (s failed)
-short_further Memory gives_way goes_on P Q failed s h = tt
 
 -- a part that doesn't reach a place is of a file that doesn't
 pub short_by : (xs part : List ℕ) (n : ℕ) → part ≡ get_or (parts_of xs) (n / 16384) [] → length part ≤ n % 16384 → length xs ≤ n

@@ -1,6 +1,5 @@
 pub mod Parts
 pub mod Joining
-pub mod Cutting
 pub mod Spelling
 pub mod Stored
 pub mod Views

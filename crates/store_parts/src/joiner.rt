@@ -38,16 +38,6 @@ impl Joiner {
         }
     }
 
-    /// Of no part, with room for so many octets, so that they needn't be moved while they come. The error is that the room
-    /// was refused.
-    pub fn with_room(alloc: Global, octets: usize) -> Result<Self, AllocError>
-        ensures { IfOk result (λ joiner. joiner ≡ []) }
-    {
-        Ok(Joiner {
-            octets: Vec::with_capacity(alloc, octets)?,
-        })
-    }
-
     /// Takes the next part.
     pub fn push(&mut self, number: u64, part: &[u8]) -> Result<(), Refused>
         ensures taken { OnOk result (IsNext self.old number part.now) }

@@ -2,20 +2,16 @@
 #![tactic(auto)]
 
 mod columns;
-mod cutting;
 mod file;
 mod joiner;
 mod laws;
 mod line_laws;
-mod memory;
 mod reading;
 mod writing;
 
-pub use cutting::{CutFault, Parts, cut};
 pub use file::{PART_SIZE, part};
 pub use joiner::{Joiner, Refused};
 pub use laws::parts_laws;
 pub use line_laws::{stored_indexes, stored_lines};
-pub use memory::InMemory;
 pub use reading::{StoredColumns, read_line};
 pub use writing::write_line;

@@ -1,9 +1,7 @@
 -- The records of the tables that later schemas have: numbers, and texts and blobs as their octets.
-use denote.Ref.{Bor}
 use Rattle.std.specs.Prelude.{ℕ, ℤ, List, String, Vec, string_bytes}
 use Rattle.std.specs.declared.alloc.Global.{Global}
 use Rattle.store_records.specs.Records.{EntryRecord}
-use Rattle.store_records.specs.Typed.{lent}
 use Rattle.store_records.specs.declared.keyed.KeyedEntry.{KeyedEntry as TypedEntry}
 use Rattle.store_records.specs.declared.keyed.OldEntry.{OldEntry as TypedOld}
 use Rattle.store_records.specs.declared.keyed.WordRecord.{WordRecord as TypedWord}
@@ -70,12 +68,3 @@ abbrev pub owned_gram : TypedGram (Vec ℕ Global) → Piece
 owned_gram = gram_of (λ b. b.items)
 
 -- a record whose texts are borrowed
-
-abbrev pub lent_keyed_entry : TypedEntry (Bor (List ℕ)) (Bor (List ℕ)) → KeyedEntry
-lent_keyed_entry = keyed_entry_of lent lent
-
-abbrev pub lent_word : TypedWord (Bor (List ℕ)) → Piece
-lent_word = word_of lent
-
-abbrev pub lent_gram : TypedGram (Bor (List ℕ)) → Piece
-lent_gram = gram_of lent

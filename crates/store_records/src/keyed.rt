@@ -1,11 +1,5 @@
 //! The records of the tables that later schemas have: entries with what is derived of their headwords, and the tables of words and grams. The type of the octets is `&[u8]` where a record is written, `Vec<u8>` where it was read.
 
-ghost use Rattle.std.specs.Prelude.{◌≡◌};
-ghost use Rattle.store_records.specs.Keyed.{owned_old_entry, plain_entry};
-ghost use Rattle.store_records.specs.Typed.{lent_entry};
-
-use crate::records::EntryRecord;
-
 /// A headword of an edition, where its body stands in the edition's text, its key, the key's octets in reverse order, and the headword that replies show.
 #[derive(Debug, PartialEq, Eq, Drop)]
 pub struct KeyedEntry<T, B> {
@@ -45,19 +39,4 @@ pub struct Gram<B> {
     pub edition: i64,
     pub gram: B,
     pub ord: i64,
-}
-
-impl OldEntry<String, Vec<u8>> {
-    /// The entry without what was derived of it, with its text lent.
-    pub fn lend_plain(&self) -> EntryRecord<&str>
-        ensures { lent_entry result ≡ plain_entry (owned_old_entry self.now) }
-    {
-        EntryRecord {
-            edition: self.edition,
-            ord: self.ord,
-            headword: &self.headword,
-            start: self.start,
-            length: self.length,
-        }
-    }
 }

@@ -12,7 +12,6 @@ pub mod StepLemmas
 pub mod EntryLemmas
 pub mod KeptLemmas
 pub mod FinishLemmas
-pub mod WholeLemmas
 pub mod OrderLemmas
 pub mod PartLemmas
 pub mod ApartLemmas

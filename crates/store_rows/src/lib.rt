@@ -10,7 +10,6 @@ mod laws;
 mod marks;
 mod reader;
 mod replies;
-mod summary;
 mod titles;
 mod written;
 
@@ -23,5 +22,4 @@ pub use laws::{
 };
 pub use reader::Reader;
 pub use replies::verb_in;
-pub use summary::{EditionRows, Tables, summary_of};
 pub use written::{KNOWN_VERSION, item_row, kept_row, mark_row, member_row};

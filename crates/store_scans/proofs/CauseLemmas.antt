@@ -5,7 +5,7 @@ use Rattle.std.proofs.lemmas.List.{length-map, length-append}
 use Rattle.std.proofs.lemmas.List.Sorted.{length_permutation}
 use Rattle.sqlite.specs.Order.{Row}
 use Rattle.sqlite.specs.Effect.{Database}
-use Rattle.sqlite.specs.State.{State, HasCleanDisk, Survives, HasCause, IsUnchanged, store_error}
+use Rattle.sqlite.specs.State.{State, HasCleanDisk, Survives, HasCause, store_error}
 use Rattle.sqlite.specs.Held.{Held, state}
 use Rattle.sqlite.specs.declared.error.Error.{Error}
 use Rattle.sqlite_trees.specs.declared.store.Store.{Ghosts}
@@ -44,6 +44,9 @@ by_cause old new Unstorable h = absurd h
 pub store_cause : (old new : State) (e : Error) → FailsToRead old new e → IsExcusedReading old new (fault_of_store e)
 store_cause old new e (inl fails) = subst (λ e. IsExcusedReading old new (fault_of_store e)) (sym fails.1) (by_cause old new fails.0 fails.2)
 store_cause old new e (inr limit) = subst (λ e. IsExcusedReading old new (fault_of_store e)) (sym limit.0) (inr (inr (inl limit.1)))
+
+pub told_cause : (old new : State) (e : Error) (fault : ReadingFault) → fault ≡ fault_of_store e → FailsToRead old new e → IsExcusedReading old new fault
+told_cause old new e fault is failed = subst (IsExcusedReading old new) (sym is) (store_cause old new e failed)
 
 pub list_cause : (columns : List Content) (rows : List Row) (old new : State) (e : ReadError) → FailsToList columns rows old new e → IsExcusedReading old new (reading_fault_of e)
 list_cause columns rows old new NoRecord h = tt
@@ -126,15 +129,6 @@ pub cause_last : {X : Type 0} (old mid new : State) (result : Result X ReadingFa
     → IfErr result (IsExcusedReading mid new) → IfErr result (IsExcusedReading old new)
 cause_last old mid new (Ok x) one two same clean h = tt
 cause_last old mid new (Err fault) one two same clean h = cause_then old mid new one (same (clean_before old mid new two clean)) fault h
-
--- a scan that was begun and then fails
-pub cause_on : {S X : Type 0} (g : Ghosts S) (what : Cursor) (old mid new : Held S) (result : Result X ReadingFault) → (HasCleanDisk (state g mid) → CursorHasGiven g what mid [] × IsUnchanged (state g old) (state g mid))
-    → Survives (state g old) (state g mid) (λ _. ⊥) → Survives (state g mid) (state g new) (λ _. ⊥) → HasCleanDisk (state g new)
-    → IfErr result (λ fault. (any : Cursor) → CursorHasGiven g any mid [] → IsExcusedReading (state g mid) (state g new) fault) → IfErr result (IsExcusedReading (state g old) (state g new))
-cause_on g what old mid new (Ok x) begun one two clean h = tt
-cause_on g what old mid new (Err fault) begun one two clean h =
-    let first = begun (clean_before (state g old) (state g mid) (state g new) two clean) in
-    cause_then (state g old) (state g mid) (state g new) one (same_as (state g old) (state g mid) first.1) fault (h what first.0)
 
 -- what a row that isn't given leaves
 pub move_stays : {S : Type 0} (g : Ghosts S) (columns : List Content) (what : Cursor) (old new : Held S) (given : List Row) (e : ReadError) → CursorHasGiven g what old given → FailsToMove g columns old new e

@@ -67,8 +67,8 @@ fn stand_under_numbers(
     indexes.let_go(1);
     holds(rt, is_shown(indexes, 1, "none")?, "let go of");
     indexes.make(3)?;
-    indexes.keep_only(&[3, 4]);
-    holds(rt, is_shown(indexes, 2, "none")?, "not kept");
+    indexes.let_go(2);
+    holds(rt, is_shown(indexes, 2, "none")?, "let go of too");
     holds(rt, is_shown(indexes, 3, "ruby")?, "kept");
     Ok(())
 }

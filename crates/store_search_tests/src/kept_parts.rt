@@ -7,14 +7,6 @@ fn text(alloc: Global, octets: &[u8]) -> Result<Vec<u8>, Fail> {
     Ok(Vec::from_slice(alloc, octets)?)
 }
 
-fn is_same(found: Option<&[u8]>, wanted: Option<&[u8]>) -> bool {
-    match (found, wanted) {
-        (Some(found), Some(octets)) => found == octets,
-        (None, None) => true,
-        _ => false,
-    }
-}
-
 // The text under the key, which is kept still.
 fn same(
     rt: &impl Abort,
@@ -22,10 +14,6 @@ fn same(
     key: PartKey,
     wanted: Option<&[u8]>,
 ) -> Result<(), Fail> {
-    assert!(rt;
-        is_same(texts.peek(key), wanted),
-        "the text {key:?} that is looked at"
-    );
     match (texts.take(key), wanted) {
         (Some(found), Some(octets)) => {
             assert!(rt; found.as_slice() == octets, "the text {key:?}");

@@ -26,11 +26,11 @@ use Rattle.sqlite_trees.specs.Sound.{fits_kind, is_free_name, begins, same_name}
 use Rattle.sqlite_value.specs.Order.{value_cmp}
 use Rattle.sqlite_tied.specs.Compute.{everything}
 use Rattle.sqlite_syntax.specs.declared.statement.Parsed.{Parsed}
-use Rattle.store_tables.specs.Tables.{mark, item, member, edition, entry, kept, table_of}
+use Rattle.store_tables.specs.Tables.{table_of}
 use Rattle.store_tables.specs.declared.tables.StoreTable.{StoreTable}
 use Rattle.store_sql.specs.Creates.{IsFree, create_text}
 use Rattle.store_sql.specs.Refusals.{RefusesToMake}
-use Rattle.store_sql.proofs.CreateLemmas.{ReadsCreate, compiles, lacks_none, reads_mark, reads_item, reads_member, reads_edition, reads_entry, reads_kept, read_mark, read_item, read_member, read_edition, read_entry, read_kept}
+use Rattle.store_sql.proofs.CreateLemmas.{ReadsCreate, compiles, lacks_none, read_create, reads_create}
 use Rattle.store_sql.proofs.FaultLemmas.{faults_inside, fails_for, same_stop, no_stop}
 use Rattle.store_sql.proofs.InsertLemmas.{same_value}
 use Rattle.store_tables.specs.declared.tables.StoreTable.TheVariants as store
@@ -117,18 +117,12 @@ module _ (text : List ℕ) (p : Parsed) (table : Table) (r : ReadsCreate text p 
 
 -- ---- the texts
 
-pub mark_stands : Stands (create_text store.Mark) read_mark (mark 0)
-unfolding everything read_mark fits_kind is_free_name begins same_name value_cmp lib.Ieee.is_nan lib.Ieee.lt
-mark_stands = record { whole = lit≤ tt; names = refl; is_text = refl; named = refl; unreserved = refl; formed = refl; fits = refl; short = lit≤ tt; plain = refl; keys = λ key h. absurd h }
-
-pub item_stands : Stands (create_text store.Item) read_item (item 0)
-unfolding everything read_item fits_kind is_free_name begins same_name value_cmp lib.Ieee.is_nan lib.Ieee.lt
-item_stands =
+pub stands_made : (t : StoreTable) → Stands (create_text t) (read_create t) (table_of t 0)
+unfolding everything read_create fits_kind is_free_name begins same_name value_cmp lib.Ieee.is_nan lib.Ieee.lt
+stands_made store.Mark = record { whole = lit≤ tt; names = refl; is_text = refl; named = refl; unreserved = refl; formed = refl; fits = refl; short = lit≤ tt; plain = refl; keys = λ key h. absurd h }
+stands_made store.Item =
     record { whole = lit≤ tt; names = refl; is_text = refl; named = refl; unreserved = refl; formed = refl; fits = refl; short = lit≤ tt; plain = refl; keys = λ key h. (elim h [ inl is ↦ rw is (lit≤ tt) | inr more ↦ absurd more ]) }
-
-pub member_stands : Stands (create_text store.Member) read_member (member 0)
-unfolding everything read_member fits_kind is_free_name begins same_name value_cmp lib.Ieee.is_nan lib.Ieee.lt
-member_stands =
+stands_made store.Member =
     record {
       whole = lit≤ tt;
       names = refl;
@@ -142,19 +136,10 @@ member_stands =
       keys = λ key h.
           (elim h [ inl is ↦ rw is (lit≤ tt) | inr more ↦ elim more [ inl is ↦ rw is (lit≤ tt) | inr none ↦ absurd none ] ]);
     }
-
-pub edition_stands : Stands (create_text store.Edition) read_edition (edition 0)
-unfolding everything read_edition fits_kind is_free_name begins same_name value_cmp lib.Ieee.is_nan lib.Ieee.lt
-edition_stands = record { whole = lit≤ tt; names = refl; is_text = refl; named = refl; unreserved = refl; formed = refl; fits = refl; short = lit≤ tt; plain = refl; keys = λ key h. absurd h }
-
-pub entry_stands : Stands (create_text store.Entry) read_entry (entry 0)
-unfolding everything read_entry fits_kind is_free_name begins same_name value_cmp lib.Ieee.is_nan lib.Ieee.lt
-entry_stands =
+stands_made store.Edition = record { whole = lit≤ tt; names = refl; is_text = refl; named = refl; unreserved = refl; formed = refl; fits = refl; short = lit≤ tt; plain = refl; keys = λ key h. absurd h }
+stands_made store.Entry =
     record { whole = lit≤ tt; names = refl; is_text = refl; named = refl; unreserved = refl; formed = refl; fits = refl; short = lit≤ tt; plain = refl; keys = λ key h. (elim h [ inl is ↦ rw is (lit≤ tt) | inr more ↦ absurd more ]) }
-
-pub kept_stands : Stands (create_text store.Kept) read_kept (kept 0)
-unfolding everything read_kept fits_kind is_free_name begins same_name value_cmp lib.Ieee.is_nan lib.Ieee.lt
-kept_stands =
+stands_made store.Kept =
     record {
       whole = lit≤ tt;
       names = refl;
@@ -171,9 +156,4 @@ kept_stands =
 
 pub make_fails_in : (t : StoreTable) (old new : State) → IsFree old.now.schema (table_of t 0).name → (e : Error) → ExecutesInside 0 (create_text t) [] old new (Err e) → (RefusesToMake (table_of t 0) old e × IsUnchanged old new)
     ⊎ Fails old new ⊥ e
-make_fails_in store.Mark = make_fails (create_text store.Mark) read_mark (mark 0) reads_mark mark_stands
-make_fails_in store.Item = make_fails (create_text store.Item) read_item (item 0) reads_item item_stands
-make_fails_in store.Member = make_fails (create_text store.Member) read_member (member 0) reads_member member_stands
-make_fails_in store.Edition = make_fails (create_text store.Edition) read_edition (edition 0) reads_edition edition_stands
-make_fails_in store.Entry = make_fails (create_text store.Entry) read_entry (entry 0) reads_entry entry_stands
-make_fails_in store.Kept = make_fails (create_text store.Kept) read_kept (kept 0) reads_kept kept_stands
+make_fails_in t = make_fails (create_text t) (read_create t) (table_of t 0) (reads_create t) (stands_made t)

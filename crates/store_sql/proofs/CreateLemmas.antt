@@ -18,7 +18,7 @@ use Rattle.sqlite_ast.specs.declared.Statement.{Statement}
 use Rattle.sqlite_ast.specs.declared.Statement.TheVariants as written
 use Rattle.sqlite_ast.specs.declared.CreateTable as ast
 use Rattle.sqlite_syntax.specs.declared.statement.Parsed.{Parsed}
-use Rattle.store_tables.specs.Tables.{mark, item, member, edition, entry, kept, table_of}
+use Rattle.store_tables.specs.Tables.{table_of}
 use Rattle.store_tables.specs.declared.tables.StoreTable.{StoreTable}
 use Rattle.store_sql.specs.Effects.{rows_of, table_in}
 use Rattle.store_sql.specs.Creates.{IsFree, IsMade, create_text}
@@ -155,58 +155,18 @@ module _ (text : List ℕ) (p : Parsed) (table : Table) (r : ReadsCreate text p 
           sound = w.sound;
         }
 
-unfoldable pub read_mark : Parsed
+unfoldable pub read_create : StoreTable → Parsed
 unfolding everything
-read_mark = parsed_or (first (create_text store.Mark))
+read_create t = parsed_or (first (create_text t))
 
-pub reads_mark : ReadsCreate (create_text store.Mark) read_mark (mark 0)
-unfolding everything read_mark
-reads_mark = record { read = refl; statement = refl; formats = refl; name = refl; plain = refl; table_is = refl; timeless = refl; defined = refl; unreserved = refl; itself = refl; whole = λ shape. refl; uncounted = refl }
-
-unfoldable pub read_item : Parsed
-unfolding everything
-read_item = parsed_or (first (create_text store.Item))
-
-pub reads_item : ReadsCreate (create_text store.Item) read_item (item 0)
-unfolding everything read_item
-reads_item = record { read = refl; statement = refl; formats = refl; name = refl; plain = refl; table_is = refl; timeless = refl; defined = refl; unreserved = refl; itself = refl; whole = λ shape. refl; uncounted = refl }
-
-unfoldable pub read_member : Parsed
-unfolding everything
-read_member = parsed_or (first (create_text store.Member))
-
-pub reads_member : ReadsCreate (create_text store.Member) read_member (member 0)
-unfolding everything read_member
-reads_member = record { read = refl; statement = refl; formats = refl; name = refl; plain = refl; table_is = refl; timeless = refl; defined = refl; unreserved = refl; itself = refl; whole = λ shape. refl; uncounted = refl }
-
-unfoldable pub read_edition : Parsed
-unfolding everything
-read_edition = parsed_or (first (create_text store.Edition))
-
-pub reads_edition : ReadsCreate (create_text store.Edition) read_edition (edition 0)
-unfolding everything read_edition
-reads_edition = record { read = refl; statement = refl; formats = refl; name = refl; plain = refl; table_is = refl; timeless = refl; defined = refl; unreserved = refl; itself = refl; whole = λ shape. refl; uncounted = refl }
-
-unfoldable pub read_entry : Parsed
-unfolding everything
-read_entry = parsed_or (first (create_text store.Entry))
-
-pub reads_entry : ReadsCreate (create_text store.Entry) read_entry (entry 0)
-unfolding everything read_entry
-reads_entry = record { read = refl; statement = refl; formats = refl; name = refl; plain = refl; table_is = refl; timeless = refl; defined = refl; unreserved = refl; itself = refl; whole = λ shape. refl; uncounted = refl }
-
-unfoldable pub read_kept : Parsed
-unfolding everything
-read_kept = parsed_or (first (create_text store.Kept))
-
-pub reads_kept : ReadsCreate (create_text store.Kept) read_kept (kept 0)
-unfolding everything read_kept
-reads_kept = record { read = refl; statement = refl; formats = refl; name = refl; plain = refl; table_is = refl; timeless = refl; defined = refl; unreserved = refl; itself = refl; whole = λ shape. refl; uncounted = refl }
+pub reads_create : (t : StoreTable) → ReadsCreate (create_text t) (read_create t) (table_of t 0)
+unfolding everything read_create
+reads_create store.Mark = record { read = refl; statement = refl; formats = refl; name = refl; plain = refl; table_is = refl; timeless = refl; defined = refl; unreserved = refl; itself = refl; whole = λ shape. refl; uncounted = refl }
+reads_create store.Item = record { read = refl; statement = refl; formats = refl; name = refl; plain = refl; table_is = refl; timeless = refl; defined = refl; unreserved = refl; itself = refl; whole = λ shape. refl; uncounted = refl }
+reads_create store.Member = record { read = refl; statement = refl; formats = refl; name = refl; plain = refl; table_is = refl; timeless = refl; defined = refl; unreserved = refl; itself = refl; whole = λ shape. refl; uncounted = refl }
+reads_create store.Edition = record { read = refl; statement = refl; formats = refl; name = refl; plain = refl; table_is = refl; timeless = refl; defined = refl; unreserved = refl; itself = refl; whole = λ shape. refl; uncounted = refl }
+reads_create store.Entry = record { read = refl; statement = refl; formats = refl; name = refl; plain = refl; table_is = refl; timeless = refl; defined = refl; unreserved = refl; itself = refl; whole = λ shape. refl; uncounted = refl }
+reads_create store.Kept = record { read = refl; statement = refl; formats = refl; name = refl; plain = refl; table_is = refl; timeless = refl; defined = refl; unreserved = refl; itself = refl; whole = λ shape. refl; uncounted = refl }
 
 pub makes_table : (t : StoreTable) (old new : State) (count : ℕ) → IsFree old.now.schema (table_of t 0).name → Executes (create_text t) [] old new (Ok count) → IsMade (table_of t 0) old.now new.now
-makes_table store.Mark old new count = makes (create_text store.Mark) read_mark (mark 0) reads_mark old new count
-makes_table store.Item old new count = makes (create_text store.Item) read_item (item 0) reads_item old new count
-makes_table store.Member old new count = makes (create_text store.Member) read_member (member 0) reads_member old new count
-makes_table store.Edition old new count = makes (create_text store.Edition) read_edition (edition 0) reads_edition old new count
-makes_table store.Entry old new count = makes (create_text store.Entry) read_entry (entry 0) reads_entry old new count
-makes_table store.Kept old new count = makes (create_text store.Kept) read_kept (kept 0) reads_kept old new count
+makes_table t = makes (create_text t) (read_create t) (table_of t 0) (reads_create t)

@@ -12,14 +12,14 @@ use Rattle.sqlite_sql.specs.Program.{ProgramOverflows}
 use Rattle.sqlite_ast.specs.declared.Expr.{Expr}
 use Rattle.sqlite_tied.specs.Compute.{everything}
 use Rattle.sqlite_syntax.specs.declared.statement.Parsed.{Parsed}
-use Rattle.store_tables.specs.Tables.{mark, item, member, edition, entry, table_of, kept}
+use Rattle.store_tables.specs.Tables.{table_of}
+use Rattle.store_tables.proofs.TableLemmas.{name_is}
 use Rattle.store_sql.specs.Deletes.{clear_text}
 use Rattle.store_sql.specs.Effects.{Has, HasApartRowids, rows_of, shown}
 use Rattle.store_sql.specs.Refusals.{RefusesToRemove}
 use Rattle.store_sql.proofs.ListLemmas.{passes}
 use Rattle.store_sql.proofs.DeleteLemmas.{doomed}
-use Rattle.store_sql.proofs.DeleteTexts.{ReadsDelete, command, compiles, read_mark, read_item, read_member, read_every_edition, read_every_entry, read_every_kept, reads_mark, reads_item, reads_member}
-use Rattle.store_sql.proofs.DeleteTexts.{reads_every_edition, reads_every_entry, reads_every_kept}
+use Rattle.store_sql.proofs.DeleteTexts.{ReadsDelete, command, compiles, read_clear, reads_clear}
 use Rattle.store_sql.proofs.DeleteFaults.{cause}
 use Rattle.store_sql.proofs.FaultLemmas.{faults_inside}
 use Rattle.store_tables.specs.declared.tables.StoreTable.{StoreTable}
@@ -31,29 +31,14 @@ pub record Takes (text : List ℕ) (p : Parsed) (table : ℕ → Table) (filter 
   pub names : length params ≡ length p.names
   pub typed : (schema : Schema) (tree : ℕ) → find (λ t. t.tree == (table tree).tree) schema.tables ≡ Some (table tree) → nat_le (2 ^ 31) (table tree).tree ≡ false → accepts_program schema [] (doomed (table tree) filter) params ≡ true
 
-pub takes_mark : Takes (clear_text store.Mark) read_mark mark [] []
-unfolding everything read_mark
-takes_mark = record { whole = lit≤ tt; names = refl; typed = λ schema tree alone low. rw (low, alone) refl }
-
-pub takes_item : Takes (clear_text store.Item) read_item item [] []
-unfolding everything read_item
-takes_item = record { whole = lit≤ tt; names = refl; typed = λ schema tree alone low. rw (low, alone) refl }
-
-pub takes_member : Takes (clear_text store.Member) read_member member [] []
-unfolding everything read_member
-takes_member = record { whole = lit≤ tt; names = refl; typed = λ schema tree alone low. rw (low, alone) refl }
-
-pub takes_every_edition : Takes (clear_text store.Edition) read_every_edition edition [] []
-unfolding everything read_every_edition
-takes_every_edition = record { whole = lit≤ tt; names = refl; typed = λ schema tree alone low. rw (low, alone) refl }
-
-pub takes_every_entry : Takes (clear_text store.Entry) read_every_entry entry [] []
-unfolding everything read_every_entry
-takes_every_entry = record { whole = lit≤ tt; names = refl; typed = λ schema tree alone low. rw (low, alone) refl }
-
-pub takes_every_kept : Takes (clear_text store.Kept) read_every_kept kept [] []
-unfolding everything read_every_kept
-takes_every_kept = record { whole = lit≤ tt; names = refl; typed = λ schema tree alone low. rw (low, alone) refl }
+pub takes_clear : (t : StoreTable) → Takes (clear_text t) (read_clear t) (table_of t) [] []
+unfolding everything read_clear
+takes_clear store.Mark = record { whole = lit≤ tt; names = refl; typed = λ schema tree alone low. rw (low, alone) refl }
+takes_clear store.Item = record { whole = lit≤ tt; names = refl; typed = λ schema tree alone low. rw (low, alone) refl }
+takes_clear store.Member = record { whole = lit≤ tt; names = refl; typed = λ schema tree alone low. rw (low, alone) refl }
+takes_clear store.Edition = record { whole = lit≤ tt; names = refl; typed = λ schema tree alone low. rw (low, alone) refl }
+takes_clear store.Entry = record { whole = lit≤ tt; names = refl; typed = λ schema tree alone low. rw (low, alone) refl }
+takes_clear store.Kept = record { whole = lit≤ tt; names = refl; typed = λ schema tree alone low. rw (low, alone) refl }
 
 module _ (text : List ℕ) (p : Parsed) (table : ℕ → Table) (condition : Option Expr) (filter : List Term) (left : ℕ) (r : ReadsDelete text p table condition filter left) (named : (tree : ℕ) → (table tree).name ≡ (table 0).name)
     (params : Row) (takes : Takes text p table filter params) (test : Row → Bool) (tested : (tree : ℕ) (row : Row) → passes params filter row ≡ test (shown (table tree) row)) (old new : State) (e : Error)
@@ -75,9 +60,4 @@ module _ (text : List ℕ) (p : Parsed) (table : ℕ → Table) (condition : Opt
 
 pub clear_fails : (t : StoreTable) (old new : State) (e : Error) → Has (table_of t) old.now → HasApartRowids (rows_of (table_of t 0).name old.now) → ExecutesInside 0 (clear_text t) [] old new (Err e)
     → (RefusesToRemove (table_of t 0).name (λ _. true) old e × IsUnchanged old new) ⊎ Fails old new ⊥ e
-clear_fails store.Mark old new e = remove_fails (clear_text store.Mark) read_mark mark None [] 100000 reads_mark (λ tree. refl) [] takes_mark (λ _. true) (λ tree row. refl) old new e
-clear_fails store.Item old new e = remove_fails (clear_text store.Item) read_item item None [] 100000 reads_item (λ tree. refl) [] takes_item (λ _. true) (λ tree row. refl) old new e
-clear_fails store.Member old new e = remove_fails (clear_text store.Member) read_member member None [] 100000 reads_member (λ tree. refl) [] takes_member (λ _. true) (λ tree row. refl) old new e
-clear_fails store.Edition old new e = remove_fails (clear_text store.Edition) read_every_edition edition None [] 100000 reads_every_edition (λ tree. refl) [] takes_every_edition (λ _. true) (λ tree row. refl) old new e
-clear_fails store.Entry old new e = remove_fails (clear_text store.Entry) read_every_entry entry None [] 100000 reads_every_entry (λ tree. refl) [] takes_every_entry (λ _. true) (λ tree row. refl) old new e
-clear_fails store.Kept old new e = remove_fails (clear_text store.Kept) read_every_kept kept None [] 100000 reads_every_kept (λ tree. refl) [] takes_every_kept (λ _. true) (λ tree row. refl) old new e
+clear_fails t = remove_fails (clear_text t) (read_clear t) (table_of t) None [] 100000 (reads_clear t) (name_is t) [] (takes_clear t) (λ _. true) (λ tree row. refl)

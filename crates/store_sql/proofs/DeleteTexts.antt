@@ -14,7 +14,8 @@ use Rattle.sqlite_typing.specs.Types.{accepts_program}
 use Rattle.sqlite_ast.specs.declared.Expr.{Expr}
 use Rattle.sqlite_ast.specs.declared.Statement.TheVariants as written
 use Rattle.sqlite_syntax.specs.declared.statement.Parsed.{Parsed}
-use Rattle.store_tables.specs.Tables.{mark, item, member, edition, entry, table_of, kept}
+use Rattle.store_tables.specs.Tables.{table_of}
+use Rattle.store_tables.proofs.TableLemmas.{name_is}
 use Rattle.store_tables.specs.Found.{HasTable}
 use Rattle.store_sql.specs.Effects.{Has, HasApartRowids, IsRemoved, rows_of, shown}
 use Rattle.sqlite.specs.State.{State, Executes}
@@ -42,53 +43,18 @@ pub record ReadsDelete (text : List ℕ) (p : Parsed) (table : ℕ → Table) (c
       ≡ Ok (filter, record (fresh 2 max_budget) { budget = left })
   pub accepted : (schema : Schema) (tree : ℕ) → find (λ t. t.tree == (table tree).tree) schema.tables ≡ Some (table tree) → nat_le (2 ^ 31) (table tree).tree ≡ false → accepts_program schema [] (doomed (table tree) filter) [] ≡ true
 
-unfoldable pub read_mark : Parsed
+unfoldable pub read_clear : StoreTable → Parsed
 unfolding everything
-read_mark = parsed_or (first (clear_text store.Mark))
+read_clear t = parsed_or (first (clear_text t))
 
-pub reads_mark : ReadsDelete (clear_text store.Mark) read_mark mark None [] 100000
-unfolding everything read_mark
-reads_mark = record { read = refl; statement = λ tree. refl; formats = refl; tests = λ schema at tree is. refl; accepted = λ schema tree alone low. rw (low, alone) refl }
-
-unfoldable pub read_item : Parsed
-unfolding everything
-read_item = parsed_or (first (clear_text store.Item))
-
-pub reads_item : ReadsDelete (clear_text store.Item) read_item item None [] 100000
-unfolding everything read_item
-reads_item = record { read = refl; statement = λ tree. refl; formats = refl; tests = λ schema at tree is. refl; accepted = λ schema tree alone low. rw (low, alone) refl }
-
-unfoldable pub read_member : Parsed
-unfolding everything
-read_member = parsed_or (first (clear_text store.Member))
-
-pub reads_member : ReadsDelete (clear_text store.Member) read_member member None [] 100000
-unfolding everything read_member
-reads_member = record { read = refl; statement = λ tree. refl; formats = refl; tests = λ schema at tree is. refl; accepted = λ schema tree alone low. rw (low, alone) refl }
-
-unfoldable pub read_every_edition : Parsed
-unfolding everything
-read_every_edition = parsed_or (first (clear_text store.Edition))
-
-pub reads_every_edition : ReadsDelete (clear_text store.Edition) read_every_edition edition None [] 100000
-unfolding everything read_every_edition
-reads_every_edition = record { read = refl; statement = λ tree. refl; formats = refl; tests = λ schema at tree is. refl; accepted = λ schema tree alone low. rw (low, alone) refl }
-
-unfoldable pub read_every_entry : Parsed
-unfolding everything
-read_every_entry = parsed_or (first (clear_text store.Entry))
-
-pub reads_every_entry : ReadsDelete (clear_text store.Entry) read_every_entry entry None [] 100000
-unfolding everything read_every_entry
-reads_every_entry = record { read = refl; statement = λ tree. refl; formats = refl; tests = λ schema at tree is. refl; accepted = λ schema tree alone low. rw (low, alone) refl }
-
-unfoldable pub read_every_kept : Parsed
-unfolding everything
-read_every_kept = parsed_or (first (clear_text store.Kept))
-
-pub reads_every_kept : ReadsDelete (clear_text store.Kept) read_every_kept kept None [] 100000
-unfolding everything read_every_kept
-reads_every_kept = record { read = refl; statement = λ tree. refl; formats = refl; tests = λ schema at tree is. refl; accepted = λ schema tree alone low. rw (low, alone) refl }
+pub reads_clear : (t : StoreTable) → ReadsDelete (clear_text t) (read_clear t) (table_of t) None [] 100000
+unfolding everything read_clear
+reads_clear store.Mark = record { read = refl; statement = λ tree. refl; formats = refl; tests = λ schema at tree is. refl; accepted = λ schema tree alone low. rw (low, alone) refl }
+reads_clear store.Item = record { read = refl; statement = λ tree. refl; formats = refl; tests = λ schema at tree is. refl; accepted = λ schema tree alone low. rw (low, alone) refl }
+reads_clear store.Member = record { read = refl; statement = λ tree. refl; formats = refl; tests = λ schema at tree is. refl; accepted = λ schema tree alone low. rw (low, alone) refl }
+reads_clear store.Edition = record { read = refl; statement = λ tree. refl; formats = refl; tests = λ schema at tree is. refl; accepted = λ schema tree alone low. rw (low, alone) refl }
+reads_clear store.Entry = record { read = refl; statement = λ tree. refl; formats = refl; tests = λ schema at tree is. refl; accepted = λ schema tree alone low. rw (low, alone) refl }
+reads_clear store.Kept = record { read = refl; statement = λ tree. refl; formats = refl; tests = λ schema at tree is. refl; accepted = λ schema tree alone low. rw (low, alone) refl }
 
 -- ---- what they do
 
@@ -118,9 +84,4 @@ module _ (text : List ℕ) (p : Parsed) (table : ℕ → Table) (condition : Opt
 
 pub clears_rows : (t : StoreTable) (old new : State) (count : ℕ) → Has (table_of t) old.now → HasApartRowids (rows_of (table_of t 0).name old.now) → Executes (clear_text t) [] old new (Ok count)
     → IsRemoved (table_of t 0).name (λ _. true) old.now new.now
-clears_rows store.Mark old new count = removes_rows (clear_text store.Mark) read_mark mark None [] 100000 reads_mark (λ tree. refl) [] (λ _. true) (λ tree row. refl) old new count
-clears_rows store.Item old new count = removes_rows (clear_text store.Item) read_item item None [] 100000 reads_item (λ tree. refl) [] (λ _. true) (λ tree row. refl) old new count
-clears_rows store.Member old new count = removes_rows (clear_text store.Member) read_member member None [] 100000 reads_member (λ tree. refl) [] (λ _. true) (λ tree row. refl) old new count
-clears_rows store.Edition old new count = removes_rows (clear_text store.Edition) read_every_edition edition None [] 100000 reads_every_edition (λ tree. refl) [] (λ _. true) (λ tree row. refl) old new count
-clears_rows store.Entry old new count = removes_rows (clear_text store.Entry) read_every_entry entry None [] 100000 reads_every_entry (λ tree. refl) [] (λ _. true) (λ tree row. refl) old new count
-clears_rows store.Kept old new count = removes_rows (clear_text store.Kept) read_every_kept kept None [] 100000 reads_every_kept (λ tree. refl) [] (λ _. true) (λ tree row. refl) old new count
+clears_rows t = removes_rows (clear_text t) (read_clear t) (table_of t) None [] 100000 (reads_clear t) (name_is t) [] (λ _. true) (λ tree row. refl)

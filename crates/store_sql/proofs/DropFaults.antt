@@ -16,16 +16,15 @@ use Rattle.sqlite_schema.specs.declared.schema.Keys.TheVariants.{Enforced}
 use Rattle.sqlite_tied.specs.Compute.{everything}
 use Rattle.sqlite_syntax.specs.declared.statement.Parsed.{Parsed}
 use Rattle.store_tables.specs.Found.{HasTable}
-use Rattle.store_tables.specs.Tables.{mark, item, member, edition, entry, kept}
 use Rattle.store_tables.specs.declared.tables.StoreTable.{StoreTable}
 use Rattle.store_tables.specs.declared.tables.StoreTable.TheVariants as store
 use Rattle.store_sql.specs.Effects.{Has, table_in}
 use Rattle.store_sql.specs.Drops.{drop_text}
 use Rattle.store_tables.specs.Tables.{table_of}
+use Rattle.store_tables.proofs.TableLemmas.{name_is}
 use Rattle.store_sql.specs.Refusals.{RefusesToDrop}
 use Rattle.store_sql.proofs.InsertLemmas.{same_value}
-use Rattle.store_sql.proofs.DropLemmas.{ReadsDrop, compiles, refuses, unacted, not_taken, not_counted, read_mark, reads_mark, read_item, reads_item, read_member, reads_member, read_edition, reads_edition, read_entry}
-use Rattle.store_sql.proofs.DropLemmas.{reads_entry, read_kept, reads_kept}
+use Rattle.store_sql.proofs.DropLemmas.{ReadsDrop, compiles, refuses, unacted, not_taken, not_counted, read_drop, reads_drop}
 use Rattle.store_sql.proofs.FaultLemmas.{faults_inside, fails_for, same_stop, no_stop}
 
 not_uncounted : (task : Task) (db : Trees) (o : Option Error) (counted : Bool) (t : Option Table) → counted ≡ false → ¬ UncountsIn task db (if counted then t else None) (Err o)
@@ -108,38 +107,17 @@ module _ (text : List ℕ) (p : Parsed) (table : ℕ → Table) (r : ReadsDrop t
 
 -- ---- the texts
 
-abbrev Reads : StoreTable → Parsed → Type 0
-Reads table p = (length (drop_text table) ≤ p.tail) × (0 ≡ length p.names)
-
-whole_mark : Reads store.Mark read_mark
-unfolding everything read_mark
-whole_mark = (lit≤ tt, refl)
-
-whole_item : Reads store.Item read_item
-unfolding everything read_item
-whole_item = (lit≤ tt, refl)
-
-whole_member : Reads store.Member read_member
-unfolding everything read_member
-whole_member = (lit≤ tt, refl)
-
-whole_edition : Reads store.Edition read_edition
-unfolding everything read_edition
-whole_edition = (lit≤ tt, refl)
-
-whole_entry : Reads store.Entry read_entry
-unfolding everything read_entry
-whole_entry = (lit≤ tt, refl)
-
-whole_kept : Reads store.Kept read_kept
-unfolding everything read_kept
-whole_kept = (lit≤ tt, refl)
+whole_drop : (t : StoreTable) → (length (drop_text t) ≤ (read_drop t).tail) × (0 ≡ length (read_drop t).names)
+unfolding everything read_drop
+whole_drop store.Mark = (lit≤ tt, refl)
+whole_drop store.Item = (lit≤ tt, refl)
+whole_drop store.Member = (lit≤ tt, refl)
+whole_drop store.Edition = (lit≤ tt, refl)
+whole_drop store.Entry = (lit≤ tt, refl)
+whole_drop store.Kept = (lit≤ tt, refl)
 
 pub drop_fails_in : (table : StoreTable) (old new : State) (e : Error) → Has (table_of table) old.now → ExecutesInside 0 (drop_text table) [] old new (Err e) → (RefusesToDrop (table_of table 0).name old e × IsUnchanged old new)
     ⊎ Fails old new ⊥ e
-drop_fails_in store.Mark old new e has = fails (drop_text store.Mark) read_mark mark reads_mark whole_mark.0 whole_mark.1 old new has.0 has.1 has.2 e
-drop_fails_in store.Item old new e has = fails (drop_text store.Item) read_item item reads_item whole_item.0 whole_item.1 old new has.0 has.1 has.2 e
-drop_fails_in store.Member old new e has = fails (drop_text store.Member) read_member member reads_member whole_member.0 whole_member.1 old new has.0 has.1 has.2 e
-drop_fails_in store.Edition old new e has = fails (drop_text store.Edition) read_edition edition reads_edition whole_edition.0 whole_edition.1 old new has.0 has.1 has.2 e
-drop_fails_in store.Entry old new e has = fails (drop_text store.Entry) read_entry entry reads_entry whole_entry.0 whole_entry.1 old new has.0 has.1 has.2 e
-drop_fails_in store.Kept old new e has = fails (drop_text store.Kept) read_kept kept reads_kept whole_kept.0 whole_kept.1 old new has.0 has.1 has.2 e
+drop_fails_in t old new e has h =
+    subst (λ n. (RefusesToDrop n old e × IsUnchanged old new) ⊎ Fails old new ⊥ e) (name_is t has.1)
+    (fails (drop_text t) (read_drop t) (table_of t) (reads_drop t) (whole_drop t).0 (whole_drop t).1 old new has.0 has.1 has.2 e h)

@@ -1,5 +1,5 @@
 -- What the DROP TABLE of a table does, over any schema that has it.
-use Rattle.std.proofs.Common.{◌≡◌, ◌==◌, ℕ, ◌+◌, List, [], ◌∷◌, codes, filter, find, Bool, true, false, not, ◌&&◌, is_some, Some, None, Option, Ok, MatchBool, if◌then◌else◌, inl, inr, refl, sym, ap, subst, ◌∙◌}
+use Rattle.std.proofs.Common.{◌≡◌, ◌==◌, ℕ, ◌+◌, List, [], ◌∷◌, filter, find, Bool, true, false, not, ◌&&◌, is_some, Some, None, Option, Ok, MatchBool, if◌then◌else◌, inl, inr, refl, sym, ap, subst, ◌∙◌}
 use Rattle.std.proofs.lemmas.Bool.{cases_Bool}
 use Rattle.std.specs.List.{AllByRecursion, list_any, position_from}
 use Rattle.sqlite.specs.Table.{Table}
@@ -28,7 +28,6 @@ use Rattle.sqlite_syntax.specs.declared.statement.Parsed.{Parsed}
 use Rattle.store_tables.specs.Found.{HasTable, is_in}
 use Rattle.store_tables.proofs.PlaceLemmas.{found}
 use Rattle.store_tables.proofs.NameLemmas.{itself, found_is, not_parent}
-use Rattle.store_tables.specs.Tables.{mark, item, member, edition, entry, kept}
 use Rattle.store_tables.specs.declared.tables.StoreTable.{StoreTable}
 use Rattle.store_tables.specs.declared.tables.StoreTable.TheVariants as store
 use Rattle.store_sql.specs.Effects.{Has, table_in}
@@ -171,58 +170,18 @@ module _ (text : List ℕ) (p : Parsed) (table : ℕ → Table) (r : ReadsDrop t
       some : {a b : Table} → ◌≡◌ {A = Option Table} (Some a) (Some b) → a ≡ b
       some e = cc
 
-unfoldable pub read_mark : Parsed
+unfoldable pub read_drop : StoreTable → Parsed
 unfolding everything
-read_mark = parsed_or (first (codes "DROP TABLE mark"))
+read_drop t = parsed_or (first (drop_text t))
 
-pub reads_mark : ReadsDrop (codes "DROP TABLE mark") read_mark mark
-unfolding everything read_mark
-reads_mark = record { read = refl; statement = λ tree. refl; formats = refl; unreserved = λ tree. refl; uncounted = λ tree. refl; named = λ tree. refl }
-
-unfoldable pub read_item : Parsed
-unfolding everything
-read_item = parsed_or (first (codes "DROP TABLE item"))
-
-pub reads_item : ReadsDrop (codes "DROP TABLE item") read_item item
-unfolding everything read_item
-reads_item = record { read = refl; statement = λ tree. refl; formats = refl; unreserved = λ tree. refl; uncounted = λ tree. refl; named = λ tree. refl }
-
-unfoldable pub read_member : Parsed
-unfolding everything
-read_member = parsed_or (first (codes "DROP TABLE member"))
-
-pub reads_member : ReadsDrop (codes "DROP TABLE member") read_member member
-unfolding everything read_member
-reads_member = record { read = refl; statement = λ tree. refl; formats = refl; unreserved = λ tree. refl; uncounted = λ tree. refl; named = λ tree. refl }
-
-unfoldable pub read_edition : Parsed
-unfolding everything
-read_edition = parsed_or (first (codes "DROP TABLE edition"))
-
-pub reads_edition : ReadsDrop (codes "DROP TABLE edition") read_edition edition
-unfolding everything read_edition
-reads_edition = record { read = refl; statement = λ tree. refl; formats = refl; unreserved = λ tree. refl; uncounted = λ tree. refl; named = λ tree. refl }
-
-unfoldable pub read_entry : Parsed
-unfolding everything
-read_entry = parsed_or (first (codes "DROP TABLE entry"))
-
-pub reads_entry : ReadsDrop (codes "DROP TABLE entry") read_entry entry
-unfolding everything read_entry
-reads_entry = record { read = refl; statement = λ tree. refl; formats = refl; unreserved = λ tree. refl; uncounted = λ tree. refl; named = λ tree. refl }
-
-unfoldable pub read_kept : Parsed
-unfolding everything
-read_kept = parsed_or (first (codes "DROP TABLE kept"))
-
-pub reads_kept : ReadsDrop (codes "DROP TABLE kept") read_kept kept
-unfolding everything read_kept
-reads_kept = record { read = refl; statement = λ tree. refl; formats = refl; unreserved = λ tree. refl; uncounted = λ tree. refl; named = λ tree. refl }
+pub reads_drop : (t : StoreTable) → ReadsDrop (drop_text t) (read_drop t) (table_of t)
+unfolding everything read_drop
+reads_drop store.Mark = record { read = refl; statement = λ tree. refl; formats = refl; unreserved = λ tree. refl; uncounted = λ tree. refl; named = λ tree. refl }
+reads_drop store.Item = record { read = refl; statement = λ tree. refl; formats = refl; unreserved = λ tree. refl; uncounted = λ tree. refl; named = λ tree. refl }
+reads_drop store.Member = record { read = refl; statement = λ tree. refl; formats = refl; unreserved = λ tree. refl; uncounted = λ tree. refl; named = λ tree. refl }
+reads_drop store.Edition = record { read = refl; statement = λ tree. refl; formats = refl; unreserved = λ tree. refl; uncounted = λ tree. refl; named = λ tree. refl }
+reads_drop store.Entry = record { read = refl; statement = λ tree. refl; formats = refl; unreserved = λ tree. refl; uncounted = λ tree. refl; named = λ tree. refl }
+reads_drop store.Kept = record { read = refl; statement = λ tree. refl; formats = refl; unreserved = λ tree. refl; uncounted = λ tree. refl; named = λ tree. refl }
 
 pub drops_table : (table : StoreTable) (old new : State) (count : ℕ) → Has (table_of table) old.now → Executes (drop_text table) [] old new (Ok count) → IsDropped (table_of table 0).name old.now new.now
-drops_table store.Mark old new count = drops (codes "DROP TABLE mark") read_mark mark reads_mark old new count
-drops_table store.Item old new count = drops (codes "DROP TABLE item") read_item item reads_item old new count
-drops_table store.Member old new count = drops (codes "DROP TABLE member") read_member member reads_member old new count
-drops_table store.Edition old new count = drops (codes "DROP TABLE edition") read_edition edition reads_edition old new count
-drops_table store.Entry old new count = drops (codes "DROP TABLE entry") read_entry entry reads_entry old new count
-drops_table store.Kept old new count = drops (codes "DROP TABLE kept") read_kept kept reads_kept old new count
+drops_table t = drops (drop_text t) (read_drop t) (table_of t) (reads_drop t)

@@ -36,25 +36,10 @@ module _ (text : List ℕ) (p : Parsed) where
   drop_ends_none table r = drop_ends_nothing text p r.read false (table 0).name (r.statement 0)
 
 pub make_ends_none : (t : StoreTable) → EndsNothing (create_text t)
-make_ends_none store.Mark = create_ends_none _ create.read_mark _ create.reads_mark
-make_ends_none store.Item = create_ends_none _ create.read_item _ create.reads_item
-make_ends_none store.Member = create_ends_none _ create.read_member _ create.reads_member
-make_ends_none store.Edition = create_ends_none _ create.read_edition _ create.reads_edition
-make_ends_none store.Entry = create_ends_none _ create.read_entry _ create.reads_entry
-make_ends_none store.Kept = create_ends_none _ create.read_kept _ create.reads_kept
+make_ends_none t = create_ends_none _ _ _ (create.reads_create t)
 
 pub clear_ends_none : (t : StoreTable) → EndsNothing (clear_text t)
-clear_ends_none store.Mark = delete_ends_none _ delete.read_mark _ _ _ _ delete.reads_mark
-clear_ends_none store.Item = delete_ends_none _ delete.read_item _ _ _ _ delete.reads_item
-clear_ends_none store.Member = delete_ends_none _ delete.read_member _ _ _ _ delete.reads_member
-clear_ends_none store.Edition = delete_ends_none _ delete.read_every_edition _ _ _ _ delete.reads_every_edition
-clear_ends_none store.Entry = delete_ends_none _ delete.read_every_entry _ _ _ _ delete.reads_every_entry
-clear_ends_none store.Kept = delete_ends_none _ delete.read_every_kept _ _ _ _ delete.reads_every_kept
+clear_ends_none t = delete_ends_none _ _ _ _ _ _ (delete.reads_clear t)
 
 pub take_ends_none : (t : StoreTable) → EndsNothing (drop_text t)
-take_ends_none store.Mark = drop_ends_none _ drop.read_mark _ drop.reads_mark
-take_ends_none store.Item = drop_ends_none _ drop.read_item _ drop.reads_item
-take_ends_none store.Member = drop_ends_none _ drop.read_member _ drop.reads_member
-take_ends_none store.Edition = drop_ends_none _ drop.read_edition _ drop.reads_edition
-take_ends_none store.Entry = drop_ends_none _ drop.read_entry _ drop.reads_entry
-take_ends_none store.Kept = drop_ends_none _ drop.read_kept _ drop.reads_kept
+take_ends_none t = drop_ends_none _ _ _ (drop.reads_drop t)

@@ -30,8 +30,8 @@ use Rattle.store_sql.specs.Effects.{equals_number, equals_text, Has, rows_of, sh
 use Rattle.store_sql.specs.Reads.{IsListing, IsSelection}
 use Rattle.store_sql.proofs.CompareLemmas.{and_true, equals_is, equals_text_is}
 use Rattle.store_sql.proofs.ListLemmas.{passes}
-use Rattle.store_sql.proofs.QueryLemmas.{IsQuery, ShowsRow, command_with, is_plain, read_rows, shown_answers}
-use Rattle.store_sql.proofs.ReadLemmas.{select_with, select_of, select_is, starred, starred_is, understood_is, outputs_of}
+use Rattle.store_sql.proofs.QueryLemmas.{IsQuery, ShowsRow, CanRead, can_read, command_with, is_plain, rows_read, read_answers}
+use Rattle.store_sql.proofs.ReadLemmas.{CanSelect, select_with, select_of, select_is, out_order, starred, starred_is, understood_is, outputs_of}
 use Rattle.store_sql.proofs.ReadTexts.{ReadsTable, test_one_edition, test_some_entries, test_one_kept}
 use Rattle.store_sql.proofs.SilentLemmas.{commits_none, shown_open}
 
@@ -51,12 +51,12 @@ module _ (text : List ℕ) (p : Parsed) (table : ℕ → Table) (condition : Opt
   abbrev pub outs : ℕ → ℕ → List Output
   outs at tree = outputs_of at (table tree)
 
-  module _ (schema : Schema) (at tree : ℕ) (has : HasTable schema at (table tree)) where
+  module _ (schema : Schema) (at tree : ℕ) (has : CanSelect schema at (table tree)) where
     is_select : p.statement ≡ written.Select (select_with starred (table tree).name condition sorted)
     is_select = r.statement tree ∙ ap (λ q. written.Select q) (select_is (table tree).name condition sorted)
 
     is_ordered : (out-Select (select_with starred (table tree).name condition sorted)).order ≡ sorted
-    is_ordered = subst (λ q. (out-Select q).order ≡ sorted) (select_is (table tree).name condition sorted) (r.orders tree)
+    is_ordered = out_order starred (table tree).name condition sorted
 
     compiles : (understood schema text ≡ Ok (with_command p ([], (command_with (table tree).tree (outs at tree) tests' order, None)))) × (reads_listing schema text ≡ false)
     compiles =
@@ -83,15 +83,21 @@ module _ (text : List ℕ) (p : Parsed) (table : ℕ → Table) (condition : Opt
     abbrev pub SelectsIn : List Row → Type 0
     SelectsIn rows = IsSelection (table 0).name test columns old.now rows × IsUnchanged old new
 
-    pub shown_selects : (rows : List Row) → Has table old.now → Shown text params old new rows → SelectsIn rows
-    shown_selects rows has h =
-        let it = shown_answers text p table outs tests' order query columns (λ tree. shown (table tree)) shows_row params old new rows has h in
-        let kept = keep_shown (table has.1) (passes params tests') test (tested has.1) (old.now.trees (table has.1).tree) ∙ sym (ap (filter test) (read_rows old.now.schema has.0 (table has.1) has.2 old.now.trees)) in
+    pub read_selects : (rows : List Row) → CanRead table old.now → Shown text params old new rows → SelectsIn rows
+    read_selects rows has h =
+        let it = read_answers text p table outs tests' order query columns (λ tree. shown (table tree)) shows_row params old new rows has h in
+        let kept = keep_shown (table has.1) (passes params tests') test (tested has.1) (old.now.trees (table has.1).tree) ∙ sym (ap (filter test) (rows_read old.now.schema has.0 (table has.1) has.2 old.now.trees)) in
         (subst (λ n. IsSelection n test columns old.now rows) (named has.1) (record { same = subst (λ l. IsPermutation l rows) kept it.0.0; sorted = it.0.1 }), it.1)
 
+    pub shown_selects : (rows : List Row) → Has table old.now → Shown text params old new rows → SelectsIn rows
+    shown_selects rows has = read_selects rows (can_read table old.now has)
+
+    pub selects_where : (result : Result (Vec Row Global) Error) → (IsTrue old.is_open → CanRead table old.now) → IfOk result (λ rows. Shown text params old new rows.items) → IfOk result (λ rows. SelectsIn rows.items)
+    selects_where (Err e) has h = tt
+    selects_where (Ok rows) has h = read_selects rows.items (has (shown_open text p (select_of (table 0).name condition sorted) r.read (r.statement 0) old new params rows.items h)) h
+
     pub selects : (result : Result (Vec Row Global) Error) → (IsTrue old.is_open → Has table old.now) → IfOk result (λ rows. Shown text params old new rows.items) → IfOk result (λ rows. SelectsIn rows.items)
-    selects (Err e) has h = tt
-    selects (Ok rows) has h = shown_selects rows.items (has (shown_open text p (select_of (table 0).name condition sorted) r.read (r.statement 0) old new params rows.items h)) h
+    selects result has = selects_where result (λ open'. can_read table old.now (has open'))
 
     pub reads_nothing_else : Survives old new (CommitsShowing text params old) → Survives old new (λ _. ⊥)
     reads_nothing_else s = survives_weaker old new _ _ (λ clean db. commits_none text p (select_of (table 0).name condition sorted) r.read (r.statement 0) params old db) s

@@ -29,14 +29,13 @@ use Rattle.sqlite_schema.specs.Names.{column_named, place_of}
 use Rattle.sqlite_schema.specs.declared.schema.Column.{Column}
 use Rattle.sqlite_syntax.specs.declared.statement.Parsed.{Parsed}
 use Rattle.sqlite_typing.specs.Types.{accepts_program}
-use Rattle.store_tables.specs.Found.{HasTable}
 use Rattle.store_tables.specs.Tables.{needed, edition}
 use Rattle.store_sql.specs.Effects.{Has, rows_of, shown}
 use Rattle.store_sql.specs.Reads.{IsNumbering, rowid_and_number, select_numbers}
 use Rattle.store_sql.proofs.DeleteLemmas.{column_expr, out_column, lower_column}
 use Rattle.store_sql.proofs.ListingLemmas.{all_pass}
 use Rattle.store_sql.proofs.QueryLemmas.{IsQuery, ShowsRow, command_with, TakesValues, read_rows, shown_answers}
-use Rattle.store_sql.proofs.ReadLemmas.{rowid_expr, rowid_shown, source_of, core_with, select_with, out_rowid, out_one, lower_rowid, heading_is, rowid_output, context_of, level_of, left_of, plainly, query_with, understood_is}
+use Rattle.store_sql.proofs.ReadLemmas.{CanSelect, rowid_expr, rowid_shown, source_of, core_with, select_with, out_rowid, out_one, lower_rowid, heading_is, rowid_output, context_of, level_of, left_of, plainly, query_with, understood_is}
 use Rattle.store_sql.proofs.ReadTexts.{sort_by, key_at}
 use Rattle.store_sql.proofs.TextLemmas.{parsed_or}
 
@@ -56,7 +55,7 @@ out_shown : (name : Name) → out-Shown (column_shown name) ≡ Shown-F.One (col
 unfolding everything column_shown
 out_shown name = refl
 
-module _ (schema : Schema) (at : ℕ) (table : Table) (has : HasTable schema at table) (no_rowid : column_named table (codes "rowid") ≡ None) (name : Name) (k : ℕ) (c : Column) (place : column_named table name ≡ Some k)
+module _ (schema : Schema) (at : ℕ) (table : Table) (has : CanSelect schema at table) (no_rowid : column_named table (codes "rowid") ≡ None) (name : Name) (k : ℕ) (c : Column) (place : column_named table name ≡ Some k)
     (there : slice_get table.columns k ≡ Some c) where
   abbrev column_output : Output
   column_output = record { name = c.name; is_alias = false; is_column = true; term = col 1 (place_of table k); carried = declared table k c }
@@ -127,7 +126,7 @@ nothing_carried : (tree : ℕ) → declared (edition tree) 0 number ≡ nothing
 unfolding everything
 nothing_carried tree = refl
 
-results : (schema : Schema) (at tree : ℕ) (has : HasTable schema at (edition tree)) → result lower (outermost schema) (level_of at (edition tree)) (core_with (beside (codes "number")) (edition tree).name None) (fresh 2 max_budget)
+results : (schema : Schema) (at tree : ℕ) (has : CanSelect schema at (edition tree)) → result lower (outermost schema) (level_of at (edition tree)) (core_with (beside (codes "number")) (edition tree).name None) (fresh 2 max_budget)
     ≡ Ok (numbers_of at tree, left_of 99998)
 results schema at tree has =
     subst₂ (λ (k : ℕ) (c : Carried). result lower (outermost schema) (level_of at (edition tree)) (core_with (beside (codes "number")) (edition tree).name None) (fresh 2 max_budget)
@@ -147,7 +146,7 @@ no_tests : (schema : Schema) (at tree : ℕ) → tests lower (context_of schema 
 unfolding everything
 no_tests schema at tree = refl
 
-compiles : (schema : Schema) (at tree : ℕ) (has : HasTable schema at (edition tree))
+compiles : (schema : Schema) (at tree : ℕ) (has : CanSelect schema at (edition tree))
     → (understood schema select_numbers ≡ Ok (with_command read_numbers ([], (command_with (edition tree).tree (numbers_of at tree) [] (key_at 0 ∷ []), None)))) × (reads_listing schema select_numbers ≡ false)
 compiles schema at tree has =
     understood_is schema at (edition tree) has (beside (codes "number")) (numbers_of at tree) 99998 None (results schema at tree has) [] 99998 nothing (no_tests schema at tree) by_number (key_at 0 ∷ []) 99996 nothing

@@ -36,7 +36,7 @@ use Rattle.store_sql.specs.Effects.{Has, rows_of, shown}
 use Rattle.store_sql.specs.Reads.{FailsToRead, by_columns}
 use Rattle.store_sql.proofs.InsertLemmas.{same_value}
 use Rattle.store_sql.proofs.ListLemmas.{lists, sorts, passes}
-use Rattle.store_sql.proofs.ReadLemmas.{query_with}
+use Rattle.store_sql.proofs.ReadLemmas.{CanSelect, can_select, query_with}
 use Rattle.store_sql.proofs.SilentLemmas.{shut_query}
 
 abbrev pub command_with : ℕ → List Output → List Term → List (Term × Key) → Command
@@ -47,8 +47,8 @@ pub record IsQuery (text : List ℕ) (p : Parsed) (table : ℕ → Table) (outs 
   pub select : Select
   pub read : first text ≡ Ok p
   pub statement : p.statement ≡ written.Select select
-  pub means : (schema : Schema) (at tree : ℕ) → HasTable schema at (table tree) → understood schema text ≡ Ok (with_command p ([], (command_with (table tree).tree (outs at tree) tests' order, None)))
-  pub unlisted : (schema : Schema) (at tree : ℕ) → HasTable schema at (table tree) → reads_listing schema text ≡ false
+  pub means : (schema : Schema) (at tree : ℕ) → CanSelect schema at (table tree) → understood schema text ≡ Ok (with_command p ([], (command_with (table tree).tree (outs at tree) tests' order, None)))
+  pub unlisted : (schema : Schema) (at tree : ℕ) → CanSelect schema at (table tree) → reads_listing schema text ≡ false
 
 -- The columns that are shown, and those of them that give the order.
 pub record ShowsRow (table : ℕ → Table) (outs : ℕ → ℕ → List Output) (order : List (Term × Key)) (columns : List ℕ) (show : ℕ → Row → Row) : Type 0 where
@@ -63,16 +63,29 @@ pub record TakesValues (text : List ℕ) (p : Parsed) (table : ℕ → Table) (o
   pub typed : (schema : Schema) (at tree : ℕ) → find (λ t. t.tree == (table tree).tree) schema.tables ≡ Some (table tree) → nat_le (2 ^ 31) (table tree).tree ≡ false
       → accepts_program schema [] (query_with (table tree).tree (outs at tree) tests' order) values ≡ true
 
+-- the database has the table, in some tree, whether or not a foreign key refers to it
+abbrev pub CanRead : (ℕ → Table) → Database → Type 0
+CanRead table db = (at : ℕ) × (tree : ℕ) × CanSelect db.schema at (table tree)
+
+abbrev pub can_read : (table : ℕ → Table) (db : Database) → Has table db → CanRead table db
+can_read table db has = (has.0, has.1, can_select db.schema has.0 (table has.1) has.2)
+
+pub rows_read : (schema : Schema) (at : ℕ) (table : Table) → CanSelect schema at table → (trees : Trees) → rows_of table.name (record { schema = schema; trees = trees }) ≡ map (shown table) (trees table.tree)
+rows_read schema at table has trees = let named = has.named in let is = has.is in rw (named, is) refl
+
 pub read_rows : (schema : Schema) (at : ℕ) (table : Table) → HasTable schema at table → (trees : Trees) → rows_of table.name (record { schema = schema; trees = trees }) ≡ map (shown table) (trees table.tree)
-read_rows schema at table has trees = let named = has.named in let is = has.is in rw (named, is) refl
+read_rows schema at table has = rows_read schema at table (can_select schema at table has)
 
 module _ (text : List ℕ) (p : Parsed) (table : ℕ → Table) (outs : ℕ → ℕ → List Output) (tests' : List Term) (order : List (Term × Key)) (q : IsQuery text p table outs tests' order) where
-  module _ (schema : Schema) (at tree : ℕ) (has : HasTable schema at (table tree)) where
+  module _ (schema : Schema) (at tree : ℕ) (has : CanSelect schema at (table tree)) where
     reads_command : command_of (understood schema text) ≡ command_with (table tree).tree (outs at tree) tests' order
     reads_command = rw (q.means schema at tree has) refl
 
-    pub is_plain : IsPlain (understood schema text)
-    is_plain = rw (q.means schema at tree has) (refl, refl)
+    plain_read : IsPlain (understood schema text)
+    plain_read = rw (q.means schema at tree has) (refl, refl)
+
+  pub is_plain : (schema : Schema) (at tree : ℕ) → HasTable schema at (table tree) → IsPlain (understood schema text)
+  is_plain schema at tree has = plain_read schema at tree (can_select schema at (table tree) has)
 
   -- ---- the answer
 
@@ -91,20 +104,24 @@ module _ (text : List ℕ) (p : Parsed) (table : ℕ → Table) (outs : ℕ → 
         let up = sorts (table tree).tree tests' project order params (show tree) (λ row. map (column row) columns) (s.shows at tree params) (s.keyed tree params) trees rows a in
         (same, in_order rows up)
 
-    pub shown_answers : (old new : State) (rows : List Row) (has : Has table old.now) → Shown text params old new rows → Answers has.1 old.now.trees rows × IsUnchanged old new
+    pub read_answers : (old new : State) (rows : List Row) (has : CanRead table old.now) → Shown text params old new rows → Answers has.1 old.now.trees rows × IsUnchanged old new
     unfolding Shown
-    shown_answers old new rows has h =
+    read_answers old new rows has h =
         let at = has.0 in
         let tree = has.1 in
         let schema = old.now.schema in
-        let read = reads_as text params old new schema refl (command_with (table tree).tree (outs at tree) tests' order) (reads_command schema at tree has.2) (is_plain schema at tree has.2) (q.unlisted schema at tree has.2) rows h in
-        let bare = subst IsPlain h.1.is (is_plain schema at tree has.2) in
+        let read = reads_as text params old new schema refl (command_with (table tree).tree (outs at tree) tests' order) (reads_command schema at tree has.2) (plain_read schema at tree has.2) (q.unlisted schema at tree has.2) rows h in
+        let bare = subst IsPlain h.1.is (plain_read schema at tree has.2) in
         let it = subst (ShowsRows old new text h.0 (timed params h.0.formats h.1.now) rows) bare.0 h.2 in
         (answered at tree old.now.trees rows (read.answer Null), it.3)
 
+    pub shown_answers : (old new : State) (rows : List Row) (has : Has table old.now) → Shown text params old new rows → Answers has.1 old.now.trees rows × IsUnchanged old new
+    unfolding Shown
+    shown_answers old new rows has = read_answers old new rows (can_read table old.now has)
+
   -- ---- its refusals
 
-  module _ (schema : Schema) (has : (at : ℕ) × (tree : ℕ) × HasTable schema at (table tree)) where
+  module _ (schema : Schema) (has : (at : ℕ) × (tree : ℕ) × CanSelect schema at (table tree)) where
     abbrev it : Compiled
     it = with_command p ([], (command_with (table has.1).tree (outs has.0 has.1) tests' order, None))
 
@@ -115,11 +132,14 @@ module _ (text : List ℕ) (p : Parsed) (table : ℕ → Table) (outs : ℕ → 
     is_it c is = same_value (sym is ∙ means)
 
     -- no recursion is in it
-    pub ends_in : (c : Compiled) → understood schema text ≡ Ok c → (db : Database) (params : Row) → EndsIn c.command db params
-    ends_in c is db params = subst (λ (k : Compiled). EndsIn k.command db params) (sym (is_it c is)) tt
+    ends_reading : (c : Compiled) → understood schema text ≡ Ok c → (db : Database) (params : Row) → EndsIn c.command db params
+    ends_reading c is db params = subst (λ (k : Compiled). EndsIn k.command db params) (sym (is_it c is)) tt
+
+  pub ends_in : (schema : Schema) → ((at : ℕ) × (tree : ℕ) × HasTable schema at (table tree)) → (c : Compiled) → understood schema text ≡ Ok c → (db : Database) (params : Row) → EndsIn c.command db params
+  ends_in schema has = ends_reading schema (has.0, has.1, can_select schema has.0 (table has.1) has.2)
 
   module _ (values : Row) (w : TakesValues text p table outs tests' order values) (old new : State) where
-    module _ (has : Has table old.now) where
+    module _ (has : CanRead table old.now) where
       abbrev this : Compiled
       this = it old.now.schema has
 
@@ -151,14 +171,17 @@ module _ (text : List ℕ) (p : Parsed) (table : ℕ → Table) (outs : ℕ → 
       open_fails e (inl (inr f)) = inl f
       open_fails e (inr h) =
           let same = is_it old.now.schema has h.0 h.1.is in
-          let bare = subst IsPlain h.1.is (is_plain old.now.schema has.0 has.1 has.2) in
+          let bare = subst IsPlain h.1.is (plain_read old.now.schema has.0 has.1 has.2) in
           let shown = rw (bare.1, append-nil values) at (subst (FailsToShow old new text h.0 (timed values h.0.formats h.1.now) e) bare.0 h.2) in
           let db : shown.0 ≡ old.now = subst (λ b. IsSourceOf b old.now shown.0) (q.unlisted old.now.schema has.0 has.1 has.2) shown.1 in
           let stop = stopped e (subst₂ (λ (c : Compiled) d. RefusesToRead old.step_limit c.command d values e) same db shown.2) in
           inr (stop.0, stop.1, shown.3)
 
-    pub query_fails : (IsTrue old.is_open → Has table old.now) → (e : Error) → FailsToQuery text values old new e → FailsToRead old new e
-    query_fails has e h = elim (cases_Bool old.is_open) [
+    pub read_fails : (IsTrue old.is_open → CanRead table old.now) → (e : Error) → FailsToQuery text values old new e → FailsToRead old new e
+    read_fails has e h = elim (cases_Bool old.is_open) [
       | inl open' ↦ open_fails (has open') e h
       | inr shut ↦ shut_query text p q.select q.read q.statement old new values e shut h
     ]
+
+    pub query_fails : (IsTrue old.is_open → Has table old.now) → (e : Error) → FailsToQuery text values old new e → FailsToRead old new e
+    query_fails has = read_fails (λ open'. can_read table old.now (has open'))

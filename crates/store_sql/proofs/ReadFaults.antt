@@ -26,7 +26,7 @@ use Rattle.store_sql.specs.Effects.{Has}
 use Rattle.store_sql.specs.Reads.{FailsToRead, select_mark, select_item, select_member, select_edition, select_entry, select_kept, select_one_edition, select_some_entries, select_one_kept}
 use Rattle.store_sql.proofs.ReadLemmas.{query_over, outputs_of}
 use Rattle.store_sql.proofs.ReadTexts.{ReadsTable, key_at, test_one_edition, test_some_entries, test_one_kept, read_mark, read_item, read_member, read_edition, read_entry, read_kept, read_one_edition, read_some_entries, read_one_kept}
-use Rattle.store_sql.proofs.QueryLemmas.{IsQuery, TakesValues, ends_in, query_fails}
+use Rattle.store_sql.proofs.QueryLemmas.{IsQuery, TakesValues, CanRead, can_read, ends_in, query_fails, read_fails}
 use Rattle.store_sql.proofs.ListingLemmas.{query}
 
 -- the text is one statement, and takes these values
@@ -97,10 +97,14 @@ module _ (text : List ℕ) (p : Parsed) (table : ℕ → Table) (condition : Opt
     pub takes_values : TakesValues text p table outs tests' order (given x)
     takes_values = record { whole = w.whole; names = w.names x; typed = λ schema at tree alone low. w.typed schema at tree alone low x }
 
+    -- the whole list that is asked of it
+    pub list_fails : (old new : State) → (IsTrue old.is_open → CanRead table old.now) → (result : Result (Vec Row Global) Error) → IfErr result (FailsToQuery text (given x) old new) → IfErr result (FailsToRead old new)
+    list_fails old new has (Ok rows) h = tt
+    list_fails old new has (Err e) h = read_fails text p table outs tests' order is_query (given x) takes_values old new has e h
+
     module _ (old new : State) (has : IsTrue old.is_open → Has table old.now) where
       pub fails_read : (e : Error) → FailsToQuery text (given x) old new e → FailsToRead old new e
       fails_read = query_fails text p table outs tests' order is_query (given x) takes_values old new has
 
       pub fails_to_list : (result : Result (Vec Row Global) Error) → IfErr result (FailsToQuery text (given x) old new) → IfErr result (FailsToRead old new)
-      fails_to_list (Ok rows) h = tt
-      fails_to_list (Err e) h = fails_read e h
+      fails_to_list = list_fails old new (λ open'. can_read table old.now (has open'))

@@ -1,5 +1,5 @@
 -- What `SELECT columns FROM table WHERE .. ORDER BY ..` stands for, over any schema that has the table, level by level of the resolver; above all with `rowid, *`.
-use Rattle.std.proofs.Common.{◌≡◌, ℕ, ◌-◌, ◌^◌, pos, negsuc, List, [], ◌∷◌, map, length, codes, Bool, true, false, Some, None, Option, Ok, refl, slice_get, nat_lt, unwrap_or, option_map, option_and_then}
+use Rattle.std.proofs.Common.{◌≡◌, ◌<◌, ◌==◌, ℕ, ◌-◌, ◌^◌, find, pos, negsuc, List, [], ◌∷◌, map, length, codes, Bool, true, false, Some, None, Option, Ok, refl, ap, slice_get, nat_lt, unwrap_or, option_map, option_and_then}
 use Rattle.std.proofs.lemmas.Bool.{lt-ltb}
 use Rattle.sqlite.specs.Term.{Term, lit, col}
 use Rattle.sqlite.specs.Table.{Table}
@@ -156,6 +156,11 @@ module _ (shows : List Shown) (name : Name) (test : Option Expr) (order : List S
   unfolding everything select_with
   out_offset = refl
 
+pub out_order : (shows : List Shown) (name : Name) (test : Option Expr) (order : List Sort) → (out-Select (select_with shows name test order)).order ≡ order
+unfolding everything select_with
+out_order shows name test [] = refl
+out_order shows name test (s ∷ order) = ap (λ rest. s ∷ rest) (out_order shows name test order)
+
 -- what is collected, where no step and no aggregate is needed
 abbrev pub plainly : ℕ → Carried → State
 plainly budget carried = record { next = 2; steps = []; aggregates = []; budget = budget; written = None; last = carried }
@@ -194,9 +199,19 @@ level_of at table = record { tables = bound_in at table ∷ []; shown = [] }
 abbrev pub left_of : ℕ → State
 left_of budget = record (fresh 2 max_budget) { budget = budget }
 
+-- The schema has the table at this place of its list, the first in its tree, whose number is within the bound of every tree's. A foreign key may refer to it.
+pub record CanSelect (schema : Schema) (at : ℕ) (table : Table) : Type 0 where
+  pub named : table_named schema table.name ≡ Some at
+  pub is : slice_get schema.tables at ≡ Some table
+  pub alone : find (λ t. t.tree == table.tree) schema.tables ≡ Some table
+  pub stored : table.tree < 2 ^ 31
+
+pub can_select : (schema : Schema) (at : ℕ) (table : Table) → HasTable schema at table → CanSelect schema at table
+can_select schema at table has = record { named = has.named; is = has.is; alone = has.alone; stored = has.stored }
+
 -- ---- the levels, up to the columns
 
-module _ (schema : Schema) (at : ℕ) (table : Table) (has : HasTable schema at table) (no_rowid : column_named table (codes "rowid") ≡ None) (shows : List Output) (may_aggregate may_alias : Bool) where
+module _ (schema : Schema) (at : ℕ) (table : Table) (has : CanSelect schema at table) (no_rowid : column_named table (codes "rowid") ≡ None) (shows : List Output) (may_aggregate may_alias : Bool) where
   abbrev early : Context
   early = context_of schema at table shows may_aggregate may_alias
 
@@ -214,7 +229,7 @@ module _ (schema : Schema) (at : ℕ) (table : Table) (has : HasTable schema at 
   heading_is = let is = has.is in let stored = lt-ltb table.tree (2 ^ 31) has.stored in rw (out_rowid, is, no_rowid, stored) (rw is refl)
 
 -- `rowid, *`
-module _ (schema : Schema) (at : ℕ) (table : Table) (has : HasTable schema at table) (no_rowid : column_named table (codes "rowid") ≡ None) (few : nat_lt 2000 (length (outputs_of at table)) ≡ false)
+module _ (schema : Schema) (at : ℕ) (table : Table) (has : CanSelect schema at table) (no_rowid : column_named table (codes "rowid") ≡ None) (few : nat_lt 2000 (length (outputs_of at table)) ≡ false)
     (some : nat_lt 1 (length (outputs_of at table)) ≡ true) where
   stars_are : stars schema None (rowid_output table ∷ []) (bound_in at table ∷ []) ≡ Ok (outputs_of at table)
   unfolding stars columns_of
@@ -226,7 +241,7 @@ module _ (schema : Schema) (at : ℕ) (table : Table) (has : HasTable schema at 
 
 -- ---- the levels, whichever columns are shown
 
-module _ (schema : Schema) (at : ℕ) (table : Table) (has : HasTable schema at table) (shows : List Shown) (outs : List Output) (budget : ℕ) (test : Option Expr)
+module _ (schema : Schema) (at : ℕ) (table : Table) (has : CanSelect schema at table) (shows : List Shown) (outs : List Output) (budget : ℕ) (test : Option Expr)
     (result_is : result lower (outermost schema) (level_of at table) (core_with shows table.name test) (fresh 2 max_budget) ≡ Ok (outs, left_of budget)) where
   abbrev named : table_named schema table.name ≡ Some at
   named = has.named

@@ -16,7 +16,6 @@ use Rattle.sqlite_syntax.specs.declared.statement.Parsed.{Parsed}
 use Rattle.sqlite_ast.specs.declared.Statement.TheVariants as written
 use Rattle.sqlite_ast.specs.declared.Expr.{Expr, roll-Expr}
 use Rattle.sqlite_ast.specs.declared.Expr.TheOpen.{Expr-F}
-use Rattle.sqlite_ast.specs.declared.Select.{out-Select}
 use Rattle.sqlite_ast.specs.declared.Sort.{Sort, roll-Sort}
 use Rattle.sqlite_resolve.specs.Lowering.{fresh, max_budget, nothing}
 use Rattle.sqlite_typing.specs.Types.{accepts_program}
@@ -46,7 +45,6 @@ pub record ReadsTable (text : List ℕ) (p : Parsed) (table : ℕ → Table) (co
   pub read : first text ≡ Ok p
   pub statement : (tree : ℕ) → p.statement ≡ written.Select (select_of (table tree).name condition sorted)
   pub formats : p.formats ≡ []
-  pub orders : (tree : ℕ) → (out-Select (select_of (table tree).name condition sorted)).order ≡ sorted
   pub no_rowid : (tree : ℕ) → column_named (table tree) (codes "rowid") ≡ None
   pub few : (at tree : ℕ) → nat_lt 2000 (length (outputs_of at (table tree))) ≡ false
   pub some : (at tree : ℕ) → nat_lt 1 (length (outputs_of at (table tree))) ≡ true
@@ -59,27 +57,45 @@ pub record ReadsTable (text : List ℕ) (p : Parsed) (table : ℕ → Table) (co
   pub accepted : (schema : Schema) (at tree : ℕ) → find (λ t. t.tree == (table tree).tree) schema.tables ≡ Some (table tree) → nat_le (2 ^ 31) (table tree).tree ≡ false
       → accepts_program schema [] (query_over at (table tree) filter order) [] ≡ true
 
+-- each part of it computes
+pub reads_table : {text : List ℕ} {p : Parsed} {table : ℕ → Table} {condition : Option Expr} {filter : List Term} {left : ℕ} {sorted : List Sort} {order : List (Term × Key)} {columns : List ℕ} {rest : ℕ} {last : Carried}
+    → first text ≡ Ok p
+    → ((tree : ℕ) → p.statement ≡ written.Select (select_of (table tree).name condition sorted))
+    → p.formats ≡ []
+    → ((tree : ℕ) → column_named (table tree) (codes "rowid") ≡ None)
+    → ((at tree : ℕ) → nat_lt 2000 (length (outputs_of at (table tree))) ≡ false)
+    → ((at tree : ℕ) → nat_lt 1 (length (outputs_of at (table tree))) ≡ true)
+    → ((schema : Schema) (at tree : ℕ) → slice_get schema.tables at ≡ Some (table tree)
+    → tests lower (context_of schema at (table tree) (outputs_of at (table tree)) false true) [] condition (record (fresh 2 max_budget) { budget = max_budget - 1 }) ≡ Ok (filter, plainly left nothing))
+    → ((schema : Schema) (at tree : ℕ) → sorts lower (context_of schema at (table tree) (outputs_of at (table tree)) false true) (outputs_of at (table tree)) sorted (plainly left nothing) ≡ Ok (order, plainly rest last))
+    → ((at tree : ℕ) (params r : Row) → eval_all (query_over at (table tree) filter order).project (params ∷ r ∷ []) ≡ shown (table tree) r)
+    → ((tree : ℕ) (params r : Row) → eval_all (map (λ (k : Term × Key). k.0) order) (params ∷ r ∷ []) ≡ map (column (shown (table tree) r)) columns)
+    → ((a b : Row) → key_cmp 0 (map (λ (k : Term × Key). k.1) order) (map (column a) columns) (map (column b) columns) ≡ by_columns columns a b)
+    → ((schema : Schema) (at tree : ℕ) → find (λ t. t.tree == (table tree).tree) schema.tables ≡ Some (table tree) → nat_le (2 ^ 31) (table tree).tree ≡ false → accepts_program schema [] (query_over at (table tree) filter order) [] ≡ true)
+    → ReadsTable text p table condition filter left sorted order columns rest last
+reads_table read statement formats no_rowid few some tests sorts shows keyed compares accepted = record {
+  read = read;
+  statement = statement;
+  formats = formats;
+  no_rowid = no_rowid;
+  few = few;
+  some = some;
+  tests = tests;
+  sorts = sorts;
+  shows = shows;
+  keyed = keyed;
+  compares = compares;
+  accepted = accepted;
+}
+
 unfoldable pub read_mark : Parsed
 unfolding everything
 read_mark = parsed_or (first select_mark)
 
 pub reads_mark : ReadsTable select_mark read_mark mark None [] 99999 (sort_by (codes "2") ∷ []) (key_at 0 ∷ []) (1 ∷ []) 99997 nothing
 unfolding everything read_mark rowid_expr rowid_shown all_shown source_of core_of select_of sort_by
-reads_mark = record {
-  read = refl;
-  statement = λ tree. refl;
-  formats = refl;
-  orders = λ tree. refl;
-  no_rowid = λ tree. refl;
-  few = λ at tree. refl;
-  some = λ at tree. refl;
-  tests = λ schema at tree is. refl;
-  sorts = λ schema at tree. refl;
-  shows = λ at tree params r. refl;
-  keyed = λ tree params r. refl;
-  compares = λ a b. refl;
-  accepted = λ schema at tree alone low. rw (low, alone) refl;
-}
+reads_mark = reads_table refl (λ tree. refl) refl (λ tree. refl) (λ at tree. refl) (λ at tree. refl)
+    (λ schema at tree is. refl) (λ schema at tree. refl) (λ at tree params r. refl) (λ tree params r. refl) (λ a b. refl) (λ schema at tree alone low. rw (low, alone) refl)
 
 unfoldable pub read_item : Parsed
 unfolding everything
@@ -87,21 +103,8 @@ read_item = parsed_or (first select_item)
 
 pub reads_item : ReadsTable select_item read_item item None [] 99999 (sort_by (codes "2") ∷ []) (key_at 0 ∷ []) (1 ∷ []) 99997 nothing
 unfolding everything read_item rowid_expr rowid_shown all_shown source_of core_of select_of sort_by
-reads_item = record {
-  read = refl;
-  statement = λ tree. refl;
-  formats = refl;
-  orders = λ tree. refl;
-  no_rowid = λ tree. refl;
-  few = λ at tree. refl;
-  some = λ at tree. refl;
-  tests = λ schema at tree is. refl;
-  sorts = λ schema at tree. refl;
-  shows = λ at tree params r. refl;
-  keyed = λ tree params r. refl;
-  compares = λ a b. refl;
-  accepted = λ schema at tree alone low. rw (low, alone) refl;
-}
+reads_item = reads_table refl (λ tree. refl) refl (λ tree. refl) (λ at tree. refl) (λ at tree. refl)
+    (λ schema at tree is. refl) (λ schema at tree. refl) (λ at tree params r. refl) (λ tree params r. refl) (λ a b. refl) (λ schema at tree alone low. rw (low, alone) refl)
 
 unfoldable pub read_member : Parsed
 unfolding everything
@@ -109,21 +112,8 @@ read_member = parsed_or (first select_member)
 
 pub reads_member : ReadsTable select_member read_member member None [] 99999 (sort_by (codes "2") ∷ sort_by (codes "3") ∷ []) (key_at 1 ∷ key_at 2 ∷ []) (1 ∷ 2 ∷ []) 99995 of_column
 unfolding everything read_member rowid_expr rowid_shown all_shown source_of core_of select_of sort_by
-reads_member = record {
-  read = refl;
-  statement = λ tree. refl;
-  formats = refl;
-  orders = λ tree. refl;
-  no_rowid = λ tree. refl;
-  few = λ at tree. refl;
-  some = λ at tree. refl;
-  tests = λ schema at tree is. refl;
-  sorts = λ schema at tree. refl;
-  shows = λ at tree params r. refl;
-  keyed = λ tree params r. refl;
-  compares = λ a b. refl;
-  accepted = λ schema at tree alone low. rw (low, alone) refl;
-}
+reads_member = reads_table refl (λ tree. refl) refl (λ tree. refl) (λ at tree. refl) (λ at tree. refl)
+    (λ schema at tree is. refl) (λ schema at tree. refl) (λ at tree params r. refl) (λ tree params r. refl) (λ a b. refl) (λ schema at tree alone low. rw (low, alone) refl)
 
 unfoldable pub read_edition : Parsed
 unfolding everything
@@ -131,21 +121,8 @@ read_edition = parsed_or (first select_edition)
 
 pub reads_edition : ReadsTable select_edition read_edition edition None [] 99999 (sort_by (codes "2") ∷ []) (key_at 0 ∷ []) (1 ∷ []) 99997 nothing
 unfolding everything read_edition rowid_expr rowid_shown all_shown source_of core_of select_of sort_by
-reads_edition = record {
-  read = refl;
-  statement = λ tree. refl;
-  formats = refl;
-  orders = λ tree. refl;
-  no_rowid = λ tree. refl;
-  few = λ at tree. refl;
-  some = λ at tree. refl;
-  tests = λ schema at tree is. refl;
-  sorts = λ schema at tree. refl;
-  shows = λ at tree params r. refl;
-  keyed = λ tree params r. refl;
-  compares = λ a b. refl;
-  accepted = λ schema at tree alone low. rw (low, alone) refl;
-}
+reads_edition = reads_table refl (λ tree. refl) refl (λ tree. refl) (λ at tree. refl) (λ at tree. refl)
+    (λ schema at tree is. refl) (λ schema at tree. refl) (λ at tree params r. refl) (λ tree params r. refl) (λ a b. refl) (λ schema at tree alone low. rw (low, alone) refl)
 
 unfoldable pub read_entry : Parsed
 unfolding everything
@@ -153,21 +130,8 @@ read_entry = parsed_or (first select_entry)
 
 pub reads_entry : ReadsTable select_entry read_entry entry None [] 99999 (sort_by (codes "2") ∷ sort_by (codes "3") ∷ []) (key_at 1 ∷ key_at 2 ∷ []) (1 ∷ 2 ∷ []) 99995 of_column
 unfolding everything read_entry rowid_expr rowid_shown all_shown source_of core_of select_of sort_by
-reads_entry = record {
-  read = refl;
-  statement = λ tree. refl;
-  formats = refl;
-  orders = λ tree. refl;
-  no_rowid = λ tree. refl;
-  few = λ at tree. refl;
-  some = λ at tree. refl;
-  tests = λ schema at tree is. refl;
-  sorts = λ schema at tree. refl;
-  shows = λ at tree params r. refl;
-  keyed = λ tree params r. refl;
-  compares = λ a b. refl;
-  accepted = λ schema at tree alone low. rw (low, alone) refl;
-}
+reads_entry = reads_table refl (λ tree. refl) refl (λ tree. refl) (λ at tree. refl) (λ at tree. refl)
+    (λ schema at tree is. refl) (λ schema at tree. refl) (λ at tree params r. refl) (λ tree params r. refl) (λ a b. refl) (λ schema at tree alone low. rw (low, alone) refl)
 
 unfoldable pub read_kept : Parsed
 unfolding everything
@@ -175,21 +139,8 @@ read_kept = parsed_or (first select_kept)
 
 pub reads_kept : ReadsTable select_kept read_kept kept None [] 99999 (sort_by (codes "3") ∷ []) (key_at 2 ∷ []) (2 ∷ []) 99997 of_column
 unfolding everything read_kept rowid_expr rowid_shown all_shown source_of core_of select_of sort_by
-reads_kept = record {
-  read = refl;
-  statement = λ tree. refl;
-  formats = refl;
-  orders = λ tree. refl;
-  no_rowid = λ tree. refl;
-  few = λ at tree. refl;
-  some = λ at tree. refl;
-  tests = λ schema at tree is. refl;
-  sorts = λ schema at tree. refl;
-  shows = λ at tree params r. refl;
-  keyed = λ tree params r. refl;
-  compares = λ a b. refl;
-  accepted = λ schema at tree alone low. rw (low, alone) refl;
-}
+reads_kept = reads_table refl (λ tree. refl) refl (λ tree. refl) (λ at tree. refl) (λ at tree. refl)
+    (λ schema at tree is. refl) (λ schema at tree. refl) (λ at tree params r. refl) (λ tree params r. refl) (λ a b. refl) (λ schema at tree alone low. rw (low, alone) refl)
 
 unfoldable pub read_one_edition : Parsed
 unfolding everything
@@ -204,7 +155,6 @@ reads_one_edition = record {
   read = refl;
   statement = λ tree. refl;
   formats = refl;
-  orders = λ tree. refl;
   no_rowid = λ tree. refl;
   few = λ at tree. refl;
   some = λ at tree. refl;
@@ -229,7 +179,6 @@ reads_some_entries = record {
   read = refl;
   statement = λ tree. refl;
   formats = refl;
-  orders = λ tree. refl;
   no_rowid = λ tree. refl;
   few = λ at tree. refl;
   some = λ at tree. refl;
@@ -254,7 +203,6 @@ reads_one_kept = record {
   read = refl;
   statement = λ tree. refl;
   formats = refl;
-  orders = λ tree. refl;
   no_rowid = λ tree. refl;
   few = λ at tree. refl;
   some = λ at tree. refl;

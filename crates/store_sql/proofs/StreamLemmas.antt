@@ -42,9 +42,7 @@ use Rattle.store_sql.proofs.NumberTexts.{read_numbers, numbers_of, query_numbers
 use Rattle.store_sql.proofs.QueryLemmas.{IsQuery, TakesValues, is_plain, ends_in, query_fails}
 use Rattle.store_sql.proofs.ReadTexts.{ReadsTable, key_at, read_edition, reads_edition, read_entry, reads_entry, read_some_entries, reads_some_entries, read_kept, reads_kept}
 use Rattle.store_sql.proofs.ReadFaults.{Takes, nothing, a_number, takes_values, takes_edition, takes_entry, takes_some_entries, takes_kept}
-use Rattle.store_sql.proofs.RowidTexts.{read_kept_by_id, reads_kept_by_id, takes_kept_by_id, read_mark_by_rowid, reads_mark_by_rowid, takes_mark_by_rowid, read_item_by_rowid, reads_item_by_rowid, takes_item_by_rowid}
-use Rattle.store_sql.proofs.RowidTexts.{read_member_by_rowid, reads_member_by_rowid, takes_member_by_rowid, read_edition_by_rowid, reads_edition_by_rowid, takes_edition_by_rowid, read_entry_by_rowid}
-use Rattle.store_sql.proofs.RowidTexts.{reads_entry_by_rowid, takes_entry_by_rowid, read_kept_by_rowid, reads_kept_by_rowid, takes_kept_by_rowid}
+use Rattle.store_sql.proofs.RowidTexts.{read_kept_by_id, reads_kept_by_id, takes_kept_by_id, read_by_rowid, reads_by_rowid, takes_by_rowid}
 use Rattle.store_sql.proofs.ListingLemmas.{all_pass, outs, query, shown_selects, entry_read}
 
 -- the text of the scan, and what it answers
@@ -93,12 +91,12 @@ reads AllEntries = table_scan AllEntries read_entry _ _ _ _ _ _ _ _ reads_entry 
 reads (EntriesOf n) = reads_some n
 reads AllKept = table_scan AllKept read_kept _ _ _ _ _ _ _ _ reads_kept (λ tree. refl) refl (λ tree row. refl) (λ db rows h. h) takes_kept
 reads KeptById = table_scan KeptById read_kept_by_id _ _ _ _ _ _ _ _ reads_kept_by_id (λ tree. refl) refl (λ tree row. refl) (λ db rows h. h) takes_kept_by_id
-reads (ByRowid Mark) = table_scan (ByRowid Mark) read_mark_by_rowid _ _ _ _ _ _ _ _ reads_mark_by_rowid (λ tree. refl) refl (λ tree row. refl) (λ db rows h. h) takes_mark_by_rowid
-reads (ByRowid Item) = table_scan (ByRowid Item) read_item_by_rowid _ _ _ _ _ _ _ _ reads_item_by_rowid (λ tree. refl) refl (λ tree row. refl) (λ db rows h. h) takes_item_by_rowid
-reads (ByRowid Member) = table_scan (ByRowid Member) read_member_by_rowid _ _ _ _ _ _ _ _ reads_member_by_rowid (λ tree. refl) refl (λ tree row. refl) (λ db rows h. h) takes_member_by_rowid
-reads (ByRowid Edition) = table_scan (ByRowid Edition) read_edition_by_rowid _ _ _ _ _ _ _ _ reads_edition_by_rowid (λ tree. refl) refl (λ tree row. refl) (λ db rows h. h) takes_edition_by_rowid
-reads (ByRowid Entry) = table_scan (ByRowid Entry) read_entry_by_rowid _ _ _ _ _ _ _ _ reads_entry_by_rowid (λ tree. refl) refl (λ tree row. refl) (λ db rows h. h) takes_entry_by_rowid
-reads (ByRowid Kept) = table_scan (ByRowid Kept) read_kept_by_rowid _ _ _ _ _ _ _ _ reads_kept_by_rowid (λ tree. refl) refl (λ tree row. refl) (λ db rows h. h) takes_kept_by_rowid
+reads (ByRowid Mark) = table_scan (ByRowid Mark) (read_by_rowid Mark) _ _ _ _ _ _ _ _ (reads_by_rowid Mark) (λ tree. refl) refl (λ tree row. refl) (λ db rows h. h) (takes_by_rowid Mark)
+reads (ByRowid Item) = table_scan (ByRowid Item) (read_by_rowid Item) _ _ _ _ _ _ _ _ (reads_by_rowid Item) (λ tree. refl) refl (λ tree row. refl) (λ db rows h. h) (takes_by_rowid Item)
+reads (ByRowid Member) = table_scan (ByRowid Member) (read_by_rowid Member) _ _ _ _ _ _ _ _ (reads_by_rowid Member) (λ tree. refl) refl (λ tree row. refl) (λ db rows h. h) (takes_by_rowid Member)
+reads (ByRowid Edition) = table_scan (ByRowid Edition) (read_by_rowid Edition) _ _ _ _ _ _ _ _ (reads_by_rowid Edition) (λ tree. refl) refl (λ tree row. refl) (λ db rows h. h) (takes_by_rowid Edition)
+reads (ByRowid Entry) = table_scan (ByRowid Entry) (read_by_rowid Entry) _ _ _ _ _ _ _ _ (reads_by_rowid Entry) (λ tree. refl) refl (λ tree row. refl) (λ db rows h. h) (takes_by_rowid Entry)
+reads (ByRowid Kept) = table_scan (ByRowid Kept) (read_by_rowid Kept) _ _ _ _ _ _ _ _ (reads_by_rowid Kept) (λ tree. refl) refl (λ tree row. refl) (λ db rows h. h) (takes_by_rowid Kept)
 reads EditionNumbers = record { parsed = read_numbers; outs = numbers_of; tests = []; order = key_at 0 ∷ []; query = query_numbers; takes = takes_numbers; shows = shows_numbering }
 
 module _ (what : Scan) where

@@ -9,14 +9,15 @@ ghost use Rattle.store_edition_sql.specs.HeaderTable.{header};
 
 use crate::checks::{holds, same_text};
 use crate::opened::open;
+use crate::rest::rest;
 use crate::texts::told;
-use sqlite::{Alter, Connection, Error, Rows};
+use sqlite::{Alter, Connection, Error};
 use std::alloc::Global;
 use std::process::Abort;
 use std::test::Fail;
 use store_edition_sql::{
     StoredHeader, create_header_table, delete_header, has_header_table, headers_numbered,
-    infos_numbered, insert_header, next_header, read_headers_by_rowid,
+    infos_numbered, insert_header, read_headers_by_rowid,
 };
 use store_records::HeaderRecord;
 use store_sql::records::ReadError;
@@ -82,18 +83,6 @@ fn change<S: Alter>(conn: &mut Connection<S>) -> Result<usize, Error>
     let taken = put_and_take(conn)?;
     commit_open(conn)?;
     Ok(taken)
-}
-
-// The headers that are still to come.
-fn rest<S: Alter>(alloc: Global, rows: &mut Rows<'_, S>) -> Result<Vec<StoredHeader>, ReadError> {
-    let mut all = Vec::new(alloc);
-    'rows: for _ in 0..100 {
-        match next_header(rows)? {
-            Some(header) => all.push(header)?,
-            None => break 'rows,
-        }
-    }
-    Ok(all)
 }
 
 fn all<S: Alter>(alloc: Global, conn: &mut Connection<S>) -> Result<Vec<StoredHeader>, ReadError> {

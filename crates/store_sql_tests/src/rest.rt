@@ -7,8 +7,8 @@ use std::fmt::Debug;
 use store_sql::records::{ReadError, Record};
 use store_sql::stream::next_record;
 
-// The records that are still to come.
-fn rest<S: Alter, R: Record + Drop>(
+/// The records that are still to come.
+pub(crate) fn rest<S: Alter, R: Record + Drop>(
     alloc: Global,
     rows: &mut Rows<'_, S>,
 ) -> Result<Vec<R>, ReadError> {

@@ -1,5 +1,6 @@
 //! Catalogues at the limits, and records with numbers and octets that no catalogue has.
 
+use super::readings::summary_of;
 use super::records::{
     Change, EditionRow, EntryRow, GEM, ItemRow, KeptRow, MarkRow, MemberRow, Rows, WHOLE, edition,
     empty, is_damaged_with, item, kept, member, put, put_all, says, summary_after,
@@ -8,7 +9,7 @@ use crate::checks::{holds, push, same};
 use std::alloc::{AllocError, Global};
 use std::process::Abort;
 use std::test::Fail;
-use store_rows::{RowsFault, summary_of};
+use store_rows::RowsFault;
 
 const MOST: i64 = 9_223_372_036_854_775_807;
 
@@ -89,11 +90,11 @@ fn look_at_a_size(
     }
     match wanted {
         None => {
-            let fault = summary_of(alloc, 1, &rows.tables()).err();
+            let fault = summary_of(alloc, rows).err();
             same(rt, &fault, &Some(RowsFault::Damaged));
         }
         Some(items) => {
-            let summary = summary_of(alloc, 1, &rows.tables())?;
+            let summary = summary_of(alloc, rows)?;
             same(rt, &summary.items.len(), &items);
             let (name, title) = if all.is_some() {
                 ("all", "All")
@@ -138,7 +139,7 @@ fn put_cut(
 fn is_damaged_cut(alloc: Global, number: i64, body: &[u8], cut: (i64, i64)) -> bool {
     let mut rows = empty(alloc);
     let put = put_cut(alloc, &mut rows, number, body, cut);
-    let fault = summary_of(alloc, 1, &rows.tables()).err();
+    let fault = summary_of(alloc, &rows).err();
     drop(rows);
     put.is_ok() && fault == Some(RowsFault::Damaged)
 }

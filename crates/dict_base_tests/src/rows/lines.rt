@@ -1,5 +1,6 @@
 //! Editions whose entries are read as the lines of an index.
 
+use super::readings::{begin, read_replies};
 use super::records::{EditionRow, GEM, ORE, Rows, WHOLE, edition, empty, put_all, says};
 use crate::checks::{holds, same};
 use dict_catalogue::Summary;
@@ -40,18 +41,11 @@ fn read_lines(
     Ok(())
 }
 
-fn begin(alloc: Global, rows: &Rows) -> Result<Reader, RowsFault> {
-    let tables = rows.tables();
-    Reader::begin(alloc, 1, tables.marks, tables.items, tables.members)
-}
-
 fn read_whole(alloc: Global, rows: &Rows) -> Result<Summary, RowsFault> {
     let mut reader = begin(alloc, rows)?;
     read_lines(alloc, &mut reader, ORE, &ORE_LINES)?;
     read_lines(alloc, &mut reader, GEM, &GEM_LINES)?;
-    for row in &rows.kept {
-        reader.kept(&row.value)?;
-    }
+    read_replies(&mut reader, rows)?;
     reader.finish()
 }
 

@@ -1,10 +1,11 @@
 //! The records of a catalogue with the databases `ore` and `gem` and the virtual database `all`.
 
+use super::readings::summary_of;
 use crate::checks::push;
 use dict_catalogue::{Item as CatalogueItem, Summary};
 use std::alloc::{AllocError, Global};
 use store_records::{EditionRecord, EntryRecord, ItemRecord, KeptRecord, Mark, Member, StoredRow};
-use store_rows::{EditionRows, RowsFault, Tables, summary_of};
+use store_rows::RowsFault;
 
 /// The magic, the version and the count of installs of a mark.
 #[derive(Clone, Copy)]
@@ -99,6 +100,13 @@ pub(crate) static WHOLE: [Change<'static>; 5] = [
     ]),
 ];
 
+/// The record of an edition, with those of its entries in the order of their places.
+#[derive(Drop)]
+pub(crate) struct EditionRows {
+    pub edition: StoredRow<EditionRecord<String, Vec<u8>>>,
+    pub entries: Vec<StoredRow<EntryRecord<String>>>,
+}
+
 /// The records of all tables.
 #[derive(Drop)]
 pub(crate) struct Rows {
@@ -107,18 +115,6 @@ pub(crate) struct Rows {
     pub members: Vec<StoredRow<Member<String>>>,
     pub editions: Vec<EditionRows>,
     pub kept: Vec<StoredRow<KeptRecord<String>>>,
-}
-
-impl Rows {
-    pub(crate) fn tables(&self) -> Tables<'_> {
-        Tables {
-            marks: self.marks.as_slice(),
-            items: self.items.as_slice(),
-            members: self.members.as_slice(),
-            editions: self.editions.as_slice(),
-            kept: self.kept.as_slice(),
-        }
-    }
 }
 
 pub(crate) fn mark(alloc: Global, row: MarkRow) -> Result<StoredRow<Mark<String>>, AllocError> {
@@ -314,7 +310,7 @@ pub(crate) fn summary_after(
     let mut rows = empty(alloc);
     put_all(alloc, &mut rows, changes)?;
     put_all(alloc, &mut rows, more)?;
-    summary_of(alloc, 1, &rows.tables())
+    summary_of(alloc, &rows)
 }
 
 /// Whether the records of the catalogue stand for none with this change.

@@ -3,7 +3,7 @@ use Rattle.std.specs.List.{AllByRecursion}
 use Rattle.dict_index.specs.Edition.{entry_in}
 use Rattle.dict_index.specs.Limits.{most_octets}
 use Rattle.dict_index.specs.WellFormed.{IsWellFormedEntry}
-use Rattle.store_commands.proofs.PlaceLemmas.{storable_lines}
+use Rattle.store_commands.proofs.LineLemmas.{storable_lines}
 use Rattle.store_commands.proofs.files.index_of.Goals as goal
 
 pub lines_of-requires : goal.lines_of-requires

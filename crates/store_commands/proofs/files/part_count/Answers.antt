@@ -1,5 +1,5 @@
 use Rattle.std.proofs.Common.{◌∙◌}
-use Rattle.store_commands.proofs.PlaceLemmas.{part_count_is}
+use Rattle.store_holdings.proofs.FilePlaceLemmas.{part_count_is}
 use Rattle.store_commands.proofs.files.part_count.Goals as goal
 
 pub returns-clause-count : goal.returns-clause-count

@@ -1,78 +1,47 @@
-use Rattle.std.proofs.Common.{◌≡◌, rules, sym, subst}
+use Rattle.std.proofs.Common.{rules}
 use Rattle.std.proofs.lemmas.Result.{on_ok_weaker}
-use Rattle.std.specs.Prelude.{IfErr}
-use Rattle.sqlite.specs.State.{HasCleanDisk}
 use Rattle.sqlite.specs.Held.{state}
-use Rattle.store_sql.specs.Reads.{FailsToRead}
-use Rattle.store_scans.specs.Reading.{OnlyReads, IsExcusedReading}
-use Rattle.store_scans.specs.Scans.{TakesAll, IsWrong}
-use Rattle.std.proofs.Common.{codes}
-use Rattle.sqlite.specs.Effect.{IsDatabase}
 use Rattle.store_tables.specs.Keyed.{old_entry}
 use Rattle.store_sql.specs.Effects.{Has}
+use Rattle.store_scans.specs.Scans.{TakesAll, IsWrong}
+use Rattle.std.proofs.Common.{codes}
 use Rattle.store_sql.specs.Keyed.{old_entry_columns, stored_old_entry}
 use Rattle.store_scans.specs.Cursors.Cursor.{OldEntriesByRowid}
 use Rattle.store_scans.proofs.CensusLemmas.{census_whole, census_wrong, selection_lists}
-use Rattle.store_scans.proofs.StateLemmas.{clean_before}
 use Rattle.store_scans.proofs.TypedLemmas.{old_readable}
 use Rattle.std.proofs.Common.{refl}
 use Rattle.store_scans.specs.Census.{TakesCensus, refuses_census}
-use Rattle.store_scans.proofs.BeginLemmas.{reads_on, whole_on, damaged_on}
+use Rattle.store_scans.proofs.BeginLemmas.{reads_on, whole_on, damaged_on, cause_on, found_live}
 use Rattle.store_scans.proofs.TakerLemmas.{if_err_then}
-use Rattle.store_scans.proofs.CauseLemmas.{cause_on, store_cause}
+use Rattle.store_scans.proofs.CauseLemmas.{told_cause}
 use Rattle.store_scans.proofs.census.test_old_rows.Goals as goal
 
 pub returns-clause-reads : goal.returns-clause-reads
 returns-clause-reads g c =
-    let old = c.args.conn.now in
-    let mid = c.in-Ok.rows.conn.now in
-    let end = c.take_all.new.rows.conn.now in
-    let same : end ≡ c.conn-2-1.given.0 = search rules in
-    subst (λ h. OnlyReads (state g.S.Store old) (state g.S.Store h)) same
-    (reads_on g.S.Store OldEntriesByRowid old mid end c.in-Ok.ensures.begun c.take_all.ensures.survives c.in-Ok.ensures.mode c.in-Ok.ensures.survives c.take_all.ensures.mode c.take_all.ensures.stays)
+    reads_on g.S.Store OldEntriesByRowid c.args.conn.now c.in-Ok.rows.conn.now c.take_all.new.rows.conn.now c.conn-2-1.given.0 (search rules) c.in-Ok.ensures.begun c.take_all.ensures.survives c.in-Ok.ensures.mode c.in-Ok.ensures.survives
+    c.take_all.ensures.mode c.take_all.ensures.stays
 
 pub returns-clause-whole : goal.returns-clause-whole
 returns-clause-whole g c clean =
-    let old = c.args.conn.now in
-    let mid = c.in-Ok.rows.conn.now in
-    let end = c.take_all.new.rows.conn.now in
-    let same : end ≡ c.conn-2-1.given.0 = search rules in
-    let late : HasCleanDisk (state g.S.Store end) = subst (λ h. HasCleanDisk (state g.S.Store h)) (sym same) clean in
-    on_ok_weaker c.take_all.result (λ all. census_whole stored_old_entry old_entry_columns OldEntriesByRowid (codes "entry") (state g.S.Store old).now c.args.numbers.now (record { numbers = c.args.numbers; rowids = c.new.result })
-    refl c.new.ensures (λ rows h. selection_lists (codes "entry") (state g.S.Store old).now rows h) c.take_all.new.taker all)
-    (whole_on g.S.Store OldEntriesByRowid old mid end c.in-Ok.ensures.begun c.take_all.ensures.survives c.take_all.result
-    (λ what db. TakesAll stored_old_entry (TakesCensus stored_old_entry) what db (record { numbers = c.args.numbers; rowids = c.new.result }) c.take_all.new.taker) c.take_all.ensures.whole late)
+    on_ok_weaker c.take_all.result (λ all. census_whole stored_old_entry old_entry_columns OldEntriesByRowid (codes "entry") (state g.S.Store c.args.conn.now).now c.args.numbers.now
+    (record { numbers = c.args.numbers; rowids = c.new.result }) refl c.new.ensures (λ rows h. selection_lists (codes "entry") (state g.S.Store c.args.conn.now).now rows h) c.take_all.new.taker all)
+    (whole_on g.S.Store OldEntriesByRowid c.args.conn.now c.in-Ok.rows.conn.now c.take_all.new.rows.conn.now c.conn-2-1.given.0 (search rules) c.in-Ok.ensures.begun c.take_all.ensures.survives c.take_all.result
+    (λ what db. TakesAll stored_old_entry (TakesCensus stored_old_entry) what db (record { numbers = c.args.numbers; rowids = c.new.result }) c.take_all.new.taker) c.take_all.ensures.whole clean)
 
 pub returns-clause-damaged : goal.returns-clause-damaged
 returns-clause-damaged g c clean =
-    let old = c.args.conn.now in
-    let mid = c.in-Ok.rows.conn.now in
-    let end = c.take_all.new.rows.conn.now in
-    let same : end ≡ c.conn-2-1.given.0 = search rules in
-    let late : HasCleanDisk (state g.S.Store end) = subst (λ h. HasCleanDisk (state g.S.Store h)) (sym same) clean in
-    let begun = c.in-Ok.ensures.begun (clean_before (state g.S.Store old) (state g.S.Store mid) (state g.S.Store end) c.take_all.ensures.survives late) in
-    let open' = begun.1.0.was_open in
-    let sound : IsDatabase (state g.S.Store old).now = (c.is_live.ensures open').0 in
-    let has : Has old_entry (state g.S.Store old).now = c.requires (clean_before (state g.S.Store old) (state g.S.Store old) (state g.S.Store mid) c.in-Ok.ensures.survives
-    (clean_before (state g.S.Store old) (state g.S.Store mid) (state g.S.Store end) c.take_all.ensures.survives late)) open' in
-    if_err_then _ _ c.take_all.result (λ fault wrong is. λ readable apart. census_wrong stored_old_entry old_entry_columns OldEntriesByRowid (codes "entry") (state g.S.Store old).now c.args.numbers.now
-    (record { numbers = c.args.numbers; rowids = c.new.result }) refl c.new.ensures (λ rows h. selection_lists (codes "entry") (state g.S.Store old).now rows h) (old_readable (state g.S.Store old).now sound has readable) apart
-    (wrong is)) (damaged_on g.S.Store OldEntriesByRowid old mid end c.in-Ok.ensures.begun c.take_all.ensures.survives c.take_all.result
-    (λ what db. IsWrong stored_old_entry old_entry_columns (refuses_census stored_old_entry) what db (record { numbers = c.args.numbers; rowids = c.new.result })) c.take_all.ensures.damaged late)
+    let found = found_live g.S.Store OldEntriesByRowid c.args.conn.now c.in-Ok.rows.conn.now c.take_all.new.rows.conn.now c.conn-2-1.given.0 (search rules) c.in-Ok.ensures.begun c.take_all.ensures.survives c.in-Ok.ensures.survives
+    (Has old_entry) c.requires c.is_live.ensures clean in
+    if_err_then _ _ c.take_all.result (λ fault wrong is. λ readable apart. census_wrong stored_old_entry old_entry_columns OldEntriesByRowid (codes "entry") (state g.S.Store c.args.conn.now).now c.args.numbers.now
+    (record { numbers = c.args.numbers; rowids = c.new.result }) refl c.new.ensures (λ rows h. selection_lists (codes "entry") (state g.S.Store c.args.conn.now).now rows h)
+    (old_readable (state g.S.Store c.args.conn.now).now found.0 found.1 readable) apart (wrong is)) (damaged_on g.S.Store OldEntriesByRowid c.args.conn.now c.in-Ok.rows.conn.now c.take_all.new.rows.conn.now c.conn-2-1.given.0
+    (search rules) c.in-Ok.ensures.begun c.take_all.ensures.survives c.take_all.result (λ what db. IsWrong stored_old_entry old_entry_columns (refuses_census stored_old_entry) what db
+    (record { numbers = c.args.numbers; rowids = c.new.result })) c.take_all.ensures.damaged clean)
 
 pub returns-clause-failed : goal.returns-clause-failed
 returns-clause-failed g c clean =
-    let old = c.args.conn.now in
-    let mid = c.in-Ok.rows.conn.now in
-    let end = c.take_all.new.rows.conn.now in
-    let same : end ≡ c.conn-2-1.given.0 = search rules in
-    let late : HasCleanDisk (state g.S.Store end) = subst (λ h. HasCleanDisk (state g.S.Store h)) (sym same) clean in
-    subst (λ h. IfErr c.take_all.result (IsExcusedReading (state g.S.Store old) (state g.S.Store h))) same
-    (cause_on g.S.Store OldEntriesByRowid old mid end c.take_all.result c.in-Ok.ensures.begun c.in-Ok.ensures.survives c.take_all.ensures.survives late (c.take_all.ensures.failed late))
+    cause_on g.S.Store OldEntriesByRowid c.args.conn.now c.in-Ok.rows.conn.now c.take_all.new.rows.conn.now c.conn-2-1.given.0 (search rules) c.in-Ok.ensures.begun c.take_all.ensures.survives c.in-Ok.ensures.survives c.take_all.result
+    c.take_all.ensures.failed clean
 
 pub returns-in-Err-clause-failed : goal.returns-in-Err-clause-failed
-returns-in-Err-clause-failed g c clean =
-    let old = state g.S.Store c.args.conn.now in
-    let new = state g.S.Store c.read_old_by_rowid.follows.lender-at-none in
-    let failed : FailsToRead old new c.in-Err.error = search rules in
-    subst (IsExcusedReading old new) (sym c.fault_of_store.ensures) (store_cause old new c.in-Err.error failed)
+returns-in-Err-clause-failed g c clean = told_cause (state g.S.Store c.args.conn.now) (state g.S.Store c.read_old_by_rowid.follows.lender-at-none) c.in-Err.error c.fault_of_store.result c.fault_of_store.ensures (search rules)

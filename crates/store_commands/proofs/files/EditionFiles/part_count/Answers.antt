@@ -1,5 +1,5 @@
 use Rattle.std.proofs.Common.{◌+◌, pos, sym, ◌∙◌}
-use Rattle.store_commands.proofs.PlaceLemmas.{both_length}
+use Rattle.store_holdings.proofs.FilePlaceLemmas.{both_length}
 use Rattle.store_commands.proofs.files.EditionFiles.part_count.Goals as goal
 
 pub returns : goal.returns

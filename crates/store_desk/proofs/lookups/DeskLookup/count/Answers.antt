@@ -30,7 +30,8 @@ returns-clause-leaves g c = λ ms left. subst (λ (d : DeskState _). LeavesOneOf
 
 pub returns-clause-caused : goal.returns-clause-caused
 returns-clause-caused g c = λ clean.
-    memory_gives_way g.S.Store c.args.self.now (record { conn = c.self.inside.conn; summary = summary_shown c.self.inside.summary; last = c.last_by-self-inside.result; indexes = c.count_under-outcome.new.indexes; texts = c.forget_by.new.texts })
+    memory_gives_way g.S.Store c.args.self.now
+    (record { conn = c.self.inside.conn; summary = summary_shown c.self.inside.summary; last = c.last_by-self-inside.result; indexes = c.count_under-outcome.new.indexes; texts = c.forget_by.new.texts })
     (ap (λ (d : DeskState _). d.conn) c.self.view_is) c.count_under-outcome.result c.count_under-outcome.ensures.kinds
 
 pub returns-clause-value : goal.returns-clause-value

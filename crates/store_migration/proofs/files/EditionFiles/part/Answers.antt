@@ -5,7 +5,7 @@ use mir.Val.{SFits}
 use Rattle.store_holdings.specs.Files.{part_at, parts_under}
 use Rattle.store_parts.specs.Parts.{parts_of}
 use Rattle.store_edition_sql.specs.PartRecords.{lent_part}
-use Rattle.store_migration.proofs.FileLemmas.{both_length, first_at, second_at}
+use Rattle.store_holdings.proofs.FilePlaceLemmas.{both_length, first_at, second_at}
 use Rattle.store_migration.proofs.files.EditionFiles.part.Goals as goal
 
 pub part_of-requires-else-place-before : goal.part_of-requires-else-place-before

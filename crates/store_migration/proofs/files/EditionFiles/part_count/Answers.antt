@@ -1,5 +1,5 @@
 use Rattle.std.proofs.Common.{◌+◌, sym, ◌∙◌}
-use Rattle.store_migration.proofs.FileLemmas.{both_length}
+use Rattle.store_holdings.proofs.FilePlaceLemmas.{both_length}
 use Rattle.store_migration.proofs.files.EditionFiles.part_count.Goals as goal
 
 pub returns : goal.returns
