@@ -82,9 +82,6 @@ at_more [] k (suc i) e P is early late = cc
 at_more (x ∷ xs) k zero e P is early late = early is
 at_more (x ∷ xs) k (suc i) e P is early late = at_more xs k i e (λ front one. P (x ∷ front) one) is early late
 
-pub linked_none : AreLinked []
-linked_none i e is = cc
-
 pub linked_more : (xs : List OwnedEntry) (k : OwnedEntry) → AreLinked xs → IsLastShown xs (shown_by k) k.said.value.earlier → AreLinked (xs ++ k ∷ [])
 linked_more xs k links last i e is = at_more xs k i e (λ front one. IsLastShown front (shown_by one) one.said.value.earlier) is (links i e) last
 
@@ -178,6 +175,3 @@ module _ (p : OwnedEntry → Bool) where
 
   pub walk_found : (xs : List OwnedEntry) (t : List ℕ) (place i : ℕ) (x : OwnedEntry) → slice_get xs i ≡ Some x → p x ≡ true → Walks xs t place (Some i) → true ≡ is_among t (take place xs)
   walk_found xs t place i x e hit walk = sym (walk.same ∙ step_found t xs i x e (shows_it xs t i x e walk.shows) hit)
-
-  pub walk_ends : (xs : List OwnedEntry) (t : List ℕ) (place : ℕ) → Walks xs t place None → false ≡ is_among t (take place xs)
-  walk_ends xs t place walk = sym walk.same

@@ -32,14 +32,6 @@ module _ {X : Type 0} (p : X → Bool) where
   front_all xs first end w =
       sym (append_none (filter p (take end xs)) (filter p (drop end xs)) w.behind) ∙ (sym (filter-append p (take end xs) (drop end xs)) ∙ ap (filter p) (take-append-drop end xs))
 
-  -- the whole is such a span
-  pub whole_span : (xs : List X) → LieWithin p xs 0 (length xs)
-  whole_span xs = record { before = refl; behind = none_behind xs; ordered = omega arith; fits = omega arith }
-    where
-      none_behind : (ys : List X) → filter p (drop (length ys) ys) ≡ []
-      none_behind [] = refl
-      none_behind (y ∷ ys) = none_behind ys
-
   -- one element more, which is of the kind or isn't
   same_front : (xs : List X) (i : ℕ) (d : X) → i < length xs → p (get_or xs i d) ≡ false → filter p (take (suc i) xs) ≡ filter p (take i xs)
   same_front [] i d below e = absurd (omega arith)

@@ -1,13 +1,11 @@
 -- Lists of octets cut at an octet.
-use Rattle.std.proofs.Common.{◌≡◌, ◌≢◌, ℕ, zero, suc, ◌+◌, ◌-◌, ◌<◌, List, [], ◌∷◌, ◌++◌, length, take, drop, get_or, refl, ap, sym, ◌∙◌, subst, arith, cond, true, false, eq-eqb, eqb-true, append-nil, add-one, ◌⊎◌, inl, inr}
+use Rattle.std.proofs.Common.{◌≡◌, ◌≢◌, ℕ, zero, suc, ◌+◌, ◌-◌, ◌<◌, List, [], ◌∷◌, ◌++◌, length, take, drop, get_or, refl, ap, sym, ◌∙◌, subst, arith, cond, true, false, eq-eqb, append-nil, add-one, ◌⊎◌, inl, inr}
 use Rattle.std.proofs.lemmas.Bool.Decides.{nat_tests}
-use Rattle.std.proofs.lemmas.List.{take_rest, take-append-drop, length-take-le}
 use Rattle.std.proofs.lemmas.List.Sums.{sum_by-append, sum_by-cons}
 use Rattle.std.proofs.lemmas.Str.{IsUtf8-take, IsUtf8-drop, IsCharBoundary-before_ascii, IsCharBoundary-after_ascii}
-use Rattle.std.proofs.Math.Seq.{drop-cons, take-append_seam}
+use Rattle.std.proofs.Math.Seq.{take-append_seam}
 use Rattle.std.specs.Prelude.{◌==◌, count_by, Option, Some, None}
 use Rattle.std.specs.Str.{IsUtf8}
-use Rattle.memchr.specs.Find.{NoneBefore, Nowhere, Passes, is_byte}
 use Rattle.dict_index.specs.Line.{behind_tab}
 use Rattle.dict_index.specs.Cuts.{HasNo, IsCutAt, AreLast, AreColumns}
 
@@ -22,18 +20,6 @@ get_or_front [] (suc n) k lt = refl
 get_or_front xs zero k lt = absurd (omega arith)
 get_or_front (x ∷ xs) (suc n) zero lt = refl
 get_or_front (x ∷ xs) (suc n) (suc k) lt = get_or_front xs n k (omega arith)
-
--- a search for the first place of an octet cuts there
-pub cut_from_search : (b : ℕ) (xs : List ℕ) (n : ℕ) → NoneBefore (Passes (is_byte b) xs) 0 (length xs) n → Passes (is_byte b) xs n → IsCutAt b xs (take n xs) (take (length xs - (n + 1)) (drop (n + 1) xs))
-cut_from_search b xs n none here =
-    let lt : n < length xs = none.high in
-    record {
-      whole = sym (take-append-drop n xs) ∙ ap (λ l. take n xs ++ l) (drop-cons xs n 0 lt ∙ (ap (λ x. x ∷ drop (suc n) xs) (eqb-true _ _ here) ∙ ap (λ l. b ∷ l) (ap (λ m. drop m xs) (sym (add-one n)) ∙ sym (take_rest xs (n + 1)))));
-      none = has_no_from b (take n xs) (λ k small. λ same. none.before k (omega arith) (omega (arith, length-take-le n xs (omega arith))) (eq-eqb _ _ (sym (get_or_front xs n k (omega (arith, length-take-le n xs (omega arith)))) ∙ same)));
-    }
-
-pub none_from_search : (b : ℕ) (xs : List ℕ) → Nowhere (Passes (is_byte b) xs) 0 (length xs) → HasNo b xs
-none_from_search b xs none = has_no_from b xs (λ k lt. λ same. none k (omega arith) lt (eq-eqb _ _ same))
 
 -- how often an octet stands in a list that doesn't have it, or that it cuts
 pub count_none : (b : ℕ) (xs : List ℕ) → HasNo b xs → count_by (λ x. x == b) xs ≡ 0

@@ -10,9 +10,6 @@ pub record AgreeSoFar (key query key_rest query_rest : List (List ℕ)) : Type 0
   pub key_is : key ≡ same ++ key_rest
   pub query_is : query ≡ same ++ query_rest
 
-pub agree_none : (key query : List (List ℕ)) → AgreeSoFar key query key query
-agree_none key query = record { same = []; key_is = refl; query_is = refl }
-
 pub agree_more : (key query key_rest query_rest : List (List ℕ)) (word : List ℕ) → AgreeSoFar key query (word ∷ key_rest) (word ∷ query_rest)
     → AgreeSoFar key query key_rest query_rest
 agree_more key query key_rest query_rest word h = record {
@@ -21,21 +18,12 @@ agree_more key query key_rest query_rest word h = record {
   query_is = h.query_is ∙ sym (append_assoc h.same (word ∷ []) query_rest);
 }
 
--- the query is at its end
-pub agree_all : (key query key_rest : List (List ℕ)) → AgreeSoFar key query key_rest [] → BeginsWithWords key query
-agree_all key query key_rest h =
-    (key_rest, h.key_is ∙ ap (λ ws. ws ++ key_rest) (sym (h.query_is ∙ append-nil h.same)))
-
 -- what is left of the key goes on as what is left of the query
 agree_rest : (key query key_rest query_rest : List (List ℕ)) → AgreeSoFar key query key_rest query_rest → (begins : BeginsWithWords key query)
     → key_rest ≡ query_rest ++ begins.0
 agree_rest key query key_rest query_rest h begins =
     append_cancel_left h.same key_rest (query_rest ++ begins.0)
     (sym h.key_is ∙ begins.1 ∙ ap (λ ws. ws ++ begins.0) h.query_is ∙ append_assoc h.same query_rest begins.0)
-
--- the key is at its end, and the query isn't
-pub agree_short : (key query query_rest : List (List ℕ)) (word : List ℕ) → AgreeSoFar key query [] (word ∷ query_rest) → BeginsWithWords key query → ⊥
-agree_short key query query_rest word h begins = let e = agree_rest key query [] (word ∷ query_rest) h begins in cc
 
 -- the next words differ
 pub agree_other : (key query key_rest query_rest : List (List ℕ)) (other word : List ℕ) → AgreeSoFar key query (other ∷ key_rest) (word ∷ query_rest)

@@ -85,10 +85,6 @@ named-more c first cs rest name e f = ap (str_eq_ignore_ascii_case (c ∷ cs)) e
 pub named-other : (c first : ℕ) (cs rest name : List ℕ) → name ≡ first ∷ rest → eq_ignore_ascii_case c first ≡ false → str_eq_ignore_ascii_case (c ∷ cs) name ≡ false
 named-other c first cs rest name e f = ap (str_eq_ignore_ascii_case (c ∷ cs)) e ∙ none_of (eq_ignore_ascii_case c first) _ f
 
-pub named-past : (c : ℕ) (cs name : List ℕ) → length name ≡ 0 → str_eq_ignore_ascii_case (c ∷ cs) name ≡ false
-named-past c cs [] e = refl
-named-past c cs (first ∷ name) e = absurd (omega arith)
-
 -- a word that is at its end is the empty name
 pub named-end : (name : List ℕ) → (length name == 0) ≡ str_eq_ignore_ascii_case [] name
 named-end [] = refl

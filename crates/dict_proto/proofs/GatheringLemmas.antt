@@ -6,19 +6,7 @@ use Rattle.std.proofs.Math.Seq.{take-suc}
 use Rattle.std.proofs.lemmas.List.Concat.{flat_map-append}
 use Rattle.dict_proto.specs.Streams.{Stream, PutsAll, PutsFront, Puts}
 use Rattle.dict_proto.specs.Gathering.{Joins, Gathers}
-use Rattle.dict_proto.proofs.PutLemmas.{puts_none, all_after, front_after, front_longer, puts_after, pieces_at}
-
--- nothing was added
-pub joins_none : (a : Stream) (held : List ℕ) → Joins a a held held []
-joins_none a held = ([], puts_none a, append-nil held)
-
--- octets that found room
-pub joins_held : (a : Stream) (held left bs : List ℕ) → left ≡ held ++ bs → Joins a a held left bs
-joins_held a held left bs e = ([], puts_none a, sym e)
-
--- octets that found room once what was held was put
-pub joins_put : (a b : Stream) (held left bs : List ℕ) → PutsAll a b held → left ≡ bs → Joins a b held left bs
-joins_put a b held left bs h e = (held, h, ap (λ l. held ++ l) (sym e))
+use Rattle.dict_proto.proofs.PutLemmas.{all_after, front_after, front_longer, puts_after, pieces_at}
 
 -- octets that were put behind what was held
 pub gathers_through : {T E : Type 0} (r : Result T E) (a b c : Stream) (held left bs : List ℕ) → PutsAll a b held → left ≡ [] → Puts r b c bs → Gathers r a c held left bs

@@ -273,10 +273,6 @@ pub after-word : (r rest : Option (List (List ℕ))) (word : List ℕ) (words : 
 after-word r None word words e f = cc
 after-word r (Some more) word words e f = (more, refl, cc)
 
-pub texts-known : (r : Option (List (List ℕ))) → AreUtf8Words r → (words : List (List ℕ)) × (r ≡ Some words)
-texts-known None h = absurd h
-texts-known (Some words) h = (words, refl)
-
 pub some-texts : (r : Option (List (List ℕ))) → is_some r ≡ true → ((words : List (List ℕ)) → r ≡ Some words → AllByRecursion IsUtf8 words) → AreUtf8Words r
 some-texts None e h = cc
 some-texts (Some words) e h = h words refl

@@ -47,7 +47,3 @@ flat_map-escaped_some text i e =
 -- where there is none, the text stays
 pub flat_map-escaped_none : (text : List ℕ) → position needs_backslash text ≡ None → flat_map escaped text ≡ text
 flat_map-escaped_none text e = without text (position_none needs_backslash text e)
-
--- where there is one, it stands in the text
-pub position-within : (text : List ℕ) (i : ℕ) → position needs_backslash text ≡ Some i → i < length text
-position-within text i e = let (is, lt) = position_is needs_backslash text i e in omega arith

@@ -32,10 +32,3 @@ fourth_at index line behind h o s f start c e =
     let long : length line ≡ length (front_of h o s) + length f = ap length whole ∙ length-append (front_of h o s) f in
     let front : length line - length f ≡ length (front_of h o s) = omega (arith, long) in
     ap (λ n. octets_at index (start + n) (length f)) front ∙ at_front index (front_of h o s) f behind start (e ∙ (ap (λ l. l ++ behind) whole ∙ append_assoc (front_of h o s) f behind))
-
--- both columns are no longer than the line
-pub first_short : (line h o s : List ℕ) (f : Option (List ℕ)) → AreColumns line h o s f → length h ≤ length line
-first_short line h o s f c = omega (arith, ap length c.whole, length-append h (9 ∷ o ++ (9 ∷ s ++ behind_tab f)))
-
-pub fourth_short : (line h o s f : List ℕ) → AreColumns line h o s (Some f) → length f ≤ length line
-fourth_short line h o s f c = omega (arith, ap length (c.whole ∙ front_whole h o s f), length-append (front_of h o s) f)

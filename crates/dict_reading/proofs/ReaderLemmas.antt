@@ -43,9 +43,6 @@ module _ (index text : List ℕ) (reader : EditionReader) (h : HasRead index tex
   next : IsNext (text_lines index) reader.number line (text_lines behind)
   next = next_of (text_lines index) reader.number line (text_lines behind) (sym h.rest ∙ first_line_cut (drop reader.place index) line behind c)
 
-  pub line_there : reader.number < length (text_lines index)
-  line_there = next.there
-
   pub line_within : reader.place + (length line + 1) ≤ length index
   line_within =
       let all : length index - reader.place ≡ length line + length (10 ∷ behind) = sym (length-drop reader.place index) ∙ (ap length c.whole ∙ length-append line (10 ∷ behind)) in

@@ -82,12 +82,6 @@ slice_more index from count octets t low few = record {
         let sum : octets_of_lines (lines_from index from n) said ≡ octets = ap (λ k. octets_of_lines (lines_from index from k) said) e ∙ (ap (octets_of_lines (lines_from index from count)) same ∙ t.sum) in
         omega (arith, sum, low)
 
-pub no_slice : (index : List ℕ) (from : ℕ) → IsSlice index from 0
-no_slice index from = record { many = omega arith; short = λ said are. omega arith }
-
-pub comes_to_none : (index : List ℕ) (from : ℕ) → ComesTo index from 0 0
-comes_to_none index from = record { said = []; are = tt; sum = refl }
-
 -- a reader that isn't at its end has octets left
 pub not_yet : (index text : List ℕ) (reader : EditionReader) → HasRead index text reader → (t : Bool) → (IsTrue t → IsAtEnd index reader) × (IsAtEnd index reader → IsTrue t) → t ≡ false → reader.place < length index
 not_yet index text reader h t law no_end = elim (cases_lt reader.place (length index)) [

@@ -2,16 +2,16 @@
 use Rattle.std.proofs.Common.{◌≡◌, ℕ, List, [], ◌∷◌, ◌++◌, refl, true, false, inl, inr}
 use Rattle.dict_proto.specs.Streams.{Stream}
 use Rattle.dict_proto.specs.Meaning.{Meaning, meaning}
-use Rattle.dict_proto.proofs.PutLemmas.{puts_none, all_after, front_longer, front_after}
-use Rattle.dict_session.specs.Lines.{cut, HasNoLineEnd}
+use Rattle.dict_proto.proofs.PutLemmas.{all_after, front_longer, front_after}
+use Rattle.dict_session.specs.Lines.{cut}
 use Rattle.dict_session.specs.Answers.{is_quit}
 use Rattle.dict_session.specs.Desks.{Condition}
 use Rattle.dict_session.specs.Ending.{Finishes, Wrote}
-use Rattle.dict_session.specs.Session.{HasUnfinished, KeepsRest, LeavesSession, EndsLine}
+use Rattle.dict_session.specs.Session.{HasUnfinished, KeepsRest, LeavesSession}
 use Rattle.dict_session.specs.declared.session.Session.{Session}
 use Rattle.dict_session.specs.declared.step.Course.{Course}
 use Rattle.dict_session.specs.declared.step.Course.TheVariants.{More, Quit, SinkFailed, DeskFailed}
-use Rattle.dict_session.proofs.LineLemmas.{cut_is, cut_append}
+use Rattle.dict_session.proofs.LineLemmas.{cut_append}
 use Rattle.dict_session.proofs.SpokenLemmas.{speaks_append, speaks_end, speaks_longer, speaks_one, speaks_unavailable, speaks_wider, breaks_append, breaks_end, breaks_one}
 
 -- one line was answered
@@ -22,15 +22,6 @@ wrote_line d f Quit a b l h = (d (meaning l), speaks_one d f.closed l true h.1, 
 wrote_line d f SinkFailed a b l (inl h) = (d (meaning l), is_quit l, speaks_one d f.closed l (is_quit l) refl, h)
 wrote_line d f SinkFailed a b l (inr h) = (_, false, speaks_unavailable d f.closed l h.0, h.1)
 wrote_line d f DeskFailed a b l (failed, (part, begins, told, put)) = (failed, (part, breaks_one d f.closed l part begins told, put))
-
-pub leaves_line : (d : Meaning → List ℕ) (f : Condition) (course : Course) (s : Session) (a b : Stream) (bs l : List ℕ) → cut bs ≡ record { lines = l ∷ []; rest = [] } → EndsLine d f course s a b l → LeavesSession d f course s a b bs
-leaves_line d f course s a b bs l e h = rw e (wrote_line d f course a b l h.0, h.1)
-
--- no line was ended
-pub leaves_held : (d : Meaning → List ℕ) (f : Condition) (s : Session) (a : Stream) (bs : List ℕ) → HasNoLineEnd bs → HasUnfinished s bs → LeavesSession d f More s a a bs
-leaves_held d f s a bs none held =
-    let e = cut_is bs [] bs (record { whole = refl; each = tt; unfinished = none }) in
-    rw e (([], (refl, refl), puts_none a), held)
 
 -- lines that go on, and then more
 pub wrote_more : (d : Meaning → List ℕ) (f g : Condition) → (f.closed ≡ true → g.closed ≡ true) → (course : Course) (a b c : Stream) (ls ms : List (List ℕ)) → Wrote d f More a b ls → Wrote d g course b c ms → Wrote d g course a c (ls ++ ms)
@@ -61,9 +52,6 @@ kept_ended More s rest other none h = absurd (none refl)
 kept_ended Quit s rest other none h = h
 kept_ended SinkFailed s rest other none h = h
 kept_ended DeskFailed s rest other none h = h
-
-pub leaves_ended : (d : Meaning → List ℕ) (f : Condition) (course : Course) (s : Session) (a b : Stream) (p q : List ℕ) → (course ≡ More → ⊥) → LeavesSession d f course s a b p → LeavesSession d f course s a b (p ++ q)
-leaves_ended d f course s a b p q none h = rw (cut_append p q) (wrote_ended d f course a b (cut p).lines (cut ((cut p).rest ++ q)).lines none h.0, kept_ended course s _ _ none h.1)
 
 pub keeps_none : (course : Course) (s : Session) → (course ≡ More → ⊥) → KeepsRest course s []
 keeps_none More s none = absurd (none refl)

@@ -15,7 +15,7 @@ use Rattle.dict_catalogue.specs.Items.{Item, Stored, regular, virtual, is_named,
 use Rattle.dict_catalogue.specs.Steps.{Catalogue, summary_of}
 use Rattle.dict_desk.specs.Asked.{Database, databases_named}
 use Rattle.dict_desk.specs.Shown.{Row, HasEdition, info_rows, row}
-use Rattle.dict_proto.specs.declared.reply.Reply.TheVariants.{ListEnd, Help, ServerInformation, Done}
+use Rattle.dict_proto.specs.declared.reply.Reply.TheVariants.{Help, ServerInformation, Done}
 use Rattle.dict_proto.specs.Replies.{reply_octets, list_end_octets, done_octets, invalid_database_octets, info_heading_octets, info_text_octets, no_databases_octets, database_count_octets, unavailable_octets, status_octets}
 use Rattle.dict_session.specs.Answers.{AnswerNeed, no_rows, one_row}
 use Rattle.dict_session.specs.Through.{has_edition}
@@ -34,10 +34,6 @@ use Rattle.dict_session.proofs.AskedLemmas.{named_as}
 pub help_is : flat_map reply_octets (Help ∷ Done ∷ []) ≡ help_answer
 unfolding help_answer
 help_is = rw (append-nil done_octets) refl
-
--- what ends a list
-pub end_is : flat_map reply_octets (ListEnd ∷ Done ∷ []) ≡ list_end_octets ++ done_octets
-end_is = ap (λ l. list_end_octets ++ l) (append-nil done_octets)
 
 -- ---- a summary's items and its catalogue's
 

@@ -1,10 +1,10 @@
 -- What a session keeps between two pieces, and what a call leaves.
 use Rattle.std.specs.Prelude.{◌≡◌, ℕ, ◌<◌, List, [], length, MatchBool, ◌-◌, slice_index, ◌==◌, vec_capacity}
 use Rattle.dict_proto.specs.Streams.{Stream}
-use Rattle.dict_proto.specs.Meaning.{Meaning, meaning}
+use Rattle.dict_proto.specs.Meaning.{Meaning}
 use Rattle.dict_session.specs.Lines.{HasNoLineEnd, cut}
 use Rattle.dict_session.specs.Desks.{Condition}
-use Rattle.dict_session.specs.Ending.{Finishes, Wrote, step_at}
+use Rattle.dict_session.specs.Ending.{Wrote, step_at}
 use Rattle.dict_session.specs.declared.session.Session.{Session}
 use Rattle.dict_session.specs.declared.step.Step.{Step}
 use Rattle.dict_session.specs.declared.step.Course.{Course}
@@ -46,7 +46,3 @@ KeepsRest DeskFailed s rest = Unit {0}
 -- the call answered the lines that end in b, and keeps the rest of b; the desk stands so after it
 abbrev pub LeavesSession : (Meaning → List ℕ) → Condition → Course → Session → Stream → Stream → List ℕ → Type 0
 LeavesSession answer desk course s old new b = Wrote answer desk course old new (cut b).lines × KeepsRest course s (cut b).rest
-
--- the call answered this line, and keeps nothing
-abbrev pub EndsLine : (Meaning → List ℕ) → Condition → Course → Session → Stream → Stream → List ℕ → Type 0
-EndsLine answer desk course s old new line = Finishes answer desk course old new (meaning line) × KeepsRest course s []

@@ -350,9 +350,6 @@ value_at path = option_map (λ (row : Key). row.value) (first rows path)
 value_is : (path : List ℕ) (k : Key) → first rows path ≡ Some k → value_at path ≡ Some k.value
 value_is path k h = ap (option_map (λ (row : Key). row.value)) h
 
-no_name : (X : Type 0) → 0 < 0 → X
-no_name X h = absurd (omega (arith, h))
-
 found_at : (path : List ℕ) (route : Route) (name : List ℕ) → AllByRecursion IsOctet path → path ≡ before route ++ (name ++ path_after route) → HasName route name → value_at path ≡ Some route
 found_at path Databases name small is named = ap value_at (is ∙ ap (λ t. codes "/databases" ++ (t ++ [])) named) ∙ value_is (codes "/databases") databases_key list_on
 found_at path Database [] small is named = absurd (omega (arith, named.0))

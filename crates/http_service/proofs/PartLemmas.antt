@@ -86,8 +86,4 @@ short_parts body digits rest index text size cut is small short parts =
     let equal : size ≡ length index = decimal_injective size (length index) (omega (arith, small)) (omega (arith, few)) (sym is ∙ same.0) in
     omega (arith, equal, short, ap length same.1, length-append index text)
 
-pub are_parts : (body digits rest index text : List ℕ) (size : ℕ) → IsCutAt 10 body digits rest → digits ≡ decimal size → size < 10 ^ 8 → length index ≡ size → rest ≡ index ++ text → IsInstallBody body index text
-are_parts body digits rest index text size cut is small long whole = record {
-  is = cut.whole ∙ (λ i. (is ∙ ap decimal (sym long)) i ++ 10 ∷ whole i);
-  few = omega (arith, small, long);
 }

@@ -5,7 +5,7 @@ use Rattle.std.specs.Io.KnownBytes.{Appends, Keeps}
 use Rattle.std.proofs.KnownBytes.{Appends-nil, Keeps-refl}
 use Rattle.net_connection.proofs.CallLemmas.{makes_none}
 use Rattle.std.proofs.lemmas.List.{take-append-le, drop-append-le, take-append-drop, length-drop, length-take}
-use Rattle.std.proofs.Math.Seq.{take-append_seam, take-append-add, take-length, drop-length}
+use Rattle.std.proofs.Math.Seq.{take-append_seam, take-append-add}
 use Rattle.std.proofs.lemmas.List.Elements.{All-append, All-nil}
 use Rattle.net_connection.specs.OutletCalls.{Call, MakesCalls, sending_failed, is_vain, sends, sent_by}
 use Rattle.std.specs.declared.io.Error.{Error}
@@ -30,10 +30,6 @@ taken_more a b c x y has more = λ before is.
 
 pub taken_same : (a b c : Option (List ℕ)) (x : List ℕ) → HasTakenOctets a b x → Keeps b c → HasTakenOctets a c x
 taken_same a b c x has same = λ before is. kept (before ++ x) c (subst (λ (o : Option (List ℕ)). Keeps o c) (has before is) same)
-
--- nothing was taken yet
-pub taken_none : (a b : Option (List ℕ)) → a ≡ b → HasTakenOctets a b []
-taken_none a b same = λ before is. sym same ∙ is ∙ ap Some (sym (append-nil before))
 
 pub taken_as : (a b : Option (List ℕ)) (x : List ℕ) → HasTakenOctets a b x → Appends a b x
 taken_as None b x has = tt
@@ -64,23 +60,6 @@ more_calls before mid c sent (front, rest) is =
 pub calls_more : (a b c : Option (List Call)) (sent : Sent) → MakesSendings a b → MakesCalls b c (sends sent ∷ []) → MakesSendings a c
 calls_more a None c sent has makes = λ before is. absurd ((has before is).0 refl)
 calls_more a (Some mid) c sent has makes = λ before is. more_calls before mid c sent ((has before is).1 mid refl) makes
-
-pub calls_none : (a b : Option (List Call)) → a ≡ b → MakesSendings a b
-calls_none a b same = λ before is. subst (λ (o : Option (List Call)). (o ≢ None) × ((after : List Call) → o ≡ Some after → (take (length before) after ≡ before) × All (λ call. is_sending call ≡ true) (drop (length before) after)))
-    (sym is ∙ same) (
-      (λ none. cc),
-      λ after whole. subst (λ (l : List Call). (take (length before) l ≡ before) × All (λ call. is_sending call ≡ true) (drop (length before) l)) (some_one _ _ whole)
-          (take-length before, subst (λ (l : List Call). All (λ call. is_sending call ≡ true) l) (sym (drop-length before)) (All-nil (λ call. is_sending call ≡ true))),
-    )
-
--- no call follows
-pub follow_none : (such : List Call → Bool) (a b : Option (List Call)) → such [] ≡ true → a ≡ b → Follow such a b
-follow_none such a b none same = λ before is. subst (λ (o : Option (List Call)). (o ≢ None) × ((after : List Call) → o ≡ Some after → (take (length before) after ≡ before) × (such (drop (length before) after) ≡ true)))
-    (sym is ∙ same) (
-      (λ never. cc),
-      λ after whole. subst (λ (l : List Call). (take (length before) l ≡ before) × (such (drop (length before) l) ≡ true)) (some_one _ _ whole)
-          (take-length before, ap such (drop-length before) ∙ none),
-    )
 
 one_follows : (first last : List Call → Bool) (call : Call) (before mid : List Call) (c : Option (List Call)) → ((l : List Call) → first l ≡ true → last (l ++ call ∷ []) ≡ true)
     → (take (length before) mid ≡ before) × (first (drop (length before) mid) ≡ true) → c ≡ Some (mid ++ call ∷ [])
@@ -177,10 +156,6 @@ pub short_memory : (a b c : ℕ) → a + b ≤ 1048576 → (1048576 < a + b) ⊎
 short_memory a b c fits (inl more) = absurd (omega (arith, fits, more))
 short_memory a b c fits (inr less) = less
 
-pub on_err_both : {A E : Type 0} (r : Result A E) (P Q R : Type 0) → (P → Q → R) → OnErr r P → OnErr r Q → OnErr r R
-on_err_both (Ok a) P Q R so p q = tt
-on_err_both (Err e) P Q R so p q = so p q
-
 pub halves : (n : ℕ) (a b r : List ℕ) → a ≡ take n r → b ≡ drop n r → a ++ b ≡ r
 halves n a b r front back = ap (λ l. l ++ b) front ∙ ap (λ l. take n r ++ l) back ∙ take-append-drop n r
 
@@ -194,10 +169,6 @@ same_waiting q r octets sent = ap (λ o. drop r.sent o.items) octets ∙ ap (λ 
 pub puts_noted : (bytes : List ℕ) (t0 : Trail) (q0 : Queue) (t : Trail) (q r : Queue) → r.octets ≡ q.octets → r.sent ≡ q.sent → PutsSome bytes t0 q0 t q → PutsSome bytes t0 q0 t r
 puts_noted bytes t0 q0 t q r octets sent (k, within, put) = (k, within, ap (λ w. t.octets ++ w) (same_waiting q r octets sent) ∙ put)
 
-pub stuck_noted : (a b : Option (List Call)) (n : ℕ) (q r : Queue) → r.octets ≡ q.octets → r.sent ≡ q.sent → r.refused ≡ q.refused → IsStuck a b n q → IsStuck a b n r
-stuck_noted a b n q r octets sent refused (full, short) = (
-  λ few. let was = full (subst (λ t. length t.octets ≤ n) refused few) in (ap length (same_waiting q r octets sent) ∙ was.0, was.1),
-  λ more. let was = short (subst (λ t. n < length t.octets) refused more) in (subst (λ o. vec_capacity o < 1048576) (sym octets) was.0, was.1),
 )
 
 -- as many wait as may, and the last call took nothing

@@ -64,10 +64,5 @@ piece_dropped Http octets = drop-length octets
 pub piece_within : (kind : Kind) (octets : List ℕ) → length (next_piece kind octets) ≤ length octets
 piece_within kind octets = omega (arith, ap length (piece_and_rest kind octets), length-append (next_piece kind octets) (behind_piece kind octets))
 
--- of no octets there is no piece
-pub no_piece : (kind : Kind) → next_piece kind [] ≡ []
-no_piece Dict = refl
-no_piece Http = refl
-
 pub none_held : (held : Held) → is_handed held ≡ true → held_in held ≡ []
 none_held held is = nil_from_length (held_in held) (eqb-true (length (held_in held)) 0 is)

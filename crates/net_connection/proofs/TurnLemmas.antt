@@ -8,7 +8,7 @@ use Rattle.std.specs.declared.io.Error.{Error}
 use Rattle.std.specs.declared.io.ErrorKind.{ErrorKind}
 use Rattle.std.specs.declared.io.ErrorKind.TheVariants as kinds
 use Rattle.std.proofs.lemmas.Bool.Decides.{eqb_tells}
-use Rattle.std.proofs.KnownBytes.{Consumes-nil, Keeps-refl}
+use Rattle.std.proofs.KnownBytes.{Keeps-refl}
 use Rattle.std.specs.IoError.{error_kind}
 use Rattle.net_hub.specs.Events.{Happening, came, ended, is_of_editor}
 use Rattle.net_hub.specs.Runs.{Accepted}
@@ -564,35 +564,9 @@ closed_drained true most receiveds.End before closed = refl
 closed_drained true most receiveds.Failed before closed = refl
 
 -- nothing is told, and the connection is as before but for how far it has come
-pub finishes_still : {T : Type 0} (taken coming : T → Option (List ℕ)) (made : T → Option (List Call)) (a : Connection T) (stage : Stage) (is_told : Bool) → endings (is_clear a.queue) a.stage is_told ≡ []
-    → stage ≡ stage_between (is_clear a.queue) a.stage is_told → (moved : Bool) → moved ≡ (is_clear a.queue && is_finishing a.stage) → TellsClosedPeer taken coming made a (record a { stage = stage }) moved
-finishes_still taken coming made a stage is_told none is moved so = record {
-  has_moved = so;
-  id = refl;
-  queue = refl;
-  may_receive = refl;
-  dropped = refl;
-  takes = Keeps-refl (taken a.transport);
-  comes = Keeps-refl (coming a.transport);
-  is_told = is_told;
-  calls = rw none (makes_none (made a.transport));
-  stage = is;
 }
 
 -- nothing is read
-pub drains_none : {T : Type 0} (taken coming : T → Option (List ℕ)) (made : T → Option (List Call)) (a : Connection T) → is_dropped a.stage a.may_receive ≡ false → Drains taken coming made a a false
-drains_none taken coming made a isnt = record {
-  has_moved = rw isnt refl;
-  id = refl;
-  queue = refl;
-  takes = Keeps-refl (taken a.transport);
-  received = [];
-  gives = Consumes-nil (coming a.transport);
-  reading = receiveds.Nothing;
-  calls = rw isnt (makes_none (made a.transport));
-  stage = rw isnt refl;
-  dropped = rw isnt refl;
-  may_receive = rw isnt refl;
 }
 
 leads_away : {T : Type 0} (made : T → Option (List Call)) (a d : Connection T) (sending : Sent) (told : Bool) (reading : Received) → sending ≢ sents.Failed

@@ -74,10 +74,6 @@ among_fitting most (x ∷ xs) id octets h = by_room (λ behind. among_fitting mo
     by_room more true h = h
     by_room more false h = inr (more h)
 
-pub among_remove : {T : Type 0} (xs : List (Connection T)) (n : ℕ) (id : ℕ) (octets : List ℕ) → WaitsAmong (remove xs n) id octets → WaitsAmong xs id octets
-among_remove xs n id octets h = elim (among_append (take n xs) (drop (suc n) xs) id octets h) [
-  | inl left ↦ among_take n xs id octets left
-  | inr right ↦ among_drop (suc n) xs id octets right
 ]
 
 pub among_filter : {T : Type 0} (p : Connection T → Bool) (xs : List (Connection T)) (id : ℕ) (octets : List ℕ) → WaitsAmong (filter p xs) id octets → WaitsAmong xs id octets
@@ -112,9 +108,6 @@ ids_kept P xs ys ids all k d within =
     let len = ids.len in
     let below : k < length xs = omega arith in
     subst P (sym (ids.same k d below)) (all k d below)
-
-pub all_as : {X : Type 0} (P Q : X → Type 0) (xs : List X) → ((x : X) → P x → Q x) → All P xs → All Q xs
-all_as P Q xs so all k d within = so (get_or xs k d) (all k d within)
 
 pub all_remove : {X : Type 0} (P : X → Type 0) (xs : List X) (i : ℕ) → i < length xs → All P xs → All P (remove xs i)
 all_remove P xs i within all k d in_rest =
@@ -166,10 +159,6 @@ marked_among is_told old new id octets marks among =
     let the_id : (get_or old s.place s.one).id ≡ id = sym (ap (λ it. it.id) is) ∙ ap (λ it. it.id) (s.at s.one) ∙ s.is in
     let the_octets : waiting (get_or old s.place s.one).queue ≡ octets = sym (ap (λ it. waiting it.queue) is) ∙ ap (λ it. waiting it.queue) (s.at s.one) ∙ s.waits in
     subst (λ (j : ℕ). WaitsAmong old j octets) the_id (subst (λ (l : List ℕ). WaitsAmong old (get_or old s.place s.one).id l) the_octets (place_among old s.place s.one below))
-
--- the same ids and the same stages, where they are marked
-pub marked_ids : {T : Type 0} (is_told : ℕ → Bool) (old new : List (Connection T)) → MarkAll is_told old new → HaveSameIds old new
-marked_ids is_told old new marks = record { len = marks.len; same = λ k d within. ap (λ it. it.id) (marks.marks k d within) }
 
 pub taken_whole : {X : Type 0} (n : ℕ) (xs ys : List X) → n ≡ length xs → take n (xs ++ ys) ≡ xs
 taken_whole n [] ys is = rw is refl

@@ -163,12 +163,3 @@ parted_close {T} all opened held departing opened_now departing_now place x with
 pub fitting_all : {T : Type 0} (most : ℕ) (xs : List (Connection T)) → nat_le (room_of xs) most ≡ true → connections_fitting most xs ≡ xs
 fitting_all most [] fits = refl
 fitting_all most (x ∷ xs) fits = ap (λ b. if b then x ∷ xs else connections_fitting most xs) fits
-
--- and where they don't, those behind the first
-pub fitting_less : {T : Type 0} (most : ℕ) (xs : List (Connection T)) → nat_le (room_of xs) most ≡ false → connections_fitting most xs ≡ connections_fitting most (remove xs 0)
-fitting_less most [] exceeds = refl
-fitting_less most (x ∷ xs) exceeds = ap (λ b. if b then x ∷ xs else connections_fitting most xs) exceeds
-
-pub some_exceed : {T : Type 0} (xs : List (Connection T)) → nat_le (room_of xs) 33554432 ≡ false → 0 < length xs
-some_exceed [] exceeds = absurd (let never : true ≡ false = exceeds in cc)
-some_exceed (x ∷ xs) exceeds = omega arith

@@ -92,13 +92,6 @@ push_others host ids lines id line even other (Some held) ne at = record {
   holds = λ d. subst (λ one. HoldsExchange host other one held) (sym (get_or_append_left lines (line ∷ []) d at.place (omega (arith, even, at.within)))) (at.holds d);
 }
 
-pub push_own : (host ids : List ℕ) (lines : List Exchange) (id : ℕ) (line : Exchange) → length lines ≡ length ids
-    → (held : Holding) → HoldsExchange host id line held → HoldsAt host (ids ++ id ∷ []) (lines ++ line ∷ []) id held
-push_own host ids lines id line even held h = record {
-  place = length ids;
-  within = let longer = length_push ids id in omega (arith, longer);
-  is = get_or-append_seam ids id [] 0;
-  holds = λ d. subst (λ one. HoldsExchange host id one held) (sym (ap (λ k. get_or (lines ++ line ∷ []) k d) (sym even) ∙ get_or-append_seam lines line [] d)) h;
 }
 
 -- one is closed

@@ -7,7 +7,7 @@ use Rattle.std.specs.declared.cmp.Ordering.{Ordering}
 use Rattle.std.specs.declared.cmp.Ordering.TheVariants.{Less, Equal, Greater}
 use Rattle.std.specs.Ordering.{nat_cmp, ordering_then, ordering_reverse}
 use Rattle.std.specs.List.{AllByRecursion, Contains, list_any, range_with_len}
-use Rattle.std.specs.List.Sorted.{IsBinarySearchResult, IsStrictlySortedBy, IsStrictlyIncreasing}
+use Rattle.std.specs.List.Sorted.{IsStrictlySortedBy, IsStrictlyIncreasing}
 use Rattle.std.specs.Str.{bytes_eq}
 use Rattle.std.proofs.lemmas.Bool.{false≢true, cases_lt}
 use Rattle.std.proofs.lemmas.Bool.Decides.{nat_tests}
@@ -16,8 +16,7 @@ use Rattle.std.proofs.lemmas.List.{map-append, take_more, take_all, length-map, 
 use Rattle.std.proofs.lemmas.List.Elements.{filter_more, Contains-append_left, Contains-append_right, Contains-append_cases}
 use Rattle.std.proofs.lemmas.List.FromFn.{length-range_with_len, get_or-range_with_len}
 use Rattle.std.proofs.lemmas.List.Kept.{IsStrictlyIncreasing-filter}
-use Rattle.std.proofs.lemmas.List.Sorted.{searched}
-use Rattle.std.proofs.lemmas.Map.Keys.{non_decreasing_from_sorted, sorted_tail, sorted_from_strictly_increasing, sorted_from_all_adjacent, Less-from_sorted}
+use Rattle.std.proofs.lemmas.Map.Keys.{sorted_tail, sorted_from_strictly_increasing, sorted_from_all_adjacent, Less-from_sorted}
 use Rattle.std.proofs.lemmas.Map.Lookups.{exact_bytes}
 use Rattle.std.proofs.lemmas.Map.Made.{is_member-Decides}
 use Rattle.std.proofs.lemmas.Slice.Eq.{bytes_eq-Decides}
@@ -116,9 +115,6 @@ put_begun (Ok x) pieces lists pieces' lists' piece place e same one two =
 put_begun (Err x) pieces lists pieces' lists' piece place e same one two = (tt, tt, tt)
 
 -- ---- what has been grouped
-
-no_pair : Placed
-no_pair = ([], 0)
 
 none_rise : IsStrictlySortedBy octets_cmp []
 unfolding IsStrictlySortedBy
@@ -416,12 +412,6 @@ pub among : (more : List ℕ) (q : List ℕ → Bool) (keys : List (List ℕ)) (
 among more q keys z is =
     let tells : Decides (list_any (nat_eq z) more) (Contains more z) = is_member-Decides nat_eq_tells more z in
     subst (λ l. Decides (list_any (nat_eq z) more) (Contains l z)) is tells
-
-pub among_by_search : (xs : List ℕ) (x : ℕ) (r : Result ℕ ℕ) → IsBinarySearchResult (λ y. nat_cmp y x) xs r → IsStrictlyIncreasing xs → is_ok r ≡ list_any (nat_eq x) xs
-among_by_search xs x r found up = by r (searched xs x r found (λ i j le lt. non_decreasing_from_sorted xs (sorted_from_strictly_increasing xs up) i j 0 le lt))
-  where
-    tells : Decides (list_any (nat_eq x) xs) (Contains xs x)
-    tells = is_member-Decides nat_eq_tells xs x
 
     not_so : (b : Bool) → (b ≡ true → ⊥) → false ≡ b
     not_so true never = absurd (never refl)

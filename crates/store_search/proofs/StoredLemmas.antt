@@ -11,9 +11,6 @@ use Rattle.store_derived.specs.Spans.{no_span}
 use Rattle.store_search.specs.Stored.{indexed, stored, AreStored}
 use Rattle.store_derived.specs.declared.spans.Span.{Span}
 
-pub none_stored : AreStored [] [] []
-none_stored = record { keys_size = refl; texts_size = refl; keys_text = λ k d lt. absurd (omega (arith, lt)); texts_text = λ k d lt. absurd (omega (arith, lt)) }
-
 pub size_stored : (keys texts : List (List ℕ)) (spans : List Span) → length keys ≡ length spans → length texts ≡ length spans → length (stored keys texts spans) ≡ length spans
 size_stored [] texts [] a b = refl
 size_stored [] texts (span ∷ spans) a b = absurd (omega (arith, a))
