@@ -14,7 +14,7 @@ use Rattle.store_commands.specs.declared.reads.ReadInstall.{ReadInstall}
 use Rattle.store_desk.specs.Coming.{IsIndexOfInstall}
 use Rattle.store_desk.specs.declared.making.IndexPart.{IndexPart}
 use Rattle.store_desk.specs.declared.making.IndexPart.TheVariants.{Entries, Parts, Lost}
-use Rattle.store_desk.proofs.StandingLemmas.{one_more}
+use Rattle.store_search.proofs.EditionLemmas.{one_more}
 
 -- one entry more
 pub entry_next : (lines : List Line) (i : ℕ) (said : Line) (before after : List Indexed) → slice_get lines i ≡ Some said → before ≡ map entry_of (take i lines) → after ≡ before ++ entry_of said ∷ [] → after

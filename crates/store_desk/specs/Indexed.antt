@@ -12,7 +12,7 @@ use Rattle.dict_catalogue.specs.Views.{item_shown}
 use Rattle.store_commands.specs.declared.applied.Applied.{Applied}
 use Rattle.store_commands.specs.declared.applied.Applied.TheVariants.{Repeated, Done}
 use Rattle.dict_desk.specs.declared.fault.Fault.{Fault}
-use Rattle.store_lookup.specs.Indexes.{entries_under}
+use Rattle.store_lookup.specs.Indexes.{entries_under, IsGone}
 use Rattle.store_holdings.specs.Texts.{HoldsText}
 use Rattle.store_lookup.specs.Texts.{Cuts}
 use Rattle.store_search.specs.Entries.{Indexed, entry_of}
@@ -41,10 +41,6 @@ index_coming (Place name at) = None
 abbrev pub HasPutIfSome : ℕ → Option (List Indexed) → List (ℕ × List Indexed) → List (ℕ × List Indexed) → Type 0
 HasPutIfSome number (Some index) old new = (q : ℕ) → entries_under q new ≡ (if nat_eq number q then Some index else entries_under q old)
 HasPutIfSome number None old new = new ≡ old
-
--- no index stands under a number that none of these items' editions has
-abbrev pub IsGone : List Item → List (ℕ × List Indexed) → ℕ → Type 0
-IsGone items indexes number = AllByRecursion (λ item. AllByRecursion (λ one. one ≢ number) (numbers_of (item_shown item))) items → entries_under number indexes ≡ None
 
 -- Behind a command that acted, under the numbers of the editions that are there then stands what stood there; behind one that didn't, under
 -- all numbers but that which an edition was to get.

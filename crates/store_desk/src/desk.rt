@@ -19,7 +19,6 @@ ghost use Rattle.store_desk.specs.Prepared.{Undoes};
 ghost use Rattle.store_rows.specs.Versions.{known};
 
 use crate::coming::Coming;
-use crate::indexing::make_indexes;
 use crate::last::LastCall;
 use crate::withdrawing::undo;
 use dict_catalogue::Summary;
@@ -28,7 +27,7 @@ use sqlite::{Alter, Connection};
 use std::alloc::Global;
 use std::marker::Model;
 use store_commands::Draft;
-use store_lookup::{Indexes, TextParts};
+use store_lookup::{Indexes, TextParts, make_indexes};
 use store_migration::create;
 
 /// A desk over one database: the connection to it, the summary of the catalogue that it holds, and an index of each of its editions,

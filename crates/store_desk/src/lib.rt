@@ -2,7 +2,6 @@
 #![tactic(auto)]
 
 mod adopting;
-mod answering;
 mod closing;
 mod coming;
 mod copying;

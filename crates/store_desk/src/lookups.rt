@@ -1,5 +1,4 @@
 // What readers ask of a desk.
-use crate::answering::{count_under, find_under, heads_under};
 use crate::desk::Desk;
 use crate::kept::forget_by;
 use crate::last::{LastCall, last_by};
@@ -7,6 +6,7 @@ use dict_catalogue::Summary;
 use dict_desk::{End, Fault, Lookup, RowSink, What};
 use dict_match::{Key, Strategy};
 use sqlite::Alter;
+use store_lookup::{count_under, find_under, heads_under};
 
 impl<S: Alter + Drop> Lookup for Desk<S> {
     ghost use Rattle.std.specs.Prelude.{◌≡◌, true, false};

@@ -14,3 +14,4 @@ pub mod RecordLemmas
 pub mod RowLemmas
 pub mod StateLemmas
 pub mod TakenLemmas
+pub mod NumberLemmas

@@ -1,10 +1,13 @@
 -- Indexes of editions, by the numbers of the editions.
-use Rattle.std.specs.Prelude.{◌≡◌, ℕ, List, [], map, nat_eq, Option, Some}
+use Rattle.std.specs.Prelude.{◌≡◌, ◌≢◌, ℕ, List, [], map, nat_eq, Option, Some, None}
+use Rattle.std.specs.List.{AllByRecursion}
 use Rattle.std.specs.BTreeMap.{insert_entry}
 use Rattle.std.specs.Map.{lookup}
 use Rattle.std.specs.Ordering.{nat_cmp}
 use Rattle.dict_index.specs.Edition.{Edition, ReadEdition, edition_of}
-use Rattle.dict_catalogue.specs.Items.{Stored}
+use Rattle.dict_catalogue.specs.Items.{Stored, numbers_of}
+use Rattle.dict_catalogue.specs.Views.{item_shown}
+use Rattle.dict_catalogue.specs.declared.summary.Item.{Item}
 use Rattle.store_search.specs.Entries.{Indexed, entry_of}
 
 -- the entries of the index that stands under a number
@@ -21,3 +24,7 @@ pub record HasIndexOf (indexes : List (ℕ × List Indexed)) (stored : Stored Ed
 pub record IsOut (number : ℕ) (index : List Indexed) (before now : List (ℕ × List Indexed)) : Type 0 where
   pub there : entries_under number now ≡ Some []
   pub back : insert_entry nat_cmp now number index ≡ before
+
+-- no index stands under a number that none of these items' editions has
+abbrev pub IsGone : List Item → List (ℕ × List Indexed) → ℕ → Type 0
+IsGone items indexes number = AllByRecursion (λ item. AllByRecursion (λ one. one ≢ number) (numbers_of (item_shown item))) items → entries_under number indexes ≡ None

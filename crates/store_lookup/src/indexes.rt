@@ -1,6 +1,5 @@
 // Indexes by numbers.
 ghost use Rattle.std.specs.Prelude.{◌≡◌, ℕ, List, [], nat_eq, None, Some, Ok, IfOk, OnOk, OnErr, if◌then◌else◌};
-ghost use Rattle.std.specs.List.{list_any};
 ghost use Rattle.store_search.specs.Entries.{Indexed};
 ghost use Rattle.store_lookup.specs.Indexes.{entries_under, IsOut};
 

@@ -2,6 +2,7 @@
 #![tactic(auto)]
 
 mod builder;
+mod edition;
 mod entries;
 mod found;
 mod index;
@@ -11,6 +12,7 @@ mod same;
 mod shown;
 
 pub use builder::IndexBuilder;
+pub use edition::index_of_edition;
 pub use found::{Counted, Found};
 pub use index::{Index, IndexedEntry};
 pub use laws::{edition_laws, selection_law};

@@ -1,8 +1,9 @@
 use Rattle.std.proofs.Common.{List, subst}
 use Rattle.std.specs.List.{AllByRecursion}
 use Rattle.dict_catalogue.specs.declared.summary.Item.{Item}
-use Rattle.store_desk.specs.Indexed.{IsGone}
-use Rattle.store_desk.proofs.StandingLemmas.{OfNumbers, Same, gone_done, settled_done}
+use Rattle.store_lookup.specs.Indexes.{IsGone}
+use Rattle.store_lookup.proofs.NumberLemmas.{OfNumbers, Same}
+use Rattle.store_desk.proofs.StandingLemmas.{gone_done, settled_done}
 use Rattle.store_desk.proofs.indexing.settle.Goals as goal
 
 pub returns-in-Ok-Done-clause-settled : goal.returns-in-Ok-Done-clause-settled

@@ -27,7 +27,7 @@ use Rattle.store_desk.proofs.AppliedLemmas.{committed_rested, finished_over}
 use Rattle.store_desk.proofs.CauseLemmas.{fails_to_apply}
 use Rattle.store_desk.proofs.FinishLemmas.{never_shut, reply_kind, unfinished_rests, unfinished_shows}
 use Rattle.store_desk.proofs.KeeperLemmas.{closed_by, none_by, others_by, told_rests, told_applies, told_leaves, told_spares, failed_by}
-use Rattle.store_desk.proofs.StandingLemmas.{beside_one}
+use Rattle.store_lookup.proofs.NumberLemmas.{beside_one}
 use Rattle.store_desk.proofs.desk.Desk.finish.Goals as goal
 
 abbrev LeftBeside : State → Trees → Type 0
