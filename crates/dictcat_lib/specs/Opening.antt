@@ -9,7 +9,7 @@ use Rattle.dict_desk.specs.declared.fault.Fault.{Fault as DeskFault}
 use Rattle.dict_desk.specs.declared.fault.Fault.TheVariants.{NotACatalogue, Disk}
 use Rattle.store_holdings.specs.Holds.{Holds, Rests, IsLeftAs, HasPlace}
 use Rattle.store_migration.specs.Making.{creation, CreationFailsToEnd}
-use Rattle.store_migration.specs.Moved.{AreTreesOf}
+use Rattle.store_holdings.specs.Committed.{IsTreesOf}
 use Rattle.store_migration.specs.Spared.{SparesOthers}
 use Rattle.store_opening.specs.Reading.{HasFailedToRead}
 use Rattle.store_rows.specs.Versions.{known}
@@ -56,7 +56,7 @@ module _ {S : Type 0} (g : Ghosts S) where
     pub rests : HasCleanDisk (state g desk.conn) → Rests known (state g desk.conn) empty_catalogue
     pub only : LeavesOneOf g desk (Some empty_catalogue ∷ [])
     pub others : HasCleanDisk (state g desk.conn) → SparesOthers (state g conn).now (state g desk.conn).now
-    pub beside : Survives (state g (record conn { step_limit = None })) (state g desk.conn) (AreTreesOf (SparesOthers (state g conn).now))
+    pub beside : Survives (state g (record conn { step_limit = None })) (state g desk.conn) (IsTreesOf (SparesOthers (state g conn).now))
 
   -- None was made: there is no place for it; or a part of its making failed, behind those before it, or its commit did. Only where the
   -- store failed may a stop leave the empty catalogue, beside the tables of others as they were.
@@ -65,7 +65,7 @@ module _ {S : Type 0} (g : Ghosts S) where
     pub crash : Survives (state g (record conn { step_limit = None })) (state g left) (IsLeftAs known empty_catalogue)
     pub failed : HasCleanDisk (state g left) → fault ≢ NotACatalogue → CreationFailsToEnd g (creation known) (λ db. Holds known db empty_catalogue) (record conn { step_limit = None }) left fault
     pub adds_none : is_disk fault ≡ false → Survives (state g (record conn { step_limit = None })) (state g left) (λ _. ⊥)
-    pub beside : Survives (state g (record conn { step_limit = None })) (state g left) (AreTreesOf (SparesOthers (state g conn).now))
+    pub beside : Survives (state g (record conn { step_limit = None })) (state g left) (IsTreesOf (SparesOthers (state g conn).now))
 
   -- the database of a desk was read whole, and holds a catalogue at rest
   abbrev pub IsSound : DeskState S → Type 0

@@ -85,5 +85,3 @@ short_parts body digits rest index text size cut is small short parts =
     let few = parts.few in
     let equal : size ≡ length index = decimal_injective size (length index) (omega (arith, small)) (omega (arith, few)) (sym is ∙ same.0) in
     omega (arith, equal, short, ap length same.1, length-append index text)
-
-}

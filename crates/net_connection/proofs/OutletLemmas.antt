@@ -169,8 +169,6 @@ same_waiting q r octets sent = ap (λ o. drop r.sent o.items) octets ∙ ap (λ 
 pub puts_noted : (bytes : List ℕ) (t0 : Trail) (q0 : Queue) (t : Trail) (q r : Queue) → r.octets ≡ q.octets → r.sent ≡ q.sent → PutsSome bytes t0 q0 t q → PutsSome bytes t0 q0 t r
 puts_noted bytes t0 q0 t q r octets sent (k, within, put) = (k, within, ap (λ w. t.octets ++ w) (same_waiting q r octets sent) ∙ put)
 
-)
-
 -- as many wait as may, and the last call took nothing
 pub stuck_full : (a b : Option (List Call)) (n : ℕ) (q : Queue) → length (waiting q) ≡ 1048576 → length q.refused.octets ≡ n → Follow end_in_vain a b → IsStuck a b n q
 stuck_full a b n q full same vain = (λ few. (full, vain), λ more. absurd (omega (arith, same, more)))

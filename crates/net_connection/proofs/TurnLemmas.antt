@@ -563,12 +563,6 @@ closed_drained true most (receiveds.Octets count) before closed = closed_by_coun
 closed_drained true most receiveds.End before closed = refl
 closed_drained true most receiveds.Failed before closed = refl
 
--- nothing is told, and the connection is as before but for how far it has come
-}
-
--- nothing is read
-}
-
 leads_away : {T : Type 0} (made : T → Option (List Call)) (a d : Connection T) (sending : Sent) (told : Bool) (reading : Received) → sending ≢ sents.Failed
     → LeadsOut made sending told reading a d → LeadsAway made sending told reading a d
 leads_away made a d sents.Nothing told reading well leads = leads

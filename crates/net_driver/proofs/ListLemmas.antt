@@ -74,8 +74,6 @@ among_fitting most (x ∷ xs) id octets h = by_room (λ behind. among_fitting mo
     by_room more true h = h
     by_room more false h = inr (more h)
 
-]
-
 pub among_filter : {T : Type 0} (p : Connection T → Bool) (xs : List (Connection T)) (id : ℕ) (octets : List ℕ) → WaitsAmong (filter p xs) id octets → WaitsAmong xs id octets
 among_filter p [] id octets never = absurd never
 among_filter p (x ∷ xs) id octets h =

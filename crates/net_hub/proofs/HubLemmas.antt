@@ -92,8 +92,6 @@ push_others host ids lines id line even other (Some held) ne at = record {
   holds = λ d. subst (λ one. HoldsExchange host other one held) (sym (get_or_append_left lines (line ∷ []) d at.place (omega (arith, even, at.within)))) (at.holds d);
 }
 
-}
-
 -- one is closed
 pub remove_others : (host ids : List ℕ) (lines : List Exchange) (p id : ℕ) → length lines ≡ length ids → p < length ids → get_or ids p 0 ≡ id
     → (other : ℕ) (held : Option Holding) → other ≢ id → StandsAt host ids lines other held → StandsAt host (remove ids p) (remove lines p) other held

@@ -26,7 +26,8 @@ use Rattle.store_holdings.proofs.FileLemmas.{is_new}
 use Rattle.store_holdings.specs.Texts.{text_rows}
 use Rattle.store_commands.specs.KeptRecords.{HasRecords, KeepsTextRows, TurnsRecords}
 use Rattle.store_commands.specs.Changes.{change_by, installed_by, IsWritable}
-use Rattle.store_commands.specs.Committed.{IsCommitted, IsOfStore}
+use Rattle.store_holdings.specs.Committed.{IsCommitted}
+use Rattle.store_commands.specs.Committed.{IsOfStore}
 use Rattle.store_commands.specs.Decided.{LiesWithin}
 use Rattle.store_commands.specs.Installed.{HasTextOf}
 use Rattle.store_commands.specs.Answers.{HoldsBy}

@@ -33,7 +33,8 @@ use Rattle.store_holdings.specs.Writing.{FailsToEnd}
 use Rattle.store_commands.specs.KeptRecords.{SparesTablesOfOthers, TurnsRecords}
 use Rattle.store_commands.specs.Changes.{change_by}
 use Rattle.store_commands.specs.Decided.{IsDeclined, LiesWithin}
-use Rattle.store_commands.specs.Committed.{IsCommitted, IsTreesOf, StaysCommitted, IsOfStore, FailsToCommit}
+use Rattle.store_holdings.specs.Committed.{IsCommitted, IsTreesOf}
+use Rattle.store_commands.specs.Committed.{StaysCommitted, IsOfStore, FailsToCommit}
 use Rattle.store_commands.specs.Answers.{Answers, HoldsBy, summary_after, IsOfShut, HoldsAfter, IsPlanned, FailsToAct, FailsToApply}
 use Rattle.store_commands.specs.Statements.{statements_of}
 use Rattle.store_sql.specs.Statements.{Statement}

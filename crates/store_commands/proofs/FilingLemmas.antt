@@ -26,12 +26,13 @@ use Rattle.store_rows.specs.Versions.{known}
 use Rattle.store_rows.proofs.AfterLemmas.{filter_none}
 use Rattle.store_rows.proofs.PartLemmas.{filter_filter}
 use Rattle.store_rows.proofs.TakenLemmas.{same_number_is}
+use Rattle.store_holdings.specs.Texts.{rows_under}
 use Rattle.store_holdings.specs.Files.{parts_under, installed_parts}
 use Rattle.store_holdings.specs.AllTables.{AllTables, all_after}
 use Rattle.store_holdings.specs.Holds.{Keeps}
 use Rattle.store_commands.specs.KeptRecords.{HasRecords, IsUsable, HoldsReplies, TurnsRecords}
 use Rattle.store_commands.specs.Changes.{with_more_parts, without_parts}
-use Rattle.store_commands.specs.Filing.{parts_of_filing, IsDrawnUp, AreAllPartsFiled, IsOfEdition, HasNoneFiled, filed_by, IsAhead, rows_under, HasSameUnder, HasSameRows, ShowsStill, rested, IsUnderway}
+use Rattle.store_commands.specs.Filing.{parts_of_filing, IsDrawnUp, AreAllPartsFiled, IsOfEdition, HasNoneFiled, filed_by, IsAhead, HasSameUnder, HasSameRows, ShowsStill, rested, IsUnderway}
 use Rattle.store_commands.specs.Finishing.{finished, IsOfChange, AwaitsRest}
 use Rattle.store_commands.specs.FiledParts.{Files, Trims}
 use Rattle.store_commands.specs.Statements.{adding_part}

@@ -31,7 +31,8 @@ use Rattle.store_holdings.specs.Writing.{FailsAtLast}
 use Rattle.store_commands.specs.KeptRecords.{IsUsable, SparesTablesOfOthers, KeepsTextRows, TurnsRecords, HoldsReplies}
 use Rattle.store_commands.specs.Changes.{change_by, IsInRange}
 use Rattle.store_commands.specs.Decided.{LiesWithin}
-use Rattle.store_commands.specs.Committed.{IsCommitted, IsTreesOf, IsOfStore}
+use Rattle.store_holdings.specs.Committed.{IsCommitted, IsTreesOf}
+use Rattle.store_commands.specs.Committed.{IsOfStore}
 use Rattle.store_commands.specs.Answers.{HoldsBy, HoldsAfter, Answers, has_written, summary_after, numbers_after, IsOfApply, IsOfShut}
 use Rattle.store_commands.specs.Filing.{rested, FailsInside, IsAhead, IsUnderway, AreAllPartsFiled}
 use Rattle.store_commands.specs.Finishing.{finishing, finished, AwaitsRest, IsOfChange, IsAppliedOver, IsUndone, LooksOnly, FailsToFinish}

@@ -15,7 +15,7 @@ use Rattle.store_holdings.specs.Holds.{Holds}
 use Rattle.store_holdings.specs.Texts.{HoldsText, text_rows}
 use Rattle.store_commands.specs.KeptRecords.{HasRecords, TurnsRecords}
 use Rattle.store_commands.specs.Changes.{with_mark}
-use Rattle.store_commands.specs.Committed.{IsCommitted}
+use Rattle.store_holdings.specs.Committed.{IsCommitted}
 use Rattle.store_commands.specs.Answers.{HoldsBy}
 use Rattle.store_commands.specs.Marking.{Remains}
 use Rattle.store_commands.proofs.TableLemmas.{parts_kept}

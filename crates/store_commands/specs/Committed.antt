@@ -1,8 +1,6 @@
 -- What a transaction leaves of a store.
-use Rattle.std.specs.Prelude.{◌≡◌, ◌⊎◌, IsTrue}
-use Rattle.sqlite.specs.Effect.{Database, IsDatabase}
-use Rattle.sqlite.specs.Tree.{Trees}
-use Rattle.sqlite.specs.State.{State}
+use Rattle.std.specs.Prelude.{◌≡◌, ◌⊎◌}
+use Rattle.sqlite.specs.Effect.{Database}
 use Rattle.dict_desk.specs.declared.fault.Fault.{Fault}
 pub use Rattle.store_holdings.specs.Faults.{IsOfStore}
 pub use Rattle.store_holdings.specs.Writing.{StaysCommitted}
@@ -13,17 +11,6 @@ use Rattle.store_rows.specs.After.{TableChange}
 use Rattle.store_rows.specs.Versions.{known}
 use Rattle.store_commands.specs.Statements.{statements_of}
 use Rattle.dict_desk.specs.declared.fault.Fault.TheVariants.{Memory}
-
--- trees that a stop may leave: those of a database of this kind
-abbrev pub IsTreesOf : (Database → Type 0) → Trees → Type 0
-IsTreesOf P trees = (db : Database) × (trees ≡ db.trees) × IsDatabase db × P db
-
--- the store is open and shows what is committed, which is of this kind, and a stop leaves such a database alone
-pub record IsCommitted (P : Database → Type 0) (s : State) : Type 0 where
-  pub is_open : IsTrue s.is_open
-  pub settled : s.now ≡ s.committed
-  pub holds : P s.committed
-  pub only : (trees : Trees) → s.may_leave trees → IsTreesOf P trees
 
 -- A planned command is not committed: a growth was refused before anything was written, and all is as it was; or one of its
 -- statements failed behind those before it, or its commit did.

@@ -1,14 +1,12 @@
 -- The files of an edition that a command is to install, their parts filed some at a time in a transaction that stays open between calls.
-use Rattle.std.specs.Prelude.{◌≡◌, ◌≢◌, ◌⊎◌, ℕ, ◌+◌, ◌≤◌, pos, true, false, IsTrue, List, ◌++◌, Option, Some, None, codes, map, filter, take, drop, length, IsPermutation}
+use Rattle.std.specs.Prelude.{◌≡◌, ◌≢◌, ◌⊎◌, ℕ, ◌+◌, ◌≤◌, pos, true, false, IsTrue, List, ◌++◌, Option, Some, None, codes, take, length, IsPermutation}
 use Rattle.sqlite.specs.Effect.{Database}
-use Rattle.sqlite.specs.Order.{Row}
 use Rattle.sqlite.specs.State.{State, HasCleanDisk, KeepsCommit, Survives}
 use Rattle.sqlite.specs.Held.{Held, state}
 use Rattle.sqlite.specs.declared.error.Error.{Error}
 use Rattle.sqlite.specs.declared.error.Error.TheVariants.{SqliteFailure}
 use Rattle.sqlite.specs.declared.error.ErrorCode.TheVariants as code
 use Rattle.sqlite_trees.specs.declared.store.Store.{Ghosts}
-use Rattle.store_sql.specs.Effects.{equals_number, rows_of}
 use Rattle.store_sql.specs.Statements.{Statement, FailsInTurn}
 use Rattle.store_records.specs.Records.{Part}
 use Rattle.store_parts.specs.Stored.{stored_index}
@@ -17,6 +15,7 @@ use Rattle.dict_desk.specs.declared.fault.Fault.{Fault}
 use Rattle.dict_desk.specs.declared.fault.Fault.TheVariants.{Memory, Disk}
 use Rattle.store_rows.specs.After.{Installed, is_gone}
 use Rattle.store_holdings.specs.Files.{parts_under}
+use Rattle.store_holdings.specs.Texts.{rows_under}
 use Rattle.store_holdings.specs.AllTables.{AllTables}
 use Rattle.store_commands.specs.KeptRecords.{HasRecords, IsUsable, SparesTablesOfOthers, HoldsReplies, FitsColumn, AreStorable}
 use Rattle.store_commands.specs.Changes.{without_parts}
@@ -78,10 +77,6 @@ module _ {S : Type 0} (g : Ghosts S) where
   IsUnderway f h = HasCleanDisk (state g h) → IsTrue (state g h).is_open → (state g h).in_transaction ≡ true → IsAhead f (state g h).committed (state g h).now
 
 -- ---- what lookups find meanwhile
-
--- the rows of a table that have this number, without their rowids
-abbrev pub rows_under : List ℕ → ℕ → Database → List Row
-rows_under name number db = map (drop 1) (filter (equals_number 1 (pos number)) (rows_of name db))
 
 abbrev pub HasSameUnder : List ℕ → ℕ → Database → Database → Type 0
 HasSameUnder name number old new = IsPermutation (rows_under name number old) (rows_under name number new)

@@ -21,7 +21,7 @@ use Rattle.store_holdings.specs.Writing.{FailsAtLast}
 use Rattle.store_commands.specs.KeptRecords.{HasRecords, SparesTablesOfOthers, KeepsTextRows}
 use Rattle.store_commands.specs.Changes.{IsInRange, with_mark, with_items, with_members, with_more_editions, without_editions, with_reply}
 use Rattle.store_commands.specs.Statements.{summary_anew, taking, adding_edition, replying}
-use Rattle.store_commands.specs.Committed.{IsTreesOf}
+use Rattle.store_holdings.specs.Committed.{IsTreesOf}
 use Rattle.store_commands.specs.Answers.{Answers, has_written, summary_after, numbers_after, IsOfApply, IsOfShut, IsPlanned, HoldsAfter, FailsToApply}
 use Rattle.store_commands.specs.declared.applied.Applied.{Applied}
 use Rattle.store_commands.specs.Installs.{install_read}

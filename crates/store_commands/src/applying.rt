@@ -10,7 +10,7 @@ ghost use Rattle.dict_desk.specs.Faults.{is_failure};
 ghost use Rattle.store_holdings.specs.Holds.{Holds, Rests, IsLeftAs};
 ghost use Rattle.store_commands.specs.KeptRecords.{SparesTablesOfOthers, KeepsTextRows};
 ghost use Rattle.store_commands.specs.Changes.{IsInRange};
-ghost use Rattle.store_commands.specs.Committed.{IsTreesOf};
+ghost use Rattle.store_holdings.specs.Committed.{IsTreesOf};
 ghost use Rattle.store_commands.specs.Answers.{HoldsBy, Answers, has_written, summary_after, numbers_after, IsOfApply, IsOfShut, FailsToAct, FailsToApply};
 ghost use Rattle.store_commands.specs.Installed.{HasInstalled};
 ghost use Rattle.store_rows.specs.Versions.{known};

@@ -10,7 +10,8 @@ ghost use Rattle.store_holdings.specs.Writing.{FailsToEnd};
 ghost use Rattle.store_commands.specs.KeptRecords.{TurnsRecords, IsUsable};
 ghost use Rattle.store_commands.specs.Changes.{change_by, index_by, IsWritable};
 ghost use Rattle.store_commands.specs.Statements.{statements_of};
-ghost use Rattle.store_commands.specs.Committed.{IsCommitted, IsTreesOf, StaysCommitted, IsOfStore, FailsToCommit};
+ghost use Rattle.store_holdings.specs.Committed.{IsCommitted, IsTreesOf};
+ghost use Rattle.store_commands.specs.Committed.{StaysCommitted, IsOfStore, FailsToCommit};
 
 use crate::files::installed_index;
 use crate::writing::write_all;

@@ -7,7 +7,8 @@ ghost use Rattle.store_sql.specs.Effects.{WhileOpen};
 ghost use Rattle.dict_catalogue.specs.Views.{summary_shown};
 ghost use Rattle.store_commands.specs.KeptRecords.{TurnsRecords, IsUsable, FitsColumn};
 ghost use Rattle.store_commands.specs.Changes.{with_mark};
-ghost use Rattle.store_commands.specs.Committed.{IsCommitted, IsTreesOf, IsOfStore, StaysCommitted};
+ghost use Rattle.store_holdings.specs.Committed.{IsCommitted, IsTreesOf};
+ghost use Rattle.store_commands.specs.Committed.{IsOfStore, StaysCommitted};
 ghost use Rattle.store_commands.specs.Answers.{HoldsBy};
 ghost use Rattle.store_commands.specs.Marking.{Remains, FailsToCommitMark, FailsToMark};
 

@@ -19,7 +19,7 @@ use Rattle.dict_desk.specs.declared.fault.Fault.{Fault}
 use Rattle.dict_desk.specs.declared.fault.Fault.TheVariants.{Refused, Memory, Disk, Closed, NotACatalogue, Damaged, NewerSchema}
 use Rattle.store_rows.specs.Versions.{known}
 use Rattle.store_holdings.specs.Holds.{Holds, Rests, IsLeftAs}
-use Rattle.store_commands.specs.Committed.{IsTreesOf}
+use Rattle.store_holdings.specs.Committed.{IsTreesOf}
 use Rattle.store_commands.specs.KeptRecords.{KeepsTextRows, SparesTablesOfOthers}
 use Rattle.store_commands.specs.Changes.{IsInRange}
 use Rattle.store_commands.specs.Filing.{rested}

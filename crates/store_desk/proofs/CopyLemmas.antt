@@ -18,7 +18,8 @@ use Rattle.store_lookup.specs.Texts.{ArePartsOf}
 use Rattle.store_lookup.specs.KeptTexts.{PartNumbers}
 use Rattle.store_search.specs.Entries.{Indexed}
 use Rattle.store_commands.specs.Answers.{HoldsBy}
-use Rattle.store_commands.specs.Committed.{IsOfStore, IsTreesOf, StaysCommitted}
+use Rattle.store_holdings.specs.Committed.{IsTreesOf}
+use Rattle.store_commands.specs.Committed.{IsOfStore, StaysCommitted}
 use Rattle.store_commands.specs.Marking.{Remains}
 use Rattle.store_commands.specs.declared.filing.Filing.{Filing}
 use Rattle.store_commands.proofs.WriteLemmas.{others_none}

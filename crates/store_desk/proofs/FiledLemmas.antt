@@ -21,8 +21,8 @@ use Rattle.store_rows.proofs.OrderLemmas.{all_same}
 use Rattle.store_rows.proofs.PartLemmas.{filter_filter}
 use Rattle.store_holdings.specs.AllTables.{AllTables, with_derived}
 use Rattle.store_holdings.specs.Holds.{HasLayout, Holds, Keeps}
-use Rattle.store_holdings.specs.Texts.{HoldsText, text_rows}
-use Rattle.store_lookup.specs.Searches.{HoldsOne, IsEditionReadable, rows_under}
+use Rattle.store_holdings.specs.Texts.{HoldsText, text_rows, rows_under}
+use Rattle.store_lookup.specs.Searches.{HoldsOne, IsEditionReadable}
 use Rattle.store_lookup.proofs.RowLemmas.{column_behind, filter_map}
 use Rattle.sqlite_trees.proofs.ListLemmas.{IsPermutation-filter}
 use Rattle.store_commands.specs.KeptRecords.{HasRecords, IsUsable, HoldsReplies}

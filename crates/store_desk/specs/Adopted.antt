@@ -12,7 +12,7 @@ use Rattle.store_holdings.specs.Holds.{Holds, IsHeld, Rests}
 use Rattle.store_opening.specs.Reading.{IsOfOpening, HasFailedToRead}
 use Rattle.store_migration.specs.Failing.{IsBeyond, FailsToMoveEditions}
 use Rattle.store_migration.specs.Migrated.{MayMigrate}
-use Rattle.store_migration.specs.Moved.{AreTreesOf}
+use Rattle.store_holdings.specs.Committed.{IsTreesOf}
 use Rattle.store_migration.specs.Spared.{SparesOthers}
 use Rattle.store_desk.specs.Desk.{DeskState, Shows, LeavesOneOf}
 use Rattle.store_desk.specs.Opened.{TellsOfDatabase, IsNotHeld}
@@ -21,7 +21,7 @@ use Rattle.store_rows.specs.Versions.{known}
 
 -- what an opening may commit: the store was open, and these are trees of a database in which the tables of others are as they were
 abbrev pub MayCommitBeside : State → Trees → Type 0
-MayCommitBeside s trees = IsTrue s.is_open × AreTreesOf (SparesOthers s.committed) trees
+MayCommitBeside s trees = IsTrue s.is_open × IsTreesOf (SparesOthers s.committed) trees
 
 module _ {S : Type 0} (g : Ghosts S) where
   -- The database holds a catalogue, which the desk over it shows, and a stop leaves that one alone. Where its tables are of an

@@ -11,7 +11,7 @@ use Rattle.dict_desk.specs.Faults.{is_failure}
 use Rattle.dict_desk.specs.declared.fault.Fault.{Fault}
 use Rattle.store_rows.specs.Versions.{known}
 use Rattle.store_holdings.specs.Holds.{Rests, IsLeftAs}
-use Rattle.store_commands.specs.Committed.{IsTreesOf}
+use Rattle.store_holdings.specs.Committed.{IsTreesOf}
 use Rattle.store_commands.specs.KeptRecords.{KeepsTextRows, SparesTablesOfOthers}
 use Rattle.store_commands.specs.Changes.{IsInRange}
 use Rattle.store_commands.specs.Filing.{rested}

@@ -17,7 +17,7 @@ use Rattle.dict_desk.specs.declared.fault.Fault.{Fault}
 use Rattle.dict_desk.specs.declared.fault.Fault.TheVariants.{Refused, Memory, Disk, Closed, NotACatalogue, Damaged, NewerSchema}
 use Rattle.store_holdings.specs.Faults.{fault_of, FailsToReadCatalogue}
 use Rattle.store_commands.specs.Answers.{FailsToApply}
-use Rattle.store_commands.specs.Committed.{IsTreesOf}
+use Rattle.store_holdings.specs.Committed.{IsTreesOf}
 use Rattle.store_commands.specs.KeptRecords.{SparesTablesOfOthers}
 use Rattle.store_commands.specs.Finishing.{FailsToApplyFiled}
 use Rattle.store_desk.specs.Desk.{DeskState, Shows, LeavesOneOf, is_closed}

@@ -11,7 +11,7 @@ use Rattle.store_holdings.specs.Texts.{HoldsText}
 use Rattle.store_lookup.specs.Searches.{HoldsOne, IsEditionReadable, number_in_column}
 pub use Rattle.store_commands.specs.Filing.{rested}
 use Rattle.store_commands.specs.declared.filing.Filing.{Filing}
-use Rattle.store_commands.specs.Committed.{IsCommitted}
+use Rattle.store_holdings.specs.Committed.{IsCommitted}
 use Rattle.store_commands.specs.Marking.{Remains}
 use Rattle.store_desk.specs.Desk.{DeskState, last_by}
 use Rattle.store_desk.specs.declared.last.LastCall.{LastCall}

@@ -9,7 +9,7 @@ ghost use Rattle.dict_desk.specs.Faults.{is_disk};
 ghost use Rattle.store_holdings.specs.Holds.{Holds, Rests, IsLeftAs, HasPlace};
 ghost use Rattle.store_holdings.specs.Writing.{StaysCommitted, IsOfCreation};
 ghost use Rattle.store_migration.specs.Making.{creation, CreationFailsToEnd};
-ghost use Rattle.store_migration.specs.Moved.{AreTreesOf};
+ghost use Rattle.store_holdings.specs.Committed.{IsTreesOf};
 ghost use Rattle.store_migration.specs.Spared.{SparesOthers};
 ghost use Rattle.store_commands.specs.Changes.{IsInRange};
 ghost use Rattle.store_commands.specs.Answers.{HoldsBy};
@@ -134,8 +134,8 @@ impl<S: Alter + Drop> Desk<S> {
         ensures made { IfOk result (λ desk. Survives (state S.Store (record conn { step_limit = None })) (state S.Store desk.conn) (IsLeftAs known empty_catalogue)) }
         ensures place { IfOk result (λ desk. HasPlace (state S.Store conn).now.schema) }
         ensures others { IfOk result (λ desk. HasCleanDisk (state S.Store desk.conn) → SparesOthers (state S.Store conn).now (state S.Store desk.conn).now) }
-        ensures beside { IfOk result (λ desk. Survives (state S.Store (record conn { step_limit = None })) (state S.Store desk.conn) (AreTreesOf (SparesOthers (state S.Store conn).now))) }
-        ensures beside_left { IfErr result (λ left. Survives (state S.Store (record conn { step_limit = None })) (state S.Store left.0) (AreTreesOf (SparesOthers (state S.Store conn).now))) }
+        ensures beside { IfOk result (λ desk. Survives (state S.Store (record conn { step_limit = None })) (state S.Store desk.conn) (IsTreesOf (SparesOthers (state S.Store conn).now))) }
+        ensures beside_left { IfErr result (λ left. Survives (state S.Store (record conn { step_limit = None })) (state S.Store left.0) (IsTreesOf (SparesOthers (state S.Store conn).now))) }
         ensures handed { IfErr result (λ left. left.0.in_transaction ≡ false) }
         ensures no_place { IfErr result (λ left. left.1 ≡ Fault.NotACatalogue → (HasPlace (state S.Store conn).now.schema → ⊥) × (left.0 ≡ record conn { step_limit = None })) }
         ensures crash { IfErr result (λ left. Survives (state S.Store (record conn { step_limit = None })) (state S.Store left.0) (IsLeftAs known empty_catalogue)) }

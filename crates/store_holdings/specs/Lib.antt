@@ -7,4 +7,5 @@ pub mod Room
 pub mod Holds
 pub mod Texts
 pub mod Faults
+pub mod Committed
 pub mod Writing

@@ -1,11 +1,15 @@
--- The text of an edition that a database has in parts.
+-- What a database has under the number of an edition, and the text that it has there in parts.
 use Rattle.std.specs.Prelude.{ℕ, ◌≤◌, pos, List, codes, map, drop, filter, IsPermutation}
 use Rattle.sqlite.specs.Effect.{Database}
 use Rattle.sqlite.specs.Order.{Row}
-use Rattle.store_sql.specs.Effects.{rows_of}
+use Rattle.store_sql.specs.Effects.{equals_number, rows_of}
 use Rattle.store_edition_sql.specs.PartRecords.{part_row}
 use Rattle.store_edition_sql.specs.Chosen.{is_of_file}
 use Rattle.store_holdings.specs.Files.{file_parts}
+
+-- the rows of a table that have this number, without their rowids
+abbrev pub rows_under : List ℕ → ℕ → Database → List Row
+rows_under name number db = map (drop 1) (filter (equals_number 1 (pos number)) (rows_of name db))
 
 -- the rows of the text of this number, without their rowids
 abbrev pub text_rows : ℕ → Database → List Row

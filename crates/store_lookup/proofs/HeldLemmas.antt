@@ -32,10 +32,10 @@ use Rattle.store_holdings.proofs.TellLemmas.{file_told, text_under, parts_held}
 use Rattle.dict_desk.specs.Shown.{HasEdition}
 use Rattle.store_holdings.specs.Readings.{KeepsAll}
 use Rattle.store_holdings.specs.Holds.{HasLayout, Holds}
-use Rattle.store_holdings.specs.Texts.{HoldsText, text_rows}
+use Rattle.store_holdings.specs.Texts.{HoldsText, text_rows, rows_under}
 use Rattle.store_holdings.proofs.ReadableLemmas as holdings
 use Rattle.store_search.specs.Entries.{entry_of}
-use Rattle.store_lookup.specs.Searches.{HasLookupTables, HoldsOne, IsEditionReadable, rows_under}
+use Rattle.store_lookup.specs.Searches.{HasLookupTables, HoldsOne, IsEditionReadable}
 use Rattle.store_lookup.specs.Texts.{Cuts}
 use Rattle.store_lookup.proofs.FailLemmas.{all_contains}
 use Rattle.store_lookup.proofs.RowLemmas.{column_behind, filter_map, rows_numbered, same_int}

@@ -1,8 +1,7 @@
 -- What a lookup asks of a database, what it reads there, and how it leaves it.
-use Rattle.std.specs.Prelude.{◌≡◌, ◌⊎◌, ◌≤◌, IsSome, IsPermutation, nat_le, if◌then◌else◌, ℕ, pos, List, [], ◌∷◌, codes, map, filter, drop}
+use Rattle.std.specs.Prelude.{◌≡◌, ◌⊎◌, ◌≤◌, IsSome, IsPermutation, nat_le, if◌then◌else◌, ℕ, pos, List, [], ◌∷◌, codes, filter}
 use Rattle.std.specs.List.{AllByRecursion}
 use Rattle.sqlite.specs.declared.error.Error.{Error}
-use Rattle.sqlite.specs.Order.{Row}
 use Rattle.sqlite.specs.Effect.{Database}
 use Rattle.sqlite.specs.State.{State, IsUnchanged, Fails}
 use Rattle.store_records.specs.Records.{header_of}
@@ -15,6 +14,7 @@ use Rattle.store_edition_sql.specs.Chosen.{is_of_file}
 use Rattle.store_edition_sql.specs.PartRecords.{part_columns}
 use Rattle.dict_index.specs.Edition.{ReadEdition}
 use Rattle.store_rows.specs.Written.{edition_record}
+use Rattle.store_holdings.specs.Texts.{rows_under}
 pub use Rattle.store_holdings.specs.Faults.{fault_of, fault_of_read, IsOfStore}
 use Rattle.dict_desk.specs.declared.fault.Fault.{Fault}
 use Rattle.dict_desk.specs.declared.fault.Fault.TheVariants.{Refused, Memory, Disk, Closed, NotACatalogue, Damaged, NewerSchema}
@@ -25,10 +25,6 @@ pub record HasLookupTables (db : Database) : Type 0 where
   pub parts : Has part db
 
 -- ---- what the database holds under the number of an edition
-
--- the rows of a table that have this number, without their rowids
-abbrev pub rows_under : List ℕ → ℕ → Database → List Row
-rows_under name number db = map (drop 1) (filter (equals_number 1 (pos number)) (rows_of name db))
 
 -- The database has this title and this info under this number: one header has the number.
 pub record HoldsOne (db : Database) (number : ℕ) (reading : ReadEdition) : Type 0 where

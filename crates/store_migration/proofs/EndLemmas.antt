@@ -12,7 +12,8 @@ use Rattle.dict_catalogue.specs.Tests.{Holdings}
 use Rattle.store_rows.specs.Versions.{Layout, layout_of, known}
 use Rattle.store_holdings.specs.Holds.{HasLayout, Holds, IsLeftAs, Rests}
 use Rattle.store_migration.specs.Migrated.{IsMigrated, MayMigrate}
-use Rattle.store_migration.specs.Moved.{AreTreesOf, IsOutcome}
+use Rattle.store_holdings.specs.Committed.{IsTreesOf}
+use Rattle.store_migration.specs.Moved.{IsOutcome}
 use Rattle.store_migration.specs.Older.{IsOld, layout_as}
 use Rattle.store_migration.specs.declared.older.Older.{Older}
 use Rattle.store_migration.proofs.MovedLemmas.{moved}
@@ -66,9 +67,9 @@ module _ (version : ℕ) (older : Older) (is : layout_of version ≡ layout_as o
   pub outcome_holds : (new : Database) → IsOutcome older numbers installs s new → (M : Catalogue) → Holds version s.committed M → Holds known new M
   outcome_holds new it M held = migrated version s.committed new M (outcome_migrated new it) held
 
-  pub outcome_left : (trees : Trees) → AreTreesOf (IsOutcome older numbers installs s) trees → (M : Catalogue) → Holds version s.committed M → IsLeftAs known M trees
+  pub outcome_left : (trees : Trees) → IsTreesOf (IsOutcome older numbers installs s) trees → (M : Catalogue) → Holds version s.committed M → IsLeftAs known M trees
   outcome_left trees left M held = (left.0, left.1, left.2, outcome_holds left.0 left.3 M held)
 
-  pub outcome_may : 1 ≤ version → version < known → (trees : Trees) → AreTreesOf (IsOutcome older numbers installs s) trees → MayMigrate s trees
+  pub outcome_may : 1 ≤ version → version < known → (trees : Trees) → IsTreesOf (IsOutcome older numbers installs s) trees → MayMigrate s trees
   outcome_may counted before trees left =
       (left.3.was_open, (N, record { version = version; counted = counted; before = before; holds = rests.holds }, outcome_left trees left N rests.holds))

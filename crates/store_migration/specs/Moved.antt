@@ -1,8 +1,7 @@
 -- A whole migration, before its commit.
 use Rattle.std.specs.Prelude.{◌≡◌, ℕ, ℤ, true, IsTrue, List, codes, map}
-use Rattle.sqlite.specs.Effect.{Database, IsDatabase}
+use Rattle.sqlite.specs.Effect.{Database}
 use Rattle.sqlite.specs.State.{State}
-use Rattle.sqlite.specs.Tree.{Trees}
 use Rattle.store_records.specs.Records.{HeaderRecord}
 use Rattle.store_sql.specs.Added.{AreAdded}
 use Rattle.store_sql.specs.Creates.{IsMade}
@@ -51,14 +50,3 @@ pub record IsMoved (older : Older) (numbers : List ℤ) (installs : ℕ) (old ne
 pub record IsOutcome (older : Older) (numbers : List ℤ) (installs : ℕ) (old : State) (new : Database) : Type 0 where
   pub was_open : IsTrue old.is_open
   pub moved : IsMoved older numbers installs old.now new
-
--- trees that a stop may leave: those of a database of this kind
-abbrev pub AreTreesOf : (Database → Type 0) → Trees → Type 0
-AreTreesOf P trees = (db : Database) × (trees ≡ db.trees) × IsDatabase db × P db
-
--- the store is open and shows what is committed, which is of this kind, and a stop leaves such a database alone
-pub record IsCommitted (P : Database → Type 0) (s : State) : Type 0 where
-  pub is_open : IsTrue s.is_open
-  pub settled : s.now ≡ s.committed
-  pub holds : P s.committed
-  pub only : (trees : Trees) → s.may_leave trees → AreTreesOf P trees

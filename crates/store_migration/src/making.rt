@@ -13,7 +13,7 @@ ghost use Rattle.dict_desk.specs.Faults.{is_disk};
 ghost use Rattle.store_holdings.specs.Holds.{Holds, Rests, IsLeftAs, HasPlace};
 ghost use Rattle.store_holdings.specs.Writing.{StaysCommitted, IsOfCreation};
 ghost use Rattle.store_migration.specs.Making.{creation, CreationFailsToEnd, StepsRunInTurn, StepsFailInTurn};
-ghost use Rattle.store_migration.specs.Moved.{AreTreesOf};
+ghost use Rattle.store_holdings.specs.Committed.{IsTreesOf};
 ghost use Rattle.store_migration.specs.Spared.{SparesOthers};
 
 use dict_desk::Fault;
@@ -80,7 +80,7 @@ fn commit_tables<S: Alter>(conn: &mut Connection<S>) -> Result<(), Fault>
     ensures rests { HasCleanDisk (state S.Store conn.new) → OnOk result (Rests known (state S.Store conn.new) empty_catalogue) }
     ensures only { HasCleanDisk (state S.Store conn.new) → OnOk result ((trees : _) → (state S.Store conn.new).may_leave trees → IsLeftAs known empty_catalogue trees) }
     ensures spares { HasCleanDisk (state S.Store conn.new) → OnOk result (SparesOthers (state S.Store conn.old).now (state S.Store conn.new).now) }
-    ensures beside { Survives (state S.Store conn.old) (state S.Store conn.new) (AreTreesOf (SparesOthers (state S.Store conn.old).now)) }
+    ensures beside { Survives (state S.Store conn.old) (state S.Store conn.new) (IsTreesOf (SparesOthers (state S.Store conn.old).now)) }
     ensures adds_none { IfErr result (λ fault. is_disk fault ≡ false → Survives (state S.Store conn.old) (state S.Store conn.new) (λ _. ⊥)) }
     ensures undone { HasCleanDisk (state S.Store conn.new) → IfErr result (λ fault. is_disk fault ≡ false → IsTrue (state S.Store conn.new).is_open → (state S.Store conn.new).committed ≡ (state S.Store conn.old).committed) }
     ensures stays { HasCleanDisk (state S.Store conn.new) → OnErr result (StaysCommitted (state S.Store conn.old) (state S.Store conn.new)) }
@@ -112,7 +112,7 @@ pub fn create<S: Alter>(conn: &mut Connection<S>) -> Result<(), Fault>
     ensures rests { HasCleanDisk (state S.Store conn.new) → OnOk result (Rests known (state S.Store conn.new) empty_catalogue) }
     ensures only { HasCleanDisk (state S.Store conn.new) → OnOk result ((trees : _) → (state S.Store conn.new).may_leave trees → IsLeftAs known empty_catalogue trees) }
     ensures spares { HasCleanDisk (state S.Store conn.new) → OnOk result (SparesOthers (state S.Store conn.old).now (state S.Store conn.new).now) }
-    ensures beside { Survives (state S.Store conn.old) (state S.Store conn.new) (AreTreesOf (SparesOthers (state S.Store conn.old).now)) }
+    ensures beside { Survives (state S.Store conn.old) (state S.Store conn.new) (IsTreesOf (SparesOthers (state S.Store conn.old).now)) }
     ensures place { OnOk result (HasPlace (state S.Store conn.old).now.schema) }
     ensures no_place { (result ≡ Err Fault.NotACatalogue) ↔ (HasPlace (state S.Store conn.old).now.schema → ⊥) }
     ensures unchanged { result ≡ Err Fault.NotACatalogue → conn.new ≡ conn.old }

@@ -14,7 +14,8 @@ ghost use Rattle.store_sql.specs.Effects.{WhileOpen, seen};
 ghost use Rattle.store_holdings.specs.Holds.{Holds, IsLeftAs, Rests};
 ghost use Rattle.store_holdings.specs.Writing.{StaysCommitted};
 ghost use Rattle.store_migration.specs.Migrated.{IsMigrated, MayMigrate};
-ghost use Rattle.store_migration.specs.Moved.{AreTakenApart, AreTreesOf, IsCommitted, IsOutcome};
+ghost use Rattle.store_holdings.specs.Committed.{IsCommitted, IsTreesOf};
+ghost use Rattle.store_migration.specs.Moved.{AreTakenApart, IsOutcome};
 ghost use Rattle.store_migration.specs.Older.{IsOld, layout_as};
 ghost use Rattle.store_migration.specs.FailurePlaces.{InApart, InMove};
 ghost use Rattle.store_migration.specs.Spared.{SparesOthers};
@@ -101,7 +102,7 @@ fn migrate_from<S: Alter>(
     ensures failed { HasCleanDisk (state S.Store conn.new) → IfErr result (MigrationFailsToEnd S.Store (InMove layout numbers.now installs) (IsOutcome layout numbers.now installs (state S.Store conn.old)) conn.old conn.new) }
     ensures kinds { IfErr result IsOfStore }
     ensures autocommit { (state S.Store conn.new).in_transaction ≡ false }
-    ensures crash { Survives (state S.Store conn.old) (state S.Store conn.new) (AreTreesOf (IsOutcome layout numbers.now installs (state S.Store conn.old))) }
+    ensures crash { Survives (state S.Store conn.old) (state S.Store conn.new) (IsTreesOf (IsOutcome layout numbers.now installs (state S.Store conn.old))) }
 {
     let mut tx = conn.transaction();
     if let Err(error) = migrate_inside(alloc, &mut tx, layout, numbers, installs) {
@@ -177,7 +178,7 @@ pub fn migrate<S: Alter>(
     ensures rests { HasCleanDisk (state S.Store conn.new) → OnOk result ((M : Catalogue) → Holds version (state S.Store conn.old).committed M → Rests known (state S.Store conn.new) M) }
     ensures migrated { HasCleanDisk (state S.Store conn.new) → OnOk result (IsMigrated version (state S.Store conn.old).committed (state S.Store conn.new).committed) }
     ensures spares { HasCleanDisk (state S.Store conn.new) → OnOk result (SparesOthers (state S.Store conn.old).committed (state S.Store conn.new).committed) }
-    ensures beside { Survives (state S.Store conn.old) (state S.Store conn.new) (λ trees. IsTrue (state S.Store conn.old).is_open × AreTreesOf (SparesOthers (state S.Store conn.old).committed) trees) }
+    ensures beside { Survives (state S.Store conn.old) (state S.Store conn.new) (λ trees. IsTrue (state S.Store conn.old).is_open × IsTreesOf (SparesOthers (state S.Store conn.old).committed) trees) }
     ensures only { HasCleanDisk (state S.Store conn.new) → OnOk result ((M : Catalogue) → Holds version (state S.Store conn.old).committed M → (trees : Trees) → (state S.Store conn.new).may_leave trees → IsLeftAs known M trees) }
     ensures lives { HasCleanDisk (state S.Store conn.new) → IsTrue (state S.Store conn.new).is_open → IsTrue (state S.Store conn.old).is_open }
     ensures stays { HasCleanDisk (state S.Store conn.new) → OnErr result (StaysCommitted (state S.Store conn.old) (state S.Store conn.new)) }

@@ -2,7 +2,7 @@
 use Rattle.std.proofs.Common.{◌≡◌, ◌↔◌, ℕ, zero, suc, ◌+◌, ◌-◌, ◌<◌, ◌≤◌, Bool, true, false, cond, ◌&&◌, List, [], ◌∷◌, ◌++◌, map, take, length, get_or, filter, refl, ap, sym, ◌∙◌, subst, inl, inr, arith, append_assoc}
 use Rattle.std.proofs.Common.{append-nil, length-append, nat_eq, nat_lt, Result, Ok, Err}
 use Rattle.std.specs.Bool.{Decides}
-use Rattle.std.specs.Result.{MatchResult, OnOk, is_ok}
+use Rattle.std.specs.Result.{OnOk}
 use Rattle.std.specs.declared.cmp.Ordering.{Ordering}
 use Rattle.std.specs.declared.cmp.Ordering.TheVariants.{Less, Equal, Greater}
 use Rattle.std.specs.Ordering.{nat_cmp, ordering_then, ordering_reverse}
@@ -412,17 +412,6 @@ pub among : (more : List ℕ) (q : List ℕ → Bool) (keys : List (List ℕ)) (
 among more q keys z is =
     let tells : Decides (list_any (nat_eq z) more) (Contains more z) = is_member-Decides nat_eq_tells more z in
     subst (λ l. Decides (list_any (nat_eq z) more) (Contains l z)) is tells
-
-    not_so : (b : Bool) → (b ≡ true → ⊥) → false ≡ b
-    not_so true never = absurd (never refl)
-    not_so false never = refl
-
-    by : (r : Result ℕ ℕ) → MatchResult r (λ i. (i < length xs) × (get_or xs i 0 ≡ x)) (λ i. (i ≤ length xs) × ((k : ℕ) → k < i → get_or xs k 0 < x) × ((k : ℕ) → i ≤ k → k < length xs → x < get_or xs k 0)) → is_ok r ≡ list_any (nat_eq x) xs
-    by (Ok i) h = sym (tells.1 (i, h.0, get_or_default xs i x 0 h.0 ∙ h.1))
-    by (Err i) h = not_so (list_any (nat_eq x) xs) (λ e.
-        let c = tells.0 e in
-        let is : get_or xs c.0 0 ≡ x = get_or_default xs c.0 0 x c.1 ∙ c.2 in
-        elim (cases_lt c.0 i) [ inl less ↦ omega (arith, is, h.1 c.0 less) | inr le ↦ omega (arith, is, h.2 c.0 le c.1) ])
 
 -- one place more of those that are among others
 pub more_among : (p : ℕ → Bool) (xs old new : List ℕ) (i x : ℕ) (b : Bool) → i < length xs → x ≡ get_or xs i 0 → p x ≡ b → old ≡ filter p (take i xs) → new ≡ old ++ cond b (x ∷ []) [] → new ≡ filter p (take (i + 1) xs)

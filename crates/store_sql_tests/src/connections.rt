@@ -1,9 +1,7 @@
-//! The runs, each over memory, and two of them over two files that memory holds too. What is run stands in functions over any store.
+//! The runs, each over memory. What is run stands in functions over any store; over two files the tests of the store run the statements.
 
-use crate::texts::{close, open};
 use crate::{headers, inside, keyed, old, older, parts, plain};
-use sqlite::{Alter, Connection, Files};
-use sqlite_disk::{Disk, Memory};
+use sqlite::{Alter, Connection};
 use std::alloc::Global;
 use std::process::Abort;
 use std::test::Fail;
@@ -75,41 +73,5 @@ fn statements_in_memory(rt: HostRuntime) -> Result<(), Fail> {
     for runs in &IN_MEMORY {
         over_memory(&rt, rt.alloc(), *runs)?;
     }
-    Ok(())
-}
-
-// Over two files, of which the second is left.
-fn over_files<D: Disk + Drop>(
-    rt: &impl Abort,
-    alloc: Global,
-    files: Files<D>,
-    runs: &[Run],
-) -> Result<D, Fail> {
-    let mut conn = open(alloc, files)?;
-    let end = run_all(rt, alloc, &mut conn, runs);
-    let left = close(conn);
-    end?;
-    Ok(left?)
-}
-
-// The same where these octets' file is beside a new log.
-fn over_a_file(rt: &impl Abort, alloc: Global, db: Memory, runs: &[Run]) -> Result<Memory, Fail> {
-    let log = Memory::new(alloc);
-    over_files(rt, alloc, Files { log, db }, runs)
-}
-
-// The tables are filled in two files, and stand in the second of them, with another log.
-#[test]
-fn statements_in_two_files(rt: HostRuntime) -> Result<(), Fail> {
-    let alloc = rt.alloc();
-    let db = over_a_file(&rt, alloc, Memory::new(alloc), &[Run::Fill])?;
-    drop(over_a_file(&rt, alloc, db, &[Run::DropAndLook])?);
-    Ok(())
-}
-
-#[test]
-fn entries_inside_in_two_files(rt: HostRuntime) -> Result<(), Fail> {
-    let alloc = rt.alloc();
-    drop(over_a_file(&rt, alloc, Memory::new(alloc), &[Run::Inside])?);
     Ok(())
 }

@@ -1,4 +1,4 @@
-//! Which tables are recognised, and runs of the statements over each table, over memory and over files that memory holds. A library with tests alone.
+//! Which tables are recognised, and runs of the statements over each table, over memory. A library with tests alone.
 #![tactic(auto)]
 
 #[cfg(test)]

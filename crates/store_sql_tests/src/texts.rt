@@ -1,6 +1,5 @@
-// What tests of statements share: texts of a test's own, records as text, and connections over two files. No part of the product.
-use sqlite::{Alter, Connection, Error, FileStore, Files, Options};
-use sqlite_disk::Disk;
+// What tests of statements share: texts of a test's own, and records as text. No part of the product.
+use sqlite::{Alter, Connection, Error};
 use std::alloc::Global;
 use std::fmt::Debug;
 use store_sql::records::ReadError;
@@ -38,26 +37,4 @@ pub(crate) fn told<R: Debug + Drop>(
     let all = found?;
     let records = all.as_slice();
     Ok(format!(in alloc; "{records:?}")?)
-}
-
-// Opens two files, or tells why they are not opened.
-pub(crate) fn open<D: Disk + Drop>(
-    alloc: Global,
-    files: Files<D>,
-) -> Result<Connection<FileStore<D>>, &'static str> {
-    if !files.may_be_used() {
-        return Err("files that may not be used");
-    }
-    match Connection::open_files(alloc, files, Options::new(1)) {
-        Ok(conn) => Ok(conn),
-        Err(_) => Err("not opened"),
-    }
-}
-
-// Closes them, and leaves the second, which has all that was committed; or tells that they are not closed.
-pub(crate) fn close<D: Disk + Drop>(conn: Connection<FileStore<D>>) -> Result<D, &'static str> {
-    match conn.close_files().ok() {
-        Some(Files { log: _, db }) => Ok(db),
-        None => Err("not closed"),
-    }
 }

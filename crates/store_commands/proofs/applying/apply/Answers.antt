@@ -12,7 +12,7 @@ use Rattle.store_commands.proofs.LoopLemmas.{each_err}
 use Rattle.store_commands.specs.KeptRecords.{KeepsTextRows, SparesTablesOfOthers}
 use Rattle.store_commands.specs.Answers.{numbers_after}
 use Rattle.store_commands.proofs.AboveLemmas.{above_same, none_refused}
-use Rattle.store_commands.specs.Committed.{IsTreesOf}
+use Rattle.store_holdings.specs.Committed.{IsTreesOf}
 use Rattle.sqlite.specs.Effect.{Database}
 use Rattle.store_sql.proofs.StreamLemmas.{passed_on}
 use Rattle.dict_desk.specs.Faults.{is_failure}

@@ -4,7 +4,7 @@ use Rattle.dict_catalogue.specs.Views.{summary_shown}
 use Rattle.store_holdings.specs.AllTables.{all_after, with_derived}
 use Rattle.store_rows.specs.Versions.{known}
 use Rattle.store_commands.specs.KeptRecords.{TurnsRecords}
-use Rattle.store_commands.specs.Committed.{IsCommitted}
+use Rattle.store_holdings.specs.Committed.{IsCommitted}
 use Rattle.store_commands.specs.Changes.{change_by}
 use Rattle.store_commands.specs.Installs.{install_read}
 use Rattle.store_commands.specs.Filing.{rested}

@@ -8,7 +8,8 @@ use Rattle.store_rows.specs.Versions.{known}
 use Rattle.store_holdings.proofs.CommitLemmas.{leaves, done, only_left, commit_fails, keeps_begun, stays_undone}
 use Rattle.store_commands.specs.KeptRecords.{TurnsRecords}
 use Rattle.store_commands.specs.Changes.{with_mark}
-use Rattle.store_commands.specs.Committed.{IsCommitted, IsTreesOf, StaysCommitted}
+use Rattle.store_holdings.specs.Committed.{IsCommitted, IsTreesOf}
+use Rattle.store_commands.specs.Committed.{StaysCommitted}
 use Rattle.sqlite.proofs.Callers.{survives_begin}
 use Rattle.store_sql.proofs.StateLemmas.{commit_counts}
 use Rattle.store_sql.specs.Statements.{RunInTurn, FailsInTurn}

@@ -7,7 +7,7 @@ use Rattle.dict_catalogue.specs.Views.{summary_shown}
 use Rattle.store_holdings.specs.AllTables.{with_derived}
 use Rattle.store_commands.specs.KeptRecords.{TurnsRecords}
 use Rattle.store_commands.specs.Changes.{with_mark}
-use Rattle.store_commands.specs.Committed.{IsCommitted}
+use Rattle.store_holdings.specs.Committed.{IsCommitted}
 use Rattle.store_commands.specs.Marking.{Remains, FailsToCommitMark, FailsToMark}
 use Rattle.store_commands.proofs.ApplyLemmas.{holds_now}
 use Rattle.store_commands.proofs.DraftLemmas.{on_ok}

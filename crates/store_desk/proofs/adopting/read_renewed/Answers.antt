@@ -13,7 +13,7 @@ use Rattle.store_migration.specs.Failing.{FailsToMigrate, FailsToMoveEditions, I
 use Rattle.store_desk.specs.Indexed.{AreHeldCut}
 use Rattle.store_desk.proofs.RenewLemmas.{renews_read}
 use Rattle.store_migration.specs.Migrated.{MayMigrate, HoldsOlder}
-use Rattle.store_migration.specs.Moved.{AreTreesOf}
+use Rattle.store_holdings.specs.Committed.{IsTreesOf}
 use Rattle.store_migration.specs.Spared.{SparesOthers}
 use Rattle.store_desk.specs.Adopted.{MayCommitBeside}
 use Rattle.store_rows.specs.Versions.{known}
@@ -84,7 +84,7 @@ returns-in_err-renew-clause-beside g c =
     let one = c.renew.ensures.crash.clean in
     let there : HasCleanDisk read = omega (arith, one, clean) in
     let same = c.in_ok-version.ensures.committed there may.0 in
-    (c.in_ok-version.ensures.lives there may.0, subst (λ (db : Database). AreTreesOf (SparesOthers db) trees) same may.1))
+    (c.in_ok-version.ensures.lives there may.0, subst (λ (db : Database). IsTreesOf (SparesOthers db) trees) same may.1))
     c.read.ensures.survives c.renew.ensures.beside
 
 pub returns-clause-beside : goal.returns-clause-beside
@@ -96,7 +96,7 @@ returns-clause-beside g c =
     let one = c.renew.ensures.crash.clean in
     let there : HasCleanDisk read = omega (arith, one, clean) in
     let same = c.in_ok-version.ensures.committed there may.0 in
-    (c.in_ok-version.ensures.lives there may.0, subst (λ (db : Database). AreTreesOf (SparesOthers db) trees) same may.1))
+    (c.in_ok-version.ensures.lives there may.0, subst (λ (db : Database). IsTreesOf (SparesOthers db) trees) same may.1))
     c.read.ensures.survives c.renew.ensures.beside
 
 pub returns-clause-others : goal.returns-clause-others

@@ -12,7 +12,7 @@ use Rattle.store_migration.proofs.making.commit_tables.Goals as goal
 use Rattle.store_rows.specs.Versions.{known}
 use Rattle.store_migration.specs.Spared.{SparesOthers}
 use Rattle.sqlite.specs.Effect.{Database, IsDatabase}
-use Rattle.store_migration.specs.Moved.{AreTreesOf}
+use Rattle.store_holdings.specs.Committed.{IsTreesOf}
 
 pub returns-in-Ok-clause-rests : goal.returns-in-Ok-clause-rests
 returns-in-Ok-clause-rests g c clean =
@@ -83,7 +83,7 @@ returns-in-Ok-clause-beside g c =
     let made : HasCleanDisk (state g.S.Store mid) → P (state g.S.Store mid).now × IsDatabase (state g.S.Store mid).now =
     λ clean. (subst (λ h. SparesOthers (state g.S.Store h).now (state g.S.Store mid).now) c.transaction-tx.ensures.begun (c.in_default.ensures.spares clean), (c.in_default.ensures.made clean).1) in
     let there = leaves g.S.Store old begun mid end P c.transaction-tx.ensures.begun c.make_all.ensures.survives c.commit.ensures.survives made in
-    subst (λ h. Survives (state g.S.Store old) (state g.S.Store h) (AreTreesOf P)) same there
+    subst (λ h. Survives (state g.S.Store old) (state g.S.Store h) (IsTreesOf P)) same there
 
 pub returns-in-Err-commit-clause-beside : goal.returns-in-Err-commit-clause-beside
 returns-in-Err-commit-clause-beside g c =
@@ -96,7 +96,7 @@ returns-in-Err-commit-clause-beside g c =
     let made : HasCleanDisk (state g.S.Store mid) → P (state g.S.Store mid).now × IsDatabase (state g.S.Store mid).now =
     λ clean. (subst (λ h. SparesOthers (state g.S.Store h).now (state g.S.Store mid).now) c.transaction-tx.ensures.begun (c.in_default.ensures.spares clean), (c.in_default.ensures.made clean).1) in
     let there = leaves g.S.Store old begun mid end P c.transaction-tx.ensures.begun c.make_all.ensures.survives c.commit.ensures.survives made in
-    subst (λ h. Survives (state g.S.Store old) (state g.S.Store h) (AreTreesOf P)) same there
+    subst (λ h. Survives (state g.S.Store old) (state g.S.Store h) (IsTreesOf P)) same there
 
 pub returns-in-Err-clause-failed : goal.returns-in-Err-clause-failed
 returns-in-Err-clause-failed g c clean =

@@ -11,7 +11,8 @@ use Rattle.store_migration.specs.Failing.{MigrationFailsBefore, MigrationFailsTo
 use Rattle.store_migration.proofs.FailLemmas.{why_not_begun}
 use Rattle.store_migration.specs.Migrated.{MayMigrate}
 use Rattle.store_holdings.specs.Writing.{StaysCommitted}
-use Rattle.store_migration.specs.Moved.{AreTreesOf, IsCommitted, IsOutcome}
+use Rattle.store_holdings.specs.Committed.{IsCommitted, IsTreesOf}
+use Rattle.store_migration.specs.Moved.{IsOutcome}
 use Rattle.store_migration.proofs.EndLemmas.{is_old, outcome_holds, outcome_left, outcome_may, outcome_migrated, summary_installs, summary_numbers}
 use Rattle.store_migration.specs.Spared.{SparesOthers}
 use Rattle.store_migration.proofs.OtherLemmas.{others_moved}
@@ -85,7 +86,7 @@ returns-clause-crash g c =
     let old = state g.S.Store c.args.conn.now in
     let new = state g.S.Store c.migrate_from.new.conn in
     let summary = summary_shown c.args.summary.now in
-    survives_weaker old new (AreTreesOf (IsOutcome c.older_layout.result c.deref.result.now c.args.summary.now.installs old)) (MayMigrate old)
+    survives_weaker old new (IsTreesOf (IsOutcome c.older_layout.result c.deref.result.now c.args.summary.now.installs old)) (MayMigrate old)
     (λ clean trees left.
     let clean0 : HasCleanDisk old = omega (arith, c.migrate_from.ensures.crash.clean, clean) in
     let opened = left.3.was_open in
@@ -98,7 +99,7 @@ pub returns-clause-beside : goal.returns-clause-beside
 returns-clause-beside g c =
     let old = state g.S.Store c.args.conn.now in
     let new = state g.S.Store c.migrate_from.new.conn in
-    survives_weaker old new (AreTreesOf (IsOutcome c.older_layout.result c.deref.result.now c.args.summary.now.installs old)) (λ trees. IsTrue old.is_open × AreTreesOf (SparesOthers old.committed) trees)
+    survives_weaker old new (IsTreesOf (IsOutcome c.older_layout.result c.deref.result.now c.args.summary.now.installs old)) (λ trees. IsTrue old.is_open × IsTreesOf (SparesOthers old.committed) trees)
     (λ clean trees left.
     let clean0 : HasCleanDisk old = omega (arith, c.migrate_from.ensures.crash.clean, clean) in
     let opened = left.3.was_open in

@@ -4,7 +4,8 @@ use Rattle.sqlite.specs.State.{HasCleanDisk, Survives, Fails, IsRolledBack}
 use Rattle.sqlite.specs.Held.{state}
 use Rattle.store_holdings.specs.Writing.{StaysCommitted}
 use Rattle.store_holdings.proofs.CommitLemmas.{leaves, done, only_left, commit_fails, keeps_begun, stays_undone}
-use Rattle.store_migration.specs.Moved.{AreTreesOf, IsCommitted, IsOutcome}
+use Rattle.store_holdings.specs.Committed.{IsCommitted, IsTreesOf}
+use Rattle.store_migration.specs.Moved.{IsOutcome}
 use Rattle.sqlite.proofs.Callers.{survives_begin}
 use Rattle.store_migration.specs.FailurePlaces.{InMove}
 use Rattle.store_migration.specs.Failing.{MigrationFailsInside}
@@ -42,7 +43,7 @@ returns-in-Ok-clause-crash g c =
     let made : HasCleanDisk (state g.S.Store mid) → P (state g.S.Store mid).now × IsDatabase (state g.S.Store mid).now =
     λ clean. (let it = c.in_default.ensures.moved clean in (outcome_of g.S.Store c.args.layout c.args.numbers.now c.args.installs old begun (state g.S.Store mid).now c.transaction-tx.ensures.begun it.0, it.1)) in
     let there = leaves g.S.Store old begun mid end P c.transaction-tx.ensures.begun c.migrate_inside.ensures.survives c.commit.ensures.survives made in
-    subst (λ h. Survives (state g.S.Store old) (state g.S.Store h) (AreTreesOf P)) same there
+    subst (λ h. Survives (state g.S.Store old) (state g.S.Store h) (IsTreesOf P)) same there
 
 pub returns-in-Err-commit-clause-crash : goal.returns-in-Err-commit-clause-crash
 returns-in-Err-commit-clause-crash g c =
@@ -55,7 +56,7 @@ returns-in-Err-commit-clause-crash g c =
     let made : HasCleanDisk (state g.S.Store mid) → P (state g.S.Store mid).now × IsDatabase (state g.S.Store mid).now =
     λ clean. (let it = c.in_default.ensures.moved clean in (outcome_of g.S.Store c.args.layout c.args.numbers.now c.args.installs old begun (state g.S.Store mid).now c.transaction-tx.ensures.begun it.0, it.1)) in
     let there = leaves g.S.Store old begun mid end P c.transaction-tx.ensures.begun c.migrate_inside.ensures.survives c.commit.ensures.survives made in
-    subst (λ h. Survives (state g.S.Store old) (state g.S.Store h) (AreTreesOf P)) same there
+    subst (λ h. Survives (state g.S.Store old) (state g.S.Store h) (IsTreesOf P)) same there
 
 pub returns-in-Err-commit-clause-stays : goal.returns-in-Err-commit-clause-stays
 returns-in-Err-commit-clause-stays g c clean =

@@ -5,7 +5,7 @@ use Rattle.dict_catalogue.proofs.WellFormedLemmas.{empty_well_formed}
 use Rattle.sqlite.specs.State.{HasCleanDisk, Survives}
 use Rattle.sqlite.specs.Held.{state}
 use Rattle.store_holdings.specs.Holds.{Rests}
-use Rattle.store_migration.specs.Moved.{AreTreesOf}
+use Rattle.store_holdings.specs.Committed.{IsTreesOf}
 use Rattle.store_migration.specs.Spared.{SparesOthers}
 use Rattle.store_desk.specs.Desk.{DeskState, LeavesOneOf}
 use Rattle.store_desk.proofs.DeskLemmas.{alone}
@@ -31,9 +31,9 @@ returns-in-Ok-clause-others g c = λ clean.
 
 pub returns-in-Ok-clause-beside : goal.returns-in-Ok-clause-beside
 returns-in-Ok-clause-beside g c =
-    let as_was = subst (λ conn. Survives (state g.S.Store conn) (state g.S.Store c.create.new.conn) (AreTreesOf (SparesOthers (state g.S.Store conn).now))) c.set_step_limit.ensures c.create.ensures.beside in
-    subst (λ (d : DeskState _). Survives (state g.S.Store (record c.args.conn { step_limit = None })) (state g.S.Store d.conn) (AreTreesOf (SparesOthers (state g.S.Store c.args.conn).now))) (sym c.over.ensures.is) as_was
+    let as_was = subst (λ conn. Survives (state g.S.Store conn) (state g.S.Store c.create.new.conn) (IsTreesOf (SparesOthers (state g.S.Store conn).now))) c.set_step_limit.ensures c.create.ensures.beside in
+    subst (λ (d : DeskState _). Survives (state g.S.Store (record c.args.conn { step_limit = None })) (state g.S.Store d.conn) (IsTreesOf (SparesOthers (state g.S.Store c.args.conn).now))) (sym c.over.ensures.is) as_was
 
 pub returns-in-Err-clause-beside_left : goal.returns-in-Err-clause-beside_left
 returns-in-Err-clause-beside_left g c =
-    subst (λ conn. Survives (state g.S.Store conn) (state g.S.Store c.create.new.conn) (AreTreesOf (SparesOthers (state g.S.Store conn).now))) c.set_step_limit.ensures c.create.ensures.beside
+    subst (λ conn. Survives (state g.S.Store conn) (state g.S.Store c.create.new.conn) (IsTreesOf (SparesOthers (state g.S.Store conn).now))) c.set_step_limit.ensures c.create.ensures.beside

@@ -9,7 +9,7 @@ use Rattle.dict_catalogue.specs.Commands.{install}
 use Rattle.dict_catalogue.specs.Steps.{kept_under, step}
 use Rattle.dict_catalogue.specs.Views.{summary_shown}
 use Rattle.dict_catalogue.specs.declared.reply.Kept.{Kept}
-use Rattle.store_commands.specs.Committed.{IsTreesOf}
+use Rattle.store_holdings.specs.Committed.{IsTreesOf}
 use Rattle.store_commands.specs.Installs.{install_read}
 use Rattle.store_commands.specs.KeptRecords.{SparesTablesOfOthers}
 use Rattle.store_commands.specs.declared.filing.Filing.{Filing}

@@ -3,7 +3,7 @@ use Rattle.std.specs.Prelude.{IsTrue, is_some, IfErr}
 use Rattle.sqlite.specs.Held.{state}
 use Rattle.sqlite.specs.State.{State, HasCleanDisk, Survives}
 use Rattle.sqlite.specs.Tree.{Trees}
-use Rattle.store_commands.specs.Committed.{IsTreesOf}
+use Rattle.store_holdings.specs.Committed.{IsTreesOf}
 use Rattle.store_commands.specs.KeptRecords.{SparesTablesOfOthers}
 use Rattle.store_commands.proofs.WriteLemmas.{others_none}
 use Rattle.dict_catalogue.specs.Steps.{kept_under, step}
