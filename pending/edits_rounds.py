@@ -20,7 +20,27 @@ PROVE = ["timeout", os.environ.get("ROUNDS_TIMEOUT", "1500")]
 
 # edit: the function (as a check names it), and the clause by which it is to be refused
 EDITS = {
+    "store_rows": {
+        "no_octet_of_a_body_is_tested": ("entries::test_line", "is"),
+    },
+    "store_parts": {
+        "what_is_shown_is_left_out": ("writing::put_shown", "put"),
+    },
+    "store_search": {
+        "an_index_is_keyed_by_what_is_shown": ("edition::index_entries", "the only clause"),
+    },
+    "store_lookup": {
+        "the_part_behind_is_read": ("parts::put_part", "put"),
+        "a_cut_goes_past_its_part": ("parts::front", "the slice's bound"),
+        "headwords_are_counted_for_entries": ("answering::count_under", "value"),
+        "headwords_are_handed_out_by_another_strategy": ("answering::heads_under", "value"),
+        "an_entry_is_counted_where_no_index_stands": ("answering::count_under", "none"),
+        "a_former_index_is_let_go_of": ("numbers::item_has", "apart"),
+        "an_index_stays_under_a_gone_number": ("numbers::let_go_unless", "gone"),
+        "an_index_goes_where_it_is_to_be_made": ("numbers::make_indexes_of", "the only clause"),
+    },
     "store_scans": {
+        "index_of_another_edition_is_read": ("entries::read_filed_entries", "whole"),
         "failing_read_is_damage": ("scan::take_next", "damaged"),
         "ids_come_in_any_order": ("tables::test_ids", "whole"),
     },
@@ -29,6 +49,9 @@ EDITS = {
         "title_is_the_info": ("reading::Reading::title", "the only clause"),
     },
     "store_commands": {
+        "headword_is_filed_for_what_is_shown": ("install::write_entry", "the only clause"),
+        "what_was_filed_is_committed_by_a_read_change": ("ending::read_change", "keeps, inside, same"),
+        "parts_of_the_former_get_the_new_number": ("writing::write_editions", "wrote, failed"),
         "a_number_in_use_is_filed": ("parts::is_other_number", "next"),
         "a_refused_statement_is_a_failure_of_the_disk": ("parts::file_part", "failed, faulted"),
         "error_is_made_up_after_the_mark": ("writing::write_summary", "failed"),
@@ -49,6 +72,9 @@ EDITS = {
         "mark_is_left_out": ("making::make_all", "made"),
     },
     "store_desk": {
+        "an_expected_command_takes_parts_out": ("preparing::DeskPreparer::expect", "shows, leaves"),
+        "other_indexes_go_where_one_comes": ("indexing::put_coming", "put"),
+        "a_command_keeps_an_empty_text": ("keeper::DeskKeeper::apply", "shows: the texts that are kept"),
         "a_close_always_fails": ("closing::Desk+FileStore+D::close", "failed"),
         "a_close_writes": ("closing::Desk+FileStore+D::close", "alone, left, failed"),
         "a_command_empties_tables_of_others": ("keeper::DeskKeeper::apply", "applied; the desk's invariant"),
