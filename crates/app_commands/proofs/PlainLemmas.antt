@@ -1,7 +1,6 @@
 -- What the one install of a session over files is answered.
 use Rattle.std.proofs.Common.{◌≡◌, ℕ, List, Bool, true, false, refl, codes}
 use Rattle.std.specs.Prelude.{if◌then◌else◌, None, Some}
-use Rattle.app_words.specs.declared.fault.ProgramFault.TheVariants as faults
 use Rattle.dict_text.specs.Names.{is_name, is_request_id}
 use Rattle.dict_index.specs.Edition.{Edition}
 use Rattle.dict_catalogue.specs.Commands.{install}

@@ -1,5 +1,5 @@
 -- Which faults a file and a server have.
-use Rattle.std.proofs.Common.{◌≡◌, ℕ, Bool, List, [], ◌∷◌, Err, inl, inr, refl, arith, ap}
+use Rattle.std.proofs.Common.{◌≡◌, Bool, List, [], ◌∷◌, Err, inl, inr, refl, arith, ap}
 use Rattle.std.specs.Prelude.{◌≢◌}
 use Rattle.std.specs.declared.io.ErrorKind.{ErrorKind}
 use Rattle.std.specs.declared.io.ErrorKind.TheVariants.{OutOfMemory}

@@ -1,5 +1,5 @@
 -- In which order the faults of files are told.
-use Rattle.std.specs.Prelude.{◌⊎◌, ℕ, List, [], ◌∷◌, None, Result, Err, ⊤}
+use Rattle.std.specs.Prelude.{◌⊎◌, ℕ, List, [], ◌∷◌, None, Result, ⊤}
 use Rattle.dict_proto.specs.Streams.{StreamChange}
 use Rattle.clap.specs.declared.error.kind.ErrorKind.{ErrorKind}
 use Rattle.app_words.specs.Asked.{AskForTask, Fails}

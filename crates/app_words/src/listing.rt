@@ -1,11 +1,11 @@
 // The list of a catalogue's items.
-ghost use Rattle.std.specs.Prelude.{◌++◌, codes, decimal, map, string_bytes};
+ghost use Rattle.std.specs.Prelude.{◌++◌, codes, decimal, map};
 ghost use Rattle.std.specs.List.{flat_map};
 ghost use Rattle.dict_proto.specs.Streams.{Puts};
 ghost use Rattle.dict_catalogue.specs.Items.{regular, virtual};
-ghost use Rattle.dict_catalogue.specs.Views.{item_shown, stored_shown, texts_shown, title_of};
+ghost use Rattle.dict_catalogue.specs.Views.{item_shown, texts_shown};
 ghost use Rattle.dict_proto.specs.Text.{quoted};
-ghost use Rattle.app_words.specs.Listing.{behind_comma, former_text, listed_item_line, kind_text, listing_text, names_with_commas};
+ghost use Rattle.app_words.specs.Listing.{behind_comma, listed_item_line, kind_text, listing_text, names_with_commas};
 
 use dict_catalogue::{Item, StoredTitle};
 use dict_proto::{Sink, SinkFault, put_all, put_quoted};

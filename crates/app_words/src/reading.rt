@@ -5,7 +5,7 @@ ghost use Rattle.clap.specs.Walk.{rows_of, all_of, first_of, one_of};
 ghost use Rattle.clap.specs.Simple.{subcommand_rows_of};
 ghost use Rattle.clap.specs.Matches.{found_of};
 ghost use Rattle.app_words.specs.Line.{command_line, Reads};
-ghost use Rattle.app_words.specs.Asked.{AskForTask, Fails, task_shown, change_shown, found_asked, asked_by, plain_asked, on_file, change_asked, install_asked, virtual_asked, place_asked, serve_asked, number_in, words_shown};
+ghost use Rattle.app_words.specs.Asked.{AskForTask, Fails, task_shown, change_shown, found_asked, asked_by, plain_asked, change_asked, install_asked, virtual_asked, place_asked, serve_asked, number_in, words_shown};
 
 use crate::line::command_line;
 use crate::task::{ItemChange, Task};

@@ -1,7 +1,6 @@
 // A list of a desk's catalogue.
 ghost use Rattle.std.specs.Prelude.{◌≡◌, true, false};
 ghost use Rattle.dict_proto.specs.Streams.{change};
-ghost use Rattle.dict_catalogue.specs.Steps.{Catalogue, summary_of};
 ghost use Rattle.app_words.specs.Writing.{IsUntouched};
 ghost use Rattle.app_words.specs.declared.fault.StoreFault.TheVariants as store_faults;
 ghost use Rattle.app_words.specs.Listed.{IsListed};

@@ -1,5 +1,5 @@
 // Copies of the parts of a summary.
-ghost use Rattle.std.specs.Prelude.{◌≡◌, IfOk, string_bytes, map, option_map};
+ghost use Rattle.std.specs.Prelude.{◌≡◌, IfOk, map, option_map};
 ghost use Rattle.dict_catalogue.specs.Views.{item_shown, stored_shown, texts_shown, names_shown};
 
 use crate::summary::{Item, StoredTitle};

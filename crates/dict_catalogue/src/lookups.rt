@@ -1,6 +1,6 @@
 // What the items of a summary say of a name.
-ghost use Rattle.std.specs.Prelude.{◌≡◌, map, length};
-ghost use Rattle.dict_catalogue.specs.Items.{is_regular, is_virtual, has_former, members_of, is_named, is_among, lists, is_known, names_regular, names_virtual, names_former, is_listed, current_of, current_number};
+ghost use Rattle.std.specs.Prelude.{◌≡◌, map};
+ghost use Rattle.dict_catalogue.specs.Items.{is_regular, is_virtual, has_former, is_named, is_among, lists, is_known, names_regular, names_virtual, names_former, is_listed, current_of, current_number};
 ghost use Rattle.dict_catalogue.specs.Views.{item_shown, texts_shown};
 
 use crate::summary::Item;

@@ -1,5 +1,5 @@
 // The tests that a command has to pass, in order.
-ghost use Rattle.std.specs.Prelude.{◌≡◌, ◌<◌, map, length, IfNone, take, List, ℕ, []};
+ghost use Rattle.std.specs.Prelude.{◌≡◌, ◌<◌, map, IfNone, []};
 ghost use Rattle.dict_catalogue.specs.Items.{is_among};
 ghost use Rattle.dict_catalogue.specs.Tests.{has_turn, has_member_count, has_room, first_failing, member_tests, install_tests, rollback_tests, retire_tests, put_virtual_tests, place_tests, refusal_of};
 ghost use Rattle.dict_catalogue.specs.Views.{item_shown, summary_shown, names_shown, command_shown};

@@ -48,10 +48,6 @@ shown_last : (xs : List OwnedEntry) (k : OwnedEntry) → slice_get (xs ++ k ∷ 
 shown_last [] k = refl
 shown_last (x ∷ xs) k = shown_last xs k
 
--- none shows it yet
-pub last_none : (t : List ℕ) → IsLastShown [] t None
-last_none t = record { shows = tt; behind = refl }
-
 -- one more entry, which shows it
 pub last_here : (xs : List OwnedEntry) (k : OwnedEntry) (t : List ℕ) → shown_by k ≡ t → IsLastShown (xs ++ k ∷ []) t (Some (length xs))
 last_here xs k t e = record {

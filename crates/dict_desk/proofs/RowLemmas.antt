@@ -18,27 +18,6 @@ module _ {X Y : Type 0} (p : X → Bool) (r : X → Y) where
       by_first true h = ap (λ ys. r x ∷ ys) h
       by_first false h = h
 
-  -- one more element that is chosen, or that isn't
-  pub rows_more : (xs : List X) (i : ℕ) (d : X) → i < length xs → p (get_or xs i d) ≡ true → chosen (take (suc i) xs) ≡ chosen (take i xs) ++ r (get_or xs i d) ∷ []
-  rows_more [] i d below e = absurd (omega arith)
-  rows_more (x ∷ xs) zero d below e = ap (λ b. map r (cond b (x ∷ []) [])) e
-  rows_more (x ∷ xs) (suc i) d below e = by_first (p x) (rows_more xs i d (omega arith) e)
-    where
-      by_first : (b : Bool) → chosen (take (suc i) xs) ≡ chosen (take i xs) ++ r (get_or xs i d) ∷ []
-          → map r (cond b (x ∷ filter p (take (suc i) xs)) (filter p (take (suc i) xs))) ≡ map r (cond b (x ∷ filter p (take i xs)) (filter p (take i xs))) ++ r (get_or xs i d) ∷ []
-      by_first true h = ap (λ ys. r x ∷ ys) h
-      by_first false h = h
-
-  pub rows_same : (xs : List X) (i : ℕ) (d : X) → i < length xs → p (get_or xs i d) ≡ false → chosen (take (suc i) xs) ≡ chosen (take i xs)
-  rows_same [] i d below e = absurd (omega arith)
-  rows_same (x ∷ xs) zero d below e = ap (λ b. map r (cond b (x ∷ []) [])) e
-  rows_same (x ∷ xs) (suc i) d below e = by_first (p x) (rows_same xs i d (omega arith) e)
-    where
-      by_first : (b : Bool) → chosen (take (suc i) xs) ≡ chosen (take i xs)
-          → map r (cond b (x ∷ filter p (take (suc i) xs)) (filter p (take (suc i) xs))) ≡ map r (cond b (x ∷ filter p (take i xs)) (filter p (take i xs)))
-      by_first true h = ap (λ ys. r x ∷ ys) h
-      by_first false h = h
-
 -- the rows found are those of the entries that a query finds, made after the choice or before it
 pub chosen_after : {X Y : Type 0} (f : X → Y) (p : Y → Bool) (xs : List X) → filter p (map f xs) ≡ map f (filter (λ x. p (f x)) xs)
 chosen_after f p [] = refl

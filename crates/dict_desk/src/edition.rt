@@ -30,7 +30,7 @@ pub(crate) struct PlainEdition {
 }
 
 impl Model for PlainEdition {
-    ghost use Rattle.std.specs.Prelude.{[], map, string_bytes};
+    ghost use Rattle.std.specs.Prelude.{map, string_bytes};
     ghost use Rattle.std.specs.List.{AllByRecursion};
     ghost use Rattle.dict_index.specs.Edition.{Edition};
     ghost use Rattle.dict_catalogue.specs.Items.{Stored};

@@ -1,5 +1,5 @@
 // A desk that prepares.
-ghost use Rattle.std.specs.Prelude.{◌≡◌, ◌≢◌, ℕ, IfErr, Err, false};
+ghost use Rattle.std.specs.Prelude.{◌≡◌, ◌≢◌, IfErr, Err, false};
 ghost use Rattle.dict_desk.specs.Faults.{IsOfCommand, has_closed_by, has_failed_by};
 ghost use Rattle.dict_desk.specs.declared.fault.Fault.TheVariants as faults;
 

@@ -1,5 +1,5 @@
 -- Lists of octets cut at an octet.
-use Rattle.std.proofs.Common.{◌≡◌, ◌≢◌, ℕ, zero, suc, ◌+◌, ◌-◌, ◌<◌, List, [], ◌∷◌, ◌++◌, length, take, drop, get_or, refl, ap, sym, ◌∙◌, subst, arith, cond, true, false, eq-eqb, append-nil, add-one, ◌⊎◌, inl, inr}
+use Rattle.std.proofs.Common.{◌≡◌, ◌≢◌, ℕ, suc, ◌+◌, ◌-◌, ◌<◌, List, [], ◌∷◌, ◌++◌, length, drop, get_or, refl, ap, sym, ◌∙◌, subst, arith, cond, true, false, eq-eqb, append-nil, add-one, ◌⊎◌, inl, inr}
 use Rattle.std.proofs.lemmas.Bool.Decides.{nat_tests}
 use Rattle.std.proofs.lemmas.List.Sums.{sum_by-append, sum_by-cons}
 use Rattle.std.proofs.lemmas.Str.{IsUtf8-take, IsUtf8-drop, IsCharBoundary-before_ascii, IsCharBoundary-after_ascii}
@@ -8,18 +8,6 @@ use Rattle.std.specs.Prelude.{◌==◌, count_by, Option, Some, None}
 use Rattle.std.specs.Str.{IsUtf8}
 use Rattle.dict_index.specs.Line.{behind_tab}
 use Rattle.dict_index.specs.Cuts.{HasNo, IsCutAt, AreLast, AreColumns}
-
--- what holds of each place is said by recursion
-pub has_no_from : (b : ℕ) (xs : List ℕ) → ((k : ℕ) → k < length xs → get_or xs k 0 ≢ b) → HasNo b xs
-has_no_from b [] h = tt
-has_no_from b (x ∷ xs) h = (h 0 (omega arith), has_no_from b xs (λ k lt. h (suc k) (omega arith)))
-
-get_or_front : (xs : List ℕ) (n k : ℕ) → k < n → get_or (take n xs) k 0 ≡ get_or xs k 0
-get_or_front [] zero k lt = refl
-get_or_front [] (suc n) k lt = refl
-get_or_front xs zero k lt = absurd (omega arith)
-get_or_front (x ∷ xs) (suc n) zero lt = refl
-get_or_front (x ∷ xs) (suc n) (suc k) lt = get_or_front xs n k (omega arith)
 
 -- how often an octet stands in a list that doesn't have it, or that it cuts
 pub count_none : (b : ℕ) (xs : List ℕ) → HasNo b xs → count_by (λ x. x == b) xs ≡ 0

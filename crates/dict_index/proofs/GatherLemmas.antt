@@ -35,9 +35,6 @@ entry_lines_push (x ∷ said) s b e = by_first (is_reserved (reserved_key_of x.h
     by_first false true before s after h = ap (λ l. x ∷ l) h
     by_first false false before s after h = ap (λ l. x ∷ l) h
 
-has_key : List ℕ → Line → Bool
-has_key key said = bytes_eq (reserved_key_of said.headword) key
-
 -- what is under a key, with a line more
 pub under_push : (key text : List ℕ) (said : List Line) (s : Line) → bytes_eq (reserved_key_of s.headword) key ≡ false → text_under key text (said ++ s ∷ []) ≡ text_under key text said
 under_push key text [] s e = rw e refl

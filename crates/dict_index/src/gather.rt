@@ -1,5 +1,5 @@
 // The entries and the reserved texts of the lines of an index.
-ghost use Rattle.std.specs.Prelude.{◌≡◌, ℕ, List, [], ◌∷◌, ◌++◌, IfOk, IfErr, OnOk, OnErr};
+ghost use Rattle.std.specs.Prelude.{◌≡◌, ℕ, List, [], ◌∷◌, ◌++◌, IfOk, IfErr, OnOk};
 ghost use Rattle.std.specs.Str.{IsUtf8};
 ghost use Rattle.dict_index.specs.Reserved.{is_reserved, is_known_reserved};
 ghost use Rattle.dict_index.specs.Line.{IsLine};

@@ -3,7 +3,6 @@ ghost use Rattle.std.specs.Prelude.{◌≡◌, ℕ, ◌+◌, ◌<◌, ◌≤◌,
 ghost use Rattle.std.specs.Str.{IsUtf8};
 ghost use Rattle.dict_text.specs.Number.{Spells};
 ghost use Rattle.dict_match.specs.Key.{key_of, reserved_key_of};
-ghost use Rattle.dict_index.specs.Cuts.{AreColumns};
 ghost use Rattle.dict_index.specs.Line.{IsLine};
 ghost use Rattle.dict_index.specs.Views.{line_of, HasBodyIn, HasReservedKey, octets_of};
 ghost use Rattle.dict_index.specs.Refusals.{said_tests};

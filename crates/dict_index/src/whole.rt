@@ -1,5 +1,5 @@
 // The tests of the files as a whole, which are made before those of the lines.
-ghost use Rattle.std.specs.Prelude.{◌≡◌, ◌≤◌, MatchOption, MatchBool, length};
+ghost use Rattle.std.specs.Prelude.{◌≤◌, MatchOption, MatchBool, length};
 ghost use Rattle.dict_text.specs.Lines.{text_lines};
 ghost use Rattle.dict_index.specs.Limits.{most_lines};
 ghost use Rattle.dict_index.specs.Tests.{EndsByLineFeed};

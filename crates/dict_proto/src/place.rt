@@ -1,6 +1,6 @@
 // The places of a line, octet by octet.
 ghost use Rattle.std.specs.Prelude.{◌≡◌, if◌then◌else◌};
-ghost use Rattle.dict_text.specs.Characters.{is_blank, is_control};
+ghost use Rattle.dict_text.specs.Characters.{is_control};
 ghost use Rattle.dict_proto.specs.Words.{is_quoting, is_quote_sign};
 ghost use Rattle.dict_proto.specs.LineWords.{next_place, place_after, in_string, stuck};
 ghost use Rattle.dict_proto.specs.Places.{place_of, is_content, ends_word};

@@ -1,22 +1,15 @@
 -- The texts of a line where they stand in an index.
-use Rattle.std.proofs.Common.{◌≡◌, ℕ, ◌+◌, ◌-◌, ◌≤◌, List, [], ◌∷◌, ◌++◌, length, take, drop, sym, ap, ◌∙◌, arith, length-append}
+use Rattle.std.proofs.Common.{◌≡◌, ℕ, ◌+◌, ◌-◌, List, [], ◌∷◌, ◌++◌, length, take, drop, sym, ap, ◌∙◌, arith, length-append}
 use Rattle.std.proofs.lemmas.List.{drop-drop, append_assoc}
 use Rattle.std.proofs.Math.Seq.{take-append_seam, drop-append_seam}
-use Rattle.std.specs.Prelude.{Option, Some}
+use Rattle.std.specs.Prelude.{Some}
 use Rattle.dict_index.specs.Cuts.{AreColumns}
-use Rattle.dict_index.specs.Line.{behind_tab}
 use Rattle.dict_reading.specs.Places.{octets_at}
 
 -- what stands behind a front of what the index has from a place on
 pub at_front : (index front text rest : List ℕ) (start : ℕ) → drop start index ≡ front ++ (text ++ rest) → octets_at index (start + length front) (length text) ≡ text
 at_front index front text rest start e =
     ap (take (length text)) (sym (drop-drop (length front) start index) ∙ (ap (drop (length front)) e ∙ drop-append_seam front (text ++ rest))) ∙ take-append_seam text rest
-
--- a line's first column, and its fourth
-pub first_at : (index line behind h o s : List ℕ) (f : Option (List ℕ)) (start : ℕ) → AreColumns line h o s f → drop start index ≡ line ++ behind → octets_at index start (length h) ≡ h
-first_at index line behind h o s f start c e =
-    let rest : List ℕ = 9 ∷ o ++ (9 ∷ s ++ behind_tab f) in
-    ap (take (length h)) (e ∙ (ap (λ l. l ++ behind) c.whole ∙ append_assoc h rest behind)) ∙ take-append_seam h (rest ++ behind)
 
 -- what stands before the fourth column
 front_of : (h o s : List ℕ) → List ℕ

@@ -1,6 +1,6 @@
 -- One line more that is read.
-use Rattle.std.proofs.Common.{◌≡◌, ℕ, ◌+◌, ◌-◌, ◌<◌, ◌≤◌, inl, inr, List, [], ◌∷◌, ◌++◌, length, take, drop, refl, sym, ap, ◌∙◌, subst, arith, length-append}
-use Rattle.std.proofs.lemmas.List.{length-drop, drop-drop, drop-append-le}
+use Rattle.std.proofs.Common.{◌≡◌, ℕ, ◌+◌, ◌-◌, ◌<◌, ◌≤◌, List, [], ◌∷◌, ◌++◌, length, take, drop, refl, sym, ap, ◌∙◌, subst, arith, length-append}
+use Rattle.std.proofs.lemmas.List.{length-drop, drop-drop}
 use Rattle.std.proofs.lemmas.Str.{IsUtf8-append}
 use Rattle.std.proofs.Math.Seq.{take-append-add}
 use Rattle.std.specs.Str.{IsUtf8}
@@ -8,7 +8,7 @@ use Rattle.dict_text.specs.Lines.{text_lines}
 use Rattle.dict_index.specs.Cuts.{HasNo, IsCutAt}
 use Rattle.dict_index.specs.Refusals.{line_tests}
 use Rattle.dict_index.specs.Refused.{PassesEach, LineFailsFirst, IsIndexFault}
-use Rattle.dict_index.specs.Tests.{EndsByLineFeed, line_at}
+use Rattle.dict_index.specs.Tests.{line_at}
 use Rattle.dict_index.specs.declared.fault.IndexFault.{IndexFault}
 use Rattle.dict_index.proofs.CutLemmas.{utf8_parts, behind_seam}
 use Rattle.dict_index.proofs.TextLemmas.{first_line_cut}
@@ -24,13 +24,6 @@ use Rattle.dict_reading.specs.declared.reader.EditionReader.{EditionReader}
 no_seam : (b : ℕ) (xs ys : List ℕ) → HasNo b (xs ++ b ∷ ys) → ⊥
 no_seam b [] ys h = h.0 refl
 no_seam b (x ∷ xs) ys h = no_seam b xs ys h.1
-
--- an index that ends by LF has one behind each place
-pub has_end : (index : List ℕ) (place : ℕ) → EndsByLineFeed index → place < length index → HasNo 10 (drop place index) → ⊥
-has_end index place (inl none) lt h = omega (arith, lt, ap length none)
-has_end index place (inr end) lt h =
-    let long : length index ≡ length end.0 + 1 = ap length end.1 ∙ length-append end.0 (10 ∷ []) in
-    no_seam 10 (drop place end.0) [] (subst (HasNo 10) (ap (drop place) end.1 ∙ drop-append-le place end.0 (10 ∷ []) (omega (arith, lt, long))) h)
 
 pub whole_line : (rest line behind : List ℕ) → IsCutAt 10 rest line behind → take (length line + 1) rest ≡ line ++ 10 ∷ []
 whole_line rest line behind c = ap (take (length line + 1)) c.whole ∙ take-append-add line (10 ∷ behind) 1

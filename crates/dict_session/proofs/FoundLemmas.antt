@@ -202,10 +202,6 @@ has_current M place name current former e = record {
   stored = current_stored name current former;
 }
 
--- what a desk tells of the edition under a heading
-titled : Item Edition → Item (List ℕ)
-titled item = item_as (λ (edition : Edition). edition.title) item
-
 shown_item : (M : Catalogue) (place : ℕ) → slice_get (summary_of M).items place ≡ option_map (item_as (λ (edition : Edition). edition.title)) (slice_get M.items place)
 shown_item M place = slice_get-map (item_as (λ (edition : Edition). edition.title)) M.items place
 

@@ -1,27 +1,17 @@
 -- What calls of a session leave, one after the other.
-use Rattle.std.proofs.Common.{◌≡◌, ℕ, List, [], ◌∷◌, ◌++◌, refl, true, false, inl, inr}
+use Rattle.std.proofs.Common.{◌≡◌, ℕ, List, [], ◌++◌, refl, true, false}
 use Rattle.dict_proto.specs.Streams.{Stream}
-use Rattle.dict_proto.specs.Meaning.{Meaning, meaning}
-use Rattle.dict_proto.proofs.PutLemmas.{all_after, front_longer, front_after}
+use Rattle.dict_proto.specs.Meaning.{Meaning}
+use Rattle.dict_proto.proofs.PutLemmas.{all_after, front_after}
 use Rattle.dict_session.specs.Lines.{cut}
-use Rattle.dict_session.specs.Answers.{is_quit}
 use Rattle.dict_session.specs.Desks.{Condition}
-use Rattle.dict_session.specs.Ending.{Finishes, Wrote}
+use Rattle.dict_session.specs.Ending.{Wrote}
 use Rattle.dict_session.specs.Session.{HasUnfinished, KeepsRest, LeavesSession}
 use Rattle.dict_session.specs.declared.session.Session.{Session}
 use Rattle.dict_session.specs.declared.step.Course.{Course}
 use Rattle.dict_session.specs.declared.step.Course.TheVariants.{More, Quit, SinkFailed, DeskFailed}
 use Rattle.dict_session.proofs.LineLemmas.{cut_append}
-use Rattle.dict_session.proofs.SpokenLemmas.{speaks_append, speaks_end, speaks_longer, speaks_one, speaks_unavailable, speaks_wider, breaks_append, breaks_end, breaks_one}
-
--- one line was answered
-pub wrote_line : (d : Meaning → List ℕ) (f : Condition) (course : Course) (a b : Stream) (l : List ℕ) → Finishes d f course a b (meaning l) → Wrote d f course a b (l ∷ [])
-wrote_line d f More a b l (inl h) = (d (meaning l), speaks_one d f.closed l false h.1, h.0)
-wrote_line d f More a b l (inr h) = (_, speaks_unavailable d f.closed l h.0, h.1)
-wrote_line d f Quit a b l h = (d (meaning l), speaks_one d f.closed l true h.1, h.0)
-wrote_line d f SinkFailed a b l (inl h) = (d (meaning l), is_quit l, speaks_one d f.closed l (is_quit l) refl, h)
-wrote_line d f SinkFailed a b l (inr h) = (_, false, speaks_unavailable d f.closed l h.0, h.1)
-wrote_line d f DeskFailed a b l (failed, (part, begins, told, put)) = (failed, (part, breaks_one d f.closed l part begins told, put))
+use Rattle.dict_session.proofs.SpokenLemmas.{speaks_append, speaks_wider, breaks_append}
 
 -- lines that go on, and then more
 pub wrote_more : (d : Meaning → List ℕ) (f g : Condition) → (f.closed ≡ true → g.closed ≡ true) → (course : Course) (a b c : Stream) (ls ms : List (List ℕ)) → Wrote d f More a b ls → Wrote d g course b c ms → Wrote d g course a c (ls ++ ms)
@@ -37,15 +27,6 @@ wrote_more d f g later DeskFailed a b c ls ms (o, spoken, h) (failed, (p, breaks
 pub leaves_more : (d : Meaning → List ℕ) (f g : Condition) → (f.closed ≡ true → g.closed ≡ true) → (course : Course) (s t : Session) (a b c : Stream) (p q : List ℕ) → LeavesSession d f More s a b p
     → LeavesSession d g course t b c ((cut p).rest ++ q) → LeavesSession d g course t a c (p ++ q)
 leaves_more d f g later course s t a b c p q h k = rw (cut_append p q) (wrote_more d f g later course a b c (cut p).lines (cut ((cut p).rest ++ q)).lines h.0 k.0, k.1)
-
--- after the end nothing is answered
-wrote_ended : (d : Meaning → List ℕ) (f : Condition) (course : Course) (a b : Stream) (ls ms : List (List ℕ)) → (course ≡ More → ⊥) → Wrote d f course a b ls → Wrote d f course a b (ls ++ ms)
-wrote_ended d f More a b ls ms none h = absurd (none refl)
-wrote_ended d f Quit a b ls ms none (o, spoken, h) = (o, speaks_end d f.closed ls ms o spoken, h)
-wrote_ended d f SinkFailed a b ls ms none (o, ended, spoken, h) =
-    let (more, later, longer) = speaks_longer d f.closed ls ms o ended spoken in
-    (o ++ more, later, longer, front_longer a b o more h)
-wrote_ended d f DeskFailed a b ls ms none (failed, (o, breaks, h)) = (failed, (o, breaks_end d f.closed ls ms o breaks, h))
 
 pub kept_ended : (course : Course) (s : Session) (rest other : List ℕ) → (course ≡ More → ⊥) → KeepsRest course s rest → KeepsRest course s other
 kept_ended More s rest other none h = absurd (none refl)

@@ -4,8 +4,8 @@ use Rattle.std.specs.Prelude.{MatchBool, ◌||◌, if◌then◌else◌}
 use Rattle.dict_proto.specs.Replies.{unavailable_octets}
 use Rattle.dict_proto.specs.Meaning.{Meaning, meaning, define, matching, show_databases, show_strategies, show_server, show_info, client, status, help, quit, not_recognized, illegal_parameters, not_implemented}
 use Rattle.dict_session.specs.Lines.{cut}
-use Rattle.dict_session.specs.Answers.{is_quit, need_of, MayBreak, may_be_unavailable}
-use Rattle.dict_session.specs.Spoken.{Speaks, HasUnavailable, IsBeginning, BreaksOff, answers, has_quit, session}
+use Rattle.dict_session.specs.Answers.{is_quit, may_be_unavailable}
+use Rattle.dict_session.specs.Spoken.{Speaks, HasUnavailable, BreaksOff, answers, has_quit, session}
 
 -- lines of which no QUIT was answered, and then more
 pub speaks_append : (d : Meaning → List ℕ) (k : Bool) (ls ms : List (List ℕ)) (o p : List ℕ) (ended : Bool) → Speaks d k ls o false → Speaks d k ms p ended → Speaks d k (ls ++ ms) (o ++ p) ended
@@ -48,9 +48,6 @@ speaks_longer d k ls ms o false h = (answers d ms, has_quit ms, speaks_append d 
 pub speaks_one : (d : Meaning → List ℕ) (k : Bool) (l : List ℕ) (q : Bool) → is_quit l ≡ q → Speaks d k (l ∷ []) (d (meaning l)) q
 speaks_one d k l true e = ([], inl (sym (append-nil (d (meaning l))), rw e (refl, refl)))
 speaks_one d k l false e = ([], inl (sym (append-nil (d (meaning l))), rw e (refl, refl)))
-
-pub speaks_unavailable : (d : Meaning → List ℕ) (k : Bool) (l : List ℕ) → may_be_unavailable k (meaning l) ≡ true → Speaks d k (l ∷ []) unavailable_octets false
-speaks_unavailable d k l may = ([], inr (may, sym (append-nil unavailable_octets), (refl, refl)))
 
 pub may_wider : (j k : Bool) → (j ≡ true → k ≡ true) → (asked : Meaning) → may_be_unavailable j asked ≡ true → may_be_unavailable k asked ≡ true
 may_wider j k later (define name word) h = h
@@ -155,21 +152,6 @@ breaks_end d k ls ms o b = record {
   begins = b.begins;
   behind_told = b.behind_told;
   is = b.is;
-}
-
--- one line
-pub breaks_one : (d : Meaning → List ℕ) (k : Bool) (l part : List ℕ) (begins : IsBeginning part (d (meaning l))) → MayBreak (need_of (meaning l)) part begins.rest → BreaksOff d k (l ∷ []) part
-breaks_one d k l part begins told = record {
-  front = [];
-  line = l;
-  behind = [];
-  said = [];
-  part = part;
-  are = refl;
-  spoken = (refl, refl);
-  begins = begins;
-  behind_told = told;
-  is = refl;
 }
 
 pub broken_front : (d : Meaning → List ℕ) (k : Bool) (ls : List (List ℕ)) (o : List ℕ) → BreaksOff d k ls o → (more : List ℕ) × (ended : Bool) × Speaks d k ls (o ++ more) ended

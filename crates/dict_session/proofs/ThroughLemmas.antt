@@ -7,11 +7,11 @@ use Rattle.dict_proto.proofs.PutLemmas.{puts_none, all_after, front_longer, fron
 use Rattle.dict_proto.specs.Meaning.{Meaning, meaning}
 use Rattle.dict_proto.specs.Replies.{unavailable_octets}
 use Rattle.dict_session.specs.Lines.{cut, HasNoLineEnd}
-use Rattle.dict_session.specs.Answers.{is_quit, need_of, MayBreak, may_be_unavailable}
+use Rattle.dict_session.specs.Answers.{is_quit, may_be_unavailable}
 use Rattle.dict_session.specs.Desks.{Condition}
 use Rattle.dict_session.specs.Ending.{Wrote}
-use Rattle.dict_session.specs.Session.{HasUnfinished, KeepsRest, LeavesSession}
-use Rattle.dict_session.specs.Spoken.{Speaks, IsBeginning, answers, has_quit}
+use Rattle.dict_session.specs.Session.{HasUnfinished, LeavesSession}
+use Rattle.dict_session.specs.Spoken.{Speaks, answers, has_quit}
 use Rattle.dict_session.specs.Through.{StandsOn, SpeaksThrough, BreaksThrough, WroteThrough, LeavesThrough, AnswersLine}
 use Rattle.dict_session.specs.declared.session.Session.{Session}
 use Rattle.dict_session.specs.declared.step.Course.{Course}

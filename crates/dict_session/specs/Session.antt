@@ -1,5 +1,5 @@
 -- What a session keeps between two pieces, and what a call leaves.
-use Rattle.std.specs.Prelude.{◌≡◌, ℕ, ◌<◌, List, [], length, MatchBool, ◌-◌, slice_index, ◌==◌, vec_capacity}
+use Rattle.std.specs.Prelude.{◌≡◌, ℕ, ◌<◌, List, length, MatchBool, ◌-◌, slice_index, ◌==◌, vec_capacity}
 use Rattle.dict_proto.specs.Streams.{Stream}
 use Rattle.dict_proto.specs.Meaning.{Meaning}
 use Rattle.dict_session.specs.Lines.{HasNoLineEnd, cut}

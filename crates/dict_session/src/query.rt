@@ -1,5 +1,4 @@
 // What is looked for in the databases that are asked.
-ghost use Rattle.std.specs.Prelude.{◌≡◌};
 
 use dict_desk::What;
 use dict_match::{Key, Strategy};

@@ -24,7 +24,6 @@ use Rattle.store_desk.specs.Over.{HasRun, ConnectionLeavesOneOf}
 use Rattle.app_words.specs.Faults.{told_of}
 use Rattle.app_words.specs.declared.fault.ProgramFault.{ProgramFault}
 use Rattle.app_words.specs.declared.fault.ProgramFault.TheVariants as faults
-use Rattle.app_words.specs.Writing.{IsUntouched}
 
 -- the file with this path can't be had, or memory ran out
 abbrev pub IsUnavailable : List ℕ → ProgramFault → Type 0

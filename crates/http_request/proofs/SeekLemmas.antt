@@ -13,9 +13,6 @@ Key = RouteOf Route
 abbrev pub TheRows : Type 0
 TheRows = RowsOf Key
 
-minus_one : (n : ℕ) → suc n - 1 ≡ n
-minus_one n = omega arith
-
 or_none : (x : Option Key) → or_else x None ≡ x
 or_none None = refl
 or_none (Some k) = refl
@@ -146,10 +143,6 @@ pub passes : (name rest : List ℕ) (rs : TheRows) → seek (length name) rs (na
 unfolding seek
 passes [] rest rs = refl
 passes (b ∷ name) rest rs = passes name rest rs
-
-append_nil : (xs : List ℕ) → xs ++ [] ≡ xs
-append_nil [] = refl
-append_nil (x ∷ xs) = ap (λ t. x ∷ t) (append_nil xs)
 
 pub passes_all : (name : List ℕ) (rs : TheRows) → seek (length name) rs name ≡ own rs
 unfolding seek

@@ -3,8 +3,7 @@ ghost use Rattle.std.specs.Prelude.{◌≡◌, ◌<◌, ◌++◌, ℕ, List, len
 ghost use Rattle.http_request.specs.Heads.{Needs};
 ghost use Rattle.http_request.specs.Requests.{IsAwaited, EditorRequest, IsRequest};
 ghost use Rattle.http_request.specs.declared.kinds.Need as needs;
-ghost use Rattle.http_request.specs.declared.kinds.Need.TheVariants.{More as NeedsMore, Whole as IsWhole, Refused as IsRefused};
-ghost use Rattle.http_request.specs.declared.statuses.Status as statuses;
+ghost use Rattle.http_request.specs.declared.kinds.Need.TheVariants.{More as NeedsMore, Whole as IsWhole};
 
 /// Octets have one answer. A request that is whole stays so, and is the same one, whatever follows. One whose head is whole is awaited
 /// until all its octets have come.

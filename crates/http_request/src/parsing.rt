@@ -1,7 +1,7 @@
 // How much of a request there is, and what it says.
 ghost use Rattle.std.specs.Prelude.{◌≡◌, ◌<◌, ◌≤◌, ℕ, length, slice_index, MatchBool};
 ghost use Rattle.httparse.specs.Spans.{IsRequestOf, IsRequestWithin};
-ghost use Rattle.http_request.specs.Heads.{Needs, NeedsHead, HasEnd, IsLineEnd, front_of};
+ghost use Rattle.http_request.specs.Heads.{Needs, HasEnd, IsLineEnd, front_of};
 ghost use Rattle.http_request.specs.Requests.{IsReading, IsHeadReading};
 ghost use Rattle.http_request.specs.declared.kinds.Need as needs;
 

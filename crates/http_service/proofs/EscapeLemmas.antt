@@ -65,10 +65,6 @@ escape_some text i e =
 pub escape_none : (text : List ℕ) → position needs_escape text ≡ None → escape text ≡ text
 escape_none text e = without text (position_none needs_escape text e)
 
--- where there is one, it stands in the text
-pub place_within : (text : List ℕ) (i : ℕ) → position needs_escape text ≡ Some i → i < length text
-place_within text i e = let (is, lt) = position_is needs_escape text i e in omega arith
-
 -- what was put, one more piece, and what is left
 pub one_more : (text done rest front back piece as_put : List ℕ) → text ≡ done ++ rest → rest ≡ front ++ (piece ++ back) → as_put ≡ piece → text ≡ (done ++ (front ++ (as_put ++ []))) ++ back
 one_more text done rest front back piece as_put e f p =

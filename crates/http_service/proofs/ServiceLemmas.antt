@@ -1,9 +1,8 @@
 -- What is settled of a request, test by test.
-use Rattle.std.proofs.Common.{◌≡◌, ◌≢◌, ◌⊎◌, ℕ, List, [], ◌∷◌, refl, subst}
-use Rattle.std.specs.Prelude.{Some, None, MatchOption, if◌then◌else◌}
+use Rattle.std.proofs.Common.{◌≡◌, ◌≢◌, ℕ, List, refl, subst}
+use Rattle.std.specs.Prelude.{Some, None, MatchOption}
 use Rattle.dict_catalogue.specs.Steps.{Catalogue}
 use Rattle.http_request.specs.Requests.{EditorRequest}
-use Rattle.http_request.specs.declared.kinds.Framing as framings
 use Rattle.http_request.specs.declared.route_kinds.Route.{Route}
 use Rattle.http_service.specs.Answers.{not_allowed}
 use Rattle.http_service.specs.Actions.{action_of}

@@ -1,5 +1,5 @@
 -- The octets of answers. RFC 9112, section 4; which header fields and bodies there are is this server's.
-use Rattle.std.specs.Prelude.{ℕ, List, [], ◌∷◌, ◌++◌, length, codes, decimal, string_bytes}
+use Rattle.std.specs.Prelude.{ℕ, List, [], ◌++◌, length, codes, decimal, string_bytes}
 use Rattle.http_request.specs.Statuses.{status_code, reason_phrase}
 use Rattle.http_request.specs.declared.statuses.Status.{Status}
 use Rattle.http_request.specs.declared.statuses.Status.TheVariants.{Ok, BadRequest, NotFound, MethodNotAllowed, Conflict, ContentTooLarge, UnprocessableContent, ServiceUnavailable}

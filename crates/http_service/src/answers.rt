@@ -15,7 +15,6 @@ pub enum Answer {
     Made(String),
 }
 
-ghost use Rattle.std.specs.List.{flat_map};
 ghost use Rattle.dict_proto.specs.Streams.{Puts};
 
 impl Answer {

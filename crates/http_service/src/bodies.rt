@@ -1,5 +1,5 @@
 // What the bodies of requests say.
-ghost use Rattle.std.specs.Prelude.{◌≡◌, ◌<◌, ◌^◌, ℕ, List, map, IfOk, IfErr, MatchOption};
+ghost use Rattle.std.specs.Prelude.{◌<◌, ℕ, List, map, IfOk, MatchOption};
 ghost use Rattle.serde_json.specs.Data.{Data, Items};
 ghost use Rattle.serde_json.specs.View.{view, items_view};
 ghost use Rattle.dict_catalogue.specs.Views.{names_shown};

@@ -1,7 +1,7 @@
 // The list of a catalogue's items.
 ghost use Rattle.std.specs.Prelude.{◌≡◌, IfOk, map, string_bytes};
 ghost use Rattle.serde_json.specs.View.{view};
-ghost use Rattle.serde_json.specs.Data.{array, string};
+ghost use Rattle.serde_json.specs.Data.{array};
 ghost use Rattle.serde_json.specs.View.{items_of};
 ghost use Rattle.dict_catalogue.specs.Views.{item_shown, summary_shown, texts_shown};
 ghost use Rattle.http_service.specs.Texts.{list_text};

@@ -8,10 +8,9 @@ use Rattle.net_hub.specs.Runs.{Accepted}
 use Rattle.net_hub.specs.declared.hub.Hub.{Hub}
 use Rattle.net_hub.specs.declared.kind.Kind.{Kind}
 use Rattle.net_connection.specs.Events.{AreEventsOf}
-use Rattle.net_connection.specs.Foreseen.{AreNoCommands, IsNoCommand, KeepsOrder}
+use Rattle.net_connection.specs.Foreseen.{AreNoCommands, IsNoCommand}
 use Rattle.net_connection.specs.Handing.{held_in}
 use Rattle.net_connection.specs.Ordering.{IsOnly}
-use Rattle.net_connection.specs.Pieces.{next_piece}
 use Rattle.net_connection.specs.Turns.{LeadsByAnswer}
 use Rattle.net_connection.specs.declared.connection.Connection.{Connection}
 use Rattle.net_connection.proofs.BackLemmas.{editor_piece}

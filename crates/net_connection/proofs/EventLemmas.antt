@@ -4,20 +4,12 @@ use Rattle.std.proofs.lemmas.Bool.{eq-eqb, ne_eqb}
 use Rattle.std.proofs.lemmas.List.Elements.{filter-append}
 use Rattle.net_hub.specs.Events.{id_of}
 use Rattle.net_hub.specs.Runs.{Accepted, events_of}
-use Rattle.net_connection.specs.Events.{ArePut, AreEventsOf, piece_of, pieces_of}
+use Rattle.net_connection.specs.Events.{ArePut, AreEventsOf}
 
 pub put_joined : (es fs : List Accepted) (o p : List ℕ) → ArePut es o → ArePut fs p → ArePut (es ++ fs) (o ++ p)
 put_joined [] fs o p none more = subst (λ (l : List ℕ). ArePut fs (l ++ p)) (sym none) more
 put_joined (one ∷ es) fs o p (first, rest, is, are, whole) more =
     (first, rest ++ p, is, put_joined es fs rest p are more, ap (λ (l : List ℕ). l ++ p) whole ∙ append_assoc first rest p)
-
-pub own_joined : (id : ℕ) (es fs : List Accepted) → AreEventsOf id es → AreEventsOf id fs → AreEventsOf id (es ++ fs)
-own_joined id [] fs own more = more
-own_joined id (one ∷ es) fs (is, rest) more = (is, own_joined id es fs rest more)
-
-pub pieces_joined : (es fs : List Accepted) → pieces_of (es ++ fs) ≡ pieces_of es ++ pieces_of fs
-pieces_joined [] fs = refl
-pieces_joined (one ∷ es) fs = ap (λ (l : List ℕ). piece_of one.what ++ l) (pieces_joined es fs) ∙ sym (append_assoc (piece_of one.what) (pieces_of es) (pieces_of fs))
 
 pub events_joined : (id : ℕ) (es fs : List Accepted) → events_of id (es ++ fs) ≡ events_of id es ++ events_of id fs
 events_joined id es fs = filter-append (λ (one : Accepted). id == id_of one.what) es fs

@@ -1,16 +1,16 @@
 -- What is taken of an event's octets, call by call.
-use Rattle.std.proofs.Common.{◌≡◌, ◌≢◌, ℕ, ◌+◌, ◌≤◌, ◌<◌, Bool, true, false, List, [], ◌∷◌, ◌++◌, ◌-◌, refl, sym, ap, ◌∙◌, rules, subst, append_assoc, append-nil, take, drop, length, All, length-append, arith, ◌⊎◌, inl, inr}
-use Rattle.std.specs.Prelude.{◌&&◌, ◌==◌, if◌then◌else◌, not, Option, Some, None, Result, Ok, Err, OnErr, vec_capacity}
+use Rattle.std.proofs.Common.{◌≡◌, ◌≢◌, ℕ, ◌+◌, ◌≤◌, ◌<◌, Bool, true, false, List, [], ◌∷◌, ◌++◌, ◌-◌, refl, sym, ap, ◌∙◌, rules, subst, append_assoc, append-nil, take, drop, length, All, length-append, arith}
+use Rattle.std.specs.Prelude.{◌&&◌, ◌==◌, if◌then◌else◌, not, Option, Some, None, Result, Ok, Err, OnErr}
 use Rattle.std.specs.Io.KnownBytes.{Appends, Keeps}
 use Rattle.std.proofs.KnownBytes.{Appends-nil, Keeps-refl}
 use Rattle.net_connection.proofs.CallLemmas.{makes_none}
-use Rattle.std.proofs.lemmas.List.{take-append-le, drop-append-le, take-append-drop, length-drop, length-take}
+use Rattle.std.proofs.lemmas.List.{take-append-le, drop-append-le, take-append-drop, length-take}
 use Rattle.std.proofs.Math.Seq.{take-append_seam, take-append-add}
 use Rattle.std.proofs.lemmas.List.Elements.{All-append, All-nil}
 use Rattle.net_connection.specs.OutletCalls.{Call, MakesCalls, sending_failed, is_vain, sends, sent_by}
 use Rattle.std.specs.declared.io.Error.{Error}
 use Rattle.net_connection.specs.Outlets.{Follow, HasTakenOctets, IsStuck, MakesSendings, are_well, end_in_vain, is_in_vain, is_sending, is_well, PutsSome, PassesOctets}
-use Rattle.net_connection.specs.Queues.{FindNoRoom, waiting}
+use Rattle.net_connection.specs.Queues.{waiting}
 use Rattle.net_connection.specs.declared.queue.Queue.{Queue}
 use Rattle.net_connection.specs.declared.trail.Trail.{Trail}
 use Rattle.net_connection.specs.declared.calls.Sent.{Sent}
@@ -151,11 +151,6 @@ pub on_err_of : {A E : Type 0} (r : Result A E) (P Q : Type 0) → (P → Q) →
 on_err_of (Ok a) P Q so is = tt
 on_err_of (Err e) P Q so is = so is
 
--- where it isn't more than fits, memory is short
-pub short_memory : (a b c : ℕ) → a + b ≤ 1048576 → (1048576 < a + b) ⊎ (c < 1048576) → c < 1048576
-short_memory a b c fits (inl more) = absurd (omega (arith, fits, more))
-short_memory a b c fits (inr less) = less
-
 pub halves : (n : ℕ) (a b r : List ℕ) → a ≡ take n r → b ≡ drop n r → a ++ b ≡ r
 halves n a b r front back = ap (λ l. l ++ b) front ∙ ap (λ l. take n r ++ l) back ∙ take-append-drop n r
 
@@ -172,17 +167,6 @@ puts_noted bytes t0 q0 t q r octets sent (k, within, put) = (k, within, ap (λ w
 -- as many wait as may, and the last call took nothing
 pub stuck_full : (a b : Option (List Call)) (n : ℕ) (q : Queue) → length (waiting q) ≡ 1048576 → length q.refused.octets ≡ n → Follow end_in_vain a b → IsStuck a b n q
 stuck_full a b n q full same vain = (λ few. (full, vain), λ more. absurd (omega (arith, same, more)))
-
--- octets found no room where as many may wait
-pub stuck_short : (a b : Option (List Call)) (n : ℕ) (p q : Queue) (octets : List ℕ) → length (waiting p) + length octets ≤ 1048576 → length p.refused.octets ≡ n
-    → (1048576 < length (waiting p) + length octets) ⊎ (vec_capacity q.octets < 1048576) → Follow are_well a b → FindNoRoom p q octets → IsStuck a b n q
-stuck_short a b n p q octets fits same short well (inl (more, still)) = absurd (omega (arith, fits, more))
-stuck_short a b n p q octets fits same short well (inr (less, noted)) =
-    let one : 1 ≤ length octets = omega (arith, less, p.octets.ok.0, p.octets.ok.1) in
-    let grown : length q.refused.octets ≡ n + length octets = omega (arith, ap length noted, length-append p.refused.octets octets, same) in (
-      λ few. absurd (omega (arith, few, one, grown)),
-      λ more. (short_memory (length (waiting p)) (length octets) (vec_capacity q.octets) fits short, well),
-    )
 
 pub kept_as : (a b : Option (List ℕ)) → HasTakenOctets a b [] → Keeps a b
 kept_as None b has = tt

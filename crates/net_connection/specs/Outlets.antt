@@ -1,11 +1,10 @@
 -- What an event puts, and what is taken of it at once.
-use Rattle.std.specs.Prelude.{◌≡◌, ◌≢◌, ◌≤◌, ◌<◌, ◌+◌, ◌⊎◌, ℕ, Bool, true, false, not, ◌&&◌, All, List, [], ◌∷◌, ◌++◌, take, drop, length, Option, None, Some, vec_capacity}
+use Rattle.std.specs.Prelude.{◌≡◌, ◌≢◌, ◌≤◌, ◌<◌, ◌+◌, ℕ, Bool, true, false, not, ◌&&◌, All, List, [], ◌∷◌, ◌++◌, take, drop, length, Option, None, Some, vec_capacity}
 use Rattle.std.specs.Io.KnownBytes.{Appends, Keeps}
 use Rattle.dict_proto.specs.Streams.{Stream}
 use Rattle.net_connection.specs.OutletCalls.{Call, MakesCalls, sends, receives, ends, sending_failed, is_vain}
 use Rattle.net_connection.specs.Queues.{waiting, counts_of}
 use Rattle.net_connection.specs.declared.queue.Queue.{Queue}
-use Rattle.net_connection.specs.declared.calls.Sent.{Sent}
 use Rattle.net_connection.specs.declared.trail.Trail.{Trail}
 
 -- what waited as the event began and what it put since: what the transport took of it, and what waits

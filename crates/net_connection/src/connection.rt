@@ -1,10 +1,10 @@
 // One connection.
-ghost use Rattle.std.specs.Prelude.{◌≡◌, ◌≤◌, ◌<◌, ◌==◌, ◌||◌, ℕ, List, [], ◌∷◌, Option, take, length, vec_capacity, IfSome, MatchOption, true, false, ⊤, Ok};
+ghost use Rattle.std.specs.Prelude.{◌≡◌, ◌≤◌, ◌<◌, ◌==◌, ◌||◌, List, [], ◌∷◌, Option, take, length, vec_capacity, IfSome, MatchOption, true, false, ⊤, Ok};
 ghost use Rattle.std.specs.Io.KnownBytes.{Consumes, Keeps};
 ghost use Rattle.dict_session.specs.Desks.{condition};
 ghost use Rattle.net_connection.specs.Leading.{HasLedOn};
-ghost use Rattle.net_hub.specs.Events.{opened, came, ended, is_of_editor};
-ghost use Rattle.net_hub.specs.Runs.{Accepted, IsAt, State};
+ghost use Rattle.net_hub.specs.Events.{came, ended, is_of_editor};
+ghost use Rattle.net_hub.specs.Runs.{IsAt, State};
 ghost use Rattle.dict_catalogue.specs.Steps.{Catalogue};
 ghost use Rattle.net_connection.specs.OutletCalls.{MakesCalls, receives, count_received};
 ghost use Rattle.net_connection.specs.Stages.{is_open, parted, stage_of_new};

@@ -75,7 +75,7 @@ pub struct Outlet<T: Transport, B: Beginning> {
 }
 
 impl<T: Transport, B: Beginning> Outlet<T, B> {
-    ghost use Rattle.std.specs.Prelude.{◌++◌, ◌∷◌, ◌⊎◌, ◌^◌, ◌-◌, MatchResult, OnOk, OnErr, vec_len, vec_capacity, not};
+    ghost use Rattle.std.specs.Prelude.{◌++◌, ◌∷◌, ◌⊎◌, ◌^◌, ◌-◌, MatchResult, OnOk, OnErr, not};
     ghost use Rattle.net_connection.specs.OutletCalls.{MakesCalls, sending_failed, is_vain, sends};
     ghost use Rattle.net_connection.specs.Outlets.{carried, PutsSome};
 

@@ -215,7 +215,7 @@ impl Queue {
 }
 
 impl Sink for Queue {
-    ghost use Rattle.std.specs.Prelude.{◌<◌, ◌⊎◌, ◌^◌, ◌-◌, IsErr, MatchResult, OnErr, Some, vec_capacity};
+    ghost use Rattle.std.specs.Prelude.{◌<◌, ◌⊎◌, ◌^◌, ◌-◌, IsErr, MatchResult, OnErr, vec_capacity};
     ghost use Rattle.std.specs.Io.KnownBytes.{Appends};
     ghost use Rattle.dict_proto.specs.Streams.{Puts};
     ghost use Rattle.net_connection.specs.Queues.{FindNoRoom, TakesOctets, queue_stream, waiting};

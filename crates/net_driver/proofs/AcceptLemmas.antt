@@ -40,14 +40,6 @@ ready_is Ready is = refl
 ready_is Quiet is = absurd (let never : false ≡ true = is in cc)
 ready_is Failed is = absurd (let never : false ≡ true = is in cc)
 
--- a failed call is to be made again at once where the socket is ready still
-pub ready_by : (listening : Listening) (again : Bool) → (again ≡ true → listening ≡ Ready) → (listening ≡ Ready → again ≡ true) → again ≡ is_ready listening
-ready_by Ready again is so = so refl
-ready_by Quiet true is so = let never : Quiet ≡ Ready = is refl in cc
-ready_by Quiet false is so = refl
-ready_by Failed true is so = let never : Failed ≡ Ready = is refl in cc
-ready_by Failed false is so = refl
-
 module _ {T : Type 0} {G : transport.Ghosts T} (refuses : Hub → ℕ → Kind → Option HubFault → Type 0) where
   -- a socket that isn't asked
   pub accepts_not : (kind : Kind) (before : Listening) (hub : Hub) (all : Connections T G) → may_accept before ≡ false → Accepts refuses kind before before hub hub all all [] []

@@ -1,12 +1,12 @@
 -- Whose command comes first.
-use Rattle.std.proofs.Common.{◌≡◌, ◌≢◌, ◌≤◌, ◌<◌, ◌+◌, ℕ, zero, suc, Bool, true, false, List, [], ◌∷◌, length, get_or, refl, sym, ap, ◌∙◌, subst, inl, inr, arith}
+use Rattle.std.proofs.Common.{◌≡◌, ◌≢◌, ◌≤◌, ◌<◌, ℕ, zero, suc, Bool, true, false, List, [], ◌∷◌, length, get_or, refl, sym, ap, ◌∙◌, inl, inr, arith}
 use Rattle.std.proofs.lemmas.Bool.{ne_eqb}
 use Rattle.std.proofs.lemmas.Bool.Decides.{leb_tells}
 use Rattle.std.specs.List.{AllPairs}
-use Rattle.std.specs.Prelude.{◌&&◌, ◌==◌, None, Option, Some, max, nat_le, nat_lt, not}
+use Rattle.std.specs.Prelude.{◌&&◌, ◌==◌, None, Option, Some, nat_le, nat_lt, not}
 use Rattle.net_connection.specs.Handing.{held_for}
 use Rattle.net_connection.specs.declared.connection.Connection.{Connection}
-use Rattle.net_driver.specs.Turning.{IsFirst, first_at, first_of, first_since, is_other, longest}
+use Rattle.net_driver.specs.Turning.{IsFirst, first_at, first_of, is_other, longest}
 
 some_same : {a b : ℕ} → Some a ≡ Some b → a ≡ b
 some_same is = cc

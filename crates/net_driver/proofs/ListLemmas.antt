@@ -55,12 +55,6 @@ among_append (x ∷ xs) ys id octets (inr there) = elim (among_append xs ys id o
   | inr right ↦ inr right
 ]
 
-pub among_take : {T : Type 0} (n : ℕ) (xs : List (Connection T)) (id : ℕ) (octets : List ℕ) → WaitsAmong (take n xs) id octets → WaitsAmong xs id octets
-among_take zero xs id octets never = absurd never
-among_take (suc n) [] id octets never = absurd never
-among_take (suc n) (x ∷ xs) id octets (inl here) = inl here
-among_take (suc n) (x ∷ xs) id octets (inr there) = inr (among_take n xs id octets there)
-
 pub among_drop : {T : Type 0} (n : ℕ) (xs : List (Connection T)) (id : ℕ) (octets : List ℕ) → WaitsAmong (drop n xs) id octets → WaitsAmong xs id octets
 among_drop zero xs id octets h = h
 among_drop (suc n) [] id octets never = absurd never
@@ -106,14 +100,6 @@ ids_kept P xs ys ids all k d within =
     let len = ids.len in
     let below : k < length xs = omega arith in
     subst P (sym (ids.same k d below)) (all k d below)
-
-pub all_remove : {X : Type 0} (P : X → Type 0) (xs : List X) (i : ℕ) → i < length xs → All P xs → All P (remove xs i)
-all_remove P xs i within all k d in_rest =
-    let shorter = length-remove xs i within in
-    elim (leb_tells i k) [
-      | inl above ↦ rw (get_or-remove_above xs i d k above.1 within) (all (k + 1) d (omega (arith, shorter)))
-      | inr below ↦ rw (get_or-remove_below xs i d k below.1 within) (all k d (omega (arith, shorter)))
-    ]
 
 -- rising ids are apart: that at a place from all others
 pub apart_remove : {T : Type 0} (xs : List (Connection T)) (i : ℕ) (one : Connection T) → i < length xs → get_or xs i one ≡ one → AllPairs (λ a b. a.id < b.id) xs

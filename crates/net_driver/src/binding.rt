@@ -1,5 +1,5 @@
 // Two listening sockets, bound to addresses.
-ghost use Rattle.std.specs.Prelude.{◌≡◌, IfOk, IfErr, MatchResult, ⊤};
+ghost use Rattle.std.specs.Prelude.{◌≡◌, IfOk, MatchResult, ⊤};
 ghost use Rattle.std.specs.declared.io.Error.{Error};
 ghost use Rattle.std.specs.declared.net.socket_addr.SocketAddr.{SocketAddr as Address};
 ghost use Rattle.net_driver.specs.Binding.{BindsBoth, HasAddressOf, IsBoundFor, IsAddressRefused};

@@ -1,5 +1,5 @@
 // The connections of a driver.
-ghost use Rattle.std.specs.Prelude.{◌≡◌, ◌≢◌, ◌⊎◌, ◌≤◌, ◌<◌, ◌+◌, ℕ, List, [], false, All, IfOk, nat_lt, vec_len, vec_capacity, slice_index_or};
+ghost use Rattle.std.specs.Prelude.{◌≡◌, ◌≢◌, ◌⊎◌, ◌≤◌, ◌<◌, ◌+◌, [], false, All, IfOk, nat_lt, vec_len, vec_capacity, slice_index_or};
 ghost use Rattle.std.specs.List.{AllPairs};
 ghost use Rattle.net_connection.specs.Stages.{is_open};
 
@@ -49,9 +49,9 @@ impl<T: Transport> Drop for Connections<T> {
 impl<T: Transport> Connections<T> {
     ghost use Rattle.dict_session.specs.Desks.{condition};
     ghost use Rattle.net_connection.specs.Leading.{HasLedOn};
-    ghost use Rattle.std.specs.Prelude.{◌++◌, ◌∷◌, ◌==◌, ◌||◌, ◌^◌, true, MatchOption, filter, if◌then◌else◌};
+    ghost use Rattle.std.specs.Prelude.{◌++◌, ◌∷◌, ◌==◌, ◌||◌, ◌^◌, true, MatchOption, filter};
     ghost use Rattle.std.specs.List.{remove};
-    ghost use Rattle.net_driver.specs.Rounds.{Admits, Moves, TurnEach, Waits, connections_fitting, latest};
+    ghost use Rattle.net_driver.specs.Rounds.{Admits, Moves, TurnEach, connections_fitting, latest};
     ghost use Rattle.net_connection.specs.Telling.{KeepsOthers};
     ghost use Rattle.net_connection.specs.Stages.{is_departing};
     ghost use Rattle.net_connection.specs.Turns.{HasNothingToDo};

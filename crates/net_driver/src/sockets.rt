@@ -1,6 +1,5 @@
 // What the system's sockets are asked.
 ghost use Rattle.std.specs.Prelude.{◌≡◌, ◌<◌, ℕ, List, Option, Result, [], ◌∷◌, length, slice_index_or, map, None, is_ok, ⊤};
-ghost use Rattle.std.specs.declared.io.Error.{Error};
 ghost use Rattle.std.specs.Duration.{as_nanos};
 ghost use Rattle.mio.specs.Event.{event_token};
 ghost use Rattle.mio.specs.Events.{items};

@@ -1,5 +1,5 @@
 // Which connections are open.
-ghost use Rattle.std.specs.Prelude.{◌≡◌, ◌<◌, ◌≤◌, ◌+◌, ◌++◌, [], ◌∷◌, true, None, Some, Ok, All, IfOk, IfSome, OnOk, OnErr, length, vec_len, vec_capacity, remove};
+ghost use Rattle.std.specs.Prelude.{◌≡◌, ◌<◌, ◌≤◌, ◌+◌, ◌++◌, [], ◌∷◌, true, None, Some, Ok, All, IfOk, IfSome, OnOk, OnErr, vec_len, vec_capacity, remove};
 ghost use Rattle.std.specs.List.{AllPairs};
 ghost use Rattle.net_hub.specs.Books.{is_given, opening, place_of_connection};
 

@@ -2,7 +2,7 @@
 ghost use Rattle.std.specs.Prelude.{◌≡◌, ◌≢◌, ◌-◌, ◌++◌, ◌<◌, ◌≤◌, ℕ, length, List, Option, [], ◌∷◌, true, false, None, Some, Ok, Err, IfOk, IfErr, OnOk, OnErr, vec_len, vec_capacity, remove};
 ghost use Rattle.dict_catalogue.specs.Steps.{Catalogue};
 ghost use Rattle.dict_session.specs.Desks.{condition};
-ghost use Rattle.net_hub.specs.Books.{IsRefusal, opening, place_of_connection};
+ghost use Rattle.net_hub.specs.Books.{IsRefusal, opening};
 ghost use Rattle.net_hub.specs.Holding.{Holding, left_by};
 ghost use Rattle.http_service.specs.Foreseeing.{AsksAnewForChange, AsksForChange};
 ghost use Rattle.net_hub.specs.Foreseen.{AreForeseen, MakeCommand};

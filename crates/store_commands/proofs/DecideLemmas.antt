@@ -1,7 +1,7 @@
 -- What is planned over a summary can be written, and is the change that the command makes.
 use Rattle.std.proofs.Common.{◌≡◌, ℕ, ◌+◌, ◌≤◌, ◌||◌, Bool, true, false, List, [], ◌∷◌, ◌++◌, length, map, not, nat_lt, Option, Some, None, refl, sym, ap, subst, ◌∙◌, arith}
 use Rattle.std.specs.Prelude.{IfSome}
-use Rattle.std.specs.List.{AllByRecursion, list_any}
+use Rattle.std.specs.List.{AllByRecursion}
 use Rattle.std.proofs.lemmas.Bool.{and_parts}
 use Rattle.std.proofs.lemmas.Bool.Decides.{nat_tests}
 use Rattle.dict_text.proofs.AllLemmas.{all_weaker, all_filter, all_map, all_flat_map, all_flat_map_parts}
@@ -15,7 +15,7 @@ use Rattle.dict_catalogue.specs.Commands.{Command, install, rollback, retire, pu
 use Rattle.dict_catalogue.specs.Tests.{Test, Holdings, wants, first_failing, refusal_of, has_turn, has_room, has_member_count, member_tests}
 use Rattle.dict_catalogue.specs.declared.fault.CommandRefusal.TheVariants.{BadName, Unknown, IsVirtual, NoFormer, Listed, CatalogueFull, MemberCount, BadTitle, BadPlace, IsRegular}
 use Rattle.dict_text.specs.Names.{is_name, is_title}
-use Rattle.dict_catalogue.specs.Effects.{effect, items_after, installs_after, edition_told, editions_gone, reply_to}
+use Rattle.dict_catalogue.specs.Effects.{effect, items_after, installs_after, edition_told}
 use Rattle.dict_catalogue.specs.Steps.{Catalogue, holdings, summary_of}
 use Rattle.dict_catalogue.specs.WellFormed.{IsWellFormed}
 use Rattle.dict_catalogue.specs.Views.{item_shown, summary_shown, command_shown, command_meant, IsEffect, IsChange}

@@ -30,8 +30,6 @@ use Rattle.store_commands.specs.KeptRecords.{HoldsReplies}
 use Rattle.store_commands.proofs.RowLemmas.{filter_map}
 use Rattle.store_holdings.proofs.ReadingLemmas.{replies_kept}
 use Rattle.store_rows.specs.Versions.{known, layout_of}
-use Rattle.std.specs.Prelude.{Result, IfErr, IsErrAnd}
-use Rattle.std.specs.List.{AllByRecursion, Contains}
 use Rattle.sqlite.specs.State.{State}
 use Rattle.store_sql.specs.Columns.{kept_columns}
 use Rattle.store_sql.specs.Reads.{FailsToList}

@@ -1,5 +1,5 @@
 -- The lines of an index, one behind the other.
-use Rattle.std.proofs.Common.{ℕ, ◌-◌, ◌≤◌, List, [], ◌∷◌, length, map, arith}
+use Rattle.std.proofs.Common.{ℕ, ◌≤◌, List, [], ◌∷◌, length, map, arith}
 use Rattle.std.specs.List.{AllByRecursion}
 use Rattle.dict_index.specs.Edition.{entry_in}
 use Rattle.dict_index.specs.Limits.{most_octets}

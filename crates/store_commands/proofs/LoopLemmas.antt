@@ -55,10 +55,6 @@ module _ {X Y : Type 0} (g : X → Y) (xs : List X) (i : ℕ) (x : X) (lt : i < 
   pub numbered_next : {Z : Type 0} (f : ℕ → Y → Z) → numbered f 0 (map g (take i xs)) ++ f i (g x) ∷ [] ≡ numbered f 0 (map g (take (i + 1) xs))
   numbered_next f = sym (ap (numbered f 0) (map_next g xs i x lt is) ∙ numbered_push f (map g (take i xs)) (g x) ∙ ap (λ k. numbered f 0 (map g (take i xs)) ++ f k (g x) ∷ []) so_many)
 
-  -- with what is made of it
-  pub made_next : {Z W : Type 0} (h : Z → W) (f : ℕ → Y → Z) → map h (numbered f 0 (map g (take i xs))) ++ h (f i (g x)) ∷ [] ≡ map h (numbered f 0 (map g (take (i + 1) xs)))
-  made_next h f = sym (map-append h (numbered f 0 (map g (take i xs))) (f i (g x) ∷ [])) ∙ ap (map h) (numbered_next f)
-
   -- some more of each
   pub joined_next : {Z : Type 0} (f : Y → List Z) → flat_map f (map g (take i xs)) ++ f (g x) ≡ flat_map f (map g (take (i + 1) xs))
   joined_next f = sym (ap (flat_map f) (map_next g xs i x lt is) ∙ flat_map-append f (map g (take i xs)) (g x ∷ []) ∙ ap (λ l. flat_map f (map g (take i xs)) ++ l) (append-nil (f (g x))))

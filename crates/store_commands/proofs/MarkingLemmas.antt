@@ -1,6 +1,6 @@
 -- What the mark written as it is leaves of what a database holds.
 use Rattle.std.proofs.Common.{◌≡◌, ℕ, List, sym, ap, subst, map, filter}
-use Rattle.std.specs.Prelude.{pos, IsTrue, IsPermutation}
+use Rattle.std.specs.Prelude.{pos, IsTrue}
 use Rattle.std.proofs.lemmas.List.Sorted.{IsPermutation-sym, IsPermutation-trans}
 use Rattle.sqlite.specs.Effect.{Database}
 use Rattle.sqlite.specs.State.{State, HasCleanDisk}

@@ -1,5 +1,5 @@
 // What a command does is decided from the summary alone, before anything is written.
-ghost use Rattle.std.specs.Prelude.{◌≡◌, IfOk, IfErr};
+ghost use Rattle.std.specs.Prelude.{IfOk, IfErr};
 ghost use Rattle.dict_catalogue.specs.Views.{summary_shown, command_shown, IsChange};
 ghost use Rattle.store_commands.specs.Changes.{IsWritable, IsInRange};
 ghost use Rattle.store_commands.specs.Decided.{IsDeclined, LiesWithin};

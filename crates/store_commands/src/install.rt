@@ -1,9 +1,8 @@
 // The files of an install that may come, and what is made of them before the command comes.
 ghost use Rattle.std.specs.Prelude.{◌≡◌, ◌≢◌, ◌↔◌, ◌+◌, ◌≤◌, ◌<◌, ◌++◌, ◌∷◌, [], ℕ, false, true, IsTrue, IfErr, IfOk, IfSome, List, None, OnOk, Some, length, slice_get, string_bytes, take};
 ghost use Rattle.std.specs.List.{AllByRecursion};
-ghost use Rattle.dict_index.specs.Edition.{ReadEdition};
 ghost use Rattle.dict_index.specs.Line.{Line};
-ghost use Rattle.dict_index.specs.Meaning.{IsReadEdition, IsFault};
+ghost use Rattle.dict_index.specs.Meaning.{IsFault};
 ghost use Rattle.dict_index.specs.Refused.{IsIndexFault};
 ghost use Rattle.store_parts.specs.Stored.{stored_index, stored_line, IsStorable};
 ghost use Rattle.dict_reading.specs.Reading.{HasRead, IsAtEnd};

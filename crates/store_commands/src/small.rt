@@ -1,5 +1,5 @@
 // The small tables, which are written anew where they change.
-ghost use Rattle.std.specs.Prelude.{◌≡◌, ◌≤◌, ◌∷◌, [], true, IfErr, OnOk, map};
+ghost use Rattle.std.specs.Prelude.{◌≡◌, true, IfErr, OnOk, map};
 ghost use Rattle.std.specs.List.{AllByRecursion};
 ghost use Rattle.sqlite.specs.Effect.{IsDatabase};
 ghost use Rattle.sqlite.specs.State.{HasCleanDisk};

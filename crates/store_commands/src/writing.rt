@@ -1,5 +1,5 @@
 // All that one command writes, inside an open transaction.
-ghost use Rattle.std.specs.Prelude.{◌≡◌, ◌∷◌, [], true, OnOk, IfSome, map, IfErr};
+ghost use Rattle.std.specs.Prelude.{◌≡◌, true, OnOk, IfSome, map, IfErr};
 ghost use Rattle.std.specs.List.{AllByRecursion};
 ghost use Rattle.sqlite.specs.Effect.{IsDatabase};
 ghost use Rattle.sqlite.specs.State.{HasCleanDisk};

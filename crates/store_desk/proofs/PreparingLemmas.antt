@@ -71,11 +71,6 @@ module _ {S : Type 0} (g : Ghosts S) where
         (λ stored one. subst (ArePartsOf stored.number one.text) (sym is) (parts_after after stored.number one.text kept one.kept)) M (shown.served clean);
   }
 
-  -- nothing is prepared
-  pub none_filed : (found : Option Filing) (h : Held S) → ((f : Filing) → found ≡ Some f → ⊥) → HasFiled g found h → HasFiled g None h
-  none_filed None h never filed = filed
-  none_filed (Some f) h never filed = absurd (never f refl)
-
   -- nothing is filed yet of what was planned
   pub planned_filed : (found : Option Filing) (h : Held S) → IfSome found IsDrawnUp → h.in_transaction ≡ false → HasFiled g found h
   planned_filed None h drawn none = λ clean. none

@@ -1,8 +1,8 @@
 -- The index in memory of an edition that may come, as far as it is made.
-use Rattle.std.specs.Prelude.{◌≡◌, List, length, map, take}
+use Rattle.std.specs.Prelude.{◌≡◌, length, map, take}
 use Rattle.dict_index.specs.Edition.{ReadEdition}
 use Rattle.dict_index.specs.Meaning.{IsReadEdition}
-use Rattle.store_search.specs.Entries.{Indexed, entry_of}
+use Rattle.store_search.specs.Entries.{entry_of}
 use Rattle.store_commands.specs.declared.reads.ReadInstall.{ReadInstall}
 use Rattle.store_desk.specs.declared.making.IndexPart.{IndexPart}
 use Rattle.store_desk.specs.declared.making.IndexPart.TheVariants.{Entries, Parts, Lost}

@@ -9,7 +9,6 @@ use sqlite::Alter;
 use store_lookup::{count_under, find_under, heads_under};
 
 impl<S: Alter + Drop> Lookup for Desk<S> {
-    ghost use Rattle.std.specs.Prelude.{◌≡◌, true, false};
     ghost use Rattle.sqlite.specs.State.{HasCleanDisk};
     ghost use Rattle.sqlite.specs.Held.{state};
     ghost use Rattle.store_desk.specs.Desk.{Shows, LeavesOneOf, is_closed, has_failed};

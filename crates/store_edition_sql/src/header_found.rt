@@ -1,6 +1,6 @@
 //! Whether a schema that is found has the table as it is defined here.
 
-ghost use Rattle.std.specs.Prelude.{◌≡◌, codes, IsTrue, ◌↔◌};
+ghost use Rattle.std.specs.Prelude.{◌≡◌, IsTrue, ◌↔◌};
 ghost use Rattle.store_tables.specs.Found.{HasOwn};
 ghost use Rattle.store_edition_sql.specs.HeaderTable.{header};
 

@@ -7,7 +7,6 @@ use Rattle.std.proofs.lemmas.List.Elements.{All-from_recursion}
 use Rattle.sqlite.specs.Order.{Row}
 use Rattle.sqlite.specs.declared.error.Error.{Error}
 use Rattle.sqlite.specs.State.{State, IsUnchanged, HasCause, Survives}
-use Rattle.sqlite.proofs.Callers.{unchanged_then}
 use Rattle.sqlite_trees.specs.declared.error.StoreError.{StoreError}
 use Rattle.sqlite_trees.specs.declared.error.StoreError.TheVariants.{OutOfMemory, Io, Corrupt, Full, Broken, Unstorable}
 use Rattle.dict_text.proofs.AllLemmas.{all_filter}
@@ -46,29 +45,6 @@ module _ (a b c : State) (same : IsUnchanged a b) (survives : Survives a b (λ _
   cause_behind Full h = omega (arith, survives.counts)
   cause_behind Broken h = absurd (false≢true (sym h ∙ same.0.is_open))
   cause_behind Unstorable h = h
-
-  pub fails_behind : (fault : Fault) → FailsToReadCatalogue b c fault → FailsToReadCatalogue a c fault
-  fails_behind fault (inl still) = inl (unchanged_then a b c same still.0, unread_behind fault still.1)
-  fails_behind fault (inr h) =
-      let fails = h.2 in
-      let back = fails.3 in
-      inr (
-        h.0,
-        h.1,
-        (
-          fails.0,
-          fails.1,
-          cause_behind fails.0 fails.2,
-          record {
-            was_open = λ opened. same.0.was_open;
-            undone = λ opened. let undone = back.undone opened in (undone.0 ∙ same.0.committed_is, undone.1 ∙ same.0.committed_is);
-            autocommit = back.autocommit;
-            unmarked = back.unmarked;
-            counts = record { changes = back.counts.changes ∙ same.1.changes; last_rowid = back.counts.last_rowid ∙ same.1.last_rowid };
-          },
-          fails.4,
-        ),
-      )
 
 all_contains : {X : Type 0} (P : X → Type 0) (xs : List X) (x : X) → AllByRecursion P xs → Contains xs x → P x
 all_contains P xs x all h = subst P h.2 (All-from_recursion P xs all h.0 x h.1)

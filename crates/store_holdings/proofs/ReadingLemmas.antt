@@ -1,18 +1,16 @@
 -- What a database keeps by the readings of a layout.
-use Rattle.std.proofs.Common.{◌≡◌, List, [], ◌∷◌, map, drop, codes, refl, ap, subst}
-use Rattle.std.specs.List.Sorted.{IsPermutation}
+use Rattle.std.proofs.Common.{◌≡◌, List, [], ◌∷◌, map, codes, refl, ap, subst}
 use Rattle.sqlite.specs.Effect.{Database}
-use Rattle.store_records.specs.Records.{EntryRecord, header_of}
-use Rattle.store_sql.specs.Effects.{rows_of}
+use Rattle.store_records.specs.Records.{header_of}
 use Rattle.store_sql.specs.Encodings.{mark_row, item_row, member_row, edition_row, kept_row}
 use Rattle.store_edition_sql.specs.HeaderRecords.{header_row}
 use Rattle.store_edition_sql.specs.PartRecords.{part_row}
 use Rattle.store_rows.specs.Tables.{Tables}
 use Rattle.store_rows.specs.Versions.{Layout, Plain, Keyed, Shown, Parted}
-use Rattle.store_holdings.specs.AllTables.{AllTables, with_derived}
+use Rattle.store_holdings.specs.AllTables.{with_derived}
 use Rattle.store_holdings.specs.Files.{all_parts}
 use Rattle.store_holdings.specs.Readings as looks
-use Rattle.store_holdings.specs.Readings.{TableReading, KeepsRows, KeepsAll}
+use Rattle.store_holdings.specs.Readings.{KeepsRows, KeepsAll}
 use Rattle.store_holdings.specs.Holds.{Keeps}
 
 pub map_twice : {X Y Z : Type 0} (f : X → Y) (g : Y → Z) (xs : List X) → map g (map f xs) ≡ map (λ x. g (f x)) xs
@@ -40,23 +38,6 @@ headers_kept db t k = record { rows = k.1.1.1.1.0.rows; apart = k.1.1.1.1.0.apar
 
 pub parts_kept : (db : Database) (t : Tables) → KeepsAll Parted db (with_derived t) → Keeps (codes "dictcat_part") part_row db (all_parts t)
 parts_kept db t k = record { rows = k.1.1.1.1.1.0.rows; apart = k.1.1.1.1.1.0.apart }
-
--- in it the entries are kept in parts alone
-pub same_kept : (db : Database) (t : AllTables) (es : List EntryRecord) → KeepsAll Parted db t → KeepsAll Parted db (record t { entries = es })
-same_kept db t es h = (
-  one looks.marks h.0 (λ u. u),
-  (
-    one looks.items h.1.0 (λ u. u),
-    (
-      one looks.members h.1.1.0 (λ u. u),
-      (one looks.kept_replies h.1.1.1.0 (λ u. u), (one (looks.editions Parted) h.1.1.1.1.0 (λ u. u), (one (looks.contents Parted) h.1.1.1.1.1.0 (λ u. u), h.1.1.1.1.1.1))),
-    ),
-  ),
-)
-  where
-    one : (r : TableReading) → KeepsRows r db t → (IsPermutation (r.rows t) (map (λ row. drop 1 (r.looked row)) (rows_of (looks.table_name_of r) db))
-        → IsPermutation (r.rows (record t { entries = es })) (map (λ row. drop 1 (r.looked row)) (rows_of (looks.table_name_of r) db))) → KeepsRows r db (record t { entries = es })
-    one r k on = record { rows = on k.rows; apart = k.apart }
 
 -- ---- the editions of an older version
 

@@ -6,7 +6,7 @@ use Rattle.std.specs.Map.{lookup, lookup_entry, remove_entry}
 use Rattle.std.proofs.lemmas.Bool.{eqb-true, and_parts}
 use Rattle.std.proofs.lemmas.List.{take-map, length-map}
 use Rattle.std.proofs.lemmas.List.Sums.{sum_by-cons}
-use Rattle.std.proofs.lemmas.Option.{slice_get-map, slice_get-get_or, slice_get_within}
+use Rattle.std.proofs.lemmas.Option.{slice_get-map, slice_get_within}
 use Rattle.lru.specs.LruCache.{LruCache, put_entries, displaced, last_entry}
 use Rattle.store_lookup.specs.KeptTexts.{PartNumbers, same_key, most_texts, octets_of_texts, texts_of, fitting, put_first}
 use Rattle.store_lookup.proofs.SizeLemmas.{cut_none, cut_some, take_all, octets_taken, last_goes, some_there}
@@ -146,13 +146,6 @@ module _ (cache : LruCache PartNumbers (Vec ℕ Global)) (key : PartNumbers) (te
   size_put out is = subst HasSize (sym is) (size_by (lookup (same_key key) cache.entries) refl)
 
 -- ---- the last of them
-
-last_step : (e : PartNumbers × Vec ℕ Global) (entries : Entries) → slice_get (e ∷ entries) (length (e ∷ entries) - 1) ≡ None → ⊥
-last_step e entries none = let within : length (e ∷ entries) - 1 < length (e ∷ entries) = omega arith in let some = slice_get-get_or (e ∷ entries) (length (e ∷ entries) - 1) e within in cc
-
-pub last_none : (entries : Entries) → last_entry entries ≡ None → octets_of_texts (texts_of entries) ≡ 0
-last_none [] none = refl
-last_none (e ∷ entries) none = absurd (last_step e entries none)
 
 -- there is one
 last_within : (entries : Entries) (e : PartNumbers × Vec ℕ Global) → Some e ≡ last_entry entries → length entries ≡ suc (length entries - 1)

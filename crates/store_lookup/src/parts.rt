@@ -1,7 +1,7 @@
 // The text of an entry, out of the parts of the text of its edition: those that are kept, and the others in the database.
 ghost use Rattle.std.specs.Prelude.{◌≡◌, ◌<◌, ◌≤◌, ◌+◌, ◌-◌, ◌^◌, ◌++◌, ℕ, [], List, length, take, drop, slice_index_or, false, IfOk, IfErr, OnOk};
 ghost use Rattle.std.specs.Map.{lookup, remove_entry};
-ghost use Rattle.sqlite.specs.State.{HasCleanDisk, IsUnchanged, Survives};
+ghost use Rattle.sqlite.specs.State.{HasCleanDisk, Survives};
 ghost use Rattle.sqlite.specs.Held.{state};
 ghost use Rattle.store_sql.specs.Effects.{Has, WhileOpen};
 ghost use Rattle.store_edition_sql.specs.PartTable.{part as part_table};

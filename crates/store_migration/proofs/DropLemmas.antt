@@ -1,5 +1,5 @@
 -- Tables that are dropped one after another.
-use Rattle.std.proofs.Common.{◌≡◌, ◌∙◌, ◌++◌, ℕ, false, List, [], ◌∷◌, map, codes, refl, sym, ap, subst}
+use Rattle.std.proofs.Common.{◌≡◌, ◌∙◌, ℕ, false, List, [], ◌∷◌, map, codes, refl, sym, ap, subst}
 use Rattle.std.specs.List.{AllByRecursion}
 use Rattle.sqlite.specs.Effect.{Database, IsDatabase}
 use Rattle.sqlite.specs.Table.{Table}
@@ -79,11 +79,6 @@ turn_again other [] ends may old new sound own h = absurd ends
 turn_again other (table ∷ []) ends may old new sound own h = subst (λ (d : Database). LeavesRoom d.schema other) (sym h.2) (room_again table may.0 old h.0 sound h.1 own.0 other ends)
 turn_again other (table ∷ next ∷ tables) ends may old new sound own h =
     turn_again other (next ∷ tables) ends may.3 h.0 new h.1.sound (later_own table may.0 old h.0 h.1 own.0 (next ∷ tables) may.3 may.2 own.1) h.2
-
--- one more was dropped
-pub turn_more : (names : List (List ℕ)) (name : List ℕ) (old mid new : Database) → DroppedInTurn names old mid → IsDropped name mid new → DroppedInTurn (names ++ name ∷ []) old new
-turn_more [] name old mid new h one = (new, subst (λ (d : Database). IsDropped name d new) h one, refl)
-turn_more (first ∷ names) name old mid new h one = (h.0, h.1, turn_more names name h.0 mid new h.2 one)
 
 -- ---- those of each form
 

@@ -4,7 +4,7 @@ use Rattle.std.specs.Prelude.{IsTrue}
 use Rattle.std.specs.List.{AllByRecursion, list_any}
 use Rattle.std.proofs.lemmas.List.{map-append}
 use Rattle.dict_text.proofs.AllLemmas.{all_append, all_weaker, all_map, all_flat_map}
-use Rattle.store_records.specs.Records.{EditionRecord as EditionRow, EntryRecord, Part}
+use Rattle.store_records.specs.Records.{EditionRecord as EditionRow, Part}
 use Rattle.dict_index.specs.Line.{Line}
 use Rattle.dict_index.specs.Edition.{Edition}
 use Rattle.dict_catalogue.specs.Items.{Stored, Item, name_of, editions_of, numbers_of, edition_numbers}
@@ -62,10 +62,6 @@ same_swapped (negsuc m) (negsuc n) = eq_swapped m n
 one_of : (n : ℤ) (ns : List ℕ) → is_of (map pos ns) n ≡ list_any (λ one. same_number (pos one) n) ns
 one_of n [] = refl
 one_of n (m ∷ ns) = λ i. same_swapped n (pos m) i || one_of n ns i
-
-pub all_known : (version : ℕ) (tables : Tables) (M : Catalogue) → Stands version tables M → AllByRecursion (λ (e : EntryRecord). IsTrue (is_of (map pos (edition_numbers M.items)) e.edition)) tables.entries
-all_known version tables M s =
-    all_weaker (λ (e : EntryRecord). IsTrue (has_number M.items e.edition)) (λ (e : EntryRecord). IsTrue (is_of (map pos (edition_numbers M.items)) e.edition)) (λ e h. one_of e.edition (edition_numbers M.items) ∙ h) tables.entries s.entries
 
 pub editions_known : (version : ℕ) (tables : Tables) (M : Catalogue) → Stands version tables M → AllByRecursion (λ (e : EditionRow). IsTrue (is_of (map pos (edition_numbers M.items)) e.number)) tables.editions
 editions_known version tables M s =

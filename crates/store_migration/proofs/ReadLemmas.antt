@@ -1,6 +1,6 @@
 -- The records of an edition and of its entries, as they are selected.
 use Rattle.std.proofs.Common.{◌≡◌, ◌≢◌, ◌∙◌, ℕ, ℤ, false, List, [], ◌∷◌, map, drop, length, codes, refl, sym, ap, subst, arith, String, Vec}
-use Rattle.std.specs.Prelude.{◌≤ℤ◌, slice_index_or}
+use Rattle.std.specs.Prelude.{◌≤ℤ◌}
 use Rattle.std.specs.List.{AllByRecursion}
 use Rattle.std.specs.List.Sorted.{IsPermutation}
 use Rattle.std.specs.Ordering.{is_lt}
@@ -83,11 +83,6 @@ pub shown_selected : (number : ℤ) (db : Database) (all : List ShownRow) → Is
 shown_selected number db all it = selected stored_keyed_entry shown_of Shown (λ x. refl) (λ a b r. one_le a.value.ord b.value.ord r) number db all tt it
 
 -- ---- the record of an edition
-
-pub one_item : {X : Type 0} (items : List X) (x : X) → length items ≡ 1 → x ≡ slice_index_or items 0 x → items ≡ x ∷ []
-one_item [] x e f = absurd (omega arith)
-one_item (y ∷ []) x e f = ap (λ z. z ∷ []) (sym f)
-one_item (y ∷ z ∷ zs) x e f = absurd (omega arith)
 
 abbrev pub EditionRow : Type 0
 EditionRow = StoredRow (TypedEdition (String Global) (Vec ℕ Global))

@@ -1,5 +1,5 @@
 -- A whole migration, before its commit.
-use Rattle.std.specs.Prelude.{◌≡◌, ℕ, ℤ, true, IsTrue, List, codes, map}
+use Rattle.std.specs.Prelude.{ℕ, ℤ, true, IsTrue, List, codes, map}
 use Rattle.sqlite.specs.Effect.{Database}
 use Rattle.sqlite.specs.State.{State}
 use Rattle.store_records.specs.Records.{HeaderRecord}

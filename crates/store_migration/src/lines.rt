@@ -1,5 +1,5 @@
 // The lines of an index, written of the entries of an older version.
-ghost use Rattle.std.specs.Prelude.{◌≡◌, ◌++◌, ◌∷◌, [], ℕ, map, IfOk, IfErr, OnOk, MatchBool};
+ghost use Rattle.std.specs.Prelude.{◌≡◌, ◌++◌, ◌∷◌, [], map, IfOk, IfErr, OnOk, MatchBool};
 ghost use Rattle.store_records.specs.Keyed.{owned_old_entry, owned_keyed_entry, plain_entry};
 ghost use Rattle.store_records.specs.Records.{EntryRecord as TheEntry};
 ghost use Rattle.store_records.specs.Typed.{owned_entry};

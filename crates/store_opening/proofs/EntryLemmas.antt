@@ -126,9 +126,6 @@ entries_rows Parted has db t k = absurd has
 -- ---- rows of entries
 
 module _ (layout : Layout) where
-  abbrev pub shows : Row → Row
-  shows = looked_behind_rowid layout
-
   abbrev cells : spec.EntryRecord → Row
   cells = entry_cells layout
 

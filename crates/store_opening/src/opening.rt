@@ -1,5 +1,5 @@
 // A file is opened.
-ghost use Rattle.std.specs.Prelude.{◌≡◌, ◌≢◌, ◌<◌, ◌≤◌, ◌↔◌, ℕ, ℤ, pos, false, IsTrue, map, codes, [], ◌∷◌, IfOk, IfErr, IfSome, IfNone, OnOk, Err};
+ghost use Rattle.std.specs.Prelude.{◌≡◌, ◌<◌, ◌≤◌, ◌↔◌, ℕ, ℤ, pos, false, IsTrue, map, codes, [], ◌∷◌, IfOk, IfErr, IfSome, IfNone, OnOk, Err};
 ghost use Rattle.sqlite.specs.State.{HasCleanDisk, Survives};
 ghost use Rattle.sqlite.specs.Held.{state};
 ghost use Rattle.store_records.specs.Typed.{owned_mark};

@@ -1,5 +1,5 @@
 // The records of all tables, and the catalogue that they stand for.
-ghost use Rattle.std.specs.Prelude.{◌≡◌, ℕ, map, codes, [], ◌∷◌, IfOk, IfErr, OnOk};
+ghost use Rattle.std.specs.Prelude.{◌≡◌, map, codes, [], ◌∷◌, IfOk, IfErr, OnOk};
 ghost use Rattle.sqlite.specs.State.{HasCleanDisk};
 ghost use Rattle.sqlite.specs.Held.{state};
 ghost use Rattle.store_sql.specs.Effects.{WhileOpen};
@@ -12,7 +12,7 @@ ghost use Rattle.dict_catalogue.specs.Items.{edition_numbers};
 ghost use Rattle.dict_catalogue.specs.Views.{summary_shown};
 ghost use Rattle.store_scans.specs.Reading.{Same, OnlyReads, IsExcusedReading};
 ghost use Rattle.store_opening.specs.Indexed.{HaveRowsIndexed};
-ghost use Rattle.store_opening.specs.Opens.{HasVersionTables, KeepsNone, HoldsNoneAs, HasBegun, AllGoOnFrom, HasNamed, AreAllKnown, HasReplies, HasAll, HasSummary};
+ghost use Rattle.store_opening.specs.Opens.{HasVersionTables, KeepsNone, HoldsNoneAs, HasBegun, AllGoOnFrom, HasNamed, HasReplies, HasAll, HasSummary};
 
 use crate::editions::read_numbered_editions;
 use crate::strays::test_strays;

@@ -1,5 +1,5 @@
 // The record of an edition with its text, as each layout has it.
-ghost use Rattle.std.specs.Prelude.{◌≡◌, pos, [], ◌∷◌, codes, IfOk, IfErr, OnOk};
+ghost use Rattle.std.specs.Prelude.{◌≡◌, [], ◌∷◌, codes, IfOk, IfErr, OnOk};
 ghost use Rattle.sqlite.specs.State.{HasCleanDisk};
 ghost use Rattle.sqlite.specs.Held.{state};
 ghost use Rattle.store_tables.specs.Tables.{edition as edition_table};

@@ -1,5 +1,5 @@
 // The parts of a file that lies in memory.
-ghost use Rattle.std.specs.Prelude.{◌≡◌, ◌≤◌, ◌<◌, ℕ, [], length, slice_index_or, MatchOption};
+ghost use Rattle.std.specs.Prelude.{◌≡◌, ◌≤◌, ◌<◌, [], length, slice_index_or, MatchOption};
 ghost use Rattle.store_parts.specs.Parts.{parts_of};
 
 /// How many octets a part has, but for the last.

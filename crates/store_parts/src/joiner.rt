@@ -1,6 +1,6 @@
 // Parts taken one after another, and what they join to.
-ghost use Rattle.std.specs.Prelude.{◌≡◌, ◌≤◌, ◌++◌, ◌∷◌, ℕ, [], List, length, OnOk, IfOk, IfErr, OnErr, MatchBool};
-ghost use Rattle.store_parts.specs.Parts.{parts_of, AreParts};
+ghost use Rattle.std.specs.Prelude.{◌≡◌, ◌≤◌, ◌++◌, ◌∷◌, ℕ, [], List, length, OnOk, IfErr, OnErr, MatchBool};
+ghost use Rattle.store_parts.specs.Parts.{parts_of};
 ghost use Rattle.store_parts.specs.Joining.{IsNext, MayRefusePart};
 
 use crate::file::PART_SIZE;

@@ -1,10 +1,9 @@
 //! All words of keys, and their runs of three octets that an index holds, each with the place of its key.
-ghost use Rattle.std.specs.Prelude.{◌≡◌, ◌+◌, ◌-◌, ◌<◌, ◌≤◌, ◌^◌, ◌++◌, ◌↔◌, IfOk, OnOk, length, map, ℕ, List};
-ghost use Rattle.std.specs.List.{Contains};
-ghost use Rattle.std.specs.List.Sorted.{IsPermutation, IsStrictlySortedBy};
+ghost use Rattle.std.specs.Prelude.{◌≡◌, ◌+◌, ◌-◌, ◌<◌, ◌++◌, IfOk, OnOk, length, map};
+ghost use Rattle.std.specs.List.Sorted.{IsPermutation};
 ghost use Rattle.dict_match.specs.Words.{words_between_blanks};
 ghost use Rattle.store_derived.specs.KeptGrams.{kept_grams};
-ghost use Rattle.store_places.specs.Pieces.{Placed, placed_at, occurrences_from, pair_cmp, AreOccurrences};
+ghost use Rattle.store_places.specs.Pieces.{placed_at, occurrences_from, AreOccurrences};
 ghost use Rattle.store_places.specs.PlacedPieces.{words_placed, grams_placed, gram_cmp, gram_rank, FitsRank};
 
 use dict_match::words;

@@ -5,7 +5,7 @@ ghost use Rattle.std.specs.Ordering.{is_eq};
 ghost use Rattle.dict_match.specs.Words.{words_between_blanks};
 ghost use Rattle.store_places.specs.Orders.{IsOrderOf};
 ghost use Rattle.store_places.specs.Pieces.{placed_at, occurrences_from, AreOccurrences};
-ghost use Rattle.store_places.specs.Wording.{AreWorded, AreWordsTaken, AreWordsSorted, AreWordsGrouped, word_with_place, words_with_places, row_cmp};
+ghost use Rattle.store_places.specs.Wording.{AreWorded, AreWordsTaken, AreWordsSorted, AreWordsGrouped, words_with_places, row_cmp};
 
 use crate::pieces::{Pieces, pieces_of, put, words_of};
 use crate::sorting::Sorting;

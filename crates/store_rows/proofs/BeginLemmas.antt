@@ -13,7 +13,7 @@ use Rattle.store_rows.specs.Written.{numbered, mark_record, item_record}
 use Rattle.store_rows.specs.Stands.{HoldsMembers, Stands}
 use Rattle.store_rows.specs.Tests.{has_lawful_items}
 use Rattle.store_rows.specs.Given.{AreRead, IsUnread}
-use Rattle.store_rows.specs.Taken.{GoesOnFrom, StandsForNone, begun, HoldsTitle, HoldsTitles, items_in, HasTaken}
+use Rattle.store_rows.specs.Taken.{StandsForNone, begun, HoldsTitles, items_in, HasTaken}
 use Rattle.store_rows.specs.declared.reader.Reader.{Reader}
 use Rattle.store_rows.proofs.OnceLemmas.{head_same}
 use Rattle.store_rows.proofs.LawfulLemmas.{bare, pos_same, items_bare, lawful_alike, known_alike, each_itself, itself_each, AreLawful, true_lawful}

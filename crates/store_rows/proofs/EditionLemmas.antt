@@ -2,7 +2,7 @@
 use Rattle.std.proofs.Common.{◌≡◌, ℕ, ◌+◌, ◌≤◌, Bool, true, false, ◌&&◌, ◌||◌, inr, List, [], ◌∷◌, ◌++◌, length, refl, ap, sym, subst, ◌∙◌, arith, Option, Some, None, ◌^◌, ◌<◌}
 use Rattle.std.specs.Prelude.{pos, cond, bytes_eq, ◌==◌, option_map}
 use Rattle.std.specs.List.{AllByRecursion}
-use Rattle.std.proofs.lemmas.Bool.{false≢true, and_parts, and_from}
+use Rattle.std.proofs.lemmas.Bool.{false≢true, and_parts}
 use Rattle.std.proofs.lemmas.Grind.{flat_map-append}
 use Rattle.store_records.specs.Records as spec
 use Rattle.dict_index.specs.Edition.{ReadEdition, edition_of}
@@ -14,7 +14,6 @@ use Rattle.dict_catalogue.proofs.ItemLemmas.{same_text}
 use Rattle.dict_index.specs.WellFormed.{IsWellFormedEdition}
 use Rattle.store_rows.specs.Tables.{Tables, same_number}
 use Rattle.store_rows.specs.Written.{numbered, item_record, edition_record, entry_record}
-use Rattle.store_rows.specs.Stands.{HoldsEdition}
 use Rattle.store_rows.specs.Titles.{is_awaited, awaits, with_title, item_titled}
 use Rattle.store_rows.specs.Taken.{HasNone, IsTaken, HoldsTitle, HoldsTitles, with_edition}
 use Rattle.store_rows.proofs.LawfulLemmas.{none_of_sum}

@@ -13,7 +13,7 @@ use Rattle.store_rows.specs.Tables.{Tables}
 use Rattle.store_rows.specs.Written.{kept_record}
 use Rattle.store_rows.specs.Stands.{Stands}
 use Rattle.store_rows.specs.Given.{IsReply, IsNoReply}
-use Rattle.store_rows.specs.Taken.{GoesOnFrom, StandsForNone, AreKept, HasTaken, with_kept}
+use Rattle.store_rows.specs.Taken.{StandsForNone, AreKept, HasTaken, with_kept}
 use Rattle.store_rows.specs.declared.reader.Reader.{Reader}
 use Rattle.store_rows.proofs.OnceLemmas.{head_same, tail_same}
 

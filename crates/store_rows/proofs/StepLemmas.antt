@@ -13,11 +13,11 @@ use Rattle.dict_catalogue.specs.Steps.{Catalogue}
 use Rattle.dict_text.proofs.AllLemmas.{all_append, all_append_parts, all_weaker}
 use Rattle.dict_catalogue.proofs.ListLemmas.{any_append_left, any_append_right}
 use Rattle.store_rows.specs.Tables.{Tables, same_number, editions_numbered, entries_of}
-use Rattle.store_rows.specs.Written.{numbered, item_record, member_record, edition_record}
+use Rattle.store_rows.specs.Written.{numbered, item_record, member_record}
 use Rattle.store_rows.specs.Stands.{HoldsMembers, has_number, Stands}
 use Rattle.store_rows.specs.Tests.{has_lawful_items}
 use Rattle.store_rows.specs.Titles.{is_awaited, awaits, item_titled}
-use Rattle.store_rows.specs.Taken.{GoesOnFrom, StandsForNone, HasNone, HoldsTitle, HoldsTitles, IsInHand, items_in, HasTaken, with_edition}
+use Rattle.store_rows.specs.Taken.{GoesOnFrom, StandsForNone, HasNone, HoldsTitles, IsInHand, items_in, HasTaken, with_edition}
 use Rattle.store_rows.specs.declared.reader.Reader.{Reader}
 use Rattle.store_rows.specs.declared.reader.InHand.{InHand}
 use Rattle.store_rows.proofs.ListLemmas.{numbered_append}

@@ -1,5 +1,5 @@
 // The record of an entry.
-ghost use Rattle.std.specs.Prelude.{◌≡◌, ◌+◌, ◌<◌, ◌≤◌, length, take, drop, MatchOption, OnOk, IfErr};
+ghost use Rattle.std.specs.Prelude.{◌<◌, length, OnOk, IfErr};
 ghost use Rattle.store_records.specs.Records.{shown_as};
 ghost use Rattle.store_records.specs.Typed.{owned_entry};
 ghost use Rattle.store_rows.specs.Given.{OnDamage, IsEntry, IsNoEntry, IsLawfulLine, line_with};

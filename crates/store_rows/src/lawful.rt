@@ -5,7 +5,7 @@ ghost use Rattle.std.specs.Str.{is_utf8};
 ghost use Rattle.dict_text.specs.Names.{is_title};
 ghost use Rattle.dict_catalogue.specs.Items.{names_regular};
 ghost use Rattle.dict_catalogue.specs.Views.{item_shown, texts_shown};
-ghost use Rattle.store_rows.specs.Tests.{has_once, has_numbers_once, has_names_once, is_lawful_item, has_known_members, is_from_one_to, has_lawful_numbers, has_lawful_items};
+ghost use Rattle.store_rows.specs.Tests.{has_once, has_numbers_once, has_names_once, is_lawful_item, has_known_members, is_from_one_to, has_lawful_items};
 
 use dict_catalogue::{
     Item, MAX_ITEMS, MAX_MEMBERS, edition_numbers, is_among, is_known, names_regular,

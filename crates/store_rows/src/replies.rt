@@ -1,5 +1,5 @@
 // The record of a kept reply.
-ghost use Rattle.std.specs.Prelude.{◌≡◌, ◌≢◌, ℕ, IfOk, IfSome, IfNone, OnErr};
+ghost use Rattle.std.specs.Prelude.{◌≡◌, ◌≢◌, IfOk, IfSome, IfNone, OnErr};
 ghost use Rattle.dict_catalogue.specs.WellFormed.{is_install, tells_edition};
 ghost use Rattle.dict_catalogue.specs.declared.reply.Verb.{Verb as AVerb};
 ghost use Rattle.store_records.specs.Typed.{owned_kept};

@@ -1,8 +1,8 @@
 -- What takes the entries of an edition, as each layout has them, and what was taken.
-use Rattle.std.specs.Prelude.{◌≡◌, ℕ, List, [], ◌∷◌, ◌++◌, map, String, Vec}
+use Rattle.std.specs.Prelude.{◌≡◌, ℕ, List, ◌++◌, map, String, Vec}
 use Rattle.std.specs.declared.alloc.Global.{Global}
 use Rattle.dict_index.specs.Line.{Line}
-use Rattle.store_records.specs.Records.{EntryRecord, shown_as}
+use Rattle.store_records.specs.Records.{EntryRecord}
 use Rattle.store_records.specs.Keyed.{KeyedEntry, owned_keyed_entry, owned_old_entry, plain_entry}
 use Rattle.store_records.specs.declared.keyed as typed
 use Rattle.store_records.specs.declared.records as plain_typed

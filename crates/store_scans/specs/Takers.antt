@@ -1,11 +1,11 @@
 -- What takes the records of the tables, and what was taken.
-use Rattle.std.specs.Prelude.{◌≡◌, ℕ, ℤ, List, [], ◌∷◌, ◌++◌, map, String, Vec}
+use Rattle.std.specs.Prelude.{◌≡◌, ℕ, ℤ, List, ◌++◌, map, String, Vec}
 use Rattle.std.specs.declared.alloc.Global.{Global}
 use Rattle.sqlite.specs.Order.{Row, column}
 use Rattle.sqlite.specs.declared.types.Value.TheVariants.{Int}
 use Rattle.sqlite.specs.Effect.{Database}
 use Rattle.store_sql.specs.Encodings.{stored_kept}
-use Rattle.store_scans.specs.Cursors.{Cursor, IsScannedToEnd, IsFrontOfScan}
+use Rattle.store_scans.specs.Cursors.{IsScannedToEnd, IsFrontOfScan}
 use Rattle.store_scans.specs.Cursors.Cursor.{InStore}
 use Rattle.store_sql.specs.Streams.Scan.{KeptById}
 use Rattle.store_records.specs.declared.records as typed

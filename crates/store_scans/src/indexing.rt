@@ -1,5 +1,5 @@
 // The index of an edition, as its entries are taken.
-ghost use Rattle.std.specs.Prelude.{◌≡◌, ◌++◌, ◌∷◌, [], IfErr, OnOk, OnErr};
+ghost use Rattle.std.specs.Prelude.{◌≡◌, ◌++◌, ◌∷◌, [], IfErr, OnOk};
 ghost use Rattle.dict_match.specs.Key.{key_of};
 ghost use Rattle.store_records.specs.Records.{shown_as};
 ghost use Rattle.store_records.specs.Typed.{owned_entry};

@@ -35,10 +35,6 @@ pub record HasSeen (eq : Equal) (keys : List (Bor (List ℕ))) (texts : List (Li
 pub none_seen : (eq : Equal) (keys : List (Bor (List ℕ))) → keys ≡ [] → HasSeen eq keys []
 none_seen eq keys none = record { each = λ q. ap (λ l. list_any (eq q) l) none }
 
-or_false : (a : Bool) → (a || false) ≡ a
-or_false true = refl
-or_false false = refl
-
 put_or : (a b : Bool) → cond a true b ≡ (b || (a || false))
 put_or true true = refl
 put_or true false = refl

@@ -1,5 +1,5 @@
 //! The index of an edition, and what it is asked.
-ghost use Rattle.std.specs.Prelude.{◌≡◌, ◌&&◌, true, false, All, IfOk, length, map, filter, reverse};
+ghost use Rattle.std.specs.Prelude.{◌≡◌, ◌&&◌, true, All, IfOk, length, map, filter, reverse};
 ghost use Rattle.std.specs.Str.{IsUtf8, bytes_eq};
 ghost use Rattle.dict_match.specs.Matching.{is_hit};
 ghost use Rattle.dict_match.specs.declared.strategy.Strategy.TheVariants.{Substring};

@@ -7,7 +7,6 @@ use Rattle.sqlite.specs.Term.{Term}
 use Rattle.sqlite_ast.specs.declared.Expr.{Expr}
 use Rattle.sqlite_syntax.specs.declared.statement.Parsed.{Parsed}
 use Rattle.store_tables.specs.declared.tables.StoreTable.{StoreTable}
-use Rattle.store_tables.specs.declared.tables.StoreTable.TheVariants as store
 use Rattle.store_sql.specs.Creates.{create_text}
 use Rattle.store_sql.specs.Deletes.{clear_text}
 use Rattle.store_sql.specs.Drops.{drop_text}

@@ -1,6 +1,6 @@
 //! Whether a schema that is found has the tables as they are defined here.
 
-ghost use Rattle.std.specs.Prelude.{true, false, ◌≡◌, ℕ, List, [], ◌∷◌, codes, IsTrue, ◌↔◌, ◌==◌, option_copied, nat_eq, count_by};
+ghost use Rattle.std.specs.Prelude.{true, false, ◌≡◌, [], ◌∷◌, codes, IsTrue, ◌↔◌, ◌==◌, option_copied, nat_eq, count_by};
 ghost use Rattle.std.specs.List.{list_any};
 ghost use Rattle.std.specs.Cmp.Lexicographic.{pointwise};
 ghost use Rattle.sqlite_schema.specs.declared.schema.Reference.{Reference as SqlReference};

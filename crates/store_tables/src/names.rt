@@ -1,6 +1,6 @@
 //! Whether a schema that is found leaves the product its names.
 
-ghost use Rattle.std.specs.Prelude.{◌≡◌, false, ◌||◌, codes, length, is_some};
+ghost use Rattle.std.specs.Prelude.{◌≡◌, false, ◌||◌, is_some};
 ghost use Rattle.std.specs.List.{list_any};
 ghost use Rattle.sqlite.specs.Rows.{sequence};
 ghost use Rattle.sqlite.specs.Change.{is_used};

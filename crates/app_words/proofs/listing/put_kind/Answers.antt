@@ -1,4 +1,4 @@
-use Rattle.dict_proto.proofs.PutLemmas.{puts_err, puts_after, front_longer}
+use Rattle.dict_proto.proofs.PutLemmas.{puts_after}
 use Rattle.app_words.proofs.listing.put_kind.Goals as goal
 
 pub returns-in_ok-put_virtual-in-Virtual : goal.returns-in_ok-put_virtual-in-Virtual

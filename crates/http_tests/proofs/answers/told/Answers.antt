@@ -1,4 +1,4 @@
-use Rattle.std.proofs.Common.{rules, sym}
+use Rattle.std.proofs.Common.{sym}
 use Rattle.http_tests.proofs.answers.told.Goals as goal
 
 pub respond-answer-requires : goal.respond-answer-requires

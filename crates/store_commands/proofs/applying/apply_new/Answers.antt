@@ -6,7 +6,7 @@ use Rattle.dict_catalogue.specs.Views.{summary_shown, command_shown, command_mea
 use Rattle.store_commands.proofs.ApplyLemmas.{declined_answers, failed_answers, acted_answers, left_after, declined_fails, commit_fails, is_planned, holds_after, holds_now, others_spared, others_committed}
 use Rattle.store_commands.proofs.AboveLemmas.{above_committed, grows_by, installed_there, none_refused}
 use Rattle.store_commands.proofs.WriteLemmas.{clean_before}
-use Rattle.std.proofs.Common.{◌≡◌, ◌⊎◌, inl, refl, true, false, None}
+use Rattle.std.proofs.Common.{◌≡◌, ◌⊎◌, inl, refl, true, None}
 use Rattle.sqlite.specs.Effect.{Database}
 use Rattle.store_sql.proofs.StreamLemmas.{passed_on}
 use Rattle.dict_catalogue.specs.Steps.{Catalogue, summary_of, kept_under, step}
@@ -15,7 +15,6 @@ use Rattle.dict_desk.specs.declared.fault.Fault.TheVariants.{Memory}
 use Rattle.store_holdings.specs.AllTables.{with_derived, all_after}
 use Rattle.store_rows.specs.Versions.{known}
 use Rattle.store_holdings.specs.Holds.{Holds, Rests}
-use Rattle.store_commands.specs.Answers.{FailsToAct}
 use Rattle.store_commands.specs.KeptRecords.{TurnsRecords}
 use Rattle.store_commands.specs.Changes.{change_by}
 use Rattle.store_commands.proofs.applying.apply_new.Goals as goal

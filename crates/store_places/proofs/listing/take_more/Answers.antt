@@ -1,7 +1,6 @@
-use Rattle.std.proofs.Common.{◌≡◌, ◌++◌, ◌<◌, ◌≤◌, map, length, take, ap, sym, ◌∙◌, arith}
+use Rattle.std.proofs.Common.{◌≡◌, ◌++◌, ◌<◌, map, length, take, ap, sym, ◌∙◌, arith}
 use Rattle.std.proofs.lemmas.List.{take_all}
 use Rattle.store_derived.specs.KeptGrams.{kept_grams}
-use Rattle.store_places.specs.Merging.{elements}
 use Rattle.store_places.specs.Pieces.{placed_at, occurrences_from}
 use Rattle.store_places.specs.PlacedPieces.{grams_placed}
 use Rattle.store_places.proofs.MergingLemmas.{as_it_was}

@@ -11,7 +11,6 @@ use Rattle.http_request.proofs.RouteLawLemmas.{one_route}
 use Rattle.httparse.specs.Grammar.{print_request}
 use Rattle.std.specs.Prelude.{◌+◌, length}
 use Rattle.http_service.specs.Actions.{action_of, changes}
-use Rattle.http_service.specs.Foreseeing.{AsksForCommand}
 use Rattle.http_service.proofs.service.Service.asks_change.Goals as goal
 
 -- of a whole request no more is needed

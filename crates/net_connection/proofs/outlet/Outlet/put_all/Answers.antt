@@ -1,7 +1,7 @@
-use Rattle.std.proofs.Common.{◌≡◌, ◌≤◌, ◌++◌, length, ◌∙◌, ap, arith, inl, inr, length-append}
+use Rattle.std.proofs.Common.{◌≡◌, ◌≤◌, ◌++◌, length, ◌∙◌, ap, arith}
 use Rattle.net_connection.specs.Outlets.{carried}
 use Rattle.net_connection.specs.Queues.{waiting}
-use Rattle.net_connection.proofs.OutletLemmas.{cut_short, halves, joined, on_err, on_err_of, short_memory, stuck_short}
+use Rattle.net_connection.proofs.OutletLemmas.{cut_short, halves, joined, on_err, on_err_of}
 use Rattle.net_connection.proofs.outlet.Outlet.put_all.Goals as goal
 
 pub returns-in_err-append-clause-some : goal.returns-in_err-append-clause-some

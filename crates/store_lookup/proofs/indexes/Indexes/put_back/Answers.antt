@@ -1,4 +1,4 @@
-use Rattle.std.proofs.Common.{ℕ, List, sym, subst}
+use Rattle.std.proofs.Common.{List, sym, subst}
 use Rattle.store_search.specs.Entries.{Indexed}
 use Rattle.store_lookup.specs.Indexes.{IsOut}
 use Rattle.store_lookup.proofs.indexes.Indexes.put_back.Goals as goal
