@@ -22,8 +22,6 @@ PROVE = ["timeout", os.environ.get("ROUNDS_TIMEOUT", "1500")]
 EDITS = {
     "store_rows": {
         "no_octet_of_a_body_is_tested": ("entries::test_line", "is"),
-    },
-    "store_parts": {
         "what_is_shown_is_left_out": ("writing::put_shown", "put"),
     },
     "store_search": {

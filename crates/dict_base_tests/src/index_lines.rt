@@ -2,7 +2,7 @@
 
 use crate::checks::holds;
 use std::test::Fail;
-use store_parts::{read_line, write_line};
+use store_rows::{read_line, write_line};
 
 struct Row {
     headword: &'static str,

@@ -4,7 +4,7 @@ use crate::checks::holds;
 use std::alloc::{AllocError, Global};
 use std::process::Abort;
 use std::test::Fail;
-use store_parts::{Joiner, PART_SIZE, Refused, part};
+use store_rows::{Joiner, PART_SIZE, Refused, part};
 
 fn file(alloc: Global, length: usize) -> Result<Vec<u8>, AllocError> {
     let mut octets = Vec::new(alloc);

@@ -12,7 +12,7 @@ use Rattle.store_edition_sql.specs.HeaderRecords.{header_row}
 use Rattle.store_records.specs.Records.{EditionRecord, HeaderRecord, header_of}
 use Rattle.store_rows.specs.After.{Installed, installed_entries}
 use Rattle.store_rows.specs.Written.{edition_record}
-use Rattle.store_parts.specs.Stored.{stored_index}
+use Rattle.store_rows.specs.Stored.{stored_index}
 use Rattle.store_holdings.specs.Files.{parts_under, installed_parts}
 use Rattle.store_holdings.specs.AllTables.{AllTables}
 use Rattle.store_commands.specs.KeptRecords.{HasRecords}

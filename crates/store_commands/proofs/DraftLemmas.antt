@@ -16,12 +16,12 @@ use Rattle.dict_index.specs.Tests.{IfSays}
 use Rattle.dict_index.specs.WellFormed.{IsWellFormedEntry}
 use Rattle.dict_index.specs.declared.fault.EditionRefusal.TheVariants.{Interval}
 use Rattle.dict_index.proofs.WellFormedLemmas.{text_few, well_formed}
-use Rattle.store_parts.specs.Stored.{stored_index, stored_line, IsStorable}
-use Rattle.store_parts.proofs.IndexLemmas.{pushed}
-use Rattle.store_parts.proofs.StoredLemmas.{of_entries}
 use Rattle.dict_catalogue.specs.Commands.{install}
 use Rattle.dict_catalogue.specs.WellFormed.{IsLawfulCommand}
+use Rattle.store_rows.specs.Stored.{stored_index, stored_line, IsStorable}
 use Rattle.store_rows.specs.Stands.{IsWithin}
+use Rattle.store_rows.proofs.IndexLemmas.{pushed}
+use Rattle.store_rows.proofs.StoredLemmas.{of_entries}
 use Rattle.store_commands.specs.Decided.{LiesWithin}
 use Rattle.store_commands.specs.Installs.{AreFirstLines, AreAllLines, install_read}
 

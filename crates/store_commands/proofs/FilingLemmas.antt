@@ -24,7 +24,7 @@ use Rattle.store_rows.specs.After.{Installed, TableChange, is_gone, installed_ed
 use Rattle.store_rows.specs.Written.{kept_record}
 use Rattle.store_rows.specs.Versions.{known}
 use Rattle.store_rows.proofs.AfterLemmas.{filter_none}
-use Rattle.store_rows.proofs.PartLemmas.{filter_filter}
+use Rattle.store_rows.proofs.SelectionLemmas.{filter_filter}
 use Rattle.store_rows.proofs.TakenLemmas.{same_number_is}
 use Rattle.store_holdings.specs.Texts.{rows_under}
 use Rattle.store_holdings.specs.Files.{parts_under, installed_parts}

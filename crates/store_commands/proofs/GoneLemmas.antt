@@ -15,7 +15,7 @@ use Rattle.store_sql.specs.Effects.{IsRemoved, equals_number, same_value}
 use Rattle.store_records.specs.Records.{EditionRecord, EntryRecord, Part}
 use Rattle.store_rows.specs.Tables.{same_number}
 use Rattle.store_rows.specs.After.{is_gone}
-use Rattle.store_rows.proofs.PartLemmas.{filter_filter, filter_alike}
+use Rattle.store_rows.proofs.SelectionLemmas.{filter_filter, filter_alike}
 use Rattle.store_holdings.specs.AllTables.{AllTables}
 use Rattle.store_holdings.specs.Holds.{Keeps}
 use Rattle.store_commands.specs.KeptRecords.{HasRecords, FitsColumn, TurnsRecords}

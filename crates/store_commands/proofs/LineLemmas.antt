@@ -6,8 +6,8 @@ use Rattle.dict_index.specs.Limits.{most_octets}
 use Rattle.dict_index.specs.Views.{line_of, LiesIn}
 use Rattle.dict_index.specs.WellFormed.{IsWellFormedEntry}
 use Rattle.dict_index.specs.declared.entry.Entry.{Entry}
-use Rattle.store_parts.specs.Stored.{IsStorable}
-use Rattle.store_parts.proofs.StoredLemmas.{of_entries}
+use Rattle.store_rows.specs.Stored.{IsStorable}
+use Rattle.store_rows.proofs.StoredLemmas.{of_entries}
 
 -- each entry of an edition has one
 pub storable_lines : (text : List ℕ) (entries : List Entry) → length text ≤ most_octets → AllByRecursion IsWellFormedEntry (map (entry_in text) (map line_of entries)) → AllByRecursion (LiesIn text) entries

@@ -17,7 +17,7 @@ use Rattle.store_edition_sql.specs.PartRecords.{part_row}
 use Rattle.store_edition_sql.specs.Chosen.{is_part_from}
 use Rattle.store_records.specs.Records.{Part}
 use Rattle.store_rows.specs.After.{is_gone}
-use Rattle.store_rows.proofs.PartLemmas.{filter_filter}
+use Rattle.store_rows.proofs.SelectionLemmas.{filter_filter}
 use Rattle.store_holdings.specs.AllTables.{AllTables}
 use Rattle.store_commands.specs.KeptRecords.{HasRecords, TurnsRecords}
 use Rattle.store_commands.specs.Changes.{without_parts}

@@ -13,13 +13,13 @@ use Rattle.store_sql.specs.Effects.{equals_number, rows_of}
 use Rattle.store_edition_sql.specs.PartRecords.{part_row}
 use Rattle.store_edition_sql.specs.Chosen.{is_of_file}
 use Rattle.store_records.specs.Records.{Part}
-use Rattle.store_parts.specs.Parts.{parts_of}
-use Rattle.store_parts.specs.Stored.{stored_index}
+use Rattle.store_rows.specs.Parts.{parts_of}
+use Rattle.store_rows.specs.Stored.{stored_index}
 use Rattle.store_rows.specs.Tables.{Tables, same_number}
 use Rattle.store_rows.specs.After.{Installed, is_gone}
 use Rattle.store_rows.specs.Written.{numbered}
 use Rattle.store_rows.proofs.AfterLemmas.{filter_none}
-use Rattle.store_rows.proofs.PartLemmas.{filter_filter}
+use Rattle.store_rows.proofs.SelectionLemmas.{filter_filter}
 use Rattle.store_rows.proofs.TakenLemmas.{same_number_is, same_itself, nat_same}
 use Rattle.store_holdings.specs.Files.{part_at, file_parts, parts_under, edition_parts, all_parts, installed_parts}
 use Rattle.store_holdings.specs.AllTables.{HasNoneOf}

@@ -9,9 +9,9 @@ use Rattle.dict_catalogue.specs.declared.commands.Command.{Command}
 use Rattle.dict_catalogue.specs.declared.commands.Command.TheVariants.{Install, Rollback, Retire, PutVirtual, Place}
 use Rattle.dict_catalogue.specs.declared.planning.PlannedChange.{PlannedChange as Planned}
 use Rattle.store_records.specs.Records.{ItemRecord, Member, EditionRecord, Part}
-use Rattle.store_parts.specs.Stored.{stored_index}
 use Rattle.store_holdings.specs.Files.{installed_parts}
 use Rattle.store_holdings.specs.AllTables.{AllTables}
+use Rattle.store_rows.specs.Stored.{stored_index}
 use Rattle.store_rows.specs.Written.{numbered, mark_record, item_record, kept_record}
 use Rattle.store_rows.specs.After.{Installed, TableChange, all_members, is_gone, installed_editions, installed_entries}
 use Rattle.store_rows.specs.Versions.{known}

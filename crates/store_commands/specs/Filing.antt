@@ -9,10 +9,10 @@ use Rattle.sqlite.specs.declared.error.ErrorCode.TheVariants as code
 use Rattle.sqlite_trees.specs.declared.store.Store.{Ghosts}
 use Rattle.store_sql.specs.Statements.{Statement, FailsInTurn}
 use Rattle.store_records.specs.Records.{Part}
-use Rattle.store_parts.specs.Stored.{stored_index}
 use Rattle.dict_catalogue.specs.Steps.{KeptFor}
 use Rattle.dict_desk.specs.declared.fault.Fault.{Fault}
 use Rattle.dict_desk.specs.declared.fault.Fault.TheVariants.{Memory, Disk}
+use Rattle.store_rows.specs.Stored.{stored_index}
 use Rattle.store_rows.specs.After.{Installed, is_gone}
 use Rattle.store_holdings.specs.Files.{parts_under}
 use Rattle.store_holdings.specs.Texts.{rows_under}

@@ -3,7 +3,7 @@ use Rattle.std.specs.Prelude.{◌≡◌, ◌-◌, ◌+◌, ◌≤◌, ◌||◌, 
 use Rattle.std.specs.Borrow.{Bor}
 use Rattle.dict_index.specs.Edition.{ReadEdition}
 use Rattle.dict_index.specs.Meaning.{IsReadEdition, IsFault}
-use Rattle.store_parts.specs.Stored.{stored_index}
+use Rattle.store_rows.specs.Stored.{stored_index}
 use Rattle.dict_reading.specs.Reading.{HasRead, IsAtEnd}
 use Rattle.dict_reading.specs.Slices.{IsSlice}
 use Rattle.dict_catalogue.specs.declared.commands.Command.{Command}

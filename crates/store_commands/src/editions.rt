@@ -5,7 +5,7 @@ ghost use Rattle.store_sql.specs.Effects.{WhileOpen};
 ghost use Rattle.store_records.specs.Records.{header_of};
 ghost use Rattle.store_records.specs.Typed.{lent_header};
 ghost use Rattle.dict_index.specs.Edition.{ReadEdition};
-ghost use Rattle.store_parts.specs.Stored.{stored_index};
+ghost use Rattle.store_rows.specs.Stored.{stored_index};
 ghost use Rattle.store_rows.specs.Written.{edition_record};
 ghost use Rattle.store_commands.specs.KeptRecords.{IsUsable, FitsColumn, AreStorable};
 ghost use Rattle.store_commands.specs.Statements.{taking, taking_parts, adding_edition, installing};

@@ -4,14 +4,14 @@ ghost use Rattle.std.specs.List.{AllByRecursion};
 ghost use Rattle.dict_index.specs.Line.{Line};
 ghost use Rattle.dict_index.specs.Meaning.{IsFault};
 ghost use Rattle.dict_index.specs.Refused.{IsIndexFault};
-ghost use Rattle.store_parts.specs.Stored.{stored_index, stored_line, IsStorable};
+ghost use Rattle.store_rows.specs.Stored.{stored_index, stored_line, IsStorable};
 ghost use Rattle.dict_reading.specs.Reading.{HasRead, IsAtEnd};
 ghost use Rattle.store_commands.specs.Installs.{IsReadSoFar, ReadsSlice, AreFirstLines, AreAllLines, AreKnown, HasFiles, IsShortStep, is_done, is_refused};
 
 use dict_index::{EditionRefusal, IndexFault, one_meaning};
 use dict_reading::{EditionReader, Reading};
 use std::alloc::{AllocError, Global};
-use store_parts::write_line;
+use store_rows::write_line;
 
 // The lines of so many entries are written at a time.
 const SLICE_ENTRIES: usize = 4_096;

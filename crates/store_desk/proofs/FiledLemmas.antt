@@ -18,7 +18,7 @@ use Rattle.store_records.specs.Records.{header_of}
 use Rattle.store_rows.specs.Versions.{known, layout_of}
 use Rattle.store_rows.specs.Written.{edition_record}
 use Rattle.store_rows.proofs.OrderLemmas.{all_same}
-use Rattle.store_rows.proofs.PartLemmas.{filter_filter}
+use Rattle.store_rows.proofs.SelectionLemmas.{filter_filter}
 use Rattle.store_holdings.specs.AllTables.{AllTables, with_derived}
 use Rattle.store_holdings.specs.Holds.{HasLayout, Holds, Keeps}
 use Rattle.store_holdings.specs.Texts.{HoldsText, text_rows, rows_under}

@@ -10,8 +10,8 @@ use Rattle.dict_index.specs.Edition.{Edition as AnEdition}
 use Rattle.dict_index.specs.Line.{Line}
 use Rattle.dict_catalogue.specs.Commands.{Command}
 use Rattle.dict_catalogue.specs.Steps.{Catalogue}
-use Rattle.store_parts.specs.Parts.{parts_of}
-use Rattle.store_parts.specs.Stored.{stored_index}
+use Rattle.store_rows.specs.Parts.{parts_of}
+use Rattle.store_rows.specs.Stored.{stored_index}
 use Rattle.store_rows.specs.Stands.{Stands}
 use Rattle.store_rows.specs.Tables.{Tables, same_number, entries_of, editions_numbered}
 use Rattle.store_rows.specs.Written.{numbered, edition_record, entry_record}

@@ -2,9 +2,9 @@
 use Rattle.std.proofs.Common.{◌≡◌, ℕ, zero, suc, ◌+◌, ◌-◌, ◌/◌, ◌%◌, min, ◌<◌, ◌≤◌, ℤ, pos, List, [], ◌∷◌, length, get_or, arith, sym, ap, subst, ◌∙◌}
 use Rattle.std.proofs.lemmas.List.{length-append, get_or_append_left, get_or-append-add}
 use Rattle.store_records.specs.Records.{Part}
-use Rattle.store_parts.specs.Parts.{parts_of, part_count}
-use Rattle.store_parts.proofs.PartLemmas.{parts_length}
+use Rattle.store_rows.specs.Parts.{parts_of, part_count}
 use Rattle.store_rows.specs.Written.{numbered}
+use Rattle.store_rows.proofs.PartLemmas.{parts_length}
 use Rattle.store_rows.proofs.ListLemmas.{numbered_length}
 use Rattle.store_holdings.specs.Files.{part_at, file_parts, parts_under}
 

@@ -10,18 +10,18 @@ use Rattle.store_records.specs.Records.{EditionRecord, EntryRecord, HeaderRecord
 use Rattle.dict_index.specs.Edition.{Edition as AnEdition, entry_in}
 use Rattle.dict_index.specs.Line.{Line}
 use Rattle.dict_index.specs.WellFormed.{IsWellFormedEdition, IsWellFormedEntry}
-use Rattle.store_parts.specs.Stored.{IsStorable, stored_index}
-use Rattle.store_parts.proofs.IndexLemmas.{says_one_list}
-use Rattle.store_parts.proofs.StoredLemmas.{of_entries}
-use Rattle.store_parts.specs.Parts.{parts_of}
-use Rattle.store_parts.proofs.PartLemmas.{parts_join}
 use Rattle.dict_catalogue.specs.Items.{Stored, Item, name_of, editions_of}
 use Rattle.dict_catalogue.specs.Steps.{Catalogue}
 use Rattle.dict_catalogue.specs.WellFormed.{HasWellFormedEditions}
+use Rattle.store_rows.specs.Stored.{IsStorable, stored_index}
+use Rattle.store_rows.specs.Parts.{parts_of}
 use Rattle.store_rows.specs.Tables.{Tables, same_number, entries_of, editions_numbered}
 use Rattle.store_rows.specs.Written.{numbered, edition_record, entry_record}
 use Rattle.store_rows.specs.Stands.{HoldsEdition, HoldsEditions, IsWithin, has_number, Stands}
 use Rattle.store_rows.specs.Order.{InOrder}
+use Rattle.store_rows.proofs.IndexLemmas.{says_one_list}
+use Rattle.store_rows.proofs.StoredLemmas.{of_entries}
+use Rattle.store_rows.proofs.PartLemmas.{parts_join}
 use Rattle.store_rows.proofs.EntryLemmas.{lines_lawful}
 use Rattle.store_rows.proofs.FoundLemmas.{Found, found_in}
 use Rattle.store_rows.proofs.LawfulLemmas.{pos_same}

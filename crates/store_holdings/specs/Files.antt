@@ -2,8 +2,8 @@
 use Rattle.std.specs.Prelude.{ℕ, ℤ, pos, negsuc, List, [], ◌++◌, map, flat_map, Option, Some, None}
 use Rattle.store_records.specs.Records.{EditionRecord, EntryRecord, Part}
 use Rattle.dict_index.specs.Line.{Line}
-use Rattle.store_parts.specs.Parts.{parts_of}
-use Rattle.store_parts.specs.Stored.{stored_index}
+use Rattle.store_rows.specs.Parts.{parts_of}
+use Rattle.store_rows.specs.Stored.{stored_index}
 use Rattle.store_rows.specs.Tables.{Tables, entries_of}
 use Rattle.store_rows.specs.Written.{numbered}
 use Rattle.store_rows.specs.After.{Installed}

@@ -9,7 +9,7 @@ use Rattle.sqlite.specs.State.{State, HasCleanDisk, IsUnchanged, Survives}
 use Rattle.sqlite.proofs.Callers.{unchanged_then}
 use Rattle.sqlite.proofs.StateLemmas.{survives_then}
 use Rattle.store_sql.specs.Effects.{WhileOpen}
-use Rattle.store_parts.specs.Parts.{parts_of}
+use Rattle.store_rows.specs.Parts.{parts_of}
 use Rattle.store_holdings.specs.Texts.{HoldsText}
 use Rattle.store_lookup.specs.KeptTexts.{PartNumbers, same_key, with_text}
 use Rattle.store_lookup.proofs.KeptLemmas.{all_without, all_with, all_found}

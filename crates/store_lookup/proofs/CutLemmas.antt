@@ -2,8 +2,8 @@
 use Rattle.std.proofs.Common.{◌≡◌, ℕ, ◌+◌, ◌-◌, ◌/◌, ◌%◌, ◌≤◌, inl, inr, List, [], ◌∷◌, ◌++◌, length, take, drop, get_or, refl, ap, sym, ◌∙◌, arith, append-nil, length-drop, length-append}
 use Rattle.std.proofs.lemmas.Bool.{cases_lt}
 use Rattle.std.proofs.lemmas.List.{take_all, take_rest, length-take}
-use Rattle.store_parts.specs.Parts.{parts_of}
-use Rattle.store_parts.proofs.IntervalLemmas.{put_of_part, short_by}
+use Rattle.store_rows.specs.Parts.{parts_of}
+use Rattle.store_rows.proofs.IntervalLemmas.{put_of_part, short_by}
 
 empty_by : (xs : List ℕ) → length xs ≡ 0 → xs ≡ []
 empty_by [] e = refl

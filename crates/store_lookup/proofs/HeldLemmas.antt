@@ -18,14 +18,14 @@ use Rattle.store_edition_sql.specs.HeaderRecords.{header_row, header_columns}
 use Rattle.store_edition_sql.specs.Chosen.{is_of_file}
 use Rattle.store_edition_sql.specs.PartRecords.{part_row, part_columns}
 use Rattle.dict_index.specs.Edition.{Edition as AnEdition, ReadEdition, edition_of}
-use Rattle.store_parts.specs.Stored.{stored_index}
 use Rattle.dict_catalogue.specs.Items.{Stored, Item, name_of, editions_of, numbers_of}
 use Rattle.dict_catalogue.specs.Steps.{Catalogue, KeptFor}
 use Rattle.dict_catalogue.specs.WellFormed.{IsWellFormed, how_many, is_install}
+use Rattle.store_rows.specs.Stored.{stored_index}
 use Rattle.store_rows.specs.Tables.{Tables, same_number, editions_numbered}
 use Rattle.store_rows.specs.Stands.{HoldsEdition, HoldsEditions}
 use Rattle.store_rows.specs.Versions.{Parted, layout_of, known}
-use Rattle.store_rows.proofs.PartLemmas.{filter_filter}
+use Rattle.store_rows.proofs.SelectionLemmas.{filter_filter}
 use Rattle.store_holdings.specs.AllTables.{with_derived}
 use Rattle.store_holdings.specs.Files.{all_parts, file_parts}
 use Rattle.store_holdings.proofs.TellLemmas.{file_told, text_under, parts_held}

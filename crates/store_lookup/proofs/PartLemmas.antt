@@ -16,7 +16,6 @@ use Rattle.sqlite.specs.State.{State}
 use Rattle.sqlite.specs.declared.types.Value.TheVariants.{Int}
 use Rattle.dict_text.proofs.AllLemmas.{all_filter}
 use Rattle.store_records.specs.Records.{Part}
-use Rattle.store_parts.specs.Parts.{parts_of}
 use Rattle.store_sql.specs.Columns.{HasColumns}
 use Rattle.store_sql.specs.Effects.{rows_of, equals_number, same_value}
 use Rattle.store_sql.specs.Reads.{IsSelection, FailsToList}
@@ -24,10 +23,11 @@ use Rattle.store_sql.specs.declared.records.ReadError.{ReadError}
 use Rattle.store_edition_sql.specs.Chosen.{is_of_file, is_numbered}
 use Rattle.store_edition_sql.specs.PartRecords.{part_row, part_columns, owned_part, stored_part}
 use Rattle.store_edition_sql.specs.declared.part_records.StoredPart.{StoredPart}
+use Rattle.store_rows.specs.Parts.{parts_of}
 use Rattle.store_rows.specs.Tables.{same_number}
 use Rattle.store_rows.specs.Written.{numbered}
 use Rattle.store_rows.proofs.OrderLemmas.{all_same, same_from, one_once}
-use Rattle.store_rows.proofs.PartLemmas.{filter_filter}
+use Rattle.store_rows.proofs.SelectionLemmas.{filter_filter}
 use Rattle.store_rows.proofs.TakenLemmas.{nat_itself}
 use Rattle.store_holdings.specs.Files.{part_at, file_parts}
 use Rattle.store_holdings.specs.Texts.{HoldsText, text_rows}

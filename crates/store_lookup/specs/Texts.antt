@@ -6,7 +6,7 @@ use Rattle.sqlite.specs.State.{State, HasCleanDisk, IsUnchanged, Survives}
 use Rattle.sqlite_trees.specs.declared.store.Store.{Ghosts}
 use Rattle.dict_index.specs.Line.{Line}
 use Rattle.dict_index.specs.Edition.{Edition, entry_in}
-use Rattle.store_parts.specs.Parts.{parts_of}
+use Rattle.store_rows.specs.Parts.{parts_of}
 use Rattle.store_holdings.specs.Texts.{HoldsText}
 use Rattle.store_search.specs.Entries.{Indexed, entry_of}
 use Rattle.store_lookup.specs.KeptTexts.{PartNumbers, with_text}

@@ -5,7 +5,7 @@ ghost use Rattle.sqlite.specs.State.{HasCleanDisk, Survives};
 ghost use Rattle.sqlite.specs.Held.{state};
 ghost use Rattle.store_sql.specs.Effects.{Has, WhileOpen};
 ghost use Rattle.store_edition_sql.specs.PartTable.{part as part_table};
-ghost use Rattle.store_parts.specs.Parts.{parts_of};
+ghost use Rattle.store_rows.specs.Parts.{parts_of};
 ghost use Rattle.store_holdings.specs.Texts.{HoldsText};
 ghost use Rattle.store_lookup.specs.KeptTexts.{same_key};
 ghost use Rattle.store_lookup.specs.Searches.{FailsToLookUp, IsOfStore, number_in_column};
@@ -17,7 +17,7 @@ use crate::texts::TextParts;
 use dict_desk::Fault;
 use sqlite::{Alter, Connection};
 use std::alloc::{AllocError, Global};
-use store_parts::PART_SIZE;
+use store_rows::PART_SIZE;
 
 // Keeps a part of a text under the number of its edition and its own, where the first is that of an install. A refused growth
 // leaves it unkept.

@@ -7,7 +7,7 @@ ghost use Rattle.store_sql.specs.Effects.{Has, WhileOpen};
 ghost use Rattle.store_edition_sql.specs.HeaderTable.{header};
 ghost use Rattle.store_edition_sql.specs.PartTable.{part as part_table};
 ghost use Rattle.store_edition_sql.specs.declared.part_records.StoredPart.{StoredPart as AStoredPart};
-ghost use Rattle.store_parts.specs.Parts.{parts_of};
+ghost use Rattle.store_rows.specs.Parts.{parts_of};
 ghost use Rattle.dict_index.specs.Edition.{ReadEdition};
 ghost use Rattle.store_holdings.specs.Texts.{HoldsText};
 ghost use Rattle.store_lookup.specs.Searches.{HoldsOne, FailsToLookUp, IsOfStore, number_in_column};

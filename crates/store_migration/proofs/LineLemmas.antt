@@ -13,8 +13,8 @@ use Rattle.std.proofs.lemmas.Grind.{flat_map-append}
 use Rattle.store_records.specs.Records.{EntryRecord}
 use Rattle.dict_index.specs.Cuts.{HasNo}
 use Rattle.dict_index.specs.Line.{Line}
-use Rattle.store_parts.specs.Stored.{IsColumn, IsStorable, saying, stored_line}
 use Rattle.store_holdings.specs.Files.{entry_line, index_octets, natural}
+use Rattle.store_rows.specs.Stored.{IsColumn, IsStorable, saying, stored_line}
 use Rattle.store_rows.proofs.TakenLemmas.{nat_same, nat_itself}
 use Rattle.store_sql.specs.declared.records.ReadError.{ReadError}
 use Rattle.store_sql.specs.declared.records.ReadError.TheVariants.{NoRecord, Store}

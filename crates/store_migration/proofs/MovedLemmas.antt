@@ -34,7 +34,7 @@ use Rattle.store_rows.specs.Stands.{Stands}
 use Rattle.store_rows.specs.Versions.{Parted, layout_of, known}
 use Rattle.store_rows.specs.Written.{mark_record}
 use Rattle.store_rows.specs.Order.{is_of}
-use Rattle.store_rows.proofs.PartLemmas.{filter_whole}
+use Rattle.store_rows.proofs.SelectionLemmas.{filter_whole}
 use Rattle.store_holdings.specs.AllTables.{AllTables, with_derived, as_version}
 use Rattle.store_holdings.specs.Files.{all_parts}
 use Rattle.store_holdings.specs.Readings.{TableReading, KeepsAll, KeepsRows, table_name_of, marks, items, members, editions, contents, kept_replies, AreShownIn}

@@ -10,7 +10,7 @@ use Rattle.dict_index.specs.Edition.{Edition}
 use Rattle.dict_catalogue.specs.Items.{Stored, Item, name_of, editions_of, numbers_of, edition_numbers}
 use Rattle.dict_catalogue.specs.Steps.{Catalogue}
 use Rattle.dict_catalogue.specs.WellFormed.{how_many, IsEachNumberOnce}
-use Rattle.store_parts.specs.Parts.{parts_of}
+use Rattle.store_rows.specs.Parts.{parts_of}
 use Rattle.store_rows.specs.Tables.{Tables, same_number, editions_numbered, entries_of}
 use Rattle.store_rows.specs.Written.{numbered, edition_record, entry_record}
 use Rattle.store_rows.specs.Stands.{HoldsEdition, HoldsEditions, has_number, Stands}

@@ -20,7 +20,7 @@ use Rattle.store_rows.specs.Tables.{Tables, same_number, editions_numbered, entr
 use Rattle.store_rows.specs.Written.{entry_record}
 use Rattle.store_rows.specs.Order.{InOrder, is_of, editions_of_numbers}
 use Rattle.store_rows.proofs.OrderLemmas.{Below, same_from, ordered_once, one_once, numbered_rise}
-use Rattle.store_rows.proofs.PartLemmas.{editions_more, numbers_more}
+use Rattle.store_rows.proofs.SelectionLemmas.{editions_more, numbers_more}
 use Rattle.store_rows.proofs.TakenLemmas.{same_number_is, same_itself}
 use Rattle.store_holdings.specs.Files.{all_parts, edition_parts, index_octets, parts_under}
 use Rattle.store_holdings.proofs.FileLemmas.{part_once}

@@ -3,7 +3,7 @@ use Rattle.std.specs.Prelude.{List}
 use Rattle.store_records.specs.Keyed.{KeyedEntry}
 use Rattle.store_records.specs.Records.{EntryRecord, Part}
 use Rattle.dict_index.specs.Line.{Line}
-use Rattle.store_parts.specs.Stored.{saying}
+use Rattle.store_rows.specs.Stored.{saying}
 use Rattle.store_holdings.specs.Files.{natural, parts_under}
 use Rattle.store_migration.specs.declared.files.EditionFiles.{EditionFiles}
 use Rattle.store_migration.specs.declared.lines.LineToWrite.{LineToWrite}

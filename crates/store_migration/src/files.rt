@@ -1,7 +1,7 @@
 // The two files of an edition, put in as parts.
 ghost use Rattle.std.specs.Prelude.{◌≡◌, ◌≤◌, ◌<◌, [], codes, length, map, true, slice_index_or, IfErr, OnOk};
 ghost use Rattle.sqlite.specs.State.{HasCleanDisk, KeepsCommit, Survives};
-ghost use Rattle.store_parts.specs.Parts.{parts_of};
+ghost use Rattle.store_rows.specs.Parts.{parts_of};
 ghost use Rattle.store_edition_sql.specs.PartRecords.{lent_part, part_row};
 ghost use Rattle.store_edition_sql.specs.PartTable.{part as part_table};
 ghost use Rattle.store_sql.specs.Added.{AreAdded};
@@ -14,7 +14,7 @@ ghost use Rattle.store_migration.specs.Written.{parts_in};
 
 use sqlite::{Alter, Error, Transaction};
 use store_edition_sql::{Part, insert_part};
-use store_parts::{PART_SIZE, part};
+use store_rows::{PART_SIZE, part};
 
 // An index has file 0 of its edition, and a text file 1.
 const INDEX: i64 = 0;

@@ -4,15 +4,15 @@ ghost use Rattle.store_records.specs.Keyed.{owned_old_entry, owned_keyed_entry, 
 ghost use Rattle.store_records.specs.Records.{EntryRecord as TheEntry};
 ghost use Rattle.store_records.specs.Typed.{owned_entry};
 ghost use Rattle.dict_index.specs.Cuts.{HasNo};
-ghost use Rattle.store_parts.specs.Stored.{IsColumn, stored_line};
+ghost use Rattle.store_rows.specs.Stored.{IsColumn, stored_line};
 ghost use Rattle.store_holdings.specs.Files.{index_octets};
 ghost use Rattle.store_migration.specs.MigrationParts.{FailsToWriteIndex};
 ghost use Rattle.store_migration.specs.Steps.{HasLine, HasSixDigits};
 ghost use Rattle.store_migration.specs.Written.{line_to_write, said_of, shown_entry};
 
 use std::alloc::Global;
-use store_parts::write_line;
 use store_records::{EntryRecord, KeyedEntry, OldEntry, StoredRow};
+use store_rows::write_line;
 use store_sql::records::ReadError;
 
 /// The first number that has no six digits in base 64.

@@ -12,7 +12,6 @@ use Rattle.dict_text.proofs.AllLemmas.{all_filter, all_weaker}
 use Rattle.store_records.specs.Records as spec
 use Rattle.store_records.specs.Records.{header_of}
 use Rattle.dict_index.specs.Line.{Line}
-use Rattle.store_parts.specs.Stored.{stored_line, stored_index}
 use Rattle.store_sql.specs.Effects.{rows_of}
 use Rattle.store_sql.specs.Encodings.{mark_row, item_row, member_row, kept_row, stored_kept}
 use Rattle.store_sql.specs.Reads.{IsListing}
@@ -21,6 +20,7 @@ use Rattle.dict_catalogue.specs.Items.{name_of as name_in, editions_of, is_known
 use Rattle.dict_catalogue.specs.Steps.{Catalogue}
 use Rattle.dict_catalogue.specs.WellFormed.{total, IsEachOnce}
 use Rattle.dict_catalogue.proofs.ListLemmas.{sum_append}
+use Rattle.store_rows.specs.Stored.{stored_line, stored_index}
 use Rattle.store_rows.specs.Given.{kept_given}
 use Rattle.store_rows.specs.Stands.{Stands, HoldsMembers, HoldsEdition, HoldsEditions, has_number}
 use Rattle.store_rows.specs.Tables.{Tables, same_number, editions_numbered, entries_of}
@@ -29,7 +29,7 @@ use Rattle.store_rows.specs.Versions.{Layout, Plain, Keyed, Shown, Parted, layou
 use Rattle.store_rows.specs.Whole.{with_replies}
 use Rattle.store_rows.specs.declared.reader.Reader.{Reader}
 use Rattle.store_rows.proofs.OrderLemmas.{IsIn, Same, in_all, passed_in, same_from, same_passed}
-use Rattle.store_rows.proofs.PartLemmas.{filter_whole}
+use Rattle.store_rows.proofs.SelectionLemmas.{filter_whole}
 use Rattle.store_rows.proofs.TakenLemmas.{holds_same, same_number_is, same_itself}
 use Rattle.store_holdings.specs.AllTables.{with_derived}
 use Rattle.store_holdings.specs.Files.{entry_line, index_octets}

@@ -12,18 +12,18 @@ use Rattle.store_records.specs.Records.{EditionRecord, HeaderRecord, Part, heade
 use Rattle.dict_index.specs.Line.{Line}
 use Rattle.dict_index.specs.Edition.{Edition as AnEdition, entry_in}
 use Rattle.dict_index.specs.WellFormed.{IsWellFormedEdition, IsWellFormedEntry}
-use Rattle.store_parts.specs.Stored.{IsStorable, stored_index}
-use Rattle.store_parts.proofs.StoredLemmas.{of_entries}
-use Rattle.store_parts.specs.Parts.{parts_of}
 use Rattle.store_sql.specs.Effects.{rows_of, same_value}
 use Rattle.store_edition_sql.specs.Chosen.{is_of_file}
 use Rattle.store_edition_sql.specs.PartRecords.{part_row}
 use Rattle.dict_catalogue.specs.Items.{Stored}
+use Rattle.store_rows.specs.Stored.{IsStorable, stored_index}
+use Rattle.store_rows.specs.Parts.{parts_of}
 use Rattle.store_rows.specs.Stands.{HoldsEdition, IsWithin}
 use Rattle.store_rows.specs.Tables.{Tables, same_number, entries_of, editions_numbered}
 use Rattle.store_rows.specs.Written.{numbered, entry_record}
+use Rattle.store_rows.proofs.StoredLemmas.{of_entries}
 use Rattle.store_rows.proofs.EntryLemmas.{lines_lawful}
-use Rattle.store_rows.proofs.PartLemmas.{filter_filter}
+use Rattle.store_rows.proofs.SelectionLemmas.{filter_filter}
 use Rattle.store_holdings.specs.Files.{part_at, file_parts, parts_under, edition_parts, all_parts, index_octets}
 use Rattle.store_holdings.proofs.FileLemmas.{part_once, lines_back}
 use Rattle.store_scans.specs.Files.{file_rows, HasFile}

@@ -12,7 +12,7 @@ use Rattle.sqlite.specs.declared.types.Value.TheVariants.{Int}
 use Rattle.store_sql.specs.Effects.{same_value, equals_number}
 use Rattle.store_rows.specs.Order.{is_of}
 use Rattle.store_rows.specs.Tables.{same_number}
-use Rattle.store_rows.proofs.PartLemmas.{parts_together, filter_alike}
+use Rattle.store_rows.proofs.SelectionLemmas.{parts_together, filter_alike}
 use Rattle.store_rows.proofs.TakenLemmas.{same_number_is, same_itself}
 use Rattle.store_scans.specs.Census.{one_of}
 use Rattle.store_scans.proofs.NumberLemmas.{int_once, same_int}

@@ -17,6 +17,7 @@ use Rattle.store_edition_sql.specs.HeaderRecords.{header_row, stored_header}
 use Rattle.store_edition_sql.specs.Chosen.{is_of_file}
 use Rattle.store_edition_sql.specs.PartRecords.{part_row}
 use Rattle.dict_catalogue.specs.Steps.{Catalogue}
+use Rattle.store_rows.specs.Stored.{stored_index}
 use Rattle.store_rows.specs.Tables.{Tables, same_number, editions_numbered, entries_of}
 use Rattle.store_rows.specs.Versions.{Layout, Plain, Keyed, Shown, Parted, layout_of}
 use Rattle.store_rows.specs.Stands.{has_number}
@@ -26,7 +27,6 @@ use Rattle.store_rows.specs.Order.{InOrder, is_of}
 use Rattle.store_rows.specs.declared.reader.Reader.{Reader}
 use Rattle.store_rows.proofs.StrayLemmas.{numbers_taken}
 use Rattle.store_rows.proofs.TakenLemmas.{same_number_is, filter_passes_not}
-use Rattle.store_parts.specs.Stored.{stored_index}
 use Rattle.store_holdings.specs.AllTables.{HasNoneOf}
 use Rattle.store_holdings.specs.Files.{file_parts, edition_parts, parts_under, all_parts, index_octets}
 use Rattle.store_holdings.proofs.FileLemmas.{lines_back}

@@ -11,20 +11,20 @@ use Rattle.store_records.specs.Records.{header_of}
 use Rattle.store_records.specs.Typed.{owned_edition, owned_header}
 use Rattle.dict_index.specs.Edition.{Edition}
 use Rattle.dict_index.specs.Line.{Line}
-use Rattle.store_parts.specs.Stored.{stored_index}
-use Rattle.store_parts.proofs.IndexLemmas.{says_one_list}
 use Rattle.store_sql.specs.Effects.{rows_of, equals_number}
 use Rattle.store_sql.specs.Encodings.{edition_row, stored_edition}
 use Rattle.store_sql.specs.Reads.{IsSelection}
 use Rattle.store_edition_sql.specs.HeaderRecords.{header_row, stored_header}
 use Rattle.dict_catalogue.specs.Items.{Item}
 use Rattle.dict_catalogue.specs.Steps.{Catalogue}
+use Rattle.store_rows.specs.Stored.{stored_index}
 use Rattle.store_rows.specs.Order.{InOrder}
 use Rattle.store_rows.specs.Stands.{Stands, has_number}
 use Rattle.store_rows.specs.Tables.{Tables, same_number, editions_numbered, entries_of}
 use Rattle.store_rows.specs.Taken.{BeginsWith, with_edition}
 use Rattle.store_rows.specs.Versions.{Layout, Plain, Keyed, Shown, Parted, layout_of}
 use Rattle.store_rows.specs.Written.{numbered, edition_record, entry_record}
+use Rattle.store_rows.proofs.IndexLemmas.{says_one_list}
 use Rattle.store_rows.proofs.FoundLemmas.{Found, found_in}
 use Rattle.store_rows.proofs.OrderLemmas.{Same, Below, all_passed, all_same, same_from, one_once, ordered_once, numbered_rise}
 use Rattle.store_holdings.specs.AllTables.{with_derived}

@@ -33,11 +33,11 @@ use Rattle.store_sql.specs.Streams.Scan.{AllKept, KeptById, ByRowid}
 use Rattle.store_sql.proofs.KitLemmas.{value_cmp_total}
 use Rattle.store_edition_sql.specs.HeaderRecords.{header_row}
 use Rattle.store_edition_sql.specs.PartRecords.{part_row}
-use Rattle.store_parts.specs.Parts.{parts_of as parts_of_octets}
 use Rattle.dict_catalogue.specs.Items.{Item, name_of as name_in, editions_of, edition_numbers, is_known}
 use Rattle.dict_catalogue.specs.Steps.{Catalogue}
 use Rattle.dict_catalogue.specs.WellFormed.{total, IsEachOnce}
 use Rattle.dict_catalogue.proofs.ListLemmas.{sum_append}
+use Rattle.store_rows.specs.Parts.{parts_of as parts_of_octets}
 use Rattle.store_rows.specs.Tables.{Tables, same_number, entries_of}
 use Rattle.store_rows.specs.Tests.{has_numbers_once, has_lawful_numbers, has_lawful_items, is_lawful_item, has_names_once, has_known_members, is_from_one_to}
 use Rattle.store_rows.specs.Given.{marks_given, items_given, members_given, kept_given}

@@ -16,7 +16,7 @@ use Rattle.store_rows.specs.Written.{numbered}
 use Rattle.store_rows.specs.Stands.{HoldsEdition}
 use Rattle.store_rows.specs.After.{is_gone}
 use Rattle.store_rows.proofs.TakenLemmas.{same_number_is, same_itself, nat_same, nat_itself}
-use Rattle.store_rows.proofs.PartLemmas.{filter_filter}
+use Rattle.store_rows.proofs.SelectionLemmas.{filter_filter}
 
 -- ---- an edition is one of those before, or the one that is installed
 

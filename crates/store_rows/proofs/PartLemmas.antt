@@ -1,85 +1,99 @@
--- Selections by numbers that are apart are together the whole.
-use Rattle.std.proofs.Common.{◌≡◌, Bool, true, false, ◌&&◌, ◌||◌, List, [], ◌∷◌, ◌++◌, refl, ap, sym, subst, ◌∙◌}
-use Rattle.std.specs.Prelude.{ℤ, filter, cond, not, IsPermutation, IsTrue}
-use Rattle.std.specs.List.{AllByRecursion}
-use Rattle.std.proofs.lemmas.Bool.{false≢true}
-use Rattle.std.proofs.lemmas.List.Folds.{list_any-append}
-use Rattle.std.proofs.lemmas.List.Sorted.{IsPermutation-filter_both, IsPermutation-append, IsPermutation-trans}
-use Rattle.store_records.specs.Records as spec
-use Rattle.store_rows.specs.Tables.{same_number, editions_numbered, entries_of}
-use Rattle.store_rows.specs.Order.{is_of, editions_of_numbers, entries_of_numbers}
-use Rattle.store_rows.proofs.TakenLemmas.{same_number_is}
+-- Files in parts.
+use Rattle.std.proofs.Common.{◌≡◌, ℕ, zero, suc, ◌+◌, ◌-◌, ◌*◌, ◌/◌, ◌<◌, ◌≤◌, List, [], ◌∷◌, ◌++◌, length, take, drop, get_or, refl, ap, sym, ◌∙◌, arith, append-nil, length-append, length-drop}
+use Rattle.std.proofs.lemmas.List.{take-append-drop, take_all, take_at, drop_at, drop-drop, length-take-le, nil_from_length}
+use Rattle.std.specs.List.{concat}
+use Rattle.store_rows.specs.Parts.{first_parts, part_count, parts_of, AreOfSize, AreParts}
 
-filter_step : {X : Type 0} (r s t : X → Bool) (x : X) (xs : List X) (a b d : Bool) → s x ≡ a → r x ≡ b → t x ≡ d → (a && b) ≡ d → filter r (filter s xs) ≡ filter t xs → filter r (cond a (x ∷ filter s xs) (filter s xs))
-    ≡ cond d (x ∷ filter t xs) (filter t xs)
-filter_step r s t x xs true true d ea eb ed both rest = ap (λ b. cond b (x ∷ filter r (filter s xs)) (filter r (filter s xs))) eb ∙ ap (λ ys. x ∷ ys) rest ∙ ap (λ b. cond b (x ∷ filter t xs) (filter t xs)) both
-filter_step r s t x xs true false d ea eb ed both rest = ap (λ b. cond b (x ∷ filter r (filter s xs)) (filter r (filter s xs))) eb ∙ rest ∙ ap (λ b. cond b (x ∷ filter t xs) (filter t xs)) both
-filter_step r s t x xs false b d ea eb ed both rest = rest ∙ ap (λ b. cond b (x ∷ filter t xs) (filter t xs)) both
+-- ---- of any size and count
 
--- what passes both tests
-pub filter_filter : {X : Type 0} (r s t : X → Bool) → ((x : X) → (s x && r x) ≡ t x) → (xs : List X) → filter r (filter s xs) ≡ filter t xs
-filter_filter r s t e [] = refl
-filter_filter r s t e (x ∷ xs) = filter_step r s t x xs (s x) (r x) (t x) refl refl refl (e x) (filter_filter r s t e xs)
+pub first_parts_length : (size k : ℕ) (xs : List ℕ) → length (first_parts size k xs) ≡ k
+first_parts_length size zero xs = refl
+first_parts_length size (suc k) xs = ap suc (first_parts_length size k (drop size xs))
 
-first_of_two : (p q : Bool) → ((p || q) && p) ≡ p
-first_of_two true q = refl
-first_of_two false true = refl
-first_of_two false false = refl
+pub first_parts_join : (size k : ℕ) (xs : List ℕ) → length xs ≤ k * size → concat (first_parts size k xs) ≡ xs
+first_parts_join size zero xs h = sym (nil_from_length xs (omega arith))
+first_parts_join size (suc k) xs h =
+    ap (λ l. take size xs ++ l) (first_parts_join size k (drop size xs) (omega (arith, length-drop size xs))) ∙ take-append-drop size xs
 
-second_of_two : (p q : Bool) → (p && q) ≡ false → ((p || q) && not p) ≡ q
-second_of_two true true e = absurd (false≢true (sym e))
-second_of_two true false e = refl
-second_of_two false true e = refl
-second_of_two false false e = refl
+pub first_parts_at : (size k i : ℕ) (xs : List ℕ) → i < k → get_or (first_parts size k xs) i [] ≡ take size (drop (i * size) xs)
+first_parts_at size zero i xs h = absurd (omega arith)
+first_parts_at size (suc k) zero xs h = ap (λ n. take size (drop n xs)) (let none : 0 ≡ 0 * size = omega arith in none)
+first_parts_at size (suc k) (suc i) xs h =
+    let next : size + i * size ≡ suc i * size = omega arith in
+    first_parts_at size k i (drop size xs) (omega arith) ∙ ap (take size) (drop-drop (i * size) size xs ∙ ap (λ n. drop n xs) next)
 
--- what passes one test of two that nothing passes both of
-pub parts_together : {X : Type 0} (p q : X → Bool) → ((x : X) → (p x && q x) ≡ false) → (xs ys zs : List X) → IsPermutation (filter p xs) ys → IsPermutation (filter q xs) zs → IsPermutation (filter (λ x. p x || q x) xs) (ys ++ zs)
-parts_together p q apart xs ys zs one other =
-    let both = IsPermutation-filter_both p (λ x. not (p x)) (λ x. refl) (filter (λ x. p x || q x) xs) in
-    let first = filter_filter p (λ x. p x || q x) p (λ x. first_of_two (p x) (q x)) xs in
-    let second = filter_filter (λ x. not (p x)) (λ x. p x || q x) q (λ x. second_of_two (p x) (q x) (apart x)) xs in
-    let split : IsPermutation (filter (λ x. p x || q x) xs) (filter p xs ++ filter q xs) = subst (IsPermutation (filter (λ x. p x || q x) xs)) (λ i. first i ++ second i) both in
-    IsPermutation-trans (filter (λ x. p x || q x) xs) (filter p xs ++ filter q xs) (ys ++ zs) split (IsPermutation-append (filter p xs) ys (filter q xs) zs one other)
+pub first_parts_regular : (size k : ℕ) (xs : List ℕ) → length xs ≤ k * size → k * size < length xs + size → AreOfSize size (first_parts size k xs)
+first_parts_regular size zero xs h j = tt
+first_parts_regular size (suc zero) xs h j =
+    let all : take size xs ≡ xs = take_all size xs (omega arith) in
+    (omega (arith, ap length all), omega (arith, ap length all), (λ more. absurd (omega arith)), tt)
+first_parts_regular size (suc (suc k)) xs h j =
+    let full : length (take size xs) ≡ size = length-take-le size xs (omega arith) in
+    let rest : length (drop size xs) ≡ length xs - size = length-drop size xs in
+    (omega (arith, full), omega (arith, full), (λ more. full), first_parts_regular size (suc k) (drop size xs) (omega (arith, rest)) (omega (arith, rest)))
 
-pub filter_alike : {X : Type 0} (p q : X → Bool) → ((x : X) → p x ≡ q x) → (xs : List X) → filter p xs ≡ filter q xs
-filter_alike p q e [] = refl
-filter_alike p q e (x ∷ xs) = λ i. cond (e x i) (x ∷ filter_alike p q e xs i) (filter_alike p q e xs i)
+-- how many octets parts join to
+pub joined_bounds : (size : ℕ) (ps : List (List ℕ)) → 0 < size → AreOfSize size ps → (length (concat ps) ≤ length ps * size) × (length ps * size < length (concat ps) + size)
+joined_bounds size [] some h = (omega arith, omega arith)
+joined_bounds size (p ∷ []) some h = (omega (arith, length-append p []), omega (arith, length-append p []))
+joined_bounds size (p ∷ q ∷ ps) some h =
+    let more : 1 ≤ length (q ∷ ps) = omega arith in
+    let full : length p ≡ size = h.2 more in
+    let rest = joined_bounds size (q ∷ ps) some h.3 in
+    let joined : length (concat (p ∷ q ∷ ps)) ≡ length p + length (concat (q ∷ ps)) = length-append p (concat (q ∷ ps)) in
+    (omega (arith, rest.0, joined, full), omega (arith, rest.1, joined, full))
 
-pub filter_whole : {X : Type 0} (p : X → Bool) (xs : List X) → AllByRecursion (λ x. IsTrue (p x)) xs → filter p xs ≡ xs
-filter_whole p [] h = refl
-filter_whole p (x ∷ xs) h = ap (λ b. cond b (x ∷ filter p xs) (filter p xs)) h.0 ∙ ap (λ ys. x ∷ ys) (filter_whole p xs h.1)
+pub first_parts_only : (size : ℕ) (ps : List (List ℕ)) → AreOfSize size ps → first_parts size (length ps) (concat ps) ≡ ps
+first_parts_only size [] h = refl
+first_parts_only size (p ∷ []) h = ap (λ l. l ∷ []) (take_all size (p ++ []) (omega (arith, ap length (append-nil p), h.1)) ∙ append-nil p)
+first_parts_only size (p ∷ q ∷ ps) h =
+    let more : 1 ≤ length (q ∷ ps) = omega arith in
+    let full : length p ≡ size = h.2 more in
+    ap (λ l. l ∷ first_parts size (length (q ∷ ps)) (drop size (p ++ concat (q ∷ ps)))) (take_at p (concat (q ∷ ps)) size full)
+    ∙ ap (λ l. p ∷ l) (ap (first_parts size (length (q ∷ ps))) (drop_at p (concat (q ∷ ps)) size full) ∙ first_parts_only size (q ∷ ps) h.3)
 
--- ---- numbers
+-- ---- of 16,384 octets
 
-or_no : (a : Bool) → (a || false) ≡ a
-or_no true = refl
-or_no false = refl
+pub count_above : (n : ℕ) → n ≤ part_count n * 16384
+count_above n = omega arith
 
-pub of_more : (numbers : List ℤ) (number one : ℤ) → is_of (numbers ++ number ∷ []) one ≡ (is_of numbers one || same_number one number)
-of_more numbers number one = list_any-append (same_number one) numbers (number ∷ []) ∙ ap (λ b. is_of numbers one || b) (or_no (same_number one number))
+pub count_below : (n : ℕ) → part_count n * 16384 < n + 16384
+count_below n = omega arith
 
-and_false : (a b : Bool) → (b ≡ true → a ≡ false) → (a && b) ≡ false
-and_false true true h = sym (false_true h)
-  where
-    false_true : (true ≡ true → true ≡ false) → false ≡ true
-    false_true f = sym (f refl)
-and_false true false h = refl
-and_false false b h = refl
+pub count_is : (n k : ℕ) → n ≤ k * 16384 → k * 16384 < n + 16384 → part_count n ≡ k
+count_is n k h j = omega arith
 
-pub of_apart : (numbers : List ℤ) (number one : ℤ) → is_of numbers number ≡ false → (is_of numbers one && same_number one number) ≡ false
-of_apart numbers number one new = and_false (is_of numbers one) (same_number one number) (λ e. ap (is_of numbers) (same_number_is one number e) ∙ new)
+pub parts_length : (xs : List ℕ) → length (parts_of xs) ≡ part_count (length xs)
+unfolding parts_of
+parts_length xs = first_parts_length 16384 (part_count (length xs)) xs
 
--- one number more
-pub numbers_more : {X : Type 0} (key : X → ℤ) (numbers : List ℤ) (number : ℤ) (all read part : List X) → is_of numbers number ≡ false →
-    IsPermutation (filter (λ x. is_of numbers (key x)) all) read → IsPermutation (filter (λ x. same_number (key x) number) all) part → IsPermutation (filter (λ x. is_of (numbers ++ number ∷ []) (key x)) all) (read ++ part)
-numbers_more key numbers number all read part new done next =
-    subst (λ xs. IsPermutation xs (read ++ part)) (sym (filter_alike (λ x. is_of (numbers ++ number ∷ []) (key x)) (λ x. is_of numbers (key x) || same_number (key x) number) (λ x. of_more numbers number (key x)) all))
-    (parts_together (λ x. is_of numbers (key x)) (λ x. same_number (key x) number) (λ x. of_apart numbers number (key x) new) all read part done next)
+pub parts_join : (xs : List ℕ) → concat (parts_of xs) ≡ xs
+unfolding parts_of
+parts_join xs = first_parts_join 16384 (part_count (length xs)) xs (count_above (length xs))
 
-pub editions_more : (numbers : List ℤ) (number : ℤ) (all read part : List spec.EditionRecord) → is_of numbers number ≡ false → IsPermutation (editions_of_numbers numbers all) read → IsPermutation (editions_numbered number all) part
-    → IsPermutation (editions_of_numbers (numbers ++ number ∷ []) all) (read ++ part)
-editions_more = numbers_more (λ (row : spec.EditionRecord). row.number)
+pub parts_regular : (xs : List ℕ) → AreParts (parts_of xs)
+unfolding parts_of
+parts_regular xs = first_parts_regular 16384 (part_count (length xs)) xs (count_above (length xs)) (count_below (length xs))
 
-pub entries_more : (numbers : List ℤ) (number : ℤ) (all read part : List spec.EntryRecord) → is_of numbers number ≡ false → IsPermutation (entries_of_numbers numbers all) read → IsPermutation (entries_of number all) part
-    → IsPermutation (entries_of_numbers (numbers ++ number ∷ []) all) (read ++ part)
-entries_more = numbers_more (λ (row : spec.EntryRecord). row.edition)
+pub parts_at : (xs : List ℕ) (i : ℕ) → i < length (parts_of xs) → get_or (parts_of xs) i [] ≡ take 16384 (drop (i * 16384) xs)
+unfolding parts_of
+parts_at xs i h = first_parts_at 16384 (part_count (length xs)) i xs (omega (arith, first_parts_length 16384 (part_count (length xs)) xs))
+
+pub parts_only : (ps : List (List ℕ)) → AreParts ps → ps ≡ parts_of (concat ps)
+unfolding parts_of
+parts_only ps h =
+    let bounds = joined_bounds 16384 ps (omega arith) h in
+    sym (first_parts_only 16384 ps h) ∙ ap (λ k. first_parts 16384 k (concat ps)) (sym (count_is (length (concat ps)) (length ps) bounds.0 bounds.1))
+
+-- where the part of a number lies in the octets
+pub full_part : (xs : List ℕ) (i : ℕ) → i < length xs / 16384 → (i < length (parts_of xs)) × (take (i * 16384 + 16384 - i * 16384) (drop (i * 16384) xs) ≡ get_or (parts_of xs) i [])
+full_part xs i h =
+    let within : i < length (parts_of xs) = omega (arith, parts_length xs) in
+    let size : i * 16384 + 16384 - i * 16384 ≡ 16384 = omega arith in
+    (within, ap (λ n. take n (drop (i * 16384) xs)) size ∙ sym (parts_at xs i within))
+
+pub last_part : (xs : List ℕ) (i : ℕ) → i * 16384 < length xs → length xs < i * 16384 + 16384 → (i < length (parts_of xs)) × (take (length xs - i * 16384) (drop (i * 16384) xs) ≡ get_or (parts_of xs) i [])
+last_part xs i h j =
+    let within : i < length (parts_of xs) = omega (arith, parts_length xs) in
+    let left : length (drop (i * 16384) xs) ≡ length xs - i * 16384 = length-drop (i * 16384) xs in
+    (within, take_all (length xs - i * 16384) (drop (i * 16384) xs) (omega (arith, left)) ∙ (sym (take_all 16384 (drop (i * 16384) xs) (omega (arith, left))) ∙ sym (parts_at xs i within)))

@@ -11,3 +11,9 @@ pub mod Order
 pub mod Apart
 pub mod After
 pub mod Worked
+pub mod Parts
+pub mod Joining
+pub mod Spelling
+pub mod Stored
+pub mod Views
+pub mod Appended

@@ -19,11 +19,11 @@ use Rattle.store_sql.specs.Reads.{by_columns}
 use Rattle.store_edition_sql.specs.Chosen.{is_of_file}
 use Rattle.store_edition_sql.specs.PartRecords.{part_columns, part_row, stored_part, owned_part}
 use Rattle.store_edition_sql.specs.declared.part_records.StoredPart.{StoredPart}
-use Rattle.store_parts.specs.Parts.{parts_of, AreOfSize, AreParts}
-use Rattle.store_parts.specs.Joining.{IsNext}
-use Rattle.store_parts.proofs.PartLemmas.{parts_join, parts_regular}
+use Rattle.store_rows.specs.Parts.{parts_of, AreOfSize, AreParts}
+use Rattle.store_rows.specs.Joining.{IsNext}
 use Rattle.store_rows.specs.Order.{InOrder}
 use Rattle.store_rows.specs.Written.{numbered}
+use Rattle.store_rows.proofs.PartLemmas.{parts_join, parts_regular}
 use Rattle.store_rows.proofs.OrderLemmas.{Below, all_passed, all_same, same_from, ordered_once, numbered_rise}
 use Rattle.store_holdings.specs.Files.{part_at, file_parts}
 use Rattle.store_holdings.proofs.ReadLemmas.{one_le}

@@ -7,13 +7,13 @@ use Rattle.std.proofs.lemmas.List.Elements.{filter-append}
 use Rattle.dict_text.proofs.AllLemmas.{all_append}
 use Rattle.store_records.specs.Records.{EntryRecord}
 use Rattle.dict_index.specs.Line.{Line}
-use Rattle.store_parts.specs.Stored.{IsStorable, stored_index, stored_line}
-use Rattle.store_parts.proofs.IndexLemmas.{goes_on, one_more, no_more}
+use Rattle.store_rows.specs.Stored.{IsStorable, stored_index, stored_line}
 use Rattle.store_rows.specs.Tables.{Tables, same_number, entries_of}
 use Rattle.store_rows.specs.Taken.{HasTaken, StandsForNone, with_entry, next_entry, IsOfLast}
 use Rattle.store_rows.specs.Whole.{with_entries}
 use Rattle.store_rows.specs.Written.{numbered, entry_record}
 use Rattle.store_rows.specs.declared.reader.Reader.{Reader}
+use Rattle.store_rows.proofs.IndexLemmas.{goes_on, one_more, no_more}
 use Rattle.store_rows.proofs.TakenLemmas.{same_itself}
 use Rattle.store_search.specs.Entries.{entry_of}
 use Rattle.store_scans.specs.Entries.{AreLinesTaken, AreNoLines, AreNextTaken, IsStoredIndexOf, IsWrongIndex, next_entries}

@@ -5,11 +5,11 @@ use Rattle.sqlite.specs.Order.{Row}
 use Rattle.sqlite.specs.Effect.{Database}
 use Rattle.store_records.specs.Records.{EditionRecord, EntryRecord}
 use Rattle.dict_index.specs.Line.{Line}
-use Rattle.store_parts.specs.Stored.{IsStorable, stored_index}
 use Rattle.store_sql.specs.Columns.{HasColumns}
 use Rattle.store_sql.specs.Effects.{rows_of, equals_number}
 use Rattle.store_sql.specs.Encodings.{entry_row}
 use Rattle.store_sql.specs.Reads.{IsSelection}
+use Rattle.store_rows.specs.Stored.{IsStorable, stored_index}
 use Rattle.store_rows.specs.Tables.{Tables, entries_of}
 use Rattle.store_rows.specs.Taken.{HasTaken, StandsForNone}
 use Rattle.store_rows.specs.Whole.{with_entries, AreOfLast}

@@ -6,7 +6,7 @@ use Rattle.store_sql.specs.Effects.{rows_of}
 use Rattle.store_edition_sql.specs.Chosen.{is_of_file}
 use Rattle.store_edition_sql.specs.PartRecords.{part_row}
 use Rattle.store_edition_sql.specs.declared.part_records.StoredPart.{StoredPart}
-use Rattle.store_parts.specs.Parts.{parts_of}
+use Rattle.store_rows.specs.Parts.{parts_of}
 use Rattle.store_rows.specs.Versions.{Parted}
 use Rattle.store_rows.specs.Written.{numbered}
 use Rattle.store_holdings.specs.Files.{file_parts}

@@ -1,13 +1,13 @@
 -- Nothing was taken: the laws of what takes records.
 use Rattle.std.proofs.Common.{ℕ, List, [], refl, sym, subst, append-nil}
 use Rattle.sqlite.specs.Order.{Row}
+use Rattle.store_rows.specs.Parts.{parts_of}
 use Rattle.store_rows.specs.Apart.{HasTakenIds, HasTakenRowids}
 use Rattle.store_rows.specs.Taken.{HasTaken}
 use Rattle.store_records.specs.Records as spec
 use Rattle.store_rows.specs.declared.reader.Reader.{Reader}
 use Rattle.store_rows.specs.declared.apart.IdReader.{IdReader}
 use Rattle.store_rows.specs.declared.apart.RowidReader.{RowidReader}
-use Rattle.store_parts.specs.Parts.{parts_of}
 use Rattle.store_edition_sql.specs.PartRecords.{stored_part}
 use Rattle.store_scans.specs.declared.census.Census.{Census}
 use Rattle.store_scans.specs.declared.census.PartCensus.{PartCensus}

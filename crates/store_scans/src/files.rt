@@ -16,8 +16,7 @@ use crate::scan::{Taker, take_all};
 use sqlite::{Alter, Connection};
 use std::alloc::Global;
 use store_edition_sql::{StoredPart, read_parts_of};
-use store_parts::{Joiner, Refused};
-use store_rows::{RowsFault, number_in};
+use store_rows::{Joiner, Refused, RowsFault, number_in};
 
 /// The file of an edition that its index is.
 pub const INDEX_FILE: i64 = 0;

@@ -2,7 +2,7 @@
 ghost use Rattle.std.specs.Prelude.{◌≡◌, ◌++◌, ℕ, pos, List, map, IfErr, OnOk};
 ghost use Rattle.std.specs.List.{AllByRecursion};
 ghost use Rattle.dict_index.specs.Line.{Line};
-ghost use Rattle.store_parts.specs.Stored.{IsStorable, stored_index};
+ghost use Rattle.store_rows.specs.Stored.{IsStorable, stored_index};
 ghost use Rattle.store_records.specs.Records.{EntryRecord as AnEntry};
 ghost use Rattle.store_scans.specs.Entries.{AreNextTaken, IsStoredIndexOf, IsWrongIndex};
 ghost use Rattle.store_scans.specs.IndexingReader.{AreLinesAdded};
@@ -10,8 +10,7 @@ ghost use Rattle.store_scans.specs.Indexing.{indexed_of};
 
 use crate::indexing_reader::IndexingReader;
 use std::alloc::Global;
-use store_parts::read_line;
-use store_rows::{RowsFault, number_in};
+use store_rows::{RowsFault, number_in, read_line};
 
 // Takes the lines of the edition that was taken last, and adds their entries to the index in memory.
 fn read_lines(alloc: Global, octets: &[u8], reader: &mut IndexingReader) -> Result<(), RowsFault>

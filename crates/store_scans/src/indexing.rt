@@ -3,7 +3,7 @@ ghost use Rattle.std.specs.Prelude.{◌≡◌, ◌++◌, ◌∷◌, [], IfErr, O
 ghost use Rattle.dict_match.specs.Key.{key_of};
 ghost use Rattle.store_records.specs.Records.{shown_as};
 ghost use Rattle.store_records.specs.Typed.{owned_entry};
-ghost use Rattle.store_parts.specs.Views.{columns_line};
+ghost use Rattle.store_rows.specs.Views.{columns_line};
 ghost use Rattle.store_search.specs.Entries.{entry_of};
 ghost use Rattle.store_holdings.specs.Files.{natural};
 ghost use Rattle.store_scans.specs.Indexing.{indexed_of};
@@ -11,9 +11,8 @@ ghost use Rattle.store_scans.specs.Indexing.{indexed_of};
 use dict_index::MAX_LINES;
 use std::alloc::Global;
 use std::marker::Model;
-use store_parts::StoredColumns;
 use store_records::EntryRecord;
-use store_rows::RowsFault;
+use store_rows::{RowsFault, StoredColumns};
 use store_search::{IndexBuilder, IndexMaking};
 
 /// The index of those entries of an edition that were taken so far. It has no more of them than an index of a dictionary has lines.

@@ -1,6 +1,6 @@
 use Rattle.std.proofs.Common.{sym}
 use Rattle.sqlite_trees.proofs.ListLemmas.{all-slice_get}
-use Rattle.store_parts.specs.Stored.{IsStorable}
+use Rattle.store_rows.specs.Stored.{IsStorable}
 use Rattle.dict_reading.specs.Views.{line_read}
 use Rattle.store_commands.proofs.install.write_entry.Goals as goal
 

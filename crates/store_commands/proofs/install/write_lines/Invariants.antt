@@ -1,6 +1,6 @@
 -- the lines so far
 use Rattle.std.proofs.Common.{◌≡◌, take}
-use Rattle.store_parts.specs.Stored.{stored_index}
+use Rattle.store_rows.specs.Stored.{stored_index}
 use Rattle.store_commands.proofs.install.write_lines.Given as goal
 
 abbrev pub invariant-loop-place : goal.invariant-loop-place

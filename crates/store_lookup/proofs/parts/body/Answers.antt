@@ -2,7 +2,7 @@ use Rattle.std.proofs.Common.{◌≡◌, ◌+◌, ◌-◌, ◌++◌, inl, ℕ, d
 use Rattle.sqlite.specs.Held.{state}
 use Rattle.store_sql.specs.Effects.{Has}
 use Rattle.store_edition_sql.specs.PartTable.{part as part_table}
-use Rattle.store_parts.proofs.IntervalLemmas.{cut_further}
+use Rattle.store_rows.proofs.IntervalLemmas.{cut_further}
 use Rattle.dict_desk.specs.declared.fault.Fault.{Fault}
 use Rattle.store_lookup.specs.Texts.{FailsToFind}
 use Rattle.store_lookup.proofs.AskLemmas.{asks_none, asks_then, fails_then, has_still, memory_fails, open_still, same_then}

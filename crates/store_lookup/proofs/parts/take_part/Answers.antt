@@ -4,7 +4,7 @@ use Rattle.std.specs.Map.{lookup}
 use Rattle.std.specs.declared.alloc.Global.{Global}
 use Rattle.sqlite.specs.Held.{state}
 use Rattle.sqlite.specs.State.{IsUnchanged}
-use Rattle.store_parts.specs.Parts.{parts_of}
+use Rattle.store_rows.specs.Parts.{parts_of}
 use Rattle.store_holdings.specs.Texts.{HoldsText}
 use Rattle.store_lookup.specs.KeptTexts.{same_key}
 use Rattle.store_lookup.specs.Texts.{IsAtMostRead}

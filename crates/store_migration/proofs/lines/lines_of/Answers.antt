@@ -1,6 +1,6 @@
 use Rattle.std.proofs.Common.{◌∙◌, ◌++◌, ◌∷◌, [], map, ap, sym, subst}
 use Rattle.store_records.specs.Records.{EntryRecord}
-use Rattle.store_parts.specs.Stored.{stored_line}
+use Rattle.store_rows.specs.Stored.{stored_line}
 use Rattle.store_holdings.specs.Files.{entry_line}
 use Rattle.store_sql.proofs.StreamLemmas.{passed_on}
 use Rattle.store_migration.specs.MigrationParts.{FailsToWriteIndex}

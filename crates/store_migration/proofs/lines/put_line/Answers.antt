@@ -3,7 +3,7 @@ use Rattle.std.proofs.lemmas.Int.{to_z-of_z}
 use mir.Syntax.{w64}
 use mir.Val.{SFits}
 use Rattle.dict_index.specs.Line.{Line}
-use Rattle.store_parts.specs.Stored.{stored_line}
+use Rattle.store_rows.specs.Stored.{stored_line}
 use Rattle.store_migration.specs.Steps.{HasLine}
 use Rattle.store_migration.specs.Written.{said_of}
 use Rattle.store_migration.proofs.LineLemmas.{cast_said, cast_storable, short_cast, some_entry}

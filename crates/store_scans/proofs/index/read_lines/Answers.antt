@@ -1,8 +1,8 @@
 use Rattle.std.proofs.Common.{◌≡◌, ◌++◌, ◌∷◌, [], length, refl, ap, ◌∙◌, append-nil, rules}
 use Rattle.std.specs.Prelude.{◌≢◌}
 use Rattle.dict_text.proofs.AllLemmas.{all_append}
-use Rattle.store_parts.specs.Stored.{IsStorable, stored_index, stored_line}
-use Rattle.store_parts.specs.Views.{columns_line}
+use Rattle.store_rows.specs.Stored.{IsStorable, stored_index, stored_line}
+use Rattle.store_rows.specs.Views.{columns_line}
 use Rattle.store_rows.specs.declared.fault.RowsFault.{RowsFault}
 use Rattle.store_rows.specs.declared.fault.RowsFault.TheVariants.{Damaged}
 use Rattle.store_sql.proofs.StreamLemmas.{passed_on}

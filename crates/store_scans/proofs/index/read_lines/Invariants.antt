@@ -1,7 +1,7 @@
 use Rattle.std.proofs.Common.{◌≡◌, ◌++◌, List, length}
 use Rattle.std.specs.List.{AllByRecursion}
 use Rattle.dict_index.specs.Line.{Line}
-use Rattle.store_parts.specs.Stored.{IsStorable, stored_index}
+use Rattle.store_rows.specs.Stored.{IsStorable, stored_index}
 use Rattle.store_scans.specs.IndexingReader.{AreLinesAdded}
 use Rattle.store_scans.proofs.index.read_lines.Given as goal
 

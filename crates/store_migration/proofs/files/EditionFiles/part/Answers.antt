@@ -3,7 +3,7 @@ use Rattle.std.proofs.lemmas.Int.{to_z-of_z}
 use mir.Syntax.{w64}
 use mir.Val.{SFits}
 use Rattle.store_holdings.specs.Files.{part_at, parts_under}
-use Rattle.store_parts.specs.Parts.{parts_of}
+use Rattle.store_rows.specs.Parts.{parts_of}
 use Rattle.store_edition_sql.specs.PartRecords.{lent_part}
 use Rattle.store_holdings.proofs.FilePlaceLemmas.{both_length, first_at, second_at}
 use Rattle.store_migration.proofs.files.EditionFiles.part.Goals as goal

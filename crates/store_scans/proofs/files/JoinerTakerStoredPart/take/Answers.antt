@@ -1,6 +1,6 @@
 use Rattle.std.proofs.Common.{◌≡◌, pos, ◌++◌, ◌∷◌, [], sym, subst, ◌∙◌}
-use Rattle.store_parts.specs.Parts.{parts_of}
-use Rattle.store_parts.specs.Joining.{IsNext, MayRefusePart}
+use Rattle.store_rows.specs.Parts.{parts_of}
+use Rattle.store_rows.specs.Joining.{IsNext, MayRefusePart}
 use Rattle.store_scans.proofs.FileLemmas.{parts_next, parts_refused}
 use Rattle.store_scans.proofs.files.JoinerTakerStoredPart.take.Goals as goal
 

@@ -1,6 +1,6 @@
 use Rattle.std.proofs.Common.{◌≡◌, [], ◌∷◌}
 use Rattle.std.proofs.lemmas.Result.{on_ok_weaker}
-use Rattle.store_parts.specs.Views.{columns_line}
+use Rattle.store_rows.specs.Views.{columns_line}
 use Rattle.store_rows.specs.declared.fault.RowsFault.{RowsFault}
 use Rattle.store_rows.specs.declared.fault.RowsFault.TheVariants.{Damaged}
 use Rattle.store_sql.proofs.StreamLemmas.{passed_on}
