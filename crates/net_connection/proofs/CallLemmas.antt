@@ -1,7 +1,7 @@
 -- Calls, one after the other.
 use Rattle.std.proofs.Common.{◌≡◌, ◌∙◌, List, [], ◌++◌, sym, ap, append_assoc, append-nil}
 use Rattle.std.specs.Prelude.{Option, Some, None}
-use Rattle.net_connection.specs.OutletCalls.{Call, MakesCalls}
+use Rattle.net_outlet.specs.OutletCalls.{Call, MakesCalls}
 
 -- none was made
 pub makes_none : (a : Option (List Call)) → MakesCalls a a []

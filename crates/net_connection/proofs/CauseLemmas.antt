@@ -4,7 +4,7 @@ use Rattle.dict_proto.specs.Streams.{Stream, StreamChange}
 use Rattle.dict_session.specs.Desks.{Condition}
 use Rattle.net_hub.specs.Events.{is_of_editor}
 use Rattle.net_hub.specs.Runs.{Accepted}
-use Rattle.net_connection.specs.declared.queue.Queue.{Queue}
+use Rattle.net_outlet.specs.declared.queue.Queue.{Queue}
 use Rattle.net_connection.specs.Causes.{CountOn, StandAt, AreCaused, AreCausedBy}
 use Rattle.net_connection.specs.declared.connection.Connection.{Connection}
 

@@ -8,11 +8,11 @@ use Rattle.net_hub.specs.Runs.{Accepted, State, IsAt}
 use Rattle.net_hub.specs.declared.fault.HubFault.{HubFault}
 use Rattle.net_hub.specs.declared.hub.Hub.{Hub}
 use Rattle.net_hub.specs.declared.kind.Kind.{Kind}
-use Rattle.net_connection.specs.OutletCalls.{Call, MakesCalls, receives}
-use Rattle.net_connection.specs.Outlets.{FailsOnlyStuck, PassesOctets}
-use Rattle.net_connection.specs.Queues.{waiting}
-use Rattle.net_connection.specs.declared.calls.Received.TheVariants as receiveds
-use Rattle.net_connection.proofs.OutletLemmas.{passes_none}
+use Rattle.net_outlet.specs.OutletCalls.{Call, MakesCalls, receives}
+use Rattle.net_outlet.specs.Outlets.{FailsOnlyStuck, PassesOctets}
+use Rattle.net_outlet.specs.Queues.{waiting}
+use Rattle.net_outlet.specs.declared.calls.Received.TheVariants as receiveds
+use Rattle.net_connection.proofs.PassLemmas.{passes_none}
 use Rattle.net_connection.specs.Events.{AreEventsOf}
 use Rattle.net_connection.specs.Handing.{held_in}
 use Rattle.net_connection.specs.Leading.{HasLedOn}

@@ -1,5 +1,5 @@
 pub mod CallLemmas
-pub mod OutletLemmas
+pub mod PassLemmas
 pub mod EventLemmas
 pub mod LeadLemmas
 pub mod OrderLemmas

@@ -1,13 +1,13 @@
 -- Why calls of a queue failed, with calls of the transport before it.
 use Rattle.std.proofs.Common.{◌≡◌, ◌≢◌, ◌∙◌, ℕ, Bool, true, false, List, ◌++◌, refl, subst, append_assoc}
 use Rattle.std.specs.Prelude.{Option, Some, None}
-use Rattle.net_connection.specs.OutletCalls.{Call, MakesCalls}
-use Rattle.net_connection.specs.Outlets.{FailsOnlyStuck, IsStuck}
-use Rattle.net_connection.specs.Queues.{counts_of}
-use Rattle.net_connection.specs.declared.calls.Received.{Received}
-use Rattle.net_connection.specs.declared.calls.Sent.{Sent}
-use Rattle.net_connection.specs.declared.calls.Sent.TheVariants as sents
-use Rattle.net_connection.specs.declared.queue.Queue.{Queue}
+use Rattle.net_outlet.specs.OutletCalls.{Call, MakesCalls}
+use Rattle.net_outlet.specs.Outlets.{FailsOnlyStuck, IsStuck}
+use Rattle.net_outlet.specs.Queues.{counts_of}
+use Rattle.net_outlet.specs.declared.calls.Received.{Received}
+use Rattle.net_outlet.specs.declared.calls.Sent.{Sent}
+use Rattle.net_outlet.specs.declared.calls.Sent.TheVariants as sents
+use Rattle.net_outlet.specs.declared.queue.Queue.{Queue}
 use Rattle.net_connection.specs.Calls.{calls_behind, calls_of_turn, reading_calls, sendings}
 
 none_known : {P : Type 0} (before : List Call) → None ≡ Some before → P

@@ -23,16 +23,16 @@ use Rattle.dict_proto.specs.Meaning.{Meaning}
 use Rattle.dict_session.specs.Answers.{answer_to}
 use Rattle.dict_session.specs.Desks.{Condition}
 use Rattle.dict_session.specs.Lines.{cut}
-use Rattle.net_connection.specs.Queues.{waiting, queue_stream}
+use Rattle.net_outlet.specs.Queues.{waiting, queue_stream}
 use Rattle.net_connection.specs.Events.{AreEventsOf, piece_of, pieces_of}
 use Rattle.net_connection.specs.Ordering.{IsOnly}
 use Rattle.net_connection.specs.Leading.{HasLedOn}
 use Rattle.net_connection.specs.Telling.{CountsNone, IsAnswered, IsTold, IsToldThrough, MayRefuse}
-use Rattle.net_connection.specs.OutletCalls.{Call}
-use Rattle.net_connection.specs.Outlets.{FailsOnlyStuck, HasTakenOctets, MakesSendings, PassesOctets, carried, stream_through}
-use Rattle.net_connection.specs.declared.trail.Trail.{Trail}
-use Rattle.net_connection.proofs.OutletLemmas.{kept_as, passes_none, sendings_of, taken_as}
-use Rattle.net_connection.specs.declared.queue.Queue.{Queue}
+use Rattle.net_outlet.specs.OutletCalls.{Call}
+use Rattle.net_outlet.specs.Outlets.{FailsOnlyStuck, HasTakenOctets, MakesSendings, PassesOctets, carried, stream_through}
+use Rattle.net_outlet.specs.declared.trail.Trail.{Trail}
+use Rattle.net_connection.proofs.PassLemmas.{kept_as, passes_none, sendings_of, taken_as}
+use Rattle.net_outlet.specs.declared.queue.Queue.{Queue}
 use Rattle.net_connection.proofs.StuckLemmas.{stuck_none}
 
 -- known octets have grown at their end

@@ -14,30 +14,30 @@ use Rattle.net_hub.specs.Events.{Happening, came, ended, is_of_editor}
 use Rattle.net_hub.specs.Runs.{Accepted}
 use Rattle.net_hub.specs.declared.incoming.Out.{Out}
 use Rattle.net_hub.specs.declared.incoming.Out.TheVariants as outs
-use Rattle.net_connection.specs.Queues.{waiting, is_clear, Sends}
+use Rattle.net_outlet.specs.Queues.{waiting, is_clear, Sends}
 use Rattle.net_connection.specs.Stages.{is_open, is_finishing, stage_answered, parted}
-use Rattle.net_connection.specs.OutletCalls.{Call, MakesCalls, sends, receives, sent_by, received_by, received_by_kind, has_come, sending_failed, has_moved, count_received}
+use Rattle.net_outlet.specs.OutletCalls.{Call, MakesCalls, sends, receives, sent_by, received_by, received_by_kind, has_come, sending_failed, has_moved, count_received}
 use Rattle.net_connection.specs.Calls.{calls_behind, sendings, reading_calls, endings, is_dropped, calls_of_turn, has_departed, has_turned}
 use Rattle.net_connection.specs.Events.{ArePut, AreEventsOf, piece_of, pieces_of}
 use Rattle.net_connection.specs.Handing.{held_in, is_handed}
 use Rattle.net_connection.specs.Pieces.{next_piece, behind_piece}
 use Rattle.net_connection.specs.declared.held.Held.{Held}
 use Rattle.net_hub.specs.declared.kind.Kind.{Kind}
-use Rattle.net_connection.specs.Outlets.{FailsOnlyStuck, PassesOctets, is_sending}
+use Rattle.net_outlet.specs.Outlets.{FailsOnlyStuck, PassesOctets, is_sending}
 use Rattle.net_connection.specs.Telling.{IsAnswered, IsTold, IsToldThrough}
 use Rattle.net_connection.specs.Turns.{BringAllOrNone, HandsToHub, HandsOver, LeadsByAnswer, LeadsByEnd, LeadsByPiece, LeadsByReading, LeadsByTurn, LeadsFurther, may_read, SendsOnce, ReadsOnce, Turns, TellsClosedPeer}
 use Rattle.net_connection.specs.Turns.{Drains, LeadsOut, LeadsAway, Departs, stage_between, stage_drained, dropped_after, marked_after}
 use Rattle.net_connection.specs.declared.connection.Connection.{Connection}
-use Rattle.net_connection.specs.declared.calls.Sent.{Sent}
-use Rattle.net_connection.specs.declared.calls.Sent.TheVariants as sents
-use Rattle.net_connection.specs.declared.calls.Received.{Received}
-use Rattle.net_connection.specs.declared.calls.Received.TheVariants as receiveds
+use Rattle.net_outlet.specs.declared.calls.Sent.{Sent}
+use Rattle.net_outlet.specs.declared.calls.Sent.TheVariants as sents
+use Rattle.net_outlet.specs.declared.calls.Received.{Received}
+use Rattle.net_outlet.specs.declared.calls.Received.TheVariants as receiveds
 use Rattle.net_connection.specs.declared.stage.Stage.{Stage}
 use Rattle.net_connection.specs.declared.stage.Stage.TheVariants as stages
 use Rattle.net_connection.specs.Ordering.{IsOnly}
 use Rattle.net_connection.proofs.CallLemmas.{makes_none, makes_joined}
 use Rattle.net_connection.proofs.EventLemmas.{put_joined}
-use Rattle.net_connection.proofs.OutletLemmas.{passes_none}
+use Rattle.net_connection.proofs.PassLemmas.{passes_none}
 use Rattle.net_connection.proofs.OrderLemmas.{only_turn}
 use Rattle.net_connection.proofs.PieceLemmas.{none_held, piece_and_rest}
 use Rattle.net_connection.proofs.StuckLemmas.{stuck_behind, stuck_from, stuck_none, stuck_turned}

@@ -1,9 +1,9 @@
 -- Which calls of its transport a turn makes.
 use Rattle.std.specs.Prelude.{Bool, true, false, List, [], ◌∷◌, ◌++◌, ◌||◌, Option, None, Some}
-use Rattle.net_connection.specs.OutletCalls.{Call, sends, receives, ends, has_moved}
-use Rattle.net_connection.specs.declared.calls.Sent.{Sent}
-use Rattle.net_connection.specs.declared.calls.Sent.TheVariants as sents
-use Rattle.net_connection.specs.declared.calls.Received.{Received}
+use Rattle.net_outlet.specs.OutletCalls.{Call, sends, receives, ends, has_moved}
+use Rattle.net_outlet.specs.declared.calls.Sent.{Sent}
+use Rattle.net_outlet.specs.declared.calls.Sent.TheVariants as sents
+use Rattle.net_outlet.specs.declared.calls.Received.{Received}
 use Rattle.net_connection.specs.declared.stage.Stage.{Stage}
 use Rattle.net_connection.specs.declared.stage.Stage.TheVariants as stages
 

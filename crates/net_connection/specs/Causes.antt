@@ -8,7 +8,7 @@ use Rattle.net_hub.specs.Runs.{Accepted}
 use Rattle.net_hub.specs.declared.fault.HubFault.{HubFault}
 use Rattle.net_hub.specs.declared.hub.Hub.{Hub}
 use Rattle.net_hub.specs.declared.kind.Kind.{Kind}
-use Rattle.net_connection.specs.declared.queue.Queue.{Queue}
+use Rattle.net_outlet.specs.declared.queue.Queue.{Queue}
 use Rattle.net_connection.specs.Telling.{MayRefuse}
 use Rattle.net_connection.specs.declared.connection.Connection.{Connection}
 

@@ -1,6 +1,3 @@
-pub mod OutletCalls
-pub mod Queues
-pub mod Outlets
 pub mod Calls
 pub mod Stages
 pub mod Events

@@ -9,7 +9,7 @@ use Rattle.net_hub.specs.declared.incoming.Out.{Out}
 use Rattle.net_hub.specs.declared.fault.HubFault.{HubFault}
 use Rattle.net_hub.specs.declared.hub.Hub.{Hub}
 use Rattle.net_hub.specs.declared.kind.Kind.{Kind}
-use Rattle.net_connection.specs.declared.queue.Queue.{Queue}
+use Rattle.net_outlet.specs.declared.queue.Queue.{Queue}
 use Rattle.net_connection.specs.Telling.{IsTold}
 
 -- The event of the opening alone, by which the hub has the connection, with nothing that came, unless it is closed; or the hub refused it,

@@ -4,8 +4,8 @@ use Rattle.net_hub.specs.declared.incoming.Out.{Out}
 use Rattle.net_hub.specs.declared.incoming.Out.TheVariants as outs
 use Rattle.net_connection.specs.declared.stage.Stage.{Stage}
 use Rattle.net_connection.specs.declared.stage.Stage.TheVariants.{Open, Closing, Parting, Draining, Over}
-use Rattle.net_connection.specs.declared.calls.Received.{Received}
-use Rattle.net_connection.specs.declared.calls.Received.TheVariants.{Nothing, Interrupted, Octets, End, Failed}
+use Rattle.net_outlet.specs.declared.calls.Received.{Received}
+use Rattle.net_outlet.specs.declared.calls.Received.TheVariants.{Nothing, Interrupted, Octets, End, Failed}
 
 -- what comes on it goes to the hub
 abbrev pub is_open : Stage → Bool

@@ -8,11 +8,11 @@ use Rattle.net_hub.specs.declared.fault.HubFault.TheVariants.{Memory}
 use Rattle.net_hub.specs.declared.hub.Hub.{Hub}
 use Rattle.net_hub.specs.Runs.{Accepted}
 use Rattle.net_hub.specs.declared.incoming.Out.{Out}
-use Rattle.net_connection.specs.OutletCalls.{Call}
-use Rattle.net_connection.specs.Outlets.{FailsOnlyStuck, PassesOctets}
-use Rattle.net_connection.specs.Queues.{waiting}
+use Rattle.net_outlet.specs.OutletCalls.{Call}
+use Rattle.net_outlet.specs.Outlets.{FailsOnlyStuck, PassesOctets}
+use Rattle.net_outlet.specs.Queues.{waiting}
 use Rattle.net_connection.specs.Events.{ArePut}
-use Rattle.net_connection.specs.declared.queue.Queue.{Queue}
+use Rattle.net_outlet.specs.declared.queue.Queue.{Queue}
 
 -- the hub may refuse octets of this connection by this fault: it has none of its id, or an editor's, whose octets take memory, and memory
 -- is wanting

@@ -8,10 +8,10 @@ use Rattle.net_hub.specs.Holding.{left_by}
 use Rattle.net_hub.specs.Hubs.{HasHolding}
 use Rattle.net_hub.specs.Runs.{Accepted}
 use Rattle.net_hub.specs.declared.kind.Kind.{Kind}
-use Rattle.net_connection.specs.Outlets.{FailsOnlyStuck, PassesOctets, is_sending}
-use Rattle.net_connection.specs.Queues.{waiting, is_clear, counts_of}
+use Rattle.net_outlet.specs.Outlets.{FailsOnlyStuck, PassesOctets, is_sending}
+use Rattle.net_outlet.specs.Queues.{waiting, is_clear, counts_of}
 use Rattle.net_connection.specs.Stages.{is_open, is_finishing, stage_of_new, stage_answered, parted, stage_finished, drained}
-use Rattle.net_connection.specs.OutletCalls.{Call, sends, MakesCalls, count_received, has_come}
+use Rattle.net_outlet.specs.OutletCalls.{Call, sends, MakesCalls, count_received, has_come}
 use Rattle.net_connection.specs.Calls.{calls_behind, sendings, endings, reading_calls, is_dropped, calls_of_turn, has_departed, has_turned}
 use Rattle.net_connection.specs.Events.{ArePut, AreEventsOf, pieces_of}
 use Rattle.net_connection.specs.Handing.{held_in, is_handed}
@@ -20,10 +20,10 @@ use Rattle.net_connection.specs.Ordering.{AreOfTurns, IsOnly}
 use Rattle.net_connection.specs.Causes.{CountOn}
 use Rattle.net_hub.specs.declared.hub.Hub.{Hub}
 use Rattle.net_connection.specs.declared.connection.Connection.{Connection}
-use Rattle.net_connection.specs.declared.calls.Sent.{Sent}
-use Rattle.net_connection.specs.declared.calls.Sent.TheVariants as sents
-use Rattle.net_connection.specs.declared.calls.Received.{Received}
-use Rattle.net_connection.specs.declared.calls.Received.TheVariants as receiveds
+use Rattle.net_outlet.specs.declared.calls.Sent.{Sent}
+use Rattle.net_outlet.specs.declared.calls.Sent.TheVariants as sents
+use Rattle.net_outlet.specs.declared.calls.Received.{Received}
+use Rattle.net_outlet.specs.declared.calls.Received.TheVariants as receiveds
 use Rattle.net_connection.specs.declared.stage.Stage.{Stage}
 use Rattle.net_connection.specs.declared.stage.Stage.TheVariants as stages
 

@@ -6,18 +6,16 @@ ghost use Rattle.net_connection.specs.Leading.{HasLedOn};
 ghost use Rattle.net_hub.specs.Events.{came, ended, is_of_editor};
 ghost use Rattle.net_hub.specs.Runs.{IsAt, State};
 ghost use Rattle.dict_catalogue.specs.Steps.{Catalogue};
-ghost use Rattle.net_connection.specs.OutletCalls.{MakesCalls, receives, count_received};
+ghost use Rattle.net_outlet.specs.OutletCalls.{MakesCalls, receives, count_received};
 ghost use Rattle.net_connection.specs.Stages.{is_open, parted, stage_of_new};
 
-use crate::calls::{Received, Sent, has_moved, received_by, sent_by};
 use crate::delivering::{deliver, deliver_through};
 use crate::held::{Held, PIECE};
 use crate::opening::Opening;
-use crate::queue::Queue;
 use crate::stage::{Stage, answered, drained, has_departed, parted, stage_of_new, told};
-use crate::transport::Transport;
 use dict_desk::Preparer;
 use net_hub::{Event, Hub, Kind};
+use net_outlet::{Queue, Received, Sent, Transport, has_moved, received_by, sent_by};
 use std::alloc::Global;
 
 // The most octets that are dropped of a connection once all is sent: the largest body of a request and 1 MiB.
@@ -39,7 +37,7 @@ pub struct Connection<T: Transport> {
 }
 
 impl<T: Transport> Connection<T> {
-    ghost use Rattle.net_connection.specs.Queues.{waiting, is_clear};
+    ghost use Rattle.net_outlet.specs.Queues.{waiting, is_clear};
     ghost use Rattle.std.specs.Prelude.{◌+◌, ◌-◌, ◌^◌, min};
     ghost use Rattle.net_connection.specs.Handing.{held_for, held_in, is_held_back};
     ghost use Rattle.net_connection.specs.Causes.{AreCausedBy, IsRefused};

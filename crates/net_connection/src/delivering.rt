@@ -2,18 +2,16 @@
 ghost use Rattle.std.specs.Prelude.{◌≡◌, true, false, IfErr, Some};
 ghost use Rattle.dict_session.specs.Desks.{condition};
 ghost use Rattle.net_hub.specs.Events.{asks_desk, came, happening, id_of};
-ghost use Rattle.net_connection.specs.Queues.{counts_of};
+ghost use Rattle.net_outlet.specs.Queues.{counts_of};
 ghost use Rattle.net_connection.specs.Causes.{AreCaused};
 ghost use Rattle.net_connection.specs.Leading.{HasLedOn};
 ghost use Rattle.net_connection.specs.Quiet.{StaysIfQuiet};
 ghost use Rattle.net_connection.specs.Telling.{IsTold, IsToldThrough, KeepsOthers, MayRefuse, answer_of};
 
 use crate::opening::Opening;
-use crate::outlet::{Beginning, Outlet};
-use crate::queue::Queue;
-use crate::transport::Transport;
 use dict_desk::Preparer;
 use net_hub::{Event, Hub, HubFault, Kind, Out};
+use net_outlet::{Beginning, Outlet, Queue, Transport};
 use std::marker::Brand;
 use std::mem;
 

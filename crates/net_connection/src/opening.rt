@@ -15,10 +15,10 @@ ghost use Rattle.net_hub.specs.declared.fault.HubFault.{HubFault};
 ghost use Rattle.net_hub.specs.declared.hub.Hub.{Hub};
 ghost use Rattle.net_hub.specs.declared.kind.Kind.{Kind};
 
-use crate::queue::Queue;
 use dict_desk::Preparer;
 use dict_proto::Sink;
 use net_hub::{Event, Hub, HubFault, Kind, Out};
+use net_outlet::Queue;
 use std::alloc::{AllocError, Global};
 
 /// What takes memory where a connection is opened, and where octets come on it: room for what is read of it, its place in the

@@ -3,8 +3,8 @@ ghost use Rattle.std.specs.Prelude.{◌≡◌};
 ghost use Rattle.net_connection.specs.Calls.{has_departed};
 ghost use Rattle.net_connection.specs.Stages.{stage_answered, drained, stage_finished, parted, stage_of_new};
 
-use crate::calls::{Received, Sent};
 use net_hub::Out;
+use net_outlet::{Received, Sent};
 
 /// How far a connection has come.
 #[derive(Clone, Copy, Debug, PartialEq, Eq)]

@@ -9,7 +9,7 @@ use Rattle.net_hub.specs.declared.fault.HubFault.{HubFault}
 use Rattle.net_hub.specs.declared.hub.Hub.{Hub}
 use Rattle.net_hub.specs.declared.kind.Kind.{Kind}
 use Rattle.net_hub.specs.declared.kind.Kind.TheVariants.{Dict, Http}
-use Rattle.net_connection.specs.declared.transport.Transport as transport
+use Rattle.net_outlet.specs.declared.transport.Transport as transport
 use Rattle.net_driver.specs.Accepting.{Accepts, AcceptsOne, AcceptsUpTo, HasAccepted, HasAsked, Takes}
 use Rattle.net_driver.specs.Asking.{Asking, Asks, accepts, watches}
 use Rattle.net_driver.specs.Listening.{is_ready, listening_by, may_accept}

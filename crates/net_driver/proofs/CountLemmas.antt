@@ -6,7 +6,7 @@ use Rattle.net_hub.specs.Runs.{Accepted}
 use Rattle.net_hub.specs.declared.fault.HubFault.{HubFault}
 use Rattle.net_hub.specs.declared.hub.Hub.{Hub}
 use Rattle.net_hub.specs.declared.kind.Kind.{Kind}
-use Rattle.net_connection.specs.declared.transport.Transport as transport
+use Rattle.net_outlet.specs.declared.transport.Transport as transport
 use Rattle.net_driver.specs.Accepting.{Accepts, AcceptsOne, AcceptsUpTo, Takes, TakesBy}
 use Rattle.net_driver.specs.Asking.{Asking, accept_count, accepts, looks, watches}
 use Rattle.net_driver.specs.Listening.{is_ready}

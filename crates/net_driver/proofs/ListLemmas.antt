@@ -8,7 +8,7 @@ use Rattle.std.proofs.lemmas.Grind.{get_or-set_at}
 use Rattle.std.proofs.lemmas.List.Elements.{All-push}
 use Rattle.std.proofs.lemmas.List.Quantifiers.{all_pairs_push}
 use Rattle.std.proofs.lemmas.List.Edits.{get_or-remove_below, get_or-remove_above, length-remove}
-use Rattle.net_connection.specs.Queues.{waiting}
+use Rattle.net_outlet.specs.Queues.{waiting}
 use Rattle.net_driver.specs.Rounds.{WaitsAmong, connections_fitting, room_of}
 use Rattle.net_driver.specs.Turning.{MarkAll, any}
 use Rattle.net_connection.specs.Turns.{HasNothingToDo}

@@ -1,7 +1,7 @@
 -- What a look at the sockets leaves of what waits for the connections.
 use Rattle.std.proofs.Common.{◌≡◌, ◌==◌, ◌<◌, ℕ, zero, suc, Bool, true, false, List, [], ◌∷◌, length, get_or, take, refl, sym, ap, ◌∙◌, arith}
 use Rattle.std.specs.Prelude.{Option, Result, ◌||◌}
-use Rattle.net_connection.specs.declared.transport.Transport as transport
+use Rattle.net_outlet.specs.declared.transport.Transport as transport
 use Rattle.net_driver.specs.Asking.{Asking}
 use Rattle.net_connection.specs.Turns.{marked}
 use Rattle.net_driver.specs.Turning.{MarkAll}

@@ -14,10 +14,10 @@ use Rattle.net_hub.specs.Holding.{Holding}
 use Rattle.net_hub.specs.Hubs.{HasHolding}
 use Rattle.net_hub.specs.Runs.{Accepted, events_of}
 use Rattle.net_hub.specs.declared.hub.Hub.{Hub}
-use Rattle.net_connection.specs.Queues.{waiting}
+use Rattle.net_outlet.specs.Queues.{waiting}
 use Rattle.net_connection.specs.Stages.{is_departing, is_held, is_open}
 use Rattle.net_connection.specs.Events.{AreEventsOf}
-use Rattle.net_connection.specs.OutletCalls.{Call}
+use Rattle.net_outlet.specs.OutletCalls.{Call}
 use Rattle.net_connection.specs.Ordering.{AreOfTurns}
 use Rattle.net_connection.specs.Quiet.{StaysForReader}
 use Rattle.net_driver.specs.Ordering.{ComeById}
@@ -30,14 +30,14 @@ use Rattle.net_connection.specs.Handing.{are_told, held_for, held_in, is_handed}
 use Rattle.net_connection.specs.Telling.{KeepsOthers}
 use Rattle.net_connection.specs.Turns.{Departs, IsOpened, LeadsByAnswer, LeadsByPiece, LeadsByReading, LeadsByTurn, LeadsFurther, Turns}
 use Rattle.net_driver.specs.Turning.{DepartAll, KeepsAllBut, MarkAll, TurnAll, any, first_at, first_of, first_since, is_other}
-use Rattle.net_connection.specs.declared.calls.Received.{Received}
-use Rattle.net_connection.specs.declared.calls.Received.TheVariants as receiveds
-use Rattle.net_connection.specs.declared.calls.Sent.{Sent}
-use Rattle.net_connection.specs.declared.calls.Sent.TheVariants as sents
+use Rattle.net_outlet.specs.declared.calls.Received.{Received}
+use Rattle.net_outlet.specs.declared.calls.Received.TheVariants as receiveds
+use Rattle.net_outlet.specs.declared.calls.Sent.{Sent}
+use Rattle.net_outlet.specs.declared.calls.Sent.TheVariants as sents
 use Rattle.net_driver.specs.Rounds.{WaitsAmong, Waits, Flows, HasWaited, Moves, TurnEach, latest}
 use Rattle.net_connection.specs.declared.connection.Connection.{Connection}
 use Rattle.net_driver.specs.declared.connections.Connections.{Connections}
-use Rattle.net_connection.specs.declared.transport.Transport.{Ghosts}
+use Rattle.net_outlet.specs.declared.transport.Transport.{Ghosts}
 use Rattle.net_connection.proofs.EventLemmas.{put_joined, events_joined, own_all, own_none}
 use Rattle.net_driver.proofs.BoolLemmas.{any_more, front_move, last_move}
 use Rattle.net_connection.proofs.CommandLemmas.{no_commands_over}

@@ -8,8 +8,8 @@ use Rattle.dict_desk.specs.Expected.{Expected}
 use Rattle.net_hub.specs.declared.fault.HubFault.{HubFault}
 use Rattle.net_hub.specs.declared.hub.Hub.{Hub}
 use Rattle.net_hub.specs.declared.kind.Kind.{Kind}
-use Rattle.net_connection.specs.OutletCalls.{Call}
-use Rattle.net_connection.specs.declared.transport.Transport as transport
+use Rattle.net_outlet.specs.OutletCalls.{Call}
+use Rattle.net_outlet.specs.declared.transport.Transport as transport
 use Rattle.net_driver.specs.Asking.{Asking}
 use Rattle.net_driver.specs.Served.{AreRounds, IsRoundMade, Round, ended, is_waited}
 use Rattle.net_driver.specs.declared.event_loop.EventLoop.{EventLoop}

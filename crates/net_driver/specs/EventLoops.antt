@@ -9,8 +9,8 @@ use Rattle.net_hub.specs.declared.fault.HubFault.{HubFault}
 use Rattle.net_hub.specs.declared.hub.Hub.{Hub}
 use Rattle.net_hub.specs.declared.kind.Kind.{Kind}
 use Rattle.net_hub.specs.declared.kind.Kind.TheVariants.{Dict, Http}
-use Rattle.net_connection.specs.OutletCalls.{Call}
-use Rattle.net_connection.specs.declared.transport.Transport as transport
+use Rattle.net_outlet.specs.OutletCalls.{Call}
+use Rattle.net_outlet.specs.declared.transport.Transport as transport
 use Rattle.net_driver.specs.Accepting.{Accepts}
 use Rattle.net_driver.specs.Asking.{Asking, Asks, looks}
 use Rattle.net_driver.specs.Listening.{is_ready, listening_told}

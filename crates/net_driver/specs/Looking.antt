@@ -4,7 +4,7 @@ use Rattle.std.specs.IoError.{error_kind}
 use Rattle.std.specs.declared.io.Error.{Error}
 use Rattle.net_hub.specs.declared.kind.Kind.{Kind}
 use Rattle.net_hub.specs.declared.kind.Kind.TheVariants.{Dict, Http}
-use Rattle.net_connection.specs.declared.transport.Transport as transport
+use Rattle.net_outlet.specs.declared.transport.Transport as transport
 use Rattle.net_driver.specs.Asking.{Asking, Asks, looks}
 use Rattle.net_driver.specs.Listening.{listening_told}
 use Rattle.net_driver.specs.Turning.{MarkAll}

@@ -4,8 +4,8 @@ use Rattle.dict_desk.specs.declared.fault.Fault.{Fault}
 use Rattle.dict_desk.specs.Expected.{Expected}
 use Rattle.dict_session.specs.Desks.{Condition}
 use Rattle.net_hub.specs.Runs.{Accepted, events_of}
-use Rattle.net_connection.specs.Queues.{waiting}
-use Rattle.net_connection.specs.OutletCalls.{Call}
+use Rattle.net_outlet.specs.Queues.{waiting}
+use Rattle.net_outlet.specs.OutletCalls.{Call}
 use Rattle.net_connection.specs.Stages.{is_open, is_held, is_departing}
 use Rattle.net_connection.specs.Events.{ArePut}
 use Rattle.net_connection.specs.Handing.{held_in}
@@ -18,7 +18,7 @@ use Rattle.net_hub.specs.declared.hub.Hub.{Hub}
 use Rattle.net_hub.specs.declared.kind.Kind.{Kind}
 use Rattle.net_connection.specs.declared.connection.Connection.{Connection}
 use Rattle.net_driver.specs.declared.connections.Connections.{Connections}
-use Rattle.net_connection.specs.declared.transport.Transport.{Ghosts}
+use Rattle.net_outlet.specs.declared.transport.Transport.{Ghosts}
 
 -- one of these connections has this id, and these octets wait for it
 abbrev pub WaitsAmong : {T : Type 0} → List (Connection T) → ℕ → List ℕ → Type 0

@@ -9,7 +9,7 @@ use Rattle.net_hub.specs.Runs.{Accepted, events_of}
 use Rattle.net_hub.specs.declared.fault.HubFault.{HubFault}
 use Rattle.net_hub.specs.declared.hub.Hub.{Hub}
 use Rattle.net_hub.specs.declared.kind.Kind.{Kind}
-use Rattle.net_connection.specs.OutletCalls.{Call}
+use Rattle.net_outlet.specs.OutletCalls.{Call}
 use Rattle.net_connection.specs.Causes.{AreCausedBy, IsRefused}
 use Rattle.net_connection.specs.Foreseen.{HoldsBack, KeepsOrder}
 use Rattle.net_connection.specs.Handing.{held_for}

@@ -5,8 +5,9 @@ ghost use Rattle.net_connection.specs.Stages.{is_open};
 
 use crate::turning::{depart_all, have_bounded_room, mark_one, turn_all};
 use dict_desk::Preparer;
-use net_connection::{Connection, Opening, Transport};
+use net_connection::{Connection, Opening};
 use net_hub::{Hub, Kind, MAX_OPEN};
+use net_outlet::Transport;
 use std::alloc::{AllocError, Global};
 
 /// The most connections that are no longer open and still held, since octets wait for them or all that comes is not

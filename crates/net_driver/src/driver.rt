@@ -8,7 +8,7 @@ use crate::event_loop::EventLoop;
 use crate::fault::BindFault;
 use crate::sockets::SystemSockets;
 use mio::net::TcpListener;
-use net_connection::Socket;
+use net_outlet::Socket;
 use std::alloc::Global;
 use std::net::{Net, SocketAddr};
 

@@ -12,7 +12,8 @@ ghost use Rattle.net_driver.specs.declared.listening.Listening.TheVariants.{Read
 
 use crate::event_loop::EventLoop;
 use crate::sockets::Sockets;
-use net_connection::{Connection, Transport};
+use net_connection::Connection;
+use net_outlet::Transport;
 
 /// In a round a listening socket is asked for a connection at most 16 times. Where one may wait there still as the round ends, it was
 /// asked 16 times: else all that waited were taken.

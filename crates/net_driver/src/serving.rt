@@ -11,7 +11,7 @@ ghost use Rattle.std.specs.Duration.{as_nanos};
 use crate::event_loop::EventLoop;
 use crate::sockets::Sockets;
 use dict_desk::Preparer;
-use net_connection::Transport;
+use net_outlet::Transport;
 use std::io;
 use std::time::Duration;
 

@@ -9,8 +9,9 @@ ghost use Rattle.net_connection.specs.Turns.{HasNothingToDo};
 ghost use Rattle.net_driver.specs.Rounds.{room_of};
 
 use dict_desk::Preparer;
-use net_connection::{Connection, Opening, PIECE, Transport};
+use net_connection::{Connection, Opening, PIECE};
 use net_hub::Hub;
+use net_outlet::Transport;
 
 /// A turn of each open connection, in order. A command of an editor's waits behind the one that comes first: of those that are held back
 /// as the turns begin the one that has been so for the most turns, and where there is none the first that is since. Whether anything

@@ -1,7 +1,8 @@
 // Answers that are longer than what may wait, for peers that take them at once, slowly or never.
 use crate::peer::{SILENT, Script};
 use crate::turns::{READER, Step, Talk, make_turns};
-use net_connection::{MAX_WAITING, Stage};
+use net_connection::Stage;
+use net_outlet::MAX_WAITING;
 use std::test::Fail;
 
 // How many octets the peer is due: a greeting, the answer to STATUS, and that to DEFINE.

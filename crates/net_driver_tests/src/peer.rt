@@ -1,7 +1,7 @@
 // Peers of connections, in memory.
 ghost use Rattle.std.specs.Prelude.{Some, None};
 
-use net_connection::Transport;
+use net_outlet::Transport;
 use std::alloc::Global;
 use std::io::{Error, ErrorKind, Result as IoResult};
 

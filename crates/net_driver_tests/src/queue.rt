@@ -2,7 +2,7 @@
 use crate::checks::holds;
 use crate::peer::{Peer, SILENT, Script};
 use dict_proto::{Sink, SinkFault};
-use net_connection::{MAX_WAITING, Queue};
+use net_outlet::{MAX_WAITING, Queue};
 use std::test::Fail;
 
 fn put_both(queue: &mut Queue) -> Result<(), SinkFault> {

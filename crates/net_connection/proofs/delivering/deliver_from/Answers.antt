@@ -2,8 +2,8 @@ use Rattle.std.proofs.Common.{◌++◌, ◌∙◌, ap, refl}
 use Rattle.std.specs.Prelude.{Some}
 use Rattle.net_hub.specs.Events.Happening.{came}
 use Rattle.dict_session.specs.Desks.{condition}
-use Rattle.net_connection.specs.Outlets.{stream_through}
-use Rattle.net_connection.specs.Queues.{waiting}
+use Rattle.net_outlet.specs.Outlets.{stream_through}
+use Rattle.net_outlet.specs.Queues.{waiting}
 use Rattle.net_connection.proofs.CauseLemmas.{caused_none, caused_one}
 use Rattle.net_connection.proofs.LeadLemmas.{led_none}
 use Rattle.net_connection.proofs.QuietLemmas.{quiet_one}

@@ -1,4 +1,4 @@
-use Rattle.net_connection.specs.Queues.{counts_of}
+use Rattle.net_outlet.specs.Queues.{counts_of}
 use Rattle.net_connection.proofs.delivering.deliver_through.Given as goal
 
 abbrev pub ghosts-deliver_from : goal.ghosts-deliver_from

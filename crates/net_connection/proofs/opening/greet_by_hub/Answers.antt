@@ -1,7 +1,7 @@
 use Rattle.std.proofs.Common.{refl}
 use Rattle.net_hub.specs.Events.Happening.{opened}
 use Rattle.dict_session.specs.Desks.{condition}
-use Rattle.net_connection.specs.Queues.{queue_stream}
+use Rattle.net_outlet.specs.Queues.{queue_stream}
 use Rattle.net_connection.proofs.CauseLemmas.{caused_none, caused_one}
 use Rattle.net_connection.proofs.LeadLemmas.{led_none}
 use Rattle.net_connection.proofs.TellLemmas.{led_greeted, told_none, told_one}

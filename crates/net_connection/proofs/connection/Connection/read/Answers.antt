@@ -5,7 +5,7 @@ use Rattle.net_connection.specs.Causes.{IsRefused}
 use Rattle.net_connection.proofs.CauseLemmas.{caused_from, caused_still}
 use Rattle.net_connection.proofs.BackLemmas.{back_never, filled_held, none_back, over_closed}
 use Rattle.net_connection.specs.Turns.{ReadsOnce}
-use Rattle.net_connection.specs.declared.calls.Received.TheVariants as receiveds
+use Rattle.net_outlet.specs.declared.calls.Received.TheVariants as receiveds
 use Rattle.net_connection.proofs.CallLemmas.{makes_none}
 use Rattle.net_connection.proofs.LeadLemmas.{led_as, led_still}
 use Rattle.net_connection.proofs.CommandLemmas.{only_no_command}

@@ -1,8 +1,8 @@
 // What an event puts, and what its connection's transport takes of it at once.
 ghost use Rattle.std.specs.Prelude.{◌≡◌, ◌+◌, ◌<◌, ◌≤◌, ℕ, List, Option, [], None, length, true, false};
-ghost use Rattle.net_connection.specs.OutletCalls.{Call};
-ghost use Rattle.net_connection.specs.Outlets.{Follow, HasTakenOctets, IsStuck, MakesSendings, are_well};
-ghost use Rattle.net_connection.specs.Queues.{Counts, counts_of, waiting};
+ghost use Rattle.net_outlet.specs.OutletCalls.{Call};
+ghost use Rattle.net_outlet.specs.Outlets.{Follow, HasTakenOctets, IsStuck, MakesSendings, are_well};
+ghost use Rattle.net_outlet.specs.Queues.{Counts, counts_of, waiting};
 
 use crate::calls::{Sent, sent_by};
 use crate::queue::Queue;
@@ -76,8 +76,8 @@ pub struct Outlet<T: Transport, B: Beginning> {
 
 impl<T: Transport, B: Beginning> Outlet<T, B> {
     ghost use Rattle.std.specs.Prelude.{◌++◌, ◌∷◌, ◌⊎◌, ◌^◌, ◌-◌, MatchResult, OnOk, OnErr, not};
-    ghost use Rattle.net_connection.specs.OutletCalls.{MakesCalls, sending_failed, is_vain, sends};
-    ghost use Rattle.net_connection.specs.Outlets.{carried, PutsSome};
+    ghost use Rattle.net_outlet.specs.OutletCalls.{MakesCalls, sending_failed, is_vain, sends};
+    ghost use Rattle.net_outlet.specs.Outlets.{carried, PutsSome};
 
     /// An event begins.
     pub fn new(queue: Queue, transport: T) -> Self
@@ -210,7 +210,7 @@ impl<T: Transport, B: Beginning> Sink for Outlet<T, B> {
     ghost use Rattle.std.specs.Prelude.{◌^◌, ◌-◌, ◌⊎◌, IsErr, OnErr};
     ghost use Rattle.std.specs.Io.KnownBytes.{Appends};
     ghost use Rattle.dict_proto.specs.Streams.{Puts};
-    ghost use Rattle.net_connection.specs.Outlets.{PutsSome, stream_through};
+    ghost use Rattle.net_outlet.specs.Outlets.{PutsSome, stream_through};
 
     ghost stream = { λ outlet. stream_through outlet.taken outlet.queue };
 

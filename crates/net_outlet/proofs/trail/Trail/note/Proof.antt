@@ -25,12 +25,12 @@ use denote.Triple.Entry.{on_entry}
 use denote.Triple.Spec.{Meets, triple_of}
 use denote.Triple.Table.{entered}
 use denote.Triple.Walked.{says, Stays, stay_ref, walk_of, AllGo, Goes-ref, Walks, ends_at, walked, walk_Meets}
-use Rattle.net_connection.specs.declared.trail.Trail.{Trail}
-use Rattle.net_connection.specs.contracts.trail.Trail as T
-use Rattle.net_connection.specs.contracts.trail.Trail.note.Key.{name as #it}
-use Rattle.net_connection.specs.contracts.trail.Trail.note as it
-use Rattle.net_connection.proofs.trail.Trail.note.Statement as stated
-use Rattle.net_connection.proofs.trail.Trail.note.Code as code
+use Rattle.net_outlet.specs.declared.trail.Trail.{Trail}
+use Rattle.net_outlet.specs.contracts.trail.Trail as T
+use Rattle.net_outlet.specs.contracts.trail.Trail.note.Key.{name as #it}
+use Rattle.net_outlet.specs.contracts.trail.Trail.note as it
+use Rattle.net_outlet.proofs.trail.Trail.note.Statement as stated
+use Rattle.net_outlet.proofs.trail.Trail.note.Code as code
 use denote.Ref.{Bor}
 use denote.Builtin.{u8}
 use denote.Exit.{yes}

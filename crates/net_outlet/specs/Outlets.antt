@@ -2,10 +2,10 @@
 use Rattle.std.specs.Prelude.{◌≡◌, ◌≢◌, ◌≤◌, ◌<◌, ◌+◌, ℕ, Bool, true, false, not, ◌&&◌, All, List, [], ◌∷◌, ◌++◌, take, drop, length, Option, None, Some, vec_capacity}
 use Rattle.std.specs.Io.KnownBytes.{Appends, Keeps}
 use Rattle.dict_proto.specs.Streams.{Stream}
-use Rattle.net_connection.specs.OutletCalls.{Call, MakesCalls, sends, receives, ends, sending_failed, is_vain}
-use Rattle.net_connection.specs.Queues.{waiting, counts_of}
-use Rattle.net_connection.specs.declared.queue.Queue.{Queue}
-use Rattle.net_connection.specs.declared.trail.Trail.{Trail}
+use Rattle.net_outlet.specs.OutletCalls.{Call, MakesCalls, sends, receives, ends, sending_failed, is_vain}
+use Rattle.net_outlet.specs.Queues.{waiting, counts_of}
+use Rattle.net_outlet.specs.declared.queue.Queue.{Queue}
+use Rattle.net_outlet.specs.declared.trail.Trail.{Trail}
 
 -- what waited as the event began and what it put since: what the transport took of it, and what waits
 abbrev pub carried : Trail → Queue → List ℕ

@@ -4,10 +4,10 @@ use Rattle.std.specs.IoError.{error_kind}
 use Rattle.std.specs.declared.io.Error.{Error}
 use Rattle.std.specs.declared.io.ErrorKind.{ErrorKind}
 use Rattle.std.specs.declared.io.ErrorKind.TheVariants as kinds
-use Rattle.net_connection.specs.declared.calls.Sent.{Sent}
-use Rattle.net_connection.specs.declared.calls.Sent.TheVariants as sents
-use Rattle.net_connection.specs.declared.calls.Received.{Received}
-use Rattle.net_connection.specs.declared.calls.Received.TheVariants as receiveds
+use Rattle.net_outlet.specs.declared.calls.Sent.{Sent}
+use Rattle.net_outlet.specs.declared.calls.Sent.TheVariants as sents
+use Rattle.net_outlet.specs.declared.calls.Received.{Received}
+use Rattle.net_outlet.specs.declared.calls.Received.TheVariants as receiveds
 
 -- what a sending with an error of this kind came to: one that would wait took nothing, one that was interrupted took nothing and may be
 -- made again at once, and with each other the transport failed

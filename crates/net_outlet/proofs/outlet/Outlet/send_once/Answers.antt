@@ -1,8 +1,8 @@
 use Rattle.std.proofs.Common.{◌≡◌, ◌++◌, [], ◌∷◌, true, false, refl, sym, ◌∙◌, ap, take, drop, length, append_assoc, take-append-drop}
-use Rattle.net_connection.specs.OutletCalls.{MakesCalls, sending_failed, sends}
-use Rattle.net_connection.specs.Queues.{waiting}
-use Rattle.net_connection.proofs.OutletLemmas.{taken_more, taken_same, calls_more, failed_in_vain, ok_is_well, sent_in_vain, still_full, stuck_full, well_sent}
-use Rattle.net_connection.proofs.outlet.Outlet.send_once.Goals as goal
+use Rattle.net_outlet.specs.OutletCalls.{MakesCalls, sending_failed, sends}
+use Rattle.net_outlet.specs.Queues.{waiting}
+use Rattle.net_outlet.proofs.OutletLemmas.{taken_more, taken_same, calls_more, failed_in_vain, ok_is_well, sent_in_vain, still_full, stuck_full, well_sent}
+use Rattle.net_outlet.proofs.outlet.Outlet.send_once.Goals as goal
 
 pub invariant_of-self : goal.invariant_of-self
 invariant_of-self g c =

@@ -2,7 +2,7 @@
 ghost use Rattle.std.specs.Prelude.{◌≡◌, ℕ, List, Option, [], ◌∷◌, None, is_ok, length};
 ghost use Rattle.std.specs.Io.{ReadsAtMost, WritesAtMost};
 ghost use Rattle.std.specs.Io.KnownBytes.{Keeps, ReadConsumes, WriteAppends};
-ghost use Rattle.net_connection.specs.OutletCalls.{Call, MakesCalls, sends, receives, ends, sent_by, received_by};
+ghost use Rattle.net_outlet.specs.OutletCalls.{Call, MakesCalls, sends, receives, ends, sent_by, received_by};
 
 use mio::net::TcpStream;
 use mio::{Interest, Poll, Token};

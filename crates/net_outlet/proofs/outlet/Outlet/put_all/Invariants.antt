@@ -1,7 +1,7 @@
 use Rattle.std.proofs.Common.{◌≡◌, false, ◌+◌, ◌≤◌, ◌++◌, length}
-use Rattle.net_connection.specs.Outlets.{carried}
-use Rattle.net_connection.specs.Queues.{waiting}
-use Rattle.net_connection.proofs.outlet.Outlet.put_all.Given as goal
+use Rattle.net_outlet.specs.Outlets.{carried}
+use Rattle.net_outlet.specs.Queues.{waiting}
+use Rattle.net_outlet.proofs.outlet.Outlet.put_all.Given as goal
 
 abbrev pub invariant-loop-rest : goal.invariant-loop-rest
 invariant-loop-rest g l = record {

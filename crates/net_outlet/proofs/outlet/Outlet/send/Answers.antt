@@ -1,6 +1,6 @@
 use Rattle.std.proofs.Common.{length, sym, ◌∙◌, ap}
-use Rattle.net_connection.proofs.OutletLemmas.{sent_in_vain, stuck_full, taken_is_well}
-use Rattle.net_connection.proofs.outlet.Outlet.send.Goals as goal
+use Rattle.net_outlet.proofs.OutletLemmas.{sent_in_vain, stuck_full, taken_is_well}
+use Rattle.net_outlet.proofs.outlet.Outlet.send.Goals as goal
 
 pub invariant_of-self-2 : goal.invariant_of-self-2
 invariant_of-self-2 g c =

@@ -2,7 +2,7 @@
 use Rattle.std.specs.Prelude.{◌≡◌, ◌⊎◌, ℕ, ◌≤◌, ◌<◌, ◌+◌, ◌^◌, ◌-◌, ◌==◌, Bool, List, ◌++◌, take, drop, length, Result, MatchResult, Option, Some, vec_capacity, vec_len}
 use Rattle.std.specs.Io.KnownBytes.{Appends, Keeps}
 use Rattle.dict_proto.specs.Streams.{Stream}
-use Rattle.net_connection.specs.declared.queue.Queue.{Queue}
+use Rattle.net_outlet.specs.declared.queue.Queue.{Queue}
 
 -- the octets that were put and that the transport has not taken, in order
 abbrev pub waiting : Queue → List ℕ

@@ -21,12 +21,12 @@ use denote.Triple.Entry.{on_entry}
 use denote.Triple.Spec.{Meets, triple_of}
 use denote.Triple.Table.{entered}
 use denote.Triple.Walked.{says, ends_at, walked, walk_Meets}
-use Rattle.net_connection.specs.declared.trail.Trail.{Trail}
-use Rattle.net_connection.specs.contracts.trail.Trail as T
-use Rattle.net_connection.specs.contracts.trail.Trail.new.Key.{name as #it}
-use Rattle.net_connection.specs.contracts.trail.Trail.new as it
-use Rattle.net_connection.proofs.trail.Trail.new.Statement as stated
-use Rattle.net_connection.proofs.trail.Trail.new.Code as code
+use Rattle.net_outlet.specs.declared.trail.Trail.{Trail}
+use Rattle.net_outlet.specs.contracts.trail.Trail as T
+use Rattle.net_outlet.specs.contracts.trail.Trail.new.Key.{name as #it}
+use Rattle.net_outlet.specs.contracts.trail.Trail.new as it
+use Rattle.net_outlet.proofs.trail.Trail.new.Statement as stated
+use Rattle.net_outlet.proofs.trail.Trail.new.Code as code
 
 abbrev v : Val
 v = vstruct (vcons (vstruct vnil) vnil)

@@ -1,6 +1,6 @@
 // What a call of a transport came to.
 ghost use Rattle.std.specs.Prelude.{◌≡◌};
-ghost use Rattle.net_connection.specs.OutletCalls.{sent_by_kind, received_by_kind, sent_by, received_by, has_moved};
+ghost use Rattle.net_outlet.specs.OutletCalls.{sent_by_kind, received_by_kind, sent_by, received_by, has_moved};
 
 use std::io::{ErrorKind, Result};
 
@@ -33,7 +33,7 @@ pub enum Received {
 }
 
 impl Sent {
-    ghost use Rattle.net_connection.specs.OutletCalls.{sending_failed, is_vain};
+    ghost use Rattle.net_outlet.specs.OutletCalls.{sending_failed, is_vain};
 
     /// Whether the transport failed.
     pub fn has_failed(self) -> bool
@@ -57,7 +57,7 @@ impl Sent {
 }
 
 impl Received {
-    ghost use Rattle.net_connection.specs.OutletCalls.{count_received, has_come};
+    ghost use Rattle.net_outlet.specs.OutletCalls.{count_received, has_come};
 
     /// Whether the reading did something, or is to be made again at once.
     pub fn has_come(self) -> bool

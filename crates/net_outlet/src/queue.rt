@@ -31,8 +31,8 @@ pub struct Queue {
 
 impl Queue {
     ghost use Rattle.std.specs.Prelude.{◌∷◌, ◌<◌, ◌⊎◌, ◌++◌, ◌-◌, ◌^◌, IsErr, MatchResult, drop, OnErr, OnOk, vec_capacity, min};
-    ghost use Rattle.net_connection.specs.OutletCalls.{MakesCalls, sends, sent_by};
-    ghost use Rattle.net_connection.specs.Queues.{waiting, FindNoRoom, Sends};
+    ghost use Rattle.net_outlet.specs.OutletCalls.{MakesCalls, sends, sent_by};
+    ghost use Rattle.net_outlet.specs.Queues.{waiting, FindNoRoom, Sends};
 
     /// A queue in which nothing waits and no call failed.
     pub fn new(alloc: Global) -> Self
@@ -218,7 +218,7 @@ impl Sink for Queue {
     ghost use Rattle.std.specs.Prelude.{◌<◌, ◌⊎◌, ◌^◌, ◌-◌, IsErr, MatchResult, OnErr, vec_capacity};
     ghost use Rattle.std.specs.Io.KnownBytes.{Appends};
     ghost use Rattle.dict_proto.specs.Streams.{Puts};
-    ghost use Rattle.net_connection.specs.Queues.{FindNoRoom, TakesOctets, queue_stream, waiting};
+    ghost use Rattle.net_outlet.specs.Queues.{FindNoRoom, TakesOctets, queue_stream, waiting};
 
     ghost stream = { queue_stream };
 

@@ -1,7 +1,7 @@
 use Rattle.std.proofs.Common.{◌≡◌, false}
-use Rattle.net_connection.specs.Outlets.{carried}
-use Rattle.net_connection.specs.Queues.{waiting}
-use Rattle.net_connection.proofs.outlet.Outlet.send.Given as goal
+use Rattle.net_outlet.specs.Outlets.{carried}
+use Rattle.net_outlet.specs.Queues.{waiting}
+use Rattle.net_outlet.proofs.outlet.Outlet.send.Given as goal
 
 abbrev pub invariant-loop-self : goal.invariant-loop-self
 invariant-loop-self g l = record {

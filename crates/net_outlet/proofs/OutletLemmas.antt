@@ -1,20 +1,18 @@
 -- What is taken of an event's octets, call by call.
-use Rattle.std.proofs.Common.{◌≡◌, ◌≢◌, ℕ, ◌+◌, ◌≤◌, ◌<◌, Bool, true, false, List, [], ◌∷◌, ◌++◌, ◌-◌, refl, sym, ap, ◌∙◌, rules, subst, append_assoc, append-nil, take, drop, length, All, length-append, arith}
+use Rattle.std.proofs.Common.{◌≡◌, ◌≢◌, ℕ, ◌+◌, ◌≤◌, ◌<◌, Bool, true, false, List, [], ◌∷◌, ◌++◌, ◌-◌, refl, sym, ap, ◌∙◌, rules, subst, append_assoc, take, drop, length, All, length-append, arith}
 use Rattle.std.specs.Prelude.{◌&&◌, ◌==◌, if◌then◌else◌, not, Option, Some, None, Result, Ok, Err, OnErr}
 use Rattle.std.specs.Io.KnownBytes.{Appends, Keeps}
-use Rattle.std.proofs.KnownBytes.{Appends-nil, Keeps-refl}
-use Rattle.net_connection.proofs.CallLemmas.{makes_none}
 use Rattle.std.proofs.lemmas.List.{take-append-le, drop-append-le, take-append-drop, length-take}
 use Rattle.std.proofs.Math.Seq.{take-append_seam, take-append-add}
-use Rattle.std.proofs.lemmas.List.Elements.{All-append, All-nil}
-use Rattle.net_connection.specs.OutletCalls.{Call, MakesCalls, sending_failed, is_vain, sends, sent_by}
+use Rattle.std.proofs.lemmas.List.Elements.{All-append}
+use Rattle.net_outlet.specs.OutletCalls.{Call, MakesCalls, sending_failed, is_vain, sends, sent_by}
 use Rattle.std.specs.declared.io.Error.{Error}
-use Rattle.net_connection.specs.Outlets.{Follow, HasTakenOctets, IsStuck, MakesSendings, are_well, end_in_vain, is_in_vain, is_sending, is_well, PutsSome, PassesOctets}
-use Rattle.net_connection.specs.Queues.{waiting}
-use Rattle.net_connection.specs.declared.queue.Queue.{Queue}
-use Rattle.net_connection.specs.declared.trail.Trail.{Trail}
-use Rattle.net_connection.specs.declared.calls.Sent.{Sent}
-use Rattle.net_connection.specs.declared.calls.Sent.TheVariants as sents
+use Rattle.net_outlet.specs.Outlets.{Follow, HasTakenOctets, IsStuck, MakesSendings, are_well, end_in_vain, is_in_vain, is_sending, is_well, PutsSome}
+use Rattle.net_outlet.specs.Queues.{waiting}
+use Rattle.net_outlet.specs.declared.queue.Queue.{Queue}
+use Rattle.net_outlet.specs.declared.trail.Trail.{Trail}
+use Rattle.net_outlet.specs.declared.calls.Sent.{Sent}
+use Rattle.net_outlet.specs.declared.calls.Sent.TheVariants as sents
 
 appended : (l : List ℕ) (c : Option (List ℕ)) (y : List ℕ) → Appends (Some l) c y → c ≡ Some (l ++ y)
 appended l None y never = absurd never
@@ -30,10 +28,6 @@ taken_more a b c x y has more = λ before is.
 
 pub taken_same : (a b c : Option (List ℕ)) (x : List ℕ) → HasTakenOctets a b x → Keeps b c → HasTakenOctets a c x
 taken_same a b c x has same = λ before is. kept (before ++ x) c (subst (λ (o : Option (List ℕ)). Keeps o c) (has before is) same)
-
-pub taken_as : (a b : Option (List ℕ)) (x : List ℕ) → HasTakenOctets a b x → Appends a b x
-taken_as None b x has = tt
-taken_as (Some before) b x has = rw (has before refl) refl
 
 front_within : (before after : List Call) → take (length before) after ≡ before → length before ≤ length after
 front_within before after is = omega (arith, length-take (length before) after, ap length is)
@@ -167,33 +161,3 @@ puts_noted bytes t0 q0 t q r octets sent (k, within, put) = (k, within, ap (λ w
 -- as many wait as may, and the last call took nothing
 pub stuck_full : (a b : Option (List Call)) (n : ℕ) (q : Queue) → length (waiting q) ≡ 1048576 → length q.refused.octets ≡ n → Follow end_in_vain a b → IsStuck a b n q
 stuck_full a b n q full same vain = (λ few. (full, vain), λ more. absurd (omega (arith, same, more)))
-
-pub kept_as : (a b : Option (List ℕ)) → HasTakenOctets a b [] → Keeps a b
-kept_as None b has = tt
-kept_as (Some before) b has = rw (has before refl) (append-nil before)
-
--- which sendings were made
-pub sendings_of : (a b : Option (List Call)) (few : Bool) → MakesSendings a b → (few ≡ true → b ≡ a) → (within : List Call) × All (λ call. is_sending call ≡ true) within × MakesCalls a b within × (few ≡ true → within ≡ [])
-sendings_of None b few has lazy = ([], All-nil (λ call. is_sending call ≡ true), tt, λ is. refl)
-sendings_of (Some before) b true has lazy = ([], All-nil (λ call. is_sending call ≡ true), lazy refl ∙ ap Some (sym (append-nil before)), λ is. refl)
-sendings_of (Some before) None false has lazy = absurd ((has before refl).0 refl)
-sendings_of (Some before) (Some after) false has lazy =
-    let made = (has before refl).1 after refl in (
-      drop (length before) after,
-      made.1,
-      ap Some (sym (take-append-drop (length before) after) ∙ ap (λ l. l ++ drop (length before) after) made.0),
-      λ is. absurd (let never : false ≡ true = is in cc),
-    )
-
--- nothing was put, and nothing was asked
-pub passes_none : {T : Type 0} (taken coming : T → Option (List ℕ)) (made : T → Option (List Call)) (from to : T) (before after : List ℕ) → to ≡ from → after ≡ before → PassesOctets taken coming made from to before after []
-passes_none taken coming made from to before after still same = record {
-  sent = [];
-  takes = subst (λ t. Appends (taken from) (taken t) []) (sym still) (Appends-nil (taken from));
-  order = same ∙ sym (append-nil before);
-  comes = subst (λ t. Keeps (coming from) (coming t)) (sym still) (Keeps-refl (coming from));
-  within = [];
-  sendings = All-nil (λ call. is_sending call ≡ true);
-  calls = subst (λ t. MakesCalls (made from) (made t) []) (sym still) (makes_none (made from));
-  lazy = λ few. (refl, refl);
-}

@@ -1,8 +1,8 @@
 use Rattle.std.proofs.Common.{◌≡◌, ◌≤◌, ◌++◌, length, ◌∙◌, ap, arith}
-use Rattle.net_connection.specs.Outlets.{carried}
-use Rattle.net_connection.specs.Queues.{waiting}
-use Rattle.net_connection.proofs.OutletLemmas.{cut_short, halves, joined, on_err, on_err_of}
-use Rattle.net_connection.proofs.outlet.Outlet.put_all.Goals as goal
+use Rattle.net_outlet.specs.Outlets.{carried}
+use Rattle.net_outlet.specs.Queues.{waiting}
+use Rattle.net_outlet.proofs.OutletLemmas.{cut_short, halves, joined, on_err, on_err_of}
+use Rattle.net_outlet.proofs.outlet.Outlet.put_all.Goals as goal
 
 pub returns-in_err-append-clause-some : goal.returns-in_err-append-clause-some
 returns-in_err-append-clause-some g c =

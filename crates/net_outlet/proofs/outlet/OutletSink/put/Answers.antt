@@ -1,6 +1,6 @@
 use Rattle.std.proofs.Common.{inr}
-use Rattle.net_connection.proofs.OutletLemmas.{puts_noted}
-use Rattle.net_connection.proofs.outlet.OutletSink.put.Goals as goal
+use Rattle.net_outlet.proofs.OutletLemmas.{puts_noted}
+use Rattle.net_outlet.proofs.outlet.OutletSink.put.Goals as goal
 
 pub returns-in-Err-clause-some : goal.returns-in-Err-clause-some
 returns-in-Err-clause-some g c =

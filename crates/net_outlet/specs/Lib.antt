@@ -1,0 +1,3 @@
+pub mod OutletCalls
+pub mod Queues
+pub mod Outlets
