@@ -42,7 +42,7 @@ use Rattle.store_migration.proofs.SpareLemmas.{own_still}
 -- ---- a table that is found by a name is none of the product's
 
 module _ (table : ℕ → Table) (defined : IsDefinition table) (db : Database) (own : HasOwn db.schema table) (name : List ℕ) (apart : same_name (table 0).name name ≡ false) (other : Table) (there : table_in name db ≡ Some other) where
-  stands_at : find (λ (v : Table). same_name v.name name) db.schema.tables ≡ Some other
+  pub stands_at : find (λ (v : Table). same_name v.name name) db.schema.tables ≡ Some other
   stands_at = sym (found (λ (v : Table). same_name v.name name) db.schema.tables) ∙ there
 
   alone : (other.tree == (table own.tree).tree) ≡ true → ⊥
@@ -56,6 +56,12 @@ module _ (table : ℕ → Table) (defined : IsDefinition table) (db : Database) 
 
   elsewhere : other.tree ≢ (table own.tree).tree
   elsewhere same = alone (nat_itself other.tree (table own.tree).tree same)
+
+  pub apart_from : (found : Table) → table_in (table 0).name db ≡ Some found → other.tree ≢ found.tree
+  apart_from found is =
+      let e : Some (table own.tree) ≡ Some found = sym (own_in table defined db own) ∙ is in
+      let same : table own.tree ≡ found = cc in
+      subst (λ (t : Table). other.tree ≢ t.tree) same elsewhere
 
 -- ---- what each step leaves of it
 

@@ -12,7 +12,7 @@ use Rattle.store_migration.proofs.FailLemmas.{why_not_begun}
 use Rattle.store_migration.specs.Migrated.{MayMigrate}
 use Rattle.store_holdings.specs.Writing.{StaysCommitted}
 use Rattle.store_holdings.specs.Committed.{IsCommitted, IsTreesOf}
-use Rattle.store_migration.specs.Moved.{IsOutcome}
+use Rattle.store_migration.specs.Moved.{IsMoved, IsOutcome}
 use Rattle.store_migration.proofs.EndLemmas.{is_old, outcome_holds, outcome_left, outcome_may, outcome_migrated, summary_installs, summary_numbers}
 use Rattle.store_migration.specs.Spared.{SparesOthers}
 use Rattle.store_migration.proofs.OtherLemmas.{others_moved}
@@ -53,6 +53,20 @@ returns-clause-migrated g c clean =
     let it = c.requires.holds clean0 opened in
     outcome_migrated c.args.version c.older_layout.result c.older_layout.ensures old it.0 it.1 (c.is_live.ensures opened).0 c.deref.result.now c.args.summary.now.installs
     (c.deref.ensures.value ∙ (c.in-Ok.ensures.same ∙ summary_numbers it.0 summary it.2)) (summary_installs it.0 summary it.2) new.committed made.holds)
+    (c.migrate_from.ensures.made clean)
+
+pub returns-clause-moved : goal.returns-clause-moved
+returns-clause-moved g c clean =
+    let old = state g.S.Store c.args.conn.now in
+    let new = state g.S.Store c.migrate_from.new.conn in
+    let older = c.older_layout.result in
+    let installs = c.args.summary.now.installs in
+    let clean0 : HasCleanDisk old = omega (arith, c.migrate_from.ensures.crash.clean, clean) in
+    on_ok_weaker c.migrate_from.result
+    (λ made.
+    let it = c.requires.holds clean0 made.holds.was_open in
+    let committed : IsMoved older c.deref.result.now installs old.committed new.committed = subst (λ (d : Database). IsMoved older c.deref.result.now installs d new.committed) it.1.settled made.holds.moved in
+    (older, c.older_layout.ensures, subst (λ ns. IsMoved older ns installs old.committed new.committed) (c.deref.ensures.value ∙ c.in-Ok.ensures.same) committed))
     (c.migrate_from.ensures.made clean)
 
 pub returns-clause-spares : goal.returns-clause-spares
