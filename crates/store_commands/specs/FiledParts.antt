@@ -25,6 +25,6 @@ module _ {S : Type 0} (g : Ghosts S) where
     pub ahead : HasCleanDisk (state g new) → (committed : Database) → IsAhead before committed (state g old).now → IsAhead after committed (state g new).now
     pub inside : HasCleanDisk (state g new) → (state g old).in_transaction ≡ true → (state g new).in_transaction ≡ true
 
-  -- One of some statements failed, where those before it had done what they say.
-  abbrev pub FailsSomewhere : Held S → Held S → Error → Type 0
-  FailsSomewhere old new e = (statements : List Statement) × FailsToWrite g statements old new e
+  -- One of statements of this kind failed, where those before it had done what they say.
+  abbrev pub FailsAmong : (List Statement → Type 0) → Held S → Held S → Error → Type 0
+  FailsAmong Is old new e = (statements : List Statement) × Is statements × FailsToWrite g statements old new e

@@ -1,5 +1,5 @@
 -- The files of an edition that a command is to install, their parts filed some at a time in a transaction that stays open between calls.
-use Rattle.std.specs.Prelude.{◌≡◌, ◌≢◌, ◌⊎◌, ℕ, ◌+◌, ◌≤◌, pos, true, false, IsTrue, List, ◌++◌, Option, Some, None, codes, take, length, IsPermutation}
+use Rattle.std.specs.Prelude.{◌≡◌, ◌≢◌, ◌⊎◌, ℕ, ℤ, ◌+◌, ◌≤◌, pos, true, false, IsTrue, List, [], ◌∷◌, ◌++◌, map, slice_range, Option, Some, None, codes, take, length, IsPermutation}
 use Rattle.sqlite.specs.Effect.{Database}
 use Rattle.sqlite.specs.State.{State, HasCleanDisk, KeepsCommit, Survives}
 use Rattle.sqlite.specs.Held.{Held, state}
@@ -19,6 +19,7 @@ use Rattle.store_holdings.specs.Texts.{rows_under}
 use Rattle.store_holdings.specs.AllTables.{AllTables}
 use Rattle.store_commands.specs.KeptRecords.{HasRecords, IsUsable, SparesTablesOfOthers, HoldsReplies, FitsColumn, AreStorable}
 use Rattle.store_commands.specs.Changes.{without_parts}
+use Rattle.store_commands.specs.Statements.{adding_part, taking_from, taking_of}
 use Rattle.store_commands.specs.declared.files.EditionFiles.{EditionFiles}
 use Rattle.store_commands.specs.declared.filing.Filing.{Filing}
 
@@ -105,6 +106,17 @@ fault_filed (SqliteFailure code.DatabaseCorrupt) = Some Disk
 fault_filed (SqliteFailure code.DiskFull) = Some Disk
 fault_filed _ = None
 
+-- these take out parts of the edition of this number: those of its text from one on, or all that are left
+abbrev pub IsTaking : ℕ → List Statement → Type 0
+IsTaking number statements = ((from : ℤ) × (statements ≡ taking_from number from ∷ [])) ⊎ (statements ≡ taking_of (codes "dictcat_part") number ∷ [])
+
+-- these are a part of a filing: some parts of its files are added, from the first on that isn't filed; or some of an edition that goes
+-- are taken out
+abbrev pub IsPartOf : Filing → List Statement → Type 0
+IsPartOf f statements =
+    ((to : ℕ) × (statements ≡ map adding_part (slice_range (parts_of_filing f) f.parts_filed to)))
+    ⊎ ((number : ℕ) × (is_gone f.gone.items (pos number) ≡ true) × IsTaking number statements)
+
 module _ {S : Type 0} (g : Ghosts S) where
   -- In the open transaction one of these statements failed, where those before it had done what they say; then the transaction was
   -- undone, with all that was filed. What is told is what the error is told as.
@@ -116,6 +128,8 @@ module _ {S : Type 0} (g : Ghosts S) where
     pub after : Survives (state g last) (state g new) (λ _. ⊥)
     pub keeps : KeepsCommit (state g last) (state g new)
 
-  -- A part of a filing under this number failed; or another number is the next one, and that is told by None.
-  abbrev pub FailsToFile : ℕ → ℕ → Held S → Held S → Option Fault → Type 0
-  FailsToFile next number old new why = ((why ≡ None) × (number ≢ next)) ⊎ ((statements : List Statement) × FailsInside fault_filed statements old new why)
+  -- The next part of a filing failed, as far as this was, or from its start; or another number is the next one, and that is told by None.
+  abbrev pub FailsToFile : ℕ → Filing → Held S → Held S → Option Fault → Type 0
+  FailsToFile next f old new why =
+      ((why ≡ None) × (f.number ≢ next))
+      ⊎ ((begun : Filing) × HasSameRows f begun × ((begun ≡ f) ⊎ HasNoneFiled begun) × (statements : List Statement) × IsPartOf begun statements × FailsInside fault_filed statements old new why)

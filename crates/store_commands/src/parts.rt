@@ -1,5 +1,5 @@
 // One bounded part of a filing, in a transaction that stays open when it is done.
-ghost use Rattle.std.specs.Prelude.{◌≡◌, ◌≢◌, ◌+◌, ◌≤◌, ◌<◌, true, false, IsTrue, Some, IfErr, IfOk, IfSome, OnErr, OnOk, length, pos};
+ghost use Rattle.std.specs.Prelude.{◌≡◌, ◌≢◌, ◌⊎◌, ◌+◌, ◌≤◌, ◌<◌, true, false, IsTrue, Some, IfErr, IfOk, IfSome, OnErr, OnOk, length, pos};
 ghost use Rattle.sqlite.specs.Disk.{MoreFaults};
 ghost use Rattle.sqlite.specs.State.{HasCleanDisk, KeepsCommit, Survives, is_disk_error};
 ghost use Rattle.sqlite.specs.Held.{state};
@@ -9,8 +9,8 @@ ghost use Rattle.store_rows.specs.After.{is_gone};
 ghost use Rattle.store_commands.specs.KeptRecords.{IsUsable, FitsColumn, AreStorable};
 ghost use Rattle.store_commands.specs.Committed.{IsOfStore};
 ghost use Rattle.store_commands.specs.Writes.{CommitsNothing};
-ghost use Rattle.store_commands.specs.Filing.{parts_of_files, parts_of_filing, IsDrawnUp, AreAllPartsFiled, HasNoneFiled, HasSameRows, rested, IsUnderway, fault_filed, FailsToFile};
-ghost use Rattle.store_commands.specs.FiledParts.{Files, Trims, FailsSomewhere};
+ghost use Rattle.store_commands.specs.Filing.{parts_of_files, parts_of_filing, IsDrawnUp, AreAllPartsFiled, HasNoneFiled, HasSameRows, rested, IsUnderway, fault_filed, FailsToFile, IsPartOf, IsTaking};
+ghost use Rattle.store_commands.specs.FiledParts.{Files, Trims, FailsAmong};
 
 use crate::editions::LAST_PARTS;
 use crate::files::{EditionFiles, add_parts};
@@ -40,7 +40,7 @@ fn take_from<S: Alter, T: OpenTransaction<S>>(
     requires usable { WhileOpen (state S.Store (T.held tx.old)) IsUsable }
     ensures same_reference { T.reference tx.new ≡ T.reference tx.old }
     ensures trims { OnOk result (Trims S.Store number (T.held tx.old) (T.held tx.new)) }
-    ensures failed { IfErr result (FailsSomewhere S.Store (T.held tx.old) (T.held tx.new)) }
+    ensures failed { IfErr result (FailsAmong S.Store (IsTaking number) (T.held tx.old) (T.held tx.new)) }
     ensures spares { CommitsNothing S.Store (T.held tx.old) (T.held tx.new) }
 {
     delete_parts_from(tx, number as i64, 1, from)?;
@@ -53,7 +53,7 @@ fn take_rest<S: Alter, T: OpenTransaction<S>>(tx: &mut T, number: u64) -> Result
     requires usable { WhileOpen (state S.Store (T.held tx.old)) IsUsable }
     ensures same_reference { T.reference tx.new ≡ T.reference tx.old }
     ensures trims { OnOk result (Trims S.Store number (T.held tx.old) (T.held tx.new)) }
-    ensures failed { IfErr result (FailsSomewhere S.Store (T.held tx.old) (T.held tx.new)) }
+    ensures failed { IfErr result (FailsAmong S.Store (IsTaking number) (T.held tx.old) (T.held tx.new)) }
     ensures spares { CommitsNothing S.Store (T.held tx.old) (T.held tx.new) }
 {
     delete_parts(tx, number as i64)?;
@@ -70,7 +70,7 @@ fn take_bound<S: Alter, T: OpenTransaction<S>>(
     requires usable { WhileOpen (state S.Store (T.held tx.old)) IsUsable }
     ensures same_reference { T.reference tx.new ≡ T.reference tx.old }
     ensures trims { OnOk result (Trims S.Store number (T.held tx.old) (T.held tx.new)) }
-    ensures failed { IfErr result (FailsSomewhere S.Store (T.held tx.old) (T.held tx.new)) }
+    ensures failed { IfErr result (FailsAmong S.Store (IsTaking number) (T.held tx.old) (T.held tx.new)) }
     ensures spares { CommitsNothing S.Store (T.held tx.old) (T.held tx.new) }
 {
     match LAST_PARTS.get(bound) {
@@ -97,7 +97,7 @@ fn file_parts<S: Alter, T: OpenTransaction<S>>(tx: &mut T, filing: &Filing) -> R
     requires usable { WhileOpen (state S.Store (T.held tx.old)) IsUsable }
     ensures same_reference { T.reference tx.new ≡ T.reference tx.old }
     ensures files { IfOk result (λ to. Files S.Store filing.now (record filing.now { parts_filed = to }) (T.held tx.old) (T.held tx.new)) }
-    ensures failed { IfErr result (FailsSomewhere S.Store (T.held tx.old) (T.held tx.new)) }
+    ensures failed { IfErr result (FailsAmong S.Store (IsPartOf filing.now) (T.held tx.old) (T.held tx.new)) }
     ensures spares { CommitsNothing S.Store (T.held tx.old) (T.held tx.new) }
 {
     let files = filing.files();
@@ -124,7 +124,7 @@ fn next_part<S: Alter, T: OpenTransaction<S>>(tx: &mut T, filing: &mut Filing) -
     ensures same_reference { T.reference tx.new ≡ T.reference tx.old }
     ensures rows { HasSameRows filing.old filing.new }
     ensures files { OnOk result (Files S.Store filing.old filing.new (T.held tx.old) (T.held tx.new)) }
-    ensures failed { IfErr result (FailsSomewhere S.Store (T.held tx.old) (T.held tx.new)) }
+    ensures failed { IfErr result (FailsAmong S.Store (IsPartOf filing.old) (T.held tx.old) (T.held tx.new)) }
     ensures spares { CommitsNothing S.Store (T.held tx.old) (T.held tx.new) }
 {
     if let Some(number) = next_gone(filing) {
@@ -175,6 +175,7 @@ fn begin_filing<S: Alter>(conn: &mut Connection<S>, filing: &mut Filing)
     requires underway { IsUnderway S.Store filing.old conn.old }
     ensures begun { conn.new ≡ record conn.old { in_transaction = true } }
     ensures rows { HasSameRows filing.old filing.new }
+    ensures goes_on { (filing.new ≡ filing.old) ⊎ HasNoneFiled filing.new }
     ensures underway { IsUnderway S.Store filing.new conn.new }
 {
     if conn.is_autocommit() {
@@ -230,7 +231,7 @@ pub fn file_part<S: Alter>(
     ensures undone { HasCleanDisk (state S.Store conn.new) → OnErr result (conn.new.in_transaction ≡ false) }
     ensures settled { HasCleanDisk (state S.Store conn.new) → OnErr result (IsTrue (state S.Store conn.new).is_open → (state S.Store conn.new).now ≡ (state S.Store conn.new).committed) }
     ensures keeps { HasCleanDisk (state S.Store conn.new) → KeepsCommit (state S.Store conn.old) (state S.Store conn.new) }
-    ensures failed { HasCleanDisk (state S.Store conn.new) → IfErr result (FailsToFile S.Store ((summary_shown summary.now).installs + 1) filing.old.number conn.old conn.new) }
+    ensures failed { HasCleanDisk (state S.Store conn.new) → IfErr result (FailsToFile S.Store ((summary_shown summary.now).installs + 1) filing.old conn.old conn.new) }
     ensures faulted { HasCleanDisk (state S.Store conn.new) → IfErr result (λ why. why ≡ Some Fault.Disk → MoreFaults (state S.Store conn.old).faults (state S.Store conn.new).faults) }
     ensures kinds { IfErr result (λ why. IfSome why IsOfStore) }
     ensures survives { Survives (state S.Store conn.old) (state S.Store conn.new) (λ _. ⊥) }

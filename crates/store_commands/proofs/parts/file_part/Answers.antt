@@ -54,7 +54,7 @@ returns-in-Err-clause-faulted g c clean told =
     let mid = c.next_part.new.tx in
     let new = c.roll_back-in-Err.new.conn in
     let early = clean_before (state g.S.Store mid) (state g.S.Store new) c.roll_back-in-Err.ensures.survives clean in
-    let within = subst (λ (h : Held _). FailsInTurn g.S.Store c.in-Err.ensures.failed.0 h mid c.in-Err.error) c.begin_filing.ensures.begun (c.in-Err.ensures.failed.1 early) in
+    let within = subst (λ (h : Held _). FailsInTurn g.S.Store c.in-Err.ensures.failed.0 h mid c.in-Err.error) c.begin_filing.ensures.begun (c.in-Err.ensures.failed.2 early) in
     told_more (state g.S.Store c.args.conn.now) (state g.S.Store mid) (state g.S.Store new) (told_counts g.S.Store c.in-Err.ensures.failed.0 _ mid c.in-Err.error within (c.fault_filed.ensures.disk told))
     c.roll_back-in-Err.ensures.survives.counts
 
@@ -89,12 +89,16 @@ returns-in-Err-clause-failed g c clean =
     let new = c.roll_back-in-Err.new.conn in
     let early = clean_before (state g.S.Store mid) (state g.S.Store new) c.roll_back-in-Err.ensures.survives clean in
     inr (
+      c.begin_filing.new.filing,
+      c.begin_filing.ensures.rows,
+      c.begin_filing.ensures.goes_on,
       c.in-Err.ensures.failed.0,
+      c.in-Err.ensures.failed.1,
       record {
         error = c.in-Err.error;
         told = c.fault_filed.ensures.is;
         last = mid;
-        within = subst (λ (h : Held _). FailsInTurn g.S.Store c.in-Err.ensures.failed.0 h mid c.in-Err.error) c.begin_filing.ensures.begun (c.in-Err.ensures.failed.1 early);
+        within = subst (λ (h : Held _). FailsInTurn g.S.Store c.in-Err.ensures.failed.0 h mid c.in-Err.error) c.begin_filing.ensures.begun (c.in-Err.ensures.failed.2 early);
         after = c.roll_back-in-Err.ensures.survives;
         keeps = undone_keeps g.S.Store mid new (c.roll_back-in-Err.ensures.undone clean) c.roll_back-in-Err.ensures.unchanged;
       },

@@ -1,11 +1,12 @@
-use Rattle.std.proofs.Common.{codes, [], ◌∷◌, pos}
+use Rattle.std.proofs.Common.{codes, [], ◌∷◌, inl, pos, refl}
 use mir.Val.{to_z, of_z}
 use mir.Syntax.{w64}
 use Rattle.sqlite.specs.Held.{state}
 use Rattle.store_sql.proofs.StreamLemmas.{passed_on}
 use Rattle.store_edition_sql.specs.Chosen.{is_part_from}
 use Rattle.store_commands.specs.Statements.{taking_from}
-use Rattle.store_commands.specs.FiledParts.{FailsSomewhere}
+use Rattle.store_commands.specs.Filing.{IsTaking}
+use Rattle.store_commands.specs.FiledParts.{FailsAmong}
 use Rattle.store_commands.proofs.GoneLemmas.{handed}
 use Rattle.store_commands.proofs.PartLemmas.{late_wrote, late_failed, without_late}
 use Rattle.store_commands.proofs.FilingLemmas.{late_aside}
@@ -43,8 +44,9 @@ returns-in_err-delete_parts_from-clause-failed g c =
     let old = (g.T.OpenTransaction.held c.args.tx.now) in
     let new = (g.T.OpenTransaction.held c.delete_parts_from.new.tx) in
     let e = c.in_err-delete_parts_from.field-0.0 in
-    passed_on (FailsSomewhere g.S.Store old new) e c.from_residual.result c.from_residual.ensures.1 (
+    passed_on (FailsAmong g.S.Store (IsTaking n) old new) e c.from_residual.result c.from_residual.ensures.1 (
       taking_from n (to_z w64 (of_z w64 c.args.from)) ∷ [],
+      inl (to_z w64 (of_z w64 c.args.from), refl),
       late_failed g.S.Store n (to_z w64 (of_z w64 c.args.from)) (to_z w64 n) (handed n c.requires.number) old new c.delete_parts_from.ensures.survives e
           c.in_err-delete_parts_from.ensures.failed,
     )

@@ -1,11 +1,12 @@
-use Rattle.std.proofs.Common.{codes, [], ◌∷◌}
+use Rattle.std.proofs.Common.{codes, [], ◌∷◌, inr, refl}
 use mir.Val.{to_z}
 use mir.Syntax.{w64}
 use Rattle.sqlite.specs.Held.{state}
 use Rattle.store_sql.specs.Effects.{equals_number}
 use Rattle.store_sql.proofs.StreamLemmas.{passed_on}
 use Rattle.store_commands.specs.Statements.{taking_of}
-use Rattle.store_commands.specs.FiledParts.{FailsSomewhere}
+use Rattle.store_commands.specs.Filing.{IsTaking}
+use Rattle.store_commands.specs.FiledParts.{FailsAmong}
 use Rattle.store_commands.proofs.GoneLemmas.{handed}
 use Rattle.store_commands.proofs.PartLemmas.{rest_wrote, rest_failed, without_rest}
 use Rattle.store_commands.proofs.FilingLemmas.{rest_aside}
@@ -42,5 +43,5 @@ returns-in_err-delete_parts-clause-failed g c =
     let old = (g.T.OpenTransaction.held c.args.tx.now) in
     let new = (g.T.OpenTransaction.held c.delete_parts.new.tx) in
     let e = c.in_err-delete_parts.field-0.0 in
-    passed_on (FailsSomewhere g.S.Store old new) e c.from_residual.result c.from_residual.ensures.1
-    (taking_of (codes "dictcat_part") n ∷ [], rest_failed g.S.Store n (to_z w64 n) (handed n c.requires.number) old new c.delete_parts.ensures.survives e c.in_err-delete_parts.ensures.failed)
+    passed_on (FailsAmong g.S.Store (IsTaking n) old new) e c.from_residual.result c.from_residual.ensures.1
+    (taking_of (codes "dictcat_part") n ∷ [], inr refl, rest_failed g.S.Store n (to_z w64 n) (handed n c.requires.number) old new c.delete_parts.ensures.survives e c.in_err-delete_parts.ensures.failed)
