@@ -57,10 +57,12 @@ EDITS = {
         "nothing_is_planned_to_be_filed": ("filing::plan_filing", "planned"),
         "prepared_command_always_fails": ("finishing::apply_lawful", "applied, failed, stays"),
         "repeated_id_runs_again": ("applying::apply", "value, holds, crash"),
+        "rows_are_filed_twice": ("parts::file_parts", "failed"),
         "reply_of_another_id": ("replies::kept_reply", "alone, value"),
         "unlawful_id_is_kept": ("applying::apply", "value; apply_new's requires id"),
     },
     "store_migration": {
+        "entries_stay_behind": ("dropping::drop_old", "gone"),
         "a_failed_creation_empties_tables_of_others": ("making::commit_tables", "beside, stays, failed"),
         "error_is_made_up_after_the_tables": ("making::make_all", "failed"),
         "every_database_is_refused": ("making::create", "no_place"),
@@ -70,6 +72,7 @@ EDITS = {
         "mark_is_left_out": ("making::make_all", "made"),
     },
     "store_desk": {
+        "a_lookup_empties_tables_of_others": ("lookups::DeskLookup::info", "beside"),
         "an_expected_command_takes_parts_out": ("preparing::DeskPreparer::expect", "shows, leaves"),
         "other_indexes_go_where_one_comes": ("indexing::put_coming", "put"),
         "a_command_keeps_an_empty_text": ("keeper::DeskKeeper::apply", "shows: the texts that are kept"),

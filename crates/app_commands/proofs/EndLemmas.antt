@@ -254,7 +254,7 @@ module _ {K D B L : Type 0} (k : lookup.Ghosts K) (d : desks.Ghosts D K) (c : ca
 
   -- a change for which memory ran out was not made
   change_unchanged : (files : List ℕ → Option (List ℕ)) (path name id : List ℕ) (what : AskedChange) (writer : StreamChange) → ChangeTaskEnds k d files old new path name id what (Err Memory) writer
-      → EndsOn k d path (λ desk left closed. DeskStays k.shows k.leaves_one_of k.is_trusted k.is_closed desk left) old new (Err Memory) writer
+      → EndsOn k d path (λ desk left closed. DeskStays k.shows k.leaves_one_of k.keeps_beside k.is_trusted k.is_closed desk left) old new (Err Memory) writer
   change_unchanged files path name id (changes.Install index text) writer (inl h) = inl h
   change_unchanged files path name id (changes.Install index text) writer (inr (desk, left, closed, is, does, shut, (made, spared))) = inr (desk, left, closed, is, does, shut, spared refl)
   change_unchanged files path name id changes.Rollback writer (inl h) = inl h

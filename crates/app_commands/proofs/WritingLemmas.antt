@@ -59,9 +59,9 @@ sound_spoils (Ok read) (Ok done) fault writer h = writes_spoils _ fault writer h
 sound_spoils (Ok read) (Err why) fault writer h = inl h.1
 sound_spoils (Err why) closed fault writer h = inl h.1
 
-module _ {D : Type 0} (Shows : D → Catalogue → Type 0) (LeavesOneOf : D → List (Option Catalogue) → Type 0) (IsTrusted : D → Type 0) (is_closed : D → Bool) where
+module _ {D Beside : Type 0} (Shows : D → Catalogue → Type 0) (LeavesOneOf : D → List (Option Catalogue) → Type 0) (KeepsBeside : D → Beside → Type 0) (IsTrusted : D → Type 0) (is_closed : D → Bool) where
   pub install_spoils : (files : List ℕ → Option (List ℕ)) (old new : D) (name id index text : List ℕ) (fault : ProgramFault) (writer : StreamChange)
-      → InstallEnds Shows LeavesOneOf IsTrusted is_closed files old new name id index text (Err fault) writer → Spoils fault writer
+      → InstallEnds Shows LeavesOneOf KeepsBeside IsTrusted is_closed files old new name id index text (Err fault) writer → Spoils fault writer
   unfolding Rattle.app_words.specs.Installing.InstallEnds
   install_spoils files old new name id index text fault writer (inl again) = writes_spoils _ fault writer again.line.0
   install_spoils files old new name id index text fault writer (inr (inl unknown)) = inl unknown.untouched
@@ -82,7 +82,7 @@ module _ {K D : Type 0} (k : lookup.Ghosts K) (d : desks.Ghosts D K) where
       → InstallsOn k d files path name id index text old new (Err fault) writer → Spoils fault writer
   installs_spoils files path name id index text old new fault writer (inl h) = inl h.4
   installs_spoils files path name id index text old new fault writer (inr (desk, left, closed, is, does, shut, (installed, spared))) =
-      install_spoils k.shows k.leaves_one_of k.is_trusted k.is_closed files desk left name id index text fault writer installed
+      install_spoils k.shows k.leaves_one_of k.keeps_beside k.is_trusted k.is_closed files desk left name id index text fault writer installed
 
   pub task_spoils : (files : List ℕ → Option (List ℕ)) (old new : D) (path name id : List ℕ) (what : Asked) (fault : ProgramFault) (writer : StreamChange)
       → ChangeTaskEnds k d files old new path name id what (Err fault) writer → Spoils fault writer

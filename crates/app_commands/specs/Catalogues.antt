@@ -18,8 +18,9 @@ pub record IsMadeEmpty {K : Type 0} (Shows : K → Catalogue → Type 0) (Leaves
   pub shows : Shows desk empty_catalogue
   pub only : LeavesOneOf desk (Some empty_catalogue ∷ [])
 
--- a desk shows what it showed, and a stop may leave nothing that it couldn't leave before
-pub record StaysTrusted {K : Type 0} (Shows : K → Catalogue → Type 0) (LeavesOneOf : K → List (Option Catalogue) → Type 0) (IsTrusted : K → Type 0) (old new : K) : Type 0 where
+-- a desk shows what it showed, a stop may leave nothing that it couldn't leave before, and what is beside the catalogue is kept
+pub record StaysTrusted {K Beside : Type 0} (Shows : K → Catalogue → Type 0) (LeavesOneOf : K → List (Option Catalogue) → Type 0) (KeepsBeside : K → Beside → Type 0) (IsTrusted : K → Type 0) (old new : K) : Type 0 where
   pub trust : IsTrusted new → IsTrusted old
   pub shows : IsTrusted new → (M : Catalogue) → Shows old M → Shows new M
   pub leaves : (ms : List (Option Catalogue)) → LeavesOneOf old ms → LeavesOneOf new ms
+  pub beside : (beside : Beside) → KeepsBeside old beside → KeepsBeside new beside

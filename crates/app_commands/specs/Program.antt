@@ -117,7 +117,7 @@ module _ {K D : Type 0} (k : lookup.Ghosts K) (d : desks.Ghosts D K) (c : catalo
   -- that it couldn't leave before
   abbrev pub IsUnchanged : D → D → Task → StreamChange → Type 0
   IsUnchanged old new (tasks.Change file name id what) writer =
-      EndsOn k d file.now (λ desk left closed. DeskStays k.shows k.leaves_one_of k.is_trusted k.is_closed desk left) old new (Err faults.Memory) writer
+      EndsOn k d file.now (λ desk left closed. DeskStays k.shows k.leaves_one_of k.keeps_beside k.is_trusted k.is_closed desk left) old new (Err faults.Memory) writer
   IsUnchanged old new _ writer = ⊤
 
   -- nothing was read or written, and no change was made; or memory ran out in a server

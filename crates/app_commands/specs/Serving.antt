@@ -17,6 +17,6 @@ WasShutBy k d = WasShut k.shows k.leaves_one_of k.is_trusted d.is_safe d.holds_a
 -- the catalogue of the file with a path was served at two addresses, which were told, until this fault ended it
 abbrev pub IsServedUntil : {K D : Type 0} → lookup.Ghosts K → desks.Ghosts D K → (K → Expected → K → Type 0) → (K → Result Bool Fault → K → Type 0) → List ℕ → List ℕ → List ℕ → Option ℕ → D → D → ProgramFault → StreamChange → Type 0
 IsServedUntil k d expects prepares path dict http rounds old new fault writer =
-    (desk : _) × (served : HasServed k.shows k.leaves_one_of k.is_trusted d.is_opened k.has_failed k.is_closed expects prepares desk dict http rounds (Err fault) (WasShutBy k d new)
+    (desk : _) × (served : HasServed k.shows k.leaves_one_of k.keeps_beside k.is_trusted d.is_opened k.has_failed k.is_closed expects prepares desk dict http rounds (Err fault) (WasShutBy k d new)
     (IsNotReopened k.leaves_one_of d.is_unreopened d.still_leaves new path) writer)
     × WasDone (WasShutBy k d new) (d.history old) (d.history new) path desk served.stretches

@@ -52,7 +52,7 @@ module _ {K D : Type 0} (k : lookup.Ghosts K) (d : desks.Ghosts D K) where
 
   -- where memory is told to have run out, a desk shows what it showed, and a stop leaves nothing that it couldn't leave before
   abbrev pub WasSpared : K → K → Result (Unit {0}) ProgramFault → Type 0
-  WasSpared desk left result = result ≡ Err faults.Memory → DeskStays k.shows k.leaves_one_of k.is_trusted k.is_closed desk left
+  WasSpared desk left result = result ≡ Err faults.Memory → DeskStays k.shows k.leaves_one_of k.keeps_beside k.is_trusted k.is_closed desk left
 
   -- the items were listed
   abbrev pub ListEnds : List ℕ → D → D → Result (Unit {0}) ProgramFault → StreamChange → Type 0
@@ -61,18 +61,18 @@ module _ {K D : Type 0} (k : lookup.Ghosts K) (d : desks.Ghosts D K) where
   -- a command was asked for
   abbrev pub ChangeEnds : List ℕ → List ℕ → Command Edition → D → D → Result (Unit {0}) ProgramFault → StreamChange → Type 0
   ChangeEnds path id command old new result writer =
-      EndsOn path (λ desk left closed. IsChanged k.shows k.leaves_one_of k.is_trusted desk left id command result writer × WasSpared desk left result) old new result writer
+      EndsOn path (λ desk left closed. IsChanged k.shows k.leaves_one_of k.keeps_beside k.is_trusted desk left id command result writer × WasSpared desk left result) old new result writer
 
   -- an install of two files was asked for
   abbrev pub InstallsOn : (List ℕ → Option (List ℕ)) → List ℕ → List ℕ → List ℕ → List ℕ → List ℕ → D → D → Result (Unit {0}) ProgramFault → StreamChange → Type 0
   InstallsOn files path name id index text old new result writer =
-      EndsOn path (λ desk left closed. InstallEnds k.shows k.leaves_one_of k.is_trusted k.is_closed files desk left name id index text result writer × WasSpared desk left result) old new result writer
+      EndsOn path (λ desk left closed. InstallEnds k.shows k.leaves_one_of k.keeps_beside k.is_trusted k.is_closed files desk left name id index text result writer × WasSpared desk left result) old new result writer
 
   -- the catalogue of the file with a path was served at two addresses that a network bound, for so many rounds, or wasn't
   unfoldable pub ServesOn : {B L : Type 0} → network.Ghosts B L SystemSockets → (K → Expected → K → Type 0) → (K → Result Bool Fault → K → Type 0) → List ℕ → List ℕ → List ℕ → Option ℕ → D → D → Result (Unit {0}) ProgramFault
       → StreamChange → Type 0
   ServesOn n expects prepares path dict http rounds old new result writer =
-      (kept : Option Driver) × ServeEnds k.shows k.leaves_one_of k.is_trusted d.is_opened k.has_failed k.is_closed expects prepares (Begins n) (λ path. d.is_unopened path old new) (WasShutBy k d new)
+      (kept : Option Driver) × ServeEnds k.shows k.leaves_one_of k.keeps_beside k.is_trusted d.is_opened k.has_failed k.is_closed expects prepares (Begins n) (λ path. d.is_unopened path old new) (WasShutBy k d new)
       (IsNotReopened k.leaves_one_of d.is_unreopened d.still_leaves new) (d.history old) (d.history new) path dict http rounds result writer kept
 
   module _ (c : catalogues.Ghosts D K) where
@@ -84,7 +84,7 @@ module _ {K D : Type 0} (k : lookup.Ghosts K) (d : desks.Ghosts D K) where
     -- catalogue alone
     abbrev pub IsAudited : K → K → Result (Unit {0}) ProgramFault → D → Result (Unit {0}) ProgramFault → StreamChange → Type 0
     IsAudited desk left closed new result writer =
-        (audited : Result (Unit {0}) ProgramFault) × MatchResult audited (λ _. c.is_sound desk left) (c.is_unsound desk left) × StaysTrusted k.shows k.leaves_one_of k.is_trusted desk left
+        (audited : Result (Unit {0}) ProgramFault) × MatchResult audited (λ _. c.is_sound desk left) (c.is_unsound desk left) × StaysTrusted k.shows k.leaves_one_of k.keeps_beside k.is_trusted desk left
         × TellsSound audited closed result writer × IfOk closed (λ _. IsLeftShownAlone desk new)
 
     -- the catalogue was read whole

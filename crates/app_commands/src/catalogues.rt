@@ -36,7 +36,7 @@ pub trait Catalogues<K: Keeper>: DeskOpener<K> {
     /// Reads the file of a desk whole again. Nothing is written.
     fn audit(&mut self, desk: &mut K) -> Result<(), ProgramFault<'static>>
         ensures sound { MatchResult result (λ _. is_sound desk.old desk.new) (is_unsound desk.old desk.new) }
-        ensures stays { StaysTrusted K.shows K.leaves_one_of K.is_trusted desk.old desk.new }
+        ensures stays { StaysTrusted K.shows K.leaves_one_of K.keeps_beside K.is_trusted desk.old desk.new }
         ensures history { Self.history self.new ≡ Self.history self.old };
 
     /// Runs a session over the catalogue of the file with this path, which is opened for it and closed.

@@ -52,6 +52,7 @@ fn run_over<D: Keeper, S: Source, K: Sink>(
     ensures ends { D.is_trusted desk.new → (M : Catalogue) → D.shows desk.old M → RunEnds M (condition D.has_failed D.is_closed desk.new) result
         (change S.stream reader.old reader.new) (change K.stream writer.old writer.new) }
     ensures trust { D.is_trusted desk.new → D.is_trusted desk.old }
+    ensures beside { (beside : D.Beside) → D.keeps_beside desk.old beside → D.keeps_beside desk.new beside }
 {
     match run(alloc, reader, writer, desk, HOST, 1) {
         Ok(_) => Ok(()),
@@ -96,6 +97,7 @@ fn told_by(fault: SessionFault) -> ProgramFault<'static>
 fn install<K: Keeper>(desk: &mut K, name: &str, edition: &Edition) -> Result<Kept, DeskFault>
     ensures value { K.is_trusted desk.new → (M : Catalogue) → K.shows desk.old M → Applies (K.shows desk.new) M (step M (codes "plain") (install name.now (edition_of edition.now))) result }
     ensures trust { K.is_trusted desk.new → K.is_trusted desk.old }
+    ensures beside { (beside : K.Beside) → K.keeps_beside desk.old beside → K.keeps_beside desk.new beside }
 {
     let command = Command::Install { name, edition };
     desk.apply(INSTALL_ID, &command)

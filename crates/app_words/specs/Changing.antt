@@ -25,8 +25,9 @@ TellsAnswer (Ok kept) result writer = Prints (kept_line (kept_shown kept)) resul
 TellsAnswer (Err fault) result writer = (result ≡ Err (told_of fault)) × IsUntouched writer
 
 -- A desk answered a command under an id, and the answer was told: over a catalogue that it showed, the answer is that of the
--- step, and the desk shows the catalogue after it; and a stop leaves what `Leaves` says. The three relations are the desk's own.
-pub record IsChanged {D : Type 0} (Shows : D → Catalogue → Type 0) (LeavesOneOf : D → List (Option Catalogue) → Type 0) (IsTrusted : D → Type 0)
+-- step, and the desk shows the catalogue after it; a stop leaves what `Leaves` says; and what is beside the catalogue is kept. The
+-- relations are the desk's own.
+pub record IsChanged {D Beside : Type 0} (Shows : D → Catalogue → Type 0) (LeavesOneOf : D → List (Option Catalogue) → Type 0) (KeepsBeside : D → Beside → Type 0) (IsTrusted : D → Type 0)
     (old new : D) (id : List ℕ) (command : Command Edition) (result : Result (Unit {0}) ProgramFault) (writer : StreamChange) : Type 0 where
   pub answer : Result Kept DeskFault
   pub told : TellsAnswer answer result writer
@@ -34,4 +35,5 @@ pub record IsChanged {D : Type 0} (Shows : D → Catalogue → Type 0) (LeavesOn
   pub left : IsTrusted new → (catalogue : Catalogue) → Shows old catalogue
       → Leaves (LeavesOneOf old) (LeavesOneOf new) (is_some (kept_under catalogue.kept id)) (step catalogue id command).catalogue answer
   pub spared : (ms : List (Option Catalogue)) → LeavesOneOf old ms → IfErr answer (λ fault. is_disk fault ≡ false → LeavesOneOf new ms)
+  pub beside : (beside : Beside) → KeepsBeside old beside → KeepsBeside new beside
   pub trust : IsTrusted new → IsTrusted old

@@ -25,12 +25,12 @@ IsNoEdition index text (Err (faults.Edition refusal)) = IsFault index text refus
 IsNoEdition index text (Err faults.Memory) = ⊤
 IsNoEdition index text _ = ⊥
 
-module _ {D : Type 0} (Shows : D → Catalogue → Type 0) (LeavesOneOf : D → List (Option Catalogue) → Type 0) (IsTrusted : D → Type 0) (is_closed : D → Bool) where
+module _ {D Beside : Type 0} (Shows : D → Catalogue → Type 0) (LeavesOneOf : D → List (Option Catalogue) → Type 0) (KeepsBeside : D → Beside → Type 0) (IsTrusted : D → Type 0) (is_closed : D → Bool) where
   -- a reply is kept under the id: it was told again
   pub record IsToldAgain (old new : D) (id : List ℕ) (result : Result (Unit {0}) ProgramFault) (writer : StreamChange) : Type 0 where
     pub reply : Kept
     pub kept : IsTrusted new → (catalogue : Catalogue) → Shows old catalogue → Some (kept_shown reply) ≡ kept_under catalogue.kept id
-    pub stays : Stays Shows LeavesOneOf IsTrusted is_closed old new
+    pub stays : Stays Shows LeavesOneOf KeepsBeside IsTrusted is_closed old new
     pub line : Prints (kept_line (kept_shown reply)) result writer
 
   -- whether one is kept couldn't be told
@@ -38,19 +38,19 @@ module _ {D : Type 0} (Shows : D → Catalogue → Type 0) (LeavesOneOf : D → 
     pub fault : DeskFault
     pub kind : IsOfLookup fault
     pub told : result ≡ Err (told_of fault)
-    pub stays : Stays Shows LeavesOneOf IsTrusted is_closed old new
+    pub stays : Stays Shows LeavesOneOf KeepsBeside IsTrusted is_closed old new
     pub untouched : IsUntouched writer
 
   -- none is kept under the id
   pub record HasNoReply (old new : D) (id : List ℕ) : Type 0 where
     pub none : IsTrusted new → (catalogue : Catalogue) → Shows old catalogue → None ≡ kept_under catalogue.kept id
-    pub stays : Stays Shows LeavesOneOf IsTrusted is_closed old new
+    pub stays : Stays Shows LeavesOneOf KeepsBeside IsTrusted is_closed old new
 
   -- the index and the text are no edition, or theirs was installed
   abbrev pub InstallsRead : D → D → List ℕ → List ℕ → List ℕ → List ℕ → Result (Unit {0}) ProgramFault → StreamChange → Type 0
   InstallsRead old new name id index text result writer =
       (IsNoEdition index text result × (new ≡ old) × IsUntouched writer)
-      ⊎ ((edition : Edition) × IsEdition index text edition × IsChanged Shows LeavesOneOf IsTrusted old new id (install name edition) result writer)
+      ⊎ ((edition : Edition) × IsEdition index text edition × IsChanged Shows LeavesOneOf KeepsBeside IsTrusted old new id (install name edition) result writer)
 
   -- the files weren't read, or they were
   abbrev pub InstallsFiles : (List ℕ → Option (List ℕ)) → D → D → List ℕ → List ℕ → List ℕ → List ℕ → Result (Unit {0}) ProgramFault → StreamChange → Type 0

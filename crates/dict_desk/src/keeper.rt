@@ -28,6 +28,7 @@ pub trait Keeper: Lookup {
     fn kept(&mut self, id: &str) -> Result<Option<Kept>, Fault>
         ensures value { Self.is_trusted self.new → (M : Catalogue) → Self.shows self.old M → IfOk result (λ reply. option_map kept_shown reply ≡ kept_under M.kept id.now) }
         ensures trust { Self.is_trusted self.new → Self.is_trusted self.old }
+        ensures beside { (beside : Self.Beside) → Self.keeps_beside self.old beside → Self.keeps_beside self.new beside }
         ensures shows { Self.is_trusted self.new → (M : Catalogue) → Self.shows self.old M → Self.shows self.new M }
         ensures leaves { (ms : List (Option Catalogue)) → Self.leaves_one_of self.old ms → Self.leaves_one_of self.new ms }
         ensures kinds { IfErr result IsOfLookup }
@@ -44,6 +45,7 @@ pub trait Keeper: Lookup {
         ensures applied { applies self.old (record { id = id.now; command = command_meant command.now }) result self.new }
         ensures value { Self.is_trusted self.new → (M : Catalogue) → Self.shows self.old M → Applies (Self.shows self.new) M (step M id.now (command_meant command.now)) result }
         ensures trust { Self.is_trusted self.new → Self.is_trusted self.old }
+        ensures beside { (beside : Self.Beside) → Self.keeps_beside self.old beside → Self.keeps_beside self.new beside }
         ensures leaves { Self.is_trusted self.new → (M : Catalogue) → Self.shows self.old M → Leaves (Self.leaves_one_of self.old) (Self.leaves_one_of self.new) (is_some (kept_under M.kept id.now)) (step M id.now (command_meant command.now)).catalogue result }
         ensures spares { (ms : List (Option Catalogue)) → Self.leaves_one_of self.old ms → IfErr result (λ fault. is_disk fault ≡ false → Self.leaves_one_of self.new ms) }
         ensures kinds { IfErr result IsOfCommand }
@@ -90,6 +92,7 @@ pub fn apply_all<K: Keeper>(
     ensures called { IfOk result (λ outcomes. AreApplied K.applies desk.old (requests_meant requests.now) outcomes.items desk.new) }
     ensures failed { IfErr result (λ halted. HasHalted K.applies desk.old (requests_meant requests.now) halted.stand halted.fault desk.new) }
     ensures trust { K.is_trusted desk.new → K.is_trusted desk.old }
+    ensures beside { (beside : K.Beside) → K.keeps_beside desk.old beside → K.keeps_beside desk.new beside }
     ensures counted { IfOk result (λ outcomes. vec_len outcomes ≡ length requests.now) }
     ensures within { IfErr result (λ halted. halted.stand ≤ length requests.now) }
     ensures spares { (ms : List (Option Catalogue)) → K.leaves_one_of desk.old ms → IfErr result (λ halted. halted.stand ≡ 0 → is_disk halted.fault ≡ false → K.leaves_one_of desk.new ms) }

@@ -43,6 +43,12 @@ pub trait Lookup {
     // stands for none.
     ghost leaves_one_of: { Self → List (Option Catalogue) → Type 0 };
 
+    // What may stand beside the catalogue in what keeps it, and isn't its own.
+    ghost Beside: { Type 0 };
+
+    // Whatever a stop now leaves has this beside the catalogue.
+    ghost keeps_beside: { Self → Beside → Type 0 };
+
     // What it stands on has returned what was written to it.
     ghost is_trusted: { Self → Type 0 };
 
@@ -66,6 +72,7 @@ pub trait Lookup {
         ensures value { is_trusted self.new → (M : Catalogue) (edition : Edition) → shows self.old M → HasEdition M number edition → Hands T.takes T.stops sink.old sink.new (info_rows edition) result }
         ensures handed { (rows : List Row) × Hands T.takes T.stops sink.old sink.new rows result }
         ensures trust { is_trusted self.new → is_trusted self.old }
+        ensures beside { (beside : Beside) → keeps_beside self.old beside → keeps_beside self.new beside }
         ensures shows { is_trusted self.new → (M : Catalogue) → shows self.old M → shows self.new M }
         ensures leaves { (ms : List (Option Catalogue)) → leaves_one_of self.old ms → leaves_one_of self.new ms }
         ensures kinds { IfErr result IsOfLookup }
@@ -84,6 +91,7 @@ pub trait Lookup {
     ) -> Result<u64, Fault>
         ensures value { is_trusted self.new → (M : Catalogue) (edition : Edition) → shows self.old M → HasEdition M number edition → IfOk result (λ count. count ≡ count_of what strategy query.now edition) }
         ensures trust { is_trusted self.new → is_trusted self.old }
+        ensures beside { (beside : Beside) → keeps_beside self.old beside → keeps_beside self.new beside }
         ensures shows { is_trusted self.new → (M : Catalogue) → shows self.old M → shows self.new M }
         ensures leaves { (ms : List (Option Catalogue)) → leaves_one_of self.old ms → leaves_one_of self.new ms }
         ensures kinds { IfErr result IsOfLookup }
@@ -104,6 +112,7 @@ pub trait Lookup {
         ensures value { is_trusted self.new → (M : Catalogue) (edition : Edition) → shows self.old M → HasEdition M number edition → Hands T.takes T.stops sink.old sink.new (found_rows strategy query.now edition) result }
         ensures handed { (rows : List Row) × Hands T.takes T.stops sink.old sink.new rows result }
         ensures trust { is_trusted self.new → is_trusted self.old }
+        ensures beside { (beside : Beside) → keeps_beside self.old beside → keeps_beside self.new beside }
         ensures shows { is_trusted self.new → (M : Catalogue) → shows self.old M → shows self.new M }
         ensures leaves { (ms : List (Option Catalogue)) → leaves_one_of self.old ms → leaves_one_of self.new ms }
         ensures kinds { IfErr result IsOfLookup }
@@ -124,6 +133,7 @@ pub trait Lookup {
         ensures value { is_trusted self.new → (M : Catalogue) (edition : Edition) → shows self.old M → HasEdition M number edition → Hands T.takes T.stops sink.old sink.new (headword_rows strategy query.now edition) result }
         ensures handed { (rows : List Row) × Hands T.takes T.stops sink.old sink.new rows result }
         ensures trust { is_trusted self.new → is_trusted self.old }
+        ensures beside { (beside : Beside) → keeps_beside self.old beside → keeps_beside self.new beside }
         ensures shows { is_trusted self.new → (M : Catalogue) → shows self.old M → shows self.new M }
         ensures leaves { (ms : List (Option Catalogue)) → leaves_one_of self.old ms → leaves_one_of self.new ms }
         ensures kinds { IfErr result IsOfLookup }

@@ -268,6 +268,10 @@ impl Lookup for PlainDesk {
 
     ghost leaves_one_of = { λ _ _. Unit {0} };
 
+    ghost Beside = { Unit {0} };
+
+    ghost keeps_beside = { λ _ _. Unit {0} };
+
     ghost is_trusted = { λ _. Unit {0} };
 
     ghost is_closed = { λ _. false };

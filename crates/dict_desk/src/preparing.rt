@@ -37,6 +37,7 @@ pub trait Preparer: Keeper {
     fn expect(&mut self, command: &Command) -> Result<(), Fault>
         ensures told { expects self.old (of_command (command_meant command.now)) self.new }
         ensures trust { Self.is_trusted self.new → Self.is_trusted self.old }
+        ensures beside { (beside : Self.Beside) → Self.keeps_beside self.old beside → Self.keeps_beside self.new beside }
         ensures shows { Self.is_trusted self.new → (M : Catalogue) → Self.shows self.old M → Self.shows self.new M }
         ensures leaves { (ms : List (Option Catalogue)) → Self.leaves_one_of self.old ms → Self.leaves_one_of self.new ms }
         ensures kinds { IfErr result IsOfLookup }
@@ -50,6 +51,7 @@ pub trait Preparer: Keeper {
     fn expect_install(&mut self, name: &str, index: &[u8], text: &[u8]) -> Result<(), Fault>
         ensures told { expects self.old (of_files name.now index.now text.now) self.new }
         ensures trust { Self.is_trusted self.new → Self.is_trusted self.old }
+        ensures beside { (beside : Self.Beside) → Self.keeps_beside self.old beside → Self.keeps_beside self.new beside }
         ensures shows { Self.is_trusted self.new → (M : Catalogue) → Self.shows self.old M → Self.shows self.new M }
         ensures leaves { (ms : List (Option Catalogue)) → Self.leaves_one_of self.old ms → Self.leaves_one_of self.new ms }
         ensures kinds { IfErr result IsOfLookup }
@@ -62,6 +64,7 @@ pub trait Preparer: Keeper {
     fn prepare(&mut self) -> Result<bool, Fault>
         ensures prepared { prepares self.old result self.new }
         ensures trust { Self.is_trusted self.new → Self.is_trusted self.old }
+        ensures beside { (beside : Self.Beside) → Self.keeps_beside self.old beside → Self.keeps_beside self.new beside }
         ensures shows { Self.is_trusted self.new → (M : Catalogue) → Self.shows self.old M → Self.shows self.new M }
         ensures leaves { (ms : List (Option Catalogue)) → Self.leaves_one_of self.old ms → Self.leaves_one_of self.new ms }
         ensures kinds { IfErr result IsOfLookup }
@@ -101,11 +104,13 @@ pub trait Preparer: Keeper {
         ensures closes { IfLetGo result (λ gone. Self.is_closed self.new ≡ (Self.is_closed self.old || has_closed_by gone)) }
         // always
         ensures trust { Self.is_trusted self.new → Self.is_trusted self.old }
+        ensures beside { (beside : Self.Beside) → Self.keeps_beside self.old beside → Self.keeps_beside self.new beside }
         ensures closed { (result ≡ Err Fault.Closed) ↔ (Self.is_closed self.old ≡ true) };
 
     /// Lets go of what was noted last, and of what was prepared of it.
     fn forget(&mut self) -> Result<(), Fault>
         ensures trust { Self.is_trusted self.new → Self.is_trusted self.old }
+        ensures beside { (beside : Self.Beside) → Self.keeps_beside self.old beside → Self.keeps_beside self.new beside }
         ensures shows { Self.is_trusted self.new → (M : Catalogue) → Self.shows self.old M → Self.shows self.new M }
         ensures leaves { (ms : List (Option Catalogue)) → Self.leaves_one_of self.old ms → Self.leaves_one_of self.new ms }
         ensures kinds { IfErr result IsOfLookup }

@@ -81,6 +81,10 @@ impl Lookup for FailingDesk {
 
     ghost leaves_one_of = { λ _ _. ⊥ };
 
+    ghost Beside = { ⊥ };
+
+    ghost keeps_beside = { λ _ _. ⊥ };
+
     ghost is_trusted = { λ _. Unit {0} };
 
     ghost is_closed = { λ s. s.is_closed };

@@ -114,6 +114,10 @@ impl Lookup for PartsDesk {
 
     ghost leaves_one_of = { λ _ _. ⊥ };
 
+    ghost Beside = { ⊥ };
+
+    ghost keeps_beside = { λ _ _. ⊥ };
+
     ghost is_trusted = { λ _. Unit {0} };
 
     ghost is_closed = { λ _. false };

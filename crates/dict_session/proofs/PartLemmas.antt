@@ -57,14 +57,15 @@ pub breaks_answer : (what : What) (count : ℕ) (failed : Bool) (fault : PutFaul
 breaks_answer what count failed Sink a b c ys zs some more h p = inl (front_after a b c (count_octets what count) (ys ++ zs) h (front_longer b c ys zs p))
 breaks_answer what count failed Desk a b c ys zs some more h p = (p.0, begun_after what count a b c ys zs some more h p.1)
 
-module _ {S : Type 0} (Shows : S → Catalogue → Type 0) (LeavesOneOf : S → List (Option Catalogue) → Type 0) (IsTrusted : S → Type 0) (is_closed : S → Bool) where
-  pub stays_same : (a : S) → Stays Shows LeavesOneOf IsTrusted is_closed a a
-  stays_same a = record { trust = λ t. t; shows = λ t m h. h; leaves = λ ms h. h; closed = λ e. e }
+module _ {S Beside : Type 0} (Shows : S → Catalogue → Type 0) (LeavesOneOf : S → List (Option Catalogue) → Type 0) (KeepsBeside : S → Beside → Type 0) (IsTrusted : S → Type 0) (is_closed : S → Bool) where
+  pub stays_same : (a : S) → Stays Shows LeavesOneOf KeepsBeside IsTrusted is_closed a a
+  stays_same a = record { trust = λ t. t; shows = λ t m h. h; leaves = λ ms h. h; beside = λ beside h. h; closed = λ e. e }
 
-  pub stays_after : (a b c : S) → Stays Shows LeavesOneOf IsTrusted is_closed a b → Stays Shows LeavesOneOf IsTrusted is_closed b c → Stays Shows LeavesOneOf IsTrusted is_closed a c
+  pub stays_after : (a b c : S) → Stays Shows LeavesOneOf KeepsBeside IsTrusted is_closed a b → Stays Shows LeavesOneOf KeepsBeside IsTrusted is_closed b c → Stays Shows LeavesOneOf KeepsBeside IsTrusted is_closed a c
   stays_after a b c h k = record {
     trust = λ t. h.trust (k.trust t);
     shows = λ t m s. k.shows t m (h.shows (k.trust t) m s);
     leaves = λ ms l. k.leaves ms (h.leaves ms l);
+    beside = λ beside kept. k.beside beside (h.beside beside kept);
     closed = λ e. k.closed (h.closed e);
   }

@@ -33,7 +33,7 @@ pub(crate) fn answer_line<L: Lookup, K: Sink>(
 ) -> Course
     ensures value { L.is_trusted desk.new → (M : Catalogue) → L.shows desk.old M → (meaning : Meaning) → Tells asked meaning
         → Finishes (answer_to M host.now) (across L.has_failed L.is_closed desk.old desk.new) result (K.stream sink.old) (K.stream sink.new) meaning }
-    ensures desk { Stays L.shows L.leaves_one_of L.is_trusted L.is_closed desk.old desk.new }
+    ensures desk { Stays L.shows L.leaves_one_of L.keeps_beside L.is_trusted L.is_closed desk.old desk.new }
     ensures looks { (M : Catalogue) → L.shows desk.old M → (meaning : Meaning) → Tells asked meaning → looks_up M meaning ≡ false → desk.new ≡ desk.old }
     ensures breaks { result ≡ Course.DeskFailed → (M : Catalogue) → L.shows desk.old M → (meaning : Meaning) → Tells asked meaning → looks_up M meaning ≡ true }
 {
@@ -77,7 +77,7 @@ fn answer_request<L: Lookup, K: Sink>(
 ) -> Course
     ensures value { L.is_trusted desk.new → (M : Catalogue) → L.shows desk.old M
         → Finishes (answer_to M host.now) (across L.has_failed L.is_closed desk.old desk.new) result (K.stream sink.old) (K.stream sink.new) (requested request.now) }
-    ensures desk { Stays L.shows L.leaves_one_of L.is_trusted L.is_closed desk.old desk.new }
+    ensures desk { Stays L.shows L.leaves_one_of L.keeps_beside L.is_trusted L.is_closed desk.old desk.new }
     ensures looks { (M : Catalogue) → L.shows desk.old M → looks_up M (requested request.now) ≡ false → desk.new ≡ desk.old }
     ensures breaks { result ≡ Course.DeskFailed → (M : Catalogue) → L.shows desk.old M → looks_up M (requested request.now) ≡ true }
 {
@@ -106,7 +106,7 @@ fn put_answer<L: Lookup, K: Sink>(
 ) -> Result<LineAnswer, PutFault>
     ensures value { L.is_trusted desk.new → (M : Catalogue) → L.shows desk.old M
         → PutsAnswer (L.has_failed desk.new) result (K.stream sink.old) (K.stream sink.new) (answer_to M host.now (requested request.now)) (need_of (requested request.now)) (may_be_unavailable (L.is_closed desk.old) (requested request.now)) }
-    ensures desk { Stays L.shows L.leaves_one_of L.is_trusted L.is_closed desk.old desk.new }
+    ensures desk { Stays L.shows L.leaves_one_of L.keeps_beside L.is_trusted L.is_closed desk.old desk.new }
     ensures looks { (M : Catalogue) → L.shows desk.old M → LooksWhere (looks_up M (requested request.now)) result desk.old desk.new }
 {
     match request {
@@ -185,7 +185,7 @@ fn put_define<L: Lookup, K: Sink>(
 ) -> Result<LineAnswer, PutFault>
     ensures value { L.is_trusted desk.new → (M : Catalogue) → L.shows desk.old M
         → PutsAnswer (L.has_failed desk.new) result (K.stream sink.old) (K.stream sink.new) (define_answer M name.now word.now) (counted_rows What.Entries) true }
-    ensures desk { Stays L.shows L.leaves_one_of L.is_trusted L.is_closed desk.old desk.new }
+    ensures desk { Stays L.shows L.leaves_one_of L.keeps_beside L.is_trusted L.is_closed desk.old desk.new }
     ensures looks { (M : Catalogue) → L.shows desk.old M → LooksWhere (names_databases M name.now) result desk.old desk.new }
 {
     let asked = match asked_of(desk, name) {
@@ -226,7 +226,7 @@ fn put_match<L: Lookup, K: Sink>(
 ) -> Result<LineAnswer, PutFault>
     ensures value { L.is_trusted desk.new → (M : Catalogue) → L.shows desk.old M
         → PutsAnswer (L.has_failed desk.new) result (K.stream sink.old) (K.stream sink.new) (match_answer M name.now strategy.now word.now) (counted_rows What.Headwords) true }
-    ensures desk { Stays L.shows L.leaves_one_of L.is_trusted L.is_closed desk.old desk.new }
+    ensures desk { Stays L.shows L.leaves_one_of L.keeps_beside L.is_trusted L.is_closed desk.old desk.new }
     ensures looks { (M : Catalogue) → L.shows desk.old M → LooksWhere (names_databases M name.now && is_some (strategy_of strategy.now)) result desk.old desk.new }
 {
     let asked = match asked_of(desk, name) {

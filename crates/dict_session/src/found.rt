@@ -67,7 +67,7 @@ fn heading_of<L: Lookup>(desk: &L, place: usize) -> Result<Option<Heading>, Faul
 // How many rows a query gives of the database at a place.
 fn count_at<L: Lookup>(desk: &mut L, place: usize, query: &Query) -> Result<u64, Fault>
     ensures value { L.is_trusted desk.new → (M : Catalogue) → L.shows desk.old M → IfOk result (λ count. count ≡ count_at query.now M.items place) }
-    ensures desk { Stays L.shows L.leaves_one_of L.is_trusted L.is_closed desk.old desk.new }
+    ensures desk { Stays L.shows L.leaves_one_of L.keeps_beside L.is_trusted L.is_closed desk.old desk.new }
     ensures open { L.is_closed desk.old ≡ false → OnOk result (L.is_closed desk.new ≡ false) }
 {
     match heading_of(desk, place) {
@@ -80,7 +80,7 @@ fn count_at<L: Lookup>(desk: &mut L, place: usize, query: &Query) -> Result<u64,
 // Those of the places that give rows, and how many they give.
 fn count_all<L: Lookup>(desk: &mut L, places: &[usize], query: &Query) -> Result<CountedRows, Fault>
     ensures value { L.is_trusted desk.new → (M : Catalogue) → L.shows desk.old M → length places.now ≤ 64 → IfOk result (IsCounted query.now M.items places.now) }
-    ensures desk { Stays L.shows L.leaves_one_of L.is_trusted L.is_closed desk.old desk.new }
+    ensures desk { Stays L.shows L.leaves_one_of L.keeps_beside L.is_trusted L.is_closed desk.old desk.new }
     ensures open { L.is_closed desk.old ≡ false → OnOk result (L.is_closed desk.new ≡ false) }
 {
     let mut counted = nothing();
@@ -100,7 +100,7 @@ fn count_first<L: Lookup>(
     query: &Query,
 ) -> Result<CountedRows, Fault>
     ensures value { L.is_trusted desk.new → (M : Catalogue) → L.shows desk.old M → IfOk result (IsCounted query.now M.items (first_counted (count_at query.now M.items) places.now)) }
-    ensures desk { Stays L.shows L.leaves_one_of L.is_trusted L.is_closed desk.old desk.new }
+    ensures desk { Stays L.shows L.leaves_one_of L.keeps_beside L.is_trusted L.is_closed desk.old desk.new }
     ensures open { L.is_closed desk.old ≡ false → OnOk result (L.is_closed desk.new ≡ false) }
 {
     for place in places {
@@ -121,7 +121,7 @@ fn count_first<L: Lookup>(
 // Which of the databases asked give rows, and how many.
 fn count_asked<L: Lookup>(desk: &mut L, asked: Asked, query: &Query) -> Result<CountedRows, Fault>
     ensures value { L.is_trusted desk.new → (M : Catalogue) → L.shows desk.old M → length asked.places.items ≤ 64 → IfOk result (IsCounted query.now M.items (answering query.now M.items asked.places.items asked.is_first)) }
-    ensures desk { Stays L.shows L.leaves_one_of L.is_trusted L.is_closed desk.old desk.new }
+    ensures desk { Stays L.shows L.leaves_one_of L.keeps_beside L.is_trusted L.is_closed desk.old desk.new }
     ensures open { L.is_closed desk.old ≡ false → OnOk result (L.is_closed desk.new ≡ false) }
 {
     let Asked { places, is_first } = asked;
@@ -141,7 +141,7 @@ fn hand_out<L: Lookup, T: RowSink>(
     ensures value { L.is_trusted desk.new → (M : Catalogue) (edition : Edition) → L.shows desk.old M → HasEdition M number edition
         → Hands T.takes T.stops sink.old sink.new (rows_given query.now.what query.now.strategy query.now.key edition) result }
     ensures handed { (rows : List Row) × Hands T.takes T.stops sink.old sink.new rows result }
-    ensures desk { Stays L.shows L.leaves_one_of L.is_trusted L.is_closed desk.old desk.new }
+    ensures desk { Stays L.shows L.leaves_one_of L.keeps_beside L.is_trusted L.is_closed desk.old desk.new }
     ensures open { OnOk result (L.is_closed desk.new ≡ false) }
     ensures failed { OnErr result (L.has_failed desk.new ≡ true) }
 {
@@ -162,7 +162,7 @@ fn deliver<L: Lookup, K: Sink>(
         → Delivers (L.has_failed desk.new) result (K.stream rows.old.sink.now) (K.stream rows.new.sink.now)
         (flat_map (row_octets rows.old.what rows.old.heading.now.name.bytes rows.old.heading.now.title.bytes) (rows_given query.now.what query.now.strategy query.now.key edition)) }
     ensures same_reference { rows.new.sink.ghost_name ≡ rows.old.sink.ghost_name }
-    ensures desk { Stays L.shows L.leaves_one_of L.is_trusted L.is_closed desk.old desk.new }
+    ensures desk { Stays L.shows L.leaves_one_of L.keeps_beside L.is_trusted L.is_closed desk.old desk.new }
     ensures open { OnOk result (L.is_closed desk.new ≡ false) }
 {
     match hand_out(desk, number, query, rows) {
@@ -182,7 +182,7 @@ fn put_rows<L: Lookup, K: Sink>(
     ensures value { L.is_trusted desk.new → (M : Catalogue) (edition : Edition) → L.shows desk.old M → HasEdition M heading.now.number edition
         → Delivers (L.has_failed desk.new) result (K.stream sink.old) (K.stream sink.new)
         (flat_map (row_octets query.now.what heading.now.name.bytes heading.now.title.bytes) (rows_given query.now.what query.now.strategy query.now.key edition)) }
-    ensures desk { Stays L.shows L.leaves_one_of L.is_trusted L.is_closed desk.old desk.new }
+    ensures desk { Stays L.shows L.leaves_one_of L.keeps_beside L.is_trusted L.is_closed desk.old desk.new }
     ensures open { OnOk result (L.is_closed desk.new ≡ false) }
 {
     let what = query.what;
@@ -204,7 +204,7 @@ fn put_at<L: Lookup, K: Sink>(
     requires { L.is_closed desk.old ≡ false }
     ensures value { L.is_trusted desk.new → (M : Catalogue) → L.shows desk.old M
         → Delivers (L.has_failed desk.new) result (K.stream sink.old) (K.stream sink.new) (octets_at_place query.now M.items place) }
-    ensures desk { Stays L.shows L.leaves_one_of L.is_trusted L.is_closed desk.old desk.new }
+    ensures desk { Stays L.shows L.leaves_one_of L.keeps_beside L.is_trusted L.is_closed desk.old desk.new }
     ensures open { OnOk result (L.is_closed desk.new ≡ false) }
 {
     match heading_of(desk, place) {
@@ -225,7 +225,7 @@ fn put_places<L: Lookup, K: Sink>(
     requires { L.is_closed desk.old ≡ false }
     ensures value { L.is_trusted desk.new → (M : Catalogue) → L.shows desk.old M
         → Delivers (L.has_failed desk.new) result (K.stream sink.old) (K.stream sink.new) (flat_map (octets_at_place query.now M.items) places.now) }
-    ensures desk { Stays L.shows L.leaves_one_of L.is_trusted L.is_closed desk.old desk.new }
+    ensures desk { Stays L.shows L.leaves_one_of L.keeps_beside L.is_trusted L.is_closed desk.old desk.new }
 {
     for place in places {
         match put_at(desk, *place, query, sink) {
@@ -266,7 +266,7 @@ fn put_counted<L: Lookup, K: Sink>(
     requires { L.is_closed desk.old ≡ false }
     ensures value { L.is_trusted desk.new → (M : Catalogue) → L.shows desk.old M
         → PutsAnswer (L.has_failed desk.new) result (K.stream sink.old) (K.stream sink.new) (counted_octets query.now M.items counted.now.places.items counted.now.count) (counted_rows query.now.what) true }
-    ensures desk { Stays L.shows L.leaves_one_of L.is_trusted L.is_closed desk.old desk.new }
+    ensures desk { Stays L.shows L.leaves_one_of L.keeps_beside L.is_trusted L.is_closed desk.old desk.new }
 {
     match put_count(query.what, counted.count, sink) {
         Ok(()) => {}
@@ -289,7 +289,7 @@ pub(crate) fn put_found<L: Lookup, K: Sink>(
     requires { L.is_closed desk.old ≡ false }
     ensures value { L.is_trusted desk.new → (M : Catalogue) → L.shows desk.old M → length asked.places.items ≤ 64
         → PutsAnswer (L.has_failed desk.new) result (K.stream sink.old) (K.stream sink.new) (found_octets query.now M.items (answering query.now M.items asked.places.items asked.is_first)) (counted_rows query.now.what) true }
-    ensures desk { Stays L.shows L.leaves_one_of L.is_trusted L.is_closed desk.old desk.new }
+    ensures desk { Stays L.shows L.leaves_one_of L.keeps_beside L.is_trusted L.is_closed desk.old desk.new }
 {
     let Ok(counted) = count_asked(desk, asked, query) else {
         return put_unavailable(sink);

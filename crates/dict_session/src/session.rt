@@ -91,7 +91,7 @@ impl<'h> Session<'h> {
             → LeavesThrough (answer_to M (session_host self.old)) (looks_up M) (L.is_closed desk.old) (condition L.has_failed L.is_closed desk.new) (course_of self.new) self.new (K.stream sink.old) (K.stream sink.new) (rest ++ piece.now) }
         ensures quiet { step_of self.old ≡ More → L.is_trusted desk.new → (M : Catalogue) → L.shows desk.old M → (rest : List ℕ) → HasUnfinished self.old rest
             → All (λ line. looks_up M (meaning line) ≡ false) (cut (rest ++ piece.now)).lines → desk.new ≡ desk.old }
-        ensures desk { Stays L.shows L.leaves_one_of L.is_trusted L.is_closed desk.old desk.new }
+        ensures desk { Stays L.shows L.leaves_one_of L.keeps_beside L.is_trusted L.is_closed desk.old desk.new }
         ensures step { step_of self.new ≡ result }
         ensures same { IsSameSession self.old self.new }
         ensures ended { step_of self.old ≢ More → (result ≡ step_of self.old) × (K.stream sink.new ≡ K.stream sink.old) × (desk.new ≡ desk.old) }
@@ -113,7 +113,7 @@ impl<'h> Session<'h> {
             → LeavesThrough (answer_to M (session_host self.old)) (looks_up M) (L.is_closed desk.old) (condition L.has_failed L.is_closed desk.new) result self.new (K.stream sink.old) (K.stream sink.new) (rest ++ piece.now) }
         ensures quiet { step_of self.old ≡ More → L.is_trusted desk.new → (M : Catalogue) → L.shows desk.old M → (rest : List ℕ) → HasUnfinished self.old rest
             → All (λ line. looks_up M (meaning line) ≡ false) (cut (rest ++ piece.now)).lines → desk.new ≡ desk.old }
-        ensures desk { Stays L.shows L.leaves_one_of L.is_trusted L.is_closed desk.old desk.new }
+        ensures desk { Stays L.shows L.leaves_one_of L.keeps_beside L.is_trusted L.is_closed desk.old desk.new }
         ensures course { course_of self.new ≡ result }
         ensures same { IsSameSession self.old self.new }
         ensures ended { step_of self.old ≢ More → (result ≡ course_of self.old) × (K.stream sink.new ≡ K.stream sink.old) × (desk.new ≡ desk.old) }
@@ -147,7 +147,7 @@ impl<'h> Session<'h> {
             → LeavesThrough (answer_to M (session_host self.old)) (looks_up M) (L.is_closed desk.old) (condition L.has_failed L.is_closed desk.new) result self.new (K.stream sink.old) (K.stream sink.new) (rest ++ piece.now) }
         ensures quiet { L.is_trusted desk.new → (M : Catalogue) → L.shows desk.old M → (rest : List ℕ) → HasUnfinished self.old rest
             → All (λ line. looks_up M (meaning line) ≡ false) (cut (rest ++ piece.now)).lines → desk.new ≡ desk.old }
-        ensures desk { Stays L.shows L.leaves_one_of L.is_trusted L.is_closed desk.old desk.new }
+        ensures desk { Stays L.shows L.leaves_one_of L.keeps_beside L.is_trusted L.is_closed desk.old desk.new }
         ensures same { IsSameSession self.old self.new }
     {
         for octet in piece {
@@ -171,7 +171,7 @@ impl<'h> Session<'h> {
             → LeavesThrough (answer_to M (session_host self.old)) (looks_up M) (L.is_closed desk.old) (condition L.has_failed L.is_closed desk.new) result self.new (K.stream sink.old) (K.stream sink.new) (rest ++ octet ∷ []) }
         ensures quiet { L.is_trusted desk.new → (M : Catalogue) → L.shows desk.old M → (rest : List ℕ) → HasUnfinished self.old rest
             → All (λ line. looks_up M (meaning line) ≡ false) (cut (rest ++ octet ∷ [])).lines → desk.new ≡ desk.old }
-        ensures desk { Stays L.shows L.leaves_one_of L.is_trusted L.is_closed desk.old desk.new }
+        ensures desk { Stays L.shows L.leaves_one_of L.keeps_beside L.is_trusted L.is_closed desk.old desk.new }
         ensures same { IsSameSession self.old self.new }
     {
         if octet == b'\n' && self.after_cr {
@@ -219,7 +219,7 @@ impl<'h> Session<'h> {
         ensures answers { L.is_trusted desk.new → (M : Catalogue) → L.shows desk.old M → (rest : List ℕ) → HasUnfinished self.old rest
             → AnswersLine (answer_to M (session_host self.old)) (looks_up M) (L.is_closed desk.old) (condition L.has_failed L.is_closed desk.new) result self.new (K.stream sink.old) (K.stream sink.new) (take (length rest - 1) rest) }
         ensures quiet { (M : Catalogue) → L.shows desk.old M → (rest : List ℕ) → HasUnfinished self.old rest → looks_up M (meaning (take (length rest - 1) rest)) ≡ false → desk.new ≡ desk.old }
-        ensures desk { Stays L.shows L.leaves_one_of L.is_trusted L.is_closed desk.old desk.new }
+        ensures desk { Stays L.shows L.leaves_one_of L.keeps_beside L.is_trusted L.is_closed desk.old desk.new }
         ensures same { IsSameSession self.old self.new }
     {
         match answer_line(alloc, desk, self.host, self.request(alloc), sink) {

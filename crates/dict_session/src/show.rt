@@ -189,7 +189,7 @@ fn put_row<L: Lookup, K: Sink>(
     ensures value { L.is_trusted desk.new → (M : Catalogue) (edition : Edition) → L.shows desk.old M → HasEdition M number edition
         → PutsAnswer (L.has_failed desk.new) result (K.stream row.old.sink.now) (K.stream row.new.sink.now) (info_heading_octets ++ (info_text_octets edition.info ++ done_octets)) one_row true }
     ensures same_reference { row.new.sink.ghost_name ≡ row.old.sink.ghost_name }
-    ensures desk { Stays L.shows L.leaves_one_of L.is_trusted L.is_closed desk.old desk.new }
+    ensures desk { Stays L.shows L.leaves_one_of L.keeps_beside L.is_trusted L.is_closed desk.old desk.new }
 {
     match desk.info(number, row) {
         Ok(End::All) => put_whole(&Reply::Done, row.sink),
@@ -212,7 +212,7 @@ fn put_edition<L: Lookup, K: Sink>(
 ) -> Result<LineAnswer, PutFault>
     ensures value { L.is_trusted desk.new → (M : Catalogue) (edition : Edition) → L.shows desk.old M → HasEdition M number edition
         → PutsAnswer (L.has_failed desk.new) result (K.stream sink.old) (K.stream sink.new) (info_heading_octets ++ (info_text_octets edition.info ++ done_octets)) one_row true }
-    ensures desk { Stays L.shows L.leaves_one_of L.is_trusted L.is_closed desk.old desk.new }
+    ensures desk { Stays L.shows L.leaves_one_of L.keeps_beside L.is_trusted L.is_closed desk.old desk.new }
 {
     let mut row = InfoRow {
         sink,
@@ -250,7 +250,7 @@ pub(crate) fn put_info<L: Lookup, K: Sink>(
 ) -> Result<LineAnswer, PutFault>
     ensures value { L.is_trusted desk.new → (M : Catalogue) → L.shows desk.old M
         → PutsAnswer (L.has_failed desk.new) result (K.stream sink.old) (K.stream sink.new) (info_answer M name.now) one_row true }
-    ensures desk { Stays L.shows L.leaves_one_of L.is_trusted L.is_closed desk.old desk.new }
+    ensures desk { Stays L.shows L.leaves_one_of L.keeps_beside L.is_trusted L.is_closed desk.old desk.new }
     ensures looks { (M : Catalogue) → L.shows desk.old M → LooksWhere (has_edition (find (is_named name.now) M.items)) result desk.old desk.new }
 {
     let Ok(summary) = desk.summary() else {

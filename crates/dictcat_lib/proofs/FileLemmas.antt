@@ -15,15 +15,18 @@ use Rattle.sqlite.specs.Files.{file_state, over_files}
 use Rattle.sqlite.specs.Held.{Held}
 use Rattle.sqlite.specs.Recovery.{Image}
 use Rattle.sqlite_disk.specs.declared.Disk as disk
+use Rattle.sqlite_store.specs.Laws.{settled_at}
 use Rattle.sqlite_store.specs.declared.store.FileStore.{FileStore}
 use Rattle.sqlite_wal.proofs.LogLemmas.{SeenMayStay}
 use Rattle.dict_desk.specs.declared.fault.Fault.{Fault as DeskFault}
 use Rattle.dict_desk.specs.declared.fault.Fault.TheVariants.{Disk}
 use Rattle.store_holdings.specs.Holds.{IsLeft}
 use Rattle.store_desk.specs.Adopted.{FailsToOpen, IsNotAdopted}
-use Rattle.store_desk.specs.Desk.{DeskState, LeavesOneOf, Shows, StandsFor}
+use Rattle.store_desk.specs.Desk.{DeskState, KeepsBeside, LeavesOneOf, Shows, StandsFor}
 use Rattle.store_desk.specs.Opened.{IsNotLeft}
+use Rattle.store_desk.specs.Over.{ConnectionKeepsBeside}
 use Rattle.store_desk.specs.Unopened.{IsRejectedFrom}
+use Rattle.store_desk.proofs.BesideLemmas.{beside_on}
 use Rattle.store_desk.proofs.ReopenLemmas.{stands_after}
 use Rattle.dict_session.specs.declared.session.run.SessionEnd.{SessionEnd}
 use Rattle.dict_session.specs.declared.session.run.SessionFault.{SessionFault}
@@ -65,8 +68,14 @@ module _ {S : Type 0} (g : Ghosts S) (old new : DeskState S) (survives : Survive
     | inr none ↦ absurd none
   ]
 
-  pub read_stays : (HasCleanDisk (state g new.conn) → (M : Catalogue) → Shows g old M → Shows g new M) → StaysTrusted (Shows g) (LeavesOneOf g) (λ desk. HasCleanDisk (state g desk.conn)) old new
-  read_stays shows = record { trust = clean_first; shows = shows; leaves = leaves_after }
+  pub read_stays : (HasCleanDisk (state g new.conn) → (M : Catalogue) → Shows g old M → Shows g new M) → StaysTrusted (Shows g) (LeavesOneOf g) (KeepsBeside g) (λ desk. HasCleanDisk (state g desk.conn)) old new
+  read_stays shows = record { trust = clean_first; shows = shows; leaves = leaves_after; beside = beside_on g old new survives }
+
+-- of a file that was opened a stop leaves what it holds, so the tables of others as they are there
+pub opened_beside : {D : Type 0} {d : disk.Ghosts D} → SeenMayStay d → (image : Image) (conn : Held (FileStore D d)) → IsOpenedFrom image conn → ConnectionKeepsBeside over_files conn (file_state conn).committed
+opened_beside stays image conn opened clean trees could =
+    let whole = (opened.live clean).0 in
+    ∣ ((file_state conn).committed, settled_at conn.store stays trees whole.0.is_open could, (whole.1 whole.0.is_open).1, λ name table none there. (there, refl)) ∣₁
 
 -- Of files with these octets, what no desk adopted leaves what they hold, and where that is a catalogue, no fault tells of it.
 pub rejected_from : {D : Type 0} {d : disk.Ghosts D} → SeenMayStay d → (image : Image) (conn refused : Held (FileStore D d)) (why : DeskFault) → IsOpenedFrom image conn → IsNotAdopted over_files conn refused why

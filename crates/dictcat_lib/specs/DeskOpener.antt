@@ -10,7 +10,7 @@ use Rattle.sqlite_store.specs.declared.store.FileStore.{FileStore}
 use Rattle.dict_catalogue.specs.Steps.{Catalogue}
 use Rattle.dict_desk.specs.declared.fault.Fault.{Fault as DeskFault}
 use Rattle.dict_desk.specs.declared.fault.Fault.TheVariants as desk_faults
-use Rattle.store_desk.specs.Desk.{DeskState, Shows}
+use Rattle.store_desk.specs.Desk.{DeskState, KeepsBeside, Shows}
 use Rattle.store_desk.specs.Adopted.{IsAdopted}
 use Rattle.store_desk.specs.Prepared.{Undoes}
 use Rattle.store_desk.specs.Reopened.{IsIn, IsReopened}
@@ -54,11 +54,13 @@ module _ {D : Type 0} {d : disk.Ghosts D} where
 
 -- By the octets that the two files at the path hold as they are opened, which is done once: what stands for them is there until then.
 module _ {D : Type 0} {d : disk.Ghosts D} (image : Image) where
-  -- The desk adopted the database that the files with these octets were opened as, and shows the catalogue that the octets hold.
+  -- The desk adopted the database that the files with these octets were opened as, and shows the catalogue that the octets hold; and
+  -- a stop leaves the tables of others as they were found.
   pub record HasAdopted (desk : DeskState (FileStore D d)) : Type 0 where
     pub conn : Held (FileStore D d)
     pub opened : IsOpenedFrom image conn
     pub adopted : IsAdopted over_files conn desk
+    pub kept : KeepsBeside over_files desk (file_state conn).committed
     pub shows : HasCleanDisk (file_state desk.conn) → (M : Catalogue) → IsIn M image → Shows over_files desk M
 
   -- it did; or, after another desk, it adopted the one that the files of that were opened as again

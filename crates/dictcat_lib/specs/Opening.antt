@@ -1,5 +1,6 @@
 -- What comes of a task over a file's database: what its file is opened as, and a catalogue that is made, or a session.
 use Rattle.std.specs.Prelude.{◌≡◌, ◌≢◌, false, ℕ, List, [], ◌∷◌, Option, Some, None, Result, Ok, Err, codes, ⊤}
+use Rattle.sqlite.specs.Effect.{Database}
 use Rattle.sqlite.specs.State.{HasCleanDisk, Survives}
 use Rattle.sqlite.specs.Held.{Held, state}
 use Rattle.sqlite_trees.specs.declared.store.Store.{Ghosts}
@@ -17,10 +18,10 @@ use Rattle.dict_proto.specs.Streams.{StreamChange}
 use Rattle.dict_session.specs.declared.session.run.SessionEnd.{SessionEnd}
 use Rattle.dict_session.specs.declared.session.run.SessionFault.{SessionFault}
 use Rattle.dict_session.specs.declared.session.run.SessionFault.TheVariants as session_faults
-use Rattle.store_desk.specs.Desk.{DeskState, Shows, LeavesOneOf}
+use Rattle.store_desk.specs.Desk.{DeskState, KeepsBeside, Shows, LeavesOneOf}
 use Rattle.store_desk.specs.Opened.{TellsOfDatabase, IsNotHeld}
 use Rattle.store_desk.specs.Prepared.{rested}
-use Rattle.store_desk.specs.Over.{HasRun, ConnectionLeavesOneOf}
+use Rattle.store_desk.specs.Over.{HasRun, ConnectionKeepsBeside, ConnectionLeavesOneOf}
 use Rattle.app_words.specs.Faults.{told_of}
 use Rattle.app_words.specs.declared.fault.ProgramFault.{ProgramFault}
 use Rattle.app_words.specs.declared.fault.ProgramFault.TheVariants as faults
@@ -80,3 +81,4 @@ module _ {S : Type 0} (g : Ghosts S) where
   pub record HasSpoken (conn : Held S) (desk : DeskState S) (end : Result SessionEnd SessionFault) (reader writer : StreamChange) : Type 0 where
     pub ran : HasCleanDisk (state g desk.conn) → HasRun g conn desk (codes "localhost") 1 end reader writer
     pub leaves : (ms : List (Option Catalogue)) → ConnectionLeavesOneOf g conn ms → LeavesOneOf g desk ms
+    pub beside : (db : Database) → ConnectionKeepsBeside g conn db → KeepsBeside g desk db

@@ -2,7 +2,7 @@
 ghost use Rattle.std.specs.Prelude.{◌≡◌, false, List, Option, Some, None, IfOk, IfErr, MatchResult};
 ghost use Rattle.sqlite.specs.Files.{over_files};
 ghost use Rattle.dict_catalogue.specs.Steps.{Catalogue};
-ghost use Rattle.store_desk.specs.Desk.{Shows, LeavesOneOf, is_closed};
+ghost use Rattle.store_desk.specs.Desk.{KeepsBeside, Shows, LeavesOneOf, is_closed};
 ghost use Rattle.store_desk.specs.Reopened.{IsReopened};
 ghost use Rattle.net_serving.specs.Serving.{Follows, IsNew, IsNone};
 ghost use Rattle.app_commands.specs.Catalogues.{IsMadeEmpty};
@@ -71,7 +71,7 @@ pub(crate) fn reopen_desk<'w, D: Disk + Drop>(
     ensures opened { MatchResult result
         (IsNew (Shows over_files) (LeavesOneOf over_files) IsTrusted (IsReopened desk))
         (IsNone (IsNoDeskAgain file.entry.now desk held.new)) }
-    ensures follows { IfOk result (Follows (Shows over_files) (LeavesOneOf over_files) IsTrusted desk) }
+    ensures follows { IfOk result (Follows (Shows over_files) (LeavesOneOf over_files) (KeepsBeside over_files) IsTrusted desk) }
     ensures leaves { IfErr result (λ _. (ms : List (Option Catalogue)) → LeavesOneOf over_files desk ms → StillLeaves desk held.new ms) }
 {
     let Some(options) = options(rt, file) else {

@@ -88,6 +88,7 @@ fn prepared_answer(alloc: Global, answered: Answered) -> Answer
 fn apply<K: Keeper>(alloc: Global, desk: &mut K, id: &str, command: &Command) -> Answer
     ensures ends { K.is_trusted desk.new → (M : Catalogue) → K.shows desk.old M → kept_under M.kept id.now ≡ None → RespondsOrFails (K.shows desk.new) (K.leaves_one_of desk.old) (K.leaves_one_of desk.new) M (applied M id.now (command_meant command.now)) (answer_octets result) }
     ensures trust { K.is_trusted desk.new → K.is_trusted desk.old }
+    ensures beside { (beside : K.Beside) → K.keeps_beside desk.old beside → K.keeps_beside desk.new beside }
     ensures closed { K.is_closed desk.old ≡ true → K.is_closed desk.new ≡ true }
 {
     command_answer(alloc, desk.apply(id, command))
@@ -103,6 +104,7 @@ fn install_edition<K: Keeper>(
 ) -> Answer
     ensures ends { K.is_trusted desk.new → (M : Catalogue) → K.shows desk.old M → kept_under M.kept id.now ≡ None → RespondsOrFails (K.shows desk.new) (K.leaves_one_of desk.old) (K.leaves_one_of desk.new) M (applied M id.now (install name.now (edition_of edition.now))) (answer_octets result) }
     ensures trust { K.is_trusted desk.new → K.is_trusted desk.old }
+    ensures beside { (beside : K.Beside) → K.keeps_beside desk.old beside → K.keeps_beside desk.new beside }
     ensures closed { K.is_closed desk.old ≡ true → K.is_closed desk.new ≡ true }
 {
     apply(alloc, desk, id, &Command::Install { name, edition })
@@ -119,6 +121,7 @@ fn install_read<K: Keeper>(
 ) -> Answer
     ensures responds { K.is_trusted desk.new → (M : Catalogue) → K.shows desk.old M → kept_under M.kept id.now ≡ None → Responds (K.shows desk.new) (K.leaves_one_of desk.old) (K.leaves_one_of desk.new) M (SettlesFiles M id.now name.now index.now text.now) (answer_octets result) }
     ensures trust { K.is_trusted desk.new → K.is_trusted desk.old }
+    ensures beside { (beside : K.Beside) → K.keeps_beside desk.old beside → K.keeps_beside desk.new beside }
     ensures closed { K.is_closed desk.old ≡ true → K.is_closed desk.new ≡ true }
 {
     match read_edition(alloc, index, text) {
@@ -139,6 +142,7 @@ fn install_files<K: Preparer>(
 ) -> Answer
     ensures responds { K.is_trusted desk.new → (M : Catalogue) → K.shows desk.old M → kept_under M.kept id.now ≡ None → Responds (K.shows desk.new) (K.leaves_one_of desk.old) (K.leaves_one_of desk.new) M (SettlesFiles M id.now name.now index.now text.now) (answer_octets result) }
     ensures trust { K.is_trusted desk.new → K.is_trusted desk.old }
+    ensures beside { (beside : K.Beside) → K.keeps_beside desk.old beside → K.keeps_beside desk.new beside }
     ensures closed { K.is_closed desk.old ≡ true → K.is_closed desk.new ≡ true }
 {
     match desk.answer_prepared(id, name, index, text) {
@@ -152,6 +156,7 @@ fn install_files<K: Preparer>(
 fn install<K: Preparer>(alloc: Global, desk: &mut K, id: &str, name: &str, body: &[u8]) -> Answer
     ensures responds { K.is_trusted desk.new → (M : Catalogue) → K.shows desk.old M → kept_under M.kept id.now ≡ None → Responds (K.shows desk.new) (K.leaves_one_of desk.old) (K.leaves_one_of desk.new) M (SettlesNew M id.now actions.Install name.now body.now) (answer_octets result) }
     ensures trust { K.is_trusted desk.new → K.is_trusted desk.old }
+    ensures beside { (beside : K.Beside) → K.keeps_beside desk.old beside → K.keeps_beside desk.new beside }
     ensures closed { K.is_closed desk.old ≡ true → K.is_closed desk.new ≡ true }
 {
     match parts_of(body) {
@@ -164,6 +169,7 @@ fn install<K: Preparer>(alloc: Global, desk: &mut K, id: &str, name: &str, body:
 fn place<K: Keeper>(alloc: Global, desk: &mut K, id: &str, name: &str, body: &[u8]) -> Answer
     ensures responds { K.is_trusted desk.new → (M : Catalogue) → K.shows desk.old M → kept_under M.kept id.now ≡ None → Responds (K.shows desk.new) (K.leaves_one_of desk.old) (K.leaves_one_of desk.new) M (SettlesNew M id.now actions.Place name.now body.now) (answer_octets result) }
     ensures trust { K.is_trusted desk.new → K.is_trusted desk.old }
+    ensures beside { (beside : K.Beside) → K.keeps_beside desk.old beside → K.keeps_beside desk.new beside }
     ensures closed { K.is_closed desk.old ≡ true → K.is_closed desk.new ≡ true }
 {
     match read_place(alloc, body) {
@@ -185,6 +191,7 @@ fn place<K: Keeper>(alloc: Global, desk: &mut K, id: &str, name: &str, body: &[u
 fn put_virtual<K: Keeper>(alloc: Global, desk: &mut K, id: &str, name: &str, body: &[u8]) -> Answer
     ensures responds { K.is_trusted desk.new → (M : Catalogue) → K.shows desk.old M → kept_under M.kept id.now ≡ None → Responds (K.shows desk.new) (K.leaves_one_of desk.old) (K.leaves_one_of desk.new) M (SettlesNew M id.now actions.PutVirtual name.now body.now) (answer_octets result) }
     ensures trust { K.is_trusted desk.new → K.is_trusted desk.old }
+    ensures beside { (beside : K.Beside) → K.keeps_beside desk.old beside → K.keeps_beside desk.new beside }
     ensures closed { K.is_closed desk.old ≡ true → K.is_closed desk.new ≡ true }
 {
     let value = match read_json(alloc, body) {
@@ -220,6 +227,7 @@ fn change_anew<K: Preparer>(
     requires { action ≢ actions.List }
     ensures responds { K.is_trusted desk.new → (M : Catalogue) → K.shows desk.old M → kept_under M.kept id.now ≡ None → Responds (K.shows desk.new) (K.leaves_one_of desk.old) (K.leaves_one_of desk.new) M (SettlesNew M id.now action name.now body.now) (answer_octets result) }
     ensures trust { K.is_trusted desk.new → K.is_trusted desk.old }
+    ensures beside { (beside : K.Beside) → K.keeps_beside desk.old beside → K.keeps_beside desk.new beside }
     ensures closed { K.is_closed desk.old ≡ true → K.is_closed desk.new ≡ true }
 {
     match action {
@@ -244,6 +252,7 @@ pub fn change<K: Preparer>(
     requires { action ≢ actions.List }
     ensures responds { K.is_trusted desk.new → (M : Catalogue) → K.shows desk.old M → Responds (K.shows desk.new) (K.leaves_one_of desk.old) (K.leaves_one_of desk.new) M (SettlesChange M id.now action name.now body.now) (answer_octets result) }
     ensures trust { K.is_trusted desk.new → K.is_trusted desk.old }
+    ensures beside { (beside : K.Beside) → K.keeps_beside desk.old beside → K.keeps_beside desk.new beside }
     ensures closed { K.is_closed desk.old ≡ true → K.is_closed desk.new ≡ true }
 {
     match desk.kept(id) {

@@ -22,6 +22,7 @@ fn may_act<K: Keeper>(desk: &mut K, id: &str) -> bool
     ensures lawful { result ≡ true → is_request_id id.now ≡ true }
     ensures anew { result ≡ true → K.is_trusted desk.new → (M : Catalogue) → K.shows desk.old M → kept_under M.kept id.now ≡ None }
     ensures trust { K.is_trusted desk.new → K.is_trusted desk.old }
+    ensures beside { (beside : K.Beside) → K.keeps_beside desk.old beside → K.keeps_beside desk.new beside }
     ensures closed { K.is_closed desk.old ≡ true → K.is_closed desk.new ≡ true }
     ensures shows { K.is_trusted desk.new → (M : Catalogue) → K.shows desk.old M → K.shows desk.new M }
     ensures leaves { (ms : List (Option Catalogue)) → K.leaves_one_of desk.old ms → K.leaves_one_of desk.new ms }
@@ -39,6 +40,7 @@ fn may_act<K: Keeper>(desk: &mut K, id: &str) -> bool
 fn expect_files<K: Preparer>(desk: &mut K, name: &str, body: &[u8]) -> bool
     ensures foreseen { result ≡ true → HasForeseen K.expects (SaysInstall name.now body.now) desk.new }
     ensures trust { K.is_trusted desk.new → K.is_trusted desk.old }
+    ensures beside { (beside : K.Beside) → K.keeps_beside desk.old beside → K.keeps_beside desk.new beside }
     ensures closed { K.is_closed desk.old ≡ true → K.is_closed desk.new ≡ true }
     ensures shows { K.is_trusted desk.new → (M : Catalogue) → K.shows desk.old M → K.shows desk.new M }
     ensures leaves { (ms : List (Option Catalogue)) → K.leaves_one_of desk.old ms → K.leaves_one_of desk.new ms }
@@ -53,6 +55,7 @@ fn expect_files<K: Preparer>(desk: &mut K, name: &str, body: &[u8]) -> bool
 fn expect_command<K: Preparer>(desk: &mut K, command: &Command) -> bool
     ensures foreseen { result ≡ true → HasForeseen K.expects (λ asked. asked ≡ of_command (command_meant command.now)) desk.new }
     ensures trust { K.is_trusted desk.new → K.is_trusted desk.old }
+    ensures beside { (beside : K.Beside) → K.keeps_beside desk.old beside → K.keeps_beside desk.new beside }
     ensures closed { K.is_closed desk.old ≡ true → K.is_closed desk.new ≡ true }
     ensures shows { K.is_trusted desk.new → (M : Catalogue) → K.shows desk.old M → K.shows desk.new M }
     ensures leaves { (ms : List (Option Catalogue)) → K.leaves_one_of desk.old ms → K.leaves_one_of desk.new ms }
@@ -64,6 +67,7 @@ fn expect_command<K: Preparer>(desk: &mut K, command: &Command) -> bool
 fn expect_place<K: Preparer>(alloc: Global, desk: &mut K, name: &str, body: &[u8]) -> bool
     ensures foreseen { result ≡ true → HasForeseen K.expects (SaysChange actions.Place name.now body.now) desk.new }
     ensures trust { K.is_trusted desk.new → K.is_trusted desk.old }
+    ensures beside { (beside : K.Beside) → K.keeps_beside desk.old beside → K.keeps_beside desk.new beside }
     ensures closed { K.is_closed desk.old ≡ true → K.is_closed desk.new ≡ true }
     ensures shows { K.is_trusted desk.new → (M : Catalogue) → K.shows desk.old M → K.shows desk.new M }
     ensures leaves { (ms : List (Option Catalogue)) → K.leaves_one_of desk.old ms → K.leaves_one_of desk.new ms }
@@ -84,6 +88,7 @@ fn expect_place<K: Preparer>(alloc: Global, desk: &mut K, name: &str, body: &[u8
 fn expect_virtual<K: Preparer>(alloc: Global, desk: &mut K, name: &str, body: &[u8]) -> bool
     ensures foreseen { result ≡ true → HasForeseen K.expects (SaysChange actions.PutVirtual name.now body.now) desk.new }
     ensures trust { K.is_trusted desk.new → K.is_trusted desk.old }
+    ensures beside { (beside : K.Beside) → K.keeps_beside desk.old beside → K.keeps_beside desk.new beside }
     ensures closed { K.is_closed desk.old ≡ true → K.is_closed desk.new ≡ true }
     ensures shows { K.is_trusted desk.new → (M : Catalogue) → K.shows desk.old M → K.shows desk.new M }
     ensures leaves { (ms : List (Option Catalogue)) → K.leaves_one_of desk.old ms → K.leaves_one_of desk.new ms }
@@ -114,6 +119,7 @@ fn expect_change<K: Preparer>(
 ) -> bool
     ensures foreseen { result ≡ true → HasForeseen K.expects (SaysChange action name.now body.now) desk.new }
     ensures trust { K.is_trusted desk.new → K.is_trusted desk.old }
+    ensures beside { (beside : K.Beside) → K.keeps_beside desk.old beside → K.keeps_beside desk.new beside }
     ensures closed { K.is_closed desk.old ≡ true → K.is_closed desk.new ≡ true }
     ensures shows { K.is_trusted desk.new → (M : Catalogue) → K.shows desk.old M → K.shows desk.new M }
     ensures leaves { (ms : List (Option Catalogue)) → K.leaves_one_of desk.old ms → K.leaves_one_of desk.new ms }
@@ -140,6 +146,7 @@ pub fn foresee_change<K: Preparer>(
     ensures foreseen { result ≡ true → (values : List (List ℕ)) → AreValues ids.entry values → HasForeseen K.expects (AsksBy action values name.now body.now) desk.new }
     ensures anew { result ≡ true → K.is_trusted desk.new → (M : Catalogue) → K.shows desk.old M → (values : List (List ℕ)) → AreValues ids.entry values → HasForeseen K.expects (AsksAnewBy M action values name.now body.now) desk.new }
     ensures trust { K.is_trusted desk.new → K.is_trusted desk.old }
+    ensures beside { (beside : K.Beside) → K.keeps_beside desk.old beside → K.keeps_beside desk.new beside }
     ensures closed { K.is_closed desk.old ≡ true → K.is_closed desk.new ≡ true }
     ensures shows { K.is_trusted desk.new → (M : Catalogue) → K.shows desk.old M → K.shows desk.new M }
     ensures leaves { (ms : List (Option Catalogue)) → K.leaves_one_of desk.old ms → K.leaves_one_of desk.new ms }

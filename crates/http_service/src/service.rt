@@ -63,6 +63,7 @@ fn act<K: Preparer>(
 ) -> Answer
     ensures responds { K.is_trusted desk.new → (M : Catalogue) (asked : WholeRequest) → K.shows desk.old M → AreValues ids.entry asked.ids → body.now ≡ asked.body → Responds (K.shows desk.new) (K.leaves_one_of desk.old) (K.leaves_one_of desk.new) M (SettlesAction M asked action name.now) (answer_octets result) }
     ensures trust { K.is_trusted desk.new → K.is_trusted desk.old }
+    ensures beside { (beside : K.Beside) → K.keeps_beside desk.old beside → K.keeps_beside desk.new beside }
     ensures closed { K.is_closed desk.old ≡ true → K.is_closed desk.new ≡ true }
 {
     if action == Action::List {
@@ -90,6 +91,7 @@ impl Service {
     ) -> Answer
         ensures responds { K.is_trusted desk.new → (M : Catalogue) (asked : WholeRequest) → K.shows desk.old M → TellsRequest request.entry asked → Responds (K.shows desk.new) (K.leaves_one_of desk.old) (K.leaves_one_of desk.new) M (SettlesRequest M asked) (answer_octets result) }
         ensures trust { K.is_trusted desk.new → K.is_trusted desk.old }
+        ensures beside { (beside : K.Beside) → K.keeps_beside desk.old beside → K.keeps_beside desk.new beside }
         ensures closed { K.is_closed desk.old ≡ true → K.is_closed desk.new ≡ true }
     {
         let Some(found) = self.routes.find(request.target) else {
@@ -110,6 +112,7 @@ impl Service {
         requires whole { ¬ Needs octets.now needs.More }
         ensures responds { K.is_trusted desk.new → (M : Catalogue) → K.shows desk.old M → Responds (K.shows desk.new) (K.leaves_one_of desk.old) (K.leaves_one_of desk.new) M (Settles M octets.now) (answer_octets result) }
         ensures trust { K.is_trusted desk.new → K.is_trusted desk.old }
+        ensures beside { (beside : K.Beside) → K.keeps_beside desk.old beside → K.keeps_beside desk.new beside }
         ensures closed { K.is_closed desk.old ≡ true → K.is_closed desk.new ≡ true }
     {
         match read_request(octets) {
@@ -146,6 +149,7 @@ impl Service {
         ensures foreseen { result ≡ true → HasForeseen K.expects (AsksForChange octets.now) desk.new }
         ensures anew { result ≡ true → K.is_trusted desk.new → (M : Catalogue) → K.shows desk.old M → HasForeseen K.expects (AsksAnewForChange M octets.now) desk.new }
         ensures trust { K.is_trusted desk.new → K.is_trusted desk.old }
+        ensures beside { (beside : K.Beside) → K.keeps_beside desk.old beside → K.keeps_beside desk.new beside }
         ensures closed { K.is_closed desk.old ≡ true → K.is_closed desk.new ≡ true }
         ensures shows { K.is_trusted desk.new → (M : Catalogue) → K.shows desk.old M → K.shows desk.new M }
         ensures leaves { (ms : List (Option Catalogue)) → K.leaves_one_of desk.old ms → K.leaves_one_of desk.new ms }

@@ -62,6 +62,7 @@ impl<T: Transport> Connection<T> {
         ensures led { HasLedOn (K.is_trusted desk.new) (K.shows desk.old) (K.leaves_one_of desk.old) (K.shows desk.new) (K.leaves_one_of desk.new) hub.old hub.new
             (λ events. MatchOption result (events ≡ []) (λ one. IsOpened id kind hub.new one events)) }
         ensures trust { K.is_trusted desk.new → K.is_trusted desk.old }
+        ensures beside { (beside : K.Beside) → K.keeps_beside desk.old beside → K.keeps_beside desk.new beside }
         ensures others { KeepsOthers id hub.old hub.new }
         ensures unasked { desk.new ≡ desk.old }
         ensures unopened { MatchOption result (IsConnectionUnopened O.refuses hub.old id kind × KeepsEach hub.old hub.new) (λ _. ⊤) }
@@ -166,6 +167,7 @@ impl<T: Transport> Connection<T> {
             × KeepsOrder is_behind self.old.held.kind hub.old events) }
         ensures prepared { HoldsBack K.expects K.prepares is_behind hub.old desk.old desk.new self.old self.new }
         ensures trust { K.is_trusted desk.new → K.is_trusted desk.old }
+        ensures beside { (beside : K.Beside) → K.keeps_beside desk.old beside → K.keeps_beside desk.new beside }
         ensures closed { K.is_closed desk.old ≡ true → K.is_closed desk.new ≡ true }
         ensures others { KeepsOthers self.old.id hub.old hub.new }
         ensures id { self.new.id ≡ self.old.id }
@@ -237,6 +239,7 @@ impl<T: Transport> Connection<T> {
             × KeepsOrder is_behind self.old.held.kind hub.old events) }
         ensures prepared { is_open self.new.stage ≡ true → is_held_back self.new.held ≡ true → HoldsStill K.expects K.prepares is_behind false 0 0 hub.old desk.old desk.new self.old.id self.new.held }
         ensures trust { K.is_trusted desk.new → K.is_trusted desk.old }
+        ensures beside { (beside : K.Beside) → K.keeps_beside desk.old beside → K.keeps_beside desk.new beside }
         ensures closed { K.is_closed desk.old ≡ true → K.is_closed desk.new ≡ true }
         ensures others { KeepsOthers self.old.id hub.old hub.new }
         ensures id { self.new.id ≡ self.old.id }
@@ -285,6 +288,7 @@ impl<T: Transport> Connection<T> {
         ensures kind { self.new.held.kind ≡ self.old.held.kind }
         ensures back { is_open self.new.stage ≡ true → is_held_back self.new.held ≡ true → HoldsStill K.expects K.prepares is_behind self.old.held.is_foreseen self.old.held.turns_left self.old.held.waited hub.old desk.old desk.new self.old.id self.new.held }
         ensures trust { K.is_trusted desk.new → K.is_trusted desk.old }
+        ensures beside { (beside : K.Beside) → K.keeps_beside desk.old beside → K.keeps_beside desk.new beside }
         ensures closed { K.is_closed desk.old ≡ true → K.is_closed desk.new ≡ true }
         ensures others { KeepsOthers self.old.id hub.old hub.new }
         ensures id { self.new.id ≡ self.old.id }
@@ -317,6 +321,7 @@ impl<T: Transport> Connection<T> {
     // Where the hub foresees that the octets of an editor complete an install, they may be held back. It is asked once.
     fn foresee<K: Preparer>(&mut self, hub: &mut Hub, desk: &mut K)
         ensures trust { K.is_trusted desk.new → K.is_trusted desk.old }
+        ensures beside { (beside : K.Beside) → K.keeps_beside desk.old beside → K.keeps_beside desk.new beside }
         ensures closed { K.is_closed desk.old ≡ true → K.is_closed desk.new ≡ true }
         ensures shows { K.is_trusted desk.new → (M : Catalogue) → K.shows desk.old M → K.shows desk.new M }
         ensures leaves { (ms : List (Option Catalogue)) → K.leaves_one_of desk.old ms → K.leaves_one_of desk.new ms }
@@ -349,6 +354,7 @@ impl<T: Transport> Connection<T> {
         ensures back { is_open self.new.stage ≡ true → is_held_back self.new.held ≡ true → (self.old.held.is_foreseen ≡ true) × (self.new.held.is_foreseen ≡ true) × (self.new.held.turns_left < self.old.held.turns_left)
             × (self.new.held.waited ≡ min (self.old.held.waited + 1) (2 ^ 64 - 1)) × (held_in self.new.held ≡ held_in self.old.held) × K.prepares desk.old (Ok true) desk.new }
         ensures trust { K.is_trusted desk.new → K.is_trusted desk.old }
+        ensures beside { (beside : K.Beside) → K.keeps_beside desk.old beside → K.keeps_beside desk.new beside }
         ensures closed { K.is_closed desk.old ≡ true → K.is_closed desk.new ≡ true }
         ensures others { KeepsOthers self.old.id hub.old hub.new }
         ensures id { self.new.id ≡ self.old.id }
@@ -364,6 +370,7 @@ impl<T: Transport> Connection<T> {
     // a failure ends the preparing, and they go to the hub as they would have gone without.
     fn prepare<K: Preparer>(&mut self, desk: &mut K) -> bool
         ensures trust { K.is_trusted desk.new → K.is_trusted desk.old }
+        ensures beside { (beside : K.Beside) → K.keeps_beside desk.old beside → K.keeps_beside desk.new beside }
         ensures closed { K.is_closed desk.old ≡ true → K.is_closed desk.new ≡ true }
         ensures shows { K.is_trusted desk.new → (M : Catalogue) → K.shows desk.old M → K.shows desk.new M }
         ensures leaves { (ms : List (Option Catalogue)) → K.leaves_one_of desk.old ms → K.leaves_one_of desk.new ms }
@@ -388,6 +395,7 @@ impl<T: Transport> Connection<T> {
     // failure is told by what is asked of the desk next.
     fn let_go<K: Preparer>(&self, desk: &mut K)
         ensures trust { K.is_trusted desk.new → K.is_trusted desk.old }
+        ensures beside { (beside : K.Beside) → K.keeps_beside desk.old beside → K.keeps_beside desk.new beside }
         ensures closed { K.is_closed desk.old ≡ true → K.is_closed desk.new ≡ true }
         ensures shows { K.is_trusted desk.new → (M : Catalogue) → K.shows desk.old M → K.shows desk.new M }
         ensures leaves { (ms : List (Option Catalogue)) → K.leaves_one_of desk.old ms → K.leaves_one_of desk.new ms }
@@ -407,6 +415,7 @@ impl<T: Transport> Connection<T> {
         ensures kind { self.new.held.kind ≡ self.old.held.kind }
         ensures whole { is_open self.new.stage ≡ true → held_in self.new.held ≡ behind_piece self.old.held.kind (held_in self.old.held) }
         ensures trust { K.is_trusted desk.new → K.is_trusted desk.old }
+        ensures beside { (beside : K.Beside) → K.keeps_beside desk.old beside → K.keeps_beside desk.new beside }
         ensures closed { K.is_closed desk.old ≡ true → K.is_closed desk.new ≡ true }
         ensures others { KeepsOthers self.old.id hub.old hub.new }
         ensures id { self.new.id ≡ self.old.id }
@@ -432,6 +441,7 @@ impl<T: Transport> Connection<T> {
             × AreCausedBy (condition K.has_failed K.is_closed desk.new) self.old self.new events) }
         ensures held { self.new.held ≡ self.old.held }
         ensures trust { K.is_trusted desk.new → K.is_trusted desk.old }
+        ensures beside { (beside : K.Beside) → K.keeps_beside desk.old beside → K.keeps_beside desk.new beside }
         ensures closed { K.is_closed desk.old ≡ true → K.is_closed desk.new ≡ true }
         ensures unasked { desk.new ≡ desk.old }
         ensures others { KeepsOthers self.old.id hub.old hub.new }
@@ -446,6 +456,7 @@ impl<T: Transport> Connection<T> {
         ensures led { HasLedOn (K.is_trusted desk.new) (K.shows desk.old) (K.leaves_one_of desk.old) (K.shows desk.new) (K.leaves_one_of desk.new) hub.old hub.new
             (λ events. HandsToHub [] self.old self.new events × IsOnly (ended self.old.id) events × AreCausedBy (condition K.has_failed K.is_closed desk.new) self.old self.new events) }
         ensures trust { K.is_trusted desk.new → K.is_trusted desk.old }
+        ensures beside { (beside : K.Beside) → K.keeps_beside desk.old beside → K.keeps_beside desk.new beside }
         ensures closed { K.is_closed desk.old ≡ true → K.is_closed desk.new ≡ true }
         ensures unasked { desk.new ≡ desk.old }
         ensures others { KeepsOthers self.old.id hub.old hub.new }

@@ -25,6 +25,7 @@ pub fn deliver<K: Preparer>(
     ensures led { HasLedOn (K.is_trusted desk.new) (K.shows desk.old) (K.leaves_one_of desk.old) (K.shows desk.new) (K.leaves_one_of desk.new) hub.old hub.new
         (λ events. IsTold (happening event.entry) result queue.old queue.new events × AreCaused (condition K.has_failed K.is_closed desk.new) queue.old queue.new events) }
     ensures trust { K.is_trusted desk.new → K.is_trusted desk.old }
+    ensures beside { (beside : K.Beside) → K.keeps_beside desk.old beside → K.keeps_beside desk.new beside }
     ensures closed { K.is_closed desk.old ≡ true → K.is_closed desk.new ≡ true }
     ensures others { KeepsOthers (id_of (happening event.entry)) hub.old hub.new }
     ensures unasked { asks_desk (happening event.entry) ≡ false → desk.new ≡ desk.old }
@@ -51,6 +52,7 @@ pub fn deliver_through<T: Transport, K: Preparer, O: Opening>(
         (λ events. IsToldThrough T.taken T.coming T.made (came id piece.now) (answer_of result) queue.old queue.new transport.old transport.new events
         × AreCaused (condition K.has_failed K.is_closed desk.new) queue.old queue.new events × StaysIfQuiet hub.old desk.old desk.new events) }
     ensures trust { K.is_trusted desk.new → K.is_trusted desk.old }
+    ensures beside { (beside : K.Beside) → K.keeps_beside desk.old beside → K.keeps_beside desk.new beside }
     ensures closed { K.is_closed desk.old ≡ true → K.is_closed desk.new ≡ true }
     ensures others { KeepsOthers id hub.old hub.new }
     ensures cause { IfErr result (MayRefuse hub.old id) }
@@ -92,6 +94,7 @@ fn deliver_from<T: Transport, K: Preparer, O: Opening, B: Beginning>(
         (λ events. IsToldThrough T.taken T.coming T.made (came id piece.now) (answer_of result.0) queue result.1 transport result.2 events
         × AreCaused (condition K.has_failed K.is_closed desk.new) queue result.1 events × StaysIfQuiet hub.old desk.old desk.new events) }
     ensures trust { K.is_trusted desk.new → K.is_trusted desk.old }
+    ensures beside { (beside : K.Beside) → K.keeps_beside desk.old beside → K.keeps_beside desk.new beside }
     ensures closed { K.is_closed desk.old ≡ true → K.is_closed desk.new ≡ true }
     ensures others { KeepsOthers id hub.old hub.new }
     ensures cause { IfErr result.0 (MayRefuse hub.old id) }

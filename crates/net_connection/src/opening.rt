@@ -44,6 +44,7 @@ pub trait Opening {
         ensures led { HasLedOn (K.is_trusted desk.new) (K.shows desk.old) (K.leaves_one_of desk.old) (K.shows desk.new) (K.leaves_one_of desk.new) hub.old hub.new
             (λ events. IsToldOpening id kind hub.new result queue.old queue.new events × AreCaused (condition K.has_failed K.is_closed desk.new) queue.old queue.new events) }
         ensures trust { K.is_trusted desk.new → K.is_trusted desk.old }
+        ensures beside { (beside : K.Beside) → K.keeps_beside desk.old beside → K.keeps_beside desk.new beside }
         ensures others { KeepsOthers id hub.old hub.new }
         ensures unasked { desk.new ≡ desk.old }
         ensures cause { IfErr result (λ fault. IsCause hub.old id (Some fault) × KeepsEach hub.old hub.new) }
@@ -63,6 +64,7 @@ pub trait Opening {
             → IsAt hub.old state → K.shows desk.old stands.catalogue → K.leaves_one_of desk.old stands.leaves
             → IfOk result (λ out. LeadsOn (K.shows desk.new) (K.leaves_one_of desk.new) origin start events state stands (came id piece.now) out (condition K.has_failed K.is_closed desk.new) (change S.stream sink.old sink.new) hub.new) }
         ensures trust { K.is_trusted desk.new → K.is_trusted desk.old }
+        ensures beside { (beside : K.Beside) → K.keeps_beside desk.old beside → K.keeps_beside desk.new beside }
         ensures closed { K.is_closed desk.old ≡ true → K.is_closed desk.new ≡ true }
         ensures others { KeepsOthers id hub.old hub.new }
         ensures quiet { K.is_trusted desk.new → (M : Catalogue) → K.shows desk.old M → (held : Option Holding) → HasHolding hub.old id held → IsQuiet M held (came id piece.now) → desk.new ≡ desk.old }
@@ -84,6 +86,7 @@ pub fn greet_by_hub<K: Preparer>(
     ensures led { HasLedOn (K.is_trusted desk.new) (K.shows desk.old) (K.leaves_one_of desk.old) (K.shows desk.new) (K.leaves_one_of desk.new) hub.old hub.new
         (λ events. IsToldOpening id kind hub.new result queue.old queue.new events × AreCaused (condition K.has_failed K.is_closed desk.new) queue.old queue.new events) }
     ensures trust { K.is_trusted desk.new → K.is_trusted desk.old }
+    ensures beside { (beside : K.Beside) → K.keeps_beside desk.old beside → K.keeps_beside desk.new beside }
     ensures others { KeepsOthers id hub.old hub.new }
     ensures unasked { desk.new ≡ desk.old }
     ensures cause { IfErr result (λ fault. IsCause hub.old id (Some fault) × KeepsEach hub.old hub.new) }
@@ -106,6 +109,7 @@ pub fn hand_by_hub<K: Preparer, S: Sink>(
         → IsAt hub.old state → K.shows desk.old stands.catalogue → K.leaves_one_of desk.old stands.leaves
         → IfOk result (λ out. LeadsOn (K.shows desk.new) (K.leaves_one_of desk.new) origin start events state stands (came id piece.now) out (condition K.has_failed K.is_closed desk.new) (change S.stream sink.old sink.new) hub.new) }
     ensures trust { K.is_trusted desk.new → K.is_trusted desk.old }
+    ensures beside { (beside : K.Beside) → K.keeps_beside desk.old beside → K.keeps_beside desk.new beside }
     ensures closed { K.is_closed desk.old ≡ true → K.is_closed desk.new ≡ true }
     ensures others { KeepsOthers id hub.old hub.new }
     ensures quiet { K.is_trusted desk.new → (M : Catalogue) → K.shows desk.old M → (held : Option Holding) → HasHolding hub.old id held → IsQuiet M held (came id piece.now) → desk.new ≡ desk.old }

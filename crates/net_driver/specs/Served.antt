@@ -49,9 +49,9 @@ ended (Ok moved) true waited rounds = Some (Ok (Closed (rounds - 1)))
 ended (Ok moved) false (Err error) rounds = Some (Err error)
 ended (Ok moved) false (Ok nothing) rounds = None
 
--- By what a desk shows, what a stop may leave of it, that what it stands on has returned what was written, whether its last call failed and
+-- By what a desk shows, what a stop may leave of it, what is beside the catalogue, that what it stands on has returned what was written, whether its last call failed and
 -- it is closed, and what it was told of and prepared; and by what is known of transports and of sockets, and for how many nanoseconds these are waited for at most.
-module _ {K T S : Type 0} {G : transport.Ghosts T} (Shows : K → Catalogue → Type 0) (LeavesOneOf : K → List (Option Catalogue) → Type 0) (IsTrusted : K → Type 0) (has_failed is_closed : K → Bool)
+module _ {K T S Beside : Type 0} {G : transport.Ghosts T} (Shows : K → Catalogue → Type 0) (LeavesOneOf : K → List (Option Catalogue) → Type 0) (KeepsBeside : K → Beside → Type 0) (IsTrusted : K → Type 0) (has_failed is_closed : K → Bool)
     (expects : K → Expected → K → Type 0) (prepares : K → Result Bool Fault → K → Type 0) (taken coming : T → Option (List ℕ)) (made : T → Option (List Call)) (refuses : Hub → ℕ → Kind → Option HubFault → Type 0)
     (asked : S → Option (List (Asking T))) (told : S → List ℕ) (wait : ℕ) where
   -- the round is one as its own contract says it: by its events and its result
@@ -60,6 +60,7 @@ module _ {K T S : Type 0} {G : transport.Ghosts T} (Shows : K → Catalogue → 
         (λ events. Moves one.before.connections one.made.connections events × AreOfRound events
         × GoesRound (condition has_failed is_closed) expects prepares taken coming made refuses asked told one.result one.desk one.left one.before one.made events)
     pub trust : IsTrusted one.left → IsTrusted one.desk
+    pub beside : (beside : Beside) → KeepsBeside one.desk beside → KeepsBeside one.left beside
     pub rounds : IsRoundCounted one.result one.before.rounds one.made.rounds
     pub grown : one.before.rounds ≤ one.made.rounds
     pub idle : IfOk one.result (λ has_moved. has_moved ≡ false → IsIdle one.made)

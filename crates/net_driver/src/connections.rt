@@ -127,6 +127,7 @@ impl<T: Transport> Connections<T> {
         ensures led { HasLedOn (K.is_trusted desk.new) (K.shows desk.old) (K.leaves_one_of desk.old) (K.shows desk.new) (K.leaves_one_of desk.new) hub.old hub.new
             (λ events. Moves self.old self.new events × Admits O.refuses transport kind hub.old hub.new self.old self.new events) }
         ensures trust { K.is_trusted desk.new → K.is_trusted desk.old }
+        ensures beside { (beside : K.Beside) → K.keeps_beside desk.old beside → K.keeps_beside desk.new beside }
         ensures others { KeepsOthers (self.old.last + 1) hub.old hub.new }
         ensures unasked { desk.new ≡ desk.old }
     {
@@ -150,6 +151,7 @@ impl<T: Transport> Connections<T> {
         ensures led { HasLedOn (K.is_trusted desk.new) (K.shows desk.old) (K.leaves_one_of desk.old) (K.shows desk.new) (K.leaves_one_of desk.new) hub.old hub.new
             (λ events. Moves self.old self.new events × AreOfTurns events × ComeById events × TurnEach (condition K.has_failed K.is_closed) K.expects K.prepares T.taken T.coming T.made O.refuses hub.old desk.old desk.new self.old self.new result events) }
         ensures trust { K.is_trusted desk.new → K.is_trusted desk.old }
+        ensures beside { (beside : K.Beside) → K.keeps_beside desk.old beside → K.keeps_beside desk.new beside }
         ensures others { KeepsAllBut self.old.opened.items hub.old hub.new }
         ensures closed { K.is_closed desk.old ≡ true → K.is_closed desk.new ≡ true }
         ensures idle { result ≡ false → All HasNothingToDo self.new.opened.items }

@@ -113,6 +113,7 @@ impl<'h, T: Transport, S: Sockets<T>> EventLoop<'h, T, S> {
         ensures led { HasLedOn (K.is_trusted desk.new) (K.shows desk.old) (K.leaves_one_of desk.old) (K.shows desk.new) (K.leaves_one_of desk.new) self.old.hub self.new.hub
             (λ events. Moves self.old.connections self.new.connections events × AreOfRound events × GoesRound (condition K.has_failed K.is_closed) K.expects K.prepares T.taken T.coming T.made S.refuses S.asked S.told result desk.old desk.new self.old self.new events) }
         ensures trust { K.is_trusted desk.new → K.is_trusted desk.old }
+        ensures beside { (beside : K.Beside) → K.keeps_beside desk.old beside → K.keeps_beside desk.new beside }
         ensures closed { K.is_closed desk.old ≡ true → K.is_closed desk.new ≡ true }
         ensures rounds { IsRoundCounted result self.old.rounds self.new.rounds }
         ensures grown { self.old.rounds ≤ self.new.rounds }
@@ -159,6 +160,7 @@ impl<'h, T: Transport, S: Sockets<T>> EventLoop<'h, T, S> {
         ensures led { HasLedOn (K.is_trusted desk.new) (K.shows desk.old) (K.leaves_one_of desk.old) (K.shows desk.new) (K.leaves_one_of desk.new) self.old.hub self.new.hub
             (λ events. Moves self.old.connections self.new.connections events × HasAccepted S.refuses S.asked kind self.old self.new events) }
         ensures trust { K.is_trusted desk.new → K.is_trusted desk.old }
+        ensures beside { (beside : K.Beside) → K.keeps_beside desk.old beside → K.keeps_beside desk.new beside }
         ensures unasked { desk.new ≡ desk.old }
         ensures kept { IsKept self.old self.new }
         ensures asked { result ≡ is_ready (listening_of kind self.new) }
@@ -180,6 +182,7 @@ impl<'h, T: Transport, S: Sockets<T>> EventLoop<'h, T, S> {
         ensures led { HasLedOn (K.is_trusted desk.new) (K.shows desk.old) (K.leaves_one_of desk.old) (K.shows desk.new) (K.leaves_one_of desk.new) self.old.hub self.new.hub
             (λ events. Moves self.old.connections self.new.connections events × HasAsked S.refuses S.asked kind self.old self.new events) }
         ensures trust { K.is_trusted desk.new → K.is_trusted desk.old }
+        ensures beside { (beside : K.Beside) → K.keeps_beside desk.old beside → K.keeps_beside desk.new beside }
         ensures others { KeepsOthers (self.old.connections.last + 1) self.old.hub self.new.hub }
         ensures unasked { desk.new ≡ desk.old }
         ensures kept { IsKept self.old self.new }
@@ -230,6 +233,7 @@ impl<'h, T: Transport, S: Sockets<T>> EventLoop<'h, T, S> {
         ensures led { HasLedOn (K.is_trusted desk.new) (K.shows desk.old) (K.leaves_one_of desk.old) (K.shows desk.new) (K.leaves_one_of desk.new) self.old.hub self.new.hub
             (λ events. Moves self.old.connections self.new.connections events × HasTakenConnection S.refuses S.asked transport kind self.old self.new events) }
         ensures trust { K.is_trusted desk.new → K.is_trusted desk.old }
+        ensures beside { (beside : K.Beside) → K.keeps_beside desk.old beside → K.keeps_beside desk.new beside }
         ensures others { KeepsOthers (self.old.connections.last + 1) self.old.hub self.new.hub }
         ensures unasked { desk.new ≡ desk.old }
         ensures kept { IsKept self.old self.new }

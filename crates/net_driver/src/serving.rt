@@ -50,10 +50,11 @@ pub fn serve<T: Transport, S: Sockets<T>, K: Preparer>(
     rounds: u64,
     wait: Duration,
 ) -> io::Result<RoundsEnd>
-    ensures by_rounds { (each : List (Round K T S _)) × AreRounds K.shows K.leaves_one_of K.is_trusted K.has_failed K.is_closed K.expects K.prepares T.taken T.coming T.made S.refuses S.asked S.told (as_nanos wait) rounds event_loop.old desk.old event_loop.new desk.new each result }
+    ensures by_rounds { (each : List (Round K T S _)) × AreRounds K.shows K.leaves_one_of K.keeps_beside K.is_trusted K.has_failed K.is_closed K.expects K.prepares T.taken T.coming T.made S.refuses S.asked S.told (as_nanos wait) rounds event_loop.old desk.old event_loop.new desk.new each result }
     ensures led { HasLedOn (K.is_trusted desk.new) (K.shows desk.old) (K.leaves_one_of desk.old) (K.shows desk.new) (K.leaves_one_of desk.new) event_loop.old.hub event_loop.new.hub
         (λ events. Moves event_loop.old.connections event_loop.new.connections events) }
     ensures trust { K.is_trusted desk.new → K.is_trusted desk.old }
+    ensures beside { (beside : K.Beside) → K.keeps_beside desk.old beside → K.keeps_beside desk.new beside }
     ensures closed { IsClosedBy (K.is_closed desk.new) rounds result }
     ensures counted { AreCounted rounds result event_loop.old.rounds event_loop.new.rounds }
     ensures grown { event_loop.old.rounds ≤ event_loop.new.rounds }

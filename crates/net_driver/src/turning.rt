@@ -26,6 +26,7 @@ pub fn turn_all<T: Transport, K: Preparer, O: Opening>(
     ensures led { HasLedOn (K.is_trusted desk.new) (K.shows desk.old) (K.leaves_one_of desk.old) (K.shows desk.new) (K.leaves_one_of desk.new) hub.old hub.new
         (λ events. TurnAll (condition K.has_failed K.is_closed) K.expects K.prepares T.taken T.coming T.made O.refuses hub.old desk.old desk.new all.old.items all.new.items result events) }
     ensures trust { K.is_trusted desk.new → K.is_trusted desk.old }
+    ensures beside { (beside : K.Beside) → K.keeps_beside desk.old beside → K.keeps_beside desk.new beside }
     ensures others { KeepsAllBut all.old.items hub.old hub.new }
     ensures closed { K.is_closed desk.old ≡ true → K.is_closed desk.new ≡ true }
     ensures idle { result ≡ false → All HasNothingToDo all.new.items }

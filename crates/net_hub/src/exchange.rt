@@ -85,6 +85,7 @@ impl<'h> Exchange<'h> {
         ensures left { K.is_trusted desk.new → (M : Catalogue) → K.shows desk.old M → (host : List ℕ) (id : ℕ) (held : Holding) → HoldsExchange host id self.old held
             → IfOk result (λ out. HoldsIfOpen host id self.new (left_by held.kind (held.octets ++ piece.now) out)) }
         ensures trust { K.is_trusted desk.new → K.is_trusted desk.old }
+        ensures beside { (beside : K.Beside) → K.keeps_beside desk.old beside → K.keeps_beside desk.new beside }
         ensures closed { K.is_closed desk.old ≡ true → K.is_closed desk.new ≡ true }
         ensures memory { IfErr result (λ fault. fault ≡ Memory) }
         ensures editor { (host : List ℕ) (id : ℕ) (held : Holding) → HoldsExchange host id self.old held → IfErr result (λ fault. held.kind ≡ Http) }
@@ -111,6 +112,7 @@ impl<'h> Exchange<'h> {
         ensures foreseen { result ≡ true → (host : List ℕ) (id : ℕ) (held : Holding) → HoldsExchange host id self.old held → IsForeseen K.expects AsksForChange held piece.now desk.new }
         ensures anew { result ≡ true → K.is_trusted desk.new → (M : Catalogue) → K.shows desk.old M → (host : List ℕ) (id : ℕ) (held : Holding) → HoldsExchange host id self.old held → IsForeseen K.expects (AsksAnewForChange M) held piece.now desk.new }
         ensures trust { K.is_trusted desk.new → K.is_trusted desk.old }
+        ensures beside { (beside : K.Beside) → K.keeps_beside desk.old beside → K.keeps_beside desk.new beside }
         ensures closed { K.is_closed desk.old ≡ true → K.is_closed desk.new ≡ true }
         ensures shows { K.is_trusted desk.new → (M : Catalogue) → K.shows desk.old M → K.shows desk.new M }
         ensures leaves { (ms : List (Option Catalogue)) → K.leaves_one_of desk.old ms → K.leaves_one_of desk.new ms }

@@ -108,6 +108,7 @@ impl<'h> Hub<'h> {
             → IfOk result (λ out. connection_count self.new ≡ count_after (connection_count self.old) held (held_after held (happening event.entry) out)) }
         ensures host { host_of self.new ≡ host_of self.old }
         ensures trust { K.is_trusted desk.new → K.is_trusted desk.old }
+        ensures beside { (beside : K.Beside) → K.keeps_beside desk.old beside → K.keeps_beside desk.new beside }
         ensures closed { K.is_closed desk.old ≡ true → K.is_closed desk.new ≡ true }
         ensures kept { OnErr result ((other : ℕ) (held : Option Holding) → HasHolding self.old other held → HasHolding self.new other held) }
         ensures given { OnErr result (greatest_of self.new ≡ greatest_of self.old) }
@@ -142,6 +143,7 @@ impl<'h> Hub<'h> {
         ensures count { connection_count self.new ≡ connection_count self.old }
         ensures host { host_of self.new ≡ host_of self.old }
         ensures trust { K.is_trusted desk.new → K.is_trusted desk.old }
+        ensures beside { (beside : K.Beside) → K.keeps_beside desk.old beside → K.keeps_beside desk.new beside }
         ensures closed { K.is_closed desk.old ≡ true → K.is_closed desk.new ≡ true }
         ensures shows { K.is_trusted desk.new → (M : Catalogue) → K.shows desk.old M → K.shows desk.new M }
         ensures leaves { (ms : List (Option Catalogue)) → K.leaves_one_of desk.old ms → K.leaves_one_of desk.new ms }
@@ -250,6 +252,7 @@ impl<'h> Hub<'h> {
         ensures greatest { greatest_of self.new ≡ greatest_of self.old }
         ensures host { host_of self.new ≡ host_of self.old }
         ensures trust { K.is_trusted desk.new → K.is_trusted desk.old }
+        ensures beside { (beside : K.Beside) → K.keeps_beside desk.old beside → K.keeps_beside desk.new beside }
         ensures closed { K.is_closed desk.old ≡ true → K.is_closed desk.new ≡ true }
         ensures kept { OnErr result ((held : Option Holding) → HasHolding self.old id held → HasHolding self.new id held) }
         ensures number { OnErr result (connection_count self.new ≡ connection_count self.old) }

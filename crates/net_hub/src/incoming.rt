@@ -65,6 +65,7 @@ impl Incoming {
         ensures answers { result ≡ Ok outs.Close → K.is_trusted desk.new → (M : Catalogue) → K.shows desk.old M
             → AnswersRequest (K.shows desk.new) (K.leaves_one_of desk.old) (K.leaves_one_of desk.new) M (self.old.octets.items ++ piece.now) (S.stream sink.old) (S.stream sink.new) }
         ensures trust { K.is_trusted desk.new → K.is_trusted desk.old }
+        ensures beside { (beside : K.Beside) → K.keeps_beside desk.old beside → K.keeps_beside desk.new beside }
         ensures closed { K.is_closed desk.old ≡ true → K.is_closed desk.new ≡ true }
         ensures memory { IfErr result (λ fault. fault ≡ Memory) }
         ensures held { OnErr result (self.new.octets.items ≡ self.old.octets.items) }
@@ -107,6 +108,7 @@ impl Incoming {
         ensures foreseen { result ≡ true → HasForeseen K.expects (AsksForChange (self.old.octets.items ++ piece.now)) desk.new }
         ensures anew { result ≡ true → K.is_trusted desk.new → (M : Catalogue) → K.shows desk.old M → HasForeseen K.expects (AsksAnewForChange M (self.old.octets.items ++ piece.now)) desk.new }
         ensures trust { K.is_trusted desk.new → K.is_trusted desk.old }
+        ensures beside { (beside : K.Beside) → K.keeps_beside desk.old beside → K.keeps_beside desk.new beside }
         ensures closed { K.is_closed desk.old ≡ true → K.is_closed desk.new ≡ true }
         ensures shows { K.is_trusted desk.new → (M : Catalogue) → K.shows desk.old M → K.shows desk.new M }
         ensures leaves { (ms : List (Option Catalogue)) → K.leaves_one_of desk.old ms → K.leaves_one_of desk.new ms }

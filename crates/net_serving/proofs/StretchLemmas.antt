@@ -8,7 +8,7 @@ use Rattle.net_driver.specs.declared.driver.Driver.{Driver}
 use Rattle.app_words.specs.declared.fault.ProgramFault.{ProgramFault}
 use Rattle.net_serving.specs.Serving.{AreLeft, AreServed, CannotWait, Follows, HasGivenOut, HasShut, IsFirst, IsNew, IsOver, Stretch, WasOpened}
 
-module _ {K : Type 0} (Shows : K → Catalogue → Type 0) (Leaves : K → List (Option Catalogue) → Type 0) (Trusted : K → Type 0) (Opened : Option K → K → Type 0) (is_closed : K → Bool) where
+module _ {K Beside : Type 0} (Shows : K → Catalogue → Type 0) (Leaves : K → List (Option Catalogue) → Type 0) (Keeps : K → Beside → Type 0) (Trusted : K → Type 0) (Opened : Option K → K → Type 0) (is_closed : K → Bool) where
   -- a desk that was opened by its path or again was opened
   pub was_opened : (former : Option K) (desk : K) → IsNew Shows Leaves Trusted (Opened former) desk → IsNew Shows Leaves Trusted (WasOpened Opened) desk
   was_opened former desk new = record { opened = (former, new.opened); alone = new.alone }
@@ -16,10 +16,10 @@ module _ {K : Type 0} (Shows : K → Catalogue → Type 0) (Leaves : K → List 
   -- a desk comes after these stretches: it is the first, or was opened again after the last of them
   abbrev pub GoesOn : ℕ → K → List (Stretch K) → K → ℕ → Type 0
   GoesOn rounds desk [] next left = (next ≡ desk) × (left ≡ rounds)
-  GoesOn rounds desk (one ∷ []) next left = (is_closed one.left ≡ true) × Follows Shows Leaves Trusted one.left next × Opened (Some one.left) next × AreLeft one.ended left
+  GoesOn rounds desk (one ∷ []) next left = (is_closed one.left ≡ true) × Follows Shows Leaves Keeps Trusted one.left next × Opened (Some one.left) next × AreLeft one.ended left
   GoesOn rounds desk (one ∷ other ∷ others) next left = GoesOn rounds desk (other ∷ others) next left
 
-  pub goes_more : (rounds : ℕ) (desk : K) (stretches : List (Stretch K)) (one : Stretch K) (next : K) (left : ℕ) → is_closed one.left ≡ true → Follows Shows Leaves Trusted one.left next → Opened (Some one.left) next → AreLeft one.ended left
+  pub goes_more : (rounds : ℕ) (desk : K) (stretches : List (Stretch K)) (one : Stretch K) (next : K) (left : ℕ) → is_closed one.left ≡ true → Follows Shows Leaves Keeps Trusted one.left next → Opened (Some one.left) next → AreLeft one.ended left
       → GoesOn rounds desk (stretches ++ one ∷ []) next left
   goes_more rounds desk [] one next left closed follows again are = (closed, follows, again, are)
   goes_more rounds desk (other ∷ []) one next left closed follows again are = (closed, follows, again, are)
@@ -30,13 +30,13 @@ module _ {K : Type 0} (Shows : K → Catalogue → Type 0) (Leaves : K → List 
   first_goes rounds desk (other ∷ stretches) one first goes = first
 
   alone : (has_failed : K → Bool) (expects : K → Expected → K → Type 0) (prepares : K → Result Bool Fault → K → Type 0) (one : Stretch K) (a b c : Driver) → b ≡ a
-      → IsOver Shows Leaves Trusted Opened has_failed is_closed expects prepares one b c → AreServed Shows Leaves Trusted Opened has_failed is_closed expects prepares (one ∷ []) a c
-  alone has_failed expects prepares one a b c same over = (c, subst (λ (d : Driver). IsOver Shows Leaves Trusted Opened has_failed is_closed expects prepares one d c) same over, tt, refl)
+      → IsOver Shows Leaves Keeps Trusted Opened has_failed is_closed expects prepares one b c → AreServed Shows Leaves Keeps Trusted Opened has_failed is_closed expects prepares (one ∷ []) a c
+  alone has_failed expects prepares one a b c same over = (c, subst (λ (d : Driver). IsOver Shows Leaves Keeps Trusted Opened has_failed is_closed expects prepares one d c) same over, tt, refl)
 
   pub served_more : (has_failed : K → Bool) (expects : K → Expected → K → Type 0) (prepares : K → Result Bool Fault → K → Type 0) (rounds : ℕ) (desk : K) (stretches : List (Stretch K)) (one : Stretch K) (a b c : Driver)
-      → AreServed Shows Leaves Trusted Opened has_failed is_closed expects prepares stretches a b
+      → AreServed Shows Leaves Keeps Trusted Opened has_failed is_closed expects prepares stretches a b
       → GoesOn rounds desk stretches one.opened one.asked
-      → IsOver Shows Leaves Trusted Opened has_failed is_closed expects prepares one b c → AreServed Shows Leaves Trusted Opened has_failed is_closed expects prepares (stretches ++ one ∷ []) a c
+      → IsOver Shows Leaves Keeps Trusted Opened has_failed is_closed expects prepares one b c → AreServed Shows Leaves Keeps Trusted Opened has_failed is_closed expects prepares (stretches ++ one ∷ []) a c
   served_more has_failed expects prepares rounds desk [] one a b c served goes over = alone has_failed expects prepares one a b c served over
   served_more has_failed expects prepares rounds desk (other ∷ []) one a b c (between, first, gave, served) goes over = (between, first, goes, alone has_failed expects prepares one between b c served over)
   served_more has_failed expects prepares rounds desk (other ∷ next ∷ stretches) one a b c (between, first, gave, served) goes over =

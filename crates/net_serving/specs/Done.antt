@@ -47,7 +47,7 @@ WasDone {K} Shut old new path desk stretches =
     (last : Option K) × (deeds : List (Deed K)) × AreDone path desk stretches last deeds × Does old new (Opens path (Some desk) ∷ (deeds ++ closing last))
     × MatchOption last ⊤ Shut
 
-module _ {K : Type 0} (Shows : K → Catalogue → Type 0) (LeavesOneOf : K → List (Option Catalogue) → Type 0) (IsTrusted : K → Type 0) (IsOpened : Option K → K → Type 0)
+module _ {K Beside : Type 0} (Shows : K → Catalogue → Type 0) (LeavesOneOf : K → List (Option Catalogue) → Type 0) (KeepsBeside : K → Beside → Type 0) (IsTrusted : K → Type 0) (IsOpened : Option K → K → Type 0)
     (has_failed is_closed : K → Bool) (expects : K → Expected → K → Type 0) (prepares : K → Result Bool Fault → K → Type 0)
     (Begins : List ℕ → List ℕ → Result Driver ProgramFault → StreamChange → Type 0) where
   -- There is no desk of the file; or there is, and no sockets were bound to both addresses, or they couldn't be told, and it was closed;
@@ -58,5 +58,5 @@ module _ {K : Type 0} (Shows : K → Catalogue → Type 0) (LeavesOneOf : K → 
       ((fault : ProgramFault) × (result ≡ Err fault) × IsNone (IsUnopened path) fault × IsUntouched writer × Does old new (Opens path None ∷ []) × (kept ≡ None))
       ⊎ ((desk : K) × IsNew Shows LeavesOneOf IsTrusted (IsOpened None) desk
       × (((fault : ProgramFault) × (result ≡ Err fault) × Begins dict http (Err fault) writer × Does old new (Opens path (Some desk) ∷ Closes desk ∷ []) × Shut desk × (kept ≡ None))
-      ⊎ ((served : HasServed Shows LeavesOneOf IsTrusted IsOpened has_failed is_closed expects prepares desk dict http rounds result Shut (IsUnreopened path) writer) × WasDone Shut old new path desk served.stretches
+      ⊎ ((served : HasServed Shows LeavesOneOf KeepsBeside IsTrusted IsOpened has_failed is_closed expects prepares desk dict http rounds result Shut (IsUnreopened path) writer) × WasDone Shut old new path desk served.stretches
       × (kept ≡ Some served.last) × Begins dict http (Ok served.first) writer)))

@@ -81,10 +81,11 @@ abbrev pub IsFirst : {K : Type 0} → ℕ → K → List (Stretch K) → Type 0
 IsFirst rounds desk [] = ⊤
 IsFirst rounds desk (one ∷ others) = (one.opened ≡ desk) × (one.asked ≡ rounds)
 
--- A desk shows one of the catalogues that a stop could have left of another: this is told where what it stands on has returned what was
--- written to it
-abbrev pub Follows : {K : Type 0} → (K → Catalogue → Type 0) → (K → List (Option Catalogue) → Type 0) → (K → Type 0) → K → K → Type 0
-Follows Shows LeavesOneOf IsTrusted old new = IsTrusted new → (ms : List (Option Catalogue)) → LeavesOneOf old ms → ∥ ((M : Catalogue) × Contains ms (Some M) × Shows new M) ∥₁
+-- A desk shows one of the catalogues that a stop could have left of another, this is told where what it stands on has returned what was
+-- written to it; and what was beside that catalogue is kept
+pub record Follows {K Beside : Type 0} (Shows : K → Catalogue → Type 0) (LeavesOneOf : K → List (Option Catalogue) → Type 0) (KeepsBeside : K → Beside → Type 0) (IsTrusted : K → Type 0) (old new : K) : Type 0 where
+  pub shows : IsTrusted new → (ms : List (Option Catalogue)) → LeavesOneOf old ms → ∥ ((M : Catalogue) × Contains ms (Some M) × Shows new M) ∥₁
+  pub beside : (beside : Beside) → KeepsBeside old beside → KeepsBeside new beside
 
 -- the driver couldn't wait for its sockets
 abbrev pub CannotWait : Driver → ProgramFault → Type 0
@@ -109,9 +110,9 @@ abbrev pub EndsServing : {K A : Type 0} → (K → Bool) → (K → Type 0) → 
 EndsServing is_closed Shut Unreopened stretches driver (Ok _) = ⊤
 EndsServing is_closed Shut Unreopened stretches driver (Err fault) = (CannotWait driver fault × HasShut Shut stretches) ⊎ HasGivenOut is_closed Unreopened stretches fault
 
--- By what a desk shows, what a stop may leave of it, that what it stands on has returned what was written, that it was opened, whether
+-- By what a desk shows, what a stop may leave of it, what is beside the catalogue, that what it stands on has returned what was written, that it was opened, whether
 -- its last call failed and its store has, and what it was told of and prepared.
-module _ {K : Type 0} (Shows : K → Catalogue → Type 0) (LeavesOneOf : K → List (Option Catalogue) → Type 0) (IsTrusted : K → Type 0) (IsOpened : Option K → K → Type 0)
+module _ {K Beside : Type 0} (Shows : K → Catalogue → Type 0) (LeavesOneOf : K → List (Option Catalogue) → Type 0) (KeepsBeside : K → Beside → Type 0) (IsTrusted : K → Type 0) (IsOpened : Option K → K → Type 0)
     (has_failed is_closed : K → Bool) (expects : K → Expected → K → Type 0) (prepares : K → Result Bool Fault → K → Type 0) where
   -- Over the desk of one opening events led the hub from where it was to where it is, and what waits for each connection is what
   -- waited and what its own events put, without a front that was sent. So many rounds were made more than before, of those that were to be
@@ -120,15 +121,16 @@ module _ {K : Type 0} (Shows : K → Catalogue → Type 0) (LeavesOneOf : K → 
     pub opened : IsNew Shows LeavesOneOf IsTrusted (WasOpened IsOpened) one.opened
     pub led : HasLedOn (IsTrusted one.left) (Shows one.opened) (LeavesOneOf one.opened) (Shows one.left) (LeavesOneOf one.left) old.event_loop.hub new.event_loop.hub
         (λ events. Moves old.event_loop.connections new.event_loop.connections events)
-    pub by_rounds : AreDriven Shows LeavesOneOf IsTrusted has_failed is_closed expects prepares one.asked old one.opened new one.left one.ended
+    pub by_rounds : AreDriven Shows LeavesOneOf KeepsBeside IsTrusted has_failed is_closed expects prepares one.asked old one.opened new one.left one.ended
     pub trust : IsTrusted one.left → IsTrusted one.opened
+    pub beside : (beside : Beside) → KeepsBeside one.opened beside → KeepsBeside one.left beside
     pub made : new.event_loop.rounds ≡ old.event_loop.rounds + one.rounds
 
   -- where others follow a stretch, its store had failed, the desk of the next was opened again after its desk and shows one of the
   -- catalogues that a stop could have left of that, and over it the rounds are to be made that were left
   abbrev pub GaveWay : Stretch K → List (Stretch K) → Type 0
   GaveWay one [] = ⊤
-  GaveWay one (other ∷ others) = (is_closed one.left ≡ true) × Follows Shows LeavesOneOf IsTrusted one.left other.opened × IsOpened (Some one.left) other.opened × AreLeft one.ended other.asked
+  GaveWay one (other ∷ others) = (is_closed one.left ≡ true) × Follows Shows LeavesOneOf KeepsBeside IsTrusted one.left other.opened × IsOpened (Some one.left) other.opened × AreLeft one.ended other.asked
 
   -- one stretch after the other, each from where the one before it left the hub and the connections, and each but the first because
   -- the store of the one before it had failed

@@ -54,7 +54,7 @@ pub trait DeskOpener<K: Keeper> {
     /// nothing of the file that it couldn't leave of the other desk.
     fn reopen<'w>(&mut self, path: &'w str, desk: K) -> Result<K, ProgramFault<'w>>
         ensures opened { MatchResult result (IsNew K.shows K.leaves_one_of K.is_trusted (is_opened (Some desk))) (IsNone (is_unreopened path.entry.now desk self.new)) }
-        ensures follows { IfOk result (Follows K.shows K.leaves_one_of K.is_trusted desk) }
+        ensures follows { IfOk result (Follows K.shows K.leaves_one_of K.keeps_beside K.is_trusted desk) }
         ensures leaves { IfErr result (λ _. (ms : List (Option Catalogue)) → K.leaves_one_of desk ms → still_leaves desk self.new ms) }
         ensures history { Does (history self.old) (history self.new) (Reopens path.entry.now desk (got result) ∷ []) };
 

@@ -2,6 +2,7 @@
 use Rattle.std.proofs.Common.{◌≡◌, inl, inr, ℕ, Bool, true, false, List, refl, sym, subst, ◌∙◌, arith}
 use Rattle.std.specs.Prelude.{IsTrue, Option, Some, None, Contains, Result, Ok, Err, OnErr, IfErr}
 use Rattle.std.proofs.lemmas.Bool.{false≢true}
+use Rattle.sqlite.proofs.StateLemmas.{survives_weaker}
 use Rattle.sqlite.specs.Disk.{MoreFaults}
 use Rattle.sqlite.specs.Effect.{Database}
 use Rattle.sqlite.specs.Tree.{Trees}
@@ -20,14 +21,16 @@ use Rattle.store_search.specs.Entries.{Indexed}
 use Rattle.store_commands.specs.Answers.{HoldsBy}
 use Rattle.store_holdings.specs.Committed.{IsTreesOf}
 use Rattle.store_commands.specs.Committed.{IsOfStore, StaysCommitted}
+use Rattle.store_commands.specs.KeptRecords.{SparesTablesOfOthers}
 use Rattle.store_commands.specs.Marking.{Remains}
 use Rattle.store_commands.specs.declared.filing.Filing.{Filing}
 use Rattle.store_commands.proofs.WriteLemmas.{others_none}
 use Rattle.store_desk.specs.Causes.{FailsToPrepare}
-use Rattle.store_desk.specs.Desk.{DeskState, HasCommitted, HasFiled, IsAtRest, ServesEdition, Shows, LeavesOneOf, StandsFor, is_closed}
+use Rattle.store_desk.specs.Desk.{DeskState, HasCommitted, HasFiled, IsAtRest, ServesEdition, Shows, KeepsBeside, LeavesOneOf, StandsFor, is_closed}
 use Rattle.store_desk.specs.KeptParts.{KeepsTexts, texts_behind}
 use Rattle.store_desk.specs.Prepared.{last_behind}
 use Rattle.store_desk.specs.declared.last.LastCall.{LastCall}
+use Rattle.store_desk.proofs.BesideLemmas.{beside_by}
 use Rattle.store_desk.proofs.DeskLemmas.{at_rest}
 use Rattle.store_desk.proofs.PreparingLemmas.{parts_behind}
 use Rattle.store_desk.proofs.ServedLemmas.{each_edition}
@@ -139,3 +142,11 @@ copied_leaves g old new holds sound stays crash ms left clean trees may =
           (one.0, one.1, stands_on one.0 it.0 db.trees trees was is one.2)
           )
     ]
+
+pub copied_beside : {S : Type 0} (g : Ghosts S) (old new : DeskState S) → HasCommitted old.summary (state g old.conn) → IsLive (state g old.conn)
+    → (IsTrue (state g old.conn).is_open → (state g old.conn).may_leave (state g old.conn).committed.trees) → Survives (state g old.conn) (state g new.conn) (CommitsSame g old.summary old.conn)
+    → (db : Database) → KeepsBeside g old db → KeepsBeside g new db
+copied_beside g old new holds sound stays crash =
+    beside_by g old new holds sound stays
+    (survives_weaker (state g old.conn) (state g new.conn) (CommitsSame g old.summary old.conn) (λ trees. IsTrue (state g old.conn).is_open × IsTreesOf (SparesTablesOfOthers (state g old.conn).committed) trees)
+    (λ clean trees h. (h.0, (h.1.0, h.1.1, h.1.2, h.1.3.others))) crash)

@@ -1,16 +1,36 @@
 -- What comes of a session over an opened database.
-use Rattle.std.proofs.Common.{List, Option, IsTrue}
+use Rattle.std.proofs.Common.{List, Option, IsTrue, inl, inr, sym, subst, arith}
 use Rattle.std.specs.Prelude.{None}
-use Rattle.sqlite.specs.State.{IsLive, Survives}
+use Rattle.std.proofs.Math.Logic.{∥∥₁_map}
+use Rattle.sqlite.specs.Effect.{Database}
+use Rattle.sqlite.specs.State.{HasCleanDisk, IsLive, Survives}
 use Rattle.sqlite.specs.Held.{Held, state}
 use Rattle.sqlite_trees.specs.declared.store.Store.{Ghosts}
 use Rattle.dict_catalogue.specs.Steps.{Catalogue}
+use Rattle.store_holdings.specs.Committed.{IsTreesOf}
+use Rattle.store_holdings.proofs.OneLemmas.{database_once}
 use Rattle.store_migration.specs.Migrated.{MayMigrate}
+use Rattle.store_migration.specs.Spared.{SparesOthers}
+use Rattle.store_migration.proofs.OtherLemmas.{others_then}
 use Rattle.store_migration.proofs.StopLemmas.{stopped}
-use Rattle.store_desk.specs.Over.{ConnectionLeavesOneOf}
+use Rattle.store_desk.specs.Adopted.{MayCommitBeside}
+use Rattle.store_desk.specs.Over.{ConnectionKeepsBeside, ConnectionLeavesOneOf}
 
-module _ {S : Type 0} (g : Ghosts S) (old new : Held S) (live : IsLive (state g old)) (stays : IsTrue (state g old).is_open → (state g old).may_leave (state g old).committed.trees)
-    (survives : Survives (state g (record old { step_limit = None })) (state g new) (MayMigrate (state g old))) where
+module _ {S : Type 0} (g : Ghosts S) (old new : Held S) (live : IsLive (state g old)) (stays : IsTrue (state g old).is_open → (state g old).may_leave (state g old).committed.trees) where
   -- what was opened leaves no catalogue more
-  pub leaves_after : (ms : List (Option Catalogue)) → ConnectionLeavesOneOf g old ms → ConnectionLeavesOneOf g new ms
-  leaves_after ms leaves = stopped (state g (record old { step_limit = None })) (state g new) (λ open'. (live open').1) stays survives ms leaves
+  pub leaves_after : Survives (state g (record old { step_limit = None })) (state g new) (MayMigrate (state g old)) → (ms : List (Option Catalogue)) → ConnectionLeavesOneOf g old ms → ConnectionLeavesOneOf g new ms
+  leaves_after survives ms leaves = stopped (state g (record old { step_limit = None })) (state g new) (λ open'. (live open').1) stays survives ms leaves
+
+  -- and the tables of others as they were
+  pub beside_after : Survives (state g (record old { step_limit = None })) (state g new) (MayCommitBeside (state g old)) → (db : Database) → ConnectionKeepsBeside g old db → ConnectionKeepsBeside g new db
+  beside_after survives db keeps clean trees may =
+      let early : HasCleanDisk (state g old) = omega (arith, survives.clean, clean) in
+      elim (survives.crash clean trees may) as (λ _. ∥ IsTreesOf (SparesOthers db) trees ∥₁) [
+        | inl could ↦ keeps early trees could
+        | inr made ↦ (
+            let was : Database = (state g old).committed in
+            ∥∥₁_map (keeps early was.trees (stays made.0)) (λ it.
+            let spared : SparesOthers db was = subst (SparesOthers db) (database_once it.0 was it.2 (live made.0).1 (sym it.1)) it.3 in
+            (made.1.0, made.1.1, made.1.2, others_then db was made.1.0 spared made.1.3))
+            )
+      ]

@@ -1,5 +1,5 @@
 -- From one run to the next: what is opened over the files that a stop left, or that were left with no stop; and what is left of them.
-use Rattle.std.proofs.Common.{ℕ, List, IsTrue, take, refl, sym, subst, ◌∙◌, arith}
+use Rattle.std.proofs.Common.{◌≡◌, ℕ, List, IsTrue, take, refl, sym, subst, ◌∙◌, arith}
 use Rattle.std.specs.Prelude.{Option, Some, None, Contains}
 use Rattle.std.proofs.Math.Logic.{∥∥₁_map, ∥∥₁_elim}
 use Rattle.sqlite_disk.specs.declared.Disk.{Ghosts}
@@ -23,9 +23,11 @@ use Rattle.sqlite_trees.proofs.Doubt.{no_doubt}
 use Rattle.sqlite.proofs.Theorems.{next_run, opens_again}
 use Rattle.dict_catalogue.specs.Steps.{Catalogue, CommandRequest, after}
 use Rattle.dict_desk.specs.declared.fault.Fault.{Fault}
+use Rattle.store_holdings.specs.Committed.{IsTreesOf}
 use Rattle.store_holdings.specs.Holds.{IsLeft}
+use Rattle.store_migration.specs.Spared.{SparesOthers}
 use Rattle.store_opening.specs.Reading.{IsOfOpening}
-use Rattle.store_desk.specs.Desk.{DeskState, LeavesOneOf, StandsFor}
+use Rattle.store_desk.specs.Desk.{DeskState, KeepsBeside, LeavesOneOf, StandsFor}
 use Rattle.store_desk.specs.Promise.{HoldsFront}
 use Rattle.store_desk.specs.Reopened.{HoldsFrontIn, IsNoFaultOfContents, IsLetGo, IsOpenedOver, LeavesFront, ShowsFront, ShowsOneOf}
 use Rattle.store_desk.specs.Unopened.{IsOneIn, IsOneOf, IsRejected, IsUnopenedOver, IsUnopenedAgain, IsExcused, HandsBack, TellsNoHolding}
@@ -113,6 +115,13 @@ module _ {D : Type 0} {g : Ghosts D} (stays : SeenMayStay g) (desk : DeskState (
     shows_front before requests answered leaves =
         ∥∥₁_map (may over.conn over.opened early)
         (λ both. let h = leaves both.0 (file_state over.conn).committed.trees both.1 in (h.0, h.1, h.2, over.left honest (after before (take h.0 requests)) h.3.left))
+
+  -- ---- and what was beside the catalogue is so still
+
+  pub still_beside : (next : DeskState (FileStore D g)) → IsOpenedOver now next → (db : Database) → KeepsBeside over_files desk db → KeepsBeside over_files next db
+  still_beside next over db keeps = over.adopted.keeps db (λ first trees could.
+      let is : trees ≡ (file_state over.conn).committed.trees = settled_at over.conn.store stays trees (over.opened first).0.0.is_open could in
+      ∥∥₁_elim (may over.conn over.opened first) squash₁ (λ both. subst (λ (t : Trees). ∥ IsTreesOf (SparesOthers db) t ∥₁) (sym is) (keeps both.0 (file_state over.conn).committed.trees both.1)))
 
   -- ---- or none
 

@@ -1,5 +1,6 @@
 -- What a desk over a database shows, and why there is none.
 use Rattle.std.specs.Prelude.{◌≡◌, ◌<◌, ◌↔◌, ◌⊎◌, ℕ, false, [], ◌∷◌, Some, None, IsTrue}
+use Rattle.sqlite.specs.Effect.{Database}
 use Rattle.sqlite.specs.State.{State, HasCleanDisk, Survives}
 use Rattle.sqlite.specs.Tree.{Trees}
 use Rattle.sqlite.specs.Held.{Held, state}
@@ -14,8 +15,9 @@ use Rattle.store_migration.specs.Failing.{IsBeyond, FailsToMoveEditions}
 use Rattle.store_migration.specs.Migrated.{MayMigrate}
 use Rattle.store_holdings.specs.Committed.{IsTreesOf}
 use Rattle.store_migration.specs.Spared.{SparesOthers}
-use Rattle.store_desk.specs.Desk.{DeskState, Shows, LeavesOneOf}
+use Rattle.store_desk.specs.Desk.{DeskState, KeepsBeside, Shows, LeavesOneOf}
 use Rattle.store_desk.specs.Opened.{TellsOfDatabase, IsNotHeld}
+use Rattle.store_desk.specs.Over.{ConnectionKeepsBeside}
 use Rattle.store_desk.specs.declared.last.LastCall.TheVariants.{Fine}
 use Rattle.store_rows.specs.Versions.{known}
 
@@ -36,6 +38,7 @@ module _ {S : Type 0} (g : Ghosts S) where
     pub migrated : Survives (state g (record conn { step_limit = None })) (state g desk.conn) (MayMigrate (state g conn))
     pub others : HasCleanDisk (state g desk.conn) → SparesOthers (state g conn).committed (state g desk.conn).committed
     pub beside : Survives (state g (record conn { step_limit = None })) (state g desk.conn) (MayCommitBeside (state g conn))
+    pub keeps : (db : Database) → ConnectionKeepsBeside g conn db → KeepsBeside g desk db
 
   -- The database holds none, and the fault tells why; or it couldn't be told, or its tables couldn't be made those of the known
   -- version. The fault is one of an opening. While the store is open, what it shows and has committed is as it was; and a stop leaves

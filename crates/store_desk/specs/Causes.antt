@@ -1,6 +1,7 @@
 -- Why a call of a desk fails, and what a command does to it.
 use Rattle.std.specs.Prelude.{◌≡◌, ◌⊎◌, ℕ, true, false, IsTrue, List, Option, is_some, Result, IfErr}
 use Rattle.sqlite.specs.Disk.{MoreFaults}
+use Rattle.sqlite.specs.Effect.{Database}
 use Rattle.sqlite.specs.State.{State, HasCleanDisk, KeepsCommit, Fails, Survives}
 use Rattle.sqlite.specs.Held.{Held, state}
 use Rattle.sqlite.specs.declared.error.Error.{Error}
@@ -20,7 +21,7 @@ use Rattle.store_commands.specs.Answers.{FailsToApply}
 use Rattle.store_holdings.specs.Committed.{IsTreesOf}
 use Rattle.store_commands.specs.KeptRecords.{SparesTablesOfOthers}
 use Rattle.store_commands.specs.Finishing.{FailsToApplyFiled}
-use Rattle.store_desk.specs.Desk.{DeskState, Shows, LeavesOneOf, is_closed}
+use Rattle.store_desk.specs.Desk.{DeskState, KeepsBeside, Shows, LeavesOneOf, is_closed}
 use Rattle.store_desk.specs.Prepared.{Undoes}
 
 -- The store failed between these two states, by an error that is no want of memory, for the cause that it names: its disk
@@ -69,7 +70,8 @@ module _ {S : Type 0} (g : Ghosts S) where
   FailsToApplyTo old request new NewerSchema = ⊥
 
   -- One command was applied to a desk, and answered so: over whichever catalogue was shown, what is answered, what is shown and
-  -- what a stop may leave are those of its step; a failure has its cause; and the tables of others are as they were, whatever a stop leaves.
+  -- what a stop may leave are those of its step; a failure has its cause; and the tables of others are as they were, whatever a stop leaves,
+  -- and as those of any database of which it had kept them.
   pub record IsAppliedTo (old : DeskState S) (request : CommandRequest) (result : Result Kept Fault) (new : DeskState S) : Type 0 where
     pub answered : HasCleanDisk (state g new.conn) → (M : Catalogue) → Shows g old M → Applies (Shows g new) M (step M request.id request.command) result
     pub left : HasCleanDisk (state g new.conn) → (M : Catalogue) → Shows g old M
@@ -78,3 +80,4 @@ module _ {S : Type 0} (g : Ghosts S) where
     pub failed : HasCleanDisk (state g new.conn) → IfErr result (λ fault. is_failure fault ≡ true → FailsToApplyTo old request new fault)
     pub others : HasCleanDisk (state g new.conn) → IsTrue (state g new.conn).is_open → SparesTablesOfOthers (state g old.conn).committed (state g new.conn).committed
     pub beside : Survives (state g old.conn) (state g new.conn) (λ trees. IsTrue (state g old.conn).is_open × IsTreesOf (SparesTablesOfOthers (state g old.conn).committed) trees)
+    pub keeps : (db : Database) → KeepsBeside g old db → KeepsBeside g new db

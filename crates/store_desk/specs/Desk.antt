@@ -1,6 +1,7 @@
 -- A desk over one database: what it is seen as, which catalogue it shows, and what a stop may leave of it.
 use Rattle.std.specs.Prelude.{◌≡◌, ℕ, Bool, true, false, IsTrue, List, Option, None, Some, Contains, Result, Ok, Err, if◌then◌else◌}
 use Rattle.std.specs.List.{AllByRecursion}
+use Rattle.sqlite.specs.Effect.{Database}
 use Rattle.sqlite.specs.Tree.{Trees}
 use Rattle.sqlite.specs.State.{State, HasCleanDisk}
 use Rattle.sqlite.specs.Held.{Held, state}
@@ -12,12 +13,14 @@ use Rattle.dict_catalogue.specs.Steps.{Catalogue, summary_of}
 use Rattle.dict_catalogue.specs.WellFormed.{IsWellFormed}
 use Rattle.dict_desk.specs.Faults.{is_disk, is_failure}
 use Rattle.dict_desk.specs.declared.fault.Fault.{Fault}
+use Rattle.store_holdings.specs.Committed.{IsTreesOf}
 use Rattle.store_holdings.specs.Holds.{HasLayout, Holds}
 use Rattle.store_lookup.specs.Indexes.{entries_under}
 use Rattle.store_holdings.specs.Texts.{HoldsText}
 use Rattle.store_lookup.specs.Texts.{Cuts, ArePartsOf}
 use Rattle.store_lookup.specs.KeptTexts.{PartNumbers}
 pub use Rattle.store_migration.specs.Leaves.{StandsFor}
+use Rattle.store_migration.specs.Spared.{SparesOthers}
 use Rattle.store_search.specs.Entries.{Indexed}
 use Rattle.store_commands.specs.Changes.{IsInRange}
 use Rattle.store_commands.specs.Filing.{IsDrawnUp, IsUnderway}
@@ -104,6 +107,10 @@ module _ {S : Type 0} (g : Ghosts S) where
     pub well_formed : IsWellFormed M
     pub holds : is_closed desk.last ≡ false → HasCleanDisk (state g desk.conn) → IsTrue (state g desk.conn).is_open → Holds known (state g desk.conn).committed M
     pub served : HasCleanDisk (state g desk.conn) → ServesEditions desk M
+
+  -- whatever a stop now leaves has the tables of others that this database has, as they are there
+  abbrev pub KeepsBeside : DeskState S → Database → Type 0
+  KeepsBeside desk db = HasCleanDisk (state g desk.conn) → (trees : Trees) → (state g desk.conn).may_leave trees → ∥ IsTreesOf (SparesOthers db) trees ∥₁
 
   -- whatever a stop now leaves stands for one of these
   abbrev pub LeavesOneOf : DeskState S → List (Option Catalogue) → Type 0

@@ -1,12 +1,15 @@
 -- What comes of a session over a database.
 use Rattle.std.specs.Prelude.{◌≡◌, ℕ, IsTrue, List, Option, Contains, Result}
+use Rattle.sqlite.specs.Effect.{Database}
 use Rattle.sqlite.specs.State.{HasCleanDisk}
 use Rattle.sqlite.specs.Tree.{Trees}
 use Rattle.sqlite.specs.Held.{Held, state}
 use Rattle.sqlite_trees.specs.declared.store.Store.{Ghosts}
 use Rattle.dict_catalogue.specs.Steps.{Catalogue}
 use Rattle.dict_desk.specs.declared.fault.Fault.{Fault}
+use Rattle.store_holdings.specs.Committed.{IsTreesOf}
 use Rattle.store_holdings.specs.Holds.{IsHeld, IsLeft}
+use Rattle.store_migration.specs.Spared.{SparesOthers}
 use Rattle.dict_proto.specs.Streams.{StreamChange}
 use Rattle.dict_session.specs.Desks.{Condition}
 use Rattle.dict_session.specs.Run.{Ends}
@@ -41,6 +44,10 @@ module _ {S : Type 0} (g : Ghosts S) where
   -- the fault of an opening tells nothing of what a stop left of a catalogue
   abbrev pub TellsNoLeft : Held S → Held S → Fault → Type 0
   TellsNoLeft conn left fault = HasCleanDisk (state g left) → IsTrue (state g conn).is_open → IsNotLeft (state g conn).now.trees fault
+
+  -- whatever a stop now leaves of the database has the tables of others that this one has, as they are there
+  abbrev pub ConnectionKeepsBeside : Held S → Database → Type 0
+  ConnectionKeepsBeside conn db = HasCleanDisk (state g conn) → (trees : Trees) → (state g conn).may_leave trees → ∥ IsTreesOf (SparesOthers db) trees ∥₁
 
   -- whatever a stop now leaves of the database stands for one of these catalogues, or for none
   abbrev pub ConnectionLeavesOneOf : Held S → List (Option Catalogue) → Type 0

@@ -15,7 +15,7 @@ ghost use Rattle.store_commands.specs.Changes.{IsInRange};
 ghost use Rattle.store_commands.specs.Filing.{rested};
 ghost use Rattle.dict_desk.specs.Faults.{has_closed_by, has_failed_by, is_disk};
 ghost use Rattle.store_opening.specs.Reading.{IsOfOpening, HasFailedToRead};
-ghost use Rattle.store_desk.specs.Desk.{Shows, LeavesOneOf, is_closed, has_failed};
+ghost use Rattle.store_desk.specs.Desk.{KeepsBeside, Shows, LeavesOneOf, is_closed, has_failed};
 ghost use Rattle.store_desk.specs.Opened.{TellsOfDatabase, IsNotHeld, IsNotLeft, HoldsItsTrees};
 ghost use Rattle.store_desk.specs.Prepared.{Continues};
 ghost use Rattle.store_opening.specs.Indexed.{IsHeldIndexed};
@@ -24,6 +24,7 @@ ghost use Rattle.store_search.specs.Entries.{Indexed};
 ghost use Rattle.store_rows.specs.Versions.{known, IsVersion};
 ghost use Rattle.store_migration.specs.Spared.{SparesOthers};
 ghost use Rattle.store_desk.specs.Adopted.{FailsToOpen, MayCommitBeside};
+ghost use Rattle.store_desk.specs.Over.{ConnectionKeepsBeside};
 ghost use Rattle.store_holdings.specs.Faults.{IsOfStore};
 
 use crate::desk::Desk;
@@ -218,6 +219,7 @@ impl<S: Alter + Drop> Desk<S> {
         ensures same { IfOk result (λ desk. HasCleanDisk (state S.Store desk.conn) → (M : Catalogue) → IsHeld (state S.Store conn).committed M ↔ Holds known (state S.Store desk.conn).committed M) }
         ensures others { IfOk result (λ desk. HasCleanDisk (state S.Store desk.conn) → SparesOthers (state S.Store conn).committed (state S.Store desk.conn).committed) }
         ensures beside { IfOk result (λ desk. Survives (state S.Store (record conn { step_limit = None })) (state S.Store desk.conn) (MayCommitBeside (state S.Store conn))) }
+        ensures keeps { IfOk result (λ desk. (db : Database) → ConnectionKeepsBeside S.Store conn db → KeepsBeside S.Store desk db) }
         ensures unwritten { IfOk result (λ desk. HasCleanDisk (state S.Store desk.conn) → (M : Catalogue) → Holds known (state S.Store conn).committed M → (state S.Store desk.conn).committed ≡ (state S.Store conn).committed) }
         ensures migrated { IfOk result (λ desk. Survives (state S.Store (record conn { step_limit = None })) (state S.Store desk.conn) (MayMigrate (state S.Store conn))) }
         ensures beside_left { IfErr result (λ left. Survives (state S.Store (record conn { step_limit = None })) (state S.Store left.0) (MayCommitBeside (state S.Store conn))) }

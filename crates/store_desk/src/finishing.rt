@@ -19,6 +19,7 @@ ghost use Rattle.store_desk.specs.Desk.{HasFiled, Shows, is_closed, has_failed};
 ghost use Rattle.store_desk.specs.Indexed.{HasPutIfSome};
 ghost use Rattle.store_desk.specs.Prepared.{Undoes};
 
+use crate::adopting::is_whole;
 use crate::coming::{AskedInstall, Coming};
 use crate::copying::is_long_behind;
 use crate::desk::Desk;
@@ -26,6 +27,7 @@ use crate::indexing::settle;
 use crate::keeper::take_over;
 use crate::kept::forget_by;
 use crate::last::last_by;
+use crate::laws::committed_may_stay;
 use crate::withdrawing::let_go_when_ended;
 use dict_catalogue::{Kept, Summary};
 use dict_desk::Fault;
@@ -108,6 +110,8 @@ impl<S: Alter + Drop> Desk<S> {
             index,
             text,
         };
+        is_whole(&self.conn);
+        committed_may_stay(&self.conn);
         let Some(outcome) = finish_coming(
             self.alloc,
             &mut self.conn,

@@ -9,11 +9,13 @@ ghost use Rattle.store_commands.specs.Installed.{HasInstalled};
 ghost use Rattle.store_desk.specs.Applied.{AppliesOver};
 ghost use Rattle.store_desk.specs.Desk.{HasCommitted, reply_of};
 
+use crate::adopting::is_whole;
 use crate::copying::{is_long_behind, octets_installed};
 use crate::desk::Desk;
 use crate::indexing::{put_coming, settle};
 use crate::kept::forget_by;
 use crate::last::{LastCall, last_by};
+use crate::laws::committed_may_stay;
 use crate::withdrawing::{Withdrawn, let_go_when_ended};
 use dict_catalogue::{Command, Kept, Summary};
 use dict_desk::{Fault, Keeper};
@@ -89,6 +91,8 @@ impl<S: Alter + Drop> Keeper for Desk<S> {
             forget_by(&mut self.texts, LastCall::Failed);
             return Err(Fault::Memory);
         };
+        is_whole(&self.conn);
+        committed_may_stay(&self.conn);
         let outcome = apply_over(self.alloc, &mut self.conn, &self.summary, id, command);
         self.last = last_by(&outcome);
         forget_by(&mut self.texts, self.last);

@@ -11,13 +11,18 @@ use store_lookup::{count_under, find_under, heads_under};
 impl<S: Alter + Drop> Lookup for Desk<S> {
     ghost use Rattle.sqlite.specs.State.{HasCleanDisk};
     ghost use Rattle.sqlite.specs.Held.{state};
-    ghost use Rattle.store_desk.specs.Desk.{Shows, LeavesOneOf, is_closed, has_failed};
+    ghost use Rattle.sqlite.specs.Effect.{Database};
+    ghost use Rattle.store_desk.specs.Desk.{Shows, LeavesOneOf, KeepsBeside, is_closed, has_failed};
     ghost use Rattle.store_desk.specs.Causes.{GivesWay};
     ghost use Rattle.store_desk.specs.DeskLaws.{open_unless_failed};
 
     ghost shows = { λ s M. Shows S.Store s M };
 
     ghost leaves_one_of = { λ s ms. LeavesOneOf S.Store s ms };
+
+    ghost Beside = { Database };
+
+    ghost keeps_beside = { λ s db. KeepsBeside S.Store s db };
 
     ghost is_trusted = { λ s. HasCleanDisk (state S.Store s.conn) };
 

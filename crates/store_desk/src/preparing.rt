@@ -1,6 +1,7 @@
 // What a desk prepares of a change that may come.
 ghost use Rattle.std.specs.Prelude.{◌≡◌, ◌≢◌, ◌⊎◌, ◌||◌, true, false, IsTrue, IfErr, IfSome, List, Ok, Option, Some};
 ghost use Rattle.sqlite.specs.Disk.{MoreFaults};
+ghost use Rattle.sqlite.specs.Effect.{Database};
 ghost use Rattle.sqlite.specs.State.{HasCleanDisk, KeepsCommit, Survives};
 ghost use Rattle.sqlite.specs.Held.{state};
 ghost use Rattle.store_sql.specs.Effects.{WhileOpen};
@@ -12,7 +13,7 @@ ghost use Rattle.store_commands.specs.Filing.{IsDrawnUp, rested};
 ghost use Rattle.store_commands.specs.KeptRecords.{IsUsable};
 ghost use Rattle.dict_desk.specs.Faults.{has_closed_by, has_failed_by};
 ghost use Rattle.store_desk.specs.Causes.{FailsToPrepare};
-ghost use Rattle.store_desk.specs.Desk.{HasFiled, LeavesOneOf, Shows, has_failed, is_closed};
+ghost use Rattle.store_desk.specs.Desk.{HasFiled, KeepsBeside, LeavesOneOf, Shows, has_failed, is_closed};
 ghost use Rattle.store_desk.specs.Prepared.{HasCopied, LetsGo, last_behind};
 
 use crate::coming::Coming;
@@ -216,6 +217,7 @@ impl<S: Alter + Drop> Desk<S> {
         ensures trust { HasCleanDisk (state S.Store self.new.conn) → HasCleanDisk (state S.Store self.old.conn) }
         ensures shows { HasCleanDisk (state S.Store self.new.conn) → (M : Catalogue) → Shows S.Store self.old M → Shows S.Store self.new M }
         ensures leaves { (ms : List (Option Catalogue)) → LeavesOneOf S.Store self.old ms → LeavesOneOf S.Store self.new ms }
+        ensures beside { (db : Database) → KeepsBeside S.Store self.old db → KeepsBeside S.Store self.new db }
         ensures kinds { IfErr result IsOfStore }
         ensures caused { HasCleanDisk (state S.Store self.new.conn) → IfErr result (FailsToPrepare S.Store self.old self.new) }
         ensures failed { has_failed self.new.last ≡ (has_failed self.old.last || has_failed_by result) }

@@ -1,5 +1,6 @@
 // A desk over files that are opened, and over what a stop left of them.
 ghost use Rattle.std.specs.Prelude.{◌≡◌, ◌⊎◌, ℕ, false, List, [], ◌∷◌, codes, Option, Some, IfOk, IfErr, IsErrAnd, IsTrue};
+ghost use Rattle.sqlite.specs.Effect.{Database};
 ghost use Rattle.sqlite.specs.State.{HasCleanDisk};
 ghost use Rattle.sqlite.specs.Files.{HoldsDatabase, file_state, over_files};
 ghost use Rattle.sqlite.specs.FileStore as store;
@@ -12,7 +13,7 @@ ghost use Rattle.sqlite.specs.WalFiles.{image_at};
 ghost use Rattle.dict_catalogue.specs.Steps.{Catalogue, CommandRequest};
 ghost use Rattle.store_holdings.specs.Holds.{IsLeft, Rests};
 ghost use Rattle.store_desk.specs.Adopted.{IsAdopted};
-ghost use Rattle.store_desk.specs.Desk.{Shows, LeavesOneOf};
+ghost use Rattle.store_desk.specs.Desk.{KeepsBeside, Shows, LeavesOneOf};
 ghost use Rattle.store_desk.specs.Promise.{HoldsFront};
 ghost use Rattle.store_opening.specs.Reading.{IsOfOpening};
 ghost use Rattle.store_desk.specs.Reopened.{IsAdoptedFrom, IsIn, HoldsFrontIn, IsLetGo, IsOpenedOver, IsReopened, IsRestarted, LeavesFront, ShowsFront, ShowsOneOf};
@@ -129,6 +130,7 @@ impl<D: Disk + Drop> Desk<FileStore<D>> {
     pub fn reopen(self, options: Options) -> Result<Desk<FileStore<D>>, (Unopened<D>, Fault)>
         ensures reopened { IfOk result (IsReopened self) }
         ensures follows { IfOk result (λ desk. HasCleanDisk (file_state desk.conn) → (ms : List (Option Catalogue)) → LeavesOneOf over_files self ms → ∥ ShowsOneOf over_files desk ms ∥₁) }
+        ensures beside { IfOk result (λ desk. (db : Database) → KeepsBeside over_files self db → KeepsBeside over_files desk db) }
         ensures unopened { IfErr result (λ left. IsUnreopened self left.0 left.1) }
     {
         let alloc = self.alloc;
@@ -150,6 +152,7 @@ impl<D: Crash + Drop> Desk<FileStore<D>> {
         ensures shows { IfOk result (λ desk. HasCleanDisk (file_state desk.conn) → (before : Catalogue) (requests : List CommandRequest) (answered : ℕ) → LeavesFront over_files self before requests answered → ∥ ShowsFront over_files desk before requests answered ∥₁) }
         ensures restarted { IfOk result (IsRestarted self) }
         ensures follows { IfOk result (λ desk. HasCleanDisk (file_state desk.conn) → (ms : List (Option Catalogue)) → LeavesOneOf over_files self ms → ∥ ShowsOneOf over_files desk ms ∥₁) }
+        ensures beside { IfOk result (λ desk. (db : Database) → KeepsBeside over_files self db → KeepsBeside over_files desk db) }
         ensures only { IfOk result (λ desk. (M : Catalogue) → Shows over_files desk M → LeavesOneOf over_files desk (Some M ∷ [])) }
         ensures unopened { IfErr result (λ left. IsUnrestarted self left.0 left.1) }
     {

@@ -74,7 +74,7 @@ pub(crate) trait Machine<K: Keeper> {
     /// The desk over what a stop leaves of the store of another.
     fn restart(&mut self, desk: K) -> Result<K, ProgramFault<'static>>
         ensures opened { MatchResult result (IsNew K.shows K.leaves_one_of K.is_trusted (λ _. ⊤)) (IsNone (λ _. ⊤)) }
-        ensures follows { IfOk result (Follows K.shows K.leaves_one_of K.is_trusted desk) };
+        ensures follows { IfOk result (Follows K.shows K.leaves_one_of K.keeps_beside K.is_trusted desk) };
 }
 
 /// A machine with two disks.

@@ -47,7 +47,7 @@ pub fn run<S: Source, K: Sink, L: Lookup>(
 ) -> Result<SessionEnd, SessionFault>
     ensures answers { L.is_trusted desk.new → (M : Catalogue) → L.shows desk.old M → Ends M host.now connection (condition L.has_failed L.is_closed desk.new) result
         (change S.stream reader.old reader.new) (change K.stream writer.old writer.new) }
-    ensures desk { Stays L.shows L.leaves_one_of L.is_trusted L.is_closed desk.old desk.new }
+    ensures desk { Stays L.shows L.leaves_one_of L.keeps_beside L.is_trusted L.is_closed desk.old desk.new }
     ensures through { L.is_trusted desk.new → (M : Catalogue) → L.shows desk.old M → EndsThrough M host.now connection (L.is_closed desk.old) (condition L.has_failed L.is_closed desk.new) result
         (change S.stream reader.old reader.new) (change K.stream writer.old writer.new) }
     ensures memory { result ≡ Err SessionFault.Memory → (reader.new ≡ reader.old) × (writer.new ≡ writer.old) }

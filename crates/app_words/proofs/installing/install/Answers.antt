@@ -7,7 +7,7 @@ unfolding InstallEnds
 returns-in-Ok-Some-clause-installed g c = inl (record {
   reply = c.in-Ok-Some.kept;
   kept = rw c.in-Ok-Some.field-0-is at c.in-Ok-Some.ensures.value;
-  stays = record { trust = c.in-Ok-Some.ensures.trust; shows = c.in-Ok-Some.ensures.shows; leaves = c.in-Ok-Some.ensures.leaves; closed = λ is. search (is, c.in-Ok-Some.ensures.closes) };
+  stays = record { trust = c.in-Ok-Some.ensures.trust; shows = c.in-Ok-Some.ensures.shows; leaves = c.in-Ok-Some.ensures.leaves; beside = c.in-Ok-Some.ensures.beside; closed = λ is. search (is, c.in-Ok-Some.ensures.closes) };
   line = c.tell_kept.ensures;
 })
 
@@ -17,7 +17,7 @@ returns-in-Ok-None-clause-installed g c = inr (inr (
   c.kept.new.self,
   record {
     none = rw c.in-Ok-None.field-0-is at c.in-Ok-None.ensures.value;
-    stays = record { trust = c.in-Ok-None.ensures.trust; shows = c.in-Ok-None.ensures.shows; leaves = c.in-Ok-None.ensures.leaves; closed = λ is. search (is, c.in-Ok-None.ensures.closes) };
+    stays = record { trust = c.in-Ok-None.ensures.trust; shows = c.in-Ok-None.ensures.shows; leaves = c.in-Ok-None.ensures.leaves; beside = c.in-Ok-None.ensures.beside; closed = λ is. search (is, c.in-Ok-None.ensures.closes) };
   },
   c.install_files.ensures.installed,
 ))
@@ -28,6 +28,6 @@ returns-in-Err-clause-installed g c = inr (inl (record {
   fault = c.in-Err.fault;
   kind = c.in-Err.ensures.kinds;
   told = ap Err c.from.ensures;
-  stays = record { trust = c.in-Err.ensures.trust; shows = c.in-Err.ensures.shows; leaves = c.in-Err.ensures.leaves; closed = λ is. search (is, c.in-Err.ensures.closes) };
+  stays = record { trust = c.in-Err.ensures.trust; shows = c.in-Err.ensures.shows; leaves = c.in-Err.ensures.leaves; beside = c.in-Err.ensures.beside; closed = λ is. search (is, c.in-Err.ensures.closes) };
   untouched = refl;
 }))

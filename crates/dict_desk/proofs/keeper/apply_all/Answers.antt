@@ -58,6 +58,7 @@ loop-request-preserved g c = record {
       (subst (λ rs. AreApplied g.K.Keeper.applies c.args.desk.now rs (c.loop-request.outcomes.items ++ c.in-Ok-settled.outcome ∷ []) c.apply.new.self) (sym next)
       (applied_one_more g.K.Keeper.applies c.args.desk.now c.loop-request.desk c.apply.new.self (take i all) c.loop-request.outcomes.items (request_meant c.request-item.result) c.in-Ok-settled.outcome c.loop-request.invariant.called last));
   trust = λ trusted. c.loop-request.invariant.trust (c.apply.ensures.trust trusted);
+  beside = λ beside kept. c.apply.ensures.beside beside (c.loop-request.invariant.beside beside kept);
   counted = grind (arith, common_steps, c.push_reserved.ensures.len, c.loop-request.invariant.counted);
   room = grind (arith, common_steps, c.push_reserved.ensures.capacity, c.loop-request.invariant.room);
   first = λ none. absurd (omega (arith, none));

@@ -11,6 +11,7 @@ invariant-loop-request g l = record {
       → AllAnswered (g.K.Lookup.shows l.desk) (g.K.Lookup.leaves_one_of l.fn.desk) (g.K.Lookup.leaves_one_of l.desk) M (take l.request-index (requests_meant l.requests)) l.outcomes.items;
   called : AreApplied g.K.Keeper.applies l.fn.desk (take l.request-index (requests_meant l.requests)) l.outcomes.items l.desk;
   trust : g.K.Lookup.is_trusted l.desk → g.K.Lookup.is_trusted l.fn.desk;
+  beside : (beside : g.K.Lookup.Beside) → g.K.Lookup.keeps_beside l.fn.desk beside → g.K.Lookup.keeps_beside l.desk beside;
   counted : vec_len l.outcomes ≡ l.request-index;
   room : length l.requests ≤ vec_capacity l.outcomes;
   first : l.request-index ≡ 0 → l.desk ≡ l.fn.desk;

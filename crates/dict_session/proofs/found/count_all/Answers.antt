@@ -9,7 +9,7 @@ use Rattle.dict_session.proofs.found.count_all.Goals as goal
 pub loop-place-init : goal.loop-place-init
 loop-place-init g c = record {
   left = λ trusted M shown few. record { places = c.nothing-counted.ensures.places; count = c.nothing-counted.ensures.count };
-  desk = stays_same g.L.Lookup.shows g.L.Lookup.leaves_one_of g.L.Lookup.is_trusted g.L.Lookup.is_closed c.args.desk.now;
+  desk = stays_same g.L.Lookup.shows g.L.Lookup.leaves_one_of g.L.Lookup.keeps_beside g.L.Lookup.is_trusted g.L.Lookup.is_closed c.args.desk.now;
   is_open = λ e. e;
 }
 
@@ -36,12 +36,12 @@ loop-place-preserved g c = record {
             ∙ (ap (λ l. l ++ (if c.in-Ok.count == 0 then [] else get_or places i 0 ∷ [])) before.places ∙ sym (giving_more c.args.query.now M.items places i c.in-Ok.count lt one));
         count = omega (arith, c.add.ensures.count fits, before.count, one, more);
       });
-  desk = stays_after g.L.Lookup.shows g.L.Lookup.leaves_one_of g.L.Lookup.is_trusted g.L.Lookup.is_closed _ _ _ c.loop-place.invariant.desk c.in-Ok.ensures.desk;
+  desk = stays_after g.L.Lookup.shows g.L.Lookup.leaves_one_of g.L.Lookup.keeps_beside g.L.Lookup.is_trusted g.L.Lookup.is_closed _ _ _ c.loop-place.invariant.desk c.in-Ok.ensures.desk;
   is_open = λ e. c.in-Ok.ensures.open (c.loop-place.invariant.is_open e);
 }
 
 pub returns-in-Err-clause-desk : goal.returns-in-Err-clause-desk
-returns-in-Err-clause-desk g c = stays_after g.L.Lookup.shows g.L.Lookup.leaves_one_of g.L.Lookup.is_trusted g.L.Lookup.is_closed _ _ _ c.loop-place.invariant.desk c.in-Err.ensures.desk
+returns-in-Err-clause-desk g c = stays_after g.L.Lookup.shows g.L.Lookup.leaves_one_of g.L.Lookup.keeps_beside g.L.Lookup.is_trusted g.L.Lookup.is_closed _ _ _ c.loop-place.invariant.desk c.in-Err.ensures.desk
 
 pub returns-clause-value : goal.returns-clause-value
 returns-clause-value g c = λ trusted M shown few.

@@ -9,7 +9,7 @@ use Rattle.dict_session.proofs.found.count_first.Goals as goal
 pub loop-place-init : goal.loop-place-init
 loop-place-init g c = record {
   left = λ trusted M shown. refl;
-  desk = stays_same g.L.Lookup.shows g.L.Lookup.leaves_one_of g.L.Lookup.is_trusted g.L.Lookup.is_closed c.args.desk.now;
+  desk = stays_same g.L.Lookup.shows g.L.Lookup.leaves_one_of g.L.Lookup.keeps_beside g.L.Lookup.is_trusted g.L.Lookup.is_closed c.args.desk.now;
   is_open = λ e. e;
 }
 
@@ -22,7 +22,7 @@ loop-place-preserved g c = record {
       let earlier = c.in-Ok-eq0.ensures.desk.trust trusted in
       first_later count (drop i places) (get_or places i 0) (drop (i + 1) places) (first_counted count places) (drop_more places i 0 (omega arith))
       (sym (c.in-Ok-eq0.ensures.value trusted M (c.loop-place.invariant.desk.shows earlier M shown)) ∙ c.in-Ok-eq0.field-0-test) (c.loop-place.invariant.left earlier M shown));
-  desk = stays_after g.L.Lookup.shows g.L.Lookup.leaves_one_of g.L.Lookup.is_trusted g.L.Lookup.is_closed _ _ _ c.loop-place.invariant.desk c.in-Ok-eq0.ensures.desk;
+  desk = stays_after g.L.Lookup.shows g.L.Lookup.leaves_one_of g.L.Lookup.keeps_beside g.L.Lookup.is_trusted g.L.Lookup.is_closed _ _ _ c.loop-place.invariant.desk c.in-Ok-eq0.ensures.desk;
   is_open = λ e. c.in-Ok-eq0.ensures.open (c.loop-place.invariant.is_open e);
 }
 
@@ -43,10 +43,10 @@ returns-in-Ok-clause-value g c = λ trusted M shown.
     }
 
 pub returns-in-Ok-clause-desk : goal.returns-in-Ok-clause-desk
-returns-in-Ok-clause-desk g c = stays_after g.L.Lookup.shows g.L.Lookup.leaves_one_of g.L.Lookup.is_trusted g.L.Lookup.is_closed _ _ _ c.loop-place.invariant.desk c.in-Ok.ensures.desk
+returns-in-Ok-clause-desk g c = stays_after g.L.Lookup.shows g.L.Lookup.leaves_one_of g.L.Lookup.keeps_beside g.L.Lookup.is_trusted g.L.Lookup.is_closed _ _ _ c.loop-place.invariant.desk c.in-Ok.ensures.desk
 
 pub returns-in-Err-clause-desk : goal.returns-in-Err-clause-desk
-returns-in-Err-clause-desk g c = stays_after g.L.Lookup.shows g.L.Lookup.leaves_one_of g.L.Lookup.is_trusted g.L.Lookup.is_closed _ _ _ c.loop-place.invariant.desk c.in-Err.ensures.desk
+returns-in-Err-clause-desk g c = stays_after g.L.Lookup.shows g.L.Lookup.leaves_one_of g.L.Lookup.keeps_beside g.L.Lookup.is_trusted g.L.Lookup.is_closed _ _ _ c.loop-place.invariant.desk c.in-Err.ensures.desk
 
 pub returns-clause-value : goal.returns-clause-value
 returns-clause-value g c = λ trusted M shown.

@@ -7,6 +7,6 @@ use Rattle.dict_session.proofs.found.count_first.Given as goal
 abbrev pub invariant-loop-place : goal.invariant-loop-place
 invariant-loop-place g l = record {
   left : g.L.Lookup.is_trusted l.desk → (M : Catalogue) → g.L.Lookup.shows l.fn.desk M → first_counted (count_at l.query M.items) (drop l.place-index l.places) ≡ first_counted (count_at l.query M.items) l.places;
-  desk : Stays g.L.Lookup.shows g.L.Lookup.leaves_one_of g.L.Lookup.is_trusted g.L.Lookup.is_closed l.fn.desk l.desk;
+  desk : Stays g.L.Lookup.shows g.L.Lookup.leaves_one_of g.L.Lookup.keeps_beside g.L.Lookup.is_trusted g.L.Lookup.is_closed l.fn.desk l.desk;
   is_open : g.L.Lookup.is_closed l.fn.desk ≡ false → g.L.Lookup.is_closed l.desk ≡ false;
 }

@@ -12,7 +12,7 @@ use Rattle.dict_session.proofs.found.put_places.Goals as goal
 pub loop-place-init : goal.loop-place-init
 loop-place-init g c = record {
   left = λ trusted M shown. puts_none (g.K.Sink.stream c.args.sink.now);
-  desk = stays_same g.L.Lookup.shows g.L.Lookup.leaves_one_of g.L.Lookup.is_trusted g.L.Lookup.is_closed c.args.desk.now;
+  desk = stays_same g.L.Lookup.shows g.L.Lookup.leaves_one_of g.L.Lookup.keeps_beside g.L.Lookup.is_trusted g.L.Lookup.is_closed c.args.desk.now;
   is_open = c.requires;
 }
 
@@ -28,7 +28,7 @@ loop-place-preserved g c = record {
       (ap (λ l. flat_map f (take i places) ++ l) (sym (append-nil (f (get_or places i 0)))) ∙ (sym (flat_map-append f (take i places) (get_or places i 0 ∷ [])) ∙ sym (ap (flat_map f) (take_more places i 0 lt))))
       (all_after (g.K.Sink.stream c.args.sink.now) (g.K.Sink.stream c.loop-place.sink) (g.K.Sink.stream c.put_at.new.sink) (flat_map f (take i places)) (f (get_or places i 0))
       (c.loop-place.invariant.left earlier M shown) (c.in-Ok.ensures.value trusted M (c.loop-place.invariant.desk.shows earlier M shown))));
-  desk = stays_after g.L.Lookup.shows g.L.Lookup.leaves_one_of g.L.Lookup.is_trusted g.L.Lookup.is_closed _ _ _ c.loop-place.invariant.desk c.in-Ok.ensures.desk;
+  desk = stays_after g.L.Lookup.shows g.L.Lookup.leaves_one_of g.L.Lookup.keeps_beside g.L.Lookup.is_trusted g.L.Lookup.is_closed _ _ _ c.loop-place.invariant.desk c.in-Ok.ensures.desk;
   is_open = c.in-Ok.ensures.open;
 }
 
@@ -47,7 +47,7 @@ returns-in-Err-clause-value g c = λ trusted M shown.
     (breaks_longer failed c.in-Err.fault (g.K.Sink.stream c.loop-place.sink) (g.K.Sink.stream c.put_at.new.sink) (f (get_or places i 0)) rest (c.in-Err.ensures.value trusted M (c.loop-place.invariant.desk.shows earlier M shown))))
 
 pub returns-in-Err-clause-desk : goal.returns-in-Err-clause-desk
-returns-in-Err-clause-desk g c = stays_after g.L.Lookup.shows g.L.Lookup.leaves_one_of g.L.Lookup.is_trusted g.L.Lookup.is_closed _ _ _ c.loop-place.invariant.desk c.in-Err.ensures.desk
+returns-in-Err-clause-desk g c = stays_after g.L.Lookup.shows g.L.Lookup.leaves_one_of g.L.Lookup.keeps_beside g.L.Lookup.is_trusted g.L.Lookup.is_closed _ _ _ c.loop-place.invariant.desk c.in-Err.ensures.desk
 
 pub returns-clause-value : goal.returns-clause-value
 returns-clause-value g c = λ trusted M shown.

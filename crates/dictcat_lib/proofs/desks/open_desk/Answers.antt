@@ -6,7 +6,7 @@ use Rattle.store_holdings.specs.Holds.{IsLeft}
 use Rattle.net_serving.specs.Serving.{IsOfFile}
 use Rattle.store_desk.specs.Adopted.{IsNotAdopted}
 use Rattle.store_desk.specs.Desk.{is_closed}
-use Rattle.dictcat_lib.proofs.FileLemmas.{rejected_from}
+use Rattle.dictcat_lib.proofs.FileLemmas.{opened_beside, rejected_from}
 use Rattle.dictcat_lib.proofs.UnopenedLemmas.{not_opened_of_file, opening_of_file}
 use Rattle.dictcat_lib.proofs.desks.open_desk.Goals as goal
 
@@ -31,7 +31,9 @@ returns-in-Ok-clause-opened g c = record {
       others =
           c.in-Ok.ensures.others;
       beside = c.in-Ok.ensures.beside;
+      keeps = c.in-Ok.ensures.keeps;
     };
+    kept = c.in-Ok.ensures.keeps (file_state c.in_ok-conn.conn).committed (opened_beside g.met.O.FileOpener.stays g.O.FileOpener.image c.in_ok-conn.conn c.in_ok-conn.ensures.opened);
     shows = λ clean M held.
         let early : HasCleanDisk (file_state c.in_ok-conn.conn) = omega (arith, c.in-Ok.ensures.migrated.clean, clean) in
         let found = (c.in_ok-conn.ensures.opened.live early).1 in

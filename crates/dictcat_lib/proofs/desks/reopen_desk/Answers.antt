@@ -18,6 +18,9 @@ returns-in-Ok-clause-opened g c =
     let adopted = c.in-Ok.ensures.reopened.over.adopted in
     record { opened = c.in-Ok.ensures.reopened; alone = λ clean. let it = adopted.shows clean in (it.0, it.2, adopted.only it.0 it.2) }
 
+pub returns-in-Ok-clause-follows : goal.returns-in-Ok-clause-follows
+returns-in-Ok-clause-follows g c = record { shows = c.in-Ok.ensures.follows; beside = c.in-Ok.ensures.beside }
+
 pub returns-in-Err-clause-opened : goal.returns-in-Err-clause-opened
 returns-in-Err-clause-opened g c =
     let why = c.in-Err.ensures.unopened in

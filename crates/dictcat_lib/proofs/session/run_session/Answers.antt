@@ -9,7 +9,7 @@ returns-in_err-conn-clause-spoken g c =
     rw (error.1, error.2) (inl c.in_err-conn.ensures.unopened, refl, refl)
 
 pub returns-in-Ok-clause-spoken : goal.returns-in-Ok-clause-spoken
-returns-in-Ok-clause-spoken g c = (c.in_ok-conn.conn, c.in_ok-conn.ensures.opened, record { ran = c.in-Ok.ensures.ran; leaves = c.in-Ok.ensures.leaves })
+returns-in-Ok-clause-spoken g c = (c.in_ok-conn.conn, c.in_ok-conn.ensures.opened, record { ran = c.in-Ok.ensures.ran; leaves = c.in-Ok.ensures.leaves; beside = c.in-Ok.ensures.beside })
 
 pub returns-in-Err-clause-spoken : goal.returns-in-Err-clause-spoken
 returns-in-Err-clause-spoken g c = (

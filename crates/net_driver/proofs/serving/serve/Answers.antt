@@ -25,6 +25,7 @@ loop-made-init g c =
       counted = λ few. omega arith;
       is_open = λ lt. absurd (omega (arith, lt));
       trust = λ trusted. trusted;
+      beside = λ beside kept. kept;
       led =
           led_still (moves_same c.args.event_loop.now.connections c.args.event_loop.now.connections refl (λ id octets now. now));
     }
@@ -65,7 +66,7 @@ returns-in_err-has_moved-clause-by_rounds g c =
     } in
     rw (error.1, error.2) (
       held.0 ++ one ∷ [],
-      made_last g.K.Lookup.shows g.K.Lookup.leaves_one_of g.K.Lookup.is_trusted g.K.Lookup.has_failed g.K.Lookup.is_closed g.K.Preparer.expects g.K.Preparer.prepares g.T.Transport.taken g.T.Transport.coming g.T.Transport.made
+      made_last g.K.Lookup.shows g.K.Lookup.leaves_one_of g.K.Lookup.keeps_beside g.K.Lookup.is_trusted g.K.Lookup.has_failed g.K.Lookup.is_closed g.K.Preparer.expects g.K.Preparer.prepares g.T.Transport.taken g.T.Transport.coming g.T.Transport.made
           g.S.Opening.refuses g.S.Sockets.asked g.S.Sockets.told (as_nanos c.args.wait)
           c.args.rounds rest c.args.event_loop.now c.loop-made.event_loop c.args.desk.now c.loop-made.desk held.0 one (Err c.in_err-has_moved.field-0.0) held.1 refl refl
           (record {
@@ -73,6 +74,7 @@ returns-in_err-has_moved-clause-by_rounds g c =
             round = record {
               led = c.in_err-has_moved.ensures.led;
               trust = c.round.ensures.trust;
+              beside = c.round.ensures.beside;
               rounds = c.in_err-has_moved.ensures.rounds;
               grown = c.round.ensures.grown;
               idle = c.in_err-has_moved.ensures.idle;
@@ -92,7 +94,7 @@ returns-then-is_err-clause-by_rounds g c =
     let closed : g.K.Lookup.is_closed c.round.new.desk ≡ true = closed_by_summary _ _ _ c.summary.ensures.open c.is_err.ensures.value c.if-is_err.true in
     let one : Round _ _ _ _ = record { before = c.loop-made.event_loop; desk = c.loop-made.desk; result = Ok moved; made = after; left = c.round.new.desk; waited = Ok tt; after = after } in (
       held.0 ++ one ∷ [],
-      made_last g.K.Lookup.shows g.K.Lookup.leaves_one_of g.K.Lookup.is_trusted g.K.Lookup.has_failed g.K.Lookup.is_closed g.K.Preparer.expects g.K.Preparer.prepares g.T.Transport.taken g.T.Transport.coming g.T.Transport.made
+      made_last g.K.Lookup.shows g.K.Lookup.leaves_one_of g.K.Lookup.keeps_beside g.K.Lookup.is_trusted g.K.Lookup.has_failed g.K.Lookup.is_closed g.K.Preparer.expects g.K.Preparer.prepares g.T.Transport.taken g.T.Transport.coming g.T.Transport.made
           g.S.Opening.refuses g.S.Sockets.asked g.S.Sockets.told (as_nanos c.args.wait)
           c.args.rounds rest c.args.event_loop.now c.loop-made.event_loop c.args.desk.now c.loop-made.desk held.0 one (Ok (Closed (rest - 1))) held.1 refl refl
           (record {
@@ -100,6 +102,7 @@ returns-then-is_err-clause-by_rounds g c =
             round = record {
               led = c.in_ok-has_moved.ensures.led;
               trust = c.round.ensures.trust;
+              beside = c.round.ensures.beside;
               rounds = c.in_ok-has_moved.ensures.rounds;
               grown = c.round.ensures.grown;
               idle = c.in_ok-has_moved.ensures.idle;
@@ -123,7 +126,7 @@ returns-in_err-wait_if-clause-by_rounds g c =
     let one : Round _ _ _ _ = record { before = c.loop-made.event_loop; desk = c.loop-made.desk; result = Ok moved; made = made; left = c.round.new.desk; waited = Err fault; after = after } in
     rw (error.1, error.2) (
       held.0 ++ one ∷ [],
-      made_last g.K.Lookup.shows g.K.Lookup.leaves_one_of g.K.Lookup.is_trusted g.K.Lookup.has_failed g.K.Lookup.is_closed g.K.Preparer.expects g.K.Preparer.prepares g.T.Transport.taken g.T.Transport.coming g.T.Transport.made
+      made_last g.K.Lookup.shows g.K.Lookup.leaves_one_of g.K.Lookup.keeps_beside g.K.Lookup.is_trusted g.K.Lookup.has_failed g.K.Lookup.is_closed g.K.Preparer.expects g.K.Preparer.prepares g.T.Transport.taken g.T.Transport.coming g.T.Transport.made
           g.S.Opening.refuses g.S.Sockets.asked g.S.Sockets.told (as_nanos c.args.wait)
           c.args.rounds rest c.args.event_loop.now c.loop-made.event_loop c.args.desk.now c.loop-made.desk held.0 one (Err fault) held.1 refl refl
           (record {
@@ -131,6 +134,7 @@ returns-in_err-wait_if-clause-by_rounds g c =
             round = record {
               led = c.in_ok-has_moved.ensures.led;
               trust = c.round.ensures.trust;
+              beside = c.round.ensures.beside;
               rounds = c.in_ok-has_moved.ensures.rounds;
               grown = c.round.ensures.grown;
               idle = c.in_ok-has_moved.ensures.idle;
@@ -146,7 +150,7 @@ pub returns-clause-by_rounds : goal.returns-clause-by_rounds
 returns-clause-by_rounds g c =
     let held = c.loop-made.invariant.by_rounds in (
       held.0,
-      made_whole g.K.Lookup.shows g.K.Lookup.leaves_one_of g.K.Lookup.is_trusted g.K.Lookup.has_failed g.K.Lookup.is_closed g.K.Preparer.expects g.K.Preparer.prepares g.T.Transport.taken g.T.Transport.coming g.T.Transport.made
+      made_whole g.K.Lookup.shows g.K.Lookup.leaves_one_of g.K.Lookup.keeps_beside g.K.Lookup.is_trusted g.K.Lookup.has_failed g.K.Lookup.is_closed g.K.Preparer.expects g.K.Preparer.prepares g.T.Transport.taken g.T.Transport.coming g.T.Transport.made
           g.S.Opening.refuses g.S.Sockets.asked g.S.Sockets.told (as_nanos c.args.wait)
           c.args.rounds (c.args.rounds - c.loop-made.made) c.args.event_loop.now c.loop-made.event_loop c.args.desk.now c.loop-made.desk held.0 held.1 (omega (arith, c.loop-made-test.false)),
     )
@@ -162,7 +166,7 @@ loop-made-preserved g c = record {
       let closed : g.K.Lookup.is_closed c.round.new.desk ≡ false = open_by_summary _ _ _ _ c.summary.ensures.closed c.is_err.ensures.value c.if-is_err.false in
       let one : Round _ _ _ _ = record { before = c.loop-made.event_loop; desk = c.loop-made.desk; result = Ok moved; made = made; left = c.round.new.desk; waited = Ok tt; after = after } in (
         held.0 ++ one ∷ [],
-        made_more g.K.Lookup.shows g.K.Lookup.leaves_one_of g.K.Lookup.is_trusted g.K.Lookup.has_failed g.K.Lookup.is_closed g.K.Preparer.expects g.K.Preparer.prepares g.T.Transport.taken g.T.Transport.coming g.T.Transport.made
+        made_more g.K.Lookup.shows g.K.Lookup.leaves_one_of g.K.Lookup.keeps_beside g.K.Lookup.is_trusted g.K.Lookup.has_failed g.K.Lookup.is_closed g.K.Preparer.expects g.K.Preparer.prepares g.T.Transport.taken g.T.Transport.coming g.T.Transport.made
             g.S.Opening.refuses g.S.Sockets.asked g.S.Sockets.told (as_nanos c.args.wait)
             c.args.rounds rest (c.args.rounds - (c.loop-made.made + 1)) c.args.event_loop.now c.loop-made.event_loop c.args.desk.now c.loop-made.desk held.0 one held.1 refl refl
             (record {
@@ -170,6 +174,7 @@ loop-made-preserved g c = record {
               round = record {
                 led = c.in_ok-has_moved.ensures.led;
                 trust = c.round.ensures.trust;
+                beside = c.round.ensures.beside;
                 rounds = c.in_ok-has_moved.ensures.rounds;
                 grown = c.round.ensures.grown;
                 idle = c.in_ok-has_moved.ensures.idle;
@@ -193,6 +198,7 @@ loop-made-preserved g c = record {
       omega (arith, before, one, kept, room);
   is_open = λ lt. open_by_summary _ _ _ _ c.summary.ensures.closed c.is_err.ensures.value c.if-is_err.false;
   trust = λ trusted. c.loop-made.invariant.trust (c.round.ensures.trust trusted);
+  beside = λ beside kept. c.round.ensures.beside beside (c.loop-made.invariant.beside beside kept);
   led = led_joined
       (led_joined {R = λ events. Moves c.args.event_loop.now.connections c.round.new.self.connections events} c.loop-made.invariant.led c.round.ensures.led c.round.ensures.trust
       (λ es fs before then. moves_joined c.args.event_loop.now.connections c.loop-made.event_loop.connections c.round.new.self.connections es fs before then.0))

@@ -15,6 +15,7 @@ loop-one-init g c =
       ids = ids_same c.args.all.now.items;
       idle = λ still k d before within. absurd (omega (arith, before));
       trust = λ trusted. trusted;
+      beside = λ beside kept. kept;
       closed = λ is. is;
       others = λ other held apart has. has;
       led = led_still (turn_none (condition g.K.Lookup.has_failed g.K.Lookup.is_closed) g.K.Preparer.expects g.K.Preparer.prepares g.T.Transport.taken g.T.Transport.coming g.T.Transport.made g.O.Opening.refuses c.args.hub.now
@@ -40,6 +41,7 @@ loop-one-preserved g c =
         | else-turn w ↦ λ still. idle_more now i c.turn.new.self in_now (c.loop-one.invariant.idle (sym w.has_moved-is ∙ still)) (c.turn.ensures.idle w.if-turn.false)
       ];
       trust = λ trusted. c.loop-one.invariant.trust (c.turn.ensures.trust trusted);
+      beside = λ beside kept. c.turn.ensures.beside beside (c.loop-one.invariant.beside beside kept);
       closed = λ is. c.turn.ensures.closed (c.loop-one.invariant.closed is);
       others = keeps_more c.args.all.now.items i one c.args.hub.now c.loop-one.hub c.turn.new.hub within was c.loop-one.invariant.others c.turn.ensures.others;
       led = led_joined c.loop-one.invariant.led c.turn.ensures.led c.turn.ensures.trust

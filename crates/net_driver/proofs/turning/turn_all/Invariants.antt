@@ -11,6 +11,7 @@ invariant-loop-one g l = record {
   ids : HaveSameIds l.fn.all.items l.one-items;
   idle : l.has_moved ≡ false → (k : ℕ) (d : _) → k < l.one-index → k < length l.one-items → HasNothingToDo (get_or l.one-items k d);
   trust : g.K.Lookup.is_trusted l.desk → g.K.Lookup.is_trusted l.fn.desk;
+  beside : (beside : g.K.Lookup.Beside) → g.K.Lookup.keeps_beside l.fn.desk beside → g.K.Lookup.keeps_beside l.desk beside;
   closed : g.K.Lookup.is_closed l.fn.desk ≡ true → g.K.Lookup.is_closed l.desk ≡ true;
   others : KeepsFrom l.fn.all.items l.one-index l.fn.hub l.hub;
   led : HasLedOn (g.K.Lookup.is_trusted l.desk) (g.K.Lookup.shows l.fn.desk) (g.K.Lookup.leaves_one_of l.fn.desk) (g.K.Lookup.shows l.desk) (g.K.Lookup.leaves_one_of l.desk) l.fn.hub l.hub

@@ -106,4 +106,4 @@ returns g c =
 
 pub serve_rounds-served-requires : goal.serve_rounds-served-requires
 serve_rounds-served-requires g c =
-    was_opened g.K.Lookup.shows g.K.Lookup.leaves_one_of g.K.Lookup.is_trusted g.D.DeskOpener.is_opened g.K.Lookup.is_closed None c.in_ok-desk.desk c.in_ok-desk.ensures.opened
+    was_opened g.K.Lookup.shows g.K.Lookup.leaves_one_of g.K.Lookup.keeps_beside g.K.Lookup.is_trusted g.D.DeskOpener.is_opened g.K.Lookup.is_closed None c.in_ok-desk.desk c.in_ok-desk.ensures.opened

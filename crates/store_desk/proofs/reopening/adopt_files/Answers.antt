@@ -12,6 +12,7 @@ returns-in-Ok-clause-adopted g c = (
     others =
         c.in-Ok.ensures.others;
     beside = c.in-Ok.ensures.beside;
+    keeps = c.in-Ok.ensures.keeps;
   },
   c.in-Ok.ensures.left,
 )

@@ -1,5 +1,5 @@
 use Rattle.std.proofs.Common.{ap}
-use Rattle.store_desk.proofs.OverLemmas.{leaves_after}
+use Rattle.store_desk.proofs.OverLemmas.{beside_after, leaves_after}
 use Rattle.store_desk.proofs.session.session_over.Goals as goal
 
 pub returns-clause-ran : goal.returns-clause-ran
@@ -19,6 +19,9 @@ returns-clause-memory g c = λ is. let both = c.run-end.ensures.memory is in (ap
 pub returns-clause-leaves : goal.returns-clause-leaves
 returns-clause-leaves g c = λ ms before. c.run-end.ensures.desk.leaves ms (leaves_after g.S.Store c.args.connection c.in-Ok.desk.conn c.is_whole.ensures.live (g.met.S.Store.stays c.args.connection.store) c.in-Ok.ensures.migrated ms before)
 
+pub returns-clause-beside : goal.returns-clause-beside
+returns-clause-beside g c = λ db keeps. c.run-end.ensures.desk.beside db (c.in-Ok.ensures.keeps db keeps)
+
 pub returns-in-Err-clause-unopened : goal.returns-in-Err-clause-unopened
 returns-in-Err-clause-unopened g c =
     record {
@@ -34,3 +37,6 @@ returns-in-Err-clause-unopened g c =
 
 pub returns-in-Err-clause-leaves_unopened : goal.returns-in-Err-clause-leaves_unopened
 returns-in-Err-clause-leaves_unopened g c = λ ms before. leaves_after g.S.Store c.args.connection c.in-Err.left.0 c.is_whole.ensures.live (g.met.S.Store.stays c.args.connection.store) c.in-Err.ensures.crash ms before
+
+pub returns-in-Err-clause-beside_unopened : goal.returns-in-Err-clause-beside_unopened
+returns-in-Err-clause-beside_unopened g c = λ db keeps. beside_after g.S.Store c.args.connection c.in-Err.left.0 c.is_whole.ensures.live (g.met.S.Store.stays c.args.connection.store) c.in-Err.ensures.beside_left db keeps

@@ -38,7 +38,7 @@ loop-octet-init g c = record {
       (g.K.Sink.stream c.args.sink.now) (g.K.Sink.stream c.args.sink.now)) (sym (append-nil rest))
       (through_held (answer_to M (session_host c.args.self.now)) (looks_up M) (condition g.L.Lookup.has_failed g.L.Lookup.is_closed c.args.desk.now) c.args.self.now (g.K.Sink.stream c.args.sink.now) rest h.unfinished h);
   quiet = λ trusted M shown rest h all. refl;
-  desk = stays_same g.L.Lookup.shows g.L.Lookup.leaves_one_of g.L.Lookup.is_trusted g.L.Lookup.is_closed c.args.desk.now;
+  desk = stays_same g.L.Lookup.shows g.L.Lookup.leaves_one_of g.L.Lookup.keeps_beside g.L.Lookup.is_trusted g.L.Lookup.is_closed c.args.desk.now;
   same = record { host = refl; connection = refl; room = refl };
 }
 
@@ -67,7 +67,7 @@ loop-octet-preserved g c =
           let read = subst (λ (l : List ℕ). All P (cut l).lines) (sym (longer rest piece i lt)) all in
           c.in-More.ensures.quiet trusted M (c.loop-octet.invariant.desk.shows earlier M shown) (cut (rest ++ take i piece)).rest before.1 (behind_lines P (rest ++ take i piece) (get_or piece i 0 ∷ []) read)
           ∙ c.loop-octet.invariant.quiet earlier M shown rest h (front_lines P (rest ++ take i piece) (get_or piece i 0 ∷ []) read));
-      desk = stays_after g.L.Lookup.shows g.L.Lookup.leaves_one_of g.L.Lookup.is_trusted g.L.Lookup.is_closed _ _ _ c.loop-octet.invariant.desk c.in-More.ensures.desk;
+      desk = stays_after g.L.Lookup.shows g.L.Lookup.leaves_one_of g.L.Lookup.keeps_beside g.L.Lookup.is_trusted g.L.Lookup.is_closed _ _ _ c.loop-octet.invariant.desk c.in-More.ensures.desk;
       same = same_after _ _ _ c.loop-octet.invariant.same c.in-More.ensures.same;
     }
 
@@ -98,7 +98,7 @@ returns-in_default g c =
           let read = front_lines P ((rest ++ take i piece) ++ get_or piece i 0 ∷ []) (drop (i + 1) piece) (subst (λ (l : List ℕ). All P (cut l).lines) (sym (whole_piece rest piece i lt)) all) in
           c.take.ensures.quiet trusted M (c.loop-octet.invariant.desk.shows earlier M shown) (cut (rest ++ take i piece)).rest before.1 (behind_lines P (rest ++ take i piece) (get_or piece i 0 ∷ []) read)
           ∙ c.loop-octet.invariant.quiet earlier M shown rest h (front_lines P (rest ++ take i piece) (get_or piece i 0 ∷ []) read));
-      desk = stays_after g.L.Lookup.shows g.L.Lookup.leaves_one_of g.L.Lookup.is_trusted g.L.Lookup.is_closed _ _ _ c.loop-octet.invariant.desk c.take.ensures.desk;
+      desk = stays_after g.L.Lookup.shows g.L.Lookup.leaves_one_of g.L.Lookup.keeps_beside g.L.Lookup.is_trusted g.L.Lookup.is_closed _ _ _ c.loop-octet.invariant.desk c.take.ensures.desk;
       same = same_after _ _ _ c.loop-octet.invariant.same c.take.ensures.same;
     }
 

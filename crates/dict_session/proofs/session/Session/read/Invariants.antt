@@ -16,6 +16,6 @@ invariant-loop-octet g l = record {
       (g.K.Sink.stream l.sink) (rest ++ take l.octet-index l.piece);
   quiet : g.L.Lookup.is_trusted l.desk → (M : Catalogue) → g.L.Lookup.shows l.fn.desk M → (rest : List ℕ) → HasUnfinished l.fn.self rest
       → All (λ line. looks_up M (meaning line) ≡ false) (cut (rest ++ take l.octet-index l.piece)).lines → l.desk ≡ l.fn.desk;
-  desk : Stays g.L.Lookup.shows g.L.Lookup.leaves_one_of g.L.Lookup.is_trusted g.L.Lookup.is_closed l.fn.desk l.desk;
+  desk : Stays g.L.Lookup.shows g.L.Lookup.leaves_one_of g.L.Lookup.keeps_beside g.L.Lookup.is_trusted g.L.Lookup.is_closed l.fn.desk l.desk;
   same : IsSameSession l.fn.self l.self;
 }

@@ -122,7 +122,7 @@ reads-init g c =
         through_held (answer_to M c.args.host.now) (looks_up M) (condition g.L.Lookup.has_failed g.L.Lookup.is_closed c.args.desk.now) c.greet.new.self (g.K.Sink.stream c.greet.new.sink) [] (c.in-Ok.ensures.line).unfinished
             (c.in-More.ensures.line [] c.in-Ok.ensures.line),
       );
-      desk = stays_same g.L.Lookup.shows g.L.Lookup.leaves_one_of g.L.Lookup.is_trusted g.L.Lookup.is_closed c.args.desk.now;
+      desk = stays_same g.L.Lookup.shows g.L.Lookup.leaves_one_of g.L.Lookup.keeps_beside g.L.Lookup.is_trusted g.L.Lookup.is_closed c.args.desk.now;
       step = c.in-More.ensures.step;
       host = c.in-More.ensures.same.host ∙ c.in-Ok.ensures.host;
       space = omega arith;
@@ -165,7 +165,7 @@ reads-preserved g c =
             through_more (answer_to M c.args.host.now) (looks_up M) (g.L.Lookup.is_closed c.args.desk.now) (condition g.L.Lookup.has_failed g.L.Lookup.is_closed c.reads.desk) desk More c.reads.session c.advance.new.self greeted
                 (g.K.Sink.stream c.reads.writer) _ b piece left last,
           ));
-      desk = stays_after g.L.Lookup.shows g.L.Lookup.leaves_one_of g.L.Lookup.is_trusted g.L.Lookup.is_closed _ _ _ c.reads.invariant.desk c.in-More-advance.ensures.desk;
+      desk = stays_after g.L.Lookup.shows g.L.Lookup.leaves_one_of g.L.Lookup.keeps_beside g.L.Lookup.is_trusted g.L.Lookup.is_closed _ _ _ c.reads.invariant.desk c.in-More-advance.ensures.desk;
       step = ap step_at c.in-More-advance.ensures.course;
       host = c.in-More-advance.ensures.same.host ∙ c.reads.invariant.host;
       space = c.take.auto.room ∙ c.reads.invariant.space;
@@ -185,13 +185,13 @@ returns-clause-answers g c = λ trusted M shown.
     )
 
 pub returns-in-Quit-advance-clause-desk : goal.returns-in-Quit-advance-clause-desk
-returns-in-Quit-advance-clause-desk g c = stays_after g.L.Lookup.shows g.L.Lookup.leaves_one_of g.L.Lookup.is_trusted g.L.Lookup.is_closed _ _ _ c.reads.invariant.desk c.in-Quit-advance.ensures.desk
+returns-in-Quit-advance-clause-desk g c = stays_after g.L.Lookup.shows g.L.Lookup.leaves_one_of g.L.Lookup.keeps_beside g.L.Lookup.is_trusted g.L.Lookup.is_closed _ _ _ c.reads.invariant.desk c.in-Quit-advance.ensures.desk
 
 pub returns-in-SinkFailed-clause-desk : goal.returns-in-SinkFailed-clause-desk
-returns-in-SinkFailed-clause-desk g c = stays_after g.L.Lookup.shows g.L.Lookup.leaves_one_of g.L.Lookup.is_trusted g.L.Lookup.is_closed _ _ _ c.reads.invariant.desk c.in-SinkFailed.ensures.desk
+returns-in-SinkFailed-clause-desk g c = stays_after g.L.Lookup.shows g.L.Lookup.leaves_one_of g.L.Lookup.keeps_beside g.L.Lookup.is_trusted g.L.Lookup.is_closed _ _ _ c.reads.invariant.desk c.in-SinkFailed.ensures.desk
 
 pub returns-in-DeskFailed-clause-desk : goal.returns-in-DeskFailed-clause-desk
-returns-in-DeskFailed-clause-desk g c = stays_after g.L.Lookup.shows g.L.Lookup.leaves_one_of g.L.Lookup.is_trusted g.L.Lookup.is_closed _ _ _ c.reads.invariant.desk c.in-DeskFailed.ensures.desk
+returns-in-DeskFailed-clause-desk g c = stays_after g.L.Lookup.shows g.L.Lookup.leaves_one_of g.L.Lookup.keeps_beside g.L.Lookup.is_trusted g.L.Lookup.is_closed _ _ _ c.reads.invariant.desk c.in-DeskFailed.ensures.desk
 
 pub returns-in-Err-clause-through : goal.returns-in-Err-clause-through
 returns-in-Err-clause-through g c = λ trusted M shown.
@@ -285,7 +285,7 @@ returns-in-Quit g c =
     (subst (λ (n : ℕ). PutsLine (course_of c.greet.new.self) old new (banner_octets (session_host c.in-Ok.session) n)) c.in-Ok.ensures.connection (c.greet.ensures.greeting c.in-Ok.ensures.step))) in
     record {
       answers = λ trusted M shown. ([], (record { octets = Consumes-nil _; failures = refl }, inl (refl, front)));
-      desk = stays_same g.L.Lookup.shows g.L.Lookup.leaves_one_of g.L.Lookup.is_trusted g.L.Lookup.is_closed c.args.desk.now;
+      desk = stays_same g.L.Lookup.shows g.L.Lookup.leaves_one_of g.L.Lookup.keeps_beside g.L.Lookup.is_trusted g.L.Lookup.is_closed c.args.desk.now;
       through = λ trusted M shown. inr (inl (refl, front));
       memory = λ is. cc;
     }

@@ -19,7 +19,7 @@ invariant-reads g l = record {
   through : g.L.Lookup.is_trusted l.desk → (M : Catalogue) → g.L.Lookup.shows l.fn.desk M → (b : List ℕ) × (greeted : Stream)
       × Consumes (g.S.Source.stream l.fn.reader).octets (g.S.Source.stream l.reader).octets b × PutsAll (g.K.Sink.stream l.fn.writer) greeted (banner_octets l.host l.connection)
       × LeavesThrough (answer_to M l.host) (looks_up M) (g.L.Lookup.is_closed l.fn.desk) (condition g.L.Lookup.has_failed g.L.Lookup.is_closed l.desk) courses.More l.session greeted (g.K.Sink.stream l.writer) b;
-  desk : Stays g.L.Lookup.shows g.L.Lookup.leaves_one_of g.L.Lookup.is_trusted g.L.Lookup.is_closed l.fn.desk l.desk;
+  desk : Stays g.L.Lookup.shows g.L.Lookup.leaves_one_of g.L.Lookup.keeps_beside g.L.Lookup.is_trusted g.L.Lookup.is_closed l.fn.desk l.desk;
   step : step_of l.session ≡ More;
   host : session_host l.session ≡ l.host;
   space : length l.room ≡ 4096;

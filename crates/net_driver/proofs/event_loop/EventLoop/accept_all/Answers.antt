@@ -26,6 +26,7 @@ loop-init g c =
     record {
       ready = λ some. absurd (omega (arith, some));
       trust = λ trusted. trusted;
+      beside = λ beside kept. kept;
       unasked = refl;
       kept = record { rounds = refl; failure = refl };
       other = refl;
@@ -42,6 +43,7 @@ loop-preserved g c =
     record {
       ready = λ some. ready;
       trust = λ trusted. before.trust (c.accept.ensures.trust trusted);
+      beside = λ beside kept. c.accept.ensures.beside beside (before.beside beside kept);
       unasked = c.accept.ensures.unasked ∙ before.unasked;
       kept = record { rounds = c.accept.ensures.kept.rounds ∙ before.kept.rounds; failure = c.accept.ensures.kept.failure ∙ before.kept.failure };
       other = c.accept.ensures.other ∙ before.other;
@@ -71,6 +73,9 @@ returns-then-not-accept-clause-led g c =
 
 pub returns-then-not-accept-clause-trust : goal.returns-then-not-accept-clause-trust
 returns-then-not-accept-clause-trust g c = λ trusted. c.loop.invariant.trust (c.accept.ensures.trust trusted)
+
+pub returns-then-not-accept-clause-beside : goal.returns-then-not-accept-clause-beside
+returns-then-not-accept-clause-beside g c = λ beside kept. c.accept.ensures.beside beside (c.loop.invariant.beside beside kept)
 
 pub returns-then-not-accept-clause-unasked : goal.returns-then-not-accept-clause-unasked
 returns-then-not-accept-clause-unasked g c = c.accept.ensures.unasked ∙ c.loop.invariant.unasked

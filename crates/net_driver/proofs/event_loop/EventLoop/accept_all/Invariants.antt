@@ -10,6 +10,7 @@ abbrev pub invariant-loop : goal.invariant-loop
 invariant-loop g l = record {
   ready : 0 < l.counter → listening_of l.fn.kind l.self ≡ Ready;
   trust : g.K.Lookup.is_trusted l.desk → g.K.Lookup.is_trusted l.fn.desk;
+  beside : (beside : g.K.Lookup.Beside) → g.K.Lookup.keeps_beside l.fn.desk beside → g.K.Lookup.keeps_beside l.desk beside;
   unasked : l.desk ≡ l.fn.desk;
   kept : IsKept l.fn.self l.self;
   other : listening_of (other_kind l.fn.kind) l.self ≡ listening_of (other_kind l.fn.kind) l.fn.self;

@@ -9,6 +9,7 @@ use Rattle.store_desk.specs.Opened.{IsNotHeld}
 use Rattle.store_migration.specs.Spared.{SparesOthers}
 use Rattle.store_desk.specs.Adopted.{FailsToOpen, MayCommitBeside}
 use Rattle.store_desk.proofs.DeskLemmas.{alone, left_alone}
+use Rattle.store_desk.proofs.OverLemmas.{beside_after}
 use Rattle.store_desk.proofs.desk.Desk.adopt.Goals as goal
 use Rattle.store_rows.specs.Versions.{known}
 
@@ -60,6 +61,9 @@ pub returns-in-Ok-clause-beside : goal.returns-in-Ok-clause-beside
 returns-in-Ok-clause-beside g c =
     let as_was = subst (λ conn. Survives (state g.S.Store conn) (state g.S.Store c.read_renewed.new.conn) (MayCommitBeside (state g.S.Store conn))) c.set_step_limit.ensures c.read_renewed.ensures.beside in
     subst (λ (d : DeskState _). Survives (state g.S.Store (record c.args.conn { step_limit = None })) (state g.S.Store d.conn) (MayCommitBeside (state g.S.Store c.args.conn))) (sym c.over.ensures.is) as_was
+
+pub returns-in-Ok-clause-keeps : goal.returns-in-Ok-clause-keeps
+returns-in-Ok-clause-keeps g c = beside_after g.S.Store c.args.conn c.over.result.conn c.is_whole.ensures.live (g.met.S.Store.stays c.args.conn.store) (returns-in-Ok-clause-beside g c)
 
 pub returns-in-Err-clause-beside_left : goal.returns-in-Err-clause-beside_left
 returns-in-Err-clause-beside_left g c =

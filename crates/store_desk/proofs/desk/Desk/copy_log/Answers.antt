@@ -6,9 +6,9 @@ use Rattle.sqlite.specs.State.{HasCleanDisk, KeepsCommit}
 use Rattle.dict_catalogue.specs.Views.{summary_shown}
 use Rattle.dict_desk.specs.Faults.{has_failed_by, has_closed_by}
 use Rattle.dict_desk.specs.declared.fault.Fault.TheVariants.{Disk}
-use Rattle.store_desk.specs.Desk.{DeskState, Shows, LeavesOneOf, has_failed, is_closed}
+use Rattle.store_desk.specs.Desk.{DeskState, Shows, LeavesOneOf, has_failed, is_closed, KeepsBeside}
 use Rattle.store_desk.specs.Prepared.{HasCopied}
-use Rattle.store_desk.proofs.CopyLemmas.{copied_caused, copied_first, copied_keeps, copied_leaves, copied_rests, copied_same, copied_shows, resting_by}
+use Rattle.store_desk.proofs.CopyLemmas.{copied_beside, copied_caused, copied_first, copied_keeps, copied_leaves, copied_rests, copied_same, copied_shows, resting_by}
 use Rattle.store_desk.proofs.PreparingLemmas.{behind_failed, behind_closed}
 use Rattle.store_desk.proofs.desk.Desk.copy_log.Goals as goal
 
@@ -61,6 +61,13 @@ returns-clause-leaves g c = λ ms left.
     copied_leaves g.S.Store (record { conn = c.self.inside.conn; summary = summary_shown c.self.inside.summary; last = c.self.inside.last; indexes = c.self.inside.indexes; texts = c.self.inside.texts })
     (record { conn = c.copy_over-outcome.new.conn; summary = summary_shown c.self.inside.summary; last = c.last_behind-self-inside.result; indexes = c.self.inside.indexes; texts = c.forget_behind.new.texts })
     (c.self.invariant.0.holds before) c.is_whole.ensures.live c.committed_may_stay.ensures c.copy_over-outcome.ensures.crash ms (subst (λ (d : DeskState _). LeavesOneOf g.S.Store d ms) (sym c.self.view_is) left)
+
+pub returns-clause-beside : goal.returns-clause-beside
+returns-clause-beside g c = λ db kept.
+    let before : is_closed c.self.inside.last ≡ false = ap (λ (d : DeskState _). is_closed d.last) c.self.view_is ∙ c.requires.open in
+    copied_beside g.S.Store (record { conn = c.self.inside.conn; summary = summary_shown c.self.inside.summary; last = c.self.inside.last; indexes = c.self.inside.indexes; texts = c.self.inside.texts })
+    (record { conn = c.copy_over-outcome.new.conn; summary = summary_shown c.self.inside.summary; last = c.last_behind-self-inside.result; indexes = c.self.inside.indexes; texts = c.forget_behind.new.texts })
+    (c.self.invariant.0.holds before) c.is_whole.ensures.live c.committed_may_stay.ensures c.copy_over-outcome.ensures.crash db (subst (λ (d : DeskState _). KeepsBeside g.S.Store d db) (sym c.self.view_is) kept)
 
 pub returns-clause-failed : goal.returns-clause-failed
 returns-clause-failed g c =

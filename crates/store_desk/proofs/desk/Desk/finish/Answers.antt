@@ -20,10 +20,11 @@ use Rattle.store_desk.specs.Applied.{AppliesOver}
 use Rattle.store_desk.specs.Causes.{FailsToApplyTo}
 use Rattle.store_desk.specs.KeptParts.{texts_after}
 use Rattle.store_desk.specs.Prepared.{LetsGo}
-use Rattle.store_desk.specs.Desk.{DeskState, Shows, LeavesOneOf, is_closed, has_failed}
+use Rattle.store_desk.specs.Desk.{DeskState, Shows, LeavesOneOf, is_closed, has_failed, KeepsBeside}
 use Rattle.store_desk.specs.declared.last.LastCall.{LastCall}
 use Rattle.store_desk.proofs.ActedLemmas.{served_by}
 use Rattle.store_desk.proofs.AppliedLemmas.{committed_rested, finished_over}
+use Rattle.store_desk.proofs.BesideLemmas.{beside_by}
 use Rattle.store_desk.proofs.CauseLemmas.{fails_to_apply}
 use Rattle.store_desk.proofs.FinishLemmas.{never_shut, reply_kind, unfinished_rests, unfinished_shows}
 use Rattle.store_desk.proofs.KeeperLemmas.{closed_by, none_by, others_by, told_rests, told_applies, told_leaves, told_spares, failed_by}
@@ -138,6 +139,9 @@ returns-clause-done g c =
         others = λ clean live. subst (λ (d : DeskState _). SparesTablesOfOthers (state g.S.Store d.conn).committed (state g.S.Store new).committed) c.self.view_is
             (others_by c.in-Some.outcome (state g.S.Store old).committed (state g.S.Store new).committed (over.others clean live) (it.2.stays clean live));
         beside = subst (λ (d : DeskState _). Survives (state g.S.Store d.conn) (state g.S.Store new) (LeftBeside (state g.S.Store d.conn))) c.self.view_is over.beside;
+        keeps = λ db kept.
+            beside_by g.S.Store (record { conn = old; summary = summary; last = c.self.inside.last; indexes = c.self.inside.indexes; texts = c.self.inside.texts }) after (c.self.invariant.0.holds before) c.is_whole.ensures.live
+            c.committed_may_stay.ensures over.beside db (subst (λ (d : DeskState _). KeepsBeside g.S.Store d db) (sym c.self.view_is) kept);
       },
     )
 

@@ -6,7 +6,8 @@ use Rattle.sqlite.specs.State.{KeepsCommit}
 use Rattle.dict_catalogue.specs.Views.{summary_shown}
 use Rattle.dict_desk.specs.Faults.{has_failed_by, has_closed_by}
 use Rattle.dict_desk.specs.declared.fault.Fault.TheVariants.{Disk}
-use Rattle.store_desk.specs.Desk.{DeskState, Shows, LeavesOneOf, has_failed, is_closed}
+use Rattle.store_desk.specs.Desk.{DeskState, Shows, LeavesOneOf, has_failed, is_closed, KeepsBeside}
+use Rattle.store_desk.proofs.BesideLemmas.{beside_on}
 use Rattle.store_desk.proofs.DeskLemmas.{leaves_on}
 use Rattle.store_desk.proofs.PreparedLemmas.{usable_by}
 use Rattle.store_desk.proofs.PreparingLemmas.{prepared_rests, prepared_keeps, prepared_shows, prepared_caused, behind_failed, behind_closed, more_prepared}
@@ -53,6 +54,12 @@ returns-clause-leaves g c = λ ms left.
     leaves_on g.S.Store (record { conn = c.self.inside.conn; summary = summary_shown c.self.inside.summary; last = c.self.inside.last; indexes = c.self.inside.indexes; texts = c.self.inside.texts })
     (record { conn = c.prepare_next-outcome.new.conn; summary = summary_shown c.self.inside.summary; last = c.last_behind-self-inside.result; indexes = c.self.inside.indexes; texts = c.forget_behind.new.texts })
     c.prepare_next-outcome.ensures.survives ms (subst (λ (d : DeskState _). LeavesOneOf g.S.Store d ms) (sym c.self.view_is) left)
+
+pub returns-clause-beside : goal.returns-clause-beside
+returns-clause-beside g c = λ db kept.
+    beside_on g.S.Store (record { conn = c.self.inside.conn; summary = summary_shown c.self.inside.summary; last = c.self.inside.last; indexes = c.self.inside.indexes; texts = c.self.inside.texts })
+    (record { conn = c.prepare_next-outcome.new.conn; summary = summary_shown c.self.inside.summary; last = c.last_behind-self-inside.result; indexes = c.self.inside.indexes; texts = c.forget_behind.new.texts })
+    c.prepare_next-outcome.ensures.survives db (subst (λ (d : DeskState _). KeepsBeside g.S.Store d db) (sym c.self.view_is) kept)
 
 pub returns-clause-failed : goal.returns-clause-failed
 returns-clause-failed g c =

@@ -12,10 +12,11 @@ use Rattle.dict_desk.specs.Faults.{has_failed_by, is_failure}
 use Rattle.dict_desk.specs.Applying.{Leaves}
 use Rattle.store_desk.specs.Causes.{FailsToApplyTo}
 use Rattle.store_desk.specs.KeptParts.{KeepsTexts, texts_after}
-use Rattle.store_desk.specs.Desk.{DeskState, Shows, LeavesOneOf, is_closed, has_failed}
+use Rattle.store_desk.specs.Desk.{DeskState, Shows, LeavesOneOf, is_closed, has_failed, KeepsBeside}
 use Rattle.store_desk.specs.declared.last.LastCall.{LastCall}
 use Rattle.store_desk.specs.declared.last.LastCall.TheVariants.{Failed}
 use Rattle.store_desk.proofs.ActedLemmas.{served_by}
+use Rattle.store_desk.proofs.BesideLemmas.{beside_by}
 use Rattle.store_desk.proofs.CauseLemmas.{fails_to_apply}
 use Rattle.store_desk.proofs.DeskLemmas.{survives_itself, texts_keep}
 use Rattle.store_desk.proofs.KeeperLemmas.{err_by, others_by, told_rests, told_applies, told_leaves, told_spares, failed_by}
@@ -82,6 +83,13 @@ returns-clause-spares g c = λ ms left.
     (summary_shown c.take_over.new.summary) c.last_by-self-inside.result c.take_over.result c.take_over.ensures.after c.last_by-self-inside.ensures c.take_over.ensures.reply
     ms (subst (λ desk. LeavesOneOf g.S.Store desk ms) (sym c.self.view_is) left)
 
+pub returns-clause-beside : goal.returns-clause-beside
+returns-clause-beside g c = λ db kept.
+    let before : is_closed c.self.inside.last ≡ false = search rules in
+    beside_by g.S.Store (record { conn = c.self.inside.conn; summary = summary_shown c.self.inside.summary; last = c.self.inside.last; indexes = c.self.inside.indexes; texts = c.self.inside.texts })
+    (record { conn = c.apply_over-outcome.new.conn; summary = summary_shown c.take_over.new.summary; last = c.last_by-self-inside.result; indexes = c.settle.new.indexes; texts = c.forget_by-2.new.texts })
+    (c.self.invariant.0.holds before) c.is_whole.ensures.live c.committed_may_stay.ensures c.apply_over-outcome.ensures.over.beside db (subst (λ (d : DeskState _). KeepsBeside g.S.Store d db) (sym c.self.view_is) kept)
+
 pub returns-clause-failed : goal.returns-clause-failed
 returns-clause-failed g c = ap has_failed c.last_by-self-inside.ensures ∙ failed_by c.apply_over-outcome.result ∙ ap has_failed_by (sym c.take_over.ensures.reply)
 
@@ -110,6 +118,7 @@ returns-clause-applied g c = record {
       (others_by c.apply_over-outcome.result (state g.S.Store c.self.inside.conn).committed (state g.S.Store c.apply_over-outcome.new.conn).committed
       (c.apply_over-outcome.ensures.over.others clean live) (c.apply_over-outcome.ensures.stays clean live));
   beside = subst (λ (d : DeskState _). Survives (state g.S.Store d.conn) (state g.S.Store c.apply_over-outcome.new.conn) (LeftBeside (state g.S.Store d.conn))) c.self.view_is c.apply_over-outcome.ensures.over.beside;
+  keeps = returns-clause-beside g c;
 }
 
 -- ---- memory was refused to the index of the edition that comes
@@ -134,6 +143,9 @@ returns-in_default-clause-leaves g c = λ clean M shown ms left. subst (λ (d : 
 pub returns-in_default-clause-spares : goal.returns-in_default-clause-spares
 returns-in_default-clause-spares g c = λ ms left other. subst (λ (d : DeskState _). LeavesOneOf g.S.Store d ms) (sym c.self.view_is) left
 
+pub returns-in_default-clause-beside : goal.returns-in_default-clause-beside
+returns-in_default-clause-beside g c = λ db kept. subst (λ (d : DeskState _). KeepsBeside g.S.Store d db) (sym c.self.view_is) kept
+
 pub returns-in_default-clause-caused : goal.returns-in_default-clause-caused
 returns-in_default-clause-caused g c = λ clean failure. inl (err_by c.put_coming.result c.in_default.not-Ok c.put_coming.ensures.asked, ap (λ (d : DeskState _). d.conn) c.self.view_is)
 
@@ -147,4 +159,5 @@ returns-in_default-clause-applied g c =
       others = λ clean live. subst (λ (d : DeskState _). SparesTablesOfOthers (state g.S.Store d.conn).committed (state g.S.Store c.self.inside.conn).committed) c.self.view_is (others_none (state g.S.Store c.self.inside.conn).committed);
       beside = subst (λ (d : DeskState _). Survives (state g.S.Store d.conn) (state g.S.Store c.self.inside.conn) (LeftBeside (state g.S.Store d.conn))) c.self.view_is
           (survives_itself (state g.S.Store c.self.inside.conn) (LeftBeside (state g.S.Store c.self.inside.conn)));
+      keeps = returns-in_default-clause-beside g c;
     }

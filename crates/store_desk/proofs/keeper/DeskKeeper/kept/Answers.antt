@@ -5,9 +5,10 @@ use Rattle.sqlite.specs.State.{HasCleanDisk}
 use Rattle.dict_catalogue.specs.Steps.{kept_under}
 use Rattle.dict_catalogue.specs.Views.{summary_shown, kept_shown}
 use Rattle.store_commands.specs.KeptRecords.{HoldsReplies}
-use Rattle.store_desk.specs.Desk.{DeskState, Shows, LeavesOneOf, is_closed}
+use Rattle.store_desk.specs.Desk.{DeskState, Shows, LeavesOneOf, is_closed, KeepsBeside}
 use Rattle.store_desk.specs.Prepared.{Undoes}
 use Rattle.store_desk.proofs.CauseLemmas.{reply_gives_way}
+use Rattle.store_desk.proofs.BesideLemmas.{beside_on}
 use Rattle.store_desk.proofs.DeskLemmas.{clean_behind, desk_on, held, leaves_on, replies_continue, shows_on, undone_twice}
 use Rattle.store_desk.proofs.KeeperLemmas.{kept_value, none_by}
 use Rattle.store_desk.proofs.PreparedLemmas.{kept_there, replies_seen}
@@ -66,6 +67,14 @@ returns-clause-leaves g c = λ ms left.
     (record { conn = c.kept_reply-outcome.new.conn; summary = summary_shown c.self.inside.summary; last = c.last_by-self-inside.result; indexes = c.self.inside.indexes; texts = c.forget_by.new.texts })
     c.kept_reply-outcome.ensures.survives ms
     (subst (λ (d : DeskState _). LeavesOneOf g.S.Store d ms) (sym c.self.view_is) there)
+
+pub returns-clause-beside : goal.returns-clause-beside
+returns-clause-beside g c = λ db kept.
+    let there = beside_on g.S.Store c.kept_beside.new.self c.withdraw.new.self c.withdraw.ensures.survives db (beside_on g.S.Store c.args.self.now c.kept_beside.new.self c.kept_beside.ensures.survives db kept) in
+    beside_on g.S.Store (record { conn = c.self.inside.conn; summary = summary_shown c.self.inside.summary; last = c.self.inside.last; indexes = c.self.inside.indexes; texts = c.self.inside.texts })
+    (record { conn = c.kept_reply-outcome.new.conn; summary = summary_shown c.self.inside.summary; last = c.last_by-self-inside.result; indexes = c.self.inside.indexes; texts = c.forget_by.new.texts })
+    c.kept_reply-outcome.ensures.survives db
+    (subst (λ (d : DeskState _). KeepsBeside g.S.Store d db) (sym c.self.view_is) there)
 
 pub returns-clause-caused : goal.returns-clause-caused
 returns-clause-caused g c =

@@ -8,9 +8,10 @@ use Rattle.store_lookup.specs.Texts.{ArePartsOf}
 use Rattle.store_search.specs.Entries.{Indexed}
 use Rattle.store_lookup.proofs.HeldLemmas.{held_tables}
 use Rattle.store_desk.proofs.ServedLemmas.{seen_text, served_one}
-use Rattle.store_desk.specs.Desk.{DeskState, Shows, LeavesOneOf, is_closed}
+use Rattle.store_desk.specs.Desk.{DeskState, Shows, LeavesOneOf, is_closed, KeepsBeside}
 use Rattle.store_desk.specs.Prepared.{IsAlike, Undoes}
 use Rattle.store_desk.proofs.CauseLemmas.{found_gives_way}
+use Rattle.store_desk.proofs.BesideLemmas.{beside_on}
 use Rattle.store_desk.proofs.DeskLemmas.{clean_behind, found_continues, leaves_on, desk_on, shows_with, parts_after}
 use Rattle.store_desk.proofs.lookups.DeskLookup.find.Goals as goal
 
@@ -58,6 +59,13 @@ returns-clause-leaves g c = λ ms left.
     leaves_on g.S.Store (record { conn = c.self.inside.conn; summary = summary_shown c.self.inside.summary; last = c.self.inside.last; indexes = c.self.inside.indexes; texts = c.self.inside.texts })
     (record { conn = c.find_under-outcome.new.conn; summary = summary_shown c.self.inside.summary; last = c.last_by-self-inside.result; indexes = c.find_under-outcome.new.indexes; texts = c.forget_by.new.texts })
     c.find_under-outcome.ensures.survives ms there
+
+pub returns-clause-beside : goal.returns-clause-beside
+returns-clause-beside g c = λ db kept.
+    let there = subst (λ (d : DeskState _). KeepsBeside g.S.Store d db) (sym c.self.view_is) (beside_on g.S.Store c.args.self.now c.make_ready.new.self c.make_ready.ensures.survives db kept) in
+    beside_on g.S.Store (record { conn = c.self.inside.conn; summary = summary_shown c.self.inside.summary; last = c.self.inside.last; indexes = c.self.inside.indexes; texts = c.self.inside.texts })
+    (record { conn = c.find_under-outcome.new.conn; summary = summary_shown c.self.inside.summary; last = c.last_by-self-inside.result; indexes = c.find_under-outcome.new.indexes; texts = c.forget_by.new.texts })
+    c.find_under-outcome.ensures.survives db there
 
 pub returns-clause-value : goal.returns-clause-value
 returns-clause-value g c = λ clean M edition shown has.

@@ -1,7 +1,7 @@
 use Rattle.std.proofs.Common.{◌≡◌, false, sym, ap, subst, rules}
 use Rattle.dict_catalogue.specs.Views.{summary_shown}
 use Rattle.store_lookup.specs.Indexes.{entries_under}
-use Rattle.store_desk.specs.Desk.{DeskState, Shows, LeavesOneOf, is_closed}
+use Rattle.store_desk.specs.Desk.{DeskState, Shows, LeavesOneOf, is_closed, KeepsBeside}
 use Rattle.store_desk.proofs.CauseLemmas.{memory_gives_way}
 use Rattle.store_desk.proofs.DeskLemmas.{texts_keep}
 use Rattle.store_desk.proofs.PreparingLemmas.{rests_as, shows_as}
@@ -26,6 +26,9 @@ returns-clause-shows g c = λ clean M shown.
 
 pub returns-clause-leaves : goal.returns-clause-leaves
 returns-clause-leaves g c = λ ms left. subst (λ (d : DeskState _). LeavesOneOf g.S.Store d ms) (sym c.self.view_is) left
+
+pub returns-clause-beside : goal.returns-clause-beside
+returns-clause-beside g c = λ db kept. subst (λ (d : DeskState _). KeepsBeside g.S.Store d db) (sym c.self.view_is) kept
 
 pub returns-clause-caused : goal.returns-clause-caused
 returns-clause-caused g c = λ clean.

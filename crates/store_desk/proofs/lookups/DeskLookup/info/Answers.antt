@@ -6,9 +6,10 @@ use Rattle.sqlite.specs.State.{HasCleanDisk}
 use Rattle.dict_catalogue.specs.Views.{summary_shown}
 use Rattle.store_lookup.specs.Searches.{number_in_column}
 use Rattle.store_lookup.proofs.HeldLemmas.{held_one, held_tables}
-use Rattle.store_desk.specs.Desk.{DeskState, Shows, LeavesOneOf, is_closed}
+use Rattle.store_desk.specs.Desk.{DeskState, Shows, LeavesOneOf, is_closed, KeepsBeside}
 use Rattle.store_desk.specs.Prepared.{IsAlike, Undoes}
 use Rattle.store_desk.proofs.CauseLemmas.{lookup_gives_way}
+use Rattle.store_desk.proofs.BesideLemmas.{beside_on}
 use Rattle.store_desk.proofs.DeskLemmas.{clean_behind, continues_by, leaves_on, desk_on, handed_by, shows_on, held}
 use Rattle.dict_desk.specs.Handing.{Hands}
 use Rattle.dict_desk.specs.Shown.{info_rows}
@@ -44,6 +45,12 @@ returns-clause-leaves g c = λ ms left.
     let there = subst (λ (d : DeskState _). LeavesOneOf g.S.Store d ms) (sym c.self.view_is) (leaves_on g.S.Store c.args.self.now c.make_ready.new.self c.make_ready.ensures.survives ms left) in
     leaves_on g.S.Store (record { conn = c.self.inside.conn; summary = summary_shown c.self.inside.summary; last = c.self.inside.last; indexes = c.self.inside.indexes; texts = c.self.inside.texts })
     (record { conn = c.info-outcome.new.conn; summary = summary_shown c.self.inside.summary; last = c.last_by-self-inside.result; indexes = c.self.inside.indexes; texts = c.forget_by.new.texts }) c.info-outcome.ensures.survives ms there
+
+pub returns-clause-beside : goal.returns-clause-beside
+returns-clause-beside g c = λ db kept.
+    let there = subst (λ (d : DeskState _). KeepsBeside g.S.Store d db) (sym c.self.view_is) (beside_on g.S.Store c.args.self.now c.make_ready.new.self c.make_ready.ensures.survives db kept) in
+    beside_on g.S.Store (record { conn = c.self.inside.conn; summary = summary_shown c.self.inside.summary; last = c.self.inside.last; indexes = c.self.inside.indexes; texts = c.self.inside.texts })
+    (record { conn = c.info-outcome.new.conn; summary = summary_shown c.self.inside.summary; last = c.last_by-self-inside.result; indexes = c.self.inside.indexes; texts = c.forget_by.new.texts }) c.info-outcome.ensures.survives db there
 
 pub returns-clause-value : goal.returns-clause-value
 returns-clause-value g c = λ clean M edition shown has.

@@ -9,6 +9,7 @@ use Rattle.dict_desk.specs.declared.answered.Answered.{Answered}
 use Rattle.dict_desk.specs.declared.answered.Answered.TheVariants.{Done, Refused}
 use Rattle.store_desk.specs.Desk.{is_closed, has_failed}
 use Rattle.store_desk.specs.declared.last.LastCall.{LastCall}
+use Rattle.store_desk.proofs.BesideLemmas.{beside_on}
 use Rattle.store_desk.proofs.DeskLemmas.{clean_behind, leaves_on}
 use Rattle.store_desk.proofs.FinishLemmas.{closed_failed, done_as, err_closed}
 use Rattle.store_desk.proofs.KeeperLemmas.{none_by}
@@ -83,6 +84,9 @@ returns-in-Some-finish-clause-closed_done g c =
     let fine : is_closed c.args.self.now.last ≡ false = sym c.is_closed.ensures ∙ c.if-is_closed.false in
     (λ is. absurd (c.in-Some-finish.ensures.closed is), λ shut. absurd (false≢true (sym fine ∙ shut)))
 
+pub returns-in-Some-finish-clause-beside : goal.returns-in-Some-finish-clause-beside
+returns-in-Some-finish-clause-beside g c = λ db kept. c.in-Some-finish.ensures.done.2.keeps db kept
+
 pub returns-in-Some-finish-clause-trust : goal.returns-in-Some-finish-clause-trust
 returns-in-Some-finish-clause-trust g c = λ clean. let beside = c.in-Some-finish.ensures.done.2.beside in omega (arith, beside.clean, clean)
 
@@ -108,6 +112,11 @@ returns-in-Ok-clause-leaves g c = λ ms left.
     let survives = none_by c.finish.result c.in_default-finish.not-Some c.finish.ensures.survives in
     leaves_on g.S.Store c.finish.new.self c.withdraw.new.self c.withdraw.ensures.survives ms (leaves_on g.S.Store c.args.self.now c.finish.new.self survives ms left)
 
+pub returns-in-Ok-clause-beside : goal.returns-in-Ok-clause-beside
+returns-in-Ok-clause-beside g c = λ db kept.
+    let survives = none_by c.finish.result c.in_default-finish.not-Some c.finish.ensures.survives in
+    beside_on g.S.Store c.finish.new.self c.withdraw.new.self c.withdraw.ensures.survives db (beside_on g.S.Store c.args.self.now c.finish.new.self survives db kept)
+
 pub returns-in-Err-clause-trust : goal.returns-in-Err-clause-trust
 returns-in-Err-clause-trust g c = λ clean.
     let survives = none_by c.finish.result c.in_default-finish.not-Some c.finish.ensures.survives in
@@ -122,6 +131,11 @@ pub returns-in-Err-clause-leaves : goal.returns-in-Err-clause-leaves
 returns-in-Err-clause-leaves g c = λ ms left.
     let survives = none_by c.finish.result c.in_default-finish.not-Some c.finish.ensures.survives in
     leaves_on g.S.Store c.finish.new.self c.withdraw.new.self c.withdraw.ensures.survives ms (leaves_on g.S.Store c.args.self.now c.finish.new.self survives ms left)
+
+pub returns-in-Err-clause-beside : goal.returns-in-Err-clause-beside
+returns-in-Err-clause-beside g c = λ db kept.
+    let survives = none_by c.finish.result c.in_default-finish.not-Some c.finish.ensures.survives in
+    beside_on g.S.Store c.finish.new.self c.withdraw.new.self c.withdraw.ensures.survives db (beside_on g.S.Store c.args.self.now c.finish.new.self survives db kept)
 
 pub returns-in-Ok-clause-failed : goal.returns-in-Ok-clause-failed
 returns-in-Ok-clause-failed g c =

@@ -4,9 +4,10 @@ use Rattle.sqlite.specs.Held.{state}
 use Rattle.sqlite.specs.State.{HasCleanDisk, KeepsCommit}
 use Rattle.dict_catalogue.specs.Views.{summary_shown}
 use Rattle.dict_desk.specs.declared.fault.Fault.TheVariants.{Memory}
-use Rattle.store_desk.specs.Desk.{DeskState, Shows, LeavesOneOf, has_failed, is_closed}
+use Rattle.store_desk.specs.Desk.{DeskState, Shows, LeavesOneOf, has_failed, is_closed, KeepsBeside}
 use Rattle.store_desk.specs.KeptParts.{KeepsTexts}
 use Rattle.store_desk.specs.declared.last.LastCall.TheVariants.{Failed}
+use Rattle.store_desk.proofs.BesideLemmas.{beside_on}
 use Rattle.store_desk.proofs.DeskLemmas.{leaves_on, texts_keep}
 use Rattle.store_desk.proofs.PreparingLemmas.{or_false, or_true, rests_as, shows_as, undoes_keep, open_closed}
 use Rattle.store_desk.proofs.preparing.DeskPreparer.expect_install.Goals as goal
@@ -33,6 +34,10 @@ pub returns-in-Ok-clause-leaves : goal.returns-in-Ok-clause-leaves
 returns-in-Ok-clause-leaves g c = λ ms left.
     subst (λ (d : DeskState _). LeavesOneOf g.S.Store d ms) (sym c.self.view_is) (leaves_on g.S.Store c.args.self.now c.withdraw.new.self c.withdraw.ensures.survives ms left)
 
+pub returns-in-Ok-clause-beside : goal.returns-in-Ok-clause-beside
+returns-in-Ok-clause-beside g c = λ db kept.
+    subst (λ (d : DeskState _). KeepsBeside g.S.Store d db) (sym c.self.view_is) (beside_on g.S.Store c.args.self.now c.withdraw.new.self c.withdraw.ensures.survives db kept)
+
 pub returns-in-Ok-clause-failed : goal.returns-in-Ok-clause-failed
 returns-in-Ok-clause-failed g c = ap has_failed (ap (λ (d : DeskState _). d.last) c.self.view_is ∙ c.in_ok-withdraw.ensures.last) ∙ sym (or_false (has_failed c.args.self.now.last))
 
@@ -48,6 +53,10 @@ returns-in-Err-clause-shows g c = λ clean M shown.
 pub returns-in-Err-clause-leaves : goal.returns-in-Err-clause-leaves
 returns-in-Err-clause-leaves g c = λ ms left.
     subst (λ (d : DeskState _). LeavesOneOf g.S.Store d ms) (sym c.self.view_is) (leaves_on g.S.Store c.args.self.now c.withdraw.new.self c.withdraw.ensures.survives ms left)
+
+pub returns-in-Err-clause-beside : goal.returns-in-Err-clause-beside
+returns-in-Err-clause-beside g c = λ db kept.
+    subst (λ (d : DeskState _). KeepsBeside g.S.Store d db) (sym c.self.view_is) (beside_on g.S.Store c.args.self.now c.withdraw.new.self c.withdraw.ensures.survives db kept)
 
 pub returns-in-Err-clause-failed : goal.returns-in-Err-clause-failed
 returns-in-Err-clause-failed g c = sym (or_true (has_failed c.args.self.now.last))

@@ -1,7 +1,7 @@
 use Rattle.std.proofs.Common.{◌∙◌, refl, sym}
 use Rattle.std.proofs.lemmas.Bool.{and_parts}
 use Rattle.std.proofs.lemmas.Result.{IfOk-weaker, IfErr-weaker}
-use Rattle.store_desk.proofs.ReopenLemmas.{shows_one_of, tells_none, hands_back, hands_spent, excused, unopened_again, kind_of}
+use Rattle.store_desk.proofs.ReopenLemmas.{shows_one_of, still_beside, tells_none, hands_back, hands_spent, excused, unopened_again, kind_of}
 use Rattle.store_desk.proofs.reopening.Desk+FileStore+D.reopen.Goals as goal
 
 pub returns-clause-reopened : goal.returns-clause-reopened
@@ -12,6 +12,12 @@ returns-clause-follows g c =
     let files = c.files_of-files.result in
     IfOk-weaker c.open_over.result _ _ (λ next over clean ms leaves. shows_one_of g.met.D.Disk.seen_may_stay c.args.self files files c.files_of-files.ensures (λ image out. out)
     (λ clean. clean) next over clean ms leaves) c.open_over.ensures.opened
+
+pub returns-clause-beside : goal.returns-clause-beside
+returns-clause-beside g c =
+    let files = c.files_of-files.result in
+    IfOk-weaker c.open_over.result _ _ (λ next over db keeps. still_beside g.met.D.Disk.seen_may_stay c.args.self files files c.files_of-files.ensures (λ image out. out)
+    (λ clean. clean) next over db keeps) c.open_over.ensures.opened
 
 pub returns-clause-unopened : goal.returns-clause-unopened
 returns-clause-unopened g c =
