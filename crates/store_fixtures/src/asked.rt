@@ -1,5 +1,12 @@
 //! What editors ask of a desk, and what they are answered.
 
+ghost use Rattle.std.specs.Prelude.{◌≡◌, map, slice_get, IsSomeAnd, IfOk, IfErr, decimal, string_bytes};
+ghost use Rattle.dict_catalogue.specs.Views.{command_meant};
+ghost use Rattle.dict_catalogue.specs.Refusals.{command_refusal_number};
+ghost use Rattle.dict_desk.specs.Faults.{fault_number};
+ghost use Rattle.dict_desk.specs.Requests.{requests_meant};
+ghost use Rattle.store_fixtures.specs.Asked.{AreReadOf, command_asked, place_of, requests_asked};
+
 use dict_catalogue::{Command, CommandRefusal, Kept};
 use dict_desk::Fault;
 use dict_fixtures::{GEM_INDEX, GEM_TEXT, ORE_INDEX, ORE_TEXT};
@@ -46,7 +53,9 @@ pub struct Editions {
 }
 
 /// Reads them.
-pub fn read_editions(alloc: Global) -> Result<Editions, IndexFault> {
+pub fn read_editions(alloc: Global) -> Result<Editions, IndexFault>
+    ensures { IfOk result (λ editions. AreReadOf (map (λ source. (source.0.now, source.1.now)) SOURCES) editions.all.items) }
+{
     let mut all = Vec::new(alloc);
     for (index, text) in &SOURCES {
         all.push(read_edition(alloc, *index, *text)?)?;
@@ -65,7 +74,9 @@ pub enum Asked {
 }
 
 impl Source {
-    fn place(self) -> usize {
+    fn place(self) -> usize
+        ensures { result ≡ place_of self }
+    {
         match self {
             Source::Gems => 0,
             Source::Ores => 1,
@@ -76,14 +87,18 @@ impl Source {
     }
 
     /// The index and the text. None of a source that isn't listed, which there is none of.
-    pub fn files(self) -> Option<(&'static [u8], &'static [u8])> {
+    pub fn files(self) -> Option<(&'static [u8], &'static [u8])>
+        ensures { IsSomeAnd result (λ files. IsSomeAnd (slice_get SOURCES (place_of self)) (λ source. (files.0.now ≡ source.0.now) × (files.1.now ≡ source.1.now))) }
+    {
         SOURCES.get(self.place()).copied()
     }
 }
 
 impl Asked {
     /// The command. One that isn't lawful stands for an edition that isn't there.
-    pub fn command<'a>(self, editions: &'a Editions) -> Command<'a> {
+    pub fn command<'a>(self, editions: &'a Editions) -> Command<'a>
+        ensures { command_meant result ≡ command_asked editions.now.all.items self }
+    {
         match self {
             Asked::Install(name, source) => match editions.all.get(source.place()) {
                 Some(edition) => Command::Install { name, edition },
@@ -106,7 +121,9 @@ pub fn requests<'a>(
     alloc: Global,
     editions: &'a Editions,
     asked: &[(&'static str, Asked)],
-) -> Result<Vec<(&'a str, Command<'a>)>, AllocError> {
+) -> Result<Vec<(&'a str, Command<'a>)>, AllocError>
+    ensures { IfOk result (λ requests. requests_meant requests.items ≡ requests_asked editions.now.all.items asked.now) }
+{
     let mut requests = Vec::new(alloc);
     for (id, one) in asked {
         requests.push((*id, one.command(editions)))?;
@@ -124,7 +141,9 @@ pub(crate) fn told_reply(alloc: Global, kept: &Kept) -> Result<String, AllocErro
 }
 
 /// The reply, or the fault's number.
-pub fn told(alloc: Global, answer: &Result<Kept, Fault>) -> Result<String, AllocError> {
+pub fn told(alloc: Global, answer: &Result<Kept, Fault>) -> Result<String, AllocError>
+    ensures { IfErr answer.now (λ fault. IfOk result (λ text. string_bytes text ≡ decimal (fault_number fault))) }
+{
     match answer {
         Ok(kept) => told_reply(alloc, kept),
         Err(fault) => {
@@ -138,7 +157,9 @@ pub fn told(alloc: Global, answer: &Result<Kept, Fault>) -> Result<String, Alloc
 pub fn told_outcome(
     alloc: Global,
     outcome: &Result<Kept, CommandRefusal>,
-) -> Result<String, AllocError> {
+) -> Result<String, AllocError>
+    ensures { IfErr outcome.now (λ refusal. IfOk result (λ text. string_bytes text ≡ decimal (command_refusal_number refusal))) }
+{
     match outcome {
         Ok(kept) => told_reply(alloc, kept),
         Err(refusal) => {

@@ -1,7 +1,9 @@
 // A disk in memory that fails at one of its calls, or from it on, for runs of what stands over two of them.
-ghost use Rattle.std.specs.Prelude.{◌≡◌, ◌+◌, ◌&&◌, ◌↔◌, false, not, IsErr};
-ghost use Rattle.sqlite_disk.specs.Disk.{CountsFault};
+ghost use Rattle.std.specs.Prelude.{◌≡◌, ◌+◌, ◌&&◌, ◌↔◌, [], false, not, if◌then◌else◌, IsErr, IsTrue, IfOk, OnOk};
+ghost use Rattle.sqlite_disk.specs.Disk.{CountsFault, Only};
+ghost use Rattle.sqlite_disk.specs.Fuse.{calls_left};
 ghost use Rattle.sqlite_disk.specs.Refusal.{finds_no_room};
+ghost use Rattle.store_desk.specs.Reopened.{IsStopped};
 
 use sqlite_disk::{Crash, Disk, Files, Fuse, Memory, Tally};
 use std::alloc::Global;
@@ -24,6 +26,7 @@ impl<D: Disk> FailsOnce<D> {
     pub fn new(inner: D, fails_at: u64) -> FailsOnce<D>
         ensures inner { result.inner ≡ inner }
         ensures fresh { (result.refused ≡ 0) × (result.sync_refused ≡ false) }
+        ensures call { (result.fails_at ≡ fails_at) × (result.calls ≡ 0) }
     {
         FailsOnce {
             inner,
@@ -137,7 +140,11 @@ impl<D: Crash> Crash for FailsOnce<D> {
 pub type Failing = FailsOnce<Fuse<Memory>>;
 
 // Puts these octets on a new disk.
-fn fill<D: Disk>(disk: &mut D, octets: &[u8]) -> io::Result<()> {
+fn fill<D: Disk>(disk: &mut D, octets: &[u8]) -> io::Result<()>
+    ensures holds { OnOk result (D.Disk.seen disk.old ≡ [] → D.Disk.seen disk.new ≡ octets.now) }
+    ensures left { OnOk result (D.Disk.seen disk.old ≡ [] → Only octets.now (D.Disk.may_leave disk.new)) }
+    ensures usable { OnOk result (IsTrue (D.Disk.is_usable disk.new)) }
+{
     if !disk.may_be_used() {
         return Err(io::Error::other("a new disk that may not be used"));
     }
@@ -149,7 +156,12 @@ fn fill<D: Disk>(disk: &mut D, octets: &[u8]) -> io::Result<()> {
 }
 
 /// A disk of these octets that fails at this call, or from it on. An error where there is no memory for them.
-pub fn failing_disk(alloc: Global, octets: &[u8], call: u64, goes_on: bool) -> io::Result<Failing> {
+pub fn failing_disk(alloc: Global, octets: &[u8], call: u64, goes_on: bool) -> io::Result<Failing>
+    ensures holds { IfOk result (λ disk. ⟦<FailsOnce<Fuse<Memory>> as Disk>⟧.seen disk ≡ octets.now) }
+    ensures left { IfOk result (λ disk. Only octets.now (⟦<FailsOnce<Fuse<Memory>> as Disk>⟧.may_leave disk)) }
+    ensures usable { IfOk result (λ disk. IsTrue (⟦<FailsOnce<Fuse<Memory>> as Disk>⟧.is_usable disk)) }
+    ensures fails { IfOk result (λ disk. (disk.fails_at ≡ (if goes_on then call else u64.MAX)) × (calls_left disk.inner ≡ (if goes_on then u64.MAX else call))) }
+{
     let mut file = Memory::new(alloc);
     fill(&mut file, octets)?;
     Ok(if goes_on {
@@ -159,8 +171,11 @@ pub fn failing_disk(alloc: Global, octets: &[u8], call: u64, goes_on: bool) -> i
     })
 }
 
-/// What a crash of the machine leaves of two files.
-pub fn crashed<D: Crash + Drop>(files: Files<D>) -> Files<D> {
+/// What a crash of the machine leaves of two files. They may be used again.
+pub fn crashed<D: Crash + Drop>(files: Files<D>) -> Files<D>
+    ensures stopped { IsStopped D.Disk files result }
+    ensures usable { IsTrue (D.Disk.is_usable result.log) × IsTrue (D.Disk.is_usable result.db) }
+{
     let mut files = files;
     files.log.crash();
     files.db.crash();

@@ -1,5 +1,10 @@
 //! What a desk shows.
 
+ghost use Rattle.std.specs.Prelude.{◌≡◌, ◌++◌, [], List, Option, IfOk, OnOk, decimal, string_bytes};
+ghost use Rattle.dict_catalogue.specs.Steps.{Catalogue};
+ghost use Rattle.dict_catalogue.specs.Views.{item_shown, summary_shown, texts_shown};
+ghost use Rattle.store_fixtures.specs.Listed.{content_text, item_text, items_text, members_text};
+
 use crate::asked::told_reply;
 use dict_catalogue::{Item, Summary, edition_numbers};
 use dict_desk::{Demand, Fault, Keeper, Lookup, Row, RowSink};
@@ -17,7 +22,9 @@ pub struct Rows {
 
 impl Rows {
     /// None yet, and at most so many.
-    pub fn new(alloc: Global, most: usize) -> Rows {
+    pub fn new(alloc: Global, most: usize) -> Rows
+        ensures { (string_bytes result.text ≡ []) × (result.left ≡ most) }
+    {
         Rows {
             text: String::new(alloc),
             left: most,
@@ -53,35 +60,64 @@ fn push_row(text: &mut String, shown: &str, body: &[u8]) -> Result<(), AllocErro
     text.push('/')
 }
 
-fn push_item(alloc: Global, text: &mut String, item: &Item) -> Result<(), AllocError> {
-    text.push_str(item.name())?;
-    text.push(' ')?;
-    text.push_str(item.title())?;
+fn push_number(
+    alloc: Global,
+    text: &mut String,
+    before: &str,
+    number: u64,
+) -> Result<(), AllocError>
+    ensures { OnOk result (string_bytes text.new ≡ string_bytes text.old ++ (before.now ++ decimal number)) }
+{
+    text.push_str(before)?;
+    text.push_str(format!(in alloc; "{number}")?.as_str())
+}
+
+fn push_members(text: &mut String, members: &[String]) -> Result<(), AllocError>
+    ensures { OnOk result (string_bytes text.new ≡ string_bytes text.old ++ members_text (texts_shown members.now)) }
+{
+    for member in members {
+        text.push_str(" +")?;
+        text.push_str(member.as_str())?;
+    }
+    Ok(())
+}
+
+// The numbers of an item's editions, or its members.
+fn push_content(alloc: Global, text: &mut String, item: &Item) -> Result<(), AllocError>
+    ensures { OnOk result (string_bytes text.new ≡ string_bytes text.old ++ content_text (item_shown item.now)) }
+{
     match item {
         Item::Regular {
             current,
-            former,
+            former: None,
+            ..
+        } => push_number(alloc, text, " ", current.number),
+        Item::Regular {
+            current,
+            former: Some(former),
             ..
         } => {
-            let number = current.number;
-            text.push_str(format!(in alloc; " {number}")?.as_str())?;
-            if let Some(former) = former {
-                let number = former.number;
-                text.push_str(format!(in alloc; "/{number}")?.as_str())?;
-            }
+            push_number(alloc, text, " ", current.number)?;
+            push_number(alloc, text, "/", former.number)
         }
-        Item::Virtual { members, .. } => {
-            for member in members {
-                text.push_str(" +")?;
-                text.push_str(member.as_str())?;
-            }
-        }
+        Item::Virtual { members, .. } => push_members(text, members),
     }
+}
+
+fn push_item(alloc: Global, text: &mut String, item: &Item) -> Result<(), AllocError>
+    ensures { OnOk result (string_bytes text.new ≡ string_bytes text.old ++ item_text (item_shown item.now)) }
+{
+    text.push_str(item.name())?;
+    text.push_str(" ")?;
+    text.push_str(item.title())?;
+    push_content(alloc, text, item)?;
     text.push_str("; ")
 }
 
 /// The items in order: name, title, and the numbers of the editions or the members.
-pub fn listed(alloc: Global, summary: &Summary) -> Result<String, AllocError> {
+pub fn listed(alloc: Global, summary: &Summary) -> Result<String, AllocError>
+    ensures { IfOk result (λ text. string_bytes text ≡ items_text (summary_shown summary.now).items) }
+{
     let mut text = String::new(alloc);
     for item in &summary.items {
         push_item(alloc, &mut text, item)?;
@@ -90,7 +126,12 @@ pub fn listed(alloc: Global, summary: &Summary) -> Result<String, AllocError> {
 }
 
 // Of each edition of a catalogue its info, and its entries that have an `o` or an `é` in their headwords.
-fn push_editions<L: Lookup>(alloc: Global, rows: &mut Rows, desk: &mut L) -> Result<(), Fault> {
+fn push_editions<L: Lookup>(alloc: Global, rows: &mut Rows, desk: &mut L) -> Result<(), Fault>
+    ensures trust { L.is_trusted desk.new → L.is_trusted desk.old }
+    ensures beside { (beside : L.Beside) → L.keeps_beside desk.old beside → L.keeps_beside desk.new beside }
+    ensures shows { L.is_trusted desk.new → (M : Catalogue) → L.shows desk.old M → L.shows desk.new M }
+    ensures leaves { (ms : List (Option Catalogue)) → L.leaves_one_of desk.old ms → L.leaves_one_of desk.new ms }
+{
     let numbers = edition_numbers(alloc, &desk.summary()?.items)?;
     for number in &numbers {
         desk.info(*number, rows)?;
@@ -101,7 +142,12 @@ fn push_editions<L: Lookup>(alloc: Global, rows: &mut Rows, desk: &mut L) -> Res
 }
 
 // The replies that are kept under some ids.
-fn push_kept<K: Keeper>(alloc: Global, text: &mut String, desk: &mut K) -> Result<(), Fault> {
+fn push_kept<K: Keeper>(alloc: Global, text: &mut String, desk: &mut K) -> Result<(), Fault>
+    ensures trust { K.is_trusted desk.new → K.is_trusted desk.old }
+    ensures beside { (beside : K.Beside) → K.keeps_beside desk.old beside → K.keeps_beside desk.new beside }
+    ensures shows { K.is_trusted desk.new → (M : Catalogue) → K.shows desk.old M → K.shows desk.new M }
+    ensures leaves { (ms : List (Option Catalogue)) → K.leaves_one_of desk.old ms → K.leaves_one_of desk.new ms }
+{
     for id in ["a", "b", "c", "d", "e", "f", "r1", "r2", "r3", "r4"] {
         if let Some(kept) = desk.kept(id)? {
             text.push_str(told_reply(alloc, &kept)?.as_str())?;
@@ -112,8 +158,13 @@ fn push_kept<K: Keeper>(alloc: Global, text: &mut String, desk: &mut K) -> Resul
 }
 
 /// The whole catalogue: the items, all editions, how many installs and commands were accepted, and the replies that are kept
-/// under some ids.
-pub fn shown<K: Keeper>(alloc: Global, desk: &mut K) -> Result<String, Fault> {
+/// under some ids. It stays as it is.
+pub fn shown<K: Keeper>(alloc: Global, desk: &mut K) -> Result<String, Fault>
+    ensures trust { K.is_trusted desk.new → K.is_trusted desk.old }
+    ensures beside { (beside : K.Beside) → K.keeps_beside desk.old beside → K.keeps_beside desk.new beside }
+    ensures shows { K.is_trusted desk.new → (M : Catalogue) → K.shows desk.old M → K.shows desk.new M }
+    ensures leaves { (ms : List (Option Catalogue)) → K.leaves_one_of desk.old ms → K.leaves_one_of desk.new ms }
+{
     let mut rows = Rows::new(alloc, usize::MAX);
     rows.text
         .push_str(listed(alloc, desk.summary()?)?.as_str())?;

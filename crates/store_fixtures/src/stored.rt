@@ -1,5 +1,7 @@
 //! Files of schemas 1 to 5, as statements: what `.dump` of stock `sqlite3` (3.40.1) writes of each, but for its PRAGMA and its transaction.
 
+ghost use Rattle.std.specs.Prelude.{◌≡◌, length};
+
 /// What files of schemas 1 to 4 share but for the row of `mark`: the databases `ore` and `gem`, and a list `all` of both.
 pub const SHARED: &str =
     "CREATE TABLE mark (id INTEGER NOT NULL PRIMARY KEY, magic TEXT NOT NULL, version INTEGER NOT NULL, installs INTEGER NOT NULL) STRICT; \
@@ -85,7 +87,9 @@ static OLDER: [Older; 4] = [
 ];
 
 /// The same catalogue in a file of each older schema.
-pub fn older_files() -> &'static [Older] {
+pub fn older_files() -> &'static [Older]
+    ensures { length result.now ≡ 4 }
+{
     &OLDER
 }
 
