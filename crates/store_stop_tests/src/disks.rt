@@ -3,7 +3,7 @@ ghost use Rattle.std.specs.Prelude.{◌≡◌, ⊤, false, IfOk, IfSome, MatchRe
 ghost use Rattle.sqlite.specs.State.{HasCleanDisk};
 ghost use Rattle.sqlite.specs.Files.{file_state, over_files};
 ghost use Rattle.sqlite.specs.Held.{state};
-ghost use Rattle.store_desk.specs.Desk.{Shows, LeavesOneOf, is_closed};
+ghost use Rattle.store_desk.specs.Desk.{KeepsBeside, Shows, LeavesOneOf, is_closed};
 ghost use Rattle.net_serving.specs.Serving.{Follows, IsNew, IsNone};
 
 use app_words::{ProgramFault, StoreFault};
@@ -114,7 +114,7 @@ fn restart<D: Crash + Drop>(
     ensures opened { MatchResult result
         (IsNew (Shows over_files) (LeavesOneOf over_files) (λ desk. HasCleanDisk (file_state desk.conn)) (λ _. ⊤))
         (IsNone (λ _. ⊤)) }
-    ensures follows { IfOk result (Follows (Shows over_files) (LeavesOneOf over_files) (λ desk. HasCleanDisk (file_state desk.conn)) desk) }
+    ensures follows { IfOk result (Follows (Shows over_files) (LeavesOneOf over_files) (KeepsBeside over_files) (λ desk. HasCleanDisk (file_state desk.conn)) desk) }
 {
     match desk.restart(options()) {
         Ok(desk) => Ok(desk),
