@@ -1,3 +1,4 @@
+// How often a reply asks its writer.
 use crate::checks::holds;
 use dict_proto::{OverWrite, Reply, write_reply};
 use std::io::{Result as IoResult, Write};

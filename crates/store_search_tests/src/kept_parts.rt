@@ -1,3 +1,4 @@
+// Parts of texts that are kept: which stay, and which go.
 use std::alloc::Global;
 use std::process::Abort;
 use std::test::Fail;
