@@ -20,6 +20,19 @@ PROVE = ["timeout", os.environ.get("ROUNDS_TIMEOUT", "1500")]
 
 # edit: the function (as a check names it), and the clause by which it is to be refused
 EDITS = {
+    "store_fixtures": {
+        "the_log_is_not_crashed": ("disks::crashed", "usable"),
+        "a_disk_fails_twice": ("disks::failing_disk", "fails"),
+        "a_new_disk_is_not_synced": ("disks::fill", "left"),
+        "octets_are_written_further_on": ("disks::fill", "holds, left"),
+        "a_database_that_is_made_is_adopted": ("desks::desk_over", "shows, rests, only, others, unmade"),
+        "a_database_that_is_found_is_made": ("desks::desk_over", "adopted, held, left, rejected"),
+        "an_open_transaction_is_told_as_no_memory": ("desks::desk_over", "closed"),
+        "a_transaction_is_begun_behind_a_desk": ("desks::connection_of", "same, undone, autocommit, survives"),
+        "a_connection_is_limited_behind_a_desk": ("desks::connection_of", "survives"),
+        "a_look_retires": ("showing::shown", "shows, leaves"),
+        "a_former_edition_is_listed_as_the_current": ("showing::push_content", "the only clause"),
+    },
     "store_rows": {
         "no_octet_of_a_body_is_tested": ("entries::test_line", "is"),
         "what_is_shown_is_left_out": ("writing::put_shown", "put"),
