@@ -7,7 +7,7 @@ use Rattle.sqlite.specs.Batch.{ExecutesAll}
 use Rattle.sqlite.specs.Held.{Held}
 use Rattle.sqlite.specs.declared.error.Error.{Error}
 use Rattle.sqlite_trees.specs.declared.store.Store.{Ghosts}
-use Rattle.store_fixtures.specs.Batched.{AllExecuted, ExecutedInTurn}
+use Rattle.store_fixtures.specs.Batched.{ExecutedInTurn}
 
 pub both : {X Y : Type 0} (r : Result X Y) (P Q : X → Type 0) → IfOk r P → IfOk r Q → IfOk r (λ x. P x × Q x)
 both (Ok x) P Q p q = (p, q)
@@ -16,6 +16,11 @@ both (Err y) P Q p q = tt
 pub both_left : {X Y : Type 0} (r : Result X Y) (P Q : Y → Type 0) → IfErr r P → IfErr r Q → IfErr r (λ y. P y × Q y)
 both_left (Ok x) P Q p q = tt
 both_left (Err y) P Q p q = (p, q)
+
+-- each text was run whole, in this order
+abbrev pub AllExecuted : {S : Type 0} → Ghosts S → List (Bor (List ℕ)) → Held S → Held S → Type 0
+AllExecuted g [] old new = new ≡ old
+AllExecuted {S} g (text ∷ texts) old new = (between : Held S) × ExecutesAll g text.now old between (Ok tt) × AllExecuted g texts between new
 
 executed_behind : {S : Type 0} (g : Ghosts S) (front : List (Bor (List ℕ))) (one : Bor (List ℕ)) (old between new : Held S)
     → AllExecuted g front old between → ExecutesAll g one.now between new (Ok tt) → AllExecuted g (front ++ one ∷ []) old new

@@ -7,12 +7,7 @@ use Rattle.sqlite.specs.declared.error.Error.{Error}
 use Rattle.sqlite_trees.specs.declared.store.Store.{Ghosts}
 
 module _ {S : Type 0} (g : Ghosts S) where
-  -- each text was run whole, in this order, and nothing else
-  abbrev pub AllExecuted : List (Bor (List ℕ)) → Held S → Held S → Type 0
-  AllExecuted [] old new = new ≡ old
-  AllExecuted (text ∷ texts) old new = (between : Held S) × ExecutesAll g text.now old between (Ok tt) × AllExecuted texts between new
-
-  -- the same, up to the first text that fails
+  -- each text was run whole, in this order, up to the first that fails, and nothing else
   abbrev pub ExecutedInTurn : List (Bor (List ℕ)) → Held S → Held S → Result (Unit {0}) Error → Type 0
   ExecutedInTurn [] old new outcome = (outcome ≡ Ok tt) × (new ≡ old)
   ExecutedInTurn (text ∷ texts) old new outcome =

@@ -1,6 +1,6 @@
 //! Files of schemas 1 to 5, as statements: what `.dump` of stock `sqlite3` (3.40.1) writes of each, but for its PRAGMA and its transaction.
 
-ghost use Rattle.std.specs.Prelude.{◌≡◌, length};
+ghost use Rattle.std.specs.Prelude.{◌≡◌, map};
 
 /// What files of schemas 1 to 4 share but for the row of `mark`: the databases `ore` and `gem`, and a list `all` of both.
 pub const SHARED: &str =
@@ -88,7 +88,7 @@ static OLDER: [Older; 4] = [
 
 /// The same catalogue in a file of each older schema.
 pub fn older_files() -> &'static [Older]
-    ensures { length result.now ≡ 4 }
+    ensures { map (λ file. map (λ text. text.now) file) result.now ≡ map (λ file. map (λ text. text.now) file) OLDER }
 {
     &OLDER
 }

@@ -4,8 +4,8 @@ use Rattle.std.proofs.lemmas.List.{take_all}
 use Rattle.std.proofs.lemmas.Result.{err_from_is_err_and}
 use Rattle.sqlite.specs.State.{HasCleanDisk}
 use Rattle.sqlite.specs.Held.{state}
-use Rattle.store_fixtures.specs.Batched.{AllExecuted, ExecutedInTurn}
-use Rattle.store_fixtures.proofs.DeskLemmas.{executed_one_more, executed_stopped, executed_whole}
+use Rattle.store_fixtures.specs.Batched.{ExecutedInTurn}
+use Rattle.store_fixtures.proofs.DeskLemmas.{AllExecuted, executed_one_more, executed_stopped, executed_whole}
 use Rattle.store_fixtures.proofs.desks.batched.Goals as goal
 
 pub loop-text-preserved : goal.loop-text-preserved

@@ -2,7 +2,7 @@ use Rattle.std.proofs.Common.{◌≡◌, ◌≤◌, take}
 use Rattle.sqlite.specs.State.{HasCleanDisk}
 use Rattle.sqlite.specs.Held.{state}
 use Rattle.sqlite_trees.specs.View.{doubt}
-use Rattle.store_fixtures.specs.Batched.{AllExecuted}
+use Rattle.store_fixtures.proofs.DeskLemmas.{AllExecuted}
 use Rattle.store_fixtures.proofs.desks.batched.Given as goal
 
 abbrev pub invariant-loop-text : goal.invariant-loop-text
