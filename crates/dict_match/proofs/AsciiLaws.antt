@@ -1,19 +1,19 @@
 -- The two versions on ASCII, and the first version as its rule was written.
-use Rattle.std.proofs.Common.{◌≡◌, ℕ, ◌+◌, ◌<◌, Bool, true, false, List, [], ◌∷◌, length, map, ◌==◌, ◌&&◌, ◌||◌, nat_le, nat_lt, cond, All, IsAscii, refl, ap, ap₂, sym, ◌∙◌, subst, inl, inr, arith, ⊎_elim}
+use Rattle.std.proofs.Common.{◌≡◌, ℕ, ◌<◌, Bool, false, List, [], ◌∷◌, length, map, ◌==◌, ◌&&◌, ◌||◌, nat_le, cond, All, IsAscii, refl, ap, ap₂, sym, ◌∙◌, subst, inl, inr, arith}
 use Rattle.std.specs.List.{filter, join_with_byte}
 use Rattle.std.specs.Char.{to_ascii_lowercase, IsScalar}
 use Rattle.std.specs.Str.{chars, encode_utf8_all}
-use Rattle.std.proofs.lemmas.Bool.{cases_Bool, cond-true, cond-false, cond_both, lt-ltb, ltb-true, lt-leb, or_cases, eqb-true}
+use Rattle.std.proofs.lemmas.Bool.{cases_Bool, cond-true, cond-false, lt-leb}
 use Rattle.std.proofs.lemmas.Bool.Decides.{nat_tests}
 use Rattle.std.proofs.lemmas.List.Elements.{All-head, All-tail, All-map, All-weaker}
 use Rattle.caseless.specs.Caseless.{default_case_fold}
 use Rattle.caseless.proofs.CaselessLemmas.{default_case_fold-ascii, All-chars}
 use Rattle.ucd_derived.specs.Binary.{is_alphabetic}
 use Rattle.ucd_category.specs.GeneralCategory.{general_category}
-use Rattle.dict_text.specs.Characters.{is_blank}
 use Rattle.dict_text.specs.Blanks.{without_blanks_at_ends}
 use Rattle.dict_match.specs.Words.{words_between_blanks}
 use Rattle.dict_match.proofs.KeyLemmas.{IsBlank}
+use Rattle.dict_match.proofs.FallbackLemmas.{blank_is_ascii}
 use Rattle.dict_match.proofs.FoldLemmas.{is_blank-lower}
 use Rattle.dict_match.specs.FirstVersion.{first_key_of}
 use Rattle.dict_match.specs.Key.{key_by, is_kept_of_ascii, in_ascii_lower_case, is_kept_first, reserved_key_of, is_number, is_kept, key_of}
@@ -78,21 +78,12 @@ reserved_key_of-first text =
 pub lower-blanks : (cs : List ℕ) → All IsBlank cs → All IsBlank (in_ascii_lower_case cs)
 lower-blanks cs h = All-map IsBlank to_ascii_lowercase cs (All-weaker IsBlank (λ c. IsBlank (to_ascii_lowercase c)) (λ c b. is_blank-lower c ∙ b) cs h)
 
-blank_is_ascii : (c : ℕ) → is_blank c ≡ true → c < 128
-blank_is_ascii c blank =
-    ⊎_elim (λ space. let is : c ≡ 32 = eqb-true c 32 space in omega arith) (λ tab. let is : c ≡ 9 = eqb-true c 9 tab in omega arith)
-    (or_cases (c == 32) (c == 9) blank)
-
 pub case_fold-blanks : (cs : List ℕ) → All IsBlank cs → All IsBlank (default_case_fold cs)
 case_fold-blanks cs h =
     subst (All IsBlank) (sym (default_case_fold-ascii cs (All-weaker IsBlank (λ c. c < 128) blank_is_ascii cs h))) (lower-blanks cs h)
 
 scalar-lower : (c : ℕ) → IsScalar c → IsScalar (to_ascii_lowercase c)
-scalar-lower c h =
-    cond_both (nat_lt c 65) c (cond (nat_lt c 91) (c + 32) c) IsScalar (λ _. h)
-    (λ _. cond_both (nat_lt c 91) (c + 32) c IsScalar
-    (λ capital. let below : c < 91 = ltb-true c 91 capital in let small : c + 32 < 55296 = omega arith in cond-true (nat_lt (c + 32) 55296) true _ (lt-ltb (c + 32) 55296 small))
-    (λ _. h))
+scalar-lower c h = grind (arith, nat_tests)
 
 pub lower-scalars : (cs : List ℕ) → All IsScalar cs → All IsScalar (in_ascii_lower_case cs)
 lower-scalars cs h = All-map IsScalar to_ascii_lowercase cs (All-weaker IsScalar (λ c. IsScalar (to_ascii_lowercase c)) scalar-lower cs h)

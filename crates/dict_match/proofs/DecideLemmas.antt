@@ -35,7 +35,7 @@ module _ {X : Type 0} (eq : X → X → Bool) (decides : (x y : X) → Decides (
   run_law : (xs run : List X) → Decides (has_run eq xs run) ((a : List X) × (b : List X) × (xs ≡ a ++ run ++ b))
   run_law xs run = ((λ h. run_found xs run h), (λ h. run_finds xs run h.0 h.1 h.2))
 
-fit_law : (s : Strategy) (q k : List ℕ) → Decides (is_fit s q k) (Fits s q k)
+pub fit_law : (s : Strategy) (q k : List ℕ) → Decides (is_fit s q k) (Fits s q k)
 fit_law Exact q k = bytes_eq-Decides k q
 fit_law Prefix q k = starts_law eqb Decides-eqb k q
 fit_law Suffix q k = ends_law eqb Decides-eqb k q

@@ -1,34 +1,31 @@
 -- A key has no blank at its ends, by whichever version.
-use Rattle.std.proofs.Common.{◌≡◌, ℕ, ◌<◌, ◌≤◌, Bool, false, List, [], ◌∷◌, ◌++◌, length, ◌==◌, ◌&&◌, All, refl, ap, sym, ◌∙◌, inl, inr, arith, append-nil}
-use Rattle.std.specs.List.{AllByRecursion, join_with_byte, filter}
+use Rattle.std.proofs.Common.{◌≡◌, ℕ, ◌<◌, ◌≤◌, Bool, false, List, [], ◌∷◌, ◌++◌, length, ◌==◌, ◌&&◌, refl, ap, sym, ◌∙◌, inl, inr, arith, append-nil}
+use Rattle.std.specs.List.{join_with_byte, filter}
 use Rattle.std.specs.Str.{chars, encode_utf8_all}
 use Rattle.std.proofs.lemmas.Bool.{cases_Bool, cond-true, cond-false, cond_both, and_left, ne_eqb}
-use Rattle.std.proofs.lemmas.List.Elements.{All-head, All-tail}
+use Rattle.std.proofs.lemmas.List.{nil_from_length}
+use Rattle.std.proofs.lemmas.List.Elements.{All-head, recursion_from_All}
 use Rattle.dict_text.specs.Characters.{is_blank}
 use Rattle.dict_text.specs.Blanks.{without_leading_blanks, without_trailing_blanks, without_blanks_at_ends}
 use Rattle.dict_match.specs.Words.{words_between_blanks, AreLongestRuns}
 use Rattle.dict_match.specs.Key.{folded_by, key_chars_by, key_by}
+use Rattle.dict_match.proofs.KeyLemmas.{IsSolid}
 use Rattle.dict_match.proofs.JoinLemmas.{length-first-join}
-use Rattle.dict_match.proofs.WordLemmas.{positive, empty_list}
 use Rattle.dict_match.proofs.WordLaws.{runs_of}
-use Rattle.dict_match.proofs.FallbackLemmas.{IsSolid, trailing-solid, ends-encodes}
-
-by_recursion : (bs : List ℕ) → All IsSolid bs → AllByRecursion IsSolid bs
-by_recursion [] h = tt
-by_recursion (b ∷ bs) h = (All-head IsSolid b bs h, by_recursion bs (All-tail IsSolid b bs h))
+use Rattle.dict_match.proofs.FallbackLemmas.{trailing-solid, ends-encodes}
 
 -- words joined by a space end with no blank
 trailing-join : (cs : List ℕ) (words : List (List ℕ)) → AreLongestRuns cs words → without_trailing_blanks (join_with_byte 32 words) ≡ join_with_byte 32 words
 trailing-join cs [] h = refl
 trailing-join cs (word ∷ []) h =
-    ap without_trailing_blanks (sym (append-nil word)) ∙ trailing-solid word [] (by_recursion word h.5) ∙ append-nil word
+    ap without_trailing_blanks (sym (append-nil word)) ∙ trailing-solid word [] (recursion_from_All IsSolid word h.5) ∙ append-nil word
 trailing-join cs (word ∷ next ∷ words) h =
     let rest : List ℕ = join_with_byte 32 (next ∷ words) in
     let same : without_trailing_blanks rest ≡ rest = trailing-join h.1 (next ∷ words) h.7 in
-    let first : 0 < length next = positive next (λ none. h.7.4 (empty_list next none)) in
+    let first : 0 < length next = omega (arith, λ (none : length next ≡ 0). h.7.4 (nil_from_length next none)) in
     let some : length next ≤ length rest = length-first-join 32 next words in
     let solid : (length (without_trailing_blanks rest) == 0) ≡ false = ap (λ ys. length ys == 0) same ∙ ne_eqb (length rest) 0 (λ none. absurd (omega arith)) in
-    trailing-solid word (32 ∷ rest) (by_recursion word h.5)
+    trailing-solid word (32 ∷ rest) (recursion_from_All IsSolid word h.5)
     ∙ ap (λ ys. word ++ ys) (cond-false (length (without_trailing_blanks rest) == 0) [] (32 ∷ without_trailing_blanks rest) solid ∙ ap (λ ys. 32 ∷ ys) same)
 
 -- and begin with none

@@ -1,21 +1,20 @@
 -- The blanks at the ends of a text are those of its bytes, so that a key may be cut from the bytes of its text.
-use Rattle.std.proofs.Common.{◌≡◌, ℕ, zero, suc, ◌<◌, ◌≤◌, Bool, true, false, List, [], ◌∷◌, ◌++◌, length, get_or, ◌==◌, IsUtf8, refl, ap, sym, ◌∙◌, inl, inr, arith, ⊎_elim, append-nil}
+use Rattle.std.proofs.Common.{◌≡◌, ℕ, ◌<◌, ◌≤◌, Bool, true, false, List, [], ◌∷◌, ◌++◌, length, get_or, ◌==◌, IsUtf8, refl, ap, sym, ◌∙◌, inl, inr, arith, append-nil}
 use Rattle.std.specs.List.{AllByRecursion}
 use Rattle.std.specs.Char.{encode_utf8}
 use Rattle.std.specs.Str.{chars, encode_utf8_all}
-use Rattle.std.proofs.lemmas.Bool.{cases_Bool, cond-true, cond-false, and_left, and_right, and_from, or_cases, eqb-true, eq-eqb, ne_eqb, false_from_ne_true, both_ways}
+use Rattle.std.proofs.lemmas.Bool.{cases_Bool, cond-true, cond-false, and_left, and_right, and_from, eq-eqb, ne_eqb, false_from_ne_true, both_ways}
+use Rattle.std.proofs.lemmas.Bool.Decides.{nat_tests}
+use Rattle.std.proofs.lemmas.List.{nil_from_length}
+use Rattle.std.proofs.lemmas.List.Elements.{All-from_get_or, recursion_from_All}
 use Rattle.std.proofs.lemmas.Str.{encode_ascii, inside_one, encodes-chars, length-encode, len_utf8_bounds, length-le-encodes}
 use Rattle.dict_text.specs.Characters.{is_blank}
 use Rattle.dict_text.specs.Blanks.{without_leading_blanks, without_trailing_blanks, without_blanks_at_ends}
+use Rattle.dict_match.proofs.KeyLemmas.{IsSolid}
 use Rattle.dict_match.specs.Key.{folded_by, key_by}
 
-abbrev pub IsSolid : ℕ → Type 0
-IsSolid b = is_blank b ≡ false
-
-blank_is_ascii : (c : ℕ) → is_blank c ≡ true → c < 128
-blank_is_ascii c blank =
-    ⊎_elim (λ space. let is : c ≡ 32 = eqb-true c 32 space in omega arith) (λ tab. let is : c ≡ 9 = eqb-true c 9 tab in omega arith)
-    (or_cases (c == 32) (c == 9) blank)
+pub blank_is_ascii : (c : ℕ) → is_blank c ≡ true → c < 128
+blank_is_ascii c blank = grind (arith, nat_tests)
 
 encode-blank : (c : ℕ) → is_blank c ≡ true → encode_utf8 c ≡ c ∷ []
 encode-blank c blank = encode_ascii c (blank_is_ascii c blank)
@@ -27,12 +26,8 @@ solid_at c k solid lt =
     let same : c ≡ get_or (encode_utf8 c) k 0 = inside_one c [] (encode_utf8 c) k (sym (append-nil (encode_utf8 c))) lt (blank_is_ascii _ blank) in
     both_ways _ solid (ap is_blank same ∙ blank))
 
-all_solid : (bs : List ℕ) → ((k : ℕ) → k < length bs → IsSolid (get_or bs k 0)) → AllByRecursion IsSolid bs
-all_solid [] h = tt
-all_solid (b ∷ bs) h = (h zero (omega arith), all_solid bs (λ k lt. h (suc k) (omega arith)))
-
 encode-solid : (c : ℕ) → is_blank c ≡ false → AllByRecursion IsSolid (encode_utf8 c)
-encode-solid c solid = all_solid (encode_utf8 c) (λ k lt. solid_at c k solid lt)
+encode-solid c solid = recursion_from_All IsSolid (encode_utf8 c) (All-from_get_or IsSolid (encode_utf8 c) 0 (λ k lt. solid_at c k solid lt))
 
 encode-some : (c : ℕ) → 1 ≤ length (encode_utf8 c)
 encode-some c = omega (arith, length-encode c, (len_utf8_bounds c).0)
@@ -59,10 +54,6 @@ leading-encodes (c ∷ cs) =
           leading-solid (encode_utf8 c) (encode_utf8_all cs) (encode-some c) (encode-solid c solid)
           ∙ sym (ap encode_utf8_all (cond-false (is_blank c) (without_leading_blanks cs) (c ∷ cs) solid))
     ]
-
-empty-list : (xs : List ℕ) → length xs ≡ 0 → xs ≡ []
-empty-list [] e = refl
-empty-list (x ∷ xs) e = absurd (omega arith)
 
 -- a text is empty where its bytes are
 empty-encodes : (cs : List ℕ) → (length (encode_utf8_all cs) == 0) ≡ (length cs == 0)
@@ -117,5 +108,5 @@ module _ (normal : List ℕ → List ℕ) (kept : ℕ → Bool) where
   unfolding key_by
   key_by-folded text bytes is some =
       ap encode_utf8_all
-      (cond-false (length (folded_by normal kept (chars text)) == 0) _ _ (ne_eqb _ 0 (λ none. some (ap length (is ∙ ap encode_utf8_all (empty-list _ none))))))
+      (cond-false (length (folded_by normal kept (chars text)) == 0) _ _ (ne_eqb _ 0 (λ none. some (ap length (is ∙ ap encode_utf8_all (nil_from_length _ none))))))
       ∙ sym is

@@ -1,24 +1,10 @@
 -- What std's searches of slices say of a hit.
-use Rattle.std.proofs.Common.{◌≡◌, ◌↔◌, IsTrue, ℕ, ◌+◌, ◌<◌, ◌≤◌, Bool, nat_eq, List, ◌++◌, Option, Some, None, is_some, length, take, drop, get_or, ap, sym, ◌∙◌, arith, length-append, append_assoc}
-use Rattle.std.specs.List.{starts_with, ends_with}
+use Rattle.std.proofs.Common.{◌≡◌, ◌↔◌, IsTrue, ℕ, ◌+◌, ◌<◌, ◌≤◌, Bool, List, ◌++◌, Option, Some, None, is_some, length, take, drop, get_or, ap, sym, ◌∙◌, arith, length-append, append_assoc}
 use Rattle.std.proofs.lemmas.Bool.{false≢true, eq-eqb}
-use Rattle.std.proofs.lemmas.Bool.Decides.{Decides-eqb}
 use Rattle.std.proofs.lemmas.List.{take-append-drop, drop-append-le}
 use Rattle.std.proofs.lemmas.List.Prefix.{front_rest, at_from_reads, at_reads}
-use Rattle.std.proofs.lemmas.Slice.Eq.{starts_is, ends_is}
 use Rattle.memchr.specs.Find.{FindsNeedle, OccursAt, NoneBefore, Nowhere, Passes, is_byte}
-use Rattle.dict_match.specs.declared.strategy.Strategy.TheVariants.{Prefix, Suffix}
-use Rattle.dict_match.specs.Matching.{Fits, StandsIn}
-
-pub fits_prefix : (q k : List ℕ) (r : Bool) → r ≡ starts_with nat_eq k q → IsTrue r ↔ Fits Prefix q k
-fits_prefix q k r is =
-    let both = starts_is Decides-eqb k q r is in
-    ((λ h. (drop (length q) k, both.0 h)), (λ h. both.1 h.0 h.1))
-
-pub fits_suffix : (q k : List ℕ) (r : Bool) → r ≡ ends_with nat_eq k q → IsTrue r ↔ Fits Suffix q k
-fits_suffix q k r is =
-    let both = ends_is Decides-eqb k q r is in
-    ((λ h. (_, both.0 h)), (λ h. both.1 h.0 h.1))
+use Rattle.dict_match.specs.Matching.{StandsIn}
 
 -- a place at which the query occurs cuts the key in three
 occurs-cuts : (q k : List ℕ) (n : ℕ) → OccursAt k q n → k ≡ take n k ++ q ++ drop (n + length q) k

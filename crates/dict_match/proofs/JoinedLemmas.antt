@@ -1,10 +1,10 @@
 -- What has been written, character by character, is the words of the characters that have come.
-use Rattle.std.proofs.Common.{◌≡◌, ◌≢◌, ℕ, ◌≤◌, Bool, true, false, not, List, [], ◌∷◌, ◌++◌, length, map, ◌==◌, refl, ap, sym, ◌∙◌, arith, append_assoc}
-use Rattle.std.specs.List.{slice_split, filter, join_with_byte}
+use Rattle.std.proofs.Common.{◌≡◌, ◌≢◌, ℕ, ◌≤◌, Bool, true, false, not, List, [], ◌∷◌, ◌++◌, length, map, ◌==◌, refl, ap, ap₂, sym, ◌∙◌, arith, append_assoc, length-append}
+use Rattle.std.specs.List.{filter, join_with_byte}
 use Rattle.std.specs.Char.{encode_utf8}
 use Rattle.std.specs.Str.{encode_utf8_all}
 use Rattle.std.proofs.lemmas.Bool.{cond-true, eqb-true, ne_eqb}
-use Rattle.std.proofs.lemmas.List.{map-append, append-nil}
+use Rattle.std.proofs.lemmas.List.{map-append, append-nil, nil_from_length}
 use Rattle.std.proofs.lemmas.List.Elements.{filter-append}
 use Rattle.std.proofs.lemmas.Str.{encodes-append, length-le-encodes}
 use Rattle.dict_text.specs.Characters.{is_blank}
@@ -31,12 +31,10 @@ words-and before last solid =
     ∙ ap (λ ps. filter is_word before ++ ps) (cond-true (is_word last) (last ∷ []) [] (ap not solid))
 
 solid-push : (piece : List ℕ) (c : ℕ) → (length (piece ++ c ∷ []) == 0) ≡ false
-solid-push [] c = refl
-solid-push (b ∷ piece) c = ne_eqb (length ((b ∷ piece) ++ c ∷ [])) 0 (λ none. absurd (omega arith))
+solid-push piece c = ne_eqb (length (piece ++ c ∷ [])) 0 (λ none. absurd (omega (arith, length-append piece (c ∷ []))))
 
 empty-from : (piece : List ℕ) → true ≡ (length piece == 0) → piece ≡ []
-empty-from [] e = refl
-empty-from (b ∷ piece) e = let none : length (b ∷ piece) ≡ 0 = eqb-true _ _ (sym e) in absurd (omega arith)
+empty-from piece e = nil_from_length piece (eqb-true _ _ (sym e))
 
 -- a blank
 pub joined_blank : (cs bytes : List ℕ) (between : Bool) (c : ℕ) → is_blank c ≡ true → AreJoinedSoFar cs bytes between → AreJoinedSoFar (cs ++ c ∷ []) bytes true
@@ -48,10 +46,16 @@ joined_blank cs bytes between c blank h = record {
   written = h.written ∙ ap (λ ws. encode_utf8_all (join_with_byte 32 ws)) (sym (words-before (h.before ++ h.last ∷ [])));
 }
 
--- the pieces after a character of a word
-pieces-letter : (cs : List ℕ) (before : List (List ℕ)) (last : List ℕ) (c : ℕ) → is_blank c ≡ false → slice_split is_blank cs ≡ before ++ last ∷ [] → slice_split is_blank (cs ++ c ∷ []) ≡ before ++ (last ++ c ∷ []) ∷ []
-pieces-letter cs before last c solid pieces =
-    slice_split-push_no is_blank cs c solid ∙ ap (onto_last c) pieces ∙ onto_last-append c before last
+-- a character of a word, where all the bytes are those of the words with it
+joined_solid : (cs bytes all : List ℕ) (between : Bool) (c : ℕ) → is_blank c ≡ false → (h : AreJoinedSoFar cs bytes between)
+    → all ≡ encode_utf8_all (join_with_byte 32 (filter is_word h.before ++ (h.last ++ c ∷ []) ∷ [])) → AreJoinedSoFar (cs ++ c ∷ []) all false
+joined_solid cs bytes all between c solid h written = record {
+  before = h.before;
+  last = h.last ++ c ∷ [];
+  pieces = slice_split-push_no is_blank cs c solid ∙ ap (onto_last c) h.pieces ∙ onto_last-append c h.before h.last;
+  at_end = sym (solid-push h.last c);
+  written = written ∙ sym (ap (λ ws. encode_utf8_all (join_with_byte 32 ws)) (words-and h.before (h.last ++ c ∷ []) (solid-push h.last c)));
+}
 
 encodes-push : (cs : List ℕ) (c : ℕ) → encode_utf8_all (cs ++ c ∷ []) ≡ encode_utf8_all cs ++ encode_utf8 c
 encodes-push cs c = encodes-append cs (c ∷ []) ∙ ap (λ bs. encode_utf8_all cs ++ bs) (append-nil (encode_utf8 c))
@@ -72,19 +76,9 @@ joined_first cs bytes c solid empty h =
     let same : length bytes ≡ length (encode_utf8_all (join_with_byte 32 (filter is_word h.before))) = ap length bytes_are in
     let none : filter is_word h.before ≡ [] = no_words h.before (omega arith) in
     let nothing : bytes ≡ [] = bytes_are ∙ ap (λ ws. encode_utf8_all (join_with_byte 32 ws)) none in
-    record {
-      before = h.before;
-      last = h.last ++ c ∷ [];
-      pieces = pieces-letter cs h.before h.last c solid h.pieces;
-      at_end = sym (solid-push h.last c);
-      written =
-          ap (λ bs. bs ++ encode_utf8 c) nothing
-          ∙ sym (append-nil (encode_utf8 c))
-          ∙ sym (ap (λ ws. encode_utf8_all (join_with_byte 32 ws))
-          (ap (λ l. filter is_word (h.before ++ (l ++ c ∷ []) ∷ [])) last
-          ∙ words-and h.before (c ∷ []) (solid-push [] c)
-          ∙ ap (λ ws. ws ++ (c ∷ []) ∷ []) none));
-    }
+    joined_solid cs bytes _ true c solid h
+    (ap (λ bs. bs ++ encode_utf8 c) nothing ∙ sym (append-nil (encode_utf8 c))
+    ∙ sym (ap₂ (λ (ws : List (List ℕ)) (l : List ℕ). encode_utf8_all (join_with_byte 32 (ws ++ (l ++ c ∷ []) ∷ []))) none last))
 
 -- a space and the first character of a further word
 written-word : (words : List (List ℕ)) (d : ℕ) → words ≢ [] → (encode_utf8_all (join_with_byte 32 words) ++ encode_utf8 32) ++ encode_utf8 d ≡ encode_utf8_all (join_with_byte 32 (words ++ (d ∷ []) ∷ []))
@@ -99,34 +93,18 @@ written-word (first ∷ rest) d some =
 pub joined_word : (cs bytes : List ℕ) (c : ℕ) → is_blank c ≡ false → (length bytes ≡ 0 → ⊥) → AreJoinedSoFar cs bytes true → AreJoinedSoFar (cs ++ c ∷ []) ((bytes ++ encode_utf8 32) ++ encode_utf8 c) false
 joined_word cs bytes c solid some h =
     let bytes_are : bytes ≡ encode_utf8_all (join_with_byte 32 (filter is_word h.before)) = written-before cs bytes h in
-    record {
-      before = h.before;
-      last = h.last ++ c ∷ [];
-      pieces = pieces-letter cs h.before h.last c solid h.pieces;
-      at_end = sym (solid-push h.last c);
-      written =
-          ap (λ bs. (bs ++ encode_utf8 32) ++ encode_utf8 c) bytes_are
-          ∙ written-word (filter is_word h.before) c
-          (λ none. some (ap length (bytes_are ∙ ap (λ ws. encode_utf8_all (join_with_byte 32 ws)) none)))
-          ∙ sym (ap (λ ws. encode_utf8_all (join_with_byte 32 ws))
-          (ap (λ l. filter is_word (h.before ++ (l ++ c ∷ []) ∷ [])) (empty-from h.last h.at_end) ∙ words-and h.before (c ∷ []) (solid-push [] c)));
-    }
+    joined_solid cs bytes _ true c solid h
+    (ap (λ bs. (bs ++ encode_utf8 32) ++ encode_utf8 c) bytes_are
+    ∙ written-word (filter is_word h.before) c (λ none. some (ap length (bytes_are ∙ ap (λ ws. encode_utf8_all (join_with_byte 32 ws)) none)))
+    ∙ sym (ap (λ l. encode_utf8_all (join_with_byte 32 (filter is_word h.before ++ (l ++ c ∷ []) ∷ []))) (empty-from h.last h.at_end)))
 
 -- a further character of a word
 pub joined_letter : (cs bytes : List ℕ) (c : ℕ) → is_blank c ≡ false → AreJoinedSoFar cs bytes false → AreJoinedSoFar (cs ++ c ∷ []) (bytes ++ encode_utf8 c) false
 joined_letter cs bytes c solid h =
-    record {
-      before = h.before;
-      last = h.last ++ c ∷ [];
-      pieces = pieces-letter cs h.before h.last c solid h.pieces;
-      at_end = sym (solid-push h.last c);
-      written =
-          ap (λ bs. bs ++ encode_utf8 c)
-          (h.written ∙ ap (λ ws. encode_utf8_all (join_with_byte 32 ws)) (words-and h.before h.last (sym h.at_end)))
-          ∙ sym (encodes-push (join_with_byte 32 (filter is_word h.before ++ h.last ∷ [])) c)
-          ∙ ap encode_utf8_all (sym (join-longer 32 (filter is_word h.before) h.last (c ∷ [])))
-          ∙ sym (ap (λ ws. encode_utf8_all (join_with_byte 32 ws)) (words-and h.before (h.last ++ c ∷ []) (solid-push h.last c)));
-    }
+    joined_solid cs bytes _ false c solid h
+    (ap (λ bs. bs ++ encode_utf8 c) (h.written ∙ ap (λ ws. encode_utf8_all (join_with_byte 32 ws)) (words-and h.before h.last (sym h.at_end)))
+    ∙ sym (encodes-push (join_with_byte 32 (filter is_word h.before ++ h.last ∷ [])) c)
+    ∙ ap encode_utf8_all (sym (join-longer 32 (filter is_word h.before) h.last (c ∷ []))))
 
 -- one more character whose image is kept
 pub kept-push : (f : ℕ → ℕ) (k : ℕ → Bool) (cs : List ℕ) (c : ℕ) → k (f c) ≡ true → filter k (map f (cs ++ c ∷ [])) ≡ filter k (map f cs) ++ f c ∷ []

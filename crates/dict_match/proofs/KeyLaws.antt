@@ -4,6 +4,7 @@ use Rattle.std.specs.List.{slice_split, onto_first, filter, join_with_byte}
 use Rattle.std.specs.Char.{IsScalar}
 use Rattle.std.specs.Str.{chars, encode_utf8_all, all_scalars}
 use Rattle.std.proofs.lemmas.Bool.{cases_Bool, cond-true, cond-false, cond_both, and_parts, and_from, eqb-true, eqb-false}
+use Rattle.std.proofs.lemmas.List.{nil_from_length}
 use Rattle.std.proofs.lemmas.List.Elements.{All-nil, All-cons, All-head, All-tail, All-append, All-filter}
 use Rattle.std.proofs.lemmas.Str.{length-le-encodes, scalars-chars}
 use Rattle.dict_text.specs.Characters.{is_blank}
@@ -51,10 +52,6 @@ all_scalars-from_All [] h = refl
 all_scalars-from_All (c ∷ cs) h =
     and_from _ (all_scalars cs) (All-head IsScalar c cs h) (all_scalars-from_All cs (All-tail IsScalar c cs h))
 
-empty-list : (xs : List ℕ) → length xs ≡ 0 → xs ≡ []
-empty-list [] e = refl
-empty-list (x ∷ xs) e = absurd (omega arith)
-
 leading-from_blanks : (cs : List ℕ) → All IsBlank cs → without_leading_blanks cs ≡ []
 leading-from_blanks [] h = refl
 leading-from_blanks (c ∷ cs) h =
@@ -66,7 +63,7 @@ blanks-from_trailing (c ∷ cs) e =
     elim (cases_Bool (is_blank c && length (without_trailing_blanks cs) == 0)) [
       | inl both ↦
           let parts = and_parts (is_blank c) (length (without_trailing_blanks cs) == 0) both in
-          All-cons IsBlank c cs parts.0 (blanks-from_trailing cs (empty-list _ (eqb-true _ 0 parts.1)))
+          All-cons IsBlank c cs parts.0 (blanks-from_trailing cs (nil_from_length _ (eqb-true _ 0 parts.1)))
       | inr stays ↦
           let some : c ∷ without_trailing_blanks cs ≡ [] = sym (cond-false _ [] (c ∷ without_trailing_blanks cs) stays) ∙ e in
           cc
@@ -104,7 +101,7 @@ module _ (normal : List ℕ → List ℕ) (kept : ℕ → Bool) where
   blanks-from_key text e =
       let short : length (key_chars_by normal kept (chars text)) ≤ length (encode_utf8_all (key_chars_by normal kept (chars text))) = length-le-encodes (key_chars_by normal kept (chars text)) in
       let none : length (encode_utf8_all (key_chars_by normal kept (chars text))) ≡ 0 = ap length e in
-      blanks-from_key_chars (chars text) (empty-list _ (omega arith))
+      blanks-from_key_chars (chars text) (nil_from_length _ (omega arith))
 
   -- where the normal form of blanks is blanks
   pub key-from_blanks : ((cs : List ℕ) → All IsBlank cs → All IsBlank (normal cs)) → (text : List ℕ) → All IsBlank (chars text) → key_by normal kept text ≡ []

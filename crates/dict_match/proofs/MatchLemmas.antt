@@ -1,6 +1,6 @@
 -- Words that stand in a list of words.
-use Rattle.std.proofs.Common.{◌≡◌, ◌≢◌, ℕ, zero, suc, ◌+◌, ◌-◌, ◌≤◌, List, [], ◌∷◌, ◌++◌, length, take, drop, refl, ap, sym, ◌∙◌, arith, length-append, length-drop, append_assoc}
-use Rattle.std.proofs.lemmas.List.{append-nil, take-append-drop, append_cancel_left, drop_all}
+use Rattle.std.proofs.Common.{◌≡◌, ◌≢◌, ℕ, zero, suc, ◌+◌, ◌-◌, ◌≤◌, List, [], ◌∷◌, ◌++◌, length, take, drop, ap, sym, ◌∙◌, arith, length-append, length-drop, append_assoc}
+use Rattle.std.proofs.lemmas.List.{append-nil, nil_from_length, take-append-drop, append_cancel_left, drop_all}
 use Rattle.std.proofs.lemmas.List.Prefix.{end_rest}
 use Rattle.dict_match.specs.Matching.{HasWords, BeginsWithWords, EndsWithWords}
 
@@ -18,18 +18,12 @@ agree_more key query key_rest query_rest word h = record {
   query_is = h.query_is ∙ sym (append_assoc h.same (word ∷ []) query_rest);
 }
 
--- what is left of the key goes on as what is left of the query
-agree_rest : (key query key_rest query_rest : List (List ℕ)) → AgreeSoFar key query key_rest query_rest → (begins : BeginsWithWords key query)
-    → key_rest ≡ query_rest ++ begins.0
-agree_rest key query key_rest query_rest h begins =
-    append_cancel_left h.same key_rest (query_rest ++ begins.0)
-    (sym h.key_is ∙ begins.1 ∙ ap (λ ws. ws ++ begins.0) h.query_is ∙ append_assoc h.same query_rest begins.0)
-
 -- the next words differ
 pub agree_other : (key query key_rest query_rest : List (List ℕ)) (other word : List ℕ) → AgreeSoFar key query (other ∷ key_rest) (word ∷ query_rest)
     → other ≢ word → BeginsWithWords key query → ⊥
 agree_other key query key_rest query_rest other word h apart begins =
-    let e = agree_rest key query (other ∷ key_rest) (word ∷ query_rest) h begins in
+    let e = append_cancel_left h.same (other ∷ key_rest) ((word ∷ query_rest) ++ begins.0)
+    (sym h.key_is ∙ begins.1 ∙ ap (λ ws. ws ++ begins.0) h.query_is ∙ append_assoc h.same (word ∷ query_rest) begins.0) in
     let same : other ≡ word = cc in
     apart same
 
@@ -54,14 +48,10 @@ ends_from words run fits h =
     let n : ℕ = length words - length run in
     let size : length (drop n words) ≡ length words - n = length-drop n words in
     let sizes : length (drop n words) ≡ length run + length h.0 = ap length h.1 ∙ length-append run h.0 in
-    let over : h.0 ≡ [] = empty h.0 (omega arith) in (
+    let over : h.0 ≡ [] = nil_from_length h.0 (omega arith) in (
       take n words,
       sym (take-append-drop n words) ∙ ap (λ ws. take n words ++ ws) (h.1 ∙ ap (λ b. run ++ b) over ∙ append-nil run),
     )
-  where
-    empty : (ws : List (List ℕ)) → length ws ≡ 0 → ws ≡ []
-    empty [] e = refl
-    empty (w ∷ ws) e = absurd (omega arith)
 
 pub ends_to : (words run : List (List ℕ)) → EndsWithWords words run
     → (length run ≤ length words) × BeginsWithWords (drop (length words - length run) words) run

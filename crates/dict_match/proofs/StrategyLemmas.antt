@@ -19,12 +19,7 @@ place_of Last = 6
 at_place : (s : Strategy) → slice_get strategies (place_of s) ≡ Some s
 unfolding place_of
 at_place Exact = refl
-at_place Prefix = refl
-at_place Suffix = refl
-at_place Substring = refl
-at_place Word = refl
-at_place First = refl
-at_place Last = refl
+at_place _ = refl
 
 one_place : (n : ℕ) (s : Strategy) → slice_get strategies n ≡ Some s → n ≡ place_of s
 unfolding place_of
@@ -44,20 +39,15 @@ each_once s = (place_of s, λ n. (one_place n s, λ e. subst (λ m. slice_get st
 pub named_itself : (s : Strategy) → strategy_named (strategy_name s) ≡ Some s
 unfolding strategy_name
 named_itself Exact = refl
-named_itself Prefix = refl
-named_itself Suffix = refl
-named_itself Substring = refl
-named_itself Word = refl
-named_itself First = refl
-named_itself Last = refl
+named_itself _ = refl
 
 -- what is found by its name has it
 found_has_name : (name : List ℕ) (ss : List Strategy) (s : Strategy) → find (λ t. bytes_eq name (strategy_name t)) ss ≡ Some s → name ≡ strategy_name s
 found_has_name name [] s e = absurd (cc)
 found_has_name name (t ∷ ss) s e = by_first (bytes_eq name (strategy_name t)) refl e (found_has_name name ss s)
   where
-    by_first : (b : Bool) → bytes_eq name (strategy_name t) ≡ b → cond b (Some t) (find (λ u. bytes_eq name (strategy_name u)) ss) ≡ Some s → (find (λ u. bytes_eq name (strategy_name u)) ss ≡ Some s → name ≡ strategy_name s) → name
-        ≡ strategy_name s
+    by_first : (b : Bool) → bytes_eq name (strategy_name t) ≡ b → cond b (Some t) (find (λ u. bytes_eq name (strategy_name u)) ss) ≡ Some s
+        → (find (λ u. bytes_eq name (strategy_name u)) ss ≡ Some s → name ≡ strategy_name s) → name ≡ strategy_name s
     by_first true h k later = let same : t ≡ s = cc in (bytes_eq-Decides name (strategy_name t)).0 h ∙ ap strategy_name same
     by_first false h k later = later k
 

@@ -1,31 +1,23 @@
 -- The words of a list are its longest runs without blanks, and nothing else is.
-use Rattle.std.proofs.Common.{◌≡◌, ◌↔◌, ℕ, ◌<◌, true, false, not, List, [], ◌∷◌, ◌++◌, length, All, refl, ap, sym, ◌∙◌, subst, inl, inr, arith, append_assoc}
+use Rattle.std.proofs.Common.{◌≡◌, ◌↔◌, ℕ, ◌<◌, true, false, List, [], ◌∷◌, ◌++◌, length, ◌≤◌, length-append, All, refl, ap, sym, ◌∙◌, subst, inl, inr, arith, append_assoc}
 use Rattle.std.specs.List.{slice_split, onto_first, filter}
-use Rattle.std.proofs.lemmas.Bool.{cases_Bool, cond-true, ne_eqb, both_ways}
-use Rattle.std.proofs.lemmas.List.Elements.{All-nil, All-cons, All-head, All-tail}
+use Rattle.std.proofs.lemmas.Bool.{cases_Bool, cond-true, both_ways}
+use Rattle.std.proofs.lemmas.List.{nil_from_length}
+use Rattle.std.proofs.lemmas.List.Elements.{All-nil, All-cons, All-head}
 use Rattle.std.proofs.lemmas.List.Splits.{slice_split-cons_yes, slice_split-cons_no}
 use Rattle.dict_text.specs.Characters.{is_blank}
 use Rattle.dict_match.specs.Words.{words_between_blanks, EndsOrGoesOnBlank, AreLongestRuns}
-use Rattle.dict_match.proofs.FoldLemmas.{is_word}
+use Rattle.dict_match.proofs.FoldLemmas.{is_word, is_word-cons}
 use Rattle.dict_match.proofs.SplitLemmas.{some_piece}
-use Rattle.dict_match.proofs.KeyLemmas.{IsBlank, no_words-from_blanks}
-use Rattle.dict_match.proofs.WordLemmas.{words_between_blanks-run, positive, empty_list}
-
-abbrev IsSolid : ℕ → Type 0
-IsSolid c = is_blank c ≡ false
-
--- blanks in front make no words
-words_between_blanks-gap : (gap rest : List ℕ) → All IsBlank gap → words_between_blanks (gap ++ rest) ≡ words_between_blanks rest
-words_between_blanks-gap [] rest h = refl
-words_between_blanks-gap (c ∷ gap) rest h =
-    ap (filter is_word) (slice_split-cons_yes is_blank c (gap ++ rest) (All-head IsBlank c gap h)) ∙ words_between_blanks-gap gap rest (All-tail IsBlank c gap h)
+use Rattle.dict_match.proofs.KeyLemmas.{IsBlank, IsSolid, no_words-from_blanks, words_between_blanks-gap}
+use Rattle.dict_match.proofs.WordLemmas.{words_between_blanks-run}
 
 pub words_from_runs : (cs : List ℕ) (words : List (List ℕ)) → AreLongestRuns cs words → words_between_blanks cs ≡ words
 words_from_runs cs [] h = no_words-from_blanks cs h
 words_from_runs cs (word ∷ words) h =
     let gap = h.0 in
     let rest = h.1 in
-    let some : 0 < length word = positive word (λ none. h.4 (empty_list word none)) in
+    let some : 0 < length word = omega (arith, λ (none : length word ≡ 0). h.4 (nil_from_length word none)) in
     ap words_between_blanks (h.2 ∙ append_assoc gap word rest) ∙ words_between_blanks-gap gap (word ++ rest) h.3 ∙ words_between_blanks-run word rest h.5 some h.6
     ∙ ap (λ ws. word ∷ ws) (words_from_runs rest words h.7)
 
@@ -72,9 +64,8 @@ runs-solid c cs [] others solid e h =
     let words : words_between_blanks cs ≡ filter is_word others = ap (filter is_word) e in
     ([], cs, refl, All-nil IsBlank, (λ none. cc), All-cons IsSolid c [] solid (All-nil IsSolid), first_empty cs others e, subst (AreLongestRuns cs) words h)
 runs-solid c cs (d ∷ piece) others solid e h =
-    let word : is_word (d ∷ piece) ≡ true = ap not (ne_eqb (length (d ∷ piece)) 0 (λ none. absurd (omega arith))) in
     let words : words_between_blanks cs ≡ (d ∷ piece) ∷ filter is_word others =
-    ap (filter is_word) e ∙ cond-true (is_word (d ∷ piece)) ((d ∷ piece) ∷ filter is_word others) (filter is_word others) word in
+    ap (filter is_word) e ∙ cond-true (is_word (d ∷ piece)) ((d ∷ piece) ∷ filter is_word others) (filter is_word others) (is_word-cons d piece) in
     let runs : AreLongestRuns cs ((d ∷ piece) ∷ filter is_word others) = subst (AreLongestRuns cs) words h in
     let at_once : cs ≡ (d ∷ piece) ++ runs.1 =
     no_gap cs runs.0 ((d ∷ piece) ++ runs.1) d piece others e (runs.2 ∙ append_assoc runs.0 (d ∷ piece) runs.1) runs.3 in
@@ -89,12 +80,22 @@ runs_of (c ∷ cs) =
           (runs-blank c cs (words_between_blanks cs) blank (runs_of cs))
       | inr solid ↦
           let some = some_piece is_blank cs in
-          let word : is_word (c ∷ some.0) ≡ true = ap not (ne_eqb (length (c ∷ some.0)) 0 (λ none. absurd (omega arith))) in
           let words : words_between_blanks (c ∷ cs) ≡ (c ∷ some.0) ∷ filter is_word some.1 =
           ap (filter is_word) (slice_split-cons_no is_blank c cs solid ∙ ap (onto_first c) some.2)
-          ∙ cond-true (is_word (c ∷ some.0)) ((c ∷ some.0) ∷ filter is_word some.1) (filter is_word some.1) word in
+          ∙ cond-true (is_word (c ∷ some.0)) ((c ∷ some.0) ∷ filter is_word some.1) (filter is_word some.1) (is_word-cons c some.0) in
           subst (AreLongestRuns (c ∷ cs)) (sym words) (runs-solid c cs some.0 some.1 solid some.2 (runs_of cs))
     ]
 
 pub runs_are_words : (cs : List ℕ) (words : List (List ℕ)) → (words_between_blanks cs ≡ words) ↔ AreLongestRuns cs words
 runs_are_words cs words = ((λ e. subst (AreLongestRuns cs) e (runs_of cs)), words_from_runs cs words)
+
+-- each word takes an element at least
+length_runs : (cs : List ℕ) (words : List (List ℕ)) → AreLongestRuns cs words → length words ≤ length cs
+length_runs cs [] h = omega arith
+length_runs cs (word ∷ words) h =
+    let some : 0 < length word = omega (arith, λ (none : length word ≡ 0). h.4 (nil_from_length word none)) in
+    let size : length cs ≡ length ((h.0 ++ word) ++ h.1) = ap length h.2 in
+    omega (arith, length_runs h.1 words h.7, size, length-append (h.0 ++ word) h.1, length-append h.0 word)
+
+pub length-words_between_blanks : (cs : List ℕ) → length (words_between_blanks cs) ≤ length cs
+length-words_between_blanks cs = length_runs cs (words_between_blanks cs) (runs_of cs)

@@ -1,21 +1,18 @@
 -- The first word of a list, and the words that are left after it.
-use Rattle.std.proofs.Common.{◌≡◌, ℕ, zero, suc, ◌+◌, ◌-◌, ◌<◌, ◌≤◌, true, false, not, List, [], ◌∷◌, ◌++◌, length, take, drop, get_or, All, Option, None, Some, refl, ap, sym, ◌∙◌, subst, inl, inr, arith}
-use Rattle.std.specs.List.{slice_split, onto_first, filter}
+use Rattle.std.proofs.Common.{◌≡◌, ℕ, zero, suc, ◌-◌, ◌<◌, ◌≤◌, true, false, not, List, [], ◌∷◌, ◌++◌, length, take, drop, get_or, All, Option, None, Some, refl, ap, sym, ◌∙◌, subst, inl, inr, arith}
+use Rattle.std.specs.List.{filter}
 use Rattle.std.specs.Option.{unwrap_or}
-use Rattle.std.proofs.lemmas.Bool.{cases_Bool, cond-true, cond-false, cond_both, ne_eqb, both_ways, false_from_ne_true}
+use Rattle.std.proofs.lemmas.Bool.{cases_Bool, cond-true, cond-false, ne_eqb, both_ways, false_from_ne_true}
 use Rattle.std.proofs.lemmas.List.{append-nil, take-append-drop, get_or-take, length-take-le, length-drop}
 use Rattle.std.proofs.lemmas.List.Elements.{All-from_get_or}
-use Rattle.std.proofs.lemmas.List.Splits.{slice_split-cons_yes, slice_split-cons_no, slice_split_none, slice_split_at}
+use Rattle.std.proofs.lemmas.List.Splits.{slice_split-cons_yes, slice_split_none, slice_split_at}
 use Rattle.std.proofs.Math.Seq.{drop-cons}
 use Rattle.memchr.specs.Find.{IsFirstByte, is_byte2}
 use Rattle.dict_text.specs.Characters.{is_blank}
 use Rattle.dict_match.specs.Words.{words_between_blanks}
 use Rattle.dict_text.specs.Blanks.{without_leading_blanks}
 use Rattle.dict_match.proofs.FoldLemmas.{is_word}
-use Rattle.dict_match.proofs.SplitLemmas.{some_piece}
-
-abbrev IsSolid : ℕ → Type 0
-IsSolid c = is_blank c ≡ false
+use Rattle.dict_match.proofs.KeyLemmas.{IsSolid}
 
 -- blanks at the front make no words
 pub words_between_blanks-leading : (bs : List ℕ) → words_between_blanks (without_leading_blanks bs) ≡ words_between_blanks bs
@@ -78,38 +75,3 @@ first_word bs (Some n) some solid found =
     later : (m : ℕ) → is_blank (get_or bs m 0) ≡ true → 0 < m
     later zero blank = absurd (both_ways _ solid blank)
     later (suc m) blank = omega arith
-
-pub empty_list : (xs : List ℕ) → length xs ≡ 0 → xs ≡ []
-empty_list [] e = refl
-empty_list (x ∷ xs) e = absurd (omega arith)
-
-pub positive : (bs : List ℕ) → (length bs ≡ 0 → ⊥) → 0 < length bs
-positive [] some = absurd (some refl)
-positive (b ∷ bs) some = omega arith
-
--- each word takes an element at least
-pub length-words_between_blanks : (bs : List ℕ) → length (words_between_blanks bs) ≤ length bs
-length-words_between_blanks [] = omega arith
-length-words_between_blanks (b ∷ bs) =
-    let some = some_piece is_blank bs in
-    let fewer : length (words_between_blanks bs) ≤ length bs = length-words_between_blanks bs in
-    elim (cases_Bool (is_blank b)) [
-      | inl blank ↦
-          let same : length (words_between_blanks (b ∷ bs)) ≡ length (words_between_blanks bs) = ap (λ ps. length (filter is_word ps)) (slice_split-cons_yes is_blank b bs blank) in
-          omega arith
-      | inr solid ↦
-          let pieces : slice_split is_blank (b ∷ bs) ≡ (b ∷ some.0) ∷ some.1 = slice_split-cons_no is_blank b bs solid ∙ ap (onto_first b) some.2 in
-          let word : is_word (b ∷ some.0) ≡ true = ap not (ne_eqb (length (b ∷ some.0)) 0 (λ none. absurd (omega arith))) in
-          let here : length (words_between_blanks (b ∷ bs)) ≡ length (filter is_word some.1) + 1 =
-          ap (λ ps. length (filter is_word ps)) pieces ∙ ap length (cond-true (is_word (b ∷ some.0)) _ (filter is_word some.1) word) ∙ add-suc-one (length (filter is_word some.1)) in
-          let before : length (words_between_blanks bs) ≡ length (filter is_word (some.0 ∷ some.1)) = ap (λ ps. length (filter is_word ps)) some.2 in
-          let more : length (filter is_word some.1) ≤ length (filter is_word (some.0 ∷ some.1)) = filter-cons-le some.0 some.1 in
-          omega arith
-    ]
-  where
-    add-suc-one : (n : ℕ) → suc n ≡ n + 1
-    add-suc-one n = omega arith
-
-    filter-cons-le : (p : List ℕ) (ps : List (List ℕ)) → length (filter is_word ps) ≤ length (filter is_word (p ∷ ps))
-    filter-cons-le p ps =
-        cond_both (is_word p) (p ∷ filter is_word ps) (filter is_word ps) (λ qs. length (filter is_word ps) ≤ length qs) (λ _. omega arith) (λ _. omega arith)

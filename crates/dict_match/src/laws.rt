@@ -18,6 +18,7 @@ pub fn scalar_law()
 {}
 
 /// A key is text where the text is, it has no blank at its ends, and it is empty only where the text is blanks alone.
+#[tactic(auto, using(crate::proofs::VersionLaws::laws_of_keys))]
 pub fn key_laws()
     ensures utf8 { (text : List ℕ) → IsUtf8 text → IsUtf8 (key_of text) }
     ensures ends { (text : List ℕ) → without_blanks_at_ends (key_of text) ≡ key_of text }
@@ -29,13 +30,15 @@ pub fn key_laws()
 
 /// The two versions of folding: a text in ASCII has one key by both; a key is empty by one where it is by the other;
 /// and the first is the rule as it was written, which lowers what is left once it has been filtered.
+#[tactic(auto, using(crate::proofs::VersionLaws::laws_of_versions))]
 pub fn version_laws()
     ensures ascii { (text : List ℕ) → IsAscii text → key_of text ≡ reserved_key_of text }
     ensures empty_alike { (text : List ℕ) → (key_of text ≡ []) ↔ (reserved_key_of text ≡ []) }
     ensures as_written { (text : List ℕ) → reserved_key_of text ≡ first_key_of text }
 {}
 
-/// Worked keys in ASCII, computed by the first version.
+/// Worked keys in ASCII.
+#[tactic(auto, unfolding(crate::proofs::Computing::keys))]
 pub fn worked_ascii_keys()
     ensures two_words { key_of (codes "Fire Opal") ≡ codes "fire opal" }
     ensures signs_alone { key_of (codes " a - \tB ") ≡ codes "a b" }
@@ -47,6 +50,7 @@ pub fn worked_ascii_keys()
 {}
 
 /// Worked keys past ASCII, computed through the tables of Unicode.
+#[tactic(auto, unfolding(crate::proofs::Computing::keys))]
 pub fn worked_keys()
     ensures accents { key_of (encode_utf8_all (codes "ÉTÉ")) ≡ encode_utf8_all (codes "été") }
     ensures sharp_s { key_of (encode_utf8_all (codes "Straße")) ≡ encode_utf8_all (codes "strasse") }
@@ -76,16 +80,19 @@ pub fn worked_keys()
 {}
 
 /// The words of a list are its longest runs without blanks, all of them, in order.
+#[tactic(auto, using(crate::proofs::WordLaws::runs_are_words))]
 pub fn word_laws()
     ensures { (cs : List ℕ) (words : List (List ℕ)) → (words_between_blanks cs ≡ words) ↔ AreLongestRuns cs words }
 {}
 
 /// What makes a hit is decided by a test of both keys.
+#[tactic(auto, using(crate::proofs::DecideLemmas::hit_law))]
 pub fn hit_laws()
     ensures { (strategy : Strategy) (q k : List ℕ) → IsTrue (is_hit strategy q k) ↔ Hits strategy q k }
 {}
 
 /// The list has each strategy once, and the strategy of a strategy's name is that strategy.
+#[tactic(auto, using(crate::proofs::StrategyLemmas::each_once, crate::proofs::StrategyLemmas::named_itself))]
 pub fn strategy_laws()
     ensures once { AreEachOnce strategies }
     ensures named { (strategy : Strategy) → strategy_named (strategy_name strategy) ≡ Some strategy }

@@ -1,12 +1,8 @@
-use Rattle.std.proofs.Common.{◌≡◌, ◌≢◌, ℕ, List, [], ◌∷◌, length, refl, ap, sym, ◌∙◌, arith}
+use Rattle.std.proofs.Common.{◌≡◌, ◌≢◌, [], length, ap, sym, ◌∙◌}
 use Rattle.std.proofs.lemmas.Bool.{eqb-true, eqb-false, not_from_true, false≢true}
+use Rattle.std.proofs.lemmas.List.{nil_from_length}
 use Rattle.dict_match.proofs.DecideLemmas.{decided_hit}
 use Rattle.dict_match.proofs.matching.matches.Goals as goal
-
--- a list without elements is the empty list
-nothing : (q : List ℕ) → length q ≡ 0 → q ≢ [] → ⊥
-nothing [] e some = some refl
-nothing (x ∷ q) e some = omega (arith, e)
 
 pub returns-then-not-is_empty-clause-decided : goal.returns-then-not-is_empty-clause-decided
 returns-then-not-is_empty-clause-decided c =
@@ -16,4 +12,4 @@ returns-then-not-is_empty-clause-decided c =
 pub returns-else-not-is_empty-clause-decided : goal.returns-else-not-is_empty-clause-decided
 returns-else-not-is_empty-clause-decided c =
     let none : length c.args.query.now ≡ 0 = eqb-true _ 0 (sym c.is_empty.ensures ∙ c.if-not-is_empty.false) in
-    not_from_true _ c.if-not-is_empty.false ∙ decided_hit c.args.strategy c.args.query.now c.args.key.now _ ((λ h. absurd (false≢true h)), (λ h. absurd (nothing c.args.query.now none h.0)))
+    not_from_true _ c.if-not-is_empty.false ∙ decided_hit c.args.strategy c.args.query.now c.args.key.now _ ((λ h. absurd (false≢true h)), (λ h. absurd (h.0 (nil_from_length c.args.query.now none))))

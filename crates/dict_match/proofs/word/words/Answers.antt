@@ -1,4 +1,4 @@
-use Rattle.dict_match.proofs.WordLemmas.{length-words_between_blanks}
+use Rattle.dict_match.proofs.WordLaws.{length-words_between_blanks}
 use Rattle.dict_match.proofs.word.words.Goals as goal
 
 pub returns-clause-len : goal.returns-clause-len
