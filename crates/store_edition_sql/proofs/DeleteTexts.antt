@@ -25,9 +25,8 @@ use Rattle.store_sql.specs.Refusals.{RefusesToRemove}
 use Rattle.store_sql.specs.Transactions.{EndsNothing}
 use Rattle.store_sql.proofs.CompareLemmas.{and_true, equals_is}
 use Rattle.store_sql.proofs.DeleteLemmas.{column_expr, parameter_expr, equals_expr, tests_equals}
-use Rattle.store_sql.proofs.DeleteRefusals.{Takes, remove_fails}
-use Rattle.store_sql.proofs.DeleteTexts.{ReadsDelete, removes_rows}
-use Rattle.store_sql.proofs.EndLemmas.{delete_ends_none}
+use Rattle.store_sql.proofs.DeleteTexts.{Takes, remove_fails, ReadsDelete, removes_rows}
+use Rattle.store_sql.proofs.KindLemmas.{delete_ends_none}
 use Rattle.store_sql.proofs.ListLemmas.{passes}
 use Rattle.store_sql.proofs.ReadLemmas.{context_of}
 use Rattle.store_sql.proofs.TextLemmas.{parsed_or}

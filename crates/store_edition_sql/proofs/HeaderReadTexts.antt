@@ -17,7 +17,7 @@ use Rattle.store_sql.proofs.CompareLemmas.{and_true, equals_is}
 use Rattle.store_sql.proofs.DeleteLemmas.{column_expr, parameter_expr, equals_expr, tests_equals}
 use Rattle.store_sql.proofs.ListLemmas.{passes}
 use Rattle.store_sql.proofs.ReadFaults.{Takes, a_number, nothing as no_values}
-use Rattle.store_sql.proofs.ReadLemmas.{rowid_expr, rowid_shown, all_shown, source_of, core_of, select_of, outputs_of}
+use Rattle.store_sql.proofs.ReadLemmas.{rowid_expr, rowid_shown, all_shown, source_of, core_with, select_with, outputs_of}
 use Rattle.store_sql.proofs.ReadTexts.{ReadsTable, reads_table, key_at, sort_by}
 use Rattle.store_sql.proofs.TextLemmas.{parsed_or}
 use Rattle.store_edition_sql.specs.HeaderTable.{header}
@@ -30,7 +30,7 @@ unfolding everything
 read_by_rowid = parsed_or (first header_rowid_text)
 
 pub reads_by_rowid : ReadsTable header_rowid_text read_by_rowid header None [] 99999 (sort_by (codes "1") ∷ []) (key_at 0 ∷ []) (0 ∷ []) 99997 nothing
-unfolding everything read_by_rowid rowid_expr rowid_shown all_shown source_of core_of select_of sort_by
+unfolding everything read_by_rowid rowid_expr rowid_shown all_shown source_of core_with select_with sort_by
 reads_by_rowid = reads_table refl (λ tree. refl) refl (λ tree. refl) (λ at tree. refl) (λ at tree. refl)
     (λ schema at tree is. refl) (λ schema at tree. refl) (λ at tree params r. refl) (λ tree params r. refl) (λ a b. refl) (λ schema at tree alone low. rw (low, alone) refl)
 
@@ -48,7 +48,7 @@ abbrev pub test_one : List Term
 test_one = op2 (by.Compare compare.Eq Binary) (col 1 0) (col 0 0) ∷ []
 
 pub reads_one : ReadsTable header_one_text read_one header (Some (equals_expr (codes "number"))) test_one 99996 (sort_by (codes "2") ∷ []) (key_at 0 ∷ []) (1 ∷ []) 99994 nothing
-unfolding everything read_one rowid_expr rowid_shown all_shown source_of core_of select_of sort_by column_expr parameter_expr equals_expr
+unfolding everything read_one rowid_expr rowid_shown all_shown source_of core_with select_with sort_by column_expr parameter_expr equals_expr
 reads_one = record {
   read = refl;
   statement = λ tree. refl;

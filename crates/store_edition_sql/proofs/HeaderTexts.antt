@@ -28,12 +28,10 @@ use Rattle.store_sql.specs.Refusals.{RefusesToMake, RefusesToAdd, RefusesToRemov
 use Rattle.store_sql.specs.Transactions.{EndsNothing}
 use Rattle.store_sql.proofs.AddFaults.{cause}
 use Rattle.store_sql.proofs.CompareLemmas.{and_true, equals_is}
-use Rattle.store_sql.proofs.CreateLemmas.{ReadsCreate, makes}
-use Rattle.store_sql.proofs.CreateFaults.{Stands, make_fails}
+use Rattle.store_sql.proofs.CreateLemmas.{ReadsCreate, makes, Stands, make_fails}
 use Rattle.store_sql.proofs.DeleteLemmas.{column_expr, parameter_expr, equals_expr, tests_equals}
-use Rattle.store_sql.proofs.DeleteRefusals.{Takes, remove_fails}
-use Rattle.store_sql.proofs.DeleteTexts.{ReadsDelete, removes_rows}
-use Rattle.store_sql.proofs.EndLemmas.{insert_ends_none, create_ends_none, delete_ends_none}
+use Rattle.store_sql.proofs.DeleteTexts.{Takes, remove_fails, ReadsDelete, removes_rows}
+use Rattle.store_sql.proofs.KindLemmas.{insert_ends_none, create_ends_none, delete_ends_none}
 use Rattle.store_sql.proofs.FaultLemmas.{faults_inside}
 use Rattle.store_sql.proofs.InsertLemmas.{adds_given, cast_int, cast_null}
 use Rattle.store_sql.proofs.ListLemmas.{passes}

@@ -40,7 +40,7 @@ use Rattle.store_sql.specs.Reads.{FailsToRead}
 use Rattle.store_sql.proofs.DeleteLemmas.{column_expr, parameter_expr, equals_expr, out_column, lower_column, tests_equals}
 use Rattle.store_sql.proofs.ListLemmas.{passes}
 use Rattle.store_sql.proofs.NumberTexts.{column_shown}
-use Rattle.store_sql.proofs.QueryLemmas.{IsQuery, ShowsRow, command_with, TakesValues, read_rows, shown_answers, query_fails}
+use Rattle.store_sql.proofs.ListingLemmas.{IsQuery, ShowsRow, command_with, TakesValues, read_rows, shown_answers, query_fails}
 use Rattle.store_sql.proofs.ReadLemmas.{CanSelect, source_of, core_with, select_with, context_of, level_of, left_of, plainly, query_with, understood_is}
 use Rattle.store_sql.proofs.ReadTexts.{of_column}
 use Rattle.store_sql.proofs.SilentLemmas.{commits_none, shown_open}

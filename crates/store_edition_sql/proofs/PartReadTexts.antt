@@ -21,7 +21,7 @@ use Rattle.store_sql.specs.Effects.{shown}
 use Rattle.store_sql.proofs.CompareLemmas.{equals_is}
 use Rattle.store_sql.proofs.ListLemmas.{passes}
 use Rattle.store_sql.proofs.ReadFaults.{Takes, nothing as no_values}
-use Rattle.store_sql.proofs.ReadLemmas.{rowid_expr, rowid_shown, all_shown, source_of, core_of, select_of, outputs_of, plainly, context_of}
+use Rattle.store_sql.proofs.ReadLemmas.{rowid_expr, rowid_shown, all_shown, source_of, core_with, select_with, outputs_of, plainly, context_of}
 use Rattle.store_sql.proofs.ReadTexts.{ReadsTable, reads_table, sort_by, key_at}
 use Rattle.store_sql.proofs.TextLemmas.{parsed_or}
 use Rattle.store_edition_sql.specs.Chosen.{is_of_file, is_numbered}
@@ -40,7 +40,7 @@ unfolding everything
 read_by_rowid = parsed_or (first part_rowid_text)
 
 pub reads_by_rowid : ReadsTable part_rowid_text read_by_rowid part None [] 99999 (sort_by (codes "1") ∷ []) (key_at 0 ∷ []) (0 ∷ []) 99997 nothing
-unfolding everything read_by_rowid rowid_expr rowid_shown all_shown source_of core_of select_of sort_by
+unfolding everything read_by_rowid rowid_expr rowid_shown all_shown source_of core_with select_with sort_by
 reads_by_rowid = reads_table refl (λ tree. refl) refl (λ tree. refl) (λ at tree. refl) (λ at tree. refl)
     (λ schema at tree is. refl) (λ schema at tree. refl) (λ at tree params r. refl) (λ tree params r. refl) (λ a b. refl) (λ schema at tree alone low. rw (low, alone) refl)
 
@@ -120,7 +120,7 @@ unfolding everything
 read_file = parsed_or (first file_text)
 
 pub reads_file : ReadsTable file_text read_file part (Some within_file) test_file 99992 (sort_by (codes "4") ∷ []) (key_at 3 ∷ []) (3 ∷ []) 99990 of_column
-unfolding everything read_file rowid_expr rowid_shown all_shown source_of core_of select_of sort_by name_expr given_expr binary_expr
+unfolding everything read_file rowid_expr rowid_shown all_shown source_of core_with select_with sort_by name_expr given_expr binary_expr
 reads_file = record {
   read = refl;
   statement = λ tree. refl;
@@ -169,7 +169,7 @@ unfolding everything
 read_one = parsed_or (first part_one_text)
 
 pub reads_one : ReadsTable part_one_text read_one part (Some with_number) test_one 99988 (sort_by (codes "4") ∷ []) (key_at 3 ∷ []) (3 ∷ []) 99986 of_column
-unfolding everything read_one rowid_expr rowid_shown all_shown source_of core_of select_of sort_by name_expr given_expr binary_expr
+unfolding everything read_one rowid_expr rowid_shown all_shown source_of core_with select_with sort_by name_expr given_expr binary_expr
 reads_one = record {
   read = refl;
   statement = λ tree. refl;

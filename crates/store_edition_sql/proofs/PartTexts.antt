@@ -21,9 +21,8 @@ use Rattle.store_sql.specs.Effects.{Has, IsAdded}
 use Rattle.store_sql.specs.Refusals.{RefusesToMake, RefusesToAdd, IsTooBig}
 use Rattle.store_sql.specs.Transactions.{EndsNothing}
 use Rattle.store_sql.proofs.AddFaults.{cause}
-use Rattle.store_sql.proofs.CreateLemmas.{ReadsCreate, makes}
-use Rattle.store_sql.proofs.CreateFaults.{Stands, make_fails}
-use Rattle.store_sql.proofs.EndLemmas.{insert_ends_none, create_ends_none}
+use Rattle.store_sql.proofs.CreateLemmas.{ReadsCreate, makes, Stands, make_fails}
+use Rattle.store_sql.proofs.KindLemmas.{insert_ends_none, create_ends_none}
 use Rattle.store_sql.proofs.FaultLemmas.{faults_inside}
 use Rattle.store_sql.proofs.InsertLemmas.{adds_chosen, cast_int, cast_null}
 use Rattle.store_sql.proofs.TextLemmas.{parsed_or, ReadsInsert, insert_is, insert_command, insert_plain}

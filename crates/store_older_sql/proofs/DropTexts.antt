@@ -9,13 +9,12 @@ use Rattle.store_sql.specs.Effects.{Has}
 use Rattle.store_sql.specs.Drops.{IsDropped}
 use Rattle.store_sql.specs.Refusals.{RefusesToDrop}
 use Rattle.store_sql.proofs.TextLemmas.{parsed_or}
-use Rattle.store_sql.proofs.DropLemmas.{ReadsDrop, drops}
-use Rattle.store_sql.proofs.DropFaults.{fails}
+use Rattle.store_sql.proofs.DropLemmas.{ReadsDrop, drops, fails}
 use Rattle.store_tables.specs.Keyed.{entry_with_keys, word, gram, keyed_table_of}
 use Rattle.store_older_sql.specs.Texts.{keyed_drop_text}
 use Rattle.store_tables.specs.declared.keyed.KeyedTable.{KeyedTable}
 use Rattle.store_tables.specs.declared.keyed.KeyedTable.TheVariants as keyed
-use Rattle.store_sql.proofs.EndLemmas.{drop_ends_none}
+use Rattle.store_sql.proofs.KindLemmas.{drop_ends_none}
 use Rattle.store_sql.specs.Transactions.{EndsNothing}
 
 -- all of the text is read, and it names no value

@@ -19,11 +19,10 @@ use Rattle.store_sql.specs.Effects.{Has, equals_number, shown}
 use Rattle.store_sql.specs.Refusals.{RefusesToDrop}
 use Rattle.store_sql.proofs.CompareLemmas.{and_true, equals_is}
 use Rattle.store_sql.proofs.DeleteLemmas.{column_expr, parameter_expr, equals_expr, tests_equals}
-use Rattle.store_sql.proofs.DropLemmas.{ReadsDrop, drops}
-use Rattle.store_sql.proofs.DropFaults.{fails}
+use Rattle.store_sql.proofs.DropLemmas.{ReadsDrop, drops, fails}
 use Rattle.store_sql.proofs.ListLemmas.{passes}
 use Rattle.store_sql.proofs.ReadFaults.{Takes, a_number}
-use Rattle.store_sql.proofs.ReadLemmas.{rowid_expr, rowid_shown, all_shown, source_of, core_of, select_of, outputs_of}
+use Rattle.store_sql.proofs.ReadLemmas.{rowid_expr, rowid_shown, all_shown, source_of, core_with, select_with, outputs_of}
 use Rattle.store_sql.proofs.ReadTexts.{ReadsTable, key_at, sort_by, of_column}
 use Rattle.store_sql.proofs.TextLemmas.{parsed_or}
 use Rattle.store_tables.specs.Tables as first_tables
@@ -31,7 +30,7 @@ use Rattle.store_tables.specs.Keyed.{old_entry, entry_with_keys as shown_entry}
 use Rattle.store_older_sql.specs.Entries.{entry_table_of, entry_drop_text, entry_select_text}
 use Rattle.store_older_sql.specs.declared.entries.EntryForm.{EntryForm}
 use Rattle.store_older_sql.specs.declared.entries.EntryForm.TheVariants.{Plain, Keyed, Shown}
-use Rattle.store_sql.proofs.EndLemmas.{drop_ends_none}
+use Rattle.store_sql.proofs.KindLemmas.{drop_ends_none}
 use Rattle.store_sql.specs.Transactions.{EndsNothing}
 
 -- ---- DROP
@@ -76,7 +75,7 @@ abbrev pub test_select : List Term
 test_select = op2 (by.Compare compare.Eq Binary) (col 1 1) (col 0 0) ∷ []
 
 pub reads_select : ReadsTable entry_select_text read_select old_entry (Some (equals_expr (codes "edition"))) test_select 99996 (sort_by (codes "3") ∷ []) (key_at 2 ∷ []) (2 ∷ []) 99994 of_column
-unfolding everything read_select rowid_expr rowid_shown all_shown source_of core_of select_of sort_by column_expr parameter_expr equals_expr
+unfolding everything read_select rowid_expr rowid_shown all_shown source_of core_with select_with sort_by column_expr parameter_expr equals_expr
 reads_select = record {
   read = refl;
   statement = λ tree. refl;
@@ -102,7 +101,7 @@ old_read tree n row = and_true _ ∙ equals_is (column row 1) n
 -- the same over schema 4, whose rows have one column more
 
 pub selects_shown : ReadsTable entry_select_text read_select shown_entry (Some (equals_expr (codes "edition"))) test_select 99996 (sort_by (codes "3") ∷ []) (key_at 2 ∷ []) (2 ∷ []) 99994 of_column
-unfolding everything read_select rowid_expr rowid_shown all_shown source_of core_of select_of sort_by column_expr parameter_expr equals_expr
+unfolding everything read_select rowid_expr rowid_shown all_shown source_of core_with select_with sort_by column_expr parameter_expr equals_expr
 selects_shown = record {
   read = refl;
   statement = λ tree. refl;

@@ -2,8 +2,6 @@ pub mod KeyedDefinitionLemmas
 pub mod DropTexts
 pub mod ListingLemmas
 pub mod NamedLemmas
-pub mod OldTexts
-pub mod ReadTexts
 pub mod RowidTexts
 pub mod ScanLemmas
 pub mod TableLemmas

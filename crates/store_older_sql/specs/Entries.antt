@@ -14,5 +14,10 @@ entry_table_of Shown = entry_with_keys
 abbrev pub entry_drop_text : List ℕ
 entry_drop_text = codes "DROP TABLE entry"
 
+-- all entries, in the order of their rowids
+abbrev pub entry_rowid_text : List ℕ
+entry_rowid_text = codes "SELECT rowid, * FROM entry ORDER BY 1"
+
+-- those of an edition, in their order
 abbrev pub entry_select_text : List ℕ
 entry_select_text = codes "SELECT rowid, * FROM entry WHERE edition = ?1 ORDER BY 3"

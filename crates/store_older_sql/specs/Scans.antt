@@ -9,21 +9,19 @@ use Rattle.sqlite.specs.Given as kit
 use Rattle.sqlite_trees.specs.declared.store.Store.{Ghosts}
 use Rattle.store_sql.specs.Effects.{Has, equals_number}
 use Rattle.store_sql.specs.Reads.{IsSelection}
-use Rattle.store_tables.specs.Keyed.{keyed_table_of, old_entry}
-use Rattle.store_older_sql.specs.Texts.{keyed_rowid_text, keyed_select_text}
-use Rattle.store_tables.specs.declared.keyed.KeyedTable.{KeyedTable}
-use Rattle.store_tables.specs.declared.keyed.KeyedTable.TheVariants.{Entry, Word, Gram}
+use Rattle.store_tables.specs.Keyed.{entry_with_keys, old_entry}
+use Rattle.store_older_sql.specs.Entries.{entry_rowid_text, entry_select_text}
 
--- which rows are read, one at a time: those of a whole table, in the order of the rowids, or of one edition; or the entries of schemas 2 and 3
+-- which entries are read, one at a time: those of schema 4, or of schemas 2 and 3; all in the order of the rowids, or those of one edition
 pub data OlderScan : Type 0 where
-  ByRowid : KeyedTable → OlderScan
-  Of : KeyedTable → ℤ → OlderScan
+  ShownByRowid : OlderScan
+  ShownOf : ℤ → OlderScan
   OldByRowid : OlderScan
   OldOf : ℤ → OlderScan
 
 abbrev pub older_scan_table : OlderScan → ℕ → Table
-older_scan_table (ByRowid table) = keyed_table_of table
-older_scan_table (Of table edition) = keyed_table_of table
+older_scan_table ShownByRowid = entry_with_keys
+older_scan_table (ShownOf edition) = entry_with_keys
 older_scan_table OldByRowid = old_entry
 older_scan_table (OldOf edition) = old_entry
 
@@ -36,31 +34,26 @@ HasScanTables what db = Has (older_scan_table what) db
 
 -- the text that is run, and the values that it is given
 abbrev pub older_scan_text : OlderScan → List ℕ
-older_scan_text (ByRowid table) = keyed_rowid_text table
-older_scan_text (Of table edition) = keyed_select_text table
-older_scan_text OldByRowid = keyed_rowid_text Entry
-older_scan_text (OldOf edition) = keyed_select_text Entry
+older_scan_text ShownByRowid = entry_rowid_text
+older_scan_text (ShownOf edition) = entry_select_text
+older_scan_text OldByRowid = entry_rowid_text
+older_scan_text (OldOf edition) = entry_select_text
 
 abbrev pub older_scan_values : OlderScan → Row
-older_scan_values (ByRowid table) = []
-older_scan_values (Of table edition) = Int edition ∷ []
+older_scan_values ShownByRowid = []
+older_scan_values (ShownOf edition) = Int edition ∷ []
 older_scan_values OldByRowid = []
 older_scan_values (OldOf edition) = Int edition ∷ []
 
 -- which rows of the table are read
 abbrev pub older_scan_test : OlderScan → Row → Bool
-older_scan_test (Of table edition) = equals_number 1 edition
+older_scan_test (ShownOf edition) = equals_number 1 edition
 older_scan_test (OldOf edition) = equals_number 1 edition
 older_scan_test _ = λ _. true
 
-abbrev pub edition_order : KeyedTable → List ℕ
-edition_order Entry = 2 ∷ []
-edition_order Word = 2 ∷ 3 ∷ []
-edition_order Gram = 2 ∷ 3 ∷ []
-
 abbrev pub older_scan_order : OlderScan → List ℕ
-older_scan_order (ByRowid table) = 0 ∷ []
-older_scan_order (Of table edition) = edition_order table
+older_scan_order ShownByRowid = 0 ∷ []
+older_scan_order (ShownOf edition) = 2 ∷ []
 older_scan_order OldByRowid = 0 ∷ []
 older_scan_order (OldOf edition) = 2 ∷ []
 

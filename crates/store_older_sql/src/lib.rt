@@ -22,5 +22,5 @@ pub use keyed_laws::{keyed_definition_laws, rowid_law};
 pub use keyed_old::{has_old_entry, read_old_by_rowid, read_old_rows_of};
 pub use migration_laws::{form_law, names_laws, old_definition_laws};
 pub use migration_old::old_entries_inside;
-pub use scan::{read_by_rowid, read_rows_of};
+pub use scan::{read_shown_by_rowid, read_shown_rows_of};
 pub use shown::shown_entries_inside;

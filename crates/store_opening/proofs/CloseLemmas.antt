@@ -1,11 +1,11 @@
 -- All records were read.
-use Rattle.std.proofs.Common.{◌≡◌, ℕ, ◌+◌, ℤ, pos, Bool, true, false, List, [], ◌∷◌, ◌++◌, map, drop, filter, length, cond, codes, inl, inr, refl, sym, ap, subst, ◌∙◌, arith, append-nil}
+use Rattle.std.proofs.Common.{◌≡◌, ℕ, ◌+◌, ℤ, pos, Bool, true, false, List, [], ◌∷◌, ◌++◌, map, drop, filter, length, codes, inl, inr, refl, sym, ap, subst, ◌∙◌, arith, append-nil}
 use Rattle.std.specs.Prelude.{IsTrue}
 use Rattle.std.specs.List.{AllByRecursion}
 use Rattle.std.specs.List.Sorted.{IsPermutation}
-use Rattle.std.proofs.lemmas.Bool.{false≢true}
+use Rattle.std.proofs.lemmas.Bool.{false≢true, false_from_ne_true}
 use Rattle.std.proofs.lemmas.Grind.{flat_map-append}
-use Rattle.std.proofs.lemmas.List.{map-append, length-append}
+use Rattle.std.proofs.lemmas.List.{map-append, length-append, length-map}
 use Rattle.std.proofs.lemmas.List.Sorted.{IsPermutation-map, IsPermutation-sym, IsPermutation-trans}
 use Rattle.sqlite.specs.Effect.{Database}
 use Rattle.dict_text.proofs.AllLemmas.{all_filter, all_weaker}
@@ -19,23 +19,23 @@ use Rattle.store_edition_sql.specs.HeaderRecords.{header_row}
 use Rattle.dict_catalogue.specs.Items.{name_of as name_in, editions_of, is_known}
 use Rattle.dict_catalogue.specs.Steps.{Catalogue}
 use Rattle.dict_catalogue.specs.WellFormed.{total, IsEachOnce}
-use Rattle.dict_catalogue.proofs.ListLemmas.{sum_append}
 use Rattle.store_rows.specs.Stored.{stored_line, stored_index}
 use Rattle.store_rows.specs.Given.{kept_given}
 use Rattle.store_rows.specs.Stands.{Stands, HoldsMembers, HoldsEdition, HoldsEditions, has_number}
 use Rattle.store_rows.specs.Tables.{Tables, same_number, editions_numbered, entries_of}
-use Rattle.store_rows.specs.Taken.{BeginsWith, GoesOnFrom}
-use Rattle.store_rows.specs.Versions.{Layout, Plain, Keyed, Shown, Parted, layout_of}
+use Rattle.store_rows.specs.Taken.{BeginsWith, GoesOnFrom, HasTaken}
+use Rattle.store_rows.specs.Versions.{Layout, Parted, layout_of}
 use Rattle.store_rows.specs.Whole.{with_replies}
 use Rattle.store_rows.specs.declared.reader.Reader.{Reader}
 use Rattle.store_rows.proofs.OrderLemmas.{IsIn, Same, in_all, passed_in, same_from, same_passed}
+use Rattle.store_rows.proofs.AfterLemmas.{filter_none}
 use Rattle.store_rows.proofs.SelectionLemmas.{filter_whole}
 use Rattle.store_rows.proofs.TakenLemmas.{holds_same, same_number_is, same_itself}
 use Rattle.store_holdings.specs.AllTables.{with_derived}
 use Rattle.store_holdings.specs.Files.{entry_line, index_octets}
 use Rattle.store_holdings.specs.Holds.{Keeps}
 use Rattle.store_holdings.specs.Readings.{AreShownIn, editions, contents, table_name_of}
-use Rattle.store_holdings.proofs.ReadingLemmas.{map_twice, editions_kept, headers_kept, replies_kept}
+use Rattle.store_holdings.proofs.ReadingLemmas.{map_twice, editions_kept, replies_kept}
 use Rattle.store_scans.specs.Census.{one_of, is_of_contents}
 use Rattle.store_scans.specs.Entries.{looked_behind_rowid, entry_cells}
 use Rattle.store_scans.specs.Files.{HasFile}
@@ -45,23 +45,19 @@ use Rattle.store_opening.specs.Opens.{Keeping, KeepsNone, AllGoOnFrom, HasBegun,
 use Rattle.store_opening.proofs.EntryLemmas.{HasEntryTable, entries_rows, entries_both}
 use Rattle.store_opening.proofs.FileLemmas.{has_index, headers_of, index_is}
 use Rattle.store_opening.proofs.FitLemmas.{fits_replies}
-use Rattle.store_opening.proofs.ToldLemmas.{KeptAs, kept_as, find, its_record, only, index_told}
+use Rattle.store_opening.proofs.ToldLemmas.{KeptAs, kept_as, find, headers_keep, its_record, only, index_told}
 use Rattle.store_opening.proofs.WrongLemmas.{rows_listed}
 
 -- ---- no strays, so what was read of the editions of the items is all
 
 -- more replies change nothing of editions and of entries
 editions_still : (layout : Layout) (db : Database) (t : Tables) (kept : List spec.KeptRecord) → HasRows db t (editions layout) → HasRows db (record t { kept = kept }) (editions layout)
-editions_still Plain db t kept h = h
-editions_still Keyed db t kept h = h
-editions_still Shown db t kept h = h
 editions_still Parted db t kept h = h
+editions_still layout db t kept h = h
 
 contents_still : (layout : Layout) (db : Database) (t : Tables) (kept : List spec.KeptRecord) → HasRows db t (contents layout) → HasRows db (record t { kept = kept }) (contents layout)
-contents_still Plain db t kept h = h
-contents_still Keyed db t kept h = h
-contents_still Shown db t kept h = h
 contents_still Parted db t kept h = h
+contents_still layout db t kept h = h
 
 module _ (version : ℕ) (db : Database) (reader : Reader) (front taken : Tables) (all : AreAllKnown (layout_of version) db (numbers_in reader)) (named : HasNamed version db reader front taken) where
   abbrev layout : Layout
@@ -91,33 +87,26 @@ module _ (version : ℕ) (db : Database) (reader : Reader) (front taken : Tables
     kept_is = ap (λ l. l ++ kept_given given) none_yet
 
     all_read : HasAll version db reader front (with_replies taken (kept_given given))
-    all_read = record {
-      keeps = (
-        subst (λ ms. IsPermutation (map mark_row ms) (map (drop 1) (rows_of (codes "mark") db))) (sym named.marks) begun.marks,
-        (
-          subst (λ is. IsPermutation (map item_row is) (map (drop 1) (rows_of (codes "item") db))) (sym named.items) begun.items,
-          (
-            subst (λ ms. IsPermutation (map member_row ms) (map (drop 1) (rows_of (codes "member") db))) (sym named.members) begun.members,
-            (
-              subst (λ ks. IsPermutation (map kept_row ks) (map (drop 1) (rows_of (codes "kept") db))) (sym kept_is) (rows_listed kept_codec (codes "kept") (2 ∷ []) db given replies.listing),
-              (editions_still layout db taken (taken.kept ++ kept_given given) editions_all, (contents_still layout db taken (taken.kept ++ kept_given given) contents_all, tt)),
-            ),
-          ),
-        ),
-      );
-      shown = named.shown;
-      goes = record {
-        marks = named.marks;
-        items = named.items;
-        members = named.members;
-        editions = (λ n. (editions_numbered n taken.editions, sym (ap (λ l. editions_numbered n l ++ editions_numbered n taken.editions) begun.no_editions)));
-        entries = (λ n. (entries_of n taken.entries, sym (ap (λ l. entries_of n l ++ entries_of n taken.entries) begun.no_entries)));
-        kept = (taken.kept ++ kept_given given, sym (ap (λ l. l ++ (taken.kept ++ kept_given given)) begun.no_kept));
-      };
-      fits = fits_replies version db taken named.fits none_yet given ([], subst (λ rows. IsListing (codes "kept") (2 ∷ []) db rows) (sym (append-nil (map stored_kept given))) replies.listing);
-      ids = subst (λ ks. IsEachOnce (map (λ (row : spec.KeptRecord). row.id) ks)) (sym kept_is) replies.ids;
-      known = all;
-    }
+    all_read =
+        let marks = subst (λ ms. IsPermutation (map mark_row ms) (map (drop 1) (rows_of (codes "mark") db))) (sym named.marks) begun.marks in
+        let items = subst (λ is. IsPermutation (map item_row is) (map (drop 1) (rows_of (codes "item") db))) (sym named.items) begun.items in
+        let members = subst (λ ms. IsPermutation (map member_row ms) (map (drop 1) (rows_of (codes "member") db))) (sym named.members) begun.members in
+        let replied = subst (λ ks. IsPermutation (map kept_row ks) (map (drop 1) (rows_of (codes "kept") db))) (sym kept_is) (rows_listed kept_codec (codes "kept") (2 ∷ []) db given replies.listing) in
+        record {
+          keeps = (marks, (items, (members, (replied, (editions_still layout db taken _ editions_all, (contents_still layout db taken _ contents_all, tt))))));
+          shown = named.shown;
+          goes = record {
+            marks = named.marks;
+            items = named.items;
+            members = named.members;
+            editions = (λ n. (editions_numbered n taken.editions, sym (ap (λ l. editions_numbered n l ++ editions_numbered n taken.editions) begun.no_editions)));
+            entries = (λ n. (entries_of n taken.entries, sym (ap (λ l. entries_of n l ++ entries_of n taken.entries) begun.no_entries)));
+            kept = (taken.kept ++ kept_given given, sym (ap (λ l. l ++ (taken.kept ++ kept_given given)) begun.no_kept));
+          };
+          fits = fits_replies version db taken named.fits none_yet given ([], subst (λ rows. IsListing (codes "kept") (2 ∷ []) db rows) (sym (append-nil (map stored_kept given))) replies.listing);
+          ids = subst (λ ks. IsEachOnce (map (λ (row : spec.KeptRecord). row.id) ks)) (sym kept_is) replies.ids;
+          known = all;
+        }
 
     pub has_all : HasAll version db reader front after
     has_all = subst (HasAll version db reader front) (sym replies.after_is) all_read
@@ -133,16 +122,23 @@ records_back k name db ws vs keeps rows =
     back [] = refl
     back (w ∷ ws) = λ i. k.undo w i ∷ back ws i
 
-no_more : {X : Type 0} (more : List X) → total (λ x. 1) more ≡ 0 → more ≡ []
-no_more [] e = refl
-no_more (x ∷ more) e = absurd (omega (arith, e))
+none_long : {X : Type 0} (xs : List X) → length xs ≡ 0 → xs ≡ []
+none_long [] e = refl
+none_long (x ∷ xs) e = absurd (omega (arith, e))
+
+-- a list that goes on with as many as were there goes on with none
+as_many : {X : Type 0} (xs ys : List X) → BeginsWith xs ys → length xs ≡ length ys → xs ≡ ys
+as_many xs ys b e = b.1 ∙ ap (λ l. ys ++ l) (none_long b.0 (let size = ap length b.1 ∙ length-append ys b.0 in omega (arith, size, e))) ∙ append-nil ys
+
+count_is : {X : Type 0} (xs : List X) → total (λ x. 1) xs ≡ length xs
+count_is [] = refl
+count_is (x ∷ xs) = let rest = count_is xs in omega (arith, rest)
+
+same_long : {X : Type 0} (xs ys : List X) → Same xs ys → length xs ≡ length ys
+same_long xs ys same = sym (count_is xs) ∙ same.counts (λ x. true) ∙ count_is ys
 
 nothing_more : {X : Type 0} (xs ys : List X) → BeginsWith xs ys → Same xs ys → xs ≡ ys
-nothing_more xs ys b s =
-    let one = s.counts (λ x. true) in
-    let two : total (λ x. 1) xs ≡ total (λ x. 1) ys + total (λ x. 1) b.0 = ap (total (λ x. 1)) b.1 ∙ sum_append (λ x. 1) ys b.0 in
-    let none : b.0 ≡ [] = no_more b.0 (omega (arith, one, two)) in
-    b.1 ∙ ap (λ l. ys ++ l) none ∙ append-nil ys
+nothing_more xs ys b same = as_many xs ys b (same_long xs ys same)
 
 -- ---- lists of which each number has the same
 
@@ -156,18 +152,6 @@ carried {X} key P xs ys same all =
     each_in P ys (λ y i.
     in_all P y (filter (λ x. same_number (key x) (key y)) xs) (all_filter P (λ x. same_number (key x) (key y)) xs all)
     (subst (IsIn y) (sym (same (key y))) (passed_in (λ x. same_number (key x) (key y)) y ys (same_itself (key y)) i)))
-
--- a list that goes on with as many as were there goes on with none
-as_many : {X : Type 0} (xs ys : List X) → BeginsWith xs ys → length xs ≡ length ys → xs ≡ ys
-as_many {X} xs ys b e = b.1 ∙ ap (λ l. ys ++ l) (none b.0 (let size = ap length b.1 ∙ length-append ys b.0 in omega (arith, size, e))) ∙ append-nil ys
-  where
-    none : (more : List X) → length more ≡ 0 → more ≡ []
-    none [] e = refl
-    none (x ∷ more) e = absurd (omega (arith, e))
-
-count_map : {X Y : Type 0} (f : X → Y) (xs : List X) → total (λ y. 1) (map f xs) ≡ length xs
-count_map f [] = refl
-count_map f (x ∷ xs) = let rest = count_map f xs in omega (arith, rest)
 
 -- an index has octets for each line
 no_octets : (es : List spec.EntryRecord) → index_octets es ≡ [] → es ≡ []
@@ -183,11 +167,7 @@ same_index xs ys b e =
     let whole : index_octets xs ≡ index_octets ys ++ index_octets b.0 = ap index_octets b.1 ∙ index_append ys b.0 in
     let size = ap length whole ∙ length-append (index_octets ys) (index_octets b.0) in
     let same = ap length e in
-    b.1 ∙ ap (λ l. ys ++ l) (no_octets b.0 (none (index_octets b.0) (omega (arith, size, same)))) ∙ append-nil ys
-  where
-    none : (l : List ℕ) → length l ≡ 0 → l ≡ []
-    none [] e = refl
-    none (x ∷ l) e = absurd (omega (arith, e))
+    b.1 ∙ ap (λ l. ys ++ l) (no_octets b.0 (none_long (index_octets b.0) (omega (arith, size, same)))) ∙ append-nil ys
 
 -- ---- of editions and of entries
 
@@ -210,11 +190,8 @@ module _ (version : ℕ) (db : Database) (T after : Tables) (M : Catalogue) (s :
   parted_same : KeptAs Parted db T → HasRows db after (editions Parted) → HasRows db after (contents Parted) → AreSame T after
   parted_same k rows parts = record { editions = one; entries = (λ n. each n (has_number M.items n) refl) }
     where
-      mine : Keeps (codes "edition") header_row db (map header_of T.editions)
-      mine = let kept = headers_kept db T k.keeps in record { rows = subst (λ l. IsPermutation l (map (drop 1) (rows_of (codes "edition") db))) (sym (map_twice header_of header_row T.editions)) kept.rows; apart = kept.apart }
-
       headers : IsPermutation (map header_of T.editions) (map header_of after.editions)
-      headers = records_back header_codec (codes "edition") db (map header_of T.editions) (map header_of after.editions) mine
+      headers = records_back header_codec (codes "edition") db (map header_of T.editions) (map header_of after.editions) (headers_keep db T k.keeps)
           (subst (λ l. IsPermutation l (map (drop 1) (rows_of (codes "edition") db))) (sym (map_twice header_of header_row after.editions)) rows)
 
       one : (n : ℤ) → editions_numbered n T.editions ≡ editions_numbered n after.editions
@@ -224,15 +201,13 @@ module _ (version : ℕ) (db : Database) (T after : Tables) (M : Catalogue) (s :
           (subst (Same (filter (λ (h : spec.HeaderRecord). same_number h.number n) (map header_of T.editions))) (headers_of n after.editions)
           (same_passed (λ (h : spec.HeaderRecord). same_number h.number n) (map header_of T.editions) (map header_of after.editions) (same_from (map header_of T.editions) (map header_of after.editions) headers))) in
           as_many (editions_numbered n T.editions) (editions_numbered n after.editions) (goes.editions n)
-          (sym (count_map header_of (editions_numbered n T.editions)) ∙ same.counts (λ h. true) ∙ count_map header_of (editions_numbered n after.editions))
+          (sym (length-map (editions_numbered n T.editions) header_of) ∙ same_long _ _ same ∙ length-map (editions_numbered n after.editions) header_of)
 
       unknown : (n : ℤ) → has_number M.items n ≡ false → (es : List spec.EntryRecord) → AllByRecursion (λ (x : spec.EntryRecord). IsTrue (has_number M.items x.edition)) es → entries_of n es ≡ []
-      unknown n absent [] all = refl
-      unknown n absent (x ∷ es) all = split (same_number x.edition n) refl (unknown n absent es all.1)
-        where
-          split : (b : Bool) → same_number x.edition n ≡ b → entries_of n es ≡ [] → cond b (x ∷ entries_of n es) (entries_of n es) ≡ []
-          split true e rest = absurd (false≢true (sym absent ∙ subst (λ m. has_number M.items m ≡ true) (same_number_is x.edition n e) all.0))
-          split false e rest = rest
+      unknown n absent es all =
+          filter_none (λ (x : spec.EntryRecord). same_number x.edition n) es
+          (all_weaker (λ (x : spec.EntryRecord). IsTrue (has_number M.items x.edition)) (λ x. same_number x.edition n ≡ false)
+          (λ x known. false_from_ne_true (same_number x.edition n) (λ e. false≢true (sym absent ∙ subst (λ m. has_number M.items m ≡ true) (same_number_is x.edition n e) known))) es all)
 
       nothing : (xs ys : List spec.EntryRecord) → BeginsWith xs ys → xs ≡ [] → ys ≡ []
       nothing xs [] b e = refl
@@ -251,10 +226,8 @@ module _ (version : ℕ) (db : Database) (T after : Tables) (M : Catalogue) (s :
           none ∙ sym (nothing (entries_of n T.entries) (entries_of n after.entries) (goes.entries n) none)
 
   are_same : (layout : Layout) → KeptAs layout db T → AreShownIn layout after.entries → HasRows db after (editions layout) → HasRows db after (contents layout) → AreSame T after
-  are_same Plain k shown rows cells = table_same Plain tt k shown (editions_kept Plain db T refl k.keeps) rows cells
-  are_same Keyed k shown rows cells = table_same Keyed tt k shown (editions_kept Keyed db T refl k.keeps) rows cells
-  are_same Shown k shown rows cells = table_same Shown tt k shown (editions_kept Shown db T refl k.keeps) rows cells
   are_same Parted k shown rows cells = parted_same k rows cells
+  are_same layout k shown rows cells = table_same layout tt k shown (editions_kept layout db T refl k.keeps) rows cells
 
 module _ (version : ℕ) (db : Database) (after : Tables) (keeps : HasAllRows version db after) (shown : AreShownIn (layout_of version) after.entries) (fits : AllGoOnFrom version db after) where
   stands_after : (T : Tables) (M : Catalogue) → Keeping version db after.members T M → Stands version after M
@@ -279,3 +252,8 @@ module _ (version : ℕ) (db : Database) (after : Tables) (keeps : HasAllRows ve
 
   pub finish_wrong : ((M : Catalogue) → Stands version after M → ⊥) → KeepsNone version db after.members
   finish_wrong none T M K = none M (stands_after T M K)
+
+-- what is read of a front, where the same is shown
+pub read_then : (R : Database → Tables → Type 0) (version : ℕ) (last : Reader) (front : Tables) {mid old : Database} → mid ≡ old → (HasBegun version mid front → (after : Tables) × HasTaken version last after × R mid after)
+    → HasBegun version old front → (after : Tables) × HasTaken version last after × R old after
+read_then R version last front same read = subst (λ (d : Database). HasBegun version d front → (after : Tables) × HasTaken version last after × R d after) same read

@@ -10,13 +10,13 @@ use Rattle.sqlite_trees.proofs.ListLemmas.{IsPermutation-filter}
 use Rattle.sqlite.specs.Effect.{Database}
 use Rattle.sqlite.specs.Order.{Row, column, value_cmp}
 use Rattle.sqlite.specs.declared.types.Value.TheVariants.{Int}
-use Rattle.dict_text.proofs.AllLemmas.{all_append, all_filter}
+use Rattle.dict_text.proofs.AllLemmas.{all_append, all_filter, all_map, all_of, all_weaker}
 use Rattle.store_records.specs.Records as spec
 use Rattle.store_sql.specs.Effects.{rows_of, same_value, equals_number}
 use Rattle.store_sql.specs.Reads.{by_columns}
 use Rattle.store_rows.specs.Order.{InOrder}
 use Rattle.store_rows.specs.Tables.{Tables, same_number}
-use Rattle.store_rows.specs.Versions.{Layout, Plain, Keyed, Shown, Parted}
+use Rattle.store_rows.specs.Versions.{Layout, Plain, Keyed, Parted}
 use Rattle.store_rows.proofs.OrderLemmas.{order_given, all_same}
 use Rattle.store_holdings.specs.AllTables.{with_derived}
 use Rattle.store_holdings.specs.Readings.{KeepsRows, AreShownIn, contents}
@@ -24,7 +24,7 @@ use Rattle.store_holdings.proofs.ReadLemmas.{sorted_order, one_le}
 use Rattle.store_holdings.proofs.ReadingLemmas.{map_twice}
 use Rattle.store_scans.specs.Entries.{looked_behind_rowid, entry_cells}
 use Rattle.store_holdings.proofs.OneLemmas.{decode_entry, decode_shown, entry_back, shown_back, both_where}
-use Rattle.store_scans.proofs.NumberLemmas.{same_int}
+use Rattle.store_scans.proofs.NumberLemmas.{behind_column, same_int}
 use Rattle.store_scans.proofs.RowidLemmas.{all_of_map}
 
 -- ---- by layout
@@ -32,103 +32,73 @@ use Rattle.store_scans.proofs.RowidLemmas.{all_of_map}
 abbrev decode_cells : Layout → Row → spec.EntryRecord
 decode_cells Plain cells = decode_entry cells
 decode_cells Keyed cells = decode_entry cells
-decode_cells Shown cells = decode_shown cells
-decode_cells Parted cells = decode_shown cells
+decode_cells layout cells = decode_shown cells
 
 -- the layout has a row for each entry
 abbrev pub HasEntryTable : Layout → Type 0
-HasEntryTable Plain = Unit {0}
-HasEntryTable Keyed = Unit {0}
-HasEntryTable Shown = Unit {0}
 HasEntryTable Parted = ⊥
+HasEntryTable layout = Unit {0}
 
 -- the entry is shown as one of the layout may be
 abbrev pub IsShownIn : Layout → spec.EntryRecord → Type 0
 IsShownIn Plain e = spec.ShowsHeadword e
 IsShownIn Keyed e = spec.ShowsHeadword e
-IsShownIn Shown e = Unit {0}
-IsShownIn Parted e = Unit {0}
-
-all_units : (es : List spec.EntryRecord) → AllByRecursion (λ (e : spec.EntryRecord). Unit {0}) es
-all_units [] = tt
-all_units (e ∷ es) = (tt, all_units es)
+IsShownIn layout e = Unit {0}
 
 pub each_shown : (layout : Layout) (es : List spec.EntryRecord) → AreShownIn layout es → AllByRecursion (IsShownIn layout) es
 each_shown Plain es h = h
 each_shown Keyed es h = h
-each_shown Shown es h = all_units es
-each_shown Parted es h = all_units es
+each_shown layout es h = all_of (λ (e : spec.EntryRecord). Unit {0}) (λ e. tt) es
 
 pub none_shown : (layout : Layout) → AreShownIn layout []
 none_shown Plain = tt
-none_shown Keyed = tt
-none_shown Shown = tt
-none_shown Parted = tt
+none_shown layout = tt
 
 pub more_shown : (layout : Layout) (xs ys : List spec.EntryRecord) → AreShownIn layout xs → AreShownIn layout ys → AreShownIn layout (xs ++ ys)
 more_shown Plain xs ys h k = all_append spec.ShowsHeadword xs ys h k
 more_shown Keyed xs ys h k = all_append spec.ShowsHeadword xs ys h k
-more_shown Shown xs ys h k = tt
-more_shown Parted xs ys h k = tt
+more_shown layout xs ys h k = tt
 
 pub cells_back : (layout : Layout) (e : spec.EntryRecord) → IsShownIn layout e → decode_cells layout (entry_cells layout e) ≡ e
 cells_back Plain e h = entry_back e h
 cells_back Keyed e h = entry_back e h
-cells_back Shown e h = shown_back e
-cells_back Parted e h = shown_back e
+cells_back layout e h = shown_back e
 
 number_seen : (layout : Layout) (row : Row) → column row 1 ≡ column (looked_behind_rowid layout row) 0
-number_seen Plain [] = refl
-number_seen Plain (x ∷ row) = refl
-number_seen Keyed [] = refl
-number_seen Keyed (x ∷ []) = refl
-number_seen Keyed (x ∷ y ∷ row) = refl
-number_seen Shown [] = refl
-number_seen Shown (x ∷ []) = refl
-number_seen Shown (x ∷ y ∷ row) = refl
-number_seen Parted [] = refl
-number_seen Parted (x ∷ row) = refl
+number_seen Plain row = behind_column row 0
+number_seen layout [] = refl
+number_seen layout (x ∷ []) = refl
+number_seen layout (x ∷ y ∷ row) = refl
 
 ord_seen : (layout : Layout) (row : Row) → column row 2 ≡ column (looked_behind_rowid layout row) 1
-ord_seen Plain [] = refl
-ord_seen Plain (x ∷ row) = refl
-ord_seen Keyed [] = refl
-ord_seen Keyed (x ∷ []) = refl
-ord_seen Keyed (x ∷ y ∷ []) = refl
-ord_seen Keyed (x ∷ y ∷ z ∷ row) = refl
-ord_seen Shown [] = refl
-ord_seen Shown (x ∷ []) = refl
-ord_seen Shown (x ∷ y ∷ []) = refl
-ord_seen Shown (x ∷ y ∷ z ∷ row) = refl
-ord_seen Parted [] = refl
-ord_seen Parted (x ∷ row) = refl
+ord_seen Plain row = behind_column row 1
+ord_seen layout [] = refl
+ord_seen layout (x ∷ []) = refl
+ord_seen layout (x ∷ y ∷ []) = refl
+ord_seen layout (x ∷ y ∷ z ∷ row) = refl
 
-number_in : (layout : Layout) (e : spec.EntryRecord) → column (entry_cells layout e) 0 ≡ Int e.edition
-number_in Plain e = refl
-number_in Keyed e = refl
-number_in Shown e = refl
-number_in Parted e = refl
-
-ord_in : (layout : Layout) (e : spec.EntryRecord) → column (entry_cells layout e) 1 ≡ Int e.ord
-ord_in Plain e = refl
-ord_in Keyed e = refl
-ord_in Shown e = refl
-ord_in Parted e = refl
+numbers_in : (layout : Layout) (e : spec.EntryRecord) → (column (entry_cells layout e) 0 ≡ Int e.edition) × (column (entry_cells layout e) 1 ≡ Int e.ord)
+numbers_in Plain e = (refl, refl)
+numbers_in layout e = (refl, refl)
 
 -- the rows of what a database keeps
 pub entries_rows : (layout : Layout) → HasEntryTable layout → (db : Database) (t : Tables) → KeepsRows (contents layout) db (with_derived t)
     → IsPermutation (map (entry_cells layout) t.entries) (map (looked_behind_rowid layout) (rows_of (codes "entry") db))
-entries_rows Plain has db t k = k.rows
-entries_rows Keyed has db t k = k.rows
-entries_rows Shown has db t k = k.rows
 entries_rows Parted has db t k = absurd has
+entries_rows layout has db t k = k.rows
 
 -- ---- rows of entries
 
-module _ (layout : Layout) where
-  abbrev cells : spec.EntryRecord → Row
-  cells = entry_cells layout
+-- what passes a test of an image is the image of what passes the test
+filter_where : {X Y : Type 0} (f : X → Y) (p : X → Bool) (q : Y → Bool) (xs : List X) → AllByRecursion (λ x. q (f x) ≡ p x) xs → filter q (map f xs) ≡ map f (filter p xs)
+filter_where f p q [] same = refl
+filter_where {X} {Y} f p q (x ∷ xs) same = ap (λ b. cond b (f x ∷ filter q (map f xs)) (filter q (map f xs))) same.0 ∙ by (p x) (filter_where f p q xs same.1)
+  where
+    by : (b : Bool) → filter q (map f xs) ≡ map f (filter p xs) → cond b (f x ∷ filter q (map f xs)) (filter q (map f xs)) ≡ map f (cond b (x ∷ filter p xs) (filter p xs))
+    by true rest = ap (λ l. f x ∷ l) rest
+    by false rest = rest
 
+module _ (layout : Layout) where
   -- the entry of a row
   abbrev pub entry_in : Row → spec.EntryRecord
   entry_in row = decode_cells layout (looked_behind_rowid layout row)
@@ -147,10 +117,10 @@ module _ (layout : Layout) where
   entries_are rows es shown is = sym (map_twice (looked_behind_rowid layout) (decode_cells layout) rows) ∙ ap (map (decode_cells layout)) is ∙ undone es (each_shown layout es shown)
 
   pub number_is : (row : Row) (e : spec.EntryRecord) → looked_behind_rowid layout row ≡ entry_cells layout e → column row 1 ≡ Int e.edition
-  number_is row e is = number_seen layout row ∙ ap (λ r. column r 0) is ∙ number_in layout e
+  number_is row e is = number_seen layout row ∙ ap (λ r. column r 0) is ∙ (numbers_in layout e).0
 
   pub ord_is : (row : Row) (e : spec.EntryRecord) → looked_behind_rowid layout row ≡ entry_cells layout e → column row 2 ≡ Int e.ord
-  ord_is row e is = ord_seen layout row ∙ ap (λ r. column r 1) is ∙ ord_in layout e
+  ord_is row e is = ord_seen layout row ∙ ap (λ r. column r 1) is ∙ (numbers_in layout e).1
 
   pub of_number : (n : ℤ) (row : Row) (e : spec.EntryRecord) → looked_behind_rowid layout row ≡ entry_cells layout e → equals_number 1 n row ≡ same_number e.edition n
   of_number n row e is = ap (λ v. same_value v (Int n)) (number_is row e is) ∙ same_int e.edition n
@@ -158,28 +128,15 @@ module _ (layout : Layout) where
   pub number_of_row : (row : Row) (e : spec.EntryRecord) (n : ℤ) → looked_behind_rowid layout row ≡ entry_cells layout e → equals_number 1 n row ≡ true → same_value (Int e.edition) (Int n) ≡ true
   number_of_row row e n is h = sym (ap (λ v. same_value v (Int n)) (number_is row e is)) ∙ h
 
-  filter_step : (test : Row → Bool) (pass : spec.EntryRecord → Bool) (r : Row) (rows : List Row) (a b : Bool) → pass (entry_in r) ≡ a → test r ≡ b → a ≡ b → filter pass (map entry_in rows) ≡ map entry_in (filter test rows)
-      → cond (pass (entry_in r)) (entry_in r ∷ filter pass (map entry_in rows)) (filter pass (map entry_in rows)) ≡ map entry_in (cond (test r) (r ∷ filter test rows) (filter test rows))
-  filter_step test pass r rows true true ea eb same rest = ap (λ b. cond b (entry_in r ∷ filter pass (map entry_in rows)) (filter pass (map entry_in rows))) ea ∙ ap (λ l. entry_in r ∷ l) rest
-      ∙ ap (λ b. map entry_in (cond b (r ∷ filter test rows) (filter test rows))) (sym eb)
-  filter_step test pass r rows false false ea eb same rest = ap (λ b. cond b (entry_in r ∷ filter pass (map entry_in rows)) (filter pass (map entry_in rows))) ea ∙ rest
-      ∙ ap (λ b. map entry_in (cond b (r ∷ filter test rows) (filter test rows))) (sym eb)
-  filter_step test pass r rows true false ea eb same rest = absurd (cc)
-  filter_step test pass r rows false true ea eb same rest = absurd (cc)
-
   filter_numbered : (n : ℤ) (rows : List Row) → AllByRecursion IsEntryRow rows → filter (λ e. same_number e.edition n) (map entry_in rows) ≡ map entry_in (filter (equals_number 1 n) rows)
-  filter_numbered n [] all = refl
-  filter_numbered n (r ∷ rows) all =
-      filter_step (equals_number 1 n) (λ e. same_number e.edition n) r rows (same_number (entry_in r).edition n) (equals_number 1 n r) refl refl
-      (ap (λ (e : spec.EntryRecord). same_number e.edition n) (entry_is r all.0.0 all.0.2 all.0.1) ∙ sym (of_number n r all.0.0 all.0.1)) (filter_numbered n rows all.1)
-
-  all_read : (P : spec.EntryRecord → Type 0) (rows : List Row) → AllByRecursion (λ b. P (entry_in b)) rows → AllByRecursion P (map entry_in rows)
-  all_read P [] h = tt
-  all_read P (r ∷ rows) h = (h.0, all_read P rows h.1)
+  filter_numbered n rows all =
+      filter_where entry_in (equals_number 1 n) (λ (e : spec.EntryRecord). same_number e.edition n) rows
+      (all_weaker IsEntryRow (λ r. same_number (entry_in r).edition n ≡ equals_number 1 n r)
+      (λ r w. ap (λ (e : spec.EntryRecord). same_number e.edition n) (entry_is r w.0 w.2 w.1) ∙ sym (of_number n r w.0 w.1)) rows all)
 
   order_read : (T : spec.EntryRecord → spec.EntryRecord → Type 0) (rows : List Row) → InOrder (λ a b. T (entry_in a) (entry_in b)) rows → InOrder T (map entry_in rows)
   order_read T [] h = tt
-  order_read T (r ∷ rows) h = (all_read (T (entry_in r)) rows h.0, order_read T rows h.1)
+  order_read T (r ∷ rows) h = (all_map (λ b. T (entry_in r) (entry_in b)) (T (entry_in r)) entry_in (λ b h. h) rows h.0, order_read T rows h.1)
 
   abbrev Up : spec.EntryRecord → spec.EntryRecord → Type 0
   Up a b = a.ord ≤ℤ b.ord
@@ -195,27 +152,21 @@ module _ (layout : Layout) where
       (λ a b qa qb r. subst (λ w. Up w (entry_in b)) (sym (entry_is a qa.0 qa.2 qa.1)) (subst (Up qa.0) (sym (entry_is b qb.0 qb.2 qb.1)) (rises a b qa.0 qb.0 qa.1 qb.1 r))) rows all (sorted_order (2 ∷ []) rows up))
 
   module _ (db : Database) (es : List spec.EntryRecord) (kept : IsPermutation (map (entry_cells layout) es) (map (looked_behind_rowid layout) (rows_of (codes "entry") db))) where
-    all_written : (P : spec.EntryRecord → Type 0) (ws : List spec.EntryRecord) → AllByRecursion P ws → AllByRecursion (λ s. (e : spec.EntryRecord) × (s ≡ entry_cells layout e) × P e) (map (entry_cells layout) ws)
-    all_written P [] h = tt
-    all_written P (w ∷ ws) h = ((w, refl, h.0), all_written P ws h.1)
-
     -- what holds of all entries holds of that of each row
     pub each_row : (P : spec.EntryRecord → Type 0) → AllByRecursion P es → AllByRecursion (λ row. (e : spec.EntryRecord) × (looked_behind_rowid layout row ≡ entry_cells layout e) × P e) (rows_of (codes "entry") db)
     each_row P all =
         all_of_map (looked_behind_rowid layout) (λ s. (e : spec.EntryRecord) × (s ≡ entry_cells layout e) × P e) (λ row. (e : spec.EntryRecord) × (looked_behind_rowid layout row ≡ entry_cells layout e) × P e) (λ row h. h)
         (rows_of (codes "entry") db)
-        (all_same (λ s. (e : spec.EntryRecord) × (s ≡ entry_cells layout e) × P e) (map (entry_cells layout) es) (map (looked_behind_rowid layout) (rows_of (codes "entry") db)) kept (all_written P es all))
+        (all_same (λ s. (e : spec.EntryRecord) × (s ≡ entry_cells layout e) × P e) (map (entry_cells layout) es) (map (looked_behind_rowid layout) (rows_of (codes "entry") db)) kept
+        (all_map P (λ s. (e : spec.EntryRecord) × (s ≡ entry_cells layout e) × P e) (entry_cells layout) (λ e h. (e, refl, h)) es all))
 
     pub entries_written : AreShownIn layout es → AllByRecursion IsEntryRow (rows_of (codes "entry") db)
     entries_written shown = each_row (IsShownIn layout) (each_shown layout es shown)
 
     pub entries_kept : AreShownIn layout es → IsPermutation es (map entry_in (rows_of (codes "entry") db))
     entries_kept shown = subst (λ l. IsPermutation l (map entry_in (rows_of (codes "entry") db))) (undone es (each_shown layout es shown))
-        (subst (IsPermutation (map (decode_cells layout) (map (entry_cells layout) es))) (read (rows_of (codes "entry") db)) (IsPermutation-map (decode_cells layout) _ _ kept))
-      where
-        read : (rows : List Row) → map (decode_cells layout) (map (looked_behind_rowid layout) rows) ≡ map entry_in rows
-        read [] = refl
-        read (r ∷ rows) = ap (λ l. decode_cells layout (looked_behind_rowid layout r) ∷ l) (read rows)
+        (subst (IsPermutation (map (decode_cells layout) (map (entry_cells layout) es))) (map_twice (looked_behind_rowid layout) (decode_cells layout) (rows_of (codes "entry") db))
+        (IsPermutation-map (decode_cells layout) _ _ kept))
 
     -- those of an edition
     pub entries_selected : AreShownIn layout es → (n : ℤ) (rows : List Row) → IsPermutation (filter (equals_number 1 n) (rows_of (codes "entry") db)) rows

@@ -1,44 +1,27 @@
 -- The files of the editions that a database keeps.
-use Rattle.std.proofs.Common.{◌≡◌, ℕ, ℤ, pos, ◌+◌, ◌<◌, ◌^◌, Bool, true, false, ◌&&◌, cond, List, [], ◌∷◌, ◌++◌, map, drop, filter, length, codes, refl, sym, ap, subst, ◌∙◌, append-nil}
+use Rattle.std.proofs.Common.{◌≡◌, ℕ, ℤ, pos, Bool, ◌&&◌, List, [], ◌∷◌, map, drop, filter, codes, refl, sym, ap, subst, ◌∙◌, append-nil}
 use Rattle.std.specs.Prelude.{flat_map, IsPermutation}
-use Rattle.std.specs.List.{AllByRecursion}
-use Rattle.std.proofs.lemmas.List.Elements.{filter-append}
 use Rattle.sqlite_trees.proofs.ListLemmas.{IsPermutation-filter}
 use Rattle.sqlite.specs.Effect.{Database}
 use Rattle.sqlite.specs.Order.{Row, column}
 use Rattle.sqlite.specs.declared.types.Value.TheVariants.{Int}
-use Rattle.dict_text.proofs.AllLemmas.{all_weaker}
 use Rattle.store_records.specs.Records.{EditionRecord, HeaderRecord, Part, header_of}
 use Rattle.dict_index.specs.Line.{Line}
-use Rattle.dict_index.specs.Edition.{Edition as AnEdition, entry_in}
-use Rattle.dict_index.specs.WellFormed.{IsWellFormedEdition, IsWellFormedEntry}
 use Rattle.store_sql.specs.Effects.{rows_of, same_value}
 use Rattle.store_edition_sql.specs.Chosen.{is_of_file}
 use Rattle.store_edition_sql.specs.PartRecords.{part_row}
-use Rattle.dict_catalogue.specs.Items.{Stored}
-use Rattle.store_rows.specs.Stored.{IsStorable, stored_index}
-use Rattle.store_rows.specs.Parts.{parts_of}
-use Rattle.store_rows.specs.Stands.{HoldsEdition, IsWithin}
+use Rattle.store_rows.specs.Stored.{stored_index}
 use Rattle.store_rows.specs.Tables.{Tables, same_number, entries_of, editions_numbered}
 use Rattle.store_rows.specs.Written.{numbered, entry_record}
-use Rattle.store_rows.proofs.StoredLemmas.{of_entries}
-use Rattle.store_rows.proofs.EntryLemmas.{lines_lawful}
 use Rattle.store_rows.proofs.SelectionLemmas.{filter_filter}
-use Rattle.store_holdings.specs.Files.{part_at, file_parts, parts_under, edition_parts, all_parts, index_octets}
+use Rattle.store_holdings.specs.Files.{file_parts, edition_parts, all_parts, index_octets}
 use Rattle.store_holdings.proofs.FileLemmas.{part_once, lines_back}
+use Rattle.store_holdings.proofs.TellLemmas.{index_under, text_under}
+use Rattle.store_lookup.proofs.RowLemmas.{filter_map}
 use Rattle.store_scans.specs.Files.{file_rows, HasFile}
 use Rattle.store_scans.proofs.NumberLemmas.{behind_column, same_int}
 
 -- ---- rows, and what passes a test of them
-
--- what passes a test of an image is the image of what passes the test
-pub filter_map : {X Y : Type 0} (f : X → Y) (p : X → Bool) (q : Y → Bool) → ((x : X) → q (f x) ≡ p x) → (xs : List X) → filter q (map f xs) ≡ map f (filter p xs)
-filter_map f p q same [] = refl
-filter_map {X} {Y} f p q same (x ∷ xs) = ap (λ b. cond b (f x ∷ filter q (map f xs)) (filter q (map f xs))) (same x) ∙ by (p x) (filter_map f p q same xs)
-  where
-    by : (b : Bool) → filter q (map f xs) ≡ map f (filter p xs) → cond b (f x ∷ filter q (map f xs)) (filter q (map f xs)) ≡ map f (cond b (x ∷ filter p xs) (filter p xs))
-    by true rest = ap (λ l. f x ∷ l) rest
-    by false rest = rest
 
 -- the test of a part, on its row
 abbrev behind_test : (n f : ℤ) → Row → Bool
@@ -59,30 +42,6 @@ parts_of_file db ps same n f =
     let rows = rows_of (codes "dictcat_part") db in
     subst (λ l. IsPermutation l (file_rows n f db)) (filter_map part_row (part_test n f) (behind_test n f) (row_test n f) ps)
     (subst (IsPermutation (filter (behind_test n f) (map part_row ps))) (filter_map (drop 1) (is_of_file n f) (behind_test n f) (rowid_test n f) rows) (IsPermutation-filter (behind_test n f) (map part_row ps) (map (drop 1) rows) same))
-
--- ---- the parts of one file of an edition
-
--- its parts pass the test of their file
-of_one : (edition file one : ℤ) (b : Bool) → same_number file one ≡ b → (n : ℕ) (os : List (List ℕ)) → filter (λ (p : Part). same_number p.file one) (numbered (part_at edition file) n os) ≡ cond b (numbered (part_at edition file) n os) []
-of_one edition file one true e n [] = refl
-of_one edition file one false e n [] = refl
-of_one edition file one true e n (o ∷ os) =
-    let rest = filter (λ (p : Part). same_number p.file one) (numbered (part_at edition file) (n + 1) os) in
-    ap (λ b. cond b (part_at edition file n o ∷ rest) rest) e ∙ ap (λ l. part_at edition file n o ∷ l) (of_one edition file one true e (n + 1) os)
-of_one edition file one false e n (o ∷ os) =
-    let rest = filter (λ (p : Part). same_number p.file one) (numbered (part_at edition file) (n + 1) os) in
-    ap (λ b. cond b (part_at edition file n o ∷ rest) rest) e ∙ of_one edition file one false e (n + 1) os
-
-index_under : (edition : ℤ) (index text : List ℕ) → filter (λ (p : Part). same_number p.file (pos 0)) (parts_under edition index text) ≡ file_parts edition (pos 0) index
-index_under edition index text =
-    filter-append (λ (p : Part). same_number p.file (pos 0)) (file_parts edition (pos 0) index) (file_parts edition (pos 1) text)
-    ∙ (λ i. of_one edition (pos 0) (pos 0) true refl 0 (parts_of index) i ++ of_one edition (pos 1) (pos 0) false refl 0 (parts_of text) i)
-    ∙ append-nil (file_parts edition (pos 0) index)
-
-text_under : (edition : ℤ) (index text : List ℕ) → filter (λ (p : Part). same_number p.file (pos 1)) (parts_under edition index text) ≡ file_parts edition (pos 1) text
-text_under edition index text =
-    filter-append (λ (p : Part). same_number p.file (pos 1)) (file_parts edition (pos 0) index) (file_parts edition (pos 1) text)
-    ∙ (λ i. of_one edition (pos 0) (pos 1) false refl 0 (parts_of index) i ++ of_one edition (pos 1) (pos 1) true refl 0 (parts_of text) i)
 
 -- ---- the files of an edition of which there is one record
 
@@ -114,10 +73,3 @@ headers_of number es = filter_map header_of (λ (e : EditionRecord). same_number
 -- the index of a number is that of its lines
 pub index_is : (t : Tables) (number : ℕ) (lines : List Line) → entries_of (pos number) t.entries ≡ numbered (entry_record number) 0 lines → index_octets (entries_of (pos number) t.entries) ≡ stored_index lines
 index_is t number lines is = ap index_octets is ∙ ap stored_index (lines_back number 0 lines)
-
-all_storable : (text : List ℕ) (lines : List Line) → length text < 64 ^ 6 → AllByRecursion (λ line. IsWithin text line × IsWellFormedEntry (entry_in text line)) lines → AllByRecursion IsStorable lines
-all_storable text lines short h = all_weaker (λ line. IsWithin text line × IsWellFormedEntry (entry_in text line)) IsStorable (λ line both. of_entries text line short both.0 both.1) lines h
-
-pub storable : (t : Tables) (owner : List ℕ) (stored : Stored AnEdition) (h : HoldsEdition t owner stored) → IsWellFormedEdition stored.content → AllByRecursion IsStorable h.reading.lines
-storable t owner stored h lawful =
-    all_storable h.reading.text h.reading.lines h.short (lines_lawful h.reading.text h.reading.lines h.within (subst IsWellFormedEdition h.says lawful).entries)

@@ -10,7 +10,7 @@ use Rattle.sqlite.specs.Effect.{Database}
 use Rattle.sqlite.specs.Order.{Row, column, value_cmp}
 use Rattle.sqlite.specs.declared.types.Value.TheVariants.{Int}
 use Rattle.store_records.specs.Records as spec
-use Rattle.store_sql.specs.Encodings.{item_row, kept_row, stored_mark, stored_item, stored_kept}
+use Rattle.store_sql.specs.Encodings.{stored_mark, stored_item, stored_kept}
 use Rattle.store_sql.specs.Reads.{IsListing, by_columns}
 use Rattle.store_sql.specs.Streams.{IsFront}
 use Rattle.store_sql.specs.Streams.Scan.{AllKept}
@@ -29,7 +29,8 @@ use Rattle.store_rows.specs.Versions.{layout_of}
 use Rattle.store_holdings.proofs.ReadingLemmas.{marks_kept, items_kept, replies_kept}
 use Rattle.store_scans.specs.Takers.{KeptRow}
 use Rattle.store_scans.proofs.CodecLemmas.{Codec, read, read_stored, rows_order, listed_records, mark_codec, item_codec, kept_codec}
-use Rattle.store_scans.proofs.NumberLemmas.{behind_column}
+use Rattle.store_lookup.proofs.RowLemmas.{column_behind}
+use Rattle.store_holdings.specs.Holds.{Keeps}
 
 -- ---- the entries of one number
 
@@ -41,13 +42,16 @@ pub all_of : (n : ℤ) (es : List spec.EntryRecord) → AllByRecursion (λ (x : 
 all_of n [] all = refl
 all_of n (e ∷ es) all = ap (λ b. cond b (e ∷ entries_of n es) (entries_of n es)) (ap (λ z. same_number z n) all.0 ∙ same_itself n) ∙ ap (λ l. e ∷ l) (all_of n es all.1)
 
--- ---- numbers in the order of a column
+-- ---- records in the order of a column
 
-column_le : (at : ℕ) (r s rest tail : Row) (m n : ℤ) → column r at ≡ Int m → column s at ≡ Int n → is_lt (by_columns (at ∷ []) s r) ≡ false → m ≤ℤ n
-column_le at r s rest tail m n e f h = one_le m n (sym (λ i. is_lt (ordering_then (value_cmp (f i) (e i)) Equal)) ∙ h)
-
-behind_is : (row s : Row) (k : ℕ) (n : ℤ) → drop 1 row ≡ s → column s k ≡ Int n → column row (suc k) ≡ Int n
-behind_is row s k n e f = behind_column row k ∙ ap (λ t. column t k) e ∙ f
+-- those that a table keeps, no two of which share their number in it, are the rows in its order
+listing_is : {R W : Type 0} (k : Codec R W) (name : List ℕ) (db : Database) (at : ℕ) (key : W → ℤ) → ((w : W) → column (k.encode w) at ≡ Int (key w)) → (ws : List W) → Keeps name k.encode db ws
+    → InOrder (λ a b. Below (key a) (key b)) ws → (rows : List Row) → IsListing name (suc at ∷ []) db rows → ws ≡ map (read k) rows
+listing_is {R} {W} k name db at key place ws keeps strict rows l =
+    let found = listed_records k name db ws keeps rows l.same in
+    let le : (r s : Row) (w v : W) → drop 1 r ≡ k.encode w → drop 1 s ≡ k.encode v → is_lt (by_columns (suc at ∷ []) s r) ≡ false → key w ≤ℤ key v =
+    λ r s w v e f h. one_le (key w) (key v) (sym (λ i. is_lt (ordering_then (value_cmp ((column_behind s at (k.encode v) f ∙ place v) i) ((column_behind r at (k.encode w) e ∙ place w) i)) Equal)) ∙ h) in
+    ordered_once key ws (map (read k) rows) (same_from ws (map (read k) rows) found.0) strict (rows_order k (suc at ∷ []) (λ a b. key a ≤ℤ key b) le rows found.1 l.sorted)
 
 -- ---- what the tables keep of what was read
 
@@ -58,20 +62,14 @@ module _ (version : ℕ) (db : Database) (members : List spec.Member) (T : Table
       K.stands.marks ∙ sym (one_once _ _ (subst (λ xs. Same xs (map (read mark_codec) rows)) K.stands.marks (same_from T.marks (map (read mark_codec) rows) found)))
 
   pub items_read : (rows : List Row) → IsListing (codes "item") (1 ∷ []) db rows → T.items ≡ map (read item_codec) rows
-  items_read rows l =
-      let found = listed_records item_codec (codes "item") db T.items (items_kept (layout_of version) db T K.keeps) rows l.same in
-      let up = rows_order item_codec (1 ∷ []) (λ (a b : spec.ItemRecord). a.place ≤ℤ b.place)
-      (λ r s w v e f h. column_le 1 r s [] [] w.place v.place (behind_is r (item_row w) 0 w.place e refl) (behind_is s (item_row v) 0 v.place f refl) h) rows found.1 l.sorted in
-      ordered_once (λ (row : spec.ItemRecord). row.place) T.items (map (read item_codec) rows) (same_from T.items (map (read item_codec) rows) found.0)
-      (subst (InOrder (λ (a b : spec.ItemRecord). Below a.place b.place)) (sym K.stands.items) (numbered_rise item_record (λ (row : spec.ItemRecord). row.place) item_placed 0 M.items)) up
+  items_read =
+      listing_is item_codec (codes "item") db 0 (λ (row : spec.ItemRecord). row.place) (λ w. refl) T.items (items_kept (layout_of version) db T K.keeps)
+      (subst (InOrder (λ (a b : spec.ItemRecord). Below a.place b.place)) (sym K.stands.items) (numbered_rise item_record (λ (row : spec.ItemRecord). row.place) item_placed 0 M.items))
 
   pub replies_read : (rows : List Row) → IsListing (codes "kept") (2 ∷ []) db rows → T.kept ≡ map (read kept_codec) rows
-  replies_read rows l =
-      let found = listed_records kept_codec (codes "kept") db T.kept (replies_kept (layout_of version) db T K.keeps) rows l.same in
-      let up = rows_order kept_codec (2 ∷ []) (λ (a b : spec.KeptRecord). a.number ≤ℤ b.number)
-      (λ r s w v e f h. column_le 2 r s [] [] w.number v.number (behind_is r (kept_row w) 1 w.number e refl) (behind_is s (kept_row v) 1 v.number f refl) h) rows found.1 l.sorted in
-      ordered_once (λ (row : spec.KeptRecord). row.number) T.kept (map (read kept_codec) rows) (same_from T.kept (map (read kept_codec) rows) found.0)
-      (subst (InOrder (λ (a b : spec.KeptRecord). Below a.number b.number)) (sym K.stands.kept) (kept_rise 1 M.kept K.stands.well_formed.numbered)) up
+  replies_read =
+      listing_is kept_codec (codes "kept") db 1 (λ (row : spec.KeptRecord). row.number) (λ w. refl) T.kept (replies_kept (layout_of version) db T K.keeps)
+      (subst (InOrder (λ (a b : spec.KeptRecord). Below a.number b.number)) (sym K.stands.kept) (kept_rise 1 M.kept K.stands.well_formed.numbered))
 
 -- a front of the rows, and the others
 pub front_read : {R W : Type 0} (k : Codec R W) (given : List R) (tail : List Row) → map (read k) (map k.stored given ++ tail) ≡ map k.owned given ++ map (read k) tail

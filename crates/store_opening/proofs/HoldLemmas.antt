@@ -8,7 +8,10 @@ use Rattle.store_rows.specs.Tables.{Tables}
 use Rattle.store_rows.specs.Versions.{layout_of}
 use Rattle.store_rows.specs.declared.reader.Reader.{Reader}
 use Rattle.store_holdings.specs.Holds.{Holds, HasLayout, HoldsNoneAs}
-use Rattle.store_opening.specs.Opens.{HasAll, HasSummary, HasOthersApart}
+use Rattle.store_sql.specs.Effects.{HasApartRowids, rows_of}
+use Rattle.store_holdings.specs.AllTables.{with_derived}
+use Rattle.store_holdings.specs.Readings.{TableReading, KeepsRows, KeepsAll, table_name_of}
+use Rattle.store_opening.specs.Opens.{HasAll, HasSummary, HasOthersApart, HasRows}
 
 -- ---- all rows
 
@@ -26,30 +29,16 @@ has_summary version db reader front after a M s holdings is = record {
 
 -- ---- so it holds a catalogue
 
+keeps_rows : (db : Database) (tables : Tables) (r : TableReading) → HasRows db tables r → HasApartRowids (rows_of (table_name_of r) db) → KeepsRows r db (with_derived tables)
+keeps_rows db tables r rows apart = record { rows = rows; apart = apart }
+
 pub holds_of : (version : ℕ) (db : Database) (holdings : Holdings (List ℕ)) → HasLayout (layout_of version) db.schema → HasOthersApart db → HasSummary version db holdings → (M : Catalogue) × Holds version db M × (summary_of M ≡ holdings)
-holds_of version db holdings own apart s = (
-  s.catalogue,
-  record {
-    own = own;
-    tables = s.tables;
-    keeps = (
-      record { rows = s.keeps.0; apart = apart.0.0 },
-      (
-        record { rows = s.keeps.1.0; apart = apart.0.1 },
-        (
-          record { rows = s.keeps.1.1.0; apart = apart.0.2 },
-          (
-            record { rows = s.keeps.1.1.1.0; apart = apart.1 },
-            (record { rows = s.keeps.1.1.1.1.0; apart = s.apart.0 }, (record { rows = s.keeps.1.1.1.1.1.0; apart = s.apart.1.0 }, tt)),
-          ),
-        ),
-      ),
-    );
-    shown = s.shown;
-    stands = s.stands;
-  },
-  s.summary,
-)
+holds_of version db holdings own apart s =
+    let k = s.keeps in
+    let keep = keeps_rows db s.tables in
+    let keeps : KeepsAll (layout_of version) db (with_derived s.tables) =
+    (keep _ k.0 apart.0.0, (keep _ k.1.0 apart.0.1, (keep _ k.1.1.0 apart.0.2, (keep _ k.1.1.1.0 apart.1, (keep _ k.1.1.1.1.0 s.apart.0, (keep _ k.1.1.1.1.1.0 s.apart.1.0, tt)))))) in
+    (s.catalogue, record { own = own; tables = s.tables; keeps = keeps; shown = s.shown; stands = s.stands }, s.summary)
 
 -- a schema without the tables, or without room for the later one, is that of no such database
 pub none_without : (version : ℕ) (db : Database) → (HasLayout (layout_of version) db.schema → ⊥) → HoldsNoneAs version db

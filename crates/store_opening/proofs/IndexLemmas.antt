@@ -1,15 +1,15 @@
 -- Indexes under numbers, as editions are read, and of the catalogue that a database holds.
-use Rattle.std.proofs.Common.{◌≡◌, ℕ, pos, ◌+◌, ◌<◌, Bool, true, false, nat_eq, cond, List, [], ◌∷◌, ◌++◌, map, take, length, get_or, Some, None, refl, sym, ap, subst, ◌∙◌}
+use Rattle.std.proofs.Common.{◌≡◌, ℕ, pos, ◌+◌, ◌<◌, Bool, true, false, nat_eq, cond, List, [], ◌∷◌, ◌++◌, map, take, length, get_or, Some, refl, sym, ap, subst, ◌∙◌}
 use Rattle.std.specs.Prelude.{flat_map}
 use Rattle.std.specs.List.{AllByRecursion}
 use Rattle.std.proofs.lemmas.Bool.{eqb-true, eq-eqb}
 use Rattle.std.proofs.lemmas.List.{take_more}
 use Rattle.sqlite.specs.Effect.{Database}
-use Rattle.dict_text.proofs.AllLemmas.{all_push, all_append_parts}
+use Rattle.dict_text.proofs.AllLemmas.{all_push, all_weaker, all_append_parts}
 use Rattle.store_records.specs.Records.{EntryRecord}
 use Rattle.dict_index.specs.Line.{Line}
 use Rattle.dict_index.specs.Edition.{Edition}
-use Rattle.dict_catalogue.specs.Items.{Stored, Item, regular, virtual, name_of, editions_of, numbers_of, edition_numbers, item_as}
+use Rattle.dict_catalogue.specs.Items.{Stored, Item, name_of, editions_of, numbers_of, edition_numbers}
 use Rattle.dict_catalogue.specs.Steps.{Catalogue, summary_of}
 use Rattle.dict_catalogue.specs.Tests.{Holdings}
 use Rattle.store_rows.specs.Tables.{entries_of}
@@ -17,6 +17,7 @@ use Rattle.store_rows.specs.Stands.{HoldsEdition, HoldsEditions, has_number}
 use Rattle.store_rows.specs.Versions.{Layout, layout_of}
 use Rattle.store_rows.specs.Written.{numbered, entry_record}
 use Rattle.store_rows.proofs.OrderLemmas.{all_with}
+use Rattle.store_rows.proofs.LawfulLemmas.{numbers_as}
 use Rattle.store_scans.proofs.RowidLemmas.{all_of_map}
 use Rattle.store_search.specs.Entries.{Indexed, entry_of}
 use Rattle.store_lookup.specs.Indexes.{entries_under}
@@ -39,12 +40,8 @@ module _ (layout : Layout) (db : Database) (n : ℕ) (given : List EntryRecord) 
   still m true e h = subst (HasRowsIndexed layout db new) (eqb-true n m e) fresh
   still m false e h = record { given = h.given; entries = h.entries; stands = put m ∙ ap (λ b. cond b (Some (map indexed_of given)) (entries_under m old)) e ∙ h.stands }
 
-  all_still : (ms : List ℕ) → HaveRowsIndexed layout db ms old → HaveRowsIndexed layout db ms new
-  all_still [] h = tt
-  all_still (m ∷ ms) h = (still m (nat_eq n m) refl h.0, all_still ms h.1)
-
   pub with_number : (ms : List ℕ) → HaveRowsIndexed layout db ms old → HaveRowsIndexed layout db (ms ++ n ∷ []) new
-  with_number ms h = all_push (HasRowsIndexed layout db new) ms n (all_still ms h) fresh
+  with_number ms h = all_push (HasRowsIndexed layout db new) ms n (all_weaker (HasRowsIndexed layout db old) (HasRowsIndexed layout db new) (λ m. still m (nat_eq n m) refl) ms h) fresh
 
 pub next_indexed : (layout : Layout) (db : Database) (ns : List ℕ) (i : ℕ) (given : List EntryRecord) (index : List Indexed) (old new : List (ℕ × List Indexed)) → i < length ns → HaveRowsIndexed layout db (take i ns) old
     → HasEntries layout db (pos (get_or ns i 0)) given → index ≡ map indexed_of given → HasPut (get_or ns i 0) index old new → HaveRowsIndexed layout db (take (i + 1) ns) new
@@ -53,17 +50,8 @@ next_indexed layout db ns i given index old new lt before entries is put =
 
 -- ---- the numbers of a summary
 
-numbers_of_as : {A B : Type 0} (f : A → B) (item : Item A) → numbers_of (item_as f item) ≡ numbers_of item
-numbers_of_as f (regular name current None) = refl
-numbers_of_as f (regular name current (Some former)) = refl
-numbers_of_as f (virtual name title members) = refl
-
-edition_numbers_as : {A B : Type 0} (f : A → B) (items : List (Item A)) → edition_numbers (map (item_as f) items) ≡ edition_numbers items
-edition_numbers_as f [] = refl
-edition_numbers_as f (item ∷ items) = λ i. numbers_of_as f item i ++ edition_numbers_as f items i
-
 pub numbers_summed : (M : Catalogue) (holdings : Holdings (List ℕ)) → summary_of M ≡ holdings → edition_numbers M.items ≡ edition_numbers holdings.items
-numbers_summed M holdings is = sym (edition_numbers_as (λ (edition : Edition). edition.title) M.items) ∙ ap (λ (h : Holdings (List ℕ)). edition_numbers h.items) is
+numbers_summed M holdings is = sym (numbers_as (λ (edition : Edition). edition.title) M.items) ∙ ap (λ (h : Holdings (List ℕ)). edition_numbers h.items) is
 
 -- ---- what a database holds
 

@@ -1,5 +1,6 @@
 pub mod TableLemmas
 pub mod FaultLemmas
+pub mod StepLemmas
 pub mod EntryLemmas
 pub mod FileLemmas
 pub mod ToldLemmas

@@ -1,12 +1,11 @@
 -- The mark of a file.
-use Rattle.std.proofs.Common.{◌≡◌, true, nat_lt, inl, inr, ℕ, ◌≤◌, ℤ, pos, List, [], ◌∷◌, map, drop, codes, Option, Some, None, Result, Ok, Err, IfSome, IfNone, IsErrAnd, refl, sym, ap, subst, ◌∙◌, String}
+use Rattle.std.proofs.Common.{◌≡◌, ℕ, ◌≤◌, ℤ, pos, List, [], ◌∷◌, map, drop, codes, Option, Some, None, Result, Ok, Err, IfSome, IfNone, IsErrAnd, refl, sym, ap, subst, ◌∙◌, arith, String}
 use Rattle.std.specs.declared.alloc.Global.{Global}
 use Rattle.std.proofs.lemmas.List.Sorted.{IsPermutation-sym}
-use Rattle.std.specs.List.{AllByRecursion, list_all}
-use Rattle.std.proofs.lemmas.Bool.{cases_Bool, ltb-true}
+use Rattle.std.specs.List.{AllByRecursion}
+use Rattle.std.specs.Str.{IsUtf8}
 use Rattle.std.proofs.lemmas.Str.{IsUtf8-from_ascii}
 use Rattle.std.proofs.lemmas.Str.Ascii.{IsAscii-nil, IsAscii-cons}
-use Rattle.std.specs.Str.{IsAscii, IsUtf8}
 use Rattle.sqlite.specs.Effect.{Database}
 use Rattle.sqlite.specs.Order.{Row, column}
 use Rattle.std.specs.List.Sorted.{IsPermutation}
@@ -25,12 +24,8 @@ use Rattle.store_rows.specs.Given.{marks_given}
 use Rattle.store_rows.proofs.OrderLemmas.{Same, same_from, one_once}
 use Rattle.store_opening.specs.Marks.{HasMarkTable}
 use Rattle.store_opening.specs.Opens.{HasMark, HasKnownMark, HoldsNone, HoldsNoneAs, IsMarked, mark_of_version}
-use Rattle.dict_desk.specs.declared.fault.Fault.TheVariants as desk
-use Rattle.store_scans.specs.declared.fault.ReadingFault.{ReadingFault}
-use Rattle.store_scans.specs.declared.fault.ReadingFault.TheVariants.{Damaged, Memory, Disk}
-use Rattle.store_scans.specs.Reading.{fault_told}
 use Rattle.store_holdings.proofs.OneLemmas.{decode_mark, mark_back}
-use Rattle.store_opening.proofs.NoneLemmas.{all_contains}
+use Rattle.store_lookup.proofs.FailLemmas.{all_contains}
 use Rattle.store_opening.proofs.TableLemmas.{own_mark}
 
 abbrev pub MarkRow : Type 0
@@ -71,28 +66,13 @@ pub err_is : {X E : Type 0} (result : Result X E) (e f : E) → IsErrAnd result 
 err_is (Ok x) e f h is = absurd (cc)
 err_is (Err g) e f h is = sym h ∙ (let same : g ≡ f = cc in same)
 
-ascii_text : (bs : List ℕ) → list_all (λ b. nat_lt b 128) bs ≡ true → IsAscii bs
-ascii_text [] h = IsAscii-nil
-ascii_text (b ∷ bs) h = elim (cases_Bool (nat_lt b 128)) [
-  | inl low ↦ IsAscii-cons b bs (ltb-true b 128 low) (ascii_text bs (rw low at h))
-  | inr high ↦ absurd (let e = rw high at h in cc)
-]
-
-small_text : (bs : List ℕ) → list_all (λ b. nat_lt b 128) bs ≡ true → IsUtf8 bs
-small_text bs h = IsUtf8-from_ascii bs (ascii_text bs h)
-
 pub no_record : (db : Database) (v : ℕ) → HasMark db v → HasNoRecord mark_columns (rows_of (codes "mark") db) → ⊥
 no_record db v h n =
     n.2 (all_contains (HasColumns mark_columns) (rows_of (codes "mark") db) n.0 (subst (λ rows. AllByRecursion (HasColumns mark_columns) rows) (sym h.rows)
     (((h.rowid, refl), ((pos 1, refl), ((codes "dictcat", refl, word), ((pos v, refl), ((h.installs, refl), tt))))), tt)) n.1)
   where
     word : IsUtf8 (codes "dictcat")
-    word = small_text (codes "dictcat") refl
-
-pub told_damaged : (fault : ReadingFault) → fault_told fault ≡ desk.Damaged → fault ≡ Damaged
-told_damaged Damaged e = refl
-told_damaged Memory e = absurd (cc)
-told_damaged Disk e = absurd (cc)
+    word = IsUtf8-from_ascii (codes "dictcat") (search (arith, IsAscii-nil, IsAscii-cons) depth 12)
 
 -- ---- a database that holds a catalogue has the mark
 

@@ -1,12 +1,10 @@
 -- A database in which a row stands for no record, or an edition or its index isn't there once, keeps no tables that stand for a catalogue.
-use Rattle.std.proofs.Common.{◌≡◌, ℕ, ◌+◌, ℤ, Bool, true, List, [], ◌∷◌, ◌++◌, map, drop, filter, length, codes, inl, inr, refl, sym, ap, subst, ◌∙◌, arith}
+use Rattle.std.proofs.Common.{◌≡◌, ℕ, ◌+◌, ℤ, Bool, List, [], ◌∷◌, ◌++◌, map, drop, filter, length, codes, inl, inr, refl, sym, ap, subst, ◌∙◌, arith}
 use Rattle.std.specs.Prelude.{slice_index_or}
 use Rattle.std.specs.List.{AllByRecursion, Contains}
-use Rattle.std.specs.List.Sorted.{IsPermutation}
-use Rattle.std.proofs.lemmas.List.Elements.{All-from_recursion}
 use Rattle.sqlite.specs.Effect.{Database}
 use Rattle.sqlite.specs.Order.{Row}
-use Rattle.dict_text.proofs.AllLemmas.{all_append_parts, all_filter, all_weaker}
+use Rattle.dict_text.proofs.AllLemmas.{all_filter, all_weaker}
 use Rattle.store_records.specs.Records as spec
 use Rattle.store_records.specs.Records.{header_of}
 use Rattle.dict_index.specs.Line.{Line}
@@ -18,32 +16,27 @@ use Rattle.dict_catalogue.specs.Items.{Item}
 use Rattle.dict_catalogue.specs.Steps.{Catalogue}
 use Rattle.dict_index.specs.Edition.{Edition}
 use Rattle.store_rows.specs.Tables.{Tables, same_number, entries_of}
-use Rattle.store_rows.specs.Versions.{Layout, Plain, Keyed, Shown, Parted, layout_of}
+use Rattle.store_rows.specs.Versions.{Layout, Parted, layout_of}
 use Rattle.store_rows.specs.Written.{numbered, entry_record}
 use Rattle.store_rows.specs.Taken.{BeginsWith, HasTaken, StandsForNone, with_edition, IsOfLast}
 use Rattle.store_rows.specs.Whole.{AreOfLast, with_entries}
 use Rattle.store_rows.specs.declared.reader.Reader.{Reader}
 use Rattle.store_rows.proofs.FoundLemmas.{Found}
-use Rattle.store_rows.proofs.OrderLemmas.{Same, all_same, all_passed, same_from, one_once}
+use Rattle.store_rows.proofs.OrderLemmas.{Same, same_from, one_once}
 use Rattle.store_holdings.specs.Files.{index_octets}
 use Rattle.store_holdings.specs.Holds.{Keeps}
 use Rattle.store_holdings.specs.Readings.{contents}
-use Rattle.store_holdings.proofs.ReadingLemmas.{map_twice, editions_kept, headers_kept, parts_kept}
-use Rattle.store_scans.specs.Entries.{BeginsWithEntries, HasWrongEntries, HasWrongRows, HasWrongIndex, next_entries}
+use Rattle.store_holdings.proofs.TellLemmas.{storable}
+use Rattle.store_holdings.proofs.ReadingLemmas.{editions_kept, parts_kept}
+use Rattle.store_scans.specs.Entries.{HasWrongEntries, HasWrongRows, HasWrongIndex, next_entries}
 use Rattle.store_scans.proofs.CodecLemmas.{Codec, read, read_stored, selected_records, edition_codec, header_codec}
 use Rattle.store_scans.proofs.NumberLemmas.{first_number}
+use Rattle.store_lookup.proofs.FailLemmas.{all_contains}
 use Rattle.store_opening.specs.Opens.{Keeping, KeepsNone, AllGoOnFrom, CanReadOne, IsNotOne, HasRecord, HasNoEdition}
 use Rattle.store_opening.proofs.EntryLemmas.{HasEntryTable, IsEntryRow, entries_rows, entries_written}
-use Rattle.store_opening.proofs.FileLemmas.{has_index, has_text, headers_of, storable}
+use Rattle.store_opening.proofs.FileLemmas.{has_index, has_text, headers_of}
 use Rattle.store_opening.proofs.FitLemmas.{goes_edition, goes_entries, none_kept}
-use Rattle.store_opening.proofs.ToldLemmas.{KeptAs, kept_as, find, its_record, its_lines, only, record_number, rows_number, lines_number, edition_told, entries_begun, index_told}
-
-pub all_contains : {X : Type 0} (P : X → Type 0) (xs : List X) (x : X) → AllByRecursion P xs → Contains xs x → P x
-all_contains P xs x all h = subst P h.2 (All-from_recursion P xs all h.0 x h.1)
-
--- the row is one of those that were read
-pub last_holds : (P : Row → Type 0) (all xs tail : List Row) (row : Row) → AllByRecursion P all → IsPermutation all ((xs ++ row ∷ []) ++ tail) → P row
-last_holds P all xs tail row h same = (all_append_parts P xs (row ∷ []) (all_append_parts P (xs ++ row ∷ []) tail (all_same P all ((xs ++ row ∷ []) ++ tail) same h)).0).1.0
+use Rattle.store_opening.proofs.ToldLemmas.{KeptAs, kept_as, find, its_record, its_lines, only, headers_keep, record_number, begun_number, lines_number, edition_told, entries_begun, index_told}
 
 one_long : {R W : Type 0} (owned : R → W) (rows : List R) (x : W) → map owned rows ≡ x ∷ [] → length rows ≡ 1
 one_long owned [] x e = absurd (cc)
@@ -75,16 +68,11 @@ module _ (db : Database) (T : Tables) (items : List (Item Edition)) (n : ℤ) (f
       (only db T items n found) readable h
 
   pub no_edition : (layout : Layout) → KeptAs layout db T → HasNoEdition layout db n → ⊥
-  no_edition Plain k h = no_whole (editions_kept Plain db T refl k.keeps) k.records.1.1.1.1.0 h
-  no_edition Keyed k h = no_whole (editions_kept Keyed db T refl k.keeps) k.records.1.1.1.1.0 h
-  no_edition Shown k h = no_whole (editions_kept Shown db T refl k.keeps) k.records.1.1.1.1.0 h
   no_edition Parted k (inl h) =
-      let mine = headers_kept db T k.keeps in
-      let keeps : Keeps (codes "edition") header_row db (map header_of T.editions) =
-      record { rows = subst (λ l. IsPermutation l (map (drop 1) (rows_of (codes "edition") db))) (sym (map_twice header_of header_row T.editions)) mine.rows; apart = mine.apart } in
-      not_one header_codec header_columns db n (λ (e : spec.HeaderRecord). same_number e.number n) (λ row w e. first_number row (header_row w) w.number n e refl) (map header_of T.editions) keeps (header_of (its_record db T items n found))
-      (headers_of n T.editions ∙ ap (map header_of) (only db T items n found)) k.records.1.1.1.1.0 h
+      not_one header_codec header_columns db n (λ (e : spec.HeaderRecord). same_number e.number n) (λ row w e. first_number row (header_row w) w.number n e refl) (map header_of T.editions)
+      (headers_keep db T k.keeps) (header_of (its_record db T items n found)) (headers_of n T.editions ∙ ap (map header_of) (only db T items n found)) k.records.1.1.1.1.0 h
   no_edition Parted k (inr none) = none k.records.1.1.1.1.1.0 (its_record db T items n found).body (has_text db T (parts_kept db T k.keeps).rows n (its_record db T items n found) (only db T items n found) found.is)
+  no_edition layout k h = no_whole (editions_kept layout db T refl k.keeps) k.records.1.1.1.1.0 h
 
 -- the first lines of an edition are its first entries
 numbered_begins : (number place : ℕ) (given rest : List Line) → BeginsWith (numbered (entry_record number) place (given ++ rest)) (numbered (entry_record number) place given)
@@ -119,12 +107,6 @@ module _ (version : ℕ) (db : Database) (taken : Tables) (n : ℤ) (can : CanRe
     are_of : (given : List spec.EntryRecord) → AllByRecursion (λ (x : spec.EntryRecord). x.edition ≡ n) given → AreOfLast (with_edition taken e) given
     are_of given all = all_weaker (λ (x : spec.EntryRecord). x.edition ≡ n) (IsOfLast (with_edition taken e)) (λ x p. (taken.editions, e, refl, p ∙ sym number_is)) given all
 
-    begun_number : (layout : Layout) (given : List spec.EntryRecord) → BeginsWithEntries layout db n given → AllByRecursion (λ (x : spec.EntryRecord). x.edition ≡ n) given
-    begun_number layout given front =
-        rows_number layout n front.0 given front.3
-        (all_append_parts (λ row. equals_number 1 n row ≡ true) front.0 front.1 (all_same (λ row. equals_number 1 n row ≡ true) (filter (equals_number 1 n) (rows_of (codes "entry") db)) (front.0 ++ front.1) front.2.same
-        (all_passed (equals_number 1 n) (rows_of (codes "entry") db)))).0
-
     module _ (reader : Reader) (h : HasTaken version reader (with_edition taken e)) where
       wrong_rows : (layout : Layout) → HasEntryTable layout → Kept layout → HasWrongRows layout db n reader → KeepsNone version db taken.members
       wrong_rows layout has keeps (inl w) T M K =
@@ -135,15 +117,11 @@ module _ (version : ℕ) (db : Database) (taken : Tables) (n : ℤ) (can : CanRe
           w.2 (readable layout has k w.1) written.0 written.1
         where
           readable : (layout : Layout) → HasEntryTable layout → KeptAs layout db T → Contains (filter (equals_number 1 n) (rows_of (codes "entry") db)) w.0 → HasColumns (contents layout).columns ((contents layout).looked w.0)
-          readable Plain has k there = all_contains (λ row. HasColumns (contents Plain).columns ((contents Plain).looked row)) _ w.0
-              (all_filter (λ row. HasColumns (contents Plain).columns ((contents Plain).looked row)) (equals_number 1 n) (rows_of (codes "entry") db) k.records.1.1.1.1.1.0) there
-          readable Keyed has k there = all_contains (λ row. HasColumns (contents Keyed).columns ((contents Keyed).looked row)) _ w.0
-              (all_filter (λ row. HasColumns (contents Keyed).columns ((contents Keyed).looked row)) (equals_number 1 n) (rows_of (codes "entry") db) k.records.1.1.1.1.1.0) there
-          readable Shown has k there = all_contains (λ row. HasColumns (contents Shown).columns ((contents Shown).looked row)) _ w.0
-              (all_filter (λ row. HasColumns (contents Shown).columns ((contents Shown).looked row)) (equals_number 1 n) (rows_of (codes "entry") db) k.records.1.1.1.1.1.0) there
           readable Parted has k there = absurd has
+          readable layout has k there = all_contains (λ row. HasColumns (contents layout).columns ((contents layout).looked row)) _ w.0
+              (all_filter (λ row. HasColumns (contents layout).columns ((contents layout).looked row)) (equals_number 1 n) (rows_of (codes "entry") db) k.records.1.1.1.1.1.0) there
       wrong_rows layout has keeps (inr (given, front, refused)) T M K =
-          let all = begun_number layout given front in
+          let all = begun_number layout db n given front in
           refused version (with_edition taken e) h (are_of given all) T M
           (goes_entries n (with_edition taken e) T (now_fits T M K) given all (entries_begun db T M.items n (there T M K) layout has (keeps T M K) given front) can.no_entries) K.stands
 
@@ -167,10 +145,8 @@ module _ (version : ℕ) (db : Database) (taken : Tables) (n : ℤ) (can : CanRe
           refused T M (goes_entries n (with_edition taken e) T (now_fits T M K) es (lines_number n number (sym found.is) 0 given) begun can.no_entries) K.stands
 
       entries_wrong : (layout : Layout) → Kept layout → HasWrongEntries layout db n reader → KeepsNone version db taken.members
-      entries_wrong Plain keeps w = wrong_rows Plain tt keeps w
-      entries_wrong Keyed keeps w = wrong_rows Keyed tt keeps w
-      entries_wrong Shown keeps w = wrong_rows Shown tt keeps w
       entries_wrong Parted keeps w = wrong_index keeps w
+      entries_wrong layout keeps w = wrong_rows layout tt keeps w
 
       pub edition_wrong : HasWrongEntries (layout_of version) db n reader → KeepsNone version db taken.members
       edition_wrong w = entries_wrong (layout_of version) kept w

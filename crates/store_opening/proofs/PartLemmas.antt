@@ -1,34 +1,26 @@
 -- Rows of the editions of some numbers, and of one more.
-use Rattle.std.proofs.Common.{◌≡◌, ℕ, ℤ, pos, Bool, true, false, ◌&&◌, ◌||◌, List, [], ◌∷◌, ◌++◌, map, filter, refl, sym, ap, subst, ◌∙◌}
+use Rattle.std.proofs.Common.{◌≡◌, ℕ, ℤ, pos, Bool, true, false, ◌&&◌, ◌||◌, List, [], ◌∷◌, ◌++◌, map, filter, inl, inr, refl, sym, ap, subst, ◌∙◌}
 use Rattle.std.specs.List.{list_any}
 use Rattle.std.specs.List.Sorted.{IsPermutation}
 use Rattle.std.proofs.lemmas.List.{map-append}
 use Rattle.std.proofs.lemmas.List.Sorted.{IsPermutation-refl, IsPermutation-map, IsPermutation-sym, IsPermutation-trans, IsPermutation-append}
-use Rattle.std.proofs.lemmas.Bool.{false≢true}
+use Rattle.std.proofs.lemmas.Bool.{cases_Bool, false≢true, false_from_ne_true, or_parts}
+use Rattle.std.proofs.Math.Bool.{or-true, or-false}
 use Rattle.std.proofs.lemmas.List.Folds.{list_any-append}
 use Rattle.sqlite.specs.Order.{Row, column}
-use Rattle.sqlite.specs.declared.types.Value.{Value}
 use Rattle.sqlite.specs.declared.types.Value.TheVariants.{Int}
-use Rattle.store_sql.specs.Effects.{same_value, equals_number}
+use Rattle.store_sql.specs.Effects.{equals_number}
 use Rattle.store_rows.specs.Order.{is_of}
 use Rattle.store_rows.specs.Tables.{same_number}
-use Rattle.store_rows.proofs.SelectionLemmas.{parts_together, filter_alike}
+use Rattle.store_rows.proofs.SelectionLemmas.{parts_together, filter_alike, of_more}
 use Rattle.store_rows.proofs.TakenLemmas.{same_number_is, same_itself}
 use Rattle.store_scans.specs.Census.{one_of}
-use Rattle.store_scans.proofs.NumberLemmas.{int_once, same_int}
+use Rattle.store_scans.proofs.NumberLemmas.{int_once}
+use Rattle.store_scans.proofs.CensusLemmas.{known_row}
 
-both_no : (a b : Bool) → (a ≡ true → b ≡ true → ⊥) → (a && b) ≡ false
-both_no true true h = absurd (h refl refl)
-both_no true false h = refl
+pub both_no : (a b : Bool) → (a ≡ true → b ≡ true → ⊥) → (a && b) ≡ false
+both_no true b h = false_from_ne_true b (h refl)
 both_no false b h = refl
-
-or_true : (b : Bool) → (b || true) ≡ true
-or_true true = refl
-or_true false = refl
-
-or_false : (b : Bool) → (b || false) ≡ b
-or_false true = refl
-or_false false = refl
 
 -- ---- numbers
 
@@ -49,25 +41,19 @@ numbers_is (n ∷ ns) k = λ i. turned_is (pos n) k i || numbers_is ns k i
 
 -- the row's number is one of these where it is found among them
 pub numbered_row : (row : Row) (k : ℤ) (ns : List ℤ) → column row 1 ≡ Int k → is_of ns k ≡ true → one_of ns row ≡ true
-numbered_row row k [] is h = absurd (false≢true h)
-numbered_row row k (n ∷ ns) is h = split (same_number k n) refl h (numbered_row row k ns is)
-  where
-    split : (b : Bool) → same_number k n ≡ b → (b || is_of ns k) ≡ true → (is_of ns k ≡ true → one_of ns row ≡ true) → (equals_number 1 n row || one_of ns row) ≡ true
-    split true p q rest = ap (λ b. b || one_of ns row) (ap (λ (v : Value). same_value v (Int n)) is ∙ same_int k n ∙ p)
-    split false p q rest = ap (λ b. equals_number 1 n row || b) (rest q) ∙ or_true (equals_number 1 n row)
+numbered_row row k ns is h = known_row ns row k is ∙ h
 
 -- ---- rows
 
 hit : (row : Row) (n : ℤ) (ns : List ℤ) → equals_number 1 n row ≡ true → one_of ns row ≡ true → is_of ns n ≡ true
 hit row n [] k h = h
-hit row n (m ∷ ns) k h = split (equals_number 1 m row) refl h (hit row n ns k)
-  where
-    split : (b : Bool) → equals_number 1 m row ≡ b → (b || one_of ns row) ≡ true → (one_of ns row ≡ true → is_of ns n ≡ true) → (same_number n m || is_of ns n) ≡ true
-    split true p q rest = ap (λ b. b || is_of ns n) (subst (λ z. same_number n z ≡ true) (int_once (column row 1) n m k p) (same_itself n))
-    split false p q rest = ap (λ b. same_number n m || b) (rest q) ∙ or_true (same_number n m)
+hit row n (m ∷ ns) k h = elim (cases_Bool (equals_number 1 m row)) [
+  | inl same ↦ ap (λ b. b || is_of ns n) (subst (λ z. same_number n z ≡ true) (int_once (column row 1) n m k same) (same_itself n))
+  | inr other ↦ ap (λ b. same_number n m || b) (hit row n ns k (rw other at h)) ∙ or-true (same_number n m)
+]
 
 pub one_more : (ns : List ℤ) (n : ℤ) (row : Row) → one_of (ns ++ n ∷ []) row ≡ (one_of ns row || equals_number 1 n row)
-one_more ns n row = list_any-append (λ m. equals_number 1 m row) ns (n ∷ []) ∙ ap (λ b. one_of ns row || b) (or_false (equals_number 1 n row))
+one_more ns n row = list_any-append (λ m. equals_number 1 m row) ns (n ∷ []) ∙ ap (λ b. one_of ns row || b) (or-false (equals_number 1 n row))
 
 pub one_apart : (ns : List ℤ) (n : ℤ) → is_of ns n ≡ false → (row : Row) → (one_of ns row && equals_number 1 n row) ≡ false
 one_apart ns n new row = both_no (one_of ns row) (equals_number 1 n row) (λ h k. false≢true (sym new ∙ hit row n ns k h))
@@ -86,13 +72,4 @@ rows_join g p q r either apart xs fs bs one other =
 
 -- a number that is none of these is none of the first ones, nor the last
 pub parts_of : (ns : List ℤ) (n m : ℤ) → is_of (ns ++ n ∷ []) m ≡ false → (is_of ns m ≡ false) × (same_number m n ≡ false)
-parts_of ns n m e = split (is_of ns m) (same_number m n) refl refl (sym (list_any-append (same_number m) ns (n ∷ []) ∙ ap (λ b. is_of ns m || b) (or_false (same_number m n))) ∙ e)
-  where
-    split : (a b : Bool) → is_of ns m ≡ a → same_number m n ≡ b → (is_of ns m || same_number m n) ≡ false → (is_of ns m ≡ false) × (same_number m n ≡ false)
-    split true b p q h = absurd (false≢true (sym h ∙ ap (λ c. c || same_number m n) p))
-    split false true p q h = absurd (false≢true (sym h ∙ ap (λ c. is_of ns m || c) q ∙ or_true (is_of ns m)))
-    split false false p q h = (p, q)
-
-pub turned : (a b : ℤ) (s : Bool) → same_number a b ≡ s → same_number b a ≡ false → s ≡ false
-turned a b true e h = absurd (false≢true (sym h ∙ subst (λ z. same_number z a ≡ true) (same_number_is a b e) (same_itself a)))
-turned a b false e h = refl
+parts_of ns n m e = or_parts (is_of ns m) (same_number m n) (sym (of_more ns n m) ∙ e)

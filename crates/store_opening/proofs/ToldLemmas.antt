@@ -6,6 +6,7 @@ use Rattle.std.proofs.lemmas.List.Sorted.{IsPermutation-sym}
 use Rattle.std.specs.List.Sorted.{IsPermutation}
 use Rattle.sqlite.specs.Effect.{Database}
 use Rattle.sqlite.specs.Order.{Row}
+use Rattle.dict_text.proofs.AllLemmas.{all_append_parts}
 use Rattle.store_records.specs.Records as spec
 use Rattle.store_records.specs.Records.{header_of}
 use Rattle.store_records.specs.Typed.{owned_edition, owned_header}
@@ -22,7 +23,7 @@ use Rattle.store_rows.specs.Order.{InOrder}
 use Rattle.store_rows.specs.Stands.{Stands, has_number}
 use Rattle.store_rows.specs.Tables.{Tables, same_number, editions_numbered, entries_of}
 use Rattle.store_rows.specs.Taken.{BeginsWith, with_edition}
-use Rattle.store_rows.specs.Versions.{Layout, Plain, Keyed, Shown, Parted, layout_of}
+use Rattle.store_rows.specs.Versions.{Layout, Parted, layout_of}
 use Rattle.store_rows.specs.Written.{numbered, edition_record, entry_record}
 use Rattle.store_rows.proofs.IndexLemmas.{says_one_list}
 use Rattle.store_rows.proofs.FoundLemmas.{Found, found_in}
@@ -31,6 +32,7 @@ use Rattle.store_holdings.specs.AllTables.{with_derived}
 use Rattle.store_holdings.specs.Files.{index_octets}
 use Rattle.store_holdings.specs.Holds.{Keeps}
 use Rattle.store_holdings.specs.Readings.{KeepsAll, AreShownIn, HasReadableRows}
+use Rattle.store_holdings.proofs.TellLemmas.{storable}
 use Rattle.store_holdings.proofs.ReadingLemmas.{map_twice, editions_kept, headers_kept, parts_kept}
 use Rattle.store_scans.specs.Entries.{looked_behind_rowid, entry_cells, HasEntries, HasEntryRows, HasIndexFile, BeginsWithEntries, IsFresh}
 use Rattle.store_scans.specs.Files.{HasFile}
@@ -39,31 +41,27 @@ use Rattle.store_scans.proofs.FileLemmas.{file_told}
 use Rattle.store_scans.proofs.NumberLemmas.{int_is, first_number}
 use Rattle.store_opening.specs.Opens.{Keeping, HasRecord, HasWholeRecord}
 use Rattle.store_opening.proofs.EntryLemmas.{HasEntryTable, entry_in, entries_are, entries_rows, entries_order, entries_selected, number_of_row}
-use Rattle.store_opening.proofs.FileLemmas.{has_index, has_text, headers_of, index_is, storable}
+use Rattle.store_opening.proofs.FileLemmas.{has_index, has_text, headers_of, index_is}
 
 -- ---- numbers
 
--- the record of a number has it
-whole_number : (db : Database) (n : ℤ) (e : spec.EditionRecord) → HasWholeRecord db n e → e.number ≡ n
-whole_number db n e r =
-    ap (λ (x : spec.EditionRecord). x.number) r.2
-    ∙ int_is r.0.value.number n (all_same (λ row. equals_number 1 n row ≡ true) (filter (equals_number 1 n) (rows_of (codes "edition") db)) (stored_edition r.0 ∷ []) r.1.same
-    (all_passed (equals_number 1 n) (rows_of (codes "edition") db))).0
+-- the rows of a number have it
+all_selected : (name columns : List ℕ) (db : Database) (n : ℤ) (rows : List Row) → IsSelection name (equals_number 1 n) columns db rows → AllByRecursion (λ r. equals_number 1 n r ≡ true) rows
+all_selected name columns db n rows s = all_same (λ r. equals_number 1 n r ≡ true) (filter (equals_number 1 n) (rows_of name db)) rows s.same (all_passed (equals_number 1 n) (rows_of name db))
 
+-- so has its record
 pub record_number : (layout : Layout) (db : Database) (n : ℤ) (e : spec.EditionRecord) → HasRecord layout db n e → e.number ≡ n
-record_number Plain db n e r = whole_number db n e r
-record_number Keyed db n e r = whole_number db n e r
-record_number Shown db n e r = whole_number db n e r
 record_number Parted db n e (r, text) =
-    ap (λ (h : spec.HeaderRecord). h.number) r.2
-    ∙ int_is r.0.value.number n (all_same (λ row. equals_number 1 n row ≡ true) (filter (equals_number 1 n) (rows_of (codes "edition") db)) (stored_header r.0 ∷ []) r.1.same (all_passed (equals_number 1 n) (rows_of (codes "edition") db))).0
+    ap (λ (h : spec.HeaderRecord). h.number) r.2 ∙ int_is r.0.value.number n (all_selected (codes "edition") (1 ∷ []) db n (stored_header r.0 ∷ []) r.1).0
+record_number layout db n e r =
+    ap (λ (x : spec.EditionRecord). x.number) r.2 ∙ int_is r.0.value.number n (all_selected (codes "edition") (1 ∷ []) db n (stored_edition r.0 ∷ []) r.1).0
 
 -- where none of its entries was taken, they come next
 pub fresh_record : (layout : Layout) (db : Database) (n : ℤ) (e : spec.EditionRecord) → HasRecord layout db n e → (taken : Tables) → entries_of n taken.entries ≡ [] → IsFresh n (with_edition taken e)
 fresh_record layout db n e r taken none = record { last = (taken.editions, e, refl, sym (record_number layout db n e r)); none = none }
 
 -- the entries of a number have it
-pub rows_number : (layout : Layout) (n : ℤ) (rows : List Row) (es : List spec.EntryRecord) → map (looked_behind_rowid layout) rows ≡ map (entry_cells layout) es → AllByRecursion (λ r. equals_number 1 n r ≡ true) rows
+rows_number : (layout : Layout) (n : ℤ) (rows : List Row) (es : List spec.EntryRecord) → map (looked_behind_rowid layout) rows ≡ map (entry_cells layout) es → AllByRecursion (λ r. equals_number 1 n r ≡ true) rows
     → AllByRecursion (λ (x : spec.EntryRecord). x.edition ≡ n) es
 rows_number layout n [] [] is h = tt
 rows_number layout n (r ∷ rows) [] is h = tt
@@ -73,19 +71,18 @@ rows_number layout n (r ∷ rows) (x ∷ es) is h =
     let rest : map (looked_behind_rowid layout) rows ≡ map (entry_cells layout) es = cc in
     (int_is x.edition n (number_of_row layout r x n first h.0), rows_number layout n rows es rest h.1)
 
-table_number : (layout : Layout) (db : Database) (n : ℤ) (es : List spec.EntryRecord) → HasEntryRows layout db n es → AllByRecursion (λ (x : spec.EntryRecord). x.edition ≡ n) es
-table_number layout db n es h =
-    rows_number layout n h.0 es h.2 (all_same (λ r. equals_number 1 n r ≡ true) (filter (equals_number 1 n) (rows_of (codes "entry") db)) h.0 h.1.same (all_passed (equals_number 1 n) (rows_of (codes "entry") db)))
+-- those with which its rows begin, too
+pub begun_number : (layout : Layout) (db : Database) (n : ℤ) (es : List spec.EntryRecord) → BeginsWithEntries layout db n es → AllByRecursion (λ (x : spec.EntryRecord). x.edition ≡ n) es
+begun_number layout db n es front =
+    rows_number layout n front.0 es front.3 (all_append_parts (λ r. equals_number 1 n r ≡ true) front.0 front.1 (all_selected (codes "entry") (2 ∷ []) db n (front.0 ++ front.1) front.2)).0
 
 pub lines_number : (n : ℤ) (edition : ℕ) → n ≡ pos edition → (place : ℕ) (lines : List Line) → AllByRecursion (λ (x : spec.EntryRecord). x.edition ≡ n) (numbered (entry_record edition) place lines)
 lines_number n edition is place [] = tt
 lines_number n edition is place (line ∷ lines) = (sym is, lines_number n edition is (place + 1) lines)
 
 pub entries_number : (layout : Layout) (db : Database) (n : ℤ) (es : List spec.EntryRecord) → HasEntries layout db n es → AllByRecursion (λ (x : spec.EntryRecord). x.edition ≡ n) es
-entries_number Plain db n es h = table_number Plain db n es h
-entries_number Keyed db n es h = table_number Keyed db n es h
-entries_number Shown db n es h = table_number Shown db n es h
 entries_number Parted db n es (octets, file, is) = subst (AllByRecursion (λ (x : spec.EntryRecord). x.edition ≡ n)) (sym is.entries) (lines_number n is.edition is.is 0 is.lines)
+entries_number layout db n es h = rows_number layout n h.0 es h.2 (all_selected (codes "entry") (2 ∷ []) db n h.0 h.1)
 
 -- ---- what is kept
 
@@ -97,6 +94,12 @@ pub record KeptAs (layout : Layout) (db : Database) (T : Tables) : Type 0 where
 
 pub kept_as : (version : ℕ) (db : Database) (members : List spec.Member) (T : Tables) (M : Catalogue) → Keeping version db members T M → KeptAs (layout_of version) db T
 kept_as version db members T M K = record { keeps = K.keeps; shown = K.shown; records = K.records }
+
+-- the headers of the editions, where their texts stand in parts
+pub headers_keep : (db : Database) (T : Tables) → KeepsAll Parted db (with_derived T) → Keeps (codes "edition") header_row db (map header_of T.editions)
+headers_keep db T keeps =
+    let kept = headers_kept db T keeps in
+    record { rows = subst (λ l. IsPermutation l (map (drop 1) (rows_of (codes "edition") db))) (sym (map_twice header_of header_row T.editions)) kept.rows; apart = kept.apart }
 
 pub find : (version : ℕ) (T : Tables) (M : Catalogue) (n : ℤ) → Stands version T M → has_number M.items n ≡ true → Found T M.items n
 find version T M n s known = found_in T M.items n known s.editions s.well_formed.editions
@@ -122,10 +125,7 @@ module _ (db : Database) (T : Tables) (items : List (Item Edition)) (n : ℤ) (f
 
   parted_told : KeepsAll Parted db (with_derived T) → (e : spec.EditionRecord) → HasRecord Parted db n e → editions_numbered n T.editions ≡ e ∷ []
   parted_told keeps e (r, text) =
-      let mine = headers_kept db T keeps in
-      let headers : Keeps (codes "edition") header_row db (map header_of T.editions) =
-      record { rows = subst (λ l. IsPermutation l (map (drop 1) (rows_of (codes "edition") db))) (sym (map_twice header_of header_row T.editions)) mine.rows; apart = mine.apart } in
-      let same = (selected_records header_codec (codes "edition") db (map header_of T.editions) headers (equals_number 1 n) (λ h. same_number h.number n) (λ row w e. first_number row (header_row w) w.number n e refl)
+      let same = (selected_records header_codec (codes "edition") db (map header_of T.editions) (headers_keep db T keeps) (equals_number 1 n) (λ h. same_number h.number n) (λ row w e. first_number row (header_row w) w.number n e refl)
       (stored_header r.0 ∷ []) r.1.same).0 in
       let is : read header_codec (stored_header r.0) ≡ owned_header r.0.value = read_is header_codec (stored_header r.0) (owned_header r.0.value) refl in
       let one : map header_of (editions_numbered n T.editions) ≡ owned_header r.0.value ∷ [] =
@@ -145,10 +145,8 @@ module _ (db : Database) (T : Tables) (items : List (Item Edition)) (n : ℤ) (f
       only ∙ ap (λ (x : spec.EditionRecord). x ∷ []) whole
 
   pub edition_told : (layout : Layout) → KeptAs layout db T → (e : spec.EditionRecord) → HasRecord layout db n e → editions_numbered n T.editions ≡ e ∷ []
-  edition_told Plain k e r = whole_told (editions_kept Plain db T refl k.keeps) e r
-  edition_told Keyed k e r = whole_told (editions_kept Keyed db T refl k.keeps) e r
-  edition_told Shown k e r = whole_told (editions_kept Shown db T refl k.keeps) e r
   edition_told Parted k e r = parted_told k.keeps e r
+  edition_told layout k e r = whole_told (editions_kept layout db T refl k.keeps) e r
 
   -- ---- the entries
 
@@ -181,7 +179,5 @@ module _ (db : Database) (T : Tables) (items : List (Item Edition)) (n : ℤ) (f
       its_lines ∙ (λ i. numbered (entry_record (same i)) 0 (lines i)) ∙ sym is.entries
 
   pub entries_told : (layout : Layout) → KeptAs layout db T → (es : List spec.EntryRecord) → HasEntries layout db n es → entries_of n T.entries ≡ es
-  entries_told Plain k es h = table_told Plain tt k es h
-  entries_told Keyed k es h = table_told Keyed tt k es h
-  entries_told Shown k es h = table_told Shown tt k es h
   entries_told Parted k es h = lines_told k.keeps es h
+  entries_told layout k es h = table_told layout tt k es h

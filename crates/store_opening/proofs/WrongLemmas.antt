@@ -1,21 +1,22 @@
 -- What is found wrong with a table, and that then no catalogue is held.
-use Rattle.std.proofs.Common.{◌≡◌, ◌⊎◌, ℕ, ◌+◌, ℤ, ◌≤◌, pos, Bool, true, false, ◌||◌, ◌&&◌, ◌==◌, List, [], ◌∷◌, ◌++◌, map, drop, codes, inl, inr, refl, sym, ap, subst, ◌∙◌, arith}
+use Rattle.std.proofs.Common.{◌≡◌, ◌⊎◌, ℕ, ◌+◌, ℤ, ◌≤◌, pos, true, false, ◌||◌, ◌&&◌, ◌==◌, List, [], ◌∷◌, ◌++◌, map, drop, codes, inl, inr, refl, sym, ap, subst, ◌∙◌, arith, String}
 use Rattle.std.specs.Prelude.{cond, not, nat_le, length, bytes_eq, ◌≤ℤ◌, IsTrue}
 use Rattle.std.specs.List.{AllByRecursion, list_any, list_all}
 use Rattle.std.specs.List.Sorted.{IsPermutation}
 use Rattle.std.specs.Ordering.{is_lt, ordering_then, ordering_reverse}
 use Rattle.std.specs.declared.cmp.Ordering.{Ordering}
 use Rattle.std.specs.declared.cmp.Ordering.TheVariants.{Less, Equal, Greater}
-use Rattle.std.proofs.lemmas.Bool.{false≢true, and_parts}
+use Rattle.std.proofs.lemmas.Bool.{false≢true, and_parts, and_from, or_parts, not-true}
+use Rattle.std.proofs.Math.Bool.{or-true}
 use Rattle.std.proofs.lemmas.Bool.Decides.{nat_tests}
 use Rattle.std.proofs.lemmas.List.{map-append}
-use Rattle.std.proofs.lemmas.List.Sorted.{IsPermutation-map, IsPermutation-sym, IsPermutation-trans}
+use Rattle.std.proofs.lemmas.List.Sorted.{IsPermutation-refl, IsPermutation-map, IsPermutation-sym, IsPermutation-trans}
 use Rattle.std.proofs.lemmas.Map.Lookups.{exact_bytes}
 use Rattle.sqlite.specs.Effect.{Database}
 use Rattle.sqlite.specs.Order.{Row, column, value_cmp}
 use Rattle.sqlite.specs.declared.types.Value.TheVariants.{Int, Text}
 use Rattle.sqlite_value.proofs.OrderLemmas.{value_cmp-Text, then-Equal}
-use Rattle.dict_text.proofs.AllLemmas.{all_append, all_weaker, all_flat_map}
+use Rattle.dict_text.proofs.AllLemmas.{all_append, all_weaker, all_flat_map, all_map}
 use Rattle.store_tables.specs.Tables.{table_of}
 use Rattle.store_tables.specs.declared.tables.StoreTable.{StoreTable}
 use Rattle.store_records.specs.Records as spec
@@ -24,7 +25,6 @@ use Rattle.store_records.specs.Typed.{owned_member, owned_kept}
 use Rattle.store_records.specs.declared.records as typed
 use Rattle.store_records.specs.declared.records.StoredRow.{StoredRow as Beside}
 use Rattle.std.specs.declared.alloc.Global.{Global}
-use Rattle.std.proofs.Common.{String}
 use Rattle.store_sql.specs.Columns.{Content, HasColumns, kept_columns}
 use Rattle.store_sql.specs.Effects.{HasApartRowids, rows_of, same_value, equals_number}
 use Rattle.store_sql.specs.Encodings.{stored_mark, stored_item, stored_member, stored_kept, member_row, edition_row}
@@ -33,7 +33,7 @@ use Rattle.store_sql.specs.Streams.Scan.{AllKept, KeptById, ByRowid}
 use Rattle.store_sql.proofs.KitLemmas.{value_cmp_total}
 use Rattle.store_edition_sql.specs.HeaderRecords.{header_row}
 use Rattle.store_edition_sql.specs.PartRecords.{part_row}
-use Rattle.dict_catalogue.specs.Items.{Item, name_of as name_in, editions_of, edition_numbers, is_known}
+use Rattle.dict_catalogue.specs.Items.{Item, edition_numbers}
 use Rattle.dict_catalogue.specs.Steps.{Catalogue}
 use Rattle.dict_catalogue.specs.WellFormed.{total, IsEachOnce}
 use Rattle.dict_catalogue.proofs.ListLemmas.{sum_append}
@@ -42,25 +42,26 @@ use Rattle.store_rows.specs.Tables.{Tables, same_number, entries_of}
 use Rattle.store_rows.specs.Tests.{has_numbers_once, has_lawful_numbers, has_lawful_items, is_lawful_item, has_names_once, has_known_members, is_from_one_to}
 use Rattle.store_rows.specs.Given.{marks_given, items_given, members_given, kept_given}
 use Rattle.store_rows.specs.Order.{InOrder, is_of}
-use Rattle.store_rows.specs.Stands.{Stands, HoldsMembers, HoldsEdition, HoldsEditions, has_number}
+use Rattle.store_rows.specs.Stands.{Stands, has_number}
 use Rattle.store_rows.specs.Taken.{HasTaken, StandsForNone, begun, items_in}
-use Rattle.store_rows.specs.Versions.{Layout, Plain, Keyed, Shown, Parted, layout_of}
+use Rattle.store_rows.specs.Versions.{Layout, Parted, layout_of}
 use Rattle.store_rows.specs.Whole.{with_replies}
 use Rattle.store_rows.specs.Written.{numbered}
 use Rattle.store_rows.specs.declared.reader.Reader.{Reader}
 use Rattle.store_rows.proofs.ApartLemmas.{neighbours_apart, apart_once}
 use Rattle.store_rows.proofs.LawfulLemmas.{once_true}
 use Rattle.store_rows.proofs.FinishLemmas.{ids_same}
-use Rattle.store_rows.proofs.OrderLemmas.{Same, same_from, all_same, all_with, members_same}
+use Rattle.store_rows.proofs.OrderLemmas.{ordered_stands, Same, same_from, all_same, all_with}
 use Rattle.store_rows.proofs.StrayLemmas.{numbers_taken}
-use Rattle.store_rows.proofs.TakenLemmas.{same_itself, holds_same}
+use Rattle.store_rows.proofs.TakenLemmas.{same_itself}
 use Rattle.store_holdings.specs.AllTables.{with_derived}
 use Rattle.store_holdings.specs.Files.{part_at, file_parts, parts_under, edition_parts, all_parts, index_octets}
 use Rattle.store_holdings.specs.Holds.{Keeps}
 use Rattle.store_holdings.specs.Readings.{KeepsRows, KeepsAll, editions, contents, table_name_of}
 use Rattle.store_holdings.proofs.ReadLemmas.{sorted_order, second_le, records_order}
+use Rattle.store_holdings.proofs.RiseLemmas.{ordered}
 use Rattle.store_holdings.proofs.ReadableLemmas.{held_readable}
-use Rattle.store_holdings.proofs.ReadingLemmas.{members_kept, replies_kept, parts_kept}
+use Rattle.store_holdings.proofs.ReadingLemmas.{map_twice, members_kept, replies_kept, parts_kept}
 use Rattle.store_scans.specs.Census.{one_of, is_in_file, is_known_part, is_of_contents, AreKnownApart}
 use Rattle.store_scans.specs.Cursors.{InStore}
 use Rattle.store_scans.specs.Entries.{looked_behind_rowid, entry_cells}
@@ -72,17 +73,20 @@ use Rattle.store_scans.proofs.RowidLemmas.{all_of_map}
 use Rattle.store_opening.specs.Opens.{Keeping, KeepsNone, AllGoOnFrom, HoldsNoneAs, HasBegun, CanRead, AreReadableEditions, AreAllKnown, numbers_in}
 use Rattle.store_opening.proofs.EntryLemmas.{HasEntryTable, entries_rows, each_row, number_is}
 use Rattle.store_opening.proofs.FitLemmas.{front_read, fits_begun, fits_replies, none_kept}
-use Rattle.store_opening.proofs.NoneLemmas.{last_holds}
+use Rattle.store_scans.proofs.PlaceLemmas.{last_holds}
 use Rattle.store_opening.proofs.PartLemmas.{numbered_row, numbers_is}
 use Rattle.store_opening.proofs.ToldLemmas.{KeptAs, kept_as}
 
 -- ---- rowids
 
-pub wrong_rowids : {R : Type 0} (stored : R → Row) (columns : List Content) (table : StoreTable) (db : Database) → AllByRecursion (HasColumns columns) (rows_of (table_of table 0).name db)
+pub wrong_rowids : {R : Type 0} (stored : R → Row) (columns : List Content) (table : StoreTable) (db later : Database) → later ≡ db → AllByRecursion (HasColumns columns) (rows_of (table_of table 0).name db)
     → HasApartRowids (rows_of (table_of table 0).name db) →
-    HasNoRecordIn stored columns (InStore (ByRowid table)) db ⊎ (HasApartRowids (rows_of (table_of table 0).name db) → ⊥) → ⊥
-wrong_rowids stored columns table db all apart (inl w) = w.3 (last_holds (HasColumns columns) (rows_of (table_of table 0).name db) (map stored w.0) w.2.0 w.1 all w.2.1.same)
-wrong_rowids stored columns table db all apart (inr w) = w apart
+    HasNoRecordIn stored columns (InStore (ByRowid table)) later ⊎ (HasApartRowids (rows_of (table_of table 0).name later) → ⊥) → ⊥
+wrong_rowids stored columns table db later same all apart wrong = split (subst (λ (d : Database). HasNoRecordIn stored columns (InStore (ByRowid table)) d ⊎ (HasApartRowids (rows_of (table_of table 0).name d) → ⊥)) same wrong)
+  where
+    split : HasNoRecordIn stored columns (InStore (ByRowid table)) db ⊎ (HasApartRowids (rows_of (table_of table 0).name db) → ⊥) → ⊥
+    split (inl w) = w.3 (last_holds (HasColumns columns) (rows_of (table_of table 0).name db) (map stored w.0) w.2.0 w.1 all w.2.1.same)
+    split (inr w) = w apart
 
 -- ---- the mark, the items and the members
 
@@ -103,16 +107,12 @@ module _ (db : Database) (T : Tables) (members : List spec.Member) (rows : IsPer
   changed = record T { members = members }
 
   editions_so : (layout : Layout) → KeepsRows (editions layout) db (with_derived T) → KeepsRows (editions layout) db (with_derived changed)
-  editions_so Plain k = record { rows = k.rows; apart = k.apart }
-  editions_so Keyed k = record { rows = k.rows; apart = k.apart }
-  editions_so Shown k = record { rows = k.rows; apart = k.apart }
   editions_so Parted k = record { rows = k.rows; apart = k.apart }
+  editions_so layout k = record { rows = k.rows; apart = k.apart }
 
   contents_so : (layout : Layout) → KeepsRows (contents layout) db (with_derived T) → KeepsRows (contents layout) db (with_derived changed)
-  contents_so Plain k = record { rows = k.rows; apart = k.apart }
-  contents_so Keyed k = record { rows = k.rows; apart = k.apart }
-  contents_so Shown k = record { rows = k.rows; apart = k.apart }
   contents_so Parted k = record { rows = k.rows; apart = k.apart }
+  contents_so layout k = record { rows = k.rows; apart = k.apart }
 
   keeps_so : (layout : Layout) → KeepsAll layout db (with_derived T) → KeepsAll layout db (with_derived changed)
   keeps_so layout k = (
@@ -130,22 +130,12 @@ module _ (version : ℕ) (db : Database) (marks : List (Beside (typed.Mark.Mark 
     (lm : IsListing (codes "mark") (1 ∷ []) db (map stored_mark marks)) (li : IsListing (codes "item") (1 ∷ []) db (map stored_item items)) (lo : IsListing (codes "member") (1 ∷ 2 ∷ []) db (map stored_member members)) where
   stands_so : (T : Tables) (M : Catalogue) → Keeps (codes "member") member_row db T.members → Stands version T M → Stands version (record T { members = members_given members }) M
   stands_so T M keeps s =
-      let new = members_given members in
-      let changed : Tables = record T { members = new } in
-      let same : IsPermutation T.members new = subst (IsPermutation T.members) (read_stored member_codec members) (listed_records member_codec (codes "member") db T.members keeps (map stored_member members) lo.same).0 in
-      record {
-        well_formed = s.well_formed;
-        marks = s.marks;
-        items = s.items;
-        members = all_weaker (HoldsMembers T.members) (HoldsMembers new) (λ item g. members_same T.members new item (same_from T.members new same) (members_order db members lo) g) M.items s.members;
-        owners = all_same (λ (row : spec.Member). IsTrue (is_known M.items row.owner)) T.members new same s.owners;
-        editions = all_weaker (HoldsEditions T) (HoldsEditions changed) (λ item g.
-            all_weaker (HoldsEdition T (name_in item)) (HoldsEdition changed (name_in item)) (λ stored h. holds_same T changed (name_in item) stored (record { editions = refl; entries = refl }) h) (editions_of item) g) M.items
-            s.editions;
-        numbers = s.numbers;
-        entries = s.entries;
-        kept = s.kept;
-      }
+      let same : IsPermutation T.members (members_given members) =
+      subst (IsPermutation T.members) (read_stored member_codec members) (listed_records member_codec (codes "member") db T.members keeps (map stored_member members) lo.same).0 in
+      let order = ordered version T M s in
+      ordered_stands version T (record T { members = members_given members }) M
+      (record { marks = IsPermutation-refl T.marks; items = IsPermutation-refl T.items; members = same; editions = IsPermutation-refl T.editions; entries = IsPermutation-refl T.entries; kept = IsPermutation-refl T.kept })
+      (record { items = order.items; members = members_order db members lo; entries = order.entries; kept = order.kept }) s
 
   listed : IsPermutation (map member_row (members_given members)) (map (drop 1) (rows_of (codes "member") db))
   listed = rows_listed member_codec (codes "member") (1 ∷ 2 ∷ []) db members lo
@@ -174,24 +164,13 @@ module _ (version : ℕ) (db : Database) (marks : List (Beside (typed.Mark.Mark 
 
 -- ---- numbers
 
-more_true : (a b : Bool) → b ≡ true → (a || b) ≡ true
-more_true true b e = refl
-more_true false b e = e
-
 pub each_known : (ns : List ℕ) → AllByRecursion (λ n. list_any (λ one. same_number (pos one) n) ns ≡ true) (map pos ns)
 each_known [] = tt
 each_known (m ∷ ns) = (
   ap (λ b. b || list_any (λ one. same_number (pos one) (pos m)) ns) (same_itself (pos m)),
-  all_weaker (λ n. list_any (λ one. same_number (pos one) n) ns ≡ true) (λ n. list_any (λ one. same_number (pos one) n) (m ∷ ns) ≡ true) (λ n h. more_true (same_number (pos m) n) _ h) (map pos ns) (each_known ns),
+  all_weaker (λ n. list_any (λ one. same_number (pos one) n) ns ≡ true) (λ n. list_any (λ one. same_number (pos one) n) (m ∷ ns) ≡ true)
+      (λ n h. ap (λ b. same_number (pos m) n || b) h ∙ or-true (same_number (pos m) n)) (map pos ns) (each_known ns),
 )
-
-not_false : (b : Bool) → not b ≡ true → b ≡ false
-not_false true e = absurd (false≢true e)
-not_false false e = refl
-
-or_parts : (a b : Bool) → (a || b) ≡ false → (a ≡ false) × (b ≡ false)
-or_parts true b e = absurd (false≢true (sym e))
-or_parts false b e = (refl, e)
 
 unlike_all : (n : ℕ) (ns : List ℕ) → list_any (λ one. one == n) ns ≡ false → AllByRecursion (λ m. pos n ≡ m → ⊥) (map pos ns)
 unlike_all n [] h = tt
@@ -204,7 +183,7 @@ unlike_all n (k ∷ ns) h =
 
 numbers_apart : (ns : List ℕ) → has_numbers_once ns ≡ true → InOrder (λ a b. a ≡ b → ⊥) (map pos ns)
 numbers_apart [] h = tt
-numbers_apart (n ∷ ns) h = let p = and_parts (not (list_any (λ one. one == n) ns)) (has_numbers_once ns) h in (unlike_all n ns (not_false (list_any (λ one. one == n) ns) p.0), numbers_apart ns p.1)
+numbers_apart (n ∷ ns) h = let p = and_parts (not (list_any (λ one. one == n) ns)) (has_numbers_once ns) h in (unlike_all n ns (not-true (list_any (λ one. one == n) ns) p.0), numbers_apart ns p.1)
 
 once_of : {A : Type 0} (installs : ℕ) (items : List (Item A)) → has_lawful_items installs items ≡ true → has_numbers_once (edition_numbers items) ≡ true
 once_of installs items h =
@@ -238,10 +217,6 @@ edition_parts_so : (edition : ℤ) (index text : List ℕ) → AllByRecursion (I
 edition_parts_so edition index text =
     all_append (IsPartOf edition) (file_parts edition (pos 0) index) (file_parts edition (pos 1) text) (parts_so edition (pos 0) refl 0 (parts_of_octets index)) (parts_so edition (pos 1) refl 0 (parts_of_octets text))
 
-both_true : (a b : Bool) → a ≡ true → b ≡ true → (a && b) ≡ true
-both_true true b p q = q
-both_true false b p q = absurd (false≢true p)
-
 -- what is kept of editions and of their entries is of editions that the items name
 module _ (version : ℕ) (db : Database) (reader : Reader) (taken : Tables) (h : HasTaken version reader taken) (fits : AllGoOnFrom version db taken) (T : Tables) (M : Catalogue) (K : Keeping version db taken.members T M) where
   abbrev numbers : List ℤ
@@ -258,14 +233,11 @@ module _ (version : ℕ) (db : Database) (reader : Reader) (taken : Tables) (h :
     abbrev IsNamed : Row → Type 0
     IsNamed s = (n : ℤ) × (column s 0 ≡ Int n) × (is_of numbers n ≡ true)
 
-    written : (ws : List W) → AllByRecursion (λ w. is_of numbers (number w) ≡ true) ws → AllByRecursion IsNamed (map encode ws)
-    written [] k = tt
-    written (w ∷ ws) k = ((number w, first w, k.0), written ws k.1)
-
     named : (ws : List W) → IsPermutation (map encode ws) (map (drop 1) (rows_of name db)) → AllByRecursion (λ w. is_of numbers (number w) ≡ true) ws → AllByRecursion (λ row. one_of numbers row ≡ true) (rows_of name db)
     named ws same known =
         all_of_map (drop 1) IsNamed (λ row. one_of numbers row ≡ true) (λ row p. numbered_row row p.0 numbers (behind_column row 0 ∙ p.1) p.2) (rows_of name db)
-        (all_same IsNamed (map encode ws) (map (drop 1) (rows_of name db)) same (written ws known))
+        (all_same IsNamed (map encode ws) (map (drop 1) (rows_of name db)) same
+        (all_map (λ w. is_of numbers (number w) ≡ true) IsNamed encode (λ w k. (number w, first w, k)) ws known))
 
   editions_known : AllByRecursion (λ (e : spec.EditionRecord). is_of numbers e.number ≡ true) T.editions
   editions_known = all_weaker (λ (e : spec.EditionRecord). IsTrue (has_number M.items e.number)) (λ (e : spec.EditionRecord). is_of numbers e.number ≡ true) (λ e k. number_named e.number k) T.editions K.stands.numbers
@@ -273,10 +245,8 @@ module _ (version : ℕ) (db : Database) (reader : Reader) (taken : Tables) (h :
   -- ---- editions
 
   editions_named : (layout : Layout) → KeptAs layout db T → AreKnownApart (one_of numbers) (table_name_of (editions layout)) db
-  editions_named Plain k = record { apart = k.keeps.1.1.1.1.0.apart; known = named (codes "edition") edition_row (λ (e : spec.EditionRecord). e.number) (λ e. refl) T.editions k.keeps.1.1.1.1.0.rows editions_known }
-  editions_named Keyed k = record { apart = k.keeps.1.1.1.1.0.apart; known = named (codes "edition") edition_row (λ (e : spec.EditionRecord). e.number) (λ e. refl) T.editions k.keeps.1.1.1.1.0.rows editions_known }
-  editions_named Shown k = record { apart = k.keeps.1.1.1.1.0.apart; known = named (codes "edition") edition_row (λ (e : spec.EditionRecord). e.number) (λ e. refl) T.editions k.keeps.1.1.1.1.0.rows editions_known }
   editions_named Parted k = record { apart = k.keeps.1.1.1.1.0.apart; known = named (codes "edition") (λ e. header_row (header_of e)) (λ (e : spec.EditionRecord). e.number) (λ e. refl) T.editions k.keeps.1.1.1.1.0.rows editions_known }
+  editions_named layout k = record { apart = k.keeps.1.1.1.1.0.apart; known = named (codes "edition") edition_row (λ (e : spec.EditionRecord). e.number) (λ e. refl) T.editions k.keeps.1.1.1.1.0.rows editions_known }
 
   -- ---- entries
 
@@ -300,10 +270,6 @@ module _ (version : ℕ) (db : Database) (reader : Reader) (taken : Tables) (h :
   abbrev IsInFile : Row → Type 0
   IsInFile s = (f : ℤ) × (column s 1 ≡ Int f) × ((same_number f (pos 0) || same_number f (pos 1)) ≡ true)
 
-  files_written : (ps : List spec.Part) → AllByRecursion IsKnownPart ps → AllByRecursion IsInFile (map part_row ps)
-  files_written [] k = tt
-  files_written (p ∷ ps) k = ((p.file, refl, k.0.1), files_written ps k.1)
-
   in_file : (row : Row) → IsInFile (drop 1 row) → is_in_file row ≡ true
   in_file row p = (λ i. file_is (pos 0) i || file_is (pos 1) i) ∙ p.2
     where
@@ -316,18 +282,16 @@ module _ (version : ℕ) (db : Database) (reader : Reader) (taken : Tables) (h :
       let kept = parts_kept db T keeps in
       let numbered_so = named (codes "dictcat_part") part_row (λ (p : spec.Part). p.edition) (λ p. refl) (all_parts T) kept.rows
       (all_weaker IsKnownPart (λ (p : spec.Part). is_of numbers p.edition ≡ true) (λ p k. k.0) (all_parts T) parts_known) in
-      let files = all_of_map (drop 1) IsInFile (λ row. is_in_file row ≡ true) in_file rows (all_same IsInFile (map part_row (all_parts T)) (map (drop 1) rows) kept.rows (files_written (all_parts T) parts_known)) in
+      let files = all_of_map (drop 1) IsInFile (λ row. is_in_file row ≡ true) in_file rows
+      (all_same IsInFile (map part_row (all_parts T)) (map (drop 1) rows) kept.rows (all_map IsKnownPart IsInFile part_row (λ p k. (p.file, refl, k.1)) (all_parts T) parts_known)) in
       record {
         apart = kept.apart;
-        known = all_with (λ row. one_of numbers row ≡ true) (λ row. is_in_file row ≡ true) (λ row. is_known_part numbers row ≡ true) (λ row p q. both_true (one_of numbers row) (is_in_file row) p q) rows
-            numbered_so files;
+        known = all_with (λ row. one_of numbers row ≡ true) (λ row. is_in_file row ≡ true) (λ row. is_known_part numbers row ≡ true) (λ row p q. and_from (one_of numbers row) (is_in_file row) p q) rows numbered_so files;
       }
 
   contents_named : (layout : Layout) → KeptAs layout db T → AreKnownApart (is_of_contents layout numbers) (table_name_of (contents layout)) db
-  contents_named Plain k = record { apart = k.keeps.1.1.1.1.1.0.apart; known = entries_named Plain tt k }
-  contents_named Keyed k = record { apart = k.keeps.1.1.1.1.1.0.apart; known = entries_named Keyed tt k }
-  contents_named Shown k = record { apart = k.keeps.1.1.1.1.1.0.apart; known = entries_named Shown tt k }
   contents_named Parted k = let it = parts_named k.keeps in record { apart = it.apart; known = it.known }
+  contents_named layout k = record { apart = k.keeps.1.1.1.1.1.0.apart; known = entries_named layout tt k }
 
   pub all_named : AreAllKnown (layout_of version) db numbers
   all_named =
@@ -383,15 +347,9 @@ both a b h k =
     sym (exact_bytes b a (sym (value_cmp-Text b a) ∙ tied o p (value_cmp_total.antisymm (Text a) (Text b)) (sym (ap is_lt (then-Equal o)) ∙ h) (sym (ap is_lt (then-Equal p)) ∙ k)))
 
 ids_order : (db : Database) (given : List KeptRow) → IsListing (codes "kept") (1 ∷ []) db (map stored_kept given) → InOrder NotAbove (ids_given given)
-ids_order db given l = order_up given (sorted_order (1 ∷ []) (map stored_kept given) l.sorted)
-  where
-    all_up : (r : KeptRow) (given : List KeptRow) → AllByRecursion (λ b. is_lt (by_columns (1 ∷ []) b (stored_kept r)) ≡ false) (map stored_kept given) → AllByRecursion (NotAbove (id_of (owned_kept r.value))) (ids_given given)
-    all_up r [] h = tt
-    all_up r (s ∷ given) h = (h.0, all_up r given h.1)
-
-    order_up : (given : List KeptRow) → InOrder (λ a b. is_lt (by_columns (1 ∷ []) b a) ≡ false) (map stored_kept given) → InOrder NotAbove (ids_given given)
-    order_up [] h = tt
-    order_up (r ∷ given) h = (all_up r given h.0, order_up given h.1)
+ids_order db given l =
+    subst (InOrder NotAbove) (sym (map_twice (λ (row : KeptRow). owned_kept row.value) id_of given))
+    (records_order stored_kept (λ (row : KeptRow). id_of (owned_kept row.value)) (λ a b. is_lt (by_columns (1 ∷ []) b a) ≡ false) NotAbove (λ a b up. up) given (sorted_order (1 ∷ []) (map stored_kept given) l.sorted))
 
 -- the ids of all kept replies, in whatever order they were read
 pub ids_apart : (db : Database) (given : List KeptRow) → IsListing (codes "kept") (2 ∷ []) db (map stored_kept given) → HasIdsApart db → IsEachOnce (ids_given given)

@@ -1,11 +1,9 @@
--- The records of the tables that later schemas have: numbers, and texts and blobs as their octets.
+-- The records of entries with what is derived of their headwords: numbers, and texts and blobs as their octets.
 use Rattle.std.specs.Prelude.{ℕ, ℤ, List, String, Vec, string_bytes}
 use Rattle.std.specs.declared.alloc.Global.{Global}
 use Rattle.store_records.specs.Records.{EntryRecord}
 use Rattle.store_records.specs.declared.keyed.KeyedEntry.{KeyedEntry as TypedEntry}
 use Rattle.store_records.specs.declared.keyed.OldEntry.{OldEntry as TypedOld}
-use Rattle.store_records.specs.declared.keyed.WordRecord.{WordRecord as TypedWord}
-use Rattle.store_records.specs.declared.keyed.Gram.{Gram as TypedGram}
 
 -- a headword of an edition, where its body stands in the edition's text, its key, the key's octets in reverse order, and the
 -- headword that is shown
@@ -29,12 +27,6 @@ pub record OldEntry : Type 0 where
   pub key : List ℕ
   pub reversed : List ℕ
 
--- a word, or a run of three octets, of the key of the entry at a place of an edition
-pub record Piece : Type 0 where
-  pub edition : ℤ
-  pub piece : List ℕ
-  pub ord : ℤ
-
 -- an entry without what was derived of it: its headword is shown
 abbrev pub plain_entry : OldEntry → EntryRecord
 plain_entry e = record { edition = e.edition; ord = e.ord; headword = e.headword; start = e.start; length = e.length; shown = e.headword }
@@ -47,12 +39,6 @@ keyed_entry_of text octets r = record { edition = r.edition; ord = r.ord; headwo
 abbrev pub old_entry_of : {T : Type 0} → {B : Type 0} → (T → List ℕ) → (B → List ℕ) → TypedOld T B → OldEntry
 old_entry_of text octets r = record { edition = r.edition; ord = r.ord; headword = text r.headword; start = r.start; length = r.length; key = octets r.key; reversed = octets r.reversed }
 
-abbrev pub word_of : {B : Type 0} → (B → List ℕ) → TypedWord B → Piece
-word_of octets r = record { edition = r.edition; piece = octets r.word; ord = r.ord }
-
-abbrev pub gram_of : {B : Type 0} → (B → List ℕ) → TypedGram B → Piece
-gram_of octets r = record { edition = r.edition; piece = octets r.gram; ord = r.ord }
-
 -- a record that was read, whose texts are its own
 
 abbrev pub owned_keyed_entry : TypedEntry (String Global) (Vec ℕ Global) → KeyedEntry
@@ -60,11 +46,3 @@ owned_keyed_entry = keyed_entry_of string_bytes (λ b. b.items)
 
 abbrev pub owned_old_entry : TypedOld (String Global) (Vec ℕ Global) → OldEntry
 owned_old_entry = old_entry_of string_bytes (λ b. b.items)
-
-abbrev pub owned_word : TypedWord (Vec ℕ Global) → Piece
-owned_word = word_of (λ b. b.items)
-
-abbrev pub owned_gram : TypedGram (Vec ℕ Global) → Piece
-owned_gram = gram_of (λ b. b.items)
-
--- a record whose texts are borrowed

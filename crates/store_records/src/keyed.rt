@@ -1,4 +1,4 @@
-//! The records of the tables that later schemas have: entries with what is derived of their headwords, and the tables of words and grams. The type of the octets is `&[u8]` where a record is written, `Vec<u8>` where it was read.
+//! The records of entries with what is derived of their headwords, as schemas 2 to 4 have them. The type of the octets is `&[u8]` where a record is written, `Vec<u8>` where it was read.
 
 /// A headword of an edition, where its body stands in the edition's text, its key, the key's octets in reverse order, and the headword that replies show.
 #[derive(Debug, PartialEq, Eq, Drop)]
@@ -23,20 +23,4 @@ pub struct OldEntry<T, B> {
     pub length: i64,
     pub key: B,
     pub reversed: B,
-}
-
-/// A word of the key of the entry at a place of an edition.
-#[derive(Debug, PartialEq, Eq, Drop)]
-pub struct WordRecord<B> {
-    pub edition: i64,
-    pub word: B,
-    pub ord: i64,
-}
-
-/// Three octets that follow one another in the key of the entry at a place of an edition.
-#[derive(Debug, PartialEq, Eq, Drop)]
-pub struct Gram<B> {
-    pub edition: i64,
-    pub gram: B,
-    pub ord: i64,
 }

@@ -6,5 +6,5 @@ mod keyed;
 mod records;
 
 pub use headers::HeaderRecord;
-pub use keyed::{Gram, KeyedEntry, OldEntry, WordRecord};
+pub use keyed::{KeyedEntry, OldEntry};
 pub use records::{EditionRecord, EntryRecord, ItemRecord, KeptRecord, Mark, Member, StoredRow};

@@ -1,11 +1,11 @@
 -- Why a reading fails that tells of no damage.
 use Rattle.std.proofs.Common.{◌≡◌, ◌≤◌, ℕ, Bool, true, false, cond, inl, inr, List, [], ◌∷◌, ◌++◌, map, filter, length, codes, sym, subst, ◌∙◌, arith}
-use Rattle.std.specs.Prelude.{Result, Ok, Err, IfErr, IsErrAnd, IsSome}
+use Rattle.std.specs.Prelude.{Result, IfErr, IsErrAnd, IsSome}
 use Rattle.std.proofs.lemmas.List.{length-map, length-append}
 use Rattle.std.proofs.lemmas.List.Sorted.{length_permutation}
 use Rattle.sqlite.specs.Order.{Row}
 use Rattle.sqlite.specs.Effect.{Database}
-use Rattle.sqlite.specs.State.{State, HasCleanDisk, Survives, HasCause, store_error}
+use Rattle.sqlite.specs.State.{State, Survives, HasCause, store_error}
 use Rattle.sqlite.specs.Held.{Held, state}
 use Rattle.sqlite.specs.declared.error.Error.{Error}
 use Rattle.sqlite_trees.specs.declared.store.Store.{Ghosts}
@@ -14,14 +14,14 @@ use Rattle.sqlite_trees.specs.declared.error.StoreError.TheVariants.{OutOfMemory
 use Rattle.store_tables.specs.Tables.{table_of}
 use Rattle.store_tables.specs.declared.tables.StoreTable.TheVariants.{Edition, Entry, Kept}
 use Rattle.store_sql.specs.Columns.{Content}
-use Rattle.store_sql.specs.Reads.{IsSelection, FailsToRead, FailsToList, rowid_and_number}
+use Rattle.store_sql.specs.Reads.{IsSelection, FailsToRead, rowid_and_number}
 use Rattle.store_edition_sql.specs.Chosen.{is_of_file}
 use Rattle.store_sql.specs.Streams.{Scan, FailsToMove}
 use Rattle.store_sql.specs.Streams as store
 use Rattle.store_scans.specs.Cursors.{Cursor, CursorHasGiven, IsScannedToEnd, IsFrontOfScan}
 use Rattle.store_scans.specs.Cursors.Cursor.{InStore, ShownEntriesOf, ShownEntriesByRowid, OldEntriesOf, OldEntriesByRowid, PartsOf, PartsByRowid, HeadersByRowid}
 use Rattle.store_scans.proofs.CursorLemmas.{fails_to_move}
-use Rattle.store_sql.specs.Streams.Scan.{AllEditions, AllEntries, EntriesOf, AllKept, KeptById, ByRowid, EditionNumbers}
+use Rattle.store_sql.specs.Streams.Scan.{EntriesOf, AllKept, KeptById, ByRowid, EditionNumbers}
 use Rattle.store_sql.specs.Effects.{rows_of, equals_number}
 use Rattle.store_sql.specs.declared.records.ReadError.{ReadError}
 use Rattle.store_sql.specs.declared.records.ReadError.TheVariants.{NoRecord, Store}
@@ -31,7 +31,7 @@ use Rattle.store_rows.specs.declared.fault.RowsFault.TheVariants as rows
 use Rattle.store_scans.specs.declared.fault.ReadingFault.{ReadingFault}
 use Rattle.store_scans.specs.declared.fault.ReadingFault.TheVariants.{Damaged, Memory, Disk}
 use Rattle.store_scans.specs.Reading.{Same, StaysUnlessShut, IsVast, IsExcusedReading, fault_of_store, reading_fault_of, fault_of_rows}
-use Rattle.store_scans.proofs.StateLemmas.{clean_before, same_as, same_stays, failed_stays}
+use Rattle.store_scans.proofs.StateLemmas.{same_as, same_stays, failed_stays}
 
 by_cause : (old new : State) (cause : StoreError) → HasCause old new ⊥ cause → IsExcusedReading old new (fault_of_store (store_error cause))
 by_cause old new OutOfMemory h = tt
@@ -47,11 +47,6 @@ store_cause old new e (inr limit) = subst (λ e. IsExcusedReading old new (fault
 
 pub told_cause : (old new : State) (e : Error) (fault : ReadingFault) → fault ≡ fault_of_store e → FailsToRead old new e → IsExcusedReading old new fault
 told_cause old new e fault is failed = subst (IsExcusedReading old new) (sym is) (store_cause old new e failed)
-
-pub list_cause : (columns : List Content) (rows : List Row) (old new : State) (e : ReadError) → FailsToList columns rows old new e → IsExcusedReading old new (reading_fault_of e)
-list_cause columns rows old new NoRecord h = tt
-list_cause columns rows old new (Store e) (inl fails) = store_cause old new e fails
-list_cause columns rows old new (Store e) (inr refused) = subst (λ e. IsExcusedReading old new (fault_of_store e)) (sym refused.1) tt
 
 pub next_cause : {S : Type 0} (g : Ghosts S) (columns : List Content) (what : Cursor) (old new : Held S) (given : List Row) (e : ReadError) → CursorHasGiven g what old given → FailsToMove g columns old new e
     → IsExcusedReading (state g old) (state g new) (reading_fault_of e)
@@ -83,8 +78,6 @@ few_passed test (x ∷ xs) = by_test (test x) (few_passed test xs)
     by_test false few = omega (arith, few)
 
 store_vast : (what : Scan) (db : Database) (rows : List Row) → store.IsWhole what db rows → 18446744073709551615 ≤ length rows → IsVast db
-store_vast AllEditions db rows whole many = inl (Edition, let size = length_permutation (rows_of (codes "edition") db) rows whole.same in omega (arith, size, many))
-store_vast AllEntries db rows whole many = inl (Entry, let size = length_permutation (rows_of (codes "entry") db) rows whole.same in omega (arith, size, many))
 store_vast (EntriesOf number) db rows whole many =
     inl (Entry, let size = length_permutation (filter (equals_number 1 number) (rows_of (codes "entry") db)) rows whole.same in let few = few_passed (equals_number 1 number) (rows_of (codes "entry") db) in omega (arith, size, few, many))
 store_vast AllKept db rows whole many = inl (Kept, let size = length_permutation (rows_of (codes "kept") db) rows whole.same in omega (arith, size, many))
@@ -119,16 +112,6 @@ front_vast what db rows front many = whole_vast what db (rows ++ front.0) front.
 
 pub cause_passed : {X : Type 0} (old new : State) (fault : ReadingFault) (result : Result X ReadingFault) → IsErrAnd result (λ f. f ≡ fault) → IsExcusedReading old new fault → IfErr result (IsExcusedReading old new)
 cause_passed old new fault result is h = passed_on (IsExcusedReading old new) fault result is h
-
-pub cause_later : {X : Type 0} (old mid new : State) (fault : ReadingFault) (result : Result X ReadingFault) → IsErrAnd result (λ f. f ≡ fault) → Survives old mid (λ _. ⊥) → Survives mid new (λ _. ⊥)
-    → (HasCleanDisk mid → Same old mid) → HasCleanDisk new
-    → IsExcusedReading mid new fault → IfErr result (IsExcusedReading old new)
-cause_later old mid new fault result is one two same clean h = passed_on (IsExcusedReading old new) fault result is (cause_then old mid new one (same (clean_before old mid new two clean)) fault h)
-
-pub cause_last : {X : Type 0} (old mid new : State) (result : Result X ReadingFault) → Survives old mid (λ _. ⊥) → Survives mid new (λ _. ⊥) → (HasCleanDisk mid → Same old mid) → HasCleanDisk new
-    → IfErr result (IsExcusedReading mid new) → IfErr result (IsExcusedReading old new)
-cause_last old mid new (Ok x) one two same clean h = tt
-cause_last old mid new (Err fault) one two same clean h = cause_then old mid new one (same (clean_before old mid new two clean)) fault h
 
 -- what a row that isn't given leaves
 pub move_stays : {S : Type 0} (g : Ghosts S) (columns : List Content) (what : Cursor) (old new : Held S) (given : List Row) (e : ReadError) → CursorHasGiven g what old given → FailsToMove g columns old new e

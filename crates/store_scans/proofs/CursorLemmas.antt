@@ -12,9 +12,8 @@ use Rattle.store_sql.specs.Streams.{FailsToMove}
 use Rattle.store_sql.specs.declared.records.ReadError.TheVariants.{NoRecord}
 use Rattle.store_sql.proofs.StreamLemmas as store
 use Rattle.store_older_sql.specs.Scans as scans
-use Rattle.store_older_sql.specs.Scans.OlderScan.{Of, ByRowid, OldOf, OldByRowid}
+use Rattle.store_older_sql.specs.Scans.OlderScan.{ShownOf, ShownByRowid, OldOf, OldByRowid}
 use Rattle.store_older_sql.proofs.ScanLemmas as keyed
-use Rattle.store_tables.specs.declared.keyed.KeyedTable.TheVariants.{Entry}
 use Rattle.store_edition_sql.specs.HeaderTexts as header_texts
 use Rattle.store_edition_sql.proofs.HeaderScanLemmas as headers
 use Rattle.store_edition_sql.specs.PartScans as part_scans
@@ -37,8 +36,8 @@ module _ {S : Type 0} (g : Ghosts S) where
   module _ (old new : Held S) (given : List Row) where
     gives_all : (what : Cursor) → IsUnchanged (state g old) (state g new) → CursorHasGiven g what old given → kit.Advances g old new None → CursorGivesOn g what new given None
     gives_all (InStore scan) same h moved = store.gives_on g scan old new given None same h moved
-    gives_all (ShownEntriesOf edition) same h moved = keyed.gives_on g (Of Entry edition) old new given None same h moved
-    gives_all ShownEntriesByRowid same h moved = keyed.gives_on g (ByRowid Entry) old new given None same h moved
+    gives_all (ShownEntriesOf edition) same h moved = keyed.gives_on g (ShownOf edition) old new given None same h moved
+    gives_all ShownEntriesByRowid same h moved = keyed.gives_on g ShownByRowid old new given None same h moved
     gives_all (OldEntriesOf edition) same h moved = keyed.gives_on g (OldOf edition) old new given None same h moved
     gives_all OldEntriesByRowid same h moved = keyed.gives_on g OldByRowid old new given None same h moved
     gives_all (PartsOf edition file) same h moved = parts.gives_on g (OfFile edition file) old new given None same h moved
@@ -47,8 +46,8 @@ module _ {S : Type 0} (g : Ghosts S) where
 
     gives_one : (what : Cursor) (row : Row) → IsUnchanged (state g old) (state g new) → CursorHasGiven g what old given → kit.Advances g old new (Some row) → CursorHasGiven g what new (given ++ row ∷ [])
     gives_one (InStore scan) row same h moved = store.gives_on g scan old new given (Some row) same h moved
-    gives_one (ShownEntriesOf edition) row same h moved = keyed.gives_on g (Of Entry edition) old new given (Some row) same h moved
-    gives_one ShownEntriesByRowid row same h moved = keyed.gives_on g (ByRowid Entry) old new given (Some row) same h moved
+    gives_one (ShownEntriesOf edition) row same h moved = keyed.gives_on g (ShownOf edition) old new given (Some row) same h moved
+    gives_one ShownEntriesByRowid row same h moved = keyed.gives_on g ShownByRowid old new given (Some row) same h moved
     gives_one (OldEntriesOf edition) row same h moved = keyed.gives_on g (OldOf edition) old new given (Some row) same h moved
     gives_one OldEntriesByRowid row same h moved = keyed.gives_on g OldByRowid old new given (Some row) same h moved
     gives_one (PartsOf edition file) row same h moved = parts.gives_on g (OfFile edition file) old new given (Some row) same h moved
@@ -71,8 +70,8 @@ module _ {S : Type 0} (g : Ghosts S) where
 
   pub fails_to_move : (what : Cursor) (old new : Held S) (given : List Row) (e : Error) → CursorHasGiven g what old given → kit.FailsToAdvance g old new e → FailsToRead (state g old) (state g new) e
   fails_to_move (InStore scan) old new given e h failed = store.fails_to_advance g scan old new given e h failed
-  fails_to_move (ShownEntriesOf edition) old new given e h failed = keyed_fails (Of Entry edition) old new given e h failed
-  fails_to_move ShownEntriesByRowid old new given e h failed = keyed_fails (ByRowid Entry) old new given e h failed
+  fails_to_move (ShownEntriesOf edition) old new given e h failed = keyed_fails (ShownOf edition) old new given e h failed
+  fails_to_move ShownEntriesByRowid old new given e h failed = keyed_fails ShownByRowid old new given e h failed
   fails_to_move (OldEntriesOf edition) old new given e h failed = keyed_fails (OldOf edition) old new given e h failed
   fails_to_move OldEntriesByRowid old new given e h failed = keyed_fails OldByRowid old new given e h failed
   fails_to_move (PartsOf edition file) old new given e h failed = part_fails (OfFile edition file) old new given e h failed

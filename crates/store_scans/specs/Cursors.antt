@@ -5,11 +5,10 @@ use Rattle.sqlite.specs.Effect.{Database}
 use Rattle.sqlite.specs.State.{IsUnchanged}
 use Rattle.sqlite.specs.Held.{Held, state}
 use Rattle.sqlite_trees.specs.declared.store.Store.{Ghosts}
-use Rattle.store_tables.specs.declared.keyed.KeyedTable.TheVariants.{Entry}
 use Rattle.store_sql.specs.Columns.{Content, HasColumns}
 use Rattle.store_sql.specs.Streams as store
 use Rattle.store_older_sql.specs.Scans as keyed
-use Rattle.store_older_sql.specs.Scans.OlderScan.{Of, ByRowid, OldOf, OldByRowid}
+use Rattle.store_older_sql.specs.Scans.OlderScan.{ShownOf, ShownByRowid, OldOf, OldByRowid}
 use Rattle.store_edition_sql.specs.HeaderScans as headers
 use Rattle.store_edition_sql.specs.PartScans as parts
 use Rattle.store_edition_sql.specs.PartScans.PartScan.{OfFile, ByRowid as PartByRowid}
@@ -29,8 +28,8 @@ pub data Cursor : Type 0 where
 -- all rows that are read, in their order
 abbrev pub IsScannedToEnd : Cursor → Database → List Row → Type 0
 IsScannedToEnd (InStore scan) db rows = store.IsWhole scan db rows
-IsScannedToEnd (ShownEntriesOf edition) db rows = keyed.AreAllOlder (Of Entry edition) db rows
-IsScannedToEnd ShownEntriesByRowid db rows = keyed.AreAllOlder (ByRowid Entry) db rows
+IsScannedToEnd (ShownEntriesOf edition) db rows = keyed.AreAllOlder (ShownOf edition) db rows
+IsScannedToEnd ShownEntriesByRowid db rows = keyed.AreAllOlder ShownByRowid db rows
 IsScannedToEnd (OldEntriesOf edition) db rows = keyed.AreAllOlder (OldOf edition) db rows
 IsScannedToEnd OldEntriesByRowid db rows = keyed.AreAllOlder OldByRowid db rows
 IsScannedToEnd (PartsOf edition file) db rows = parts.AreAllParts (OfFile edition file) db rows
@@ -45,8 +44,8 @@ module _ {S : Type 0} (g : Ghosts S) where
   -- the connection reads this, and has given these rows
   abbrev pub CursorHasGiven : Cursor → Held S → List Row → Type 0
   CursorHasGiven (InStore scan) h given = store.HasGiven g scan h given
-  CursorHasGiven (ShownEntriesOf edition) h given = keyed.HasGivenOlder g (Of Entry edition) h given
-  CursorHasGiven ShownEntriesByRowid h given = keyed.HasGivenOlder g (ByRowid Entry) h given
+  CursorHasGiven (ShownEntriesOf edition) h given = keyed.HasGivenOlder g (ShownOf edition) h given
+  CursorHasGiven ShownEntriesByRowid h given = keyed.HasGivenOlder g ShownByRowid h given
   CursorHasGiven (OldEntriesOf edition) h given = keyed.HasGivenOlder g (OldOf edition) h given
   CursorHasGiven OldEntriesByRowid h given = keyed.HasGivenOlder g OldByRowid h given
   CursorHasGiven (PartsOf edition file) h given = parts.HasGivenParts g (OfFile edition file) h given

@@ -24,12 +24,12 @@ use crate::scan::{Taker, take_all};
 use sqlite::{Alter, Connection};
 use std::alloc::Global;
 use store_edition_sql::{StoredHeader, StoredPart};
-use store_older_sql::{read_by_rowid as read_keyed_by_rowid, read_old_by_rowid};
+use store_older_sql::{read_old_by_rowid, read_shown_by_rowid};
 use store_records::{EntryRecord, KeyedEntry, OldEntry, StoredRow};
 use store_rows::{RowidReader, RowsFault};
 use store_sql::records::{EditionNumber, Record};
 use store_sql::stream::read_by_rowid;
-use store_tables::{KeyedTable, StoreTable};
+use store_tables::StoreTable;
 
 /// A table of the entries of editions, as schema 1 has it, as schemas 2 and 3 do, and as the fourth does.
 #[derive(Clone, Copy, Debug, PartialEq, Eq)]
@@ -217,7 +217,7 @@ fn test_shown_rows<S: Alter>(
     ensures damaged { HasCleanDisk (state S.Store conn.new) → IfErr result (λ fault. fault ≡ ReadingFault.Damaged → IsReadable (contents Shown) (state S.Store conn.old).now → AreNumberedApart numbers.now (codes "entry") (state S.Store conn.old).now → ⊥) }
 {
     is_live(conn);
-    let mut rows = match read_keyed_by_rowid(conn, KeyedTable::Entry) {
+    let mut rows = match read_shown_by_rowid(conn) {
         Ok(rows) => rows,
         Err(error) => return Err(fault_of_store(error)),
     };

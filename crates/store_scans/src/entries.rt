@@ -19,10 +19,9 @@ use crate::indexing_reader::IndexingReader;
 use crate::scan::take_all;
 use sqlite::{Alter, Connection};
 use std::alloc::Global;
-use store_older_sql::{read_old_rows_of, read_rows_of};
+use store_older_sql::{read_old_rows_of, read_shown_rows_of};
 use store_records::{EntryRecord, KeyedEntry, OldEntry, StoredRow};
 use store_sql::stream::read_entries_of;
-use store_tables::KeyedTable;
 
 /// Takes the entries of the edition that was taken last, which has this number, from tables without keys, and adds them to the index.
 pub fn read_plain_entries<S: Alter>(
@@ -84,7 +83,7 @@ pub fn read_shown_entries<S: Alter>(
     ensures damaged { HasCleanDisk (state S.Store conn.new) → IfErr result (λ fault. fault ≡ ReadingFault.Damaged → HasWrongEntries Shown (state S.Store conn.old).now number reader.old.reader) }
 {
     is_live(conn);
-    let mut rows = match read_rows_of(conn, KeyedTable::Entry, number) {
+    let mut rows = match read_shown_rows_of(conn, number) {
         Ok(rows) => rows,
         Err(error) => return Err(fault_of_store(error)),
     };

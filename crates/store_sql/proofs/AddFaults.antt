@@ -33,23 +33,16 @@ use Rattle.sqlite_value.specs.declared.keys.Order.{Order}
 use Rattle.store_tables.specs.Tables.{simple}
 use Rattle.store_sql.specs.Effects.{table_in}
 use Rattle.store_sql.specs.Refusals.{IsInterrupted, IsTooBig, RefusesIn, RefusesToAdd, source_by, is_of_keys, with_row}
-use Rattle.store_sql.proofs.InsertLemmas.{no_works, wrote, task}
+use Rattle.store_sql.proofs.KitLemmas.{all_from, all_has, no_works}
+use Rattle.store_sql.proofs.InsertLemmas.{wrote, task}
 use Rattle.store_sql.proofs.FaultLemmas.{failed_step, fails_for, same_refers, same_stop, no_stop}
 
 -- after a step each table has the rows that the step says
 pub with_same : (db next : Trees) (tree : ℕ) (rows : List Row) → next tree ≡ rows → (ts : List Table) → AllByRecursion (λ t. t.tree ≢ tree → next t.tree ≡ db t.tree) ts → AllByRecursion (λ t. next t.tree ≡ with_tree db tree rows t.tree) ts
-with_same db next tree rows is [] h = tt
-with_same db next tree rows is (t ∷ ts) h = (here, with_same db next tree rows is ts h.1)
-  where
-    here : next t.tree ≡ with_tree db tree rows t.tree
-    here = elim (cases_Bool (t.tree == tree)) [
-      | inl same ↦ rw same (ap next (eqb-true t.tree tree same) ∙ is)
-      | inr apart ↦ rw apart (h.0 (eqb-false t.tree tree apart))
-    ]
-
-pub flipped : (a b : Trees) (ts : List Table) → AllByRecursion (λ t. a t.tree ≡ b t.tree) ts → AllByRecursion (λ t. b t.tree ≡ a t.tree) ts
-flipped a b [] h = tt
-flipped a b (t ∷ ts) h = (sym h.0, flipped a b ts h.1)
+with_same db next tree rows is ts h = all_from _ ts (λ t listed. elim (cases_Bool (t.tree == tree)) [
+  | inl same ↦ rw same (ap next (eqb-true t.tree tree same) ∙ is)
+  | inr apart ↦ rw apart (all_has _ ts t h listed (eqb-false t.tree tree apart))
+])
 
 module _ (old new : State) (at : ℕ) (name : List ℕ) (tree : ℕ) (columns : List Column) (key : Option ℕ) (primary : List ℕ) (uniques : List (List ℕ)) (orders : List Order)
     (named : table_named old.now.schema name ≡ Some at)
@@ -88,7 +81,7 @@ module _ (old new : State) (at : ℕ) (name : List ℕ) (tree : ℕ) (columns : 
     narrowed TooDeep h = absurd h
 
     step_stopped : (end : Option Refusal) → Writes old.now.schema Enforced db edit (Err end) → Ends (option_map edit_error end)
-    step_stopped end h = elim (failed_step old.now.schema Enforced db edit end (no_works old.now.schema Enforced tree edit.news) h) [
+    step_stopped end h = elim (failed_step old.now.schema Enforced db edit end (no_works old.now.schema Enforced 0 tree edit.news) h) [
       | inl refused ↦ subst (λ o. Ends (option_map edit_error o)) (sym refused.2) (inr (inl (record { why = refused.0; of_keys = narrowed refused.0 refused.1; refused = refused.1; told = refl })))
       | inr big ↦ subst (λ o. Ends (option_map edit_error o)) (sym big.3) (big.0, big.1, big.2)
     ]
@@ -117,7 +110,7 @@ module _ (old new : State) (at : ℕ) (name : List ℕ) (tree : ℕ) (columns : 
     lacks it h refers =
         let put = wrote old new at name tree columns key primary uniques orders named is terms width text params (source_by key cells) 0 one it h in
         let same = with_same db put.0 tree (edited db edit) put.1.rows old.now.schema.tables put.1.tables in
-        subst (Refers All old.now.schema) (sym put.2) (same_refers old.now.schema (with_row old.now table cells) put.0 (flipped _ _ old.now.schema.tables same) refers)
+        subst (Refers All old.now.schema) (sym put.2) (same_refers old.now.schema (with_row old.now table cells) put.0 same refers)
 
     concluded : (o : Option Error) (it : Written) → Inserts job (Values terms width) db (Ok it) → Concludes job (mode_of old) None it (Err o) → Ends o
     concluded o it done (inl tested) = subst Ends (sym (same_stop tested.2 ∙ tested.1.1)) (inr (inr (refl, λ refers. tested.1.0 (lacks it done refers))))

@@ -8,29 +8,19 @@ use Rattle.sqlite.specs.Schema.{Schema}
 use Rattle.sqlite.specs.Table.{Table}
 use Rattle.store_tables.specs.Found.{found_table}
 use Rattle.store_sql.specs.Added.{AreAdded}
-use Rattle.store_sql.specs.Effects.{IsAdded, rows_of, table_in}
+use Rattle.store_sql.specs.Effects.{IsAdded, rows_of}
 use Rattle.store_sql.proofs.Callers.{apart_added}
-
-same_all : (db : Database) (tree : ℕ) (ts : List Table) → AllByRecursion (λ t. t.tree ≢ tree → db.trees t.tree ≡ db.trees t.tree) ts
-same_all db tree [] = tt
-same_all db tree (t ∷ ts) = ((λ _. refl), same_all db tree ts)
+use Rattle.store_sql.proofs.KitLemmas.{all_from}
+use Rattle.store_sql.proofs.RemoveLemmas.{both_all}
 
 pub none_added : (name : List ℕ) (db : Database) → AreAdded name [] db db
 none_added name db = record {
   schema = refl;
   rows = subst (λ (l : List Row). IsPermutation l (map (drop 1) (rows_of name db))) (sym (append-nil (map (drop 1) (rows_of name db)))) (IsPermutation-refl (map (drop 1) (rows_of name db)));
   apart = λ h. h;
-  others = λ table is. same_all db table.tree db.schema.tables;
+  others = λ table is. all_from _ db.schema.tables (λ t listed _. refl);
   sound = λ h. h;
 }
-
-both_same : (old mid new : Database) (tree : ℕ) (ts : List Table) → AllByRecursion (λ t. t.tree ≢ tree → mid.trees t.tree ≡ old.trees t.tree) ts → AllByRecursion (λ t. t.tree ≢ tree → new.trees t.tree ≡ mid.trees t.tree) ts
-    → AllByRecursion (λ t. t.tree ≢ tree → new.trees t.tree ≡ old.trees t.tree) ts
-both_same old mid new tree [] a b = tt
-both_same old mid new tree (t ∷ ts) a b = ((λ other. b.0 other ∙ a.0 other), both_same old mid new tree ts a.1 b.1)
-
-table_as : (name : List ℕ) (a b : Database) → b.schema ≡ a.schema → table_in name b ≡ table_in name a
-table_as name a b same = ap (λ (s : Schema). found_table s name) same
 
 -- one row is a list of one
 pub one_is_added : (name : List ℕ) (row : Row) (old new : Database) → IsAdded name row old new → AreAdded name (row ∷ []) old new
@@ -51,8 +41,9 @@ module _ (name : List ℕ) (done more : List Row) (old mid new : Database) (befo
     apart = λ h. then.apart (before.apart h);
     others = λ table is.
         let first = before.others table is in
-        let second = then.others table (table_as name old mid before.schema ∙ is) in
-        both_same old mid new table.tree old.schema.tables first
+        let second = then.others table (ap (λ (s : Schema). found_table s name) before.schema ∙ is) in
+        both_all (λ (t : Table). t.tree ≢ table.tree → mid.trees t.tree ≡ old.trees t.tree) (λ t. t.tree ≢ table.tree → new.trees t.tree ≡ mid.trees t.tree) (λ t. t.tree ≢ table.tree → new.trees t.tree ≡ old.trees t.tree)
+        (λ t a b other. b other ∙ a other) old.schema.tables first
         (subst (λ (s : Schema). AllByRecursion (λ (t : Table). t.tree ≢ table.tree → new.trees t.tree ≡ mid.trees t.tree) s.tables) before.schema second);
     sound = λ h. then.sound (before.sound h);
   }

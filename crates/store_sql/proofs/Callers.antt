@@ -1,13 +1,14 @@
 -- What a caller's proof needs of the statements: the tables stay where they are, and rowids stay apart.
-use Rattle.std.proofs.Common.{◌≡◌, ◌≢◌, ℕ, zero, suc, ℤ, All, arith, Ordering, Less, Equal, Greater, List, [], ◌∷◌, map, filter, Bool, true, false, not, inl, inr, refl, sym, ap, subst, ◌∙◌}
+use Rattle.std.proofs.Common.{◌≡◌, ◌≢◌, ℕ, ℤ, Ordering, Less, Equal, Greater, List, [], ◌∷◌, map, filter, Bool, true, false, not, inl, inr, refl, sym, ap, subst, ◌∙◌}
 use Rattle.std.proofs.lemmas.Bool.{cases_Bool}
+use Rattle.std.proofs.lemmas.List.Elements.{All-from_recursion, recursion_from_All}
 use Rattle.std.proofs.lemmas.List.Sorted.{IsPermutation-map, IsPermutation-sym, All-permutation}
 use Rattle.std.proofs.lemmas.Map.Keys.{IsDistinct-IsPermutation}
 use Rattle.std.proofs.lemmas.Map.Lookups.{exact_signed}
 use Rattle.std.specs.List.{AllByRecursion, IsDistinct}
 use Rattle.std.specs.List.Sorted.{IsPermutation}
 use Rattle.std.specs.Ordering.{is_eq, int_cmp}
-use Rattle.store_sql.proofs.KitLemmas.{value_cmp-Int}
+use Rattle.store_sql.proofs.KitLemmas.{all_from, all_has, has_filtered, value_cmp-Int}
 use Rattle.sqlite.specs.Effect.{Database}
 use Rattle.sqlite.specs.Table.{Table}
 use Rattle.sqlite.specs.Order.{Row, column}
@@ -33,11 +34,7 @@ apart_none = record { integers = tt; apart = tt }
 -- ---- rows that are taken out leave the others apart
 
 all_filter : {X : Type 0} (P : X → Type 0) (p : X → Bool) (xs : List X) → AllByRecursion P xs → AllByRecursion P (filter p xs)
-all_filter P p [] h = tt
-all_filter P p (x ∷ xs) h = elim (cases_Bool (p x)) [
-  | inl kept ↦ rw kept (h.0, all_filter P p xs h.1)
-  | inr gone ↦ rw gone (all_filter P p xs h.1)
-]
+all_filter P p xs h = all_from P (filter p xs) (λ x left. all_has P xs x h (has_filtered p xs x left).0)
 
 all_firsts : (P : Value → Type 0) (p : Row → Bool) (rows : List Row) → AllByRecursion P (map (λ r. column r 0) rows) → AllByRecursion P (map (λ r. column r 0) (filter p rows))
 all_firsts P p [] h = tt
@@ -64,7 +61,8 @@ apart_removed name test old new gone apart = subst HasApartRowids (sym gone.rows
 
 pub differs : (id : ℤ) (v : Value) → (n : ℤ) × (v ≡ Int n) → v ≢ Int id → same_value (Int id) v ≡ false
 differs id v n other = elim (cases_Bool (same_value (Int id) v)) [
-  | inl tie ↦ absurd (let m = n.1 in let both : is_eq (int_cmp id n.0) ≡ true = sym (ap is_eq (value_cmp-Int id n.0)) ∙ subst (λ w. same_value (Int id) w ≡ true) m tie in other (m ∙ ap Int (sym (tied id n.0 both))))
+  | inl tie ↦ absurd (let m = n.1 in let both : is_eq (int_cmp id n.0) ≡ true = sym (ap is_eq (value_cmp-Int id n.0)) ∙ subst (λ w. same_value (Int id) w ≡ true) m tie in
+      other (m ∙ ap Int (sym (exact_signed id n.0 (equal (int_cmp id n.0) both)))))
   | inr apart ↦ apart
 ]
   where
@@ -72,18 +70,6 @@ differs id v n other = elim (cases_Bool (same_value (Int id) v)) [
     equal Less h = absurd (let e = h in cc)
     equal Equal h = refl
     equal Greater h = absurd (let e = h in cc)
-
-    tied : (a b : ℤ) → is_eq (int_cmp a b) ≡ true → a ≡ b
-    tied a b h = exact_signed a b (equal (int_cmp a b) h)
-
-to_all : {X : Type 0} (P : X → Type 0) (xs : List X) → AllByRecursion P xs → All P xs
-to_all P [] h k d low = absurd (omega (arith, low))
-to_all P (x ∷ xs) h zero d low = h.0
-to_all P (x ∷ xs) h (suc k) d low = to_all P xs h.1 k d (omega (arith, low))
-
-from_all : {X : Type 0} (P : X → Type 0) (xs : List X) → All P xs → AllByRecursion P xs
-from_all P [] h = tt
-from_all P (x ∷ xs) h = (h 0 x (omega arith), from_all P xs (λ k d low. h (suc k) d (omega (arith, low))))
 
 firsts_differ : (id : ℤ) (rows : List Row) → AllByRecursion (λ r. (n : ℤ) × (column r 0 ≡ Int n)) rows → AllByRecursion (λ r. column r 0 ≢ Int id) rows → AllByRecursion (λ y. same_value (Int id) y ≡ false) (map (λ r. column r 0) rows)
 firsts_differ id [] n other = tt
@@ -95,7 +81,7 @@ apart_added name row old new one apart =
     let first : Row = Int one.id ∷ row in
     let d : IsDistinct same_value (map (λ r. column r 0) (first ∷ rows_of name old)) = (firsts_differ one.id (rows_of name old) apart.integers one.free, apart.apart) in
     record {
-      integers = from_all _ _ (All-permutation (λ r. (n : ℤ) × (column r 0 ≡ Int n)) (first ∷ rows_of name old) _ one.rows (to_all _ (first ∷ rows_of name old) ((one.id, refl), apart.integers)));
+      integers = recursion_from_All _ _ (All-permutation (λ r. (n : ℤ) × (column r 0 ≡ Int n)) (first ∷ rows_of name old) _ one.rows (All-from_recursion _ (first ∷ rows_of name old) ((one.id, refl), apart.integers)));
       apart = IsDistinct-IsPermutation same_value same_flips _ _ (IsPermutation-map (λ r. column r 0) _ _ one.rows) d;
     }
 
@@ -103,7 +89,7 @@ apart_added name row old new one apart =
 
 pub apart_same : (xs ys : List Row) → IsPermutation xs ys → HasApartRowids xs → HasApartRowids ys
 apart_same xs ys same apart = record {
-  integers = from_all _ _ (All-permutation (λ r. (n : ℤ) × (column r 0 ≡ Int n)) xs ys same (to_all _ xs apart.integers));
+  integers = recursion_from_All _ _ (All-permutation (λ r. (n : ℤ) × (column r 0 ≡ Int n)) xs ys same (All-from_recursion _ xs apart.integers));
   apart = IsDistinct-IsPermutation same_value same_flips _ _ (IsPermutation-map (λ r. column r 0) xs ys same) apart.apart;
 }
 

@@ -1,16 +1,17 @@
--- What the CREATE TABLE of a table does, over any schema in which its name is free.
-use Rattle.std.proofs.Common.{◌≡◌, ℕ, ◌==◌, List, [], ◌∷◌, codes, length, find, Bool, true, false, not, ◌&&◌, ◌||◌, is_some, Some, None, Option, Ok, refl, sym, ap, subst, ◌∙◌}
-use Rattle.std.specs.List.{AllByRecursion, list_any}
+-- What the CREATE TABLE of a table does, over any schema in which its name is free, and why it is refused.
+use Rattle.std.proofs.Common.{◌≡◌, ℕ, ◌==◌, List, [], ◌∷◌, codes, length, find, Bool, true, false, not, ◌&&◌, ◌||◌, is_some, Some, None, Option, Ok, refl, sym, ap, subst, ◌∙◌, ◌⊎◌, ◌≤◌, ◌<◌, ◌+◌, ◌*◌, ◌^◌, nat_lt, Err, inl, inr, arith}
+use Rattle.std.proofs.Common.{lit≤}
+use Rattle.std.specs.List.{AllByRecursion, list_any, list_all}
 use Rattle.sqlite.specs.Table.{Table}
 use Rattle.sqlite.specs.Schema.{Schema}
 use Rattle.sqlite.specs.Change.{created, next_tree, is_used}
-use Rattle.sqlite.specs.Does.{Tally, lacks_sequence}
-use Rattle.sqlite.specs.Effect.{Database}
-use Rattle.sqlite.specs.State.{State, Writes, Executes}
+use Rattle.sqlite.specs.Does.{Tally, lacks_sequence, Does, MakesTable, MakesSequence}
+use Rattle.sqlite.specs.Effect.{Database, alter_error}
+use Rattle.sqlite.specs.State.{State, Writes, Executes, ExecutesInside, Fails, IsUnchanged, mode_of}
 use Rattle.sqlite.specs.Command.TheVariants.{CreateTable}
 use Rattle.sqlite.specs.Compile.{compiled, first, planned, meaning, command, create_table, creates, is_attached, is_reserved, with_command, returning, timed, table_defined_by}
 use Rattle.sqlite.specs.Listing.{understood}
-use Rattle.sqlite.proofs.Callers.{IsPlain, command_of, statement_of, runs_as}
+use Rattle.sqlite.proofs.Callers.{statement_of, runs_as}
 use Rattle.sqlite_resolve.specs.Define as define
 use Rattle.sqlite_schema.specs.Names.{table_named, index_named, view_named, same_name}
 use Rattle.sqlite_tied.specs.Compute.{everything}
@@ -27,6 +28,26 @@ use Rattle.store_sql.proofs.TextLemmas.{parsed_or}
 use Rattle.store_tables.proofs.PlaceLemmas.{found}
 use Rattle.store_tables.proofs.FindLemmas.{find_past, lacks_no_more}
 use Rattle.store_tables.specs.declared.tables.StoreTable.TheVariants as store
+use Rattle.std.proofs.lemmas.Bool.{ltb-true}
+use Rattle.std.proofs.lemmas.Str.{IsUtf8-from_ascii}
+use Rattle.std.proofs.lemmas.List.Elements.{All-from_recursion}
+use Rattle.std.proofs.lemmas.Str.Ascii.{IsAscii-from_all}
+use Rattle.std.specs.Str.{IsUtf8}
+use Rattle.sqlite.specs.Rows.{Then}
+use Rattle.sqlite.specs.declared.types.Value.TheVariants.{Text}
+use Rattle.sqlite.specs.declared.error.Error.{Error}
+use Rattle.sqlite_catalog.specs.Calls.{RefusesTable}
+use Rattle.sqlite_catalog.specs.Change.{is_reserved as is_own_name}
+use Rattle.sqlite_catalog.specs.Listing.{is_formed, is_fit}
+use Rattle.sqlite_catalog.specs.declared.error.Refusal as refusal
+use Rattle.sqlite_catalog.specs.declared.error.Refusal.TheVariants as why
+use Rattle.sqlite_rules.specs.Lists.{Has as In}
+use Rattle.sqlite_schema.specs.Rules.{table_reals, index_reals}
+use Rattle.sqlite_trees.specs.Sound.{fits_kind, is_free_name, begins, same_name as same_letters}
+use Rattle.sqlite_value.specs.Order.{value_cmp}
+use Rattle.store_sql.specs.Refusals.{RefusesToMake}
+use Rattle.store_sql.proofs.FaultLemmas.{faults_inside, fails_for, same_stop, no_stop}
+use Rattle.store_sql.proofs.KitLemmas.{all_from, test_has}
 
 abbrev pub nothing_defined : ast.CreateTable
 nothing_defined = record { if_missing = false; name = []; body = record { columns = []; rules = [] }; is_strict = false; resolves = false }
@@ -95,12 +116,6 @@ module _ (text : List ℕ) (p : Parsed) (table : Table) (r : ReadsCreate text p 
     unfolding compiled understood
     compiles = rw (r.read, planned_is) refl
 
-    create_command : command_of (understood schema text) ≡ CreateTable
-    create_command = rw compiles refl
-
-    create_plain : IsPlain (understood schema text)
-    create_plain = rw compiles (refl, refl)
-
     pub text_stays : statement_of text (understood schema text) ≡ text
     text_stays = rw compiles (r.whole ([], (CreateTable, None)))
 
@@ -137,7 +152,8 @@ module _ (text : List ℕ) (p : Parsed) (table : Table) (r : ReadsCreate text p 
 
     pub makes : Executes text [] old new (Ok count) → IsMade table old.now new.now
     makes h =
-        let w = subst (λ t. Writes old new None CreateTable t [] count) (text_stays schema free.unused) (runs_as text [] old new schema refl CreateTable (create_command schema free.unused) (create_plain schema free.unused) count h) in
+        let compiled' = compiles schema free.unused in
+        let w = subst (λ t. Writes old new None CreateTable t [] count) (text_stays schema free.unused) (runs_as text [] old new schema refl CreateTable (rw compiled' refl) (rw compiled' (refl, refl)) count h) in
         let all = went w.changed in
         let first = went all.1 in
         let made = first.1 in
@@ -170,3 +186,98 @@ reads_create store.Kept = record { read = refl; statement = refl; formats = refl
 
 pub makes_table : (t : StoreTable) (old new : State) (count : ℕ) → IsFree old.now.schema (table_of t 0).name → Executes (create_text t) [] old new (Ok count) → IsMade (table_of t 0) old.now new.now
 makes_table t = makes (create_text t) (read_create t) (table_of t 0) (reads_create t)
+
+small_text : (bs : List ℕ) → list_all (λ b. nat_lt b 128) bs ≡ true → IsUtf8 bs
+small_text bs h = IsUtf8-from_ascii bs (IsAscii-from_all bs (All-from_recursion (λ b. b < 128) bs (all_from (λ b. b < 128) bs (λ b listed. ltb-true b 128 (test_has (λ b. nat_lt b 128) bs b h listed)))))
+
+-- What is asked of the text and of the table, beside that the name is free.
+pub record Stands (text : List ℕ) (p : Parsed) (table : Table) : Type 0 where
+  pub whole : length text ≤ p.tail
+  pub names : 0 ≡ length p.names
+  pub is_text : list_all (λ b. nat_lt b 128) text ≡ true
+  pub named : list_all (λ b. nat_lt b 128) table.name ≡ true
+  pub unreserved : is_own_name table.name ≡ false
+  pub formed : is_formed table ≡ true
+  pub fits : is_fit (Text (codes "table")) (Text table.name) (Text table.name) (Text text) ≡ true
+  pub short : 2 * length table.name + length text + 200 < 10 ^ 9
+  pub plain : table_reals table ≡ 0
+  pub keys : (key : List ℕ) → In table.uniques key → index_reals (table_reals table) key < 2 ^ 64
+
+module _ (text : List ℕ) (p : Parsed) (table : Table) (r : ReadsCreate text p table) (s : Stands text p table) (old new : State) (free : IsFree old.now.schema table.name) where
+  is_table : (made : Table) → table_defined_by text ≡ Ok made → made ≡ table
+  is_table made defined = same_value (sym defined ∙ r.defined)
+
+  abbrev Ends : Option Error → Type 0
+  Ends (Some e) = RefusesToMake table old e
+  Ends None = ⊥
+
+  not_reals : ¬ (2 ^ 64 ≤ table_reals table)
+  not_reals h = absurd (let none : 2 ^ 64 ≤ 0 = subst (λ n. 2 ^ 64 ≤ n) s.plain h in omega (arith, none))
+
+  refused : (reason : refusal.Refusal) → RefusesTable old.now.schema text reason → RefusesToMake table old (alter_error reason)
+  refused (why.Invalid e) h = absurd (let both : Err e ≡ Ok table = sym h ∙ r.defined in cc)
+  refused why.NameTaken h = elim h.2 [
+    | inl used ↦ absurd (let both : true ≡ false = sym used ∙ rw (is_table h.0 h.1) free.unused in cc)
+    | inr taken ↦ inl (refl, taken.0, rw (is_table h.0 h.1) at taken.1, taken.2)
+  ]
+  refused why.BadName h = elim h.2 [
+    | inl broken ↦ absurd (broken (rw (is_table h.0 h.1) (small_text table.name s.named)))
+    | inr own ↦ absurd (let both : true ≡ false = sym own.0 ∙ rw (is_table h.0 h.1) s.unreserved in cc)
+  ]
+  refused why.TooBig h = elim (rw (is_table h.0 h.1) at h.2) [
+    | inl many ↦ inr (refl, many)
+    | inr reals ↦ elim reals [ inl wide ↦ absurd (not_reals wide) | inr key ↦ absurd (omega (arith, key.2, s.keys key.0 key.1)) ]
+  ]
+  refused why.BadKey h = absurd (let both : true ≡ false = sym s.formed ∙ rw (is_table h.0 h.1) at h.2 in cc)
+  refused why.BadText h = absurd (let both : true ≡ false = sym s.fits ∙ rw (is_table h.0 h.1) at h.2 in cc)
+  refused (why.Violates rule) h = absurd h
+
+  made : (o : Option Error) → MakesTable text old.now (Err o) → Ends o
+  made None h = absurd (omega (arith, s.short, rw (is_table h.0 h.1) at h.2))
+  made (Some e) (inl h) = absurd (h.0 (small_text text s.is_text))
+  made (Some e) (inr h) = subst (RefusesToMake table old) (sym h.2) (refused h.0 h.1)
+
+  no_sequence : (o : Option Error) (db : Database) → MakesTable text old.now (Ok db) → ¬ MakesSequence db (Err o)
+  no_sequence o db h stops = no_stop (rw (ap lacks_sequence (h.is ∙ ap (created old.now.schema) (is_table h.table h.defined)) ∙ lacks_none text p table r old new 0 free) at stops)
+
+  both_parts : (o : Option Error) → Then (MakesTable text old.now) MakesSequence (Err o) → Ends o
+  both_parts o (inl early) = subst Ends (sym (same_stop early.2)) (made early.0 early.1)
+  both_parts o (inr late) = absurd (no_sequence o late.0 late.1 late.2)
+
+  create_fails : (o : Option Error) → Does old.step_limit (mode_of old) [] old.now text None CreateTable (Err o) → Ends o
+  create_fails o (inl early) = subst Ends (sym (same_stop early.2)) (both_parts early.0 early.1)
+  create_fails o (inr late) = absurd (no_stop late.2)
+
+  pub make_fails : (e : Error) → ExecutesInside 0 text [] old new (Err e) → (RefusesToMake table old e × IsUnchanged old new) ⊎ Fails old new ⊥ e
+  make_fails e h =
+      let cause = faults_inside text p CreateTable [] old new e (compiles text p table r old.now.schema free.unused) s.whole s.names refl refl h in
+      elim (subst (λ t. (Does old.step_limit (mode_of old) [] old.now t None CreateTable (Err (Some e)) × IsUnchanged old new) ⊎ Fails old new (Does old.step_limit (mode_of old) [] old.now t None CreateTable (Err None)) e)
+      (r.whole ([], (CreateTable, None))) cause) [
+        | inl refuses ↦ inl (create_fails (Some e) refuses.0, refuses.1)
+        | inr f ↦ inr (fails_for old new e _ ⊥ (create_fails None) f)
+      ]
+
+-- ---- the texts
+
+-- no key has too many reals, as far as a test tells
+short_keys : (reals : ℕ) (keys : List (List ℕ)) → list_all (λ key. nat_lt (index_reals reals key) (2 ^ 64)) keys ≡ true → (key : List ℕ) → In keys key → index_reals reals key < 2 ^ 64
+short_keys reals keys short key listed = ltb-true _ _ (test_has (λ key. nat_lt (index_reals reals key) (2 ^ 64)) keys key short listed)
+
+pub stands_made : (t : StoreTable) → Stands (create_text t) (read_create t) (table_of t 0)
+unfolding everything read_create fits_kind is_free_name begins same_letters value_cmp lib.Ieee.is_nan lib.Ieee.lt
+stands_made store.Mark =
+    record { whole = lit≤ tt; names = refl; is_text = refl; named = refl; unreserved = refl; formed = refl; fits = refl; short = lit≤ tt; plain = refl; keys = short_keys 0 (table_of store.Mark 0).uniques refl }
+stands_made store.Item =
+    record { whole = lit≤ tt; names = refl; is_text = refl; named = refl; unreserved = refl; formed = refl; fits = refl; short = lit≤ tt; plain = refl; keys = short_keys 0 (table_of store.Item 0).uniques refl }
+stands_made store.Member =
+    record { whole = lit≤ tt; names = refl; is_text = refl; named = refl; unreserved = refl; formed = refl; fits = refl; short = lit≤ tt; plain = refl; keys = short_keys 0 (table_of store.Member 0).uniques refl }
+stands_made store.Edition =
+    record { whole = lit≤ tt; names = refl; is_text = refl; named = refl; unreserved = refl; formed = refl; fits = refl; short = lit≤ tt; plain = refl; keys = short_keys 0 (table_of store.Edition 0).uniques refl }
+stands_made store.Entry =
+    record { whole = lit≤ tt; names = refl; is_text = refl; named = refl; unreserved = refl; formed = refl; fits = refl; short = lit≤ tt; plain = refl; keys = short_keys 0 (table_of store.Entry 0).uniques refl }
+stands_made store.Kept =
+    record { whole = lit≤ tt; names = refl; is_text = refl; named = refl; unreserved = refl; formed = refl; fits = refl; short = lit≤ tt; plain = refl; keys = short_keys 0 (table_of store.Kept 0).uniques refl }
+
+pub make_fails_in : (t : StoreTable) (old new : State) → IsFree old.now.schema (table_of t 0).name → (e : Error) → ExecutesInside 0 (create_text t) [] old new (Err e) → (RefusesToMake (table_of t 0) old e × IsUnchanged old new)
+    ⊎ Fails old new ⊥ e
+make_fails_in t = make_fails (create_text t) (read_create t) (table_of t 0) (reads_create t) (stands_made t)

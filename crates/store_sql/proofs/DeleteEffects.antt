@@ -31,7 +31,7 @@ use Rattle.sqlite_schema.specs.declared.program.Program.{Program}
 use Rattle.sqlite_value.specs.declared.keys.Order.{Order}
 use Rattle.store_tables.specs.Found.{HasTable, is_in}
 use Rattle.store_sql.specs.Effects.{HasApartRowids, IsRemoved, SameOthers, rows_of, table_in, shown, same_value}
-use Rattle.store_sql.proofs.InsertLemmas.{went, same_value as same_ok}
+use Rattle.store_sql.proofs.InsertLemmas.{went, same_value as same_ok, same_some}
 use Rattle.store_sql.proofs.DeleteLemmas.{doomed}
 use Rattle.store_sql.proofs.ListLemmas.{lists, passes}
 use Rattle.store_sql.proofs.RemoveLemmas.{removed, all_map}
@@ -131,11 +131,8 @@ module _ (old new : State) (at : ℕ) (table : Table) (has : HasTable old.now.sc
   table_is : table_in table.name old.now ≡ Some table
   table_is = let named = has.named in let is = has.is in rw (named, is) refl
 
-  same_table : {a b : Table} → ◌≡◌ {A = Option Table} (Some a) (Some b) → a ≡ b
-  same_table e = cc
-
   same_others : (next : Trees) → AllByRecursion (λ t. t.tree ≢ table.tree → next t.tree ≡ db t.tree) old.now.schema.tables → SameOthers table.name old.now (with next)
-  same_others next all other is_other = subst (λ (o : Table). AllByRecursion (λ t. t.tree ≢ o.tree → next t.tree ≡ db t.tree) old.now.schema.tables) (same_table (sym table_is ∙ is_other)) all
+  same_others next all other is_other = subst (λ (o : Table). AllByRecursion (λ t. t.tree ≢ o.tree → next t.tree ≡ db t.tree) old.now.schema.tables) (same_some (sym table_is ∙ is_other)) all
 
   module _ (apart : HasApartRowids (rows_of table.name old.now)) (test : Row → Bool) (tested : (r : Row) → passes params tests r ≡ test (shown table r)) where
     pub left_rows : (rows : List Row) → Answers old.now program params rows → without_all (db table.tree) (ids_of rows) ≡ filter (λ r. not (passes params tests r)) (db table.tree)

@@ -1,6 +1,6 @@
 -- Why a DELETE is refused, over any schema that has its table.
-use Rattle.std.proofs.Common.{◌≡◌, ◌⊎◌, ◌||◌, ℕ, List, [], ◌∷◌, length, filter, find, nat_lt, Bool, true, false, not, Option, Some, None, Ok, Err, inl, inr, refl, sym, ap, subst, ◌∙◌, option_map}
-use Rattle.std.proofs.lemmas.Bool.{cases_Bool}
+use Rattle.std.proofs.Common.{◌≡◌, ◌⊎◌, ◌||◌, ℕ, List, [], length, nat_lt, Bool, true, false, not, Option, Some, None, Ok, Err, inl, inr, refl, sym, ap, subst, ◌∙◌, option_map}
+use Rattle.std.proofs.lemmas.List.Elements.{filter_agree}
 use Rattle.std.specs.List.{AllByRecursion, list_all}
 use Rattle.sqlite.specs.Order.{Row}
 use Rattle.sqlite.specs.Table.{Table}
@@ -19,16 +19,15 @@ use Rattle.sqlite_rules.specs.Action.{Writes}
 use Rattle.sqlite_rules.specs.Edit.{IsRefused, edited}
 use Rattle.sqlite_rules.specs.declared.error.Refusal.{Refusal}
 use Rattle.sqlite_rules.specs.declared.error.Refusal.TheVariants.{Violates, Mismatch, NoRowid, BadReference, TooDeep}
-use Rattle.sqlite_schema.specs.Names.{same_name}
 use Rattle.sqlite_schema.specs.Rules.{Keeps, Refers, is_key_if_to, references_fit}
 use Rattle.sqlite_schema.specs.declared.schema.Among.TheVariants.{All}
 use Rattle.sqlite_schema.specs.declared.schema.Constraint.TheVariants.{Datatype, NotNull, Check, PrimaryKey, Unique, ForeignKey}
 use Rattle.sqlite_schema.specs.declared.schema.Keys.TheVariants.{Enforced}
-use Rattle.sqlite_schema.specs.declared.schema.Reference.{Reference}
-use Rattle.store_tables.specs.Found.{HasTable, is_in}
+use Rattle.store_tables.specs.Found.{HasTable}
 use Rattle.store_sql.specs.Effects.{HasApartRowids, rows_of, table_in, shown}
 use Rattle.store_sql.specs.Refusals.{IsInterrupted, RefusesLoss, RefusesToRemove, without_rows}
-use Rattle.store_sql.proofs.AddFaults.{with_same, flipped}
+use Rattle.store_sql.proofs.AddFaults.{with_same}
+use Rattle.store_sql.proofs.KitLemmas.{all_has, test_from}
 use Rattle.store_sql.proofs.DeleteEffects.{program, edit, no_works, took, task, left_rows}
 use Rattle.store_tables.proofs.NameLemmas.{not_parent}
 use Rattle.store_sql.proofs.FaultLemmas.{failed_step, fails_for, same_refers, same_stop, no_stop}
@@ -40,28 +39,13 @@ either_way : (b : Bool) → (not b || true) ≡ true
 either_way true = refl
 either_way false = refl
 
-filter_same : (p q : Row → Bool) → ((r : Row) → p r ≡ q r) → (rows : List Row) → filter (λ r. not (p r)) rows ≡ filter (λ r. not (q r)) rows
-filter_same p q same [] = refl
-filter_same p q same (r ∷ rows) = elim (cases_Bool (q r)) [
-  | inl gone ↦ rw (same r, gone) (filter_same p q same rows)
-  | inr left ↦ rw (same r, left) (ap (λ rest. r ∷ rest) (filter_same p q same rows))
-]
-
 module _ (old new : State) (at : ℕ) (table : Table) (has : HasTable old.now.schema at table) (tests : List Term) (text : List ℕ) (params : Row) where
   abbrev db : Trees
   db = old.now.trees
 
-  fit_by : (refs : List Reference) → AllByRecursion (λ (ref : Reference). is_in table.tree (find (λ t. same_name t.name ref.parent) old.now.schema.tables) ≡ false) refs → list_all (is_key_if_to old.now.schema table) refs ≡ true
-  fit_by [] h = refl
-  fit_by (ref ∷ refs) h = rw (not_parent old.now.schema at table has ref h.0) (fit_by refs h.1)
-
-  fit_among : (ts : List Table) → AllByRecursion (λ child. AllByRecursion (λ (ref : Reference). is_in table.tree (find (λ t. same_name t.name ref.parent) old.now.schema.tables) ≡ false) child.references) ts
-      → list_all (λ (t : Table). list_all (is_key_if_to old.now.schema table) t.references) ts ≡ true
-  fit_among [] h = refl
-  fit_among (t ∷ ts) h = rw (fit_by t.references h.0) (fit_among ts h.1)
-
   fits : (goes : Bool) → references_fit old.now.schema table false goes ≡ true
-  fits goes = rw (fit_among old.now.schema.tables has.unreferred) (either_way goes)
+  fits goes = rw (test_from (λ (t : Table). list_all (is_key_if_to old.now.schema table) t.references) old.now.schema.tables (λ t listed. test_from (is_key_if_to old.now.schema table) t.references (λ ref named.
+      rw (not_parent old.now.schema at table has ref (all_has _ t.references ref (all_has _ old.now.schema.tables t has.unreferred listed) named)) refl))) (either_way goes)
 
   module _ (apart : HasApartRowids (rows_of table.name old.now)) (test : Row → Bool) (tested : (r : Row) → passes params tests r ≡ test (shown table r))
       (accepts : accepts_program old.now.schema [] (program old new at table has tests text params 0).body params ≡ true) (flows : ¬ ProgramOverflows db params [] [] (program old new at table has tests text params 0).body)
@@ -71,7 +55,8 @@ module _ (old new : State) (at : ℕ) (table : Table) (has : HasTable old.now.sc
       Ends None = ⊥
 
       left : (rows : List Row) → Answers old.now (program old new at table has tests text params 0) params rows → with_tree db table.tree (edited db (edit old new at table has tests text params 0 rows)) ≡ without_rows old.now table test
-      left rows answers = ap (with_tree db table.tree) (left_rows old new at table has tests text params 0 apart test tested rows answers ∙ filter_same (passes params tests) (λ r. test (shown table r)) tested (db table.tree))
+      left rows answers = ap (with_tree db table.tree) (left_rows old new at table has tests text params 0 apart test tested rows answers
+          ∙ filter_agree (λ r. not (passes params tests r)) (λ r. not (test (shown table r))) (λ r. ap not (tested r)) (db table.tree))
 
       narrowed : (rows : List Row) → Answers old.now (program old new at table has tests text params 0) params rows → (why : Refusal) → IsRefused old.now.schema Enforced db (edit old new at table has tests text params 0 rows) why
           → RefusesLoss table test old.now (edit_error why)
@@ -112,7 +97,7 @@ module _ (old new : State) (at : ℕ) (table : Table) (has : HasTable old.now.sc
           let gone = took old new at table has tests text params 0 it h in
           let same = with_same db gone.1 table.tree (edited db (edit old new at table has tests text params 0 gone.0)) gone.3.rows old.now.schema.tables gone.3.tables in
           subst (Refers All old.now.schema) (sym gone.4) (same_refers old.now.schema (without_rows old.now table test) gone.1
-          (flipped _ _ old.now.schema.tables (subst (λ (trees : Trees). AllByRecursion (λ t. gone.1 t.tree ≡ trees t.tree) old.now.schema.tables) (left gone.0 gone.2) same)) refers)
+          (subst (λ (trees : Trees). AllByRecursion (λ t. gone.1 t.tree ≡ trees t.tree) old.now.schema.tables) (left gone.0 gone.2) same) refers)
 
       concluded : (o : Option Error) (it : Written) → Deletes (task old new at table has tests text params 0) (program old new at table has tests text params 0) db (Ok it)
           → Concludes (task old new at table has tests text params 0) (mode_of old) None it (Err o) → Ends o

@@ -1,8 +1,7 @@
 -- Why a text that writes is refused, whatever it writes.
-use Rattle.std.proofs.Common.{◌≡◌, ◌≢◌, ◌⊎◌, ◌≤◌, ℕ, zero, suc, List, [], ◌∷◌, length, Bool, true, false, not, ◌||◌, Option, Some, None, Ok, Err, Result, inl, inr, refl, sym, ap, subst, ◌∙◌, append-nil, length-append}
-use Rattle.std.proofs.Common.{arith, find, option_map, option_and_then}
-use Rattle.std.proofs.lemmas.Bool.{cases_Bool}
-use Rattle.std.specs.List.{AllByRecursion, list_any, list_all}
+use Rattle.std.proofs.Common.{◌≡◌, ◌≢◌, ◌⊎◌, ◌≤◌, ℕ, zero, suc, List, [], ◌∷◌, length, Bool, true, false, Option, Some, None, Ok, Err, Result, inl, inr, refl, sym, ap, subst, ◌∙◌, append-nil, length-append}
+use Rattle.std.proofs.Common.{arith, MatchBool}
+use Rattle.std.specs.List.{AllByRecursion}
 use Rattle.sqlite.specs.Order.{Row}
 use Rattle.sqlite.specs.Table.{Table}
 use Rattle.sqlite.specs.Schema.{Schema}
@@ -16,23 +15,21 @@ use Rattle.sqlite.specs.Edit.{Edit}
 use Rattle.sqlite.specs.Listing.{understood}
 use Rattle.sqlite.specs.State.{State, Executes, ExecutesIn, ExecutesInside, EndsScope, Escapes, IsMisplaced, IsNoStatement, IsNotRun, RunsAlone, RunsCommand, Fails, HasCause, IsUnchanged, mode_of, shows_rows, text_of}
 use Rattle.sqlite.specs.declared.error.Error.{Error}
-use Rattle.sqlite.specs.declared.error.Error.TheVariants.{SqliteFailure, MultipleStatement, InvalidParameterCount}
+use Rattle.sqlite.specs.declared.error.Error.TheVariants.{ExecuteReturnedResults, SqliteFailure, MultipleStatement, InvalidParameterCount}
 use Rattle.sqlite.specs.declared.error.ErrorCode.TheVariants.{NoClock}
 use Rattle.sqlite_resolve.specs.declared.compiled.Compiled.{Compiled}
 use Rattle.sqlite_rules.specs.Action.{works, Leads, Writes}
 use Rattle.sqlite_rules.specs.Edit.{IsRefused, IsOversized, taken_by}
 use Rattle.sqlite_rules.specs.Lists.{Has as In}
 use Rattle.sqlite_rules.specs.declared.error.Refusal.{Refusal}
-use Rattle.sqlite_schema.specs.Names.{same_name}
-use Rattle.sqlite_schema.specs.Rules.{Refers, key_in, key_places, declared_order, has_parent, is_held, has_null, is_among, agree}
+use Rattle.sqlite_schema.specs.Rules.{Refers}
 use Rattle.sqlite_schema.specs.declared.schema.Among.TheVariants.{All}
 use Rattle.sqlite_schema.specs.declared.schema.Keys.{Keys}
-use Rattle.sqlite_schema.specs.declared.schema.Reference.{Reference}
 use Rattle.sqlite_syntax.specs.declared.statement.Parsed.{Parsed}
 use Rattle.sqlite_trees.specs.declared.error.StoreError.{StoreError}
 use Rattle.sqlite_trees.specs.declared.error.StoreError.TheVariants as why
-use Rattle.sqlite_value.specs.declared.keys.Order.{Order}
 use Rattle.store_sql.proofs.InsertLemmas.{same_value}
+use Rattle.store_sql.proofs.KitLemmas.{all_has, refers_same}
 
 -- a command that begins or ends a transaction, or goes back in it
 abbrev pub is_of_transactions : Command → Bool
@@ -71,6 +68,18 @@ module _ (old new : State) (e : Error) where
   fails_for P Q f h = (h.0, h.1, moved P Q f h.0 h.2, h.3, h.4)
 
 -- ---- the text is run, or the store failed
+
+-- a text that failed has changed nothing, or the store failed
+pub failed_so : {A : Type 0} (old new : State) (text : List ℕ) (params : Row) (e : Error) → (IsUnchanged old new → A) → ((P : Type 0) → Fails old new P e → A) → Executes text params old new (Err e) → A
+unfolding ExecutesIn IsNotRun
+failed_so old new text params e same fails (inl (inl h)) = same h.1
+failed_so old new text params e same fails (inl (inr f)) = fails ⊥ f
+failed_so {A} old new text params e same fails (inr h) = alone h.0 (timed params h.0.formats h.1.now) (shows_rows false h.0) h.2
+  where
+    alone : (c : Compiled) (given : Row) (shows : Bool) → MatchBool shows ((◌≡◌ {A = Result ℕ Error} (Err e) (Err ExecuteReturnedResults)) × IsUnchanged old new) (RunsCommand old new text c given (Err e)) → A
+    alone c given true h = same h.1
+    alone c given false (inl h) = same h.1
+    alone c given false (inr f) = fails _ f
 
 module _ (text : List ℕ) (p : Parsed) (command : Command) (params : Row) (old new : State) (e : Error)
     (is : understood old.now.schema text ≡ Ok (with_command p ([], (command, None))))
@@ -146,57 +155,6 @@ failed_step schema keys db edit end none (inr (inr went)) = absurd (unsettled we
     unsettled zero h = no_stop h.1
     unsettled (suc n) h = omega (arith, ap length h.2, length-append h.0 (h.1 ∷ []))
 
--- ---- the rows of the tables are the same, and so are the rows that the foreign keys name
-
-find_all : {X : Type 0} (P : X → Type 0) (p : X → Bool) (xs : List X) → AllByRecursion P xs → (x : X) → find p xs ≡ Some x → P x
-find_all P p [] h x is = absurd (let e = is in cc)
-find_all P p (y ∷ xs) h x is = elim (cases_Bool (p y)) [
-  | inl hit ↦ (let same : y ≡ x = some (rw hit at is) in subst P same h.0)
-  | inr miss ↦ find_all P p xs h.1 x (rw miss at is)
-]
-  where
-    some : {X : Type 0} {a b : X} → ◌≡◌ {A = Option X} (Some a) (Some b) → a ≡ b
-    some e = cc
-
-module _ (schema : Schema) (a b : Trees) (same : AllByRecursion (λ t. a t.tree ≡ b t.tree) schema.tables) where
-  held_by : (row : Row) (columns : List ℕ) (t : Table) → a t.tree ≡ b t.tree → (places : List ℕ) (o : Option Order)
-      → is_held a columns row (option_map (λ (o : Order). (t.tree, places, o)) o) ≡ is_held b columns row (option_map (λ (o : Order). (t.tree, places, o)) o)
-  held_by row columns t rows places None = refl
-  held_by row columns t rows places (Some o) = ap (list_any (λ parent. agree o places parent columns row)) rows
-
-  held_in : (row : Row) (columns : List ℕ) (t : Table) → a t.tree ≡ b t.tree → (places : Option (List ℕ)) → is_held a columns row (option_and_then (key_in t) places) ≡ is_held b columns row (option_and_then (key_in t) places)
-  held_in row columns t rows None = refl
-  held_in row columns t rows (Some places) = held_by row columns t rows places (declared_order t places)
-
-  held_as : (row : Row) (ref : Reference) (found : Option Table) → ((t : Table) → found ≡ Some t → a t.tree ≡ b t.tree)
-      → is_held a ref.columns row (option_and_then (λ t. option_and_then (key_in t) (key_places t ref.parent_columns)) found)
-      ≡ is_held b ref.columns row (option_and_then (λ t. option_and_then (key_in t) (key_places t ref.parent_columns)) found)
-  held_as row ref None there = refl
-  held_as row ref (Some t) there = held_in row ref.columns t (there t refl) (key_places t ref.parent_columns)
-
-  same_parent : (row : Row) (ref : Reference) → has_parent schema.tables a row ref ≡ has_parent schema.tables b row ref
-  same_parent row ref = ap (λ held. has_null ref.columns row || held) (held_as row ref (find (λ t. same_name t.name ref.parent) schema.tables) (find_all (λ t. a t.tree ≡ b t.tree) (λ t. same_name t.name ref.parent) schema.tables same))
-
-  refers_row : (row : Row) (refs : List Reference) → list_all (λ ref. not (is_among All ref) || has_parent schema.tables a row ref) refs ≡ true → list_all (λ ref. not (is_among All ref) || has_parent schema.tables b row ref) refs ≡ true
-  refers_row row [] h = refl
-  refers_row row (ref ∷ refs) h = elim (cases_Bool (has_parent schema.tables a row ref)) [
-    | inl here ↦ (let there = sym (same_parent row ref) ∙ here in rw there (refers_row row refs (rw here at h)))
-    | inr none ↦ absurd (let both = rw none at h in cc)
-  ]
-
-  refers_rows : (refs : List Reference) (rows : List Row) → AllByRecursion (λ row. list_all (λ ref. not (is_among All ref) || has_parent schema.tables a row ref) refs ≡ true) rows
-      → AllByRecursion (λ row. list_all (λ ref. not (is_among All ref) || has_parent schema.tables b row ref) refs ≡ true) rows
-  refers_rows refs [] h = tt
-  refers_rows refs (row ∷ rows) h = (refers_row row refs h.0, refers_rows refs rows h.1)
-
-  refers_tables : (ts : List Table) → AllByRecursion (λ t. a t.tree ≡ b t.tree) ts
-      → AllByRecursion (λ t. AllByRecursion (λ row. list_all (λ ref. not (is_among All ref) || has_parent schema.tables a row ref) t.references ≡ true) (a t.tree)) ts
-      → AllByRecursion (λ t. AllByRecursion (λ row. list_all (λ ref. not (is_among All ref) || has_parent schema.tables b row ref) t.references ≡ true) (b t.tree)) ts
-  refers_tables [] rows h = tt
-  refers_tables (t ∷ ts) rows h = (
-    subst (AllByRecursion (λ row. list_all (λ ref. not (is_among All ref) || has_parent schema.tables b row ref) t.references ≡ true)) rows.0 (refers_rows t.references (a t.tree) h.0),
-    refers_tables ts rows.1 h.1,
-  )
-
-  pub same_refers : Refers All schema a → Refers All schema b
-  same_refers h = refers_tables schema.tables same h
+-- the rows of the tables are the same, and so are the rows that the foreign keys name
+pub same_refers : (schema : Schema) (a b : Trees) → AllByRecursion (λ t. b t.tree ≡ a t.tree) schema.tables → Refers All schema a → Refers All schema b
+same_refers schema a b same = refers_same All schema a b (λ t. all_has (λ (t : Table). b t.tree ≡ a t.tree) schema.tables t same)

@@ -1,9 +1,8 @@
 -- What an INSERT of one row does to the rows of a table, whatever else the schema has.
-use Rattle.std.proofs.Common.{◌≡◌, ◌≢◌, ◌⊎◌, ◌==◌, ◌/◌, Ordering, Less, Equal, Greater, inl, inr, ℕ, ℤ, List, [], ◌∷◌, map, length, slice_get, Bool, true, false, ◌&&◌, ◌||◌, cond, Option, Some, None, Ok, Err, Result}
+use Rattle.std.proofs.Common.{◌≡◌, ◌≢◌, ◌⊎◌, ◌/◌, Ordering, Less, Equal, Greater, inl, inr, ℕ, ℤ, List, [], ◌∷◌, map, length, slice_get, Bool, true, false, ◌||◌, cond, Option, Some, None, Ok, Err, Result}
 use Rattle.std.proofs.Common.{refl, sym, ap, subst, subst₂, ◌∙◌, append-nil}
 use Rattle.std.proofs.lemmas.List.Sorted.{IsPermutation-refl, IsPermutation-cons, IsPermutation-trans, IsPermutation-map, IsPermutation-middle}
 use Rattle.std.specs.List.Sorted.{IsPermutation}
-use Rattle.std.specs.List.{flat_map, filter_map}
 use Rattle.std.specs.Ordering.{is_eq, match_ordering}
 use Rattle.sqlite.specs.Kind.TheVariants.{Integer}
 use Rattle.sqlite.specs.Ops.{unary}
@@ -14,10 +13,9 @@ use Rattle.sqlite.specs.declared.types.Value.{Value}
 use Rattle.sqlite.specs.declared.types.Value.TheVariants.{Null, Int}
 use Rattle.sqlite.specs.Order.{Row, column, value_cmp}
 use Rattle.std.specs.Cmp.{tied_itself}
-use Rattle.store_sql.proofs.KitLemmas.{value_cmp_total}
+use Rattle.store_sql.proofs.KitLemmas.{no_works, value_cmp_total}
 use Rattle.sqlite.specs.Tree.{Trees, rowid, put_row}
 use Rattle.sqlite.specs.Table.{Table}
-use Rattle.sqlite.specs.Schema.{Schema}
 use Rattle.sqlite.specs.Source.TheVariants.{Values}
 use Rattle.sqlite.specs.Command.TheVariants.{Insert}
 use Rattle.sqlite.specs.Edit.{Edit, edit_of, is_taken, next_rowid}
@@ -34,35 +32,8 @@ use Rattle.sqlite.specs.Effect.{Database, IsDatabase, SparesFrozen, value_rows}
 use Rattle.std.specs.List.{AllByRecursion}
 use Rattle.sqlite.specs.State.{State, Writes}
 use Rattle.sqlite.proofs.Callers.{one_step}
-use Rattle.sqlite_schema.specs.declared.schema.Keys.{Keys}
 use Rattle.sqlite_schema.specs.declared.schema.Column.{Column}
 use Rattle.sqlite_value.specs.declared.keys.Order.{Order}
-use Rattle.sqlite_rules.specs.Action.{works, work_for, work_by, deed_for}
-use Rattle.sqlite_schema.specs.Rules.{parent_key, ParentKey}
-use Rattle.sqlite_rules.specs.declared.action.Deed.{Deed}
-use Rattle.sqlite_schema.specs.declared.schema.Reference.{Reference}
-
--- ---- no row goes, so no foreign key acts
-
-and_false : (a : Bool) → (a && false) ≡ false
-and_false true = refl
-and_false false = refl
-
-no_work_by : (tree : ℕ) (child : Table) (ref : Reference) (deed : Option Deed) (key : Option ParentKey) → work_by 0 tree [] child ref deed key ≡ None
-no_work_by tree child ref None key = refl
-no_work_by tree child ref (Some deed) None = refl
-no_work_by tree child ref (Some deed) (Some key) = rw and_false refl
-
-no_work_in : (schema : Schema) (keys : Keys) (tree : ℕ) (news : List Row) (child : Table) (refs : List Reference) → filter_map (work_for schema keys 0 tree [] news child) refs ≡ []
-no_work_in schema keys tree news child [] = refl
-no_work_in schema keys tree news child (ref ∷ refs) = rw (no_work_by tree child ref (deed_for keys (length news == 0) ref) (parent_key schema.tables ref)) (no_work_in schema keys tree news child refs)
-
-no_works_among : (schema : Schema) (keys : Keys) (tree : ℕ) (news : List Row) (tables : List Table) → flat_map (λ child. filter_map (work_for schema keys 0 tree [] news child) child.references) tables ≡ []
-no_works_among schema keys tree news [] = refl
-no_works_among schema keys tree news (t ∷ tables) = rw (no_work_in schema keys tree news t t.references) (no_works_among schema keys tree news tables)
-
-pub no_works : (schema : Schema) (keys : Keys) (tree : ℕ) (news : List Row) → works schema keys 0 tree [] news ≡ []
-no_works schema keys tree news = no_works_among schema keys tree news schema.tables
 
 -- ---- a row whose rowid is free is put in, and no row is lost
 
@@ -99,6 +70,9 @@ went (inr on) = on
 
 pub same_value : {B E : Type 0} {a b : B} → ◌≡◌ {A = Result B E} (Ok a) (Ok b) → a ≡ b
 same_value e = cc
+
+pub same_some : {B : Type 0} {a b : B} → ◌≡◌ {A = Option B} (Some a) (Some b) → a ≡ b
+same_some e = cc
 
 -- ---- a rowid that is not taken
 
@@ -138,7 +112,7 @@ module _ (old new : State) (at : ℕ) (name : List ℕ) (tree : ℕ) (columns : 
         let counted = went written.2 in
         let trees : it.trees ≡ written.0 = ap (λ (it : Written). it.trees) (same_value counted.2) ∙ same_value counted.1 in
         let rows : given.0 ≡ row ∷ [] = given.1.1 ∙ ap (λ p. value_rows p width (length terms / width) terms) (append-nil params) ∙ one in
-        let step = one_step old.now.schema Enforced db written.0 (edit_of db table [] Chosen 0 given.0) (no_works old.now.schema Enforced tree (edit_of db table [] Chosen 0 given.0).news) written.1 in
+        let step = one_step old.now.schema Enforced db written.0 (edit_of db table [] Chosen 0 given.0) (no_works old.now.schema Enforced 0 tree (edit_of db table [] Chosen 0 given.0).news) written.1 in
         (written.0, subst (λ all. Applies old.now.schema Enforced db (edit_of db table [] Chosen 0 all) written.0) rows step, trees)
 
     inserted : Writes old new None (Insert at (Values terms width)) text params count → (next : Trees) × Applies old.now.schema Enforced db edit next × (new.now ≡ with next)
@@ -163,12 +137,9 @@ module _ (old new : State) (at : ℕ) (name : List ℕ) (tree : ℕ) (columns : 
     table_is : table_in name old.now ≡ Some table
     table_is = rw (named, is) refl
 
-    same_table : {a b : Table} → ◌≡◌ {A = Option Table} (Some a) (Some b) → a ≡ b
-    same_table e = cc
-
     same_others : (next : Trees) → AllByRecursion (λ t. t.tree ≢ tree → next t.tree ≡ db t.tree) old.now.schema.tables → SameOthers name old.now (with next)
     same_others next all other is_other =
-        let e : table ≡ other = same_table (sym table_is ∙ is_other) in subst (λ (o : Table). AllByRecursion (λ t. t.tree ≢ o.tree → next t.tree ≡ db t.tree) old.now.schema.tables) e all
+        let e : table ≡ other = same_some (sym table_is ∙ is_other) in subst (λ (o : Table). AllByRecursion (λ t. t.tree ≢ o.tree → next t.tree ≡ db t.tree) old.now.schema.tables) e all
 
     -- the row that is stored, and what it shows
     module _ (id : ℤ) (rest cells : Row) (stored : edit.news ≡ (Int id ∷ rest) ∷ []) (shows : shown table (Int id ∷ rest) ≡ Int id ∷ cells) where

@@ -1,4 +1,4 @@
--- What kind of command a text is, over any schema, so that it is known of a connection that shows no tables too.
+-- What kind of command a text is, over any schema, so that it is known of a connection that shows no tables too; the texts of the statements leave a transaction open.
 use Rattle.std.proofs.Common.{◌≡◌, ℕ, ◌+◌, ◌==◌, List, [], Bool, true, false, not, ◌&&◌, None, Some, Ok, Err, Result, IfOk, inl, inr, length, if◌then◌else◌, is_some}
 use Rattle.std.specs.Prelude.{Option}
 use Rattle.std.specs.Option.{option_or}
@@ -27,7 +27,16 @@ use Rattle.sqlite_schema.specs.Names.{table_named, index_named, view_named}
 use Rattle.sqlite_schema.specs.declared.command.Returning.{Returning}
 use Rattle.sqlite_schema.specs.declared.program.Program.{Program}
 use Rattle.sqlite_syntax.specs.declared.statement.Parsed.{Parsed}
+use Rattle.sqlite.specs.Term.{Term}
+use Rattle.store_tables.specs.declared.tables.StoreTable.{StoreTable}
+use Rattle.store_sql.specs.Creates.{create_text}
+use Rattle.store_sql.specs.Deletes.{clear_text}
+use Rattle.store_sql.specs.Drops.{drop_text}
 use Rattle.store_sql.specs.Transactions.{LeavesOpen, EndsNothing}
+use Rattle.store_sql.proofs.CreateLemmas.{ReadsCreate, def_in, reads_create}
+use Rattle.store_sql.proofs.DeleteTexts.{ReadsDelete, reads_clear}
+use Rattle.store_sql.proofs.DropLemmas.{ReadsDrop, reads_drop}
+use Rattle.store_sql.proofs.TextLemmas.{ReadsInsert, cols_in, rows_in}
 
 then_gives : {A B : Type 0} (P : B → Type 0) (r : Result A CompileError) (f : A → Result B CompileError) → ((a : A) → IfOk (f a) P) → IfOk (and_then r f) P
 then_gives P (Ok a) f h = h a
@@ -56,8 +65,7 @@ module _ (K : Command → Type 0) (schema : Schema) (p : Parsed) (kind : (base :
   meaning_gives : (base : ℕ) → IfOk (meaning schema p base) (λ m. K m.0)
   unfolding meaning
   meaning_gives base =
-      then_gives {A = Option Returning} {B = Command × Option Returning} (λ m. K m.0) (returning schema base p.statement) (λ shown. and_then (command schema p.formats base p.statement) (λ c. Ok (c, shown)))
-      (λ shown. then_with {A = Command} {B = Command × Option Returning} K (λ m. K m.0) (command schema p.formats base p.statement) (λ c. Ok (c, shown)) (kind base) (λ c k. k))
+      then_gives {A = Option Returning} (λ m. K m.0) (returning schema base p.statement) _ (λ shown. then_with {A = Command} K (λ m. K m.0) (command schema p.formats base p.statement) _ (kind base) (λ c k. k))
 
   planned_gives : IfOk (planned schema p) (λ plan. K plan.1.0)
   unfolding planned
@@ -83,17 +91,13 @@ module _ (schema : Schema) (formats : List (List ℕ)) (base : ℕ) where
   insert_kind : (name : List ℕ) (cols : List (List ℕ)) (rows : Rows) → IfOk (command schema formats base (written.Insert conflict.Abort name cols rows [] [])) LeavesOpen
   unfolding command insert_or_abort insert
   insert_kind name cols rows =
-      then_gives {A = ℕ} {B = Command} LeavesOpen (target schema name) (λ at. and_then (table_at schema at) (λ table. and_then (new_rows schema table base cols rows) (λ s. Ok (Insert at s))))
-      (λ at. then_gives {A = Table} {B = Command} LeavesOpen (table_at schema at) (λ table. and_then (new_rows schema table base cols rows) (λ s. Ok (Insert at s)))
-      (λ table. then_gives {A = Source} {B = Command} LeavesOpen (new_rows schema table base cols rows) (λ s. Ok (Insert at s)) (λ s. tt)))
+      then_gives {A = ℕ} LeavesOpen (target schema name) _ (λ at. then_gives {A = Table} LeavesOpen (table_at schema at) _ (λ table. then_gives {A = Source} LeavesOpen (new_rows schema table base cols rows) _ (λ s. tt)))
 
   delete_kind : (name : List ℕ) (test : Option Expr) → IfOk (command schema formats base (written.Delete name test [])) LeavesOpen
   unfolding command delete
   delete_kind name test =
-      then_gives {A = ℕ} {B = Command} LeavesOpen (target schema name) (λ at. and_then (table_at schema at) (λ table. and_then (deleted schema at table test) (λ d. and_then (program schema [] d) (λ q. Ok (Delete at q)))))
-      (λ at. then_gives {A = Table} {B = Command} LeavesOpen (table_at schema at) (λ table. and_then (deleted schema at table test) (λ d. and_then (program schema [] d) (λ q. Ok (Delete at q))))
-      (λ table. then_gives {A = Draft} {B = Command} LeavesOpen (deleted schema at table test) (λ d. and_then (program schema [] d) (λ q. Ok (Delete at q)))
-      (λ d. then_gives {A = Program} {B = Command} LeavesOpen (program schema [] d) (λ q. Ok (Delete at q)) (λ q. tt))))
+      then_gives {A = ℕ} LeavesOpen (target schema name) _ (λ at. then_gives {A = Table} LeavesOpen (table_at schema at) _
+      (λ table. then_gives {A = Draft} LeavesOpen (deleted schema at table test) _ (λ d. then_gives {A = Program} LeavesOpen (program schema [] d) _ (λ q. tt))))
 
   create_kind : (def : ast_table.CreateTable) → IfOk (command schema formats base (written.CreateTable def)) LeavesOpen
   unfolding command create_table
@@ -115,15 +119,24 @@ module _ (schema : Schema) (formats : List (List ℕ)) (base : ℕ) where
 
 -- ---- a text of that form
 
-module _ (text : List ℕ) (p : Parsed) (read : first text ≡ Ok p) where
-  pub insert_ends_nothing : (name : List ℕ) (cols : List (List ℕ)) (rows : Rows) → p.statement ≡ written.Insert conflict.Abort name cols rows [] [] → EndsNothing text
-  insert_ends_nothing name cols rows is = kind_of_text LeavesOpen text p read (λ schema base. rw is (insert_kind schema p.formats base name cols rows))
+module _ (text : List ℕ) (p : Parsed) where
+  pub insert_ends_none : (table : ℕ → Table) (s : Source) → ReadsInsert text p table s → EndsNothing text
+  insert_ends_none table s r = kind_of_text LeavesOpen text p r.read (λ schema base. rw (r.statement 0) (insert_kind schema p.formats base (table 0).name (cols_in p.statement) (rows_in p.statement)))
 
-  pub delete_ends_nothing : (name : List ℕ) (test : Option Expr) → p.statement ≡ written.Delete name test [] → EndsNothing text
-  delete_ends_nothing name test is = kind_of_text LeavesOpen text p read (λ schema base. rw is (delete_kind schema p.formats base name test))
+  pub delete_ends_none : (table : ℕ → Table) (condition : Option Expr) (filter : List Term) (left : ℕ) → ReadsDelete text p table condition filter left → EndsNothing text
+  delete_ends_none table condition filter left r = kind_of_text LeavesOpen text p r.read (λ schema base. rw (r.statement 0) (delete_kind schema p.formats base (table 0).name condition))
 
-  pub create_ends_nothing : (def : ast_table.CreateTable) → p.statement ≡ written.CreateTable def → EndsNothing text
-  create_ends_nothing def is = kind_of_text LeavesOpen text p read (λ schema base. rw is (create_kind schema p.formats base def))
+  pub create_ends_none : (table : Table) → ReadsCreate text p table → EndsNothing text
+  create_ends_none table r = kind_of_text LeavesOpen text p r.read (λ schema base. rw r.statement (create_kind schema p.formats base (def_in p.statement)))
 
-  pub drop_ends_nothing : (if_exists : Bool) (name : List ℕ) → p.statement ≡ written.DropTable if_exists name → EndsNothing text
-  drop_ends_nothing if_exists name is = kind_of_text LeavesOpen text p read (λ schema base. rw is (drop_kind schema p.formats base if_exists name))
+  pub drop_ends_none : (table : ℕ → Table) → ReadsDrop text p table → EndsNothing text
+  drop_ends_none table r = kind_of_text LeavesOpen text p r.read (λ schema base. rw (r.statement 0) (drop_kind schema p.formats base false (table 0).name))
+
+pub make_ends_none : (t : StoreTable) → EndsNothing (create_text t)
+make_ends_none t = create_ends_none _ _ _ (reads_create t)
+
+pub clear_ends_none : (t : StoreTable) → EndsNothing (clear_text t)
+clear_ends_none t = delete_ends_none _ _ _ _ _ _ (reads_clear t)
+
+pub take_ends_none : (t : StoreTable) → EndsNothing (drop_text t)
+take_ends_none t = drop_ends_none _ _ _ (reads_drop t)

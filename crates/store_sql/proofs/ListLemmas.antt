@@ -58,11 +58,8 @@ module _ (tree : ℕ) (tests project : List Term) (order : List (Term × Key)) (
     abbrev HasItsKeys : Output → Type 0
     HasItsKeys o = o.0 ≡ keys o.1
 
-    has_its_keys : (r : Row) → HasItsKeys (output q (env r))
-    has_its_keys r = keyed r ∙ ap keys (sym (shows r))
-
     keyed_all : (rows : List Row) → All HasItsKeys (map (output q) (map env rows))
-    keyed_all rows = All-map HasItsKeys (output q) (map env rows) (All-map (λ e. HasItsKeys (output q e)) env rows (λ k d low. has_its_keys (get_or rows k d)))
+    keyed_all rows = All-map HasItsKeys (output q) (map env rows) (All-map (λ e. HasItsKeys (output q e)) env rows (λ k d low. keyed (get_or rows k d) ∙ ap keys (sym (shows (get_or rows k d)))))
 
     -- the order of two rows that are shown
     abbrev pub in_order : Row → Row → Ordering
@@ -82,11 +79,8 @@ module _ (tree : ℕ) (tests project : List Term) (order : List (Term × Key)) (
       staged : a.staged ≡ map env (chosen (db tree))
       staged = a.grouped ∙ rw (overlaid (nat_le (2 ^ 31) tree) tree (db tree)) (matched params tests (db tree))
 
-      kept : a.kept ≡ map (output q) (map env (chosen (db tree)))
-      kept = a.distinct ∙ ap (map (output q)) staged
-
       same : IsPermutation (map (output q) (map env (chosen (db tree)))) a.ordered
-      same = subst (λ k. IsPermutation k a.ordered) kept a.same
+      same = subst (λ k. IsPermutation k a.ordered) (a.distinct ∙ ap (map (output q)) staged) a.same
 
       pub lists : IsPermutation (map show (chosen (db tree))) rows
       lists =

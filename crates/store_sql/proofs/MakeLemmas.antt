@@ -1,5 +1,6 @@
 -- What a database has once tables were made in it, one after the other.
-use Rattle.std.proofs.Common.{◌≡◌, ◌==◌, ◌<◌, ◌≤◌, ◌+◌, ◌^◌, ◌++◌, take, length, get_or, IsTrue, zero, suc, ℕ, List, [], ◌∷◌, find, true, false, Some, slice_get, refl, sym, ap, subst, ◌∙◌, arith}
+use Rattle.std.proofs.Common.{◌≡◌, ◌==◌, ◌<◌, ◌≤◌, ◌+◌, ◌^◌, ◌++◌, take, length, get_or, IsTrue, zero, suc, ℕ, List, [], ◌∷◌, find, true, false, Some, inl, slice_get, refl, sym, ap, subst, ◌∙◌, arith}
+use Rattle.std.proofs.lemmas.Option.{slice_get-get_or}
 use Rattle.std.specs.List.{AllByRecursion, AllZip, list_any}
 use Rattle.sqlite.specs.Table.{Table}
 use Rattle.sqlite.specs.Schema.{Schema}
@@ -9,7 +10,8 @@ use Rattle.sqlite.specs.Change.{next_tree, is_used}
 use Rattle.sqlite.specs.State.{State, KeepsCommit}
 use Rattle.sqlite.specs.Disk.{MoreFaults}
 use Rattle.sqlite.specs.declared.error.Error.{Error}
-use Rattle.store_sql.proofs.KitLemmas.{index_owner, table_below}
+use Rattle.store_sql.proofs.KitLemmas.{all_from, all_has, has_left, has_right, index_owner, table_below}
+use Rattle.store_sql.proofs.RemoveLemmas.{both_all}
 use Rattle.sqlite.specs.Does.{lacks_sequence}
 use Rattle.sqlite_schema.specs.Names.{same_name, table_named}
 use Rattle.sqlite_schema.specs.declared.schema.Index.{Index}
@@ -33,17 +35,8 @@ zip_each R [] (y ∷ ys) h = absurd h
 zip_each R (x ∷ xs) [] h = absurd h
 zip_each R (x ∷ xs) (y ∷ ys) h = ((x, h.0), zip_each R xs ys h.1)
 
-all_last : {X : Type 0} (P : X → Type 0) (xs : List X) (x : X) → AllByRecursion P (xs ++ x ∷ []) → P x
-all_last P [] x h = h.0
-all_last P (y ∷ xs) x h = all_last P xs x h.1
-
 all_front : {X : Type 0} (P : X → Type 0) (xs ys : List X) → AllByRecursion P (xs ++ ys) → AllByRecursion P xs
-all_front P [] ys h = tt
-all_front P (x ∷ xs) ys h = (h.0, all_front P xs ys h.1)
-
-all_both : {X : Type 0} (P Q R : X → Type 0) → ((x : X) → P x → Q x → R x) → (xs : List X) → AllByRecursion P xs → AllByRecursion Q xs → AllByRecursion R xs
-all_both P Q R so [] a b = tt
-all_both P Q R so (x ∷ xs) a b = (so x a.0 b.0, all_both P Q R so xs a.1 b.1)
+all_front P xs ys h = all_from P xs (λ x it. all_has P (xs ++ ys) x h (has_left xs ys x it))
 
 -- ---- one table
 
@@ -55,7 +48,7 @@ module _ (table : Table) (old new : Database) (made : IsMade table old new) wher
   low : next_tree old.schema < 2 ^ 31
   low =
       let listed = subst (λ (s : Schema). AllByRecursion (λ u. (row : Row) × IsTableRow row u) s.tables) made.schema (zip_each IsTableRow _ new.schema.tables made.sound.lists.listed.tables) in
-      let mine = all_last (λ (u : Table). (row : Row) × IsTableRow row u) old.schema.tables its listed in
+      let mine = all_has (λ (u : Table). (row : Row) × IsTableRow row u) (old.schema.tables ++ its ∷ []) its listed (has_right old.schema.tables (its ∷ []) its (inl refl)) in
       let tree : its.tree ≡ next_tree old.schema = refl in
       omega (arith, mine.1.described.low, tree)
 
@@ -85,7 +78,7 @@ module _ (table : Table) (old new : Database) (made : IsMade table old new) wher
   one_others : (last : Database) → AllByRecursion (λ u. last.trees u.tree ≡ new.trees u.tree) new.schema.tables → AllByRecursion (λ u. last.trees u.tree ≡ old.trees u.tree) old.schema.tables
   one_others last h =
       let front = all_front (λ (u : Table). last.trees u.tree ≡ new.trees u.tree) old.schema.tables (its ∷ []) (subst (λ (s : Schema). AllByRecursion (λ u. last.trees u.tree ≡ new.trees u.tree) s.tables) made.schema h) in
-      all_both (λ (u : Table). last.trees u.tree ≡ new.trees u.tree) (λ u. new.trees u.tree ≡ old.trees u.tree) (λ u. last.trees u.tree ≡ old.trees u.tree) (λ u a b. a ∙ b) old.schema.tables front made.others
+      both_all (λ (u : Table). last.trees u.tree ≡ new.trees u.tree) (λ u. new.trees u.tree ≡ old.trees u.tree) (λ u. last.trees u.tree ≡ old.trees u.tree) (λ u a b. a ∙ b) old.schema.tables front made.others
 
 module _ (table : ℕ → Table) (defined : IsDefinition table) (old new : Database) (made : IsMade (table 0) old new) where
   pub one_own : IsDatabase old → is_used old.schema (table 0).name ≡ false → is_referred old.schema (table 0).name ≡ false → HasOwn new.schema table
@@ -101,10 +94,6 @@ module _ (table : ℕ → Table) (defined : IsDefinition table) (old new : Datab
   one_unused name apart free = subst (λ s. is_used s name ≡ false) (sym made.schema) (unused_still old.schema table defined name apart free)
 
 -- ---- several, one after the other
-
-same_all : (old : Database) (ts : List Table) → AllByRecursion (λ u. old.trees u.tree ≡ old.trees u.tree) ts
-same_all old [] = tt
-same_all old (t ∷ ts) = (refl, same_all old ts)
 
 pub turn_sound : (ts : List StoreTable) (old new : Database) → MadeInTurn ts old new → IsDatabase old → IsDatabase new
 turn_sound [] old new h sound = subst IsDatabase (sym h) sound
@@ -127,13 +116,13 @@ turn_rows name u [] old new h there = ap (rows_of name) h
 turn_rows name u (t ∷ ts) old new h there = turn_rows name u ts h.0 new h.2 (found_later (table_of t 0) old h.0 h.1 name u there) ∙ one_rows (table_of t 0) old h.0 h.1 name u there
 
 turn_others : (ts : List StoreTable) (old new : Database) → MadeInTurn ts old new → AllByRecursion (λ u. new.trees u.tree ≡ old.trees u.tree) old.schema.tables
-turn_others [] old new h = subst (λ (d : Database). AllByRecursion (λ u. d.trees u.tree ≡ old.trees u.tree) old.schema.tables) (sym h) (same_all old old.schema.tables)
+turn_others [] old new h = subst (λ (d : Database). AllByRecursion (λ u. d.trees u.tree ≡ old.trees u.tree) old.schema.tables) (sym h) (all_from _ old.schema.tables (λ u listed. refl))
 turn_others (t ∷ ts) old new h = one_others (table_of t 0) old h.0 h.1 new (turn_others ts h.0 new h.2)
 
 leaves_all : (t : StoreTable) (old new : Database) → IsMade (table_of t 0) old new → (ts : List StoreTable) → AllByRecursion (λ o. t ≡ o → ⊥) ts → AllByRecursion (λ o. LeavesRoom old.schema (table_of o 0)) ts
     → AllByRecursion (λ o. LeavesRoom new.schema (table_of o 0)) ts
 leaves_all t old new made ts apart room =
-    all_both (λ o. t ≡ o → ⊥) (λ o. LeavesRoom old.schema (table_of o 0)) (λ o. LeavesRoom new.schema (table_of o 0)) (λ o a b. one_leaves (table_of t) (store_defined t) old new made (table_of o 0) (store_apart t o a) b) ts apart
+    both_all (λ o. t ≡ o → ⊥) (λ o. LeavesRoom old.schema (table_of o 0)) (λ o. LeavesRoom new.schema (table_of o 0)) (λ o a b. one_leaves (table_of t) (store_defined t) old new made (table_of o 0) (store_apart t o a) b) ts apart
     room
 
 turn_own : (ts : List StoreTable) (old new : Database) → AreApart ts → MadeInTurn ts old new → IsDatabase old → AllByRecursion (λ t. LeavesRoom old.schema (table_of t 0)) ts → AllByRecursion (λ t. HasOwn new.schema (table_of t)) ts
@@ -155,8 +144,7 @@ turn_empty (t ∷ ts) old new apart h sound room =
     )
 
 room_each : (db : Database) → HasRoom db.schema → (ts : List StoreTable) → AllByRecursion (λ t. LeavesRoom db.schema (table_of t 0)) ts
-room_each db room [] = tt
-room_each db room (t ∷ ts) = (room_for db.schema room t, room_each db room ts)
+room_each db room ts = all_from _ ts (λ t listed. room_for db.schema room t)
 
 pub all_made : (ts : List StoreTable) (old new : Database) → AreApart ts → IsReady old → MadeInTurn ts old new → AreMade ts old new
 all_made ts old new apart ready h = record {
@@ -199,13 +187,10 @@ apart_before (suc i) (u ∷ ts) t apart at = (has_it ts i apart.0 at, apart_befo
     has_it (x ∷ xs) (suc k) all at = has_it xs k all.1 at
 
 pub take_one : {X : Type 0} (i : ℕ) (xs : List X) (x : X) → slice_get xs i ≡ Some x → take (i + 1) xs ≡ take i xs ++ x ∷ []
-take_one i xs x at = take_more i xs x at
-  where
-    take_more : {X : Type 0} (i : ℕ) (xs : List X) (x : X) → slice_get xs i ≡ Some x → take (i + 1) xs ≡ take i xs ++ x ∷ []
-    take_more zero [] x at = absurd (let e = at in cc)
-    take_more zero (y ∷ xs) x at = let same : y ≡ x = cc in rw same refl
-    take_more (suc i) [] x at = absurd (let e = at in cc)
-    take_more (suc i) (y ∷ xs) x at = let next : suc i + 1 ≡ suc (i + 1) = omega arith in rw next (ap (λ l. y ∷ l) (take_more i xs x at))
+take_one zero [] x at = absurd (let e = at in cc)
+take_one zero (y ∷ xs) x at = let same : y ≡ x = cc in rw same refl
+take_one (suc i) [] x at = absurd (let e = at in cc)
+take_one (suc i) (y ∷ xs) x at = let next : suc i + 1 ≡ suc (i + 1) = omega arith in rw next (ap (λ l. y ∷ l) (take_one i xs x at))
 
 module _ (ts : List StoreTable) (i : ℕ) (t : StoreTable) (at : slice_get ts i ≡ Some t) (apart : AreApart ts) (old mid : State) (ready : IsTrue old.is_open → IsReady old.now) (keeps : KeepsCommit old mid)
     (done : MadeInTurn (take i ts) old.now mid.now) where
@@ -216,9 +201,7 @@ module _ (ts : List StoreTable) (i : ℕ) (t : StoreTable) (at : slice_get ts i 
   next_made new made = subst (λ l. MadeInTurn l old.now new.now) (sym (take_one i ts t at)) (turn_more (take i ts) t old.now mid.now new.now done made)
 
 pub got : {X : Type 0} (xs : List X) (i : ℕ) (d : X) → i < length xs → slice_get xs i ≡ Some (get_or xs i d)
-got [] i d low = absurd (omega (arith, low))
-got (x ∷ xs) zero d low = refl
-got (x ∷ xs) (suc i) d low = got xs i d (omega (arith, low))
+got = slice_get-get_or
 
 pub keeps_then : (a b c : State) → KeepsCommit a b → KeepsCommit b c → KeepsCommit a c
 keeps_then a b c one two = record { was_open = λ h. one.was_open (two.was_open h); committed = λ h. two.committed h ∙ one.committed (two.was_open h) }

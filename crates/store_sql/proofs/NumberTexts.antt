@@ -12,7 +12,6 @@ use Rattle.sqlite.specs.Listing.{understood, reads_listing}
 use Rattle.sqlite.specs.State.{State, Shown}
 use Rattle.sqlite_tied.specs.Compute.{everything}
 use Rattle.sqlite_ast.specs.declared.Core.{out-Core}
-use Rattle.sqlite_ast.specs.declared.Select.{out-Select}
 use Rattle.sqlite_ast.specs.declared.Shown.{Shown as Shown', out-Shown, roll-Shown}
 use Rattle.sqlite_ast.specs.declared.Sort.{Sort}
 use Rattle.sqlite_ast.specs.declared.Expr.TheOpen.{Shown-F}
@@ -33,9 +32,9 @@ use Rattle.store_tables.specs.Tables.{needed, edition}
 use Rattle.store_sql.specs.Effects.{Has, rows_of, shown}
 use Rattle.store_sql.specs.Reads.{IsNumbering, rowid_and_number, select_numbers}
 use Rattle.store_sql.proofs.DeleteLemmas.{column_expr, out_column, lower_column}
-use Rattle.store_sql.proofs.ListingLemmas.{all_pass}
-use Rattle.store_sql.proofs.QueryLemmas.{IsQuery, ShowsRow, command_with, TakesValues, read_rows, shown_answers}
-use Rattle.store_sql.proofs.ReadLemmas.{CanSelect, rowid_expr, rowid_shown, source_of, core_with, select_with, out_rowid, out_one, lower_rowid, heading_is, rowid_output, context_of, level_of, left_of, plainly, query_with, understood_is}
+use Rattle.store_sql.proofs.ListingLemmas.{all_pass, IsQuery, ShowsRow, command_with, TakesValues, read_rows, shown_answers}
+use Rattle.store_sql.proofs.ReadLemmas.{CanSelect, rowid_expr, rowid_shown, source_of, core_with, select_with, out_rowid, out_one, out_order, lower_rowid, heading_is, rowid_output, context_of, level_of, left_of, plainly}
+use Rattle.store_sql.proofs.ReadLemmas.{query_with, understood_is}
 use Rattle.store_sql.proofs.ReadTexts.{sort_by, key_at}
 use Rattle.store_sql.proofs.TextLemmas.{parsed_or}
 
@@ -94,44 +93,25 @@ numbers_of at tree = rowid_output (edition tree) ∷ record { name = codes "numb
 abbrev by_number : List Sort
 by_number = sort_by (codes "1") ∷ []
 
-is_read : first select_numbers ≡ Ok read_numbers
+is_read : (first select_numbers ≡ Ok read_numbers) × (read_numbers.formats ≡ [])
 unfolding everything read_numbers
-is_read = refl
+is_read = (refl, refl)
 
 is_select : (tree : ℕ) → read_numbers.statement ≡ written.Select (select_with (beside (codes "number")) (edition tree).name None by_number)
 unfolding everything read_numbers rowid_expr rowid_shown column_expr column_shown source_of core_with select_with sort_by
 is_select tree = refl
 
-is_ordered : (tree : ℕ) → (out-Select (select_with (beside (codes "number")) (edition tree).name None by_number)).order ≡ by_number
-unfolding everything rowid_expr rowid_shown column_expr column_shown source_of core_with select_with sort_by
-is_ordered tree = refl
-
-formats_none : read_numbers.formats ≡ []
-unfolding everything read_numbers
-formats_none = refl
-
-no_rowid : (tree : ℕ) → column_named (edition tree) (codes "rowid") ≡ None
+-- no column has the name `rowid`; the number is the first one, is kept in the first place, and carries nothing
+editions_are : (tree : ℕ) → (column_named (edition tree) (codes "rowid") ≡ None) × (column_named (edition tree) (codes "number") ≡ Some 0) × (place_of (edition tree) 0 ≡ 0) × (declared (edition tree) 0 number ≡ nothing)
 unfolding everything
-no_rowid tree = refl
-
-is_first : (tree : ℕ) → column_named (edition tree) (codes "number") ≡ Some 0
-unfolding everything
-is_first tree = refl
-
-first_place : (tree : ℕ) → place_of (edition tree) 0 ≡ 0
-unfolding everything
-first_place tree = refl
-
-nothing_carried : (tree : ℕ) → declared (edition tree) 0 number ≡ nothing
-unfolding everything
-nothing_carried tree = refl
+editions_are tree = (refl, refl, refl, refl)
 
 results : (schema : Schema) (at tree : ℕ) (has : CanSelect schema at (edition tree)) → result lower (outermost schema) (level_of at (edition tree)) (core_with (beside (codes "number")) (edition tree).name None) (fresh 2 max_budget)
     ≡ Ok (numbers_of at tree, left_of 99998)
 results schema at tree has =
     subst₂ (λ (k : ℕ) (c : Carried). result lower (outermost schema) (level_of at (edition tree)) (core_with (beside (codes "number")) (edition tree).name None) (fresh 2 max_budget)
-    ≡ Ok (rowid_output (edition tree) ∷ record { name = codes "number"; is_alias = false; is_column = true; term = col 1 k; carried = c } ∷ [], record (left_of 99998) { last = c })) (first_place tree) (nothing_carried tree)
-    (beside_is schema at (edition tree) has (no_rowid tree) (codes "number") 0 number (is_first tree) refl)
+    ≡ Ok (rowid_output (edition tree) ∷ record { name = codes "number"; is_alias = false; is_column = true; term = col 1 k; carried = c } ∷ [], record (left_of 99998) { last = c })) (editions_are tree).2 (editions_are tree).3
+    (beside_is schema at (edition tree) has (editions_are tree).0 (codes "number") 0 number (editions_are tree).1 refl)
 
 sorted_by : (schema : Schema) (at tree : ℕ) → sorts lower (context_of schema at (edition tree) (numbers_of at tree) false true) (numbers_of at tree) by_number (plainly 99998 nothing) ≡ Ok (key_at 0 ∷ [], plainly 99996 nothing)
 unfolding everything sort_by
@@ -150,12 +130,13 @@ compiles : (schema : Schema) (at tree : ℕ) (has : CanSelect schema at (edition
     → (understood schema select_numbers ≡ Ok (with_command read_numbers ([], (command_with (edition tree).tree (numbers_of at tree) [] (key_at 0 ∷ []), None)))) × (reads_listing schema select_numbers ≡ false)
 compiles schema at tree has =
     understood_is schema at (edition tree) has (beside (codes "number")) (numbers_of at tree) 99998 None (results schema at tree has) [] 99998 nothing (no_tests schema at tree) by_number (key_at 0 ∷ []) 99996 nothing
-    (sorted_by schema at tree) (is_ordered tree) (takes_any schema at tree has.alone (lt-leb (2 ^ 31) (edition tree).tree has.stored)) select_numbers read_numbers is_read (is_select tree) formats_none
+    (sorted_by schema at tree) (out_order (beside (codes "number")) (edition tree).name None by_number) (takes_any schema at tree has.alone (lt-leb (2 ^ 31) (edition tree).tree has.stored))
+    select_numbers read_numbers is_read.0 (is_select tree) is_read.1
 
 pub query_numbers : IsQuery select_numbers read_numbers edition numbers_of [] (key_at 0 ∷ [])
 query_numbers = record {
   select = select_with (beside (codes "number")) (codes "edition") None by_number;
-  read = is_read;
+  read = is_read.0;
   statement = is_select 0;
   means = λ schema at tree has. (compiles schema at tree has).0;
   unlisted = λ schema at tree has. (compiles schema at tree has).1;

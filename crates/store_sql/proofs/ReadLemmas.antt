@@ -63,18 +63,11 @@ core_with shows name test = roll-Core (record { distinct = false; shown = shows;
 unfoldable pub select_with : List Shown → Name → Option Expr → List Sort → Select
 select_with shows name test order = roll-Select (record { with = []; first = core_with shows name test; others = []; order = order; limit = None; offset = None })
 
-unfoldable pub core_of : Name → Option Expr → Core
-core_of name test = roll-Core (record { distinct = false; shown = rowid_shown ∷ all_shown ∷ []; from = source_of name ∷ []; filter = test; group = []; having = None })
-
-unfoldable pub select_of : Name → Option Expr → List Sort → Select
-select_of name test order = roll-Select (record { with = []; first = core_of name test; others = []; order = order; limit = None; offset = None })
-
 abbrev pub starred : List Shown
 starred = rowid_shown ∷ all_shown ∷ []
 
-pub select_is : (name : Name) (test : Option Expr) (order : List Sort) → select_of name test order ≡ select_with starred name test order
-unfolding select_of core_of select_with core_with
-select_is name test order = refl
+abbrev pub select_of : Name → Option Expr → List Sort → Select
+select_of = select_with starred
 
 pub out_rowid : out-Expr rowid_expr ≡ Expr-F.Column None (codes "rowid")
 unfolding everything rowid_expr
@@ -88,43 +81,19 @@ out_all : out-Shown all_shown ≡ Shown-F.All
 unfolding everything all_shown
 out_all = refl
 
-module _ (name : Name) where
-  out_origin : (out-Source (source_of name)).origin ≡ Table' name
-  unfolding everything source_of
-  out_origin = refl
+-- a source of FROM: its origin, what it is called, what it is joined by, and whether it is a LEFT JOIN
+out_source : (name : Name)
+    → ((out-Source (source_of name)).origin ≡ Table' name) × ((out-Source (source_of name)).alias ≡ None) × ((out-Source (source_of name)).using ≡ []) × ((out-Source (source_of name)).on ≡ None)
+    × ((out-Source (source_of name)).is_left ≡ false)
+unfolding everything source_of
+out_source name = (refl, refl, refl, refl, refl)
 
-  out_alias : (out-Source (source_of name)).alias ≡ None
-  unfolding everything source_of
-  out_alias = refl
-
-  out_using : (out-Source (source_of name)).using ≡ []
-  unfolding everything source_of
-  out_using = refl
-
-  out_on : (out-Source (source_of name)).on ≡ None
-  unfolding everything source_of
-  out_on = refl
-
-  out_left : (out-Source (source_of name)).is_left ≡ false
-  unfolding everything source_of
-  out_left = refl
-
-module _ (shows : List Shown) (name : Name) (test : Option Expr) where
-  out_distinct : (out-Core (core_with shows name test)).distinct ≡ false
-  unfolding everything core_with
-  out_distinct = refl
-
-  out_from : (out-Core (core_with shows name test)).from ≡ source_of name ∷ []
-  unfolding everything core_with
-  out_from = refl
-
-  out_group : (out-Core (core_with shows name test)).group ≡ []
-  unfolding everything core_with
-  out_group = refl
-
-  out_having : (out-Core (core_with shows name test)).having ≡ None
-  unfolding everything core_with
-  out_having = refl
+-- DISTINCT, FROM, GROUP BY and HAVING
+out_core : (shows : List Shown) (name : Name) (test : Option Expr)
+    → ((out-Core (core_with shows name test)).distinct ≡ false) × ((out-Core (core_with shows name test)).from ≡ source_of name ∷ []) × ((out-Core (core_with shows name test)).group ≡ [])
+    × ((out-Core (core_with shows name test)).having ≡ None)
+unfolding everything core_with
+out_core shows name test = (refl, refl, refl, refl)
 
 out_filter : (shows : List Shown) (name : Name) (test : Option Expr) → (out-Core (core_with shows name test)).filter ≡ test
 unfolding everything core_with
@@ -135,26 +104,12 @@ out_starred : (name : Name) (test : Option Expr) → (out-Core (core_with starre
 unfolding everything core_with
 out_starred name test = refl
 
-module _ (shows : List Shown) (name : Name) (test : Option Expr) (order : List Sort) where
-  out_with : (out-Select (select_with shows name test order)).with ≡ []
-  unfolding everything select_with
-  out_with = refl
-
-  out_first : (out-Select (select_with shows name test order)).first ≡ core_with shows name test
-  unfolding everything select_with
-  out_first = refl
-
-  out_others : (out-Select (select_with shows name test order)).others ≡ []
-  unfolding everything select_with
-  out_others = refl
-
-  out_limit : (out-Select (select_with shows name test order)).limit ≡ None
-  unfolding everything select_with
-  out_limit = refl
-
-  out_offset : (out-Select (select_with shows name test order)).offset ≡ None
-  unfolding everything select_with
-  out_offset = refl
+-- WITH, the first of the SELECTs and the others, LIMIT and OFFSET
+out_select : (shows : List Shown) (name : Name) (test : Option Expr) (order : List Sort)
+    → ((out-Select (select_with shows name test order)).with ≡ []) × ((out-Select (select_with shows name test order)).first ≡ core_with shows name test) × ((out-Select (select_with shows name test order)).others ≡ [])
+    × ((out-Select (select_with shows name test order)).limit ≡ None) × ((out-Select (select_with shows name test order)).offset ≡ None)
+unfolding everything select_with
+out_select shows name test order = (refl, refl, refl, refl, refl)
 
 pub out_order : (shows : List Shown) (name : Name) (test : Option Expr) (order : List Sort) → (out-Select (select_with shows name test order)).order ≡ order
 unfolding everything select_with
@@ -263,11 +218,11 @@ module _ (schema : Schema) (at : ℕ) (table : Table) (has : CanSelect schema at
 
   bounds_are : bounds schema (source_of table.name ∷ []) (fresh 1 max_budget) ≡ Ok (bound ∷ [], fresh 2 max_budget)
   unfolding bounds bound_of table_in take_slot
-  bounds_are = rw (out_origin table.name, has.named, out_alias table.name, out_using table.name) refl
+  bounds_are = rw ((out_source table.name).0, has.named, (out_source table.name).1, (out_source table.name).2) refl
 
   joins_are : joins lower (cx false true) (bound ∷ []) (source_of table.name ∷ []) after ≡ Ok (record { steps = Inner table.tree ∷ []; filter = [] }, after)
   unfolding joins join shared inner_join tests
-  joins_are = rw (out_on table.name, out_using table.name, is, out_left table.name) refl
+  joins_are = rw ((out_source table.name).3, (out_source table.name).2, is, (out_source table.name).4) refl
 
   module _ (filter : List Term) (left : ℕ) (carried : Carried) (filter_is : tests lower (cx false true) [] test after ≡ Ok (filter, plainly left carried)) where
     abbrev then : State
@@ -275,11 +230,11 @@ module _ (schema : Schema) (at : ℕ) (table : Table) (has : CanSelect schema at
 
     matching_is : matching lower (outermost schema) (record { tables = bound ∷ []; shown = outs }) core after ≡ Ok (record { steps = Inner table.tree ∷ []; filter = filter }, then)
     unfolding matching
-    matching_is = rw (out_from shows table.name test, joins_are, out_filter shows table.name test, filter_is) refl
+    matching_is = rw ((out_core shows table.name test).1, joins_are, out_filter shows table.name test, filter_is) refl
 
     body_is : body lower (outermost schema) core (fresh 1 max_budget) ≡ Ok (record { level = record { tables = bound ∷ []; shown = outs }; steps = Inner table.tree ∷ []; filter = filter }, then)
     unfolding body
-    body_is = rw (out_from shows table.name test, bounds_are, result_is, matching_is) refl
+    body_is = rw ((out_core shows table.name test).1, bounds_are, result_is, matching_is) refl
 
     module _ (sorted : List Sort) (order : List (Term × Key)) (rest : ℕ) (last : Carried) (sorts_are : sorts lower (cx false true) outs sorted then ≡ Ok (order, plainly rest last))
         (orders : (out-Select (select_with shows table.name test sorted)).order ≡ sorted) where
@@ -304,7 +259,7 @@ module _ (schema : Schema) (at : ℕ) (table : Table) (has : CanSelect schema at
         plainly rest last,
       )
       unfolding parts
-      parts_are = rw (body_is, out_group shows table.name test, no_keys then, out_having shows table.name test, having_is false then, sorts_are) refl
+      parts_are = rw (body_is, (out_core shows table.name test).2, no_keys then, (out_core shows table.name test).3, having_is false then, sorts_are) refl
 
       abbrev draft : Draft
       draft = draft_with table.tree outs filter order
@@ -317,18 +272,18 @@ module _ (schema : Schema) (at : ℕ) (table : Table) (has : CanSelect schema at
 
       named_is : named' schema core sorted page ≡ Ok read
       unfolding named' assembled ungrouped
-      named_is = rw (parts_are, out_distinct shows table.name test) refl
+      named_is = rw (parts_are, (out_core shows table.name test).0) refl
 
       abbrev select : Select
       select = select_with shows table.name test sorted
 
       paging_is : paging schema select ≡ Ok page
       unfolding paging constant_or
-      paging_is = rw (out_limit shows table.name test sorted, out_offset shows table.name test sorted) refl
+      paging_is = rw ((out_select shows table.name test sorted).3, (out_select shows table.name test sorted).4) refl
 
       query_is : query' schema select ≡ Ok (read, [])
       unfolding query' query_to level' with whole alone single sources source viewing
-      query_is = rw (out_with shows table.name test sorted, out_others shows table.name test sorted, paging_is, out_first shows table.name test sorted, orders, out_from shows table.name test, out_origin table.name, named_is) refl
+      query_is = let out = out_select shows table.name test sorted in rw (out.0, out.2, paging_is, out.1, orders, (out_core shows table.name test).1, (out_source table.name).0, named_is) refl
 
       abbrev program : Program
       program = record { lets = []; body = query_of draft }

@@ -25,11 +25,11 @@ use Rattle.sqlite_resolve.specs.declared.state.Carried.{Carried}
 use Rattle.sqlite_schema.specs.Names.{column_named}
 use Rattle.store_tables.specs.Tables.{needed, mark, item, member, edition, entry, kept}
 use Rattle.store_sql.specs.Effects.{shown}
-use Rattle.store_sql.specs.Reads.{select_mark, select_item, select_member, select_edition, select_entry, select_kept, select_one_edition, select_some_entries, select_one_kept, by_columns}
+use Rattle.store_sql.specs.Reads.{select_mark, select_item, select_member, select_kept, select_one_edition, select_some_entries, select_one_kept, by_columns}
 use Rattle.sqlite.specs.Order.{Row, column}
 use Rattle.sqlite.specs.Query.{key_cmp}
 use Rattle.store_sql.proofs.TextLemmas.{parsed_or}
-use Rattle.store_sql.proofs.ReadLemmas.{rowid_expr, rowid_shown, all_shown, source_of, core_of, select_of, plainly, outputs_of, context_of, query_over}
+use Rattle.store_sql.proofs.ReadLemmas.{rowid_expr, rowid_shown, all_shown, source_of, core_with, select_with, select_of, plainly, outputs_of, context_of, query_over}
 
 unfoldable pub sort_by : List ℕ → Sort
 sort_by digits = roll-Sort (record { key = roll-Expr (Expr-F.Integer digits); descending = false; nulls_first = None })
@@ -93,7 +93,7 @@ unfolding everything
 read_mark = parsed_or (first select_mark)
 
 pub reads_mark : ReadsTable select_mark read_mark mark None [] 99999 (sort_by (codes "2") ∷ []) (key_at 0 ∷ []) (1 ∷ []) 99997 nothing
-unfolding everything read_mark rowid_expr rowid_shown all_shown source_of core_of select_of sort_by
+unfolding everything read_mark rowid_expr rowid_shown all_shown source_of core_with select_with sort_by
 reads_mark = reads_table refl (λ tree. refl) refl (λ tree. refl) (λ at tree. refl) (λ at tree. refl)
     (λ schema at tree is. refl) (λ schema at tree. refl) (λ at tree params r. refl) (λ tree params r. refl) (λ a b. refl) (λ schema at tree alone low. rw (low, alone) refl)
 
@@ -102,7 +102,7 @@ unfolding everything
 read_item = parsed_or (first select_item)
 
 pub reads_item : ReadsTable select_item read_item item None [] 99999 (sort_by (codes "2") ∷ []) (key_at 0 ∷ []) (1 ∷ []) 99997 nothing
-unfolding everything read_item rowid_expr rowid_shown all_shown source_of core_of select_of sort_by
+unfolding everything read_item rowid_expr rowid_shown all_shown source_of core_with select_with sort_by
 reads_item = reads_table refl (λ tree. refl) refl (λ tree. refl) (λ at tree. refl) (λ at tree. refl)
     (λ schema at tree is. refl) (λ schema at tree. refl) (λ at tree params r. refl) (λ tree params r. refl) (λ a b. refl) (λ schema at tree alone low. rw (low, alone) refl)
 
@@ -111,26 +111,8 @@ unfolding everything
 read_member = parsed_or (first select_member)
 
 pub reads_member : ReadsTable select_member read_member member None [] 99999 (sort_by (codes "2") ∷ sort_by (codes "3") ∷ []) (key_at 1 ∷ key_at 2 ∷ []) (1 ∷ 2 ∷ []) 99995 of_column
-unfolding everything read_member rowid_expr rowid_shown all_shown source_of core_of select_of sort_by
+unfolding everything read_member rowid_expr rowid_shown all_shown source_of core_with select_with sort_by
 reads_member = reads_table refl (λ tree. refl) refl (λ tree. refl) (λ at tree. refl) (λ at tree. refl)
-    (λ schema at tree is. refl) (λ schema at tree. refl) (λ at tree params r. refl) (λ tree params r. refl) (λ a b. refl) (λ schema at tree alone low. rw (low, alone) refl)
-
-unfoldable pub read_edition : Parsed
-unfolding everything
-read_edition = parsed_or (first select_edition)
-
-pub reads_edition : ReadsTable select_edition read_edition edition None [] 99999 (sort_by (codes "2") ∷ []) (key_at 0 ∷ []) (1 ∷ []) 99997 nothing
-unfolding everything read_edition rowid_expr rowid_shown all_shown source_of core_of select_of sort_by
-reads_edition = reads_table refl (λ tree. refl) refl (λ tree. refl) (λ at tree. refl) (λ at tree. refl)
-    (λ schema at tree is. refl) (λ schema at tree. refl) (λ at tree params r. refl) (λ tree params r. refl) (λ a b. refl) (λ schema at tree alone low. rw (low, alone) refl)
-
-unfoldable pub read_entry : Parsed
-unfolding everything
-read_entry = parsed_or (first select_entry)
-
-pub reads_entry : ReadsTable select_entry read_entry entry None [] 99999 (sort_by (codes "2") ∷ sort_by (codes "3") ∷ []) (key_at 1 ∷ key_at 2 ∷ []) (1 ∷ 2 ∷ []) 99995 of_column
-unfolding everything read_entry rowid_expr rowid_shown all_shown source_of core_of select_of sort_by
-reads_entry = reads_table refl (λ tree. refl) refl (λ tree. refl) (λ at tree. refl) (λ at tree. refl)
     (λ schema at tree is. refl) (λ schema at tree. refl) (λ at tree params r. refl) (λ tree params r. refl) (λ a b. refl) (λ schema at tree alone low. rw (low, alone) refl)
 
 unfoldable pub read_kept : Parsed
@@ -138,7 +120,7 @@ unfolding everything
 read_kept = parsed_or (first select_kept)
 
 pub reads_kept : ReadsTable select_kept read_kept kept None [] 99999 (sort_by (codes "3") ∷ []) (key_at 2 ∷ []) (2 ∷ []) 99997 of_column
-unfolding everything read_kept rowid_expr rowid_shown all_shown source_of core_of select_of sort_by
+unfolding everything read_kept rowid_expr rowid_shown all_shown source_of core_with select_with sort_by
 reads_kept = reads_table refl (λ tree. refl) refl (λ tree. refl) (λ at tree. refl) (λ at tree. refl)
     (λ schema at tree is. refl) (λ schema at tree. refl) (λ at tree params r. refl) (λ tree params r. refl) (λ a b. refl) (λ schema at tree alone low. rw (low, alone) refl)
 
@@ -150,7 +132,7 @@ abbrev pub test_one_edition : List Term
 test_one_edition = op2 (by.Compare compare.Eq Binary) (col 1 0) (col 0 0) ∷ []
 
 pub reads_one_edition : ReadsTable select_one_edition read_one_edition edition (Some (equals_expr (codes "number"))) test_one_edition 99996 (sort_by (codes "2") ∷ []) (key_at 0 ∷ []) (1 ∷ []) 99994 nothing
-unfolding everything read_one_edition rowid_expr rowid_shown all_shown source_of core_of select_of sort_by column_expr parameter_expr equals_expr
+unfolding everything read_one_edition rowid_expr rowid_shown all_shown source_of core_with select_with sort_by column_expr parameter_expr equals_expr
 reads_one_edition = record {
   read = refl;
   statement = λ tree. refl;
@@ -174,7 +156,7 @@ abbrev pub test_some_entries : List Term
 test_some_entries = op2 (by.Compare compare.Eq Binary) (col 1 1) (col 0 0) ∷ []
 
 pub reads_some_entries : ReadsTable select_some_entries read_some_entries entry (Some (equals_expr (codes "edition"))) test_some_entries 99996 (sort_by (codes "3") ∷ []) (key_at 2 ∷ []) (2 ∷ []) 99994 of_column
-unfolding everything read_some_entries rowid_expr rowid_shown all_shown source_of core_of select_of sort_by column_expr parameter_expr equals_expr
+unfolding everything read_some_entries rowid_expr rowid_shown all_shown source_of core_with select_with sort_by column_expr parameter_expr equals_expr
 reads_some_entries = record {
   read = refl;
   statement = λ tree. refl;
@@ -198,7 +180,7 @@ abbrev pub test_one_kept : List Term
 test_one_kept = op2 (by.Compare compare.Eq Binary) (col 1 1) (col 0 0) ∷ []
 
 pub reads_one_kept : ReadsTable select_one_kept read_one_kept kept (Some (equals_expr (codes "id"))) test_one_kept 99996 (sort_by (codes "3") ∷ []) (key_at 2 ∷ []) (2 ∷ []) 99994 of_column
-unfolding everything read_one_kept rowid_expr rowid_shown all_shown source_of core_of select_of sort_by column_expr parameter_expr equals_expr
+unfolding everything read_one_kept rowid_expr rowid_shown all_shown source_of core_with select_with sort_by column_expr parameter_expr equals_expr
 reads_one_kept = record {
   read = refl;
   statement = λ tree. refl;

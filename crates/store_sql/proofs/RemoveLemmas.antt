@@ -6,19 +6,19 @@ use Rattle.std.specs.List.{AllByRecursion, IsDistinct, list_any}
 use Rattle.std.specs.List.Sorted.{IsPermutation}
 use Rattle.std.specs.Ordering.{is_eq, ordering_reverse}
 use Rattle.std.specs.Cmp.{tied_itself}
-use Rattle.store_sql.proofs.KitLemmas.{value_cmp_total}
+use Rattle.store_sql.proofs.KitLemmas.{all_from, all_has, value_cmp_total}
 use Rattle.sqlite.specs.declared.types.Value.{Value}
 use Rattle.sqlite.specs.declared.types.Value.TheVariants.{Int}
 use Rattle.sqlite.specs.Order.{Row, column, value_cmp}
 use Rattle.sqlite.specs.Tree.{rowid, has_rowid, without_rowid}
 use Rattle.sqlite_rules.specs.Edit.{id_in, without_all}
 use Rattle.store_sql.specs.Effects.{same_value, HasApartRowids}
+use Rattle.store_sql.proofs.ListingLemmas.{all_pass}
 
 -- ---- lists
 
 pub both_all : {X : Type 0} (P Q R : X → Type 0) → ((x : X) → P x → Q x → R x) → (xs : List X) → AllByRecursion P xs → AllByRecursion Q xs → AllByRecursion R xs
-both_all P Q R f [] p q = tt
-both_all P Q R f (x ∷ xs) p q = (f x p.0 q.0, both_all P Q R f xs p.1 q.1)
+both_all P Q R f xs p q = all_from R xs (λ x listed. f x (all_has P xs x p listed) (all_has Q xs x q listed))
 
 pub all_map : {X Y : Type 0} (f : X → Y) (P : Y → Type 0) (xs : List X) → AllByRecursion P (map f xs) → AllByRecursion (λ x. P (f x)) xs
 all_map f P [] h = tt
@@ -51,17 +51,9 @@ abbrev pub is_one_of : List ℤ → Row → Bool
 is_one_of ids r = list_any (λ id. has_rowid id r) ids
 
 pub without_are : (ids : List ℤ) (rows : List Row) → without_all rows ids ≡ filter (λ r. not (is_one_of ids r)) rows
-without_are [] rows = sym (all_stay rows)
-  where
-    all_stay : (rows : List Row) → filter (λ _. true) rows ≡ rows
-    all_stay [] = refl
-    all_stay (r ∷ rows) = ap (λ rest. r ∷ rest) (all_stay rows)
+without_are [] rows = sym (all_pass rows)
 without_are (id ∷ ids) rows =
-    without_are ids (without_rowid id rows) ∙ filter_twice (λ r. not (has_rowid id r)) (λ r. not (is_one_of ids r)) rows ∙ filter_all _ _ rows (each rows)
-  where
-    each : (rows : List Row) → AllByRecursion (λ r. (not (has_rowid id r) && not (is_one_of ids r)) ≡ not (has_rowid id r || is_one_of ids r)) rows
-    each [] = tt
-    each (r ∷ rows) = (not_or (has_rowid id r) (is_one_of ids r), each rows)
+    without_are ids (without_rowid id rows) ∙ filter_twice (λ r. not (has_rowid id r)) (λ r. not (is_one_of ids r)) rows ∙ filter_all _ _ rows (all_from _ rows (λ r listed. not_or (has_rowid id r) (is_one_of ids r)))
 
 -- ---- the rows that are chosen are those that go
 
@@ -123,11 +115,7 @@ module _ (p : Row → Bool) where
   -- the rows whose rowids are those of the chosen rows, in any order, are the chosen rows
   pub removed : (rows : List Row) (ids : List ℤ) → HasApartRowids rows → IsPermutation (map (λ c. id_in (rowid c)) (filter p rows)) ids → without_all rows ids ≡ filter (λ r. not (p r)) rows
   removed rows ids apart same =
-      without_are ids rows ∙ filter_all _ _ rows (each rows (chosen_go rows apart.integers apart.apart))
+      without_are ids rows ∙ filter_all _ _ rows (all_from _ rows (λ r listed. one r (all_has _ rows r (chosen_go rows apart.integers apart.apart) listed)))
     where
       one : (r : Row) → list_any (λ c. is_row c r) (filter p rows) ≡ p r → not (is_one_of ids r) ≡ not (p r)
       one r it = ap not (list_any-IsPermutation (λ id. has_rowid id r) _ _ (IsPermutation-sym _ _ same) ∙ any_ids (filter p rows) r ∙ it)
-
-      each : (some : List Row) → AllByRecursion (λ r. list_any (λ c. is_row c r) (filter p rows) ≡ p r) some → AllByRecursion (λ r. not (is_one_of ids r) ≡ not (p r)) some
-      each [] h = tt
-      each (r ∷ some) h = (one r h.0, each some h.1)

@@ -1,21 +1,25 @@
 -- What a statement of a transaction leaves, at its success and at its failure.
-use Rattle.std.proofs.Common.{◌≡◌, ◌⊎◌, ℕ, List, Bool, true, false, MatchBool, ◌∙◌, Ok, Err, Result, IsTrue, OnOk, IfErr, inl, inr, refl, sym, ap, subst}
+use Rattle.std.proofs.Common.{◌≡◌, ◌⊎◌, ℕ, List, Bool, true, false, ◌∙◌, Ok, Err, Result, IsTrue, OnOk, IfErr, inl, inr, refl, sym, ap, subst, arith}
 use Rattle.std.proofs.lemmas.Bool.{cases_Bool}
 use Rattle.sqlite.specs.declared.error.Error.{Error}
 use Rattle.sqlite.specs.declared.error.Error.TheVariants.{SqliteFailure}
 use Rattle.sqlite.specs.declared.error.ErrorCode.TheVariants as code
 use Rattle.sqlite.specs.Order.{Row}
-use Rattle.sqlite.specs.State.{State, Executes, ExecutesIn, ExecutesInside, RunsCommand, IsNotRun, Fails, HasCause, KeepsCommit, IsUnchanged, IsRolledBack, shows_rows, store_error, is_disk_error}
-use Rattle.sqlite.specs.Clock.{timed}
+use Rattle.sqlite.specs.State.{State, Executes, ExecutesInside, Fails, HasCause, HasCleanDisk, KeepsCommit, IsUnchanged, IsRolledBack, Survives, store_error, is_disk_error}
+use Rattle.sqlite.specs.Held.{Held, state}
 use Rattle.sqlite.specs.Disk.{MoreFaults}
-use Rattle.sqlite.specs.declared.error.Error.TheVariants.{ExecuteReturnedResults}
-use Rattle.sqlite_resolve.specs.declared.compiled.Compiled.{Compiled}
+use Rattle.sqlite_trees.specs.declared.store.Store.{Ghosts}
 use Rattle.sqlite_trees.specs.declared.error.StoreError.{StoreError}
 use Rattle.sqlite_trees.specs.declared.error.StoreError.TheVariants as why
 use Rattle.store_sql.specs.Effects.{FailsIn, GoesOn, CountsFaults}
 use Rattle.sqlite.specs.Steps.{FailsToCommit}
 use Rattle.store_sql.specs.Reads.{FailsToRead}
-use Rattle.store_sql.proofs.FaultLemmas.{fails_for}
+use Rattle.store_sql.proofs.FaultLemmas.{failed_so, fails_for}
+use Rattle.sqlite.specs.Table.{Table}
+use Rattle.sqlite.specs.Effect.{edit_error}
+use Rattle.sqlite_rules.specs.declared.error.Refusal.{Refusal}
+use Rattle.sqlite_rules.specs.declared.error.Refusal.TheVariants.{Violates, Mismatch, NoRowid, BadReference, TooDeep}
+use Rattle.store_sql.specs.Refusals.{RefusesToAdd, RefusesToRemove, RefusesToMake, RefusesToDrop}
 
 pub inside : {A : Type 0} (text : List ℕ) (params : Row) (old new : State) (result : Result ℕ Error) → (IsTrue old.is_open → (count : ℕ) → Executes text params old new (Ok count) → A)
     → (old.in_transaction ≡ false → result ≡ Err (SqliteFailure code.TransactionState))
@@ -53,23 +57,8 @@ module _ (old new : State) (text : List ℕ) (params : Row) (e : Error) (shut : 
     loosely : (P : Type 0) → Fails old new P e → Falls
     loosely P = fails_for old new e P (IsTrue old.is_open → TooBig) (λ p open'. absurd (not_open open'))
 
-    not_run : IsNotRun old new text params e → Falls
-    unfolding IsNotRun
-    not_run (inl h) = absurd (unchanged h.1)
-    not_run (inr f) = loosely ⊥ f
-
-    alone : (c : Compiled) (given : Row) (shows : Bool) → MatchBool shows ((◌≡◌ {A = Result ℕ Error} (Err e) (Err ExecuteReturnedResults)) × IsUnchanged old new) (RunsCommand old new text c given (Err e)) → Falls
-    alone c given true h = absurd (unchanged h.1)
-    alone c given false (inl h) = absurd (unchanged h.1)
-    alone c given false (inr f) = loosely _ f
-
-    executed : Executes text params old new (Err e) → Falls
-    unfolding ExecutesIn
-    executed (inl h) = not_run h
-    executed (inr h) = alone h.0 (timed params h.0.formats h.1.now) (shows_rows false h.0) h.2
-
     pub shut_inside : ExecutesInside 0 text params old new (Err e) → Falls
-    shut_inside (inl h) = executed h.0
+    shut_inside (inl h) = failed_so old new text params e (λ same. absurd (unchanged same)) loosely h.0
     shut_inside (inr h) = absurd (unchanged h.2)
 
 -- ---- an error that names the disk comes with a fault of it
@@ -122,3 +111,45 @@ fails_in Refuses TooBig other old new sql params (Err e) ended runs cause = reco
       | inl open' ↦ elim (cause open' e (runs inside')) [ inl refused ↦ inl refused | inr f ↦ inr (fails_for old new e TooBig (IsTrue old.is_open → TooBig) (λ big _. big) f) ]
       | inr shut ↦ inr (shut_inside old new sql params e shut TooBig (runs inside'))
     ]
+
+-- what a statement of a transaction does where the database has what it asks for, and why it fails
+module _ {S : Type 0} (g : Ghosts S) (before after : Held S) (text : List ℕ) (params : Row) (result : Result ℕ Error) (Refuses : Error → Type 0) (TooBig : Type 0) where
+  abbrev old : State
+  old = state g before
+
+  abbrev new : State
+  new = state g after
+
+  pub stated : {N A : Type 0} → ((e : Error) → Refuses e → is_disk_error e ≡ false) → (HasCleanDisk old → IsTrue old.is_open → N)
+      → (old.in_transaction ≡ false → (result ≡ Err (SqliteFailure code.TransactionState)) × (after ≡ before))
+      → (HasCleanDisk new → IsTrue old.in_transaction → ExecutesInside 0 text params old new result) → Survives old new (λ _. ⊥)
+      → ((count : ℕ) → N → Executes text params old new (Ok count) → A)
+      → ((e : Error) → N → ExecutesInside 0 text params old new (Err e) → (Refuses e × IsUnchanged old new) ⊎ Fails old new TooBig e)
+      → HasCleanDisk new → OnOk result (A × GoesOn old new) × IfErr result (FailsIn Refuses TooBig old new)
+  stated other needs ended runs alone does fails clean = (
+    inside text params old new result (λ open' count. does count (needs (omega (arith, alone.clean, clean)) open')) (λ outside. (ended outside).0) (runs clean),
+    fails_in Refuses TooBig other old new text params result (λ outside. ((ended outside).0, ap (state g) (ended outside).1)) (runs clean) (λ open' e. fails e (needs (omega (arith, alone.clean, clean)) open')),
+  )
+
+of_edit : (why : Refusal) → is_disk_error (edit_error why) ≡ false
+of_edit (Violates rule) = refl
+of_edit Mismatch = refl
+of_edit NoRowid = refl
+of_edit BadReference = refl
+of_edit TooDeep = refl
+
+pub adds_aside : (name : List ℕ) (row : Row) (old : State) (e : Error) → RefusesToAdd name row old e → is_disk_error e ≡ false
+adds_aside name row old e (inl limit) = rw limit.0 refl
+adds_aside name row old e (inr h) = elim h.2 [ inl refused ↦ rw refused.told (of_edit refused.why) | inr lacks ↦ rw lacks.0 refl ]
+
+pub removes_aside : (name : List ℕ) (test : Row → Bool) (old : State) (e : Error) → RefusesToRemove name test old e → is_disk_error e ≡ false
+removes_aside name test old e (inl limit) = rw limit.0 refl
+removes_aside name test old e (inr h) = elim h.2 [ inl broken ↦ rw broken.0 refl | inr lacks ↦ rw lacks.0 refl ]
+
+pub makes_aside : (table : Table) (old : State) (e : Error) → RefusesToMake table old e → is_disk_error e ≡ false
+makes_aside table old e (inl taken) = rw taken.0 refl
+makes_aside table old e (inr many) = rw many.0 refl
+
+pub drops_aside : (name : List ℕ) (old : State) (e : Error) → RefusesToDrop name old e → is_disk_error e ≡ false
+drops_aside name old e (inl viewed) = rw viewed.1 refl
+drops_aside name old e (inr lacks) = rw lacks.0 refl

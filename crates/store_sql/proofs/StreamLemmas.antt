@@ -6,28 +6,23 @@ use Rattle.std.specs.List.{Contains}
 use Rattle.sqlite.specs.Order.{Row}
 use Rattle.sqlite.specs.declared.types.Value.TheVariants.{Int}
 use Rattle.sqlite.specs.declared.error.Error.{Error}
-use Rattle.sqlite.specs.Schema.{Schema}
-use Rattle.sqlite.specs.Given.{Returns}
-use Rattle.sqlite.specs.Tree.{Trees}
 use Rattle.sqlite.specs.Effect.{Database}
 use Rattle.sqlite.specs.Clock.{timed}
-use Rattle.sqlite.specs.Listing.{understood}
 use Rattle.sqlite.specs.State.{State, HasCleanDisk, Survives, CommitsShowing, Shown, IsUnchanged, FailsToQuery}
 use Rattle.sqlite.specs.Held.{Held, state}
 use Rattle.sqlite.specs.Given as kit
 use Rattle.sqlite.proofs.StateLemmas.{survives_weaker}
-use Rattle.sqlite.proofs.Callers.{IsPlain, EndsIn, begins_shown, given_begin, begun_plain}
+use Rattle.sqlite.proofs.Callers.{begins_shown, given_begin, begun_plain}
 use Rattle.sqlite_trees.specs.declared.store.Store.{Ghosts}
 use Rattle.sqlite.specs.Term.{Term}
 use Rattle.sqlite_ast.specs.declared.Expr.{Expr}
 use Rattle.sqlite_ast.specs.declared.Sort.{Sort}
-use Rattle.sqlite_resolve.specs.declared.compiled.Compiled.{Compiled}
 use Rattle.sqlite_resolve.specs.declared.scope.Output.{Output}
 use Rattle.sqlite_resolve.specs.declared.state.Carried.{Carried}
 use Rattle.sqlite_syntax.specs.declared.statement.Parsed.{Parsed}
 use Rattle.sqlite_value.specs.declared.keys.Key.{Key}
-use Rattle.store_tables.specs.declared.tables.StoreTable.TheVariants.{Mark, Item, Member, Edition, Entry, Kept}
 use Rattle.store_tables.specs.Tables.{entry}
+use Rattle.store_tables.proofs.TableLemmas.{name_is}
 use Rattle.store_sql.specs.Effects.{Has, WhileOpen, equals_number, rows_of}
 use Rattle.store_sql.specs.Columns.{Content}
 use Rattle.store_sql.specs.declared.records.ReadError.{ReadError}
@@ -35,15 +30,13 @@ use Rattle.store_sql.specs.declared.records.ReadError.TheVariants.{NoRecord, Sto
 use Rattle.store_sql.proofs.SilentLemmas.{commits_none, never_returns}
 use Rattle.store_sql.specs.Reads.{IsListing, FailsToRead, FailsToList, FailsToDecode, FailsToDecodeAll, HasNoRecord, select_some_entries}
 use Rattle.store_sql.specs.Streams.{Scan, scan_table, scan_text, scan_values, IsWhole, IsFront, HasGiven, GivesOn, PassesRow, FailsToGive, FailsToMove, IsNotBegun}
-use Rattle.store_sql.specs.Streams.Scan.{AllEditions, AllEntries, EntriesOf, AllKept, KeptById, ByRowid, EditionNumbers}
+use Rattle.store_sql.specs.Streams.Scan.{EntriesOf, AllKept, KeptById, ByRowid, EditionNumbers}
 use Rattle.store_sql.proofs.Callers.{still_has}
 use Rattle.store_sql.proofs.ListLemmas.{passes}
 use Rattle.store_sql.proofs.NumberTexts.{read_numbers, numbers_of, query_numbers, takes_numbers, shows_numbering}
-use Rattle.store_sql.proofs.QueryLemmas.{IsQuery, TakesValues, is_plain, ends_in, query_fails}
-use Rattle.store_sql.proofs.ReadTexts.{ReadsTable, key_at, read_edition, reads_edition, read_entry, reads_entry, read_some_entries, reads_some_entries, read_kept, reads_kept}
-use Rattle.store_sql.proofs.ReadFaults.{Takes, nothing, a_number, takes_values, takes_edition, takes_entry, takes_some_entries, takes_kept}
-use Rattle.store_sql.proofs.RowidTexts.{read_kept_by_id, reads_kept_by_id, takes_kept_by_id, read_by_rowid, reads_by_rowid, takes_by_rowid}
-use Rattle.store_sql.proofs.ListingLemmas.{all_pass, outs, query, shown_selects, entry_read}
+use Rattle.store_sql.proofs.ListingLemmas.{IsQuery, TakesValues, is_plain, ends_in, query_fails, all_pass, outs, query, shown_selects, entry_read}
+use Rattle.store_sql.proofs.ReadTexts.{ReadsTable, key_at, read_some_entries, reads_some_entries, read_kept, reads_kept}
+use Rattle.store_sql.proofs.ReadFaults.{Takes, nothing, a_number, takes_values, takes_some_entries, takes_kept, read_kept_by_id, reads_kept_by_id, takes_kept_by_id, read_by_rowid, reads_by_rowid, takes_by_rowid}
 
 -- the text of the scan, and what it answers
 pub record ReadsScan (what : Scan) : Type 1 where
@@ -86,46 +79,24 @@ reads_some n = rows_scan (EntriesOf n) read_some_entries _ _ _ _ _ _ _ _ reads_s
     (λ old new rows has h. (shown_selects select_some_entries read_some_entries entry _ _ _ _ _ _ _ _ reads_some_entries (λ tree. refl) (Int n ∷ []) (equals_number 1 n) (λ tree row. entry_read tree n row) old new rows has h).0)
 
 reads : (what : Scan) → ReadsScan what
-reads AllEditions = table_scan AllEditions read_edition _ _ _ _ _ _ _ _ reads_edition (λ tree. refl) refl (λ tree row. refl) (λ db rows h. h) takes_edition
-reads AllEntries = table_scan AllEntries read_entry _ _ _ _ _ _ _ _ reads_entry (λ tree. refl) refl (λ tree row. refl) (λ db rows h. h) takes_entry
 reads (EntriesOf n) = reads_some n
 reads AllKept = table_scan AllKept read_kept _ _ _ _ _ _ _ _ reads_kept (λ tree. refl) refl (λ tree row. refl) (λ db rows h. h) takes_kept
 reads KeptById = table_scan KeptById read_kept_by_id _ _ _ _ _ _ _ _ reads_kept_by_id (λ tree. refl) refl (λ tree row. refl) (λ db rows h. h) takes_kept_by_id
-reads (ByRowid Mark) = table_scan (ByRowid Mark) (read_by_rowid Mark) _ _ _ _ _ _ _ _ (reads_by_rowid Mark) (λ tree. refl) refl (λ tree row. refl) (λ db rows h. h) (takes_by_rowid Mark)
-reads (ByRowid Item) = table_scan (ByRowid Item) (read_by_rowid Item) _ _ _ _ _ _ _ _ (reads_by_rowid Item) (λ tree. refl) refl (λ tree row. refl) (λ db rows h. h) (takes_by_rowid Item)
-reads (ByRowid Member) = table_scan (ByRowid Member) (read_by_rowid Member) _ _ _ _ _ _ _ _ (reads_by_rowid Member) (λ tree. refl) refl (λ tree row. refl) (λ db rows h. h) (takes_by_rowid Member)
-reads (ByRowid Edition) = table_scan (ByRowid Edition) (read_by_rowid Edition) _ _ _ _ _ _ _ _ (reads_by_rowid Edition) (λ tree. refl) refl (λ tree row. refl) (λ db rows h. h) (takes_by_rowid Edition)
-reads (ByRowid Entry) = table_scan (ByRowid Entry) (read_by_rowid Entry) _ _ _ _ _ _ _ _ (reads_by_rowid Entry) (λ tree. refl) refl (λ tree row. refl) (λ db rows h. h) (takes_by_rowid Entry)
-reads (ByRowid Kept) = table_scan (ByRowid Kept) (read_by_rowid Kept) _ _ _ _ _ _ _ _ (reads_by_rowid Kept) (λ tree. refl) refl (λ tree row. refl) (λ db rows h. h) (takes_by_rowid Kept)
+reads (ByRowid t) = table_scan (ByRowid t) (read_by_rowid t) _ _ _ _ _ _ _ _ (reads_by_rowid t) (name_is t) refl (λ tree row. refl) (λ db rows h. h) (takes_by_rowid t)
 reads EditionNumbers = record { parsed = read_numbers; outs = numbers_of; tests = []; order = key_at 0 ∷ []; query = query_numbers; takes = takes_numbers; shows = shows_numbering }
 
-module _ (what : Scan) where
-  abbrev scan : ReadsScan what
-  scan = reads what
-
-  shows : (old new : State) (rows : List Row) → Has (scan_table what) old.now → Shown (scan_text what) (scan_values what) old new rows → IsWhole what old.now rows
-  shows = scan.shows
-
-  plainly : (db : Database) → Has (scan_table what) db → IsPlain (understood db.schema (scan_text what))
-  plainly db has = is_plain (scan_text what) scan.parsed (scan_table what) scan.outs scan.tests scan.order scan.query db.schema has.0 has.1 has.2
-
-  ends : (now : Database) → Has (scan_table what) now → (c : Compiled) → understood now.schema (scan_text what) ≡ Ok c → (db : Database) (params : Row) → EndsIn c.command db params
-  ends now has = ends_in (scan_text what) scan.parsed (scan_table what) scan.outs scan.tests scan.order scan.query now.schema has
-
-  pub fails_to_read : (old new : State) → (IsTrue old.is_open → Has (scan_table what) old.now) → (e : Error) → FailsToQuery (scan_text what) (scan_values what) old new e → FailsToRead old new e
-  fails_to_read old new has = query_fails (scan_text what) scan.parsed (scan_table what) scan.outs scan.tests scan.order scan.query (scan_values what) scan.takes old new has
-
-  none_committed : (params : Row) (s : State) (db : Trees) → ¬ CommitsShowing (scan_text what) params s db
-  none_committed = commits_none (scan_text what) scan.parsed scan.query.select scan.query.read scan.query.statement
-
-  none_returned : (schema : Schema) → ¬ Returns (understood schema (scan_text what))
-  none_returned = never_returns (scan_text what) scan.parsed scan.query.select scan.query.read scan.query.statement
+pub fails_to_read : (what : Scan) (old new : State) → (IsTrue old.is_open → Has (scan_table what) old.now) → (e : Error) → FailsToQuery (scan_text what) (scan_values what) old new e → FailsToRead old new e
+fails_to_read what old new has =
+    let r = reads what in
+    query_fails (scan_text what) r.parsed (scan_table what) r.outs r.tests r.order r.query (scan_values what) r.takes old new has
 
 pub still : (old new : State) → IsUnchanged old new → IsUnchanged new new
 still old new same = (record { was_open = same.0.is_open; is_open = same.0.is_open; now_is = refl; committed_is = refl; mode = refl }, record { changes = refl; last_rowid = refl }, refl)
 
 commits_nothing : (what : Scan) (old new : State) → Survives old new (CommitsShowing (scan_text what) (scan_values what) old) → Survives old new (λ _. ⊥)
-commits_nothing what old new s = survives_weaker old new _ _ (λ clean db. none_committed what (scan_values what) old db) s
+commits_nothing what old new s =
+    let r = reads what in
+    survives_weaker old new _ _ (λ clean db. commits_none (scan_text what) r.parsed r.query.select r.query.read r.query.statement (scan_values what) old db) s
 
 module _ {S : Type 0} (g : Ghosts S) (what : Scan) where
   has_later : (old new : Held S) → IsUnchanged (state g old) (state g new) → Has (scan_table what) (state g old).now → Has (scan_table what) (state g new).now
@@ -135,18 +106,21 @@ module _ {S : Type 0} (g : Ghosts S) (what : Scan) where
   front : (old new : Held S) (given : List Row) → IsUnchanged (state g old) (state g new) → Has (scan_table what) (state g new).now → kit.HasGiven g (scan_text what) (scan_values what) new given → IsFront what (state g new).now given
   front old new given same has runs =
       let s = state g new in
+      let r = reads what in
       let all = begins_shown (scan_text what) (scan_values what) s s given (given_begin g (scan_text what) (scan_values what) new given runs) (still (state g old) s same)
-      (λ c db it source. ends what s.now has c it.is db (timed (scan_values what) c.formats it.now)) in
-      (all.0, shows what s s (given ++ all.0) has all.1)
+      (λ c db it source. ends_in (scan_text what) r.parsed (scan_table what) r.outs r.tests r.order r.query s.now.schema has c it.is db (timed (scan_values what) c.formats it.now)) in
+      (all.0, r.shows s s (given ++ all.0) has all.1)
 
   pub begun : (old new : Held S) → Has (scan_table what) (state g old).now → kit.HasBegun g (scan_text what) (scan_values what) old new → HasGiven g what new [] × IsUnchanged (state g old) (state g new)
   begun old new has h =
-      let it = begun_plain g (scan_text what) (scan_values what) old new (plainly what (state g old).now has) h in
+      let r = reads what in
+      let plain = is_plain (scan_text what) r.parsed (scan_table what) r.outs r.tests r.order r.query (state g old).now.schema has.0 has.1 has.2 in
+      let it = begun_plain g (scan_text what) (scan_values what) old new plain h in
       let later = has_later old new it.1 has in
       (record { runs = it.0; has = later; front = front old new [] it.1 later it.0 }, it.1)
 
   pub gives_on : (old new : Held S) (given : List Row) (row : Option Row) → IsUnchanged (state g old) (state g new) → HasGiven g what old given → kit.Advances g old new row → GivesOn g what new given row
-  gives_on old new given None same h moved = subst (λ (d : Database). IsWhole what d given) (sym same.0.now_is) (shows what (state g old) (state g new) given h.has (moved (scan_text what) (scan_values what) given h.runs))
+  gives_on old new given None same h moved = subst (λ (d : Database). IsWhole what d given) (sym same.0.now_is) ((reads what).shows (state g old) (state g new) given h.has (moved (scan_text what) (scan_values what) given h.runs))
   gives_on old new given (Some row) same h moved =
       let runs = moved (scan_text what) (scan_values what) given h.runs in
       let later = has_later old new same h.has in
@@ -170,7 +144,7 @@ stops_at g columns old new row (Store e) same moved refused = inr (refused, row,
 module _ {S : Type 0} (g : Ghosts S) (what : Scan) (old : Held S) (has : WhileOpen (state g old) (Has (scan_table what))) where
   began_open : (new : Held S) → kit.HasBegun g (scan_text what) (scan_values what) old new → IsTrue (state g old).is_open
   began_open new (inl h) = h.1.0.was_open
-  began_open new (inr h) = absurd (none_returned what old.schema h.0)
+  began_open new (inr h) = let r = reads what in absurd (never_returns (scan_text what) r.parsed r.query.select r.query.read r.query.statement old.schema h.0)
 
   pub begins : {X : Type 0} (result : Result X Error) (held : X → Held S) → IfOk result (λ x. Survives (state g old) (state g (held x)) (CommitsShowing (scan_text what) (scan_values what) (state g old)))
       → IfOk result (λ x. HasCleanDisk (state g (held x)) → kit.HasBegun g (scan_text what) (scan_values what) old (held x))

@@ -14,6 +14,7 @@ use Rattle.sqlite.specs.Does.{Tally, Does}
 use Rattle.sqlite.specs.State.{State, Executes, ExecutesIn, ExecutesInside, Fails, RunsCommand, Runs, RunsAlone, IsNotRun, IsStatement, IsUnchanged, IsRolledBack, CommitsBy, CommitsShowing, MayCommit, mode_of}
 use Rattle.sqlite.specs.State.{IsNoStatement, IsMisplaced, shows_rows, text_of, Survives, Shows}
 use Rattle.sqlite.specs.Steps.{FailsToCommit}
+use Rattle.sqlite.proofs.StateLemmas.{survives_weaker}
 use Rattle.sqlite.specs.Clock.{timed}
 use Rattle.sqlite.specs.Listing.{understood}
 use Rattle.sqlite.specs.Command.{Command}
@@ -21,29 +22,10 @@ use Rattle.sqlite.specs.Command.TheVariants.{Select, Insert, InsertOr, Update, D
 use Rattle.sqlite_schema.specs.declared.command.Returning.{Returning}
 use Rattle.sqlite_resolve.specs.declared.compiled.Compiled.{Compiled}
 use Rattle.store_sql.specs.Transactions.{LeavesOpen, EndsNothing, ShowsNoWrite}
-use Rattle.store_sql.proofs.FaultLemmas.{fails_for}
+use Rattle.store_sql.proofs.FaultLemmas.{failed_so, fails_for}
 use Rattle.store_sql.proofs.TransactionTexts.{read_commit, commit_whole, understands_commit, read_rollback, rollback_whole, understands_rollback}
 
 module _ (old new : State) (text : List ℕ) (params : Row) where
-  -- at an error nothing has changed, or the transaction is undone
-  abbrev FallsBack : Type 0
-  FallsBack = IsUnchanged old new ⊎ IsRolledBack old new
-
-  failed_alone : (e : Error) (c : Compiled) (given : Row) (shows : Bool) → MatchBool shows ((◌≡◌ {A = Result ℕ Error} (Err e) (Err ExecuteReturnedResults)) × IsUnchanged old new) (RunsCommand old new text c given (Err e)) → FallsBack
-  failed_alone e c given true h = inl h.1
-  failed_alone e c given false (inl h) = inl h.1
-  failed_alone e c given false (inr f) = inr f.3
-
-  not_run : (e : Error) → IsNotRun old new text params e → FallsBack
-  unfolding IsNotRun
-  not_run e (inl h) = inl h.1
-  not_run e (inr f) = inr f.3
-
-  falls_back : (e : Error) → Executes text params old new (Err e) → FallsBack
-  unfolding ExecutesIn
-  falls_back e (inl h) = not_run e h
-  falls_back e (inr h) = failed_alone e h.0 (timed params h.0.formats h.1.now) (shows_rows false h.0) h.2
-
   -- what a text of one kind of commands did
   module _ (K : Command → Type 0) (kinds : (s : _) → IfOk (understood s text) (λ c. K c.command)) where
     kind_of : (c : Compiled) → IsStatement old text params c → K c.command
@@ -65,14 +47,7 @@ module _ (old new : State) (text : List ℕ) (params : Row) where
       committed_gives db h = commits_only h.0.returning h.0.command (kind_of h.0 h.1) (text_of text h.0) (timed params h.0.formats h.1.now) db h.2
 
       survives_so : Survives old new (CommitsBy text params old) → Survives old new P
-      survives_so s = record {
-        clean = s.clean;
-        shield = s.shield;
-        counts = s.counts;
-        limit = s.limit;
-        closes = s.closes;
-        crash = λ clean db may. elim (s.crash clean db may) [ inl before ↦ inl before | inr now ↦ inr (committed_gives db now) ];
-      }
+      survives_so s = survives_weaker old new _ _ (λ clean. committed_gives) s
 
 -- ---- a text that leaves a transaction open
 
@@ -106,7 +81,7 @@ commits_none old inside shown command k words given db (inr write) = let outside
 module _ (old new : State) (text : List ℕ) (params : Row) (ends : EndsNothing text) (inside : IsTrue old.in_transaction) where
   pub runs_inside : (result : Result ℕ Error) → Executes text params old new result → ExecutesInside 0 text params old new result
   runs_inside (Ok count) h = (h, ran_gives old new text params LeavesOpen ends count (goes_on old new inside count) h, λ _. refl)
-  runs_inside (Err e) h = inl (h, falls_back old new text params e h)
+  runs_inside (Err e) h = inl (h, failed_so old new text params e inl (λ P f. inr f.3) h)
 
   pub adds_none : Survives old new (CommitsBy text params old) → Survives old new (λ _. ⊥)
   adds_none = survives_so old new text params LeavesOpen ends (λ _. ⊥) (commits_none old inside)
@@ -119,14 +94,7 @@ module _ (old new : State) (text : List ℕ) (params : Row) (silent : ShowsNoWri
   shows_none db h = absurd (let none = rw h.1.is at (silent old.now.schema) in let some = h.2 in let both = rw none at some in cc)
 
   pub query_adds_none : Survives old new (CommitsShowing text params old) → Survives old new (λ _. ⊥)
-  query_adds_none s = record {
-    clean = s.clean;
-    shield = s.shield;
-    counts = s.counts;
-    limit = s.limit;
-    closes = s.closes;
-    crash = λ clean db may. elim (s.crash clean db may) [ inl before ↦ inl before | inr now ↦ inr (shows_none db now) ];
-  }
+  query_adds_none s = survives_weaker old new _ _ (λ clean. shows_none) s
 
 -- ---- COMMIT
 

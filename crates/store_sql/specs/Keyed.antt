@@ -1,9 +1,9 @@
--- The rows of entries with keys, of words and of grams, column by column.
+-- The rows of entries with keys, column by column.
 use Rattle.std.specs.Prelude.{ℕ, List, [], ◌∷◌, String, Vec}
 use Rattle.std.specs.declared.alloc.Global.{Global}
 use Rattle.sqlite.specs.declared.types.Value.TheVariants.{Int, Text as Words, Blob as Bytes}
 use Rattle.sqlite.specs.Order.{Row}
-use Rattle.store_records.specs.Keyed.{KeyedEntry, OldEntry, Piece, owned_keyed_entry, owned_old_entry, owned_word, owned_gram}
+use Rattle.store_records.specs.Keyed.{KeyedEntry, OldEntry, owned_keyed_entry, owned_old_entry}
 use Rattle.store_records.specs.Typed.{stored_row_as}
 use Rattle.store_records.specs.declared.records.StoredRow.{StoredRow}
 use Rattle.store_records.specs.declared.keyed as typed
@@ -15,9 +15,6 @@ keyed_entry_row e = Int e.edition ∷ Int e.ord ∷ Words e.headword ∷ Int e.s
 
 abbrev pub old_entry_row : OldEntry → Row
 old_entry_row e = Int e.edition ∷ Int e.ord ∷ Words e.headword ∷ Int e.start ∷ Int e.length ∷ Bytes e.key ∷ Bytes e.reversed ∷ []
-
-abbrev pub piece_row : Piece → Row
-piece_row p = Int p.edition ∷ Bytes p.piece ∷ Int p.ord ∷ []
 
 -- The rowid stands first.
 
@@ -33,9 +30,6 @@ old_entry_cells = Number ∷ Number ∷ Name ∷ Number ∷ Number ∷ Octets �
 abbrev pub old_entry_columns : List Content
 old_entry_columns = Number ∷ old_entry_cells
 
-abbrev pub piece_columns : List Content
-piece_columns = Number ∷ Number ∷ Octets ∷ Number ∷ []
-
 -- of a record that was read
 
 abbrev pub stored_keyed_entry : StoredRow (typed.KeyedEntry.KeyedEntry (String Global) (Vec ℕ Global)) → Row
@@ -43,9 +37,3 @@ stored_keyed_entry r = stored_row keyed_entry_row (stored_row_as owned_keyed_ent
 
 abbrev pub stored_old_entry : StoredRow (typed.OldEntry.OldEntry (String Global) (Vec ℕ Global)) → Row
 stored_old_entry r = stored_row old_entry_row (stored_row_as owned_old_entry r)
-
-abbrev pub stored_word : StoredRow (typed.WordRecord.WordRecord (Vec ℕ Global)) → Row
-stored_word r = stored_row piece_row (stored_row_as owned_word r)
-
-abbrev pub stored_gram : StoredRow (typed.Gram.Gram (Vec ℕ Global)) → Row
-stored_gram r = stored_row piece_row (stored_row_as owned_gram r)

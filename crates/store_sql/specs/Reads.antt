@@ -26,12 +26,6 @@ select_item = codes "SELECT rowid, * FROM item ORDER BY 2"
 abbrev pub select_member : List ℕ
 select_member = codes "SELECT rowid, * FROM member ORDER BY 2, 3"
 
-abbrev pub select_edition : List ℕ
-select_edition = codes "SELECT rowid, * FROM edition ORDER BY 2"
-
-abbrev pub select_entry : List ℕ
-select_entry = codes "SELECT rowid, * FROM entry ORDER BY 2, 3"
-
 abbrev pub select_kept : List ℕ
 select_kept = codes "SELECT rowid, * FROM kept ORDER BY 3"
 

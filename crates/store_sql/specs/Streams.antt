@@ -17,12 +17,10 @@ use Rattle.store_sql.specs.Effects.{Has, equals_number}
 use Rattle.store_sql.specs.Columns.{Content, HasColumns}
 use Rattle.store_sql.specs.declared.records.ReadError.{ReadError}
 use Rattle.store_sql.specs.declared.records.ReadError.TheVariants.{NoRecord, Store}
-use Rattle.store_sql.specs.Reads.{IsListing, IsSelection, IsNumbering, FailsToRead, select_edition, select_entry, select_some_entries, select_kept, select_kept_by_id, select_by_rowid, select_numbers}
+use Rattle.store_sql.specs.Reads.{IsListing, IsSelection, IsNumbering, FailsToRead, select_some_entries, select_kept, select_kept_by_id, select_by_rowid, select_numbers}
 
 -- which rows of a large table are read, one at a time
 pub data Scan : Type 0 where
-  AllEditions : Scan
-  AllEntries : Scan
   EntriesOf : ℤ → Scan
   AllKept : Scan
   KeptById : Scan
@@ -30,8 +28,6 @@ pub data Scan : Type 0 where
   EditionNumbers : Scan
 
 abbrev pub scan_table : Scan → ℕ → Table
-scan_table AllEditions = edition
-scan_table AllEntries = entry
 scan_table (EntriesOf number) = entry
 scan_table AllKept = kept
 scan_table KeptById = kept
@@ -40,8 +36,6 @@ scan_table EditionNumbers = edition
 
 -- the text that is run, and the values that it is given
 abbrev pub scan_text : Scan → List ℕ
-scan_text AllEditions = select_edition
-scan_text AllEntries = select_entry
 scan_text (EntriesOf number) = select_some_entries
 scan_text AllKept = select_kept
 scan_text KeptById = select_kept_by_id
@@ -54,8 +48,6 @@ scan_values _ = []
 
 -- all rows that are read, in their order
 abbrev pub IsWhole : Scan → Database → List Row → Type 0
-IsWhole AllEditions db rows = IsListing (codes "edition") (1 ∷ []) db rows
-IsWhole AllEntries db rows = IsListing (codes "entry") (1 ∷ 2 ∷ []) db rows
 IsWhole (EntriesOf number) db rows = IsSelection (codes "entry") (equals_number 1 number) (2 ∷ []) db rows
 IsWhole AllKept db rows = IsListing (codes "kept") (2 ∷ []) db rows
 IsWhole KeptById db rows = IsListing (codes "kept") (1 ∷ []) db rows

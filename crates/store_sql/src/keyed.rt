@@ -1,15 +1,15 @@
-//! The records of entries with keys, of words and of grams, read from rows.
+//! The records of entries with keys, read from rows.
 
 ghost use Rattle.std.specs.Prelude.{◌≡◌, ◌∷◌, drop, length, IfOk, IfErr, OnOk};
 ghost use Rattle.sqlite.specs.Order.{column};
 ghost use Rattle.store_records.specs.Keyed.{owned_keyed_entry, owned_old_entry};
 ghost use Rattle.store_sql.specs.Columns.{HasColumns};
 ghost use Rattle.store_sql.specs.Reads.{FailsToDecode};
-ghost use Rattle.store_sql.specs.Keyed.{keyed_entry_row, keyed_entry_cells, keyed_entry_columns, old_entry_row, old_entry_cells, old_entry_columns, piece_columns, stored_keyed_entry, stored_old_entry, stored_word, stored_gram};
+ghost use Rattle.store_sql.specs.Keyed.{keyed_entry_row, keyed_entry_cells, keyed_entry_columns, old_entry_row, old_entry_cells, old_entry_columns, stored_keyed_entry, stored_old_entry};
 
 use crate::records::{ReadError, Record, cell};
 use sqlite::Row;
-use store_records::{Gram, KeyedEntry, OldEntry, StoredRow, WordRecord};
+use store_records::{KeyedEntry, OldEntry, StoredRow};
 
 // What stands behind the rowid, or that it is no entry.
 fn keyed_entry(row: &Row) -> Result<KeyedEntry<String, Vec<u8>>, ReadError>
@@ -79,54 +79,6 @@ impl Record for StoredRow<OldEntry<String, Vec<u8>>> {
         let rowid = cell(row, 0)?;
         let value = old_entry(row)?;
         Ok(StoredRow { rowid, value })
-    }
-
-    fn rowid(&self) -> i64 {
-        self.rowid
-    }
-}
-
-impl Record for StoredRow<WordRecord<Vec<u8>>> {
-    ghost stored = { stored_word };
-
-    ghost columns = { piece_columns };
-
-    fn from_row(row: &Row) -> Result<Self, ReadError> {
-        if row.column_count() != 4 {
-            return Err(ReadError::NoRecord);
-        }
-        Ok(StoredRow {
-            rowid: cell(row, 0)?,
-            value: WordRecord {
-                edition: cell(row, 1)?,
-                word: cell(row, 2)?,
-                ord: cell(row, 3)?,
-            },
-        })
-    }
-
-    fn rowid(&self) -> i64 {
-        self.rowid
-    }
-}
-
-impl Record for StoredRow<Gram<Vec<u8>>> {
-    ghost stored = { stored_gram };
-
-    ghost columns = { piece_columns };
-
-    fn from_row(row: &Row) -> Result<Self, ReadError> {
-        if row.column_count() != 4 {
-            return Err(ReadError::NoRecord);
-        }
-        Ok(StoredRow {
-            rowid: cell(row, 0)?,
-            value: Gram {
-                edition: cell(row, 1)?,
-                gram: cell(row, 2)?,
-                ord: cell(row, 3)?,
-            },
-        })
     }
 
     fn rowid(&self) -> i64 {

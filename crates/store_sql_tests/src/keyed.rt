@@ -1,4 +1,4 @@
-//! The tables of schema 4 that have what is derived of headwords: recognised, read row by row, and dropped.
+//! The tables of schema 4 that have what is derived of headwords: recognised and dropped, the entries read row by row.
 
 use crate::checks::{holds, same_text};
 use crate::opened::open;
@@ -8,8 +8,8 @@ use sqlite::{Alter, Connection, Error, Rows};
 use std::alloc::Global;
 use std::process::Abort;
 use std::test::Fail;
-use store_older_sql::{drop_keyed_table, has_keyed_table, read_by_rowid, read_rows_of};
-use store_records::{Gram, KeyedEntry, StoredRow, WordRecord};
+use store_older_sql::{drop_keyed_table, has_keyed_table, read_shown_by_rowid, read_shown_rows_of};
+use store_records::{KeyedEntry, StoredRow};
 use store_sql::records::ReadError;
 use store_sql::transaction::commit_open;
 use store_tables::{KeyedTable, is_name_used};
@@ -39,58 +39,30 @@ const OF_FIRST: &str =
     "[StoredRow { rowid: 3, value: KeyedEntry { edition: 1, ord: 0, headword: \"\", start: 1, length: 0, key: [], reversed: [], shown: \" \" } }, \
      StoredRow { rowid: 2, value: KeyedEntry { edition: 1, ord: 1, headword: \"'A'\", start: 0, length: 9223372036854775807, key: [97], reversed: [97], shown: \"\" } }]";
 
-const WORDS: &str =
-    "[StoredRow { rowid: 1, value: WordRecord { edition: 1, word: [244, 143, 191, 191], ord: 0 } }, \
-     StoredRow { rowid: 2, value: WordRecord { edition: 1, word: [], ord: 3 } }]";
+// An edition if its entries alone are read, and what comes: those in the order of their places, others in that of their rowids.
+static READS: [(Option<i64>, &str); 3] = [(None, ENTRIES), (Some(1), OF_FIRST), (Some(3), "[]")];
 
-const GRAMS: &str =
-    "[StoredRow { rowid: 1, value: Gram { edition: 2, gram: [111, 112, 97], ord: 0 } }, \
-     StoredRow { rowid: 2, value: Gram { edition: 1, gram: [111, 112, 97], ord: 9223372036854775807 } }]";
-
-// A table, an edition if its rows alone are read, and what comes: rows of an edition in the order of their places, others in that of their rowids.
-static READS: [(KeyedTable, Option<i64>, &str); 5] = [
-    (KeyedTable::Entry, None, ENTRIES),
-    (KeyedTable::Word, None, WORDS),
-    (KeyedTable::Gram, None, GRAMS),
-    (KeyedTable::Entry, Some(1), OF_FIRST),
-    (KeyedTable::Entry, Some(3), "[]"),
-];
-
-// Begins to read a table.
+// Begins to read entries.
 fn begin<'a, S: Alter>(
     conn: &'a mut Connection<S>,
-    table: KeyedTable,
     edition: Option<i64>,
 ) -> Result<Rows<'a, S>, Error> {
-    if !has_keyed_table(conn.schema(), table) {
+    if !has_keyed_table(conn.schema(), KeyedTable::Entry) {
         return Err(Error::InvalidQuery);
     }
     match edition {
-        Some(number) => read_rows_of(conn, table, number),
-        None => read_by_rowid(conn, table),
-    }
-}
-
-fn told_of<S: Alter>(
-    alloc: Global,
-    rows: &mut Rows<'_, S>,
-    table: KeyedTable,
-) -> Result<String, ReadError> {
-    match table {
-        KeyedTable::Entry => told_rest::<S, StoredRow<KeyedEntry<String, Vec<u8>>>>(alloc, rows),
-        KeyedTable::Word => told_rest::<S, StoredRow<WordRecord<Vec<u8>>>>(alloc, rows),
-        KeyedTable::Gram => told_rest::<S, StoredRow<Gram<Vec<u8>>>>(alloc, rows),
+        Some(number) => read_shown_rows_of(conn, number),
+        None => read_shown_by_rowid(conn),
     }
 }
 
 fn read<S: Alter>(
     alloc: Global,
     conn: &mut Connection<S>,
-    table: KeyedTable,
     edition: Option<i64>,
 ) -> Result<String, ReadError> {
-    let mut rows = begin(conn, table, edition)?;
-    let told = told_of(alloc, &mut rows, table);
+    let mut rows = begin(conn, edition)?;
+    let told = told_rest::<S, StoredRow<KeyedEntry<String, Vec<u8>>>>(alloc, &mut rows);
     drop(rows);
     told
 }
@@ -117,15 +89,15 @@ fn drop_all<S: Alter>(rt: &impl Abort, conn: &mut Connection<S>) -> Result<(), F
     Ok(())
 }
 
-/// What each table has. Each goes with its indexes, and leaves the others.
+/// What is read of the entries. Each table goes with its indexes, and leaves the others.
 pub(crate) fn run<S: Alter>(
     rt: &impl Abort,
     alloc: Global,
     conn: &mut Connection<S>,
 ) -> Result<(), Fail> {
     raw(conn, STORED)?;
-    for (table, edition, expected) in &READS {
-        let text = read(alloc, conn, *table, *edition)?;
+    for (edition, expected) in &READS {
+        let text = read(alloc, conn, *edition)?;
         same_text(rt, text.as_str(), *expected);
     }
     drop_all(rt, conn)?;

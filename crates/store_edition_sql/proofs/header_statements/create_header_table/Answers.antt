@@ -1,7 +1,6 @@
-use Rattle.std.proofs.Common.{[], ap, arith}
+use Rattle.std.proofs.Common.{[]}
 use Rattle.sqlite.specs.Held.{state}
-use Rattle.store_sql.proofs.StateLemmas.{inside, fails_in}
-use Rattle.store_sql.proofs.RefusalLemmas.{makes_aside}
+use Rattle.store_sql.proofs.StateLemmas.{stated, makes_aside}
 use Rattle.store_edition_sql.specs.HeaderTable.{header}
 use Rattle.store_edition_sql.specs.HeaderTexts.{header_create_text}
 use Rattle.store_edition_sql.proofs.HeaderTexts.{make_ends_none, makes_header, make_fails_in}
@@ -10,17 +9,11 @@ use Rattle.store_edition_sql.proofs.header_statements.create_header_table.Goals 
 pub execute-requires : goal.execute-requires
 execute-requires g c = make_ends_none
 
-pub returns-clause-made : goal.returns-clause-made
-returns-clause-made g c clean =
+pub returns : goal.returns
+returns g c =
     let old = state g.S.Store (g.T.OpenTransaction.held c.args.tx.now) in
     let new = state g.S.Store (g.T.OpenTransaction.held c.execute.new.self) in
-    inside header_create_text [] old new c.execute.result
-    (λ open' count. makes_header old new count (c.requires (omega (arith, c.execute.ensures.survives.clean)) open'))
-    (λ outside. (c.execute.ensures.ended outside).0) (c.execute.ensures.runs clean)
-
-pub returns-clause-failed : goal.returns-clause-failed
-returns-clause-failed g c clean =
-    let old = state g.S.Store (g.T.OpenTransaction.held c.args.tx.now) in
-    let new = state g.S.Store (g.T.OpenTransaction.held c.execute.new.self) in
-    fails_in _ ⊥ (makes_aside (header 0) old) old new header_create_text [] c.execute.result (λ outside. ((c.execute.ensures.ended outside).0, ap (state g.S.Store) (c.execute.ensures.ended outside).1)) (c.execute.ensures.runs clean)
-    (λ open'. make_fails_in old new (c.requires (omega (arith, c.execute.ensures.survives.clean)) open'))
+    let ran =
+    stated g.S.Store _ _ header_create_text [] c.execute.result _ ⊥ (makes_aside (header 0) old) c.requires c.execute.ensures.ended c.execute.ensures.runs c.execute.ensures.survives
+    (makes_header old new) (λ e free. make_fails_in old new free e) in
+    record { same_reference = c.execute.ensures.same_reference; made = λ clean. (ran clean).0; failed = λ clean. (ran clean).1; survives = c.execute.ensures.survives }

@@ -1,8 +1,7 @@
-use Rattle.std.proofs.Common.{[], ◌∷◌, codes, ap, arith}
+use Rattle.std.proofs.Common.{[], ◌∷◌, codes}
 use Rattle.sqlite.specs.Held.{state}
 use Rattle.sqlite.specs.declared.types.Value.TheVariants.{Int}
-use Rattle.store_sql.proofs.StateLemmas.{inside, fails_in}
-use Rattle.store_sql.proofs.RefusalLemmas.{removes_aside}
+use Rattle.store_sql.proofs.StateLemmas.{stated, removes_aside}
 use Rattle.store_sql.proofs.NumberLemmas.{bound_int}
 use Rattle.store_edition_sql.specs.Chosen.{is_part_from}
 use Rattle.store_edition_sql.specs.PartTexts.{delete_from_text}
@@ -12,24 +11,17 @@ use Rattle.store_edition_sql.proofs.part_statements.delete_parts_from.Goals as g
 pub execute-requires : goal.execute-requires
 execute-requires g c = from_ends
 
-pub returns-clause-removed : goal.returns-clause-removed
-returns-clause-removed g c clean =
+pub returns : goal.returns
+returns g c =
     let old = state g.S.Store (g.T.OpenTransaction.held c.args.tx.now) in
     let new = state g.S.Store (g.T.OpenTransaction.held c.execute.new.self) in
-    inside delete_from_text (Int c.args.edition ∷ Int c.args.file ∷ Int c.args.number ∷ []) old new c.execute.result
-    (λ open' count. let it = c.requires (omega (arith, c.execute.ensures.survives.clean)) open' in removes_from old new c.args.edition c.args.file c.args.number count it.has it.apart)
-    (λ outside. (c.execute.ensures.ended outside).0) (λ within. (rw (
+    let runs = rw (
       bound_int _ c.args.edition c.ranges.edition c.params-to_sql.ensures,
       bound_int _ c.args.file c.ranges.file c.params-to_sql-2.ensures,
       bound_int _ c.args.number c.ranges.number c.params-to_sql-3.ensures,
-    ) at (c.execute.ensures.runs clean within)))
-
-pub returns-clause-failed : goal.returns-clause-failed
-returns-clause-failed g c clean =
-    let old = state g.S.Store (g.T.OpenTransaction.held c.args.tx.now) in
-    let new = state g.S.Store (g.T.OpenTransaction.held c.execute.new.self) in
-    fails_in _ ⊥ (removes_aside (codes "dictcat_part") (is_part_from c.args.edition c.args.file c.args.number) old) old new delete_from_text (Int c.args.edition ∷ Int c.args.file ∷ Int c.args.number ∷ []) c.execute.result
-    (λ outside. ((c.execute.ensures.ended outside).0, ap (state g.S.Store) (c.execute.ensures.ended outside).1))
-    (λ within. (rw (bound_int _ c.args.edition c.ranges.edition c.params-to_sql.ensures, bound_int _ c.args.file c.ranges.file c.params-to_sql-2.ensures, bound_int _ c.args.number c.ranges.number c.params-to_sql-3.ensures) at
-    (c.execute.ensures.runs clean within)))
-    (λ open' e. let it = c.requires (omega (arith, c.execute.ensures.survives.clean)) open' in from_stay old new c.args.edition c.args.file c.args.number e it.has it.apart)
+    ) at c.execute.ensures.runs in
+    let ran =
+    stated g.S.Store _ _ delete_from_text (Int c.args.edition ∷ Int c.args.file ∷ Int c.args.number ∷ []) c.execute.result _ ⊥ (removes_aside (codes "dictcat_part") (is_part_from c.args.edition c.args.file c.args.number) old)
+    c.requires c.execute.ensures.ended runs c.execute.ensures.survives
+    (λ count it. removes_from old new c.args.edition c.args.file c.args.number count it.has it.apart) (λ e it. from_stay old new c.args.edition c.args.file c.args.number e it.has it.apart) in
+    record { same_reference = c.execute.ensures.same_reference; removed = λ clean. (ran clean).0; failed = λ clean. (ran clean).1; survives = c.execute.ensures.survives }

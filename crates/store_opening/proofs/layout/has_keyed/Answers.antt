@@ -1,8 +1,5 @@
-use Rattle.std.proofs.Common.{rules}
-use Rattle.std.specs.Prelude.{IsTrue}
 use Rattle.store_opening.proofs.layout.has_keyed.Goals as goal
 
 pub returns-then-has_keyed_tables : goal.returns-then-has_keyed_tables
 returns-then-has_keyed_tables c =
-    let tables : IsTrue c.has_keyed_tables.result = search rules in
-    (λ yes. record { tables = c.has_keyed_tables.ensures.0 tables; room = c.has_part_room.ensures.0 yes }, λ layout. c.has_part_room.ensures.1 layout.room)
+    (λ yes. record { tables = c.has_keyed_tables.ensures.0 c.if-has_keyed_tables.true; room = c.has_part_room.ensures.0 yes }, λ layout. c.has_part_room.ensures.1 layout.room)

@@ -4,8 +4,7 @@ use Rattle.sqlite.specs.Held.{state}
 use Rattle.sqlite.specs.State.{State}
 use Rattle.store_tables.specs.Tables.{mark}
 use Rattle.store_sql.proofs.ReadTexts.{read_mark, reads_mark}
-use Rattle.store_sql.proofs.QueryLemmas.{CanRead}
-use Rattle.store_sql.proofs.ListingLemmas.{lists_whole, selects_where, reads_nothing_else}
+use Rattle.store_sql.proofs.ListingLemmas.{CanRead, lists_whole, selects_where, reads_nothing_else}
 use Rattle.store_sql.proofs.ReadFaults.{nothing, takes_mark, list_fails}
 use Rattle.store_sql.specs.Reads.{select_mark}
 use Rattle.store_opening.specs.Marks.{HasMarkTable}

@@ -1,25 +1,10 @@
-use Rattle.std.proofs.Common.{◌≡◌, [], ◌∷◌, map, codes, length, arith, subst, sym}
+use Rattle.std.proofs.Common.{◌≡◌, length, arith}
 use Rattle.std.proofs.lemmas.Int.{to_z-of_z}
 use mir.Syntax.{w64}
-use Rattle.sqlite.specs.Held.{state}
-use Rattle.store_sql.specs.Effects.{equals_number}
-use Rattle.store_edition_sql.specs.HeaderRecords.{header_columns, stored_header}
-use Rattle.store_sql.specs.Reads.{IsSelection}
 use Rattle.store_opening.proofs.NoneLemmas.{one_item}
-use Rattle.store_scans.specs.Reading.{IsExcusedReading}
-use Rattle.store_scans.proofs.CauseLemmas.{list_cause}
 use Rattle.store_opening.proofs.texts.header_numbered.Goals as goal
 
 pub returns-clause-one : goal.returns-clause-one
 returns-clause-one g c clean =
-    let old = state g.S.Store c.args.conn.now in
     let one : length c.in-Ok.headers.items ≡ 1 = omega (arith, c.in-Ok.headers.ok.0) in
-    let items = one_item c.in-Ok.headers.items c.remove-one.result one c.remove-one.ensures.value in
-    let got = (c.in-Ok.ensures.selected clean).0 in
-    subst (λ rows. IsSelection (codes "edition") (equals_number 1 c.args.number) (1 ∷ []) old.now (map stored_header rows)) items
-    (subst (λ n. IsSelection (codes "edition") (equals_number 1 n) (1 ∷ []) old.now (map stored_header c.in-Ok.headers.items)) (to_z-of_z w64 c.args.number c.ranges.number) got)
-
-pub returns-in-Err-clause-failed : goal.returns-in-Err-clause-failed
-returns-in-Err-clause-failed g c clean =
-    subst (IsExcusedReading (state g.S.Store c.args.conn.now) (state g.S.Store c.headers_numbered.new.conn)) (sym c.fault_of_read.ensures)
-    (list_cause header_columns _ (state g.S.Store c.args.conn.now) (state g.S.Store c.headers_numbered.new.conn) c.in-Err.error (c.in-Err.ensures.failed clean))
+    rw (one_item c.in-Ok.headers.items c.remove-one.result one c.remove-one.ensures.value) at (rw (to_z-of_z w64 c.args.number c.ranges.number) at (c.in-Ok.ensures.selected clean).0)

@@ -1,29 +1,20 @@
-use Rattle.std.proofs.Common.{[], ap, arith}
+use Rattle.std.proofs.Common.{[]}
 use Rattle.sqlite.specs.Held.{state}
 use Rattle.store_tables.specs.Tables.{table_of}
 use Rattle.store_sql.specs.Drops.{drop_text}
-use Rattle.store_sql.proofs.StateLemmas.{inside, fails_in}
-use Rattle.store_sql.proofs.RefusalLemmas.{drops_aside}
-use Rattle.store_sql.proofs.DropFaults.{drop_fails_in}
-use Rattle.store_sql.proofs.DropLemmas.{drops_table}
-use Rattle.store_sql.proofs.EndLemmas.{take_ends_none}
+use Rattle.store_sql.proofs.StateLemmas.{stated, drops_aside}
+use Rattle.store_sql.proofs.DropLemmas.{drop_fails_in, drops_table}
+use Rattle.store_sql.proofs.KindLemmas.{take_ends_none}
 use Rattle.store_sql.proofs.drop.drop_table.Goals as goal
 
 pub execute-requires : goal.execute-requires
 execute-requires g c = rw c.text_of.ensures (take_ends_none c.args.table)
 
-pub returns-clause-dropped : goal.returns-clause-dropped
-returns-clause-dropped g c clean =
+pub returns : goal.returns
+returns g c =
     let old = state g.S.Store (g.T.OpenTransaction.held c.args.tx.now) in
     let new = state g.S.Store (g.T.OpenTransaction.held c.execute.new.self) in
-    inside (drop_text c.args.table) [] old new c.execute.result
-    (λ open' count. drops_table c.args.table old new count (c.requires (omega (arith, c.execute.ensures.survives.clean)) open'))
-    (λ outside. (c.execute.ensures.ended outside).0) (rw c.text_of.ensures at (c.execute.ensures.runs clean))
-
-pub returns-clause-failed : goal.returns-clause-failed
-returns-clause-failed g c clean =
-    let old = state g.S.Store (g.T.OpenTransaction.held c.args.tx.now) in
-    let new = state g.S.Store (g.T.OpenTransaction.held c.execute.new.self) in
-    fails_in _ ⊥ (drops_aside (table_of c.args.table 0).name old) old new (drop_text c.args.table) [] c.execute.result (λ outside. ((c.execute.ensures.ended outside).0, ap (state g.S.Store) (c.execute.ensures.ended outside).1))
-    (rw c.text_of.ensures at (c.execute.ensures.runs clean))
-    (λ open' e. drop_fails_in c.args.table old new e (c.requires (omega (arith, c.execute.ensures.survives.clean)) open'))
+    let ran =
+    stated g.S.Store _ _ (drop_text c.args.table) [] c.execute.result _ ⊥ (drops_aside (table_of c.args.table 0).name old) c.requires c.execute.ensures.ended (rw c.text_of.ensures at c.execute.ensures.runs) c.execute.ensures.survives
+    (drops_table c.args.table old new) (drop_fails_in c.args.table old new) in
+    record { same_reference = c.execute.ensures.same_reference; dropped = λ clean. (ran clean).0; failed = λ clean. (ran clean).1; survives = c.execute.ensures.survives }

@@ -1,23 +1,17 @@
-use Rattle.std.proofs.Common.{[], true, codes, refl, arith}
+use Rattle.std.proofs.Common.{true, codes, refl}
 use Rattle.sqlite.specs.Held.{state}
 use Rattle.store_tables.specs.Tables.{member}
 use Rattle.store_sql.specs.Reads.{select_member}
 use Rattle.store_sql.proofs.ReadTexts.{read_member, reads_member}
-use Rattle.store_sql.proofs.ListingLemmas.{lists_whole, selects, reads_nothing_else}
-use Rattle.store_sql.proofs.ReadFaults.{nothing, takes_member, fails_to_list}
+use Rattle.store_sql.proofs.ListingLemmas.{lists_whole}
+use Rattle.store_sql.proofs.ReadFaults.{nothing, takes_member, asked}
 use Rattle.store_sql.proofs.read.member_rows.Goals as goal
 
-pub returns-clause-listed : goal.returns-clause-listed
-returns-clause-listed g c clean =
-    lists_whole (codes "member") _ (state g.S.Store c.args.conn.now) (state g.S.Store c.query_all.new.self) c.query_all.result
-    (selects select_member read_member member _ _ _ _ _ _ _ _ reads_member (λ tree. refl) [] (λ _. true) (λ tree row. refl) (state g.S.Store c.args.conn.now) (state g.S.Store c.query_all.new.self) c.query_all.result
-    (c.requires (omega (arith, c.query_all.ensures.survives.clean))) (c.query_all.ensures.ok clean))
-
-pub returns-clause-failed : goal.returns-clause-failed
-returns-clause-failed g c clean =
-    fails_to_list select_member read_member member _ _ _ _ _ _ _ _ reads_member nothing takes_member tt (state g.S.Store c.args.conn.now) (state g.S.Store c.query_all.new.self)
-    (c.requires (omega (arith, c.query_all.ensures.survives.clean))) c.query_all.result (c.query_all.ensures.err clean)
-
-pub returns-clause-survives : goal.returns-clause-survives
-returns-clause-survives g c =
-    reads_nothing_else select_member read_member member _ _ _ _ _ _ _ _ reads_member (λ tree. refl) [] (λ _. true) (λ tree row. refl) (state g.S.Store c.args.conn.now) (state g.S.Store c.query_all.new.self) c.query_all.ensures.survives
+pub returns : goal.returns
+returns g c =
+    let old = state g.S.Store c.args.conn.now in
+    let new = state g.S.Store c.query_all.new.self in
+    let it =
+    asked select_member read_member member _ _ _ _ _ _ _ _ reads_member nothing takes_member tt (λ tree. refl) (λ _. true) (λ tree row. refl) old new c.query_all.result c.requires
+    c.query_all.ensures.survives c.query_all.ensures.ok c.query_all.ensures.err in
+    record { listed = λ clean. lists_whole (codes "member") _ old new c.query_all.result (it.0 clean).0; failed = λ clean. (it.0 clean).1; mode = c.query_all.ensures.mode; survives = it.1 }

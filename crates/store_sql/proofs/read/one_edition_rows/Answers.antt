@@ -1,29 +1,20 @@
-use Rattle.std.proofs.Common.{[], ◌∷◌, refl, arith}
+use Rattle.std.proofs.Common.{refl}
 use Rattle.sqlite.specs.Held.{state}
-use Rattle.sqlite.specs.declared.types.Value.TheVariants.{Int}
 use Rattle.store_tables.specs.Tables.{edition}
 use Rattle.store_sql.specs.Effects.{equals_number}
 use Rattle.store_sql.specs.Reads.{select_one_edition}
 use Rattle.store_sql.proofs.NumberLemmas.{bound_int}
 use Rattle.store_sql.proofs.ReadTexts.{read_one_edition, reads_one_edition}
-use Rattle.store_sql.proofs.ListingLemmas.{selects, reads_nothing_else, edition_read}
-use Rattle.store_sql.proofs.ReadFaults.{a_number, takes_one_edition, fails_to_list}
+use Rattle.store_sql.proofs.ListingLemmas.{edition_read}
+use Rattle.store_sql.proofs.ReadFaults.{a_number, takes_one_edition, asked}
 use Rattle.store_sql.proofs.read.one_edition_rows.Goals as goal
 
-pub returns-clause-selected : goal.returns-clause-selected
-returns-clause-selected g c clean =
-    selects select_one_edition read_one_edition edition _ _ _ _ _ _ _ _ reads_one_edition (λ tree. refl) (Int c.args.number ∷ []) (equals_number 1 c.args.number) (λ tree row. edition_read tree c.args.number row)
-    (state g.S.Store c.args.conn.now) (state g.S.Store c.query_all.new.self) c.query_all.result (c.requires (omega (arith, c.query_all.ensures.survives.clean)))
-    (rw (bound_int _ c.args.number c.ranges.number c.params-to_sql.ensures) at (c.query_all.ensures.ok clean))
-
-pub returns-clause-failed : goal.returns-clause-failed
-returns-clause-failed g c clean =
-    fails_to_list select_one_edition read_one_edition edition _ _ _ _ _ _ _ _ reads_one_edition a_number takes_one_edition c.args.number (state g.S.Store c.args.conn.now) (state g.S.Store c.query_all.new.self)
-    (c.requires (omega (arith, c.query_all.ensures.survives.clean))) c.query_all.result
-    (rw (bound_int _ c.args.number c.ranges.number c.params-to_sql.ensures) at (c.query_all.ensures.err clean))
-
-pub returns-clause-survives : goal.returns-clause-survives
-returns-clause-survives g c =
-    reads_nothing_else select_one_edition read_one_edition edition _ _ _ _ _ _ _ _ reads_one_edition (λ tree. refl) (Int c.args.number ∷ []) (equals_number 1 c.args.number) (λ tree row. edition_read tree c.args.number row)
-    (state g.S.Store c.args.conn.now) (state g.S.Store c.query_all.new.self)
-    (rw (bound_int _ c.args.number c.ranges.number c.params-to_sql.ensures) at c.query_all.ensures.survives)
+pub returns : goal.returns
+returns g c =
+    let old = state g.S.Store c.args.conn.now in
+    let new = state g.S.Store c.query_all.new.self in
+    let bound = bound_int _ c.args.number c.ranges.number c.params-to_sql.ensures in
+    let it =
+    asked select_one_edition read_one_edition edition _ _ _ _ _ _ _ _ reads_one_edition a_number takes_one_edition c.args.number (λ tree. refl) (equals_number 1 c.args.number) (λ tree row. edition_read tree c.args.number row)
+    old new c.query_all.result c.requires (rw bound at c.query_all.ensures.survives) (rw bound at c.query_all.ensures.ok) (rw bound at c.query_all.ensures.err) in
+    record { selected = λ clean. (it.0 clean).0; failed = λ clean. (it.0 clean).1; mode = c.query_all.ensures.mode; survives = it.1 }

@@ -4,13 +4,9 @@ use Rattle.store_sql.proofs.StreamLemmas.{begins, begins_alone, not_begun}
 use Rattle.store_sql.proofs.stream.read_by_rowid.Goals as goal
 
 pub returns : goal.returns
-returns g c = (
-  (refl, c.query.follows.holds, not_begun g.S.Store (ByRowid c.args.table) c.args.conn.now c.requires c.query.result c.query.follows.lender-at-none (rw c.text_by_rowid.ensures at c.query.follows.holds-at-none)),
-  record {
-    refused = tt;
-    same_reference = c.query.ensures.same_reference;
-    begun = begins g.S.Store (ByRowid c.args.table) c.args.conn.now c.requires c.query.result (λ rows. rows.conn.now) (rw c.text_by_rowid.ensures at c.query.ensures.survives) (rw c.text_by_rowid.ensures at c.query.ensures.begun);
-    mode = c.query.ensures.mode;
-    survives = begins_alone g.S.Store (ByRowid c.args.table) c.args.conn.now c.requires c.query.result (λ rows. rows.conn.now) (rw c.text_by_rowid.ensures at c.query.ensures.survives);
-  },
-)
+returns g c =
+    let begun = begins g.S.Store (ByRowid c.args.table) c.args.conn.now c.requires c.query.result (λ rows. rows.conn.now) (rw c.text_by_rowid.ensures at c.query.ensures.survives) (rw c.text_by_rowid.ensures at c.query.ensures.begun) in
+    let alone = begins_alone g.S.Store (ByRowid c.args.table) c.args.conn.now c.requires c.query.result (λ rows. rows.conn.now) (rw c.text_by_rowid.ensures at c.query.ensures.survives) in (
+      (refl, c.query.follows.holds, not_begun g.S.Store (ByRowid c.args.table) c.args.conn.now c.requires c.query.result c.query.follows.lender-at-none (rw c.text_by_rowid.ensures at c.query.follows.holds-at-none)),
+      record { refused = tt; same_reference = c.query.ensures.same_reference; begun = begun; mode = c.query.ensures.mode; survives = alone },
+    )

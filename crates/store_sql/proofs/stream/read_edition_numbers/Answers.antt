@@ -4,13 +4,9 @@ use Rattle.store_sql.proofs.StreamLemmas.{begins, begins_alone, not_begun}
 use Rattle.store_sql.proofs.stream.read_edition_numbers.Goals as goal
 
 pub returns : goal.returns
-returns g c = (
-  (refl, c.query.follows.holds, not_begun g.S.Store EditionNumbers c.args.conn.now c.requires c.query.result c.query.follows.lender-at-none c.query.follows.holds-at-none),
-  record {
-    refused = tt;
-    same_reference = c.query.ensures.same_reference;
-    begun = begins g.S.Store EditionNumbers c.args.conn.now c.requires c.query.result (λ rows. rows.conn.now) c.query.ensures.survives c.query.ensures.begun;
-    mode = c.query.ensures.mode;
-    survives = begins_alone g.S.Store EditionNumbers c.args.conn.now c.requires c.query.result (λ rows. rows.conn.now) c.query.ensures.survives;
-  },
-)
+returns g c =
+    let begun = begins g.S.Store EditionNumbers c.args.conn.now c.requires c.query.result (λ rows. rows.conn.now) c.query.ensures.survives c.query.ensures.begun in
+    let alone = begins_alone g.S.Store EditionNumbers c.args.conn.now c.requires c.query.result (λ rows. rows.conn.now) c.query.ensures.survives in (
+      (refl, c.query.follows.holds, not_begun g.S.Store EditionNumbers c.args.conn.now c.requires c.query.result c.query.follows.lender-at-none c.query.follows.holds-at-none),
+      record { refused = tt; same_reference = c.query.ensures.same_reference; begun = begun; mode = c.query.ensures.mode; survives = alone },
+    )

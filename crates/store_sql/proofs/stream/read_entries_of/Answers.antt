@@ -5,19 +5,11 @@ use Rattle.store_sql.proofs.StreamLemmas.{begins, begins_alone, not_begun}
 use Rattle.store_sql.proofs.stream.read_entries_of.Goals as goal
 
 pub returns : goal.returns
-returns g c = (
-  (
-    refl,
-    c.query.follows.holds,
-    not_begun g.S.Store (EntriesOf c.args.edition) c.args.conn.now c.requires c.query.result c.query.follows.lender-at-none
-        (rw (bound_int _ c.args.edition c.ranges.edition c.params-to_sql.ensures) at c.query.follows.holds-at-none),
-  ),
-  record {
-    refused = tt;
-    same_reference = c.query.ensures.same_reference;
-    begun = begins g.S.Store (EntriesOf c.args.edition) c.args.conn.now c.requires c.query.result (λ rows. rows.conn.now) (rw (bound_int _ c.args.edition c.ranges.edition c.params-to_sql.ensures) at c.query.ensures.survives)
-        (rw (bound_int _ c.args.edition c.ranges.edition c.params-to_sql.ensures) at c.query.ensures.begun);
-    mode = c.query.ensures.mode;
-    survives = begins_alone g.S.Store (EntriesOf c.args.edition) c.args.conn.now c.requires c.query.result (λ rows. rows.conn.now) (rw (bound_int _ c.args.edition c.ranges.edition c.params-to_sql.ensures) at c.query.ensures.survives);
-  },
-)
+returns g c =
+    let bound = bound_int _ c.args.edition c.ranges.edition c.params-to_sql.ensures in
+    let survives = rw bound at c.query.ensures.survives in
+    let begun = begins g.S.Store (EntriesOf c.args.edition) c.args.conn.now c.requires c.query.result (λ rows. rows.conn.now) survives (rw bound at c.query.ensures.begun) in
+    let alone = begins_alone g.S.Store (EntriesOf c.args.edition) c.args.conn.now c.requires c.query.result (λ rows. rows.conn.now) survives in (
+      (refl, c.query.follows.holds, not_begun g.S.Store (EntriesOf c.args.edition) c.args.conn.now c.requires c.query.result c.query.follows.lender-at-none (rw bound at c.query.follows.holds-at-none)),
+      record { refused = tt; same_reference = c.query.ensures.same_reference; begun = begun; mode = c.query.ensures.mode; survives = alone },
+    )

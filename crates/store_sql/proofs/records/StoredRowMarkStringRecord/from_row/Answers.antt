@@ -1,8 +1,6 @@
-use Rattle.std.proofs.Common.{◌≡◌, sym, subst, arith, length, refl}
+use Rattle.std.proofs.Common.{◌≡◌, sym, subst, arith, length}
 use Rattle.std.proofs.lemmas.Str.{IsUtf8-string_bytes}
 use Rattle.store_sql.specs.Columns.{HasColumns, mark_columns}
-use Rattle.store_sql.specs.Columns.Content.{Number, Name}
-use Rattle.store_sql.proofs.CellLemmas.{refused_at}
 use Rattle.store_sql.proofs.RowLemmas.{cells}
 use Rattle.store_sql.proofs.records.StoredRowMarkStringRecord.from_row.Goals as goal
 
@@ -12,22 +10,3 @@ returns-clause-lawful c =
     let wide : length row ≡ 5 = omega (arith, c.column_count.ensures) in
     subst (HasColumns mark_columns) (sym (cells row 5 wide))
     ((_, c.in_ok-cell.ensures.ok), ((_, c.in_ok-cell-2.ensures.ok), ((_, c.in_ok-cell-3.ensures.ok, IsUtf8-string_bytes c.in_ok-cell-3.field-0), ((_, c.in_ok-cell-4.ensures.ok), ((_, c.in_ok-cell-5.ensures.ok), tt)))))
-
-pub returns-in_err-cell-clause-refused : goal.returns-in_err-cell-clause-refused
-returns-in_err-cell-clause-refused c = refused_at mark_columns c.args.row.now 0 Number c.in_err-cell.field-0.0 c.from_residual.result refl c.in_err-cell.ensures.other c.in_err-cell.ensures.refused c.from_residual.ensures.1
-
-pub returns-in_err-cell-2-clause-refused : goal.returns-in_err-cell-2-clause-refused
-returns-in_err-cell-2-clause-refused c =
-    refused_at mark_columns c.args.row.now 1 Number c.in_err-cell-2.field-0.0 c.from_residual-in_err-cell-2.result refl c.in_err-cell-2.ensures.other c.in_err-cell-2.ensures.refused c.from_residual-in_err-cell-2.ensures.1
-
-pub returns-in_err-cell-3-clause-refused : goal.returns-in_err-cell-3-clause-refused
-returns-in_err-cell-3-clause-refused c =
-    refused_at mark_columns c.args.row.now 2 Name c.in_err-cell-3.field-0.0 c.from_residual-in_err-cell-3.result refl c.in_err-cell-3.ensures.other c.in_err-cell-3.ensures.refused c.from_residual-in_err-cell-3.ensures.1
-
-pub returns-in_err-cell-4-clause-refused : goal.returns-in_err-cell-4-clause-refused
-returns-in_err-cell-4-clause-refused c =
-    refused_at mark_columns c.args.row.now 3 Number c.in_err-cell-4.field-0.0 c.from_residual-in_err-cell-4.result refl c.in_err-cell-4.ensures.other c.in_err-cell-4.ensures.refused c.from_residual-in_err-cell-4.ensures.1
-
-pub returns-in_err-cell-5-clause-refused : goal.returns-in_err-cell-5-clause-refused
-returns-in_err-cell-5-clause-refused c =
-    refused_at mark_columns c.args.row.now 4 Number c.in_err-cell-5.field-0.0 c.from_residual-in_err-cell-5.result refl c.in_err-cell-5.ensures.other c.in_err-cell-5.ensures.refused c.from_residual-in_err-cell-5.ensures.1
