@@ -1,14 +1,11 @@
+pub mod KitLemmas
 pub mod StopLemmas
 pub mod NumberLemmas
 pub mod RowLemmas
-pub mod DropLemmas
 pub mod SpareLemmas
-pub mod FiledLemmas
 pub mod FlowLemmas
 pub mod MovedLemmas
-pub mod EndLemmas
 pub mod MakingLemmas
-pub mod PlaceLemmas
 pub mod FailLemmas
 pub mod LineLemmas
 pub mod ReadLemmas

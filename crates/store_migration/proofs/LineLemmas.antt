@@ -1,16 +1,16 @@
 -- The lines of entries, written one behind the other.
-use Rattle.std.proofs.Common.{◌≡◌, ◌++◌, ◌∙◌, ◌+◌, ◌<◌, ◌==◌, ℕ, zero, suc, Bool, true, false, not, inl, inr, List, [], ◌∷◌, map, take, length, get_or, arith, refl, sym, ap, subst, append-nil}
+use Rattle.std.proofs.Common.{◌≡◌, ◌++◌, ◌∙◌, ◌+◌, ◌<◌, ◌==◌, ℕ, Bool, true, false, not, inl, inr, List, [], ◌∷◌, map, take, length, get_or, arith, refl, sym, ap, subst, append-nil}
 use lib.Dec.{T}
 use lib.IntN.{nat_abs}
 use lib.Signed.{non_neg}
 use mir.Syntax.{w64}
 use mir.Val.{Fits}
 use Rattle.std.specs.Prelude.{flat_map, MatchBool, ◌^◌, ℤ, pos, negsuc}
-use Rattle.std.specs.List.{AllByRecursion, list_any}
+use Rattle.std.specs.List.{list_any}
 use Rattle.std.proofs.lemmas.Bool.{false≢true, cases_Bool}
-use Rattle.std.proofs.lemmas.List.{take_more, map-append}
+use Rattle.std.proofs.lemmas.List.{take_more, map-append, length-map, get_or-map}
 use Rattle.std.proofs.lemmas.Grind.{flat_map-append}
-use Rattle.store_records.specs.Records.{EntryRecord}
+use Rattle.dict_text.proofs.AllLemmas.{all_at}
 use Rattle.dict_index.specs.Cuts.{HasNo}
 use Rattle.dict_index.specs.Line.{Line}
 use Rattle.store_holdings.specs.Files.{entry_line, index_octets, natural}
@@ -20,6 +20,7 @@ use Rattle.store_sql.specs.declared.records.ReadError.{ReadError}
 use Rattle.store_sql.specs.declared.records.ReadError.TheVariants.{NoRecord, Store}
 use Rattle.store_migration.specs.MigrationParts.{FailsToWriteIndex}
 use Rattle.store_migration.specs.Steps.{HasLine, HasSixDigits}
+use Rattle.store_migration.proofs.KitLemmas.{EntryRecord}
 
 -- the index of one entry more
 pub line_more : (entries : List EntryRecord) (e : EntryRecord) → index_octets (entries ++ e ∷ []) ≡ index_octets entries ++ (stored_line (entry_line e) ++ 10 ∷ [])
@@ -32,15 +33,11 @@ module _ {X : Type 0} (entry : X → EntryRecord) (all : List X) (i : ℕ) (d : 
   lines_next =
       ap (λ l. index_octets (map entry l)) (take_more all i d within) ∙ ap index_octets (map-append entry (take i all) (get_or all i d ∷ [])) ∙ line_more (map entry (take i all)) (entry (get_or all i d))
 
--- what holds of all holds of each
-each_is : {X : Type 0} (P : EntryRecord → Type 0) (entry : X → EntryRecord) (all : List X) (i : ℕ) (d : X) → i < length all → AllByRecursion P (map entry all) → P (entry (get_or all i d))
-each_is P entry [] i d lt h = absurd (omega (arith, lt))
-each_is P entry (x ∷ xs) zero d lt h = h.0
-each_is P entry (x ∷ xs) (suc i) d lt h = each_is P entry xs i d (let less : i < length xs = omega (arith, lt) in less) h.1
-
 -- one of them can't be written
 pub write_later : {X : Type 0} (entry : X → EntryRecord) (all : List X) (i : ℕ) (d : X) → i < length all → (e : ReadError) → FailsToWriteIndex (entry (get_or all i d) ∷ []) e → FailsToWriteIndex (map entry all) e
-write_later entry all i d within NoRecord h = λ lines. h (each_is HasLine entry all i d within lines, tt)
+write_later entry all i d within NoRecord h = λ lines.
+    let inside : i < length (map entry all) = simp length-map within in
+    h (subst HasLine (get_or-map entry all i d (entry d) within) (all_at HasLine (map entry all) i (entry d) lines inside), tt)
 write_later entry all i d within (Store e) h = h
 
 -- ---- what a line can say
@@ -62,12 +59,9 @@ decides_no false octet octets is = none_has octet octets (sym is)
 
 -- ---- its numbers, cast
 
-below : (n : ℕ) → n < 68719476736 → n < 18446744073709551616
-below n h = omega arith
-
 -- a cast to a number that isn't negative loses nothing
 pub short_cast : (z : ℤ) → HasSixDigits z → T (non_neg z) × Fits w64 (nat_abs z)
-short_cast (pos n) h = (tt, record { fits = below n h })
+short_cast (pos n) h = let low : n < 68719476736 = h in (tt, record { fits = omega arith })
 short_cast (negsuc n) h = absurd h
 
 short_same : (z : ℤ) → HasSixDigits z → nat_abs z ≡ natural z

@@ -1,84 +1,52 @@
 -- The empty tables of the known version, made one after the other.
 use Rattle.std.proofs.Common.{◌≡◌, ◌++◌, ◌∙◌, ℕ, false, true, List, [], ◌∷◌, map, drop, codes, inl, inr, refl, sym, subst, rules}
-use Rattle.std.specs.List.{AllByRecursion}
 use Rattle.std.specs.List.Sorted.{IsPermutation}
 use Rattle.std.proofs.lemmas.List.Sorted.{IsPermutation-refl}
-use Rattle.sqlite.specs.Effect.{Database, IsDatabase}
-use Rattle.sqlite.specs.Held.{Held, state}
-use Rattle.sqlite.specs.State.{Survives}
-use Rattle.sqlite.specs.Schema.{Schema}
-use Rattle.sqlite.specs.Table.{Table}
 use Rattle.sqlite.specs.declared.error.Error.{Error}
-use Rattle.sqlite_schema.specs.Names.{same_name}
 use Rattle.sqlite_trees.specs.declared.store.Store.{Ghosts}
+use Rattle.sqlite_schema.specs.Names.{same_name}
 use Rattle.dict_catalogue.specs.Steps.{empty_catalogue}
 use Rattle.dict_catalogue.proofs.WellFormedLemmas.{empty_well_formed}
-use Rattle.store_tables.specs.Definitions.{IsDefinition, are_named_apart}
-use Rattle.store_tables.specs.Found.{HasOwn}
+use Rattle.store_tables.specs.Definitions.{are_named_apart}
 use Rattle.store_tables.specs.Room.{LeavesRoom}
-use Rattle.store_tables.specs.Tables.{mark, item, member, kept, table_of}
 use Rattle.store_tables.specs.declared.tables.StoreTable.{StoreTable}
 use Rattle.store_tables.specs.declared.tables.StoreTable.TheVariants.{Mark, Item, Member, Edition, Kept}
-use Rattle.store_tables.proofs.MadeLemmas.{store_defined, room_for}
-use Rattle.store_sql.specs.Creates.{AreApart, AreMade, IsFree, IsMade, MadeInTurn}
-use Rattle.store_sql.specs.Effects.{HasApartRowids, IsAdded, rows_of}
-use Rattle.store_sql.specs.Encodings.{mark_row}
+use Rattle.store_tables.proofs.MadeLemmas.{room_for}
+use Rattle.store_sql.specs.Creates.{AreApart, AreMade}
 use Rattle.store_sql.specs.Statements as sql
 use Rattle.store_sql.specs.Statements.{Statement}
-use Rattle.store_sql.proofs.Callers.{apart_none}
-use Rattle.store_sql.proofs.DroppedLemmas.{own_in}
-use Rattle.store_sql.proofs.MakeLemmas.{all_made, one_keeps, one_leaves, one_own, one_rows, turn_counted, turn_leaves, turn_sound}
-use Rattle.store_edition_sql.specs.HeaderTable.{header}
-use Rattle.store_edition_sql.proofs.HeaderDefinitionLemmas.{apart_as, header_defined}
-use Rattle.store_edition_sql.specs.PartTable.{part}
-use Rattle.store_edition_sql.proofs.PartDefinitionLemmas.{part_defined}
+use Rattle.store_sql.proofs.MakeLemmas.{all_made, one_leaves, turn_counted, turn_leaves, turn_sound}
+use Rattle.store_edition_sql.proofs.HeaderDefinitionLemmas.{apart_as}
 use Rattle.store_edition_sql.proofs.PartDefinitionLemmas.{from_store as part_apart}
 use Rattle.store_rows.specs.Tables.{Tables}
 use Rattle.store_rows.specs.Versions.{Parted, known}
-use Rattle.store_rows.specs.Written.{mark_record}
 use Rattle.store_holdings.specs.AllTables.{with_derived}
 use Rattle.store_holdings.specs.Readings.{TableReading, KeepsRows, table_name_of, marks, items, members, editions, contents, kept_replies}
 use Rattle.store_holdings.specs.Holds.{HasPlace, Holds}
 use Rattle.store_holdings.proofs.KeepLemmas.{keeps_added, keeps_none}
-use Rattle.store_migration.specs.Making.{CreationStep, one, StepSucceeds, StepFails, StepsRunInTurn, StepsFailInTurn, lasting_tables}
+use Rattle.store_migration.specs.Making.{CreationStep, one, StepsRunInTurn, StepsFailInTurn, lasting_tables}
+use Rattle.store_migration.proofs.KitLemmas.{Database, IsDatabase, Held, Table, IsDefinition, HasOwn, mark, item, member, kept, table_of, store_defined, IsFree, IsMade, MadeInTurn, HasApartRowids, IsAdded, rows_of, apart_none, own_in}
+use Rattle.store_migration.proofs.KitLemmas.{one_keeps, one_own, one_rows, header, header_defined, part, part_defined, mark_row, mark_record}
 use Rattle.store_migration.proofs.SpareLemmas.{apart_mark, others_rows, own_still}
 
 -- ---- steps, one after the other
 
-module _ {S : Type 0} (g : Ghosts S) where
-  pub run_step : (step : CreationStep) (old new : Held S) → StepSucceeds step (state g old) (state g new) → Survives (state g old) (state g new) (λ _. ⊥) → StepsRunInTurn g (step ∷ []) old new
-  run_step step old new done survives = (new, (done, survives), refl)
+-- statements are steps, before others
+module _ {S : Type 0} (g : Ghosts S) (back : List CreationStep) where
+  pub ones_run : (statements : List Statement) (old mid new : Held S) → sql.RunInTurn g statements old mid → StepsRunInTurn g back mid new → StepsRunInTurn g (map one statements ++ back) old new
+  ones_run [] old mid new ran rest = subst (λ h. StepsRunInTurn g back h new) ran rest
+  ones_run (s ∷ ss) old mid new ran rest = (ran.0, ran.1, ones_run ss ran.0 mid new ran.2 rest)
 
-  pub run_steps : (front back : List CreationStep) (old mid new : Held S) → StepsRunInTurn g front old mid → StepsRunInTurn g back mid new → StepsRunInTurn g (front ++ back) old new
-  run_steps [] back old mid new first second = subst (λ h. StepsRunInTurn g back h new) first second
-  run_steps (step ∷ front) back old mid new first second = (first.0, first.1, run_steps front back first.0 mid new first.2 second)
+  pub ones_fail : (statements : List Statement) (old new : Held S) (e : Error) → sql.FailsInTurn g statements old new e → StepsFailInTurn g (map one statements ++ back) old new e
+  ones_fail [] old new e h = absurd h
+  ones_fail (s ∷ ss) old new e (inl h) = inl h
+  ones_fail (s ∷ ss) old new e (inr h) = inr (h.0, h.1, ones_fail ss h.0 new e h.2)
 
-  pub fails_step : (step : CreationStep) (old new : Held S) (e : Error) → StepFails step (state g old) (state g new) e → Survives (state g old) (state g new) (λ _. ⊥) → StepsFailInTurn g (step ∷ []) old new e
-  fails_step step old new e failed survives = inl (failed, survives)
-
-  pub fails_front : (front back : List CreationStep) (old new : Held S) (e : Error) → StepsFailInTurn g front old new e → StepsFailInTurn g (front ++ back) old new e
-  fails_front [] back old new e h = absurd h
-  fails_front (step ∷ front) back old new e (inl h) = inl h
-  fails_front (step ∷ front) back old new e (inr h) = inr (h.0, h.1, fails_front front back h.0 new e h.2)
-
-  pub fails_back : (front back : List CreationStep) (old mid new : Held S) (e : Error) → StepsRunInTurn g front old mid → StepsFailInTurn g back mid new e → StepsFailInTurn g (front ++ back) old new e
-  fails_back [] back old mid new e ran h = subst (λ s. StepsFailInTurn g back s new e) ran h
-  fails_back (step ∷ front) back old mid new e ran h = inr (ran.0, ran.1, fails_back front back ran.0 mid new e ran.2 h)
-
-  -- statements are steps
-  pub run_ones : (statements : List Statement) (old new : Held S) → sql.RunInTurn g statements old new → StepsRunInTurn g (map one statements) old new
-  run_ones [] old new h = h
-  run_ones (s ∷ ss) old new h = (h.0, h.1, run_ones ss h.0 new h.2)
-
-  pub fails_ones : (statements : List Statement) (old new : Held S) (e : Error) → sql.FailsInTurn g statements old new e → StepsFailInTurn g (map one statements) old new e
-  fails_ones [] old new e h = absurd h
-  fails_ones (s ∷ ss) old new e (inl h) = inl h
-  fails_ones (s ∷ ss) old new e (inr h) = inr (h.0, h.1, fails_ones ss h.0 new e h.2)
+  pub fails_behind : (statements : List Statement) (old mid new : Held S) (e : Error) → sql.RunInTurn g statements old mid → StepsFailInTurn g back mid new e → StepsFailInTurn g (map one statements ++ back) old new e
+  fails_behind [] old mid new e ran h = subst (λ s. StepsFailInTurn g back s new e) ran h
+  fails_behind (s ∷ ss) old mid new e ran h = inr (ran.0, ran.1, fails_behind ss ran.0 mid new e ran.2 h)
 
 -- ---- what is made first leaves room for the others
-
-lasting_apart_from_edition : AllByRecursion (λ t. t ≡ Edition → ⊥) lasting_tables
-lasting_apart_from_edition = ((λ e. cc), ((λ e. cc), ((λ e. cc), ((λ e. cc), tt))))
 
 pub lasting_apart : AreApart lasting_tables
 lasting_apart = search rules
@@ -87,21 +55,11 @@ turn_room : (other : Table) → ((t : StoreTable) → are_named_apart (table_of 
 turn_room other apart [] old new h room = subst (λ (d : Database). LeavesRoom d.schema other) (sym h) room
 turn_room other apart (t ∷ ts) old new h room = turn_room other apart ts h.0 new h.2 (one_leaves (table_of t) (store_defined t) old h.0 h.1 other (apart t) room)
 
-header_room : (s : Schema) → LeavesRoom s (table_of Edition 0) → LeavesRoom s (header 0)
-header_room s room = record { unused = room.unused; unreferred = room.unreferred; unindexed = room.unindexed }
-
-header_apart : are_named_apart (header 0) (part 0) ≡ true
-header_apart = (apart_as (part 0)).0 ∙ (part_apart Edition).1
-
 module _ (old mid : Database) (place : HasPlace old.schema) (sound : IsDatabase old) (made : MadeInTurn lasting_tables old mid) where
   room_of_headers : LeavesRoom mid.schema (header 0)
-  room_of_headers = header_room mid.schema (turn_leaves Edition lasting_tables old mid lasting_apart_from_edition made (room_for old.schema place.room Edition))
-
-  room_of_parts : LeavesRoom mid.schema (part 0)
-  room_of_parts = turn_room (part 0) (λ t. (part_apart t).1) lasting_tables old mid made place.later
-
-  mid_sound : IsDatabase mid
-  mid_sound = turn_sound lasting_tables old mid made sound
+  room_of_headers =
+      let room = turn_leaves Edition lasting_tables old mid ((λ e. cc), ((λ e. cc), ((λ e. cc), ((λ e. cc), tt)))) made (room_for old.schema place.room Edition) in
+      record { unused = room.unused; unreferred = room.unreferred; unindexed = room.unindexed }
 
   pub headers_free : IsFree mid.schema (header 0).name
   headers_free = record { unused = room_of_headers.unused; counted = turn_counted lasting_tables old mid made place.room.counted }
@@ -111,7 +69,9 @@ module _ (old mid : Database) (place : HasPlace old.schema) (sound : IsDatabase 
 
   module _ (next : Database) (headed : IsMade (header 0) mid next) where
     next_room : LeavesRoom next.schema (part 0)
-    next_room = one_leaves header header_defined mid next headed (part 0) header_apart room_of_parts
+    next_room =
+        let room = turn_room (part 0) (λ t. (part_apart t).1) lasting_tables old mid made place.later in
+        one_leaves header header_defined mid next headed (part 0) ((apart_as (part 0)).0 ∙ (part_apart Edition).1) room
 
     pub parts_free : IsFree next.schema (part 0).name
     parts_free = record { unused = next_room.unused; counted = headed.counted }
@@ -129,7 +89,7 @@ module _ (old mid : Database) (place : HasPlace old.schema) (sound : IsDatabase 
           one_rows (part 0) next late parted (table 0).name (table there.tree) (own_in table defined next there) ∙ (one_rows (header 0) mid next headed (table 0).name (table own.tree) (own_in table defined mid own) ∙ none)
 
       next_headers : HasOwn next.schema header
-      next_headers = one_own header header_defined mid next headed mid_sound room_of_headers.unused room_of_headers.unreferred
+      next_headers = one_own header header_defined mid next headed (turn_sound lasting_tables old mid made sound) room_of_headers.unused room_of_headers.unreferred
 
       late_headers : HasOwn late.schema header
       late_headers = one_keeps part part_defined next late parted header header_defined next_headers

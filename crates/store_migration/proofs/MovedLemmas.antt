@@ -2,37 +2,16 @@
 use Rattle.std.proofs.Common.{◌≡◌, ◌++◌, ◌∙◌, ℕ, ℤ, pos, true, false, not, List, [], ◌∷◌, map, drop, filter, codes, refl, sym, subst}
 use Rattle.std.specs.List.Sorted.{IsPermutation}
 use Rattle.std.proofs.lemmas.List.Sorted.{IsPermutation-map, IsPermutation-trans}
-use Rattle.sqlite.specs.Effect.{Database}
-use Rattle.sqlite.specs.Order.{Row}
-use Rattle.sqlite.specs.Schema.{Schema}
-use Rattle.sqlite.specs.Table.{Table}
 use Rattle.sqlite_schema.specs.Names.{same_name}
 use Rattle.dict_catalogue.specs.Items.{edition_numbers}
 use Rattle.dict_catalogue.specs.Steps.{Catalogue}
 use Rattle.store_records.specs.Records as spec
-use Rattle.store_tables.specs.Definitions.{IsDefinition}
-use Rattle.store_tables.specs.Found.{HasOwn}
-use Rattle.store_tables.specs.Tables.{mark, item, member, edition, kept}
 use Rattle.store_tables.specs.declared.tables.StoreTable.TheVariants as store
-use Rattle.store_tables.proofs.MadeLemmas.{store_defined}
 use Rattle.store_sql.specs.Deletes.{HasToRemove}
-use Rattle.store_sql.specs.Effects.{HasApartRowids, rows_of}
-use Rattle.store_sql.specs.Encodings.{mark_row}
-use Rattle.store_sql.proofs.Callers.{apart_none, own_has}
-use Rattle.store_sql.proofs.DroppedLemmas.{own_in}
-use Rattle.store_sql.proofs.MakeLemmas.{one_keeps, one_own, one_rows}
 use Rattle.store_edition_sql.specs.HeaderRecords.{header_row}
-use Rattle.store_edition_sql.specs.HeaderTable.{header}
-use Rattle.store_edition_sql.proofs.HeaderDefinitionLemmas.{header_defined}
-use Rattle.store_edition_sql.specs.PartRecords.{part_row}
-use Rattle.store_edition_sql.specs.PartTable.{part}
-use Rattle.store_edition_sql.proofs.PartDefinitionLemmas.{part_defined}
-use Rattle.store_older_sql.specs.Entries.{entry_table_of}
-use Rattle.store_older_sql.proofs.MigrationDefinitionLemmas.{form_defined}
 use Rattle.store_rows.specs.Tables.{Tables}
 use Rattle.store_rows.specs.Stands.{Stands}
 use Rattle.store_rows.specs.Versions.{Parted, layout_of, known}
-use Rattle.store_rows.specs.Written.{mark_record}
 use Rattle.store_rows.specs.Order.{is_of}
 use Rattle.store_rows.proofs.SelectionLemmas.{filter_whole}
 use Rattle.store_holdings.specs.AllTables.{AllTables, with_derived, as_version}
@@ -48,32 +27,22 @@ use Rattle.store_migration.specs.Older.{IsOld, form_of, layout_as}
 use Rattle.store_migration.specs.Spared.{IsBeside, Spares}
 use Rattle.store_migration.specs.declared.older.Older.{Older}
 use Rattle.store_migration.specs.declared.older.Older.TheVariants.{Plain, Keyed, Shown}
-use Rattle.store_migration.proofs.FiledLemmas.{Owns, all_filed, none_filed, records_same}
-use Rattle.store_migration.proofs.FlowLemmas.{apart_headed, apart_part, apart_parts_are, apart_spares, edition_old, entries_old, made_edition, made_entries, made_part}
+use Rattle.store_migration.proofs.KitLemmas.{Database, Table, IsDefinition, HasOwn, mark, item, member, edition, kept, store_defined, HasApartRowids, rows_of, apart_none, own_has, own_in, one_keeps, one_own, one_rows, header}
+use Rattle.store_migration.proofs.KitLemmas.{header_defined, part, part_defined, entry_table_of, form_defined, Row, mark_row, part_row, mark_record}
+use Rattle.store_migration.proofs.RowLemmas.{all_filed, none_filed, records_same, HasRecordsOf, IsFiled}
+use Rattle.store_migration.proofs.FlowLemmas.{apart_headed, apart_part, apart_parts_are, apart_spares, old_has, made_owns}
 use Rattle.store_migration.proofs.NumberLemmas.{all_fresh, all_numbered, editions_known, parts_known}
-use Rattle.store_migration.proofs.RowLemmas.{HasRecordsOf, IsFiled}
-use Rattle.store_migration.proofs.SpareLemmas.{added_rows, apart_mark, away_header, others_rows, own_still, part_header, same_entries, spares_added, spares_made, spares_then}
+use Rattle.store_migration.proofs.SpareLemmas.{added_rows, apart_mark, others_rows, own_still, part_header, same_entries, spares_added, spares_made, spares_then}
 
 -- the tables that stay
-beside_mark : IsBeside (codes "mark")
+beside : IsBeside (codes "mark") × IsBeside (codes "item") × IsBeside (codes "member") × IsBeside (codes "kept")
 unfolding same_name
-beside_mark = record { entries = refl; words = refl; grams = refl; editions = refl; parts = refl }
-
-beside_item : IsBeside (codes "item")
-unfolding same_name
-beside_item = record { entries = refl; words = refl; grams = refl; editions = refl; parts = refl }
-
-beside_member : IsBeside (codes "member")
-unfolding same_name
-beside_member = record { entries = refl; words = refl; grams = refl; editions = refl; parts = refl }
-
-beside_kept : IsBeside (codes "kept")
-unfolding same_name
-beside_kept = record { entries = refl; words = refl; grams = refl; editions = refl; parts = refl }
-
--- the older version has the mark
-pub owns_mark : (older : Older) (schema : Schema) → HasLayout (layout_as older) schema → HasOwn schema mark
-owns_mark older schema own = own.tables.0
+beside = (
+  record { entries = refl; words = refl; grams = refl; editions = refl; parts = refl },
+  record { entries = refl; words = refl; grams = refl; editions = refl; parts = refl },
+  record { entries = refl; words = refl; grams = refl; editions = refl; parts = refl },
+  record { entries = refl; words = refl; grams = refl; editions = refl; parts = refl },
+)
 
 -- ---- the headers
 
@@ -82,9 +51,6 @@ module _ (older : Older) (numbers : List ℤ) (headers : List spec.HeaderRecord)
   made_header =
       let may = apart_headed older numbers headers old apart its takes in
       one_own header header_defined apart h.with_table h.made may.sound may.room.unused may.room.unreferred
-
-  pub headed_header : HasOwn new.schema header
-  headed_header = own_still header h.with_table new h.added.schema made_header
 
   parts_made : HasOwn h.with_table.schema part
   parts_made = one_keeps header header_defined apart h.with_table h.made part part_defined (apart_part older numbers headers old apart its takes)
@@ -102,20 +68,17 @@ module _ (older : Older) (numbers : List ℤ) (headers : List spec.HeaderRecord)
   pub headed_rows : IsPermutation (map header_row headers) (map (drop 1) (rows_of (codes "edition") new))
   headed_rows = subst (λ l. IsPermutation (map (drop 1) l ++ map header_row headers) (map (drop 1) (rows_of (codes "edition") new))) h.made.empty h.added.rows
 
-  pub headed_apart : HasApartRowids (rows_of (codes "edition") new)
-  headed_apart = h.added.apart (subst HasApartRowids (sym h.made.empty) apart_none)
-
   pub headed_spares : Spares old new
   headed_spares =
       spares_then old apart new (apart_spares older numbers headers old apart its takes)
-      (spares_then apart h.with_table new (spares_made header header_defined apart h.with_table h.made) (spares_added header header_defined away_header _ h.with_table new h.added made_header))
+      (spares_then apart h.with_table new (spares_made header header_defined apart h.with_table h.made) (spares_added header header_defined (λ name b. b.editions) _ h.with_table new h.added made_header))
 
   pub marks_own : HasOwn new.schema mark
-  marks_own = (headed_spares mark (store_defined store.Mark) beside_mark (owns_mark older old.schema its.own)).0
+  marks_own = (headed_spares mark (store_defined store.Mark) beside.0 its.own.tables.0).0
 
   pub mark_behind : HasToRemove mark new
   mark_behind =
-      let stays = headed_spares mark (store_defined store.Mark) beside_mark (owns_mark older old.schema its.own) in
+      let stays = headed_spares mark (store_defined store.Mark) beside.0 its.own.tables.0 in
       record { has = own_has mark new stays.0; apart = subst HasApartRowids (sym stays.1) its.marks }
 
 -- ---- the mark anew
@@ -125,9 +88,6 @@ none_left [] = refl
 none_left (r ∷ rows) = none_left rows
 
 module _ (installs : ℕ) (last new : Database) (own : HasOwn last.schema mark) (h : IsMarkedAnew installs last new) where
-  pub marked_schema : new.schema ≡ last.schema
-  marked_schema = h.put.schema ∙ h.taken.schema
-
   pub marked_rows : (other : ℕ → Table) → IsDefinition other → same_name (other 0).name (mark 0).name ≡ false → HasOwn last.schema other → rows_of (other 0).name new ≡ rows_of (other 0).name last
   marked_rows other also apart its =
       others_rows mark (store_defined store.Mark) other also apart h.cleared new h.put.schema h.put.others (own_still mark last h.cleared h.taken.schema own) (own_still other last h.cleared h.taken.schema its)
@@ -160,32 +120,26 @@ module _ (older : Older) (version : ℕ) (is : layout_of version ≡ layout_as o
   abbrev numbers : List ℤ
   numbers = map pos (edition_numbers N.items)
 
-  abbrev last : Database
-  last = m.headed
+  stays : (other : ℕ → Table) → IsDefinition other → IsBeside (other 0).name → HasOwn old.schema other → HasOwn m.headed.schema other × (rows_of (other 0).name m.headed ≡ rows_of (other 0).name old)
+  stays = headed_spares older numbers m.headers old m.apart m.headed its m.takes m.heads
 
-  abbrev first : Database
-  first = m.takes.with_table
+  mark_last : HasOwn m.headed.schema mark
+  mark_last = (stays mark (store_defined store.Mark) beside.0 its.own.tables.0).0
 
-  stays : (other : ℕ → Table) → IsDefinition other → IsBeside (other 0).name → HasOwn old.schema other → HasOwn last.schema other × (rows_of (other 0).name last ≡ rows_of (other 0).name old)
-  stays = headed_spares older numbers m.headers old m.apart last its m.takes m.heads
+  same_schema : new.schema ≡ m.headed.schema
+  same_schema = m.marked.put.schema ∙ m.marked.taken.schema
 
-  mark_last : HasOwn last.schema mark
-  mark_last = (stays mark (store_defined store.Mark) beside_mark (owns_mark older old.schema its.own)).0
-
-  same_schema : new.schema ≡ last.schema
-  same_schema = marked_schema N.installs last new mark_last m.marked
-
-  own_new : (table : ℕ → Table) → HasOwn last.schema table → HasOwn new.schema table
-  own_new table own = own_still table last new same_schema own
+  own_new : (table : ℕ → Table) → HasOwn m.headed.schema table → HasOwn new.schema table
+  own_new table own = own_still table m.headed new same_schema own
 
   other_new : (table : ℕ → Table) → IsDefinition table → IsBeside (table 0).name → HasOwn old.schema table → HasOwn new.schema table
   other_new table defined beside own = own_new table (stays table defined beside own).0
 
-  parts_last : HasOwn last.schema part
-  parts_last = headed_part older numbers m.headers old m.apart last its m.takes m.heads
+  parts_last : HasOwn m.headed.schema part
+  parts_last = headed_part older numbers m.headers old m.apart m.headed its m.takes m.heads
 
-  headers_last : HasOwn last.schema header
-  headers_last = headed_header older numbers m.headers old m.apart last its m.takes m.heads
+  headers_last : HasOwn m.headed.schema header
+  headers_last = own_still header m.heads.with_table m.headed m.heads.added.schema (made_header older numbers m.headers old m.apart m.headed its m.takes m.heads)
 
   moved_own : HasLayout (layout_of known) new.schema
   moved_own =
@@ -194,10 +148,10 @@ module _ (older : Older) (version : ℕ) (is : layout_of version ≡ layout_as o
         tables = (
           own_new mark mark_last,
           (
-            other_new item (store_defined store.Item) beside_item own.1.0,
+            other_new item (store_defined store.Item) beside.1 own.1.0,
             (
-              other_new member (store_defined store.Member) beside_member own.1.1.0,
-              (other_new kept (store_defined store.Kept) beside_kept own.1.1.1.0, (own_new header headers_last, (own_new part parts_last, tt))),
+              other_new member (store_defined store.Member) beside.2 own.1.1.0,
+              (other_new kept (store_defined store.Kept) beside.3 own.1.1.1.0, (own_new header headers_last, (own_new part parts_last, tt))),
             ),
           ),
         );
@@ -205,29 +159,23 @@ module _ (older : Older) (version : ℕ) (is : layout_of version ≡ layout_as o
       }
 
   module _ (t : Tables) (s : Stands version t N) (shown : AreShownIn (layout_as older) t.entries) (k : KeepsAll (layout_as older) old (with_derived t)) where
-    first_owns : Owns older first
-    first_owns = record {
-      editions = made_edition older old first its m.takes.made;
-      entries = made_entries older old first its m.takes.made;
-      parts = made_part older old first its m.takes.made;
-    }
-
-    first_records : HasRecordsOf older t first
+    first_records : HasRecordsOf older t m.takes.with_table
     first_records =
-        let own = edition_old older old.schema its.own in
-        let its_own = entries_old older old.schema its.own in
+        let own = (old_has older old.schema its.own).edition in
+        let its_own = (old_has older old.schema its.own).entries in
         let f = form_of older in
-        records_same older t old first (one_rows (part 0) old first m.takes.made (edition 0).name (edition own.tree) (own_in edition (store_defined store.Edition) old own))
-        (subst (λ name. rows_of name first ≡ rows_of name old) (same_entries f) (one_rows (part 0) old first m.takes.made (entry_table_of f 0).name (entry_table_of f its_own.tree) (own_in (entry_table_of f) (form_defined f) old its_own)))
+        let rows = one_rows (part 0) old m.takes.with_table m.takes.made in
+        records_same older t old m.takes.with_table (rows (edition 0).name (edition own.tree) (own_in edition (store_defined store.Edition) old own))
+        (subst (λ name. rows_of name m.takes.with_table ≡ rows_of name old) (same_entries f) (rows (entry_table_of f 0).name (entry_table_of f its_own.tree) (own_in (entry_table_of f) (form_defined f) old its_own)))
         (records_of older t old k shown)
 
     all_done : IsFiled numbers m.headers t m.takes.with_files
     all_done =
-        all_filed older t numbers [] [] m.headers first m.takes.with_files (all_fresh version t N s) (all_numbered version t N s) first_owns m.takes.parted first_records
-        (none_filed t first m.takes.made.empty)
+        all_filed older t numbers [] [] m.headers m.takes.with_table m.takes.with_files (all_fresh version t N s) (all_numbered version t N s) (made_owns older old m.takes.with_table its m.takes.made) m.takes.parted first_records
+        (none_filed t m.takes.with_table m.takes.made.empty)
 
-    rows_new : (table : ℕ → Table) → IsDefinition table → same_name (table 0).name (mark 0).name ≡ false → HasOwn last.schema table → rows_of (table 0).name new ≡ rows_of (table 0).name last
-    rows_new = marked_rows N.installs last new mark_last m.marked
+    rows_new : (table : ℕ → Table) → IsDefinition table → same_name (table 0).name (mark 0).name ≡ false → HasOwn m.headed.schema table → rows_of (table 0).name new ≡ rows_of (table 0).name m.headed
+    rows_new = marked_rows N.installs m.headed new mark_last m.marked
 
     -- a table that stays has what it had
     other_kept : (r : TableReading) → IsDefinition r.table → IsBeside (table_name_of r) → same_name (table_name_of r) (mark 0).name ≡ false → HasOwn old.schema r.table
@@ -240,7 +188,7 @@ module _ (older : Older) (version : ℕ) (is : layout_of version ≡ layout_as o
     parts_kept : KeepsRows (contents Parted) new (with_derived (as_version known t))
     parts_kept =
         let whole = filter_whole (λ (p : spec.Part). is_of numbers p.edition) (all_parts t) (parts_known version t N s) in
-        let same = rows_new part part_defined apart_mark.1.1 parts_last ∙ headed_parts_are older numbers m.headers old m.apart last its m.takes m.heads in
+        let same = rows_new part part_defined apart_mark.1.1 parts_last ∙ headed_parts_are older numbers m.headers old m.apart m.headed its m.takes m.heads in
         record {
           rows = subst (λ l. IsPermutation (map part_row (all_parts t)) (map (drop 1) l)) (sym same)
               (subst (λ ps. IsPermutation (map part_row ps) (map (drop 1) (rows_of (codes "dictcat_part") m.takes.with_files))) whole all_done.parts);
@@ -252,25 +200,25 @@ module _ (older : Older) (version : ℕ) (is : layout_of version ≡ layout_as o
     headers_kept =
         let whole = filter_whole (λ (e : spec.EditionRecord). is_of numbers e.number) t.editions (editions_known version t N s) in
         let same = rows_new header header_defined apart_mark.1.0 headers_last in
-        let rows = map (drop 1) (rows_of (codes "edition") last) in
+        let rows = map (drop 1) (rows_of (codes "edition") m.headed) in
         let heads : IsPermutation (map spec.header_of t.editions) m.headers = subst (λ es. IsPermutation (map spec.header_of es) m.headers) whole all_done.heads in
         let all = IsPermutation-trans (map header_row (map spec.header_of t.editions)) (map header_row m.headers) rows (IsPermutation-map header_row _ _ heads)
-        (headed_rows older numbers m.headers old m.apart last its m.takes m.heads) in
+        (headed_rows older numbers m.headers old m.apart m.headed its m.takes m.heads) in
         record {
           rows = subst (λ l. IsPermutation (map (λ e. header_row (spec.header_of e)) t.editions) (map (drop 1) l)) (sym same) (subst (λ l. IsPermutation l rows) (map_twice spec.header_of header_row t.editions) all);
-          apart = subst HasApartRowids (sym same) (headed_apart older numbers m.headers old m.apart last its m.takes m.heads);
+          apart = subst HasApartRowids (sym same) (m.heads.added.apart (subst HasApartRowids (sym m.heads.made.empty) apart_none));
         }
 
     moved_keeps : KeepsAll (layout_of known) new (with_derived (as_version known t))
     moved_keeps =
         let own = its.own.tables in
         let away = apart_mark in (
-          marked_marks N.installs last new mark_last m.marked version t s.marks,
+          marked_marks N.installs m.headed new mark_last m.marked version t s.marks,
           (
-            other_kept items (store_defined store.Item) beside_item away.0.0 own.1.0 refl k.1.0,
+            other_kept items (store_defined store.Item) beside.1 away.0.0 own.1.0 refl k.1.0,
             (
-              other_kept members (store_defined store.Member) beside_member away.0.1 own.1.1.0 refl k.1.1.0,
-              (other_kept kept_replies (store_defined store.Kept) beside_kept away.0.2 own.1.1.1.0 refl k.1.1.1.0, (headers_kept, (parts_kept, tt))),
+              other_kept members (store_defined store.Member) beside.2 away.0.1 own.1.1.0 refl k.1.1.0,
+              (other_kept kept_replies (store_defined store.Kept) beside.3 away.0.2 own.1.1.1.0 refl k.1.1.1.0, (headers_kept, (parts_kept, tt))),
             ),
           ),
         )

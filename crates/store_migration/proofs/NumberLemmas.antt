@@ -4,7 +4,6 @@ use Rattle.std.specs.Prelude.{IsTrue}
 use Rattle.std.specs.List.{AllByRecursion, list_any}
 use Rattle.std.proofs.lemmas.List.{map-append}
 use Rattle.dict_text.proofs.AllLemmas.{all_append, all_weaker, all_map, all_flat_map}
-use Rattle.store_records.specs.Records.{EditionRecord as EditionRow, Part}
 use Rattle.dict_index.specs.Line.{Line}
 use Rattle.dict_index.specs.Edition.{Edition}
 use Rattle.dict_catalogue.specs.Items.{Stored, Item, name_of, editions_of, numbers_of, edition_numbers}
@@ -16,6 +15,7 @@ use Rattle.store_rows.specs.Written.{numbered, edition_record, entry_record}
 use Rattle.store_rows.specs.Stands.{HoldsEdition, HoldsEditions, has_number, Stands}
 use Rattle.store_rows.specs.Order.{is_of}
 use Rattle.store_holdings.specs.Files.{all_parts, edition_parts, file_parts, index_octets, part_at, parts_under}
+use Rattle.store_migration.proofs.KitLemmas.{EditionRecord as EditionRow, Part}
 
 -- one record has this number, and the entries that have it are those of an edition, in their order
 pub record AreNumbered (tables : Tables) (n : ℤ) : Type 0 where

@@ -2,30 +2,17 @@
 use Rattle.std.proofs.Common.{◌≡◌, ◌≢◌, ◌==◌, ◌∙◌, ℕ, ℤ, true, false, not, filter, find, List, [], ◌∷◌, Some, inl, inr, refl, sym, ap, subst}
 use Rattle.std.specs.List.{AllByRecursion}
 use Rattle.std.proofs.lemmas.Bool.{false≢true, cases_Bool}
-use Rattle.sqlite.specs.Effect.{Database}
-use Rattle.sqlite.specs.Schema.{Schema}
-use Rattle.sqlite.specs.Table.{Table}
-use Rattle.sqlite_schema.specs.Names.{same_name}
 use Rattle.sqlite_rules.specs.Lists.{Has}
 use Rattle.sqlite_rules.proofs.ListLemmas.{has_found, has_kept}
-use Rattle.store_records.specs.Records.{HeaderRecord}
-use Rattle.store_tables.specs.Definitions.{IsDefinition}
-use Rattle.store_tables.specs.Found.{HasOwn}
-use Rattle.store_tables.specs.Tables.{mark, table_of}
+use Rattle.sqlite_schema.specs.Names.{same_name}
 use Rattle.store_tables.specs.declared.tables.StoreTable.{StoreTable}
 use Rattle.store_tables.specs.declared.tables.StoreTable.TheVariants as store
-use Rattle.store_tables.proofs.MadeLemmas.{found_is, name_in, store_defined, tree_in}
+use Rattle.store_tables.proofs.MadeLemmas.{found_is}
 use Rattle.store_tables.proofs.PlaceLemmas.{found}
 use Rattle.store_tables.proofs.UsedLemmas.{find_kept}
-use Rattle.store_sql.specs.Creates.{IsMade, MadeInTurn}
 use Rattle.store_sql.specs.Drops.{IsDropped}
-use Rattle.store_sql.specs.Effects.{SameOthers, rows_of, table_in}
-use Rattle.store_sql.proofs.DroppedLemmas.{own_in}
-use Rattle.store_sql.proofs.MakeLemmas.{found_later, one_rows}
-use Rattle.store_edition_sql.specs.HeaderTable.{header}
-use Rattle.store_edition_sql.proofs.HeaderDefinitionLemmas.{header_defined}
-use Rattle.store_edition_sql.specs.PartTable.{part}
-use Rattle.store_edition_sql.proofs.PartDefinitionLemmas.{part_defined}
+use Rattle.store_sql.specs.Effects.{table_in}
+use Rattle.store_sql.proofs.MakeLemmas.{found_later}
 use Rattle.store_older_sql.specs.declared.entries.EntryForm.{EntryForm}
 use Rattle.store_older_sql.specs.declared.entries.EntryForm.TheVariants as form
 use Rattle.store_rows.proofs.TakenLemmas.{nat_itself}
@@ -34,10 +21,11 @@ use Rattle.store_migration.specs.Older.{DroppedInTurn, IsOld, form_of, gone_tabl
 use Rattle.store_migration.specs.Spared.{IsOthers, SparesOthers}
 use Rattle.store_migration.specs.Steps.{AreParted}
 use Rattle.store_migration.specs.declared.older.Older.{Older}
-use Rattle.store_migration.proofs.DropLemmas.{MayGo, later_own, may_go, names_in}
-use Rattle.store_migration.proofs.FlowLemmas.{files_own, gone_files, made_part}
+use Rattle.store_migration.proofs.KitLemmas.{Database, Schema, Table, IsDefinition, HasOwn, mark, table_of, name_in, store_defined, tree_in, IsMade, MadeInTurn, SameOthers, rows_of, own_in, one_rows, header, header_defined, part}
+use Rattle.store_migration.proofs.KitLemmas.{part_defined, HeaderRecord}
+use Rattle.store_migration.proofs.SpareLemmas.{MayGo, later_own, may_go, names_in, own_still}
+use Rattle.store_migration.proofs.FlowLemmas.{files_own, gone_files, made_owns}
 use Rattle.store_migration.proofs.MovedLemmas.{made_header, marks_own}
-use Rattle.store_migration.proofs.SpareLemmas.{own_still}
 
 -- ---- a table that is found by a name is none of the product's
 
@@ -109,19 +97,18 @@ pub others_turn : (ts : List StoreTable) (old new : Database) → MadeInTurn ts 
 others_turn [] old new h = others_same old new h
 others_turn (t ∷ ts) old new h = others_then old h.0 new (others_made (table_of t 0) old h.0 h.1) (others_turn ts h.0 new h.2)
 
-pub others_marked : (old new : Database) → HasOwn old.schema mark → new.schema ≡ old.schema → SameOthers (mark 0).name old new → SparesOthers old new
-others_marked old new own same others name other none there = rows_apart mark (store_defined store.Mark) name none.0 other old new own there same others
+-- rows were added to one, or taken out
+others_rows : (table : ℕ → Table) → IsDefinition table → ((name : List ℕ) → IsOthers name → same_name (table 0).name name ≡ false) → (old new : Database) → HasOwn old.schema table → new.schema ≡ old.schema
+    → SameOthers (table 0).name old new → SparesOthers old new
+others_rows table defined away old new own same others name other none there = rows_apart table defined name (away name none) other old new own there same others
 
-others_parts : (old new : Database) → HasOwn old.schema part → new.schema ≡ old.schema → SameOthers (part 0).name old new → SparesOthers old new
-others_parts old new own same others name other none there = rows_apart part part_defined name none.1.1.1.1.1.1.1.1.0 other old new own there same others
-
-others_headers : (old new : Database) → HasOwn old.schema header → new.schema ≡ old.schema → SameOthers (header 0).name old new → SparesOthers old new
-others_headers old new own same others name other none there = rows_apart header header_defined name none.1.1.1.0 other old new own there same others
+others_marked : (old new : Database) → HasOwn old.schema mark → new.schema ≡ old.schema → SameOthers (mark 0).name old new → SparesOthers old new
+others_marked old new own same others = others_rows mark (store_defined store.Mark) (λ name none. none.0) old new own same others
 
 others_parted : (older : Older) (numbers : List ℤ) (headers : List HeaderRecord) (old new : Database) → AreParted older numbers headers old new → HasOwn old.schema part → SparesOthers old new
 others_parted older [] headers old new h own = others_same old new h.1
 others_parted older (n ∷ ns) headers old new h own =
-    others_then old h.0 new (others_parts old h.0 own h.4.added.schema h.4.added.others) (others_parted older ns h.2 h.0 new h.5 (own_still part old h.0 h.4.added.schema own))
+    others_then old h.0 new (others_rows part part_defined (λ name none. none.1.1.1.1.1.1.1.1.0) old h.0 own h.4.added.schema h.4.added.others) (others_parted older ns h.2 h.0 new h.5 (own_still part old h.0 h.4.added.schema own))
 
 -- the name is none of theirs
 abbrev AreOurs : List (ℕ → Table) → Type 0
@@ -146,11 +133,11 @@ others_moved older numbers installs old new its m =
     let heads = m.heads in
     let behind = marks_own older numbers m.headers old m.apart m.headed its takes heads in
     let one = others_made (part 0) old takes.with_table takes.made in
-    let two = others_parted older numbers m.headers takes.with_table takes.with_files takes.parted (made_part older old takes.with_table its takes.made) in
+    let two = others_parted older numbers m.headers takes.with_table takes.with_files takes.parted (made_owns older old takes.with_table its takes.made).parts in
     let three = others_gone (gone_tables older) (may_go (form_of older)) (ours (form_of older)) takes.with_files m.apart (files_own older numbers m.headers old m.apart its takes)
     (gone_files older numbers m.headers old m.apart its takes) in
     let four = others_made (header 0) m.apart heads.with_table heads.made in
-    let five = others_headers heads.with_table m.headed (made_header older numbers m.headers old m.apart m.headed its takes heads) heads.added.schema heads.added.others in
+    let five = others_rows header header_defined (λ name none. none.1.1.1.0) heads.with_table m.headed (made_header older numbers m.headers old m.apart m.headed its takes heads) heads.added.schema heads.added.others in
     let cleared = m.marked.cleared in
     let six = others_marked m.headed cleared behind m.marked.taken.schema m.marked.taken.others in
     let seven = others_marked cleared new (own_still mark m.headed cleared m.marked.taken.schema behind) m.marked.put.schema m.marked.put.others in

@@ -1,15 +1,13 @@
 -- The records of an edition and of its entries, as they are selected.
-use Rattle.std.proofs.Common.{◌≡◌, ◌≢◌, ◌∙◌, ℕ, ℤ, false, List, [], ◌∷◌, map, drop, length, codes, refl, sym, ap, subst, arith, String, Vec}
+use Rattle.std.proofs.Common.{◌≡◌, ◌≢◌, ◌∙◌, ℕ, ℤ, false, List, [], ◌∷◌, map, drop, length, codes, refl, sym, subst, String, Vec}
 use Rattle.std.specs.Prelude.{◌≤ℤ◌}
 use Rattle.std.specs.List.{AllByRecursion}
 use Rattle.std.specs.List.Sorted.{IsPermutation}
 use Rattle.std.specs.Ordering.{is_lt}
 use Rattle.std.specs.declared.alloc.Global.{Global}
 use Rattle.std.proofs.lemmas.List.Sorted.{IsPermutation-map, IsPermutation-sym, length_permutation}
-use Rattle.sqlite.specs.Effect.{Database}
-use Rattle.sqlite.specs.Order.{Row}
 use Rattle.store_records.specs.Keyed.{owned_old_entry, owned_keyed_entry, plain_entry}
-use Rattle.store_records.specs.Records.{EditionRecord, EntryRecord, ShowsHeadword}
+use Rattle.store_records.specs.Records.{ShowsHeadword}
 use Rattle.store_records.specs.Typed.{owned_edition, owned_entry, owned_header}
 use Rattle.store_records.specs.declared.headers.HeaderRecord.{HeaderRecord as TypedHeader}
 use Rattle.store_records.specs.declared.keyed.KeyedEntry.{KeyedEntry as TypedShown}
@@ -18,11 +16,13 @@ use Rattle.store_records.specs.declared.records.EditionRecord.{EditionRecord as 
 use Rattle.store_records.specs.declared.records.EntryRecord.{EntryRecord as TypedEntry}
 use Rattle.store_records.specs.declared.records.StoredRow.{StoredRow}
 use Rattle.store_edition_sql.specs.HeaderRecords.{header_row}
-use Rattle.store_sql.specs.Effects.{equals_number}
-use Rattle.store_sql.specs.Encodings.{edition_row, stored_edition, stored_entry}
+use Rattle.store_sql.specs.Encodings.{stored_edition, stored_entry}
 use Rattle.store_sql.specs.Keyed.{stored_keyed_entry, stored_old_entry}
 use Rattle.store_sql.specs.Reads.{IsSelection, by_columns}
 use Rattle.store_holdings.specs.Readings.{AreShownIn}
+use Rattle.store_holdings.proofs.ReadingLemmas.{map_twice}
+use Rattle.dict_text.proofs.AllLemmas.{all_map, all_of}
+use Rattle.std.proofs.lemmas.List.{length-map}
 use Rattle.store_holdings.proofs.ReadLemmas.{sorted_order, one_le, records_order}
 use Rattle.store_migration.specs.Older.{older_entry_cells, layout_as, looked_at}
 use Rattle.store_migration.specs.MigrationParts.{HasNotOne}
@@ -30,6 +30,7 @@ use Rattle.store_migration.specs.Steps.{AreEntriesOf, IsEditionOf, edition_rows,
 use Rattle.store_migration.specs.Written.{shown_entry}
 use Rattle.store_migration.specs.declared.older.Older.{Older}
 use Rattle.store_migration.specs.declared.older.Older.TheVariants.{Plain, Keyed, Shown}
+use Rattle.store_migration.proofs.KitLemmas.{Database, equals_number, Row, EditionRecord, EntryRecord, edition_row}
 
 -- ---- entries
 
@@ -65,19 +66,15 @@ keyed_of row = plain_entry (owned_old_entry row.value)
 abbrev pub shown_of : ShownRow → EntryRecord
 shown_of row = shown_entry (owned_keyed_entry row.value)
 
-plain_shown : (all : List PlainRow) → AllByRecursion ShowsHeadword (map plain_of all)
-plain_shown [] = tt
-plain_shown (e ∷ all) = (refl, plain_shown all)
-
-keyed_shown : (all : List KeyedRow) → AllByRecursion ShowsHeadword (map keyed_of all)
-keyed_shown [] = tt
-keyed_shown (e ∷ all) = (refl, keyed_shown all)
+-- each of those whose headword is shown
+headwords : {X : Type 0} (entry : X → EntryRecord) → ((x : X) → ShowsHeadword (entry x)) → (all : List X) → AllByRecursion ShowsHeadword (map entry all)
+headwords {X = X} entry each all = all_map (λ (x : X). Unit {0}) ShowsHeadword entry (λ x any. each x) all (all_of (λ (x : X). Unit {0}) (λ x. tt) all)
 
 pub plain_selected : (number : ℤ) (db : Database) (all : List PlainRow) → IsSelection (codes "entry") (equals_number 1 number) (2 ∷ []) db (map stored_entry all) → AreEntriesOf Plain number db (map plain_of all)
-plain_selected number db all it = selected stored_entry plain_of Plain (λ x. refl) (λ a b r. one_le a.value.ord b.value.ord r) number db all (plain_shown all) it
+plain_selected number db all it = selected stored_entry plain_of Plain (λ x. refl) (λ a b r. one_le a.value.ord b.value.ord r) number db all (headwords plain_of (λ x. refl) all) it
 
 pub keyed_selected : (number : ℤ) (db : Database) (all : List KeyedRow) → IsSelection (codes "entry") (equals_number 1 number) (2 ∷ []) db (map stored_old_entry all) → AreEntriesOf Keyed number db (map keyed_of all)
-keyed_selected number db all it = selected stored_old_entry keyed_of Keyed (λ x. refl) (λ a b r. one_le a.value.ord b.value.ord r) number db all (keyed_shown all) it
+keyed_selected number db all it = selected stored_old_entry keyed_of Keyed (λ x. refl) (λ a b r. one_le a.value.ord b.value.ord r) number db all (headwords keyed_of (λ x. refl) all) it
 
 pub shown_selected : (number : ℤ) (db : Database) (all : List ShownRow) → IsSelection (codes "entry") (equals_number 1 number) (2 ∷ []) db (map stored_keyed_entry all) → AreEntriesOf Shown number db (map shown_of all)
 shown_selected number db all it = selected stored_keyed_entry shown_of Shown (λ x. refl) (λ a b r. one_le a.value.ord b.value.ord r) number db all tt it
@@ -91,8 +88,7 @@ abbrev pub edition_in : EditionRow → EditionRecord
 edition_in row = owned_edition row.value
 
 rows_are : (all : List EditionRow) → map (drop 1) (map stored_edition all) ≡ map edition_row (map edition_in all)
-rows_are [] = refl
-rows_are (e ∷ all) = ap (λ l. edition_row (edition_in e) ∷ l) (rows_are all)
+rows_are all = map_twice stored_edition (drop 1) all ∙ sym (map_twice edition_in edition_row all)
 
 module _ (number : ℤ) (db : Database) (all : List EditionRow) (it : IsSelection (codes "edition") (equals_number 1 number) (1 ∷ []) db (map stored_edition all)) where
   read : IsPermutation (map edition_row (map edition_in all)) (map (drop 1) (edition_rows number db))
@@ -101,21 +97,13 @@ module _ (number : ℤ) (db : Database) (all : List EditionRow) (it : IsSelectio
   pub one_read : (edition : EditionRecord) → map edition_in all ≡ edition ∷ [] → IsEditionOf number db edition
   one_read edition one = subst (λ l. IsPermutation (map edition_row l) (map (drop 1) (edition_rows number db))) one read
 
-  many : length (map edition_row (map edition_in all)) ≡ length all
-  many = count all
-    where
-      count : (rows : List EditionRow) → length (map edition_row (map edition_in rows)) ≡ length rows
-      count [] = refl
-      count (e ∷ rows) = let rest = count rows in omega (arith, rest)
-
   pub none_read : length all ≢ 1 → HasNotOne number db
   none_read other edition one =
       let a : length (map (drop 1) (edition_rows number db)) ≡ 1 = length_permutation (edition_row edition ∷ []) (map (drop 1) (edition_rows number db)) one in
       let b : length (map (drop 1) (edition_rows number db)) ≡ length (map edition_row (map edition_in all)) = length_permutation (map edition_row (map edition_in all)) (map (drop 1) (edition_rows number db)) read in
-      other (sym many ∙ (sym b ∙ a))
+      other (sym (length-map (map edition_in all) edition_row ∙ length-map all edition_in) ∙ (sym b ∙ a))
 
 -- ---- headers
 
-pub header_rows : (all : List (TypedHeader (String Global))) → map header_row (map owned_header all) ≡ map (λ (h : TypedHeader (String Global)). header_row (owned_header h)) all
-header_rows [] = refl
-header_rows (h ∷ all) = ap (λ l. header_row (owned_header h) ∷ l) (header_rows all)
+abbrev pub owned_row : TypedHeader (String Global) → Row
+owned_row h = header_row (owned_header h)

@@ -1,20 +1,17 @@
 -- Rows of editions and entries, as they are selected, and what their files are.
-use Rattle.std.proofs.Common.{◌≡◌, ◌⊎◌, ℕ, ℤ, Bool, true, false, List, [], ◌∷◌, ◌++◌, map, drop, filter, codes, inl, inr, refl, sym, ap, subst, ◌∙◌, append-nil}
-use Rattle.std.specs.Prelude.{flat_map}
+use Rattle.std.proofs.Common.{◌≡◌, ◌⊎◌, ℕ, ℤ, Bool, true, false, List, [], ◌∷◌, ◌++◌, map, drop, filter, codes, inl, inr, refl, sym, ap, subst, ◌∙◌, append-nil, append_assoc}
+use Rattle.std.specs.Prelude.{flat_map, filter}
 use Rattle.std.specs.List.Sorted.{IsPermutation}
 use Rattle.std.proofs.lemmas.Bool.{false≢true, cases_Bool}
 use Rattle.std.proofs.lemmas.List.{map-append}
 use Rattle.std.proofs.lemmas.List.Sorted.{IsPermutation-refl, IsPermutation-map, IsPermutation-sym, IsPermutation-trans, IsPermutation-append_left}
-use Rattle.sqlite.specs.Effect.{Database}
-use Rattle.sqlite.specs.Order.{Row, column}
+use Rattle.sqlite.specs.Order.{column}
 use Rattle.sqlite.specs.declared.types.Value.TheVariants.{Int}
 use Rattle.sqlite_trees.proofs.ListLemmas.{IsPermutation-filter}
 use Rattle.dict_text.proofs.AllLemmas.{all_filter}
-use Rattle.store_records.specs.Records.{EditionRecord, EntryRecord, HeaderRecord, Part, ShowsHeadword, header_of}
-use Rattle.store_sql.specs.Added.{AreAdded}
-use Rattle.store_sql.specs.Effects.{HasApartRowids, equals_number, same_value, rows_of}
-use Rattle.store_sql.specs.Encodings.{edition_row, entry_row}
-use Rattle.store_edition_sql.specs.PartRecords.{part_row}
+use Rattle.store_records.specs.Records.{ShowsHeadword}
+use Rattle.store_sql.specs.Effects.{same_value}
+use Rattle.store_sql.specs.Encodings.{entry_row}
 use Rattle.store_older_sql.proofs.NamedLemmas.{ints, ints_back, behind, filter_map}
 use Rattle.store_rows.specs.Tables.{Tables, same_number, editions_numbered, entries_of}
 use Rattle.store_rows.specs.Written.{entry_record}
@@ -26,11 +23,16 @@ use Rattle.store_holdings.specs.Files.{all_parts, edition_parts, index_octets, p
 use Rattle.store_holdings.proofs.FileLemmas.{part_once}
 use Rattle.store_holdings.specs.Readings.{AreShownIn, shown_row}
 use Rattle.store_holdings.proofs.OneLemmas.{both, both_where, decode_edition, edition_back, decode_entry, entry_back, decode_shown, shown_back}
-use Rattle.store_migration.specs.Older.{older_entry_cells, layout_as, looked_at}
-use Rattle.store_migration.specs.Steps.{AreEntriesOf, IsEditionOf, IsPartedOne, edition_rows, entry_rows}
+use Rattle.store_migration.specs.Older.{older_entry_cells, layout_as, looked_at, form_of}
+use Rattle.store_migration.specs.Steps.{AreEntriesOf, IsEditionOf, IsPartedOne, edition_rows, entry_rows, AreParted}
 use Rattle.store_migration.specs.declared.older.Older.{Older}
 use Rattle.store_migration.specs.declared.older.Older.TheVariants.{Plain, Keyed, Shown}
-use Rattle.store_migration.proofs.NumberLemmas.{AreNumbered}
+use Rattle.store_migration.proofs.KitLemmas.{Database, AreAdded, HasApartRowids, equals_number, rows_of, edition, store_defined, apart_none, part, part_defined, entry_table_of, form_defined, Row, EditionRecord, EntryRecord}
+use Rattle.store_migration.proofs.KitLemmas.{HeaderRecord, Part, header_of, edition_row, part_row}
+use Rattle.store_migration.proofs.NumberLemmas.{AreNumbered, AreFresh}
+use Rattle.std.specs.List.{AllByRecursion}
+use Rattle.store_tables.specs.declared.tables.StoreTable.TheVariants as store
+use Rattle.store_migration.proofs.SpareLemmas.{Owns, added_rows, edition_part, entry_part, own_still, same_entries}
 
 -- ---- rows by the number that stands first
 
@@ -132,11 +134,9 @@ module _ (older : Older) (t : Tables) (old new : Database) (has : HasRecordsOf o
       (λ i. parts_under n (index_octets (entries_are older t old has n are one.entries one.lines i)) (edition_is older t old has n are one.edition one.one i).body)
       ∙ ap (λ m. parts_under m (index_octets (entries_of m t.entries)) are.edition.body) (sym are.its)
 
-  its_parts : filter (λ (p : Part). same_number p.edition n) (all_parts t) ≡ edition_parts t.entries are.edition
-  its_parts = part_once t n ∙ ap (flat_map (edition_parts t.entries)) are.one ∙ append-nil (edition_parts t.entries are.edition)
-
   parts_more : IsPermutation (filter (λ (p : Part). is_of (done ++ n ∷ []) p.edition) (all_parts t)) (filter (λ (p : Part). is_of done p.edition) (all_parts t) ++ edition_parts t.entries are.edition)
   parts_more =
+      let its_parts = part_once t n ∙ ap (flat_map (edition_parts t.entries)) are.one ∙ append-nil (edition_parts t.entries are.edition) in
       numbers_more (λ (p : Part). p.edition) done n (all_parts t) (filter (λ (p : Part). is_of done p.edition) (all_parts t)) (edition_parts t.entries are.edition) fresh
       (IsPermutation-refl _) (subst (IsPermutation (filter (λ (p : Part). same_number p.edition n) (all_parts t))) its_parts (IsPermutation-refl _))
 
@@ -144,9 +144,6 @@ module _ (older : Older) (t : Tables) (old new : Database) (has : HasRecordsOf o
   heads_more =
       editions_more done n t.editions (editions_of_numbers done t.editions) (are.edition ∷ []) fresh
       (IsPermutation-refl _) (subst (IsPermutation (editions_numbered n t.editions)) are.one (IsPermutation-refl _))
-
-  header_same : header ≡ header_of are.edition
-  header_same = one.header_is ∙ ap header_of (edition_is older t old has n are one.edition one.one)
 
   pub filed_more : IsFiled done headers t old → IsFiled (done ++ n ∷ []) (headers ++ header ∷ []) t new
   filed_more k =
@@ -164,6 +161,60 @@ module _ (older : Older) (t : Tables) (old new : Database) (has : HasRecordsOf o
       record {
         parts = grown (codes "dictcat_part") before added after old new put k.parts joined;
         apart = put.apart k.apart;
-        heads = subst (λ h. IsPermutation all_heads (headers ++ h ∷ [])) (sym header_same)
+        heads = subst (λ h. IsPermutation all_heads (headers ++ h ∷ [])) (sym (one.header_is ∙ ap header_of (edition_is older t old has n are one.edition one.one)))
             (IsPermutation-trans all_heads (heads ++ header_of are.edition ∷ []) (headers ++ header_of are.edition ∷ []) both_heads (IsPermutation-append_left (header_of are.edition ∷ []) heads headers k.heads));
       }
+
+-- ---- the files of the editions are put in, one edition after the other
+
+module _ (older : Older) (t : Tables) where
+  pub records_same : (old new : Database) → rows_of (codes "edition") new ≡ rows_of (codes "edition") old → rows_of (codes "entry") new ≡ rows_of (codes "entry") old → HasRecordsOf older t old → HasRecordsOf older t new
+  records_same old new one two has = record {
+    editions = subst (λ l. IsPermutation (map edition_row t.editions) (map (drop 1) l)) (sym one) has.editions;
+    entries = subst (λ l. IsPermutation (map (older_entry_cells older) t.entries) (map (λ row. drop 1 (looked_at older row)) l)) (sym two) has.entries;
+    shown = has.shown;
+  }
+
+  one_still : (n : ℤ) (header : HeaderRecord) (old new : Database) → Owns older old → IsPartedOne older n header old new → HasRecordsOf older t old → HasRecordsOf older t new
+  one_still n header old new own one has =
+      records_same old new (added_rows part part_defined edition (store_defined store.Edition) edition_part _ old new one.added own.parts own.editions)
+      (subst (λ name. rows_of name new ≡ rows_of name old) (same_entries (form_of older))
+      (added_rows part part_defined (entry_table_of (form_of older)) (form_defined (form_of older)) (entry_part (form_of older)) _ old new one.added own.parts own.entries)) has
+
+  owns_still : (n : ℤ) (header : HeaderRecord) (old new : Database) → IsPartedOne older n header old new → Owns older old → Owns older new
+  owns_still n header old new one own = record {
+    editions = own_still edition old new one.added.schema own.editions;
+    entries = own_still (entry_table_of (form_of older)) old new one.added.schema own.entries;
+    parts = own_still part old new one.added.schema own.parts;
+  }
+
+  pub all_filed : (ns done : List ℤ) (before headers : List HeaderRecord) (old new : Database) → AreFresh done ns → AllByRecursion (AreNumbered t) ns → Owns older old → AreParted older ns headers old new
+      → HasRecordsOf older t old → IsFiled done before t old → IsFiled (done ++ ns) (before ++ headers) t new
+  all_filed [] done before headers old new fresh are own h has k =
+      subst (λ hs. IsFiled (done ++ []) (before ++ hs) t new) (sym h.0)
+      (subst (λ l. IsFiled l (before ++ []) t new) (sym (append-nil done)) (subst (λ hs. IsFiled done hs t new) (sym (append-nil before)) (subst (IsFiled done before t) (sym h.1) k)))
+  all_filed (n ∷ ns) done before headers old new fresh are own h has k =
+      let mid = h.0 in
+      let header = h.1 in
+      let rest = h.2 in
+      let one = h.4 in
+      let next = filed_more older t old mid has done before n header fresh.0 are.0 one k in
+      let later = all_filed ns (done ++ n ∷ []) (before ++ header ∷ []) rest mid new fresh.1 are.1 (owns_still n header old mid one own) h.5 (one_still n header old mid own one has) next in
+      subst (λ hs. IsFiled (done ++ n ∷ ns) (before ++ hs) t new) (sym h.3)
+      (subst (λ l. IsFiled l (before ++ header ∷ rest) t new) (append_assoc done (n ∷ []) ns) (subst (λ hs. IsFiled ((done ++ n ∷ []) ++ ns) hs t new) (append_assoc before (header ∷ []) rest) later))
+
+-- nothing is put in yet
+no_part : (ps : List Part) → filter (λ (p : Part). is_of [] p.edition) ps ≡ []
+no_part [] = refl
+no_part (p ∷ ps) = no_part ps
+
+no_edition : (es : List EditionRecord) → editions_of_numbers [] es ≡ []
+no_edition [] = refl
+no_edition (e ∷ es) = no_edition es
+
+pub none_filed : (t : Tables) (db : Database) → rows_of (codes "dictcat_part") db ≡ [] → IsFiled [] [] t db
+none_filed t db empty = record {
+  parts = subst (λ l. IsPermutation (map part_row l) (map (drop 1) (rows_of (codes "dictcat_part") db))) (sym (no_part (all_parts t))) (subst (λ l. IsPermutation [] (map (drop 1) l)) (sym empty) (IsPermutation-refl []));
+  apart = subst HasApartRowids (sym empty) apart_none;
+  heads = subst (λ l. IsPermutation (map header_of l) []) (sym (no_edition t.editions)) (IsPermutation-refl []);
+}

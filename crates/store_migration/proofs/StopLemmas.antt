@@ -1,18 +1,35 @@
 -- What a migration makes, and what a stop in it leaves.
-use Rattle.std.proofs.Common.{◌≡◌, ◌↔◌, ℕ, List, sym, subst, inl, inr, arith}
+use Rattle.std.proofs.Common.{◌≡◌, ◌↔◌, ℕ, List, sym, subst, inl, inr, arith, ◌∙◌, ◌<◌, ◌≤◌, ℤ, pos, true, false, map, Some, None, ap}
 use Rattle.std.specs.Prelude.{IsTrue, Option, Some, None}
 use Rattle.std.specs.List.{Contains}
-use Rattle.sqlite.specs.Effect.{Database, IsDatabase}
 use Rattle.sqlite.specs.Tree.{Trees}
-use Rattle.sqlite.specs.State.{State, HasCleanDisk, Survives}
-use Rattle.dict_catalogue.specs.Steps.{Catalogue}
-use Rattle.store_rows.specs.Versions.{known, IsVersion}
+use Rattle.sqlite.specs.State.{Shows, Fails, IsLive}
+use Rattle.dict_catalogue.specs.Steps.{Catalogue, summary_of}
+use Rattle.store_rows.specs.Versions.{known, IsVersion, Layout, layout_of}
 use Rattle.store_holdings.specs.AllTables.{as_version}
+use Rattle.store_rows.proofs.LawfulLemmas.{numbers_as}
 use Rattle.store_holdings.proofs.VersionLemmas.{same_stands}
-use Rattle.store_holdings.specs.Holds.{Holds, IsHeld}
+use Rattle.store_holdings.specs.Holds.{Holds, IsHeld, HasLayout, IsLeftAs, Rests}
 use Rattle.store_migration.specs.Migrated.{IsMigrated, HoldsOlder, MayMigrate}
 use Rattle.store_migration.specs.Leaves.{StandsFor, StateLeavesOneOf}
 use Rattle.store_holdings.proofs.OneLemmas.{one_catalogue, one_held, left_held, left_known}
+use Rattle.sqlite.specs.Steps.{FailsToCommit}
+use Rattle.sqlite.specs.declared.error.Error.{Error}
+use Rattle.sqlite.proofs.Callers.{survives_begin}
+use Rattle.sqlite_trees.specs.declared.store.Store.{Ghosts}
+use Rattle.dict_index.specs.Edition.{Edition}
+use Rattle.dict_catalogue.specs.Items.{edition_numbers}
+use Rattle.dict_catalogue.specs.Tests.{Holdings}
+use Rattle.store_holdings.specs.Committed.{IsCommitted, IsTreesOf}
+use Rattle.store_holdings.specs.Writing.{StaysCommitted}
+use Rattle.store_holdings.proofs.CommitLemmas.{leaves, done, only_left, commit_fails, keeps_begun, stays_undone}
+use Rattle.store_migration.specs.Moved.{IsOutcome}
+use Rattle.store_migration.specs.Older.{IsOld, layout_as}
+use Rattle.store_migration.specs.declared.older.Older.{Older}
+use Rattle.store_migration.specs.Spared.{SparesOthers}
+use Rattle.store_migration.proofs.KitLemmas.{Database, IsDatabase, State, HasCleanDisk, Survives, KeepsCommit, Held, state, was_clean}
+use Rattle.store_migration.proofs.OtherLemmas.{others_moved}
+use Rattle.store_migration.proofs.MovedLemmas.{moved}
 
 pub migrated : (version : ℕ) (old new : Database) (M : Catalogue) → IsMigrated version old new → Holds version old M → Holds known new M
 migrated version old new M m h = record {
@@ -34,13 +51,10 @@ was_left : (db : Database) (M : Catalogue) (m : Option Catalogue) → IsDatabase
 was_left db M None sound held stands = absurd (stands M (db, (λ i. db.trees), sound, held))
 was_left db M (Some N) sound held stands = let same : N ≡ M = one_held db N M (left_held db N sound stands) held in λ i. Some (same i)
 
-clean_before : (old new : State) (P : Trees → Type 0) → Survives old new P → HasCleanDisk new → HasCleanDisk old
-clean_before old new P s clean = omega (arith, s.clean)
-
 pub stopped : (old new : State) → (IsTrue old.is_open → IsDatabase old.committed) → (IsTrue old.is_open → old.may_leave old.committed.trees) → Survives old new (MayMigrate old)
     → (ms : List (Option Catalogue)) → StateLeavesOneOf old ms → StateLeavesOneOf new ms
 stopped old new sound stays survives ms leaves clean trees left =
-    let before : HasCleanDisk old = clean_before old new (MayMigrate old) survives clean in
+    let before = was_clean survives clean in
     elim (survives.crash clean trees left) [
       | inl could ↦ leaves before trees could
       | inr made ↦
@@ -68,3 +82,79 @@ same_held old new N was is M = (
   (λ h. subst (Holds known new) (one_held old N M (older old N was) h) is),
   (λ h. subst (IsHeld old) (one_catalogue new known known N M is h) (older old N was)),
 )
+
+-- ---- what a migration that was committed leaves
+
+pub outcome_of : {S : Type 0} (g : Ghosts S) (older : Older) (numbers : List ℤ) (installs : ℕ) (old begun : Held S) (new : Database) → begun ≡ record old { in_transaction = true }
+    → IsOutcome older numbers installs (state g begun) new → IsOutcome older numbers installs (state g old) new
+outcome_of g older numbers installs old begun new is it =
+    let there = subst (λ h. IsOutcome older numbers installs (state g h) new) is it in
+    record { was_open = there.was_open; moved = there.moved }
+
+-- ---- a store at rest that holds a catalogue under an older version
+
+pub is_old : (version : ℕ) (older : Older) → layout_of version ≡ layout_as older → (s : State) (N : Catalogue) → Rests version s N → IsDatabase s.now → IsOld older s.now
+is_old version older is s N rests sound =
+    let held : Holds version s.now N = subst (λ (d : Database). Holds version d N) (sym rests.settled) rests.holds in
+    record {
+      own = subst (λ (layout : Layout). HasLayout layout s.now.schema) is held.own;
+      sound = sound;
+      marks = held.keeps.0.apart;
+    }
+
+module _ {version : ℕ} {older : Older} (is : layout_of version ≡ layout_as older) {s : State} {summary : Holdings (List ℕ)} (start : IsTrue s.is_open → (N : Catalogue) × Rests version s N × (summary_of N ≡ summary)) (live : IsLive s)
+    {numbers : List ℤ} (numbers_are : numbers ≡ map pos (edition_numbers summary.items)) where
+  pub outcome_migrated : (new : Database) → IsOutcome older numbers summary.installs s new → IsMigrated version s.committed new
+  outcome_migrated new made =
+      let it = start made.was_open in
+      let held : Holds version s.now it.0 = subst (λ (d : Database). Holds version d it.0) (sym it.1.settled) it.1.holds in
+      let numbers_of = ap (λ (h : Holdings (List ℕ)). map pos (edition_numbers h.items)) (sym it.2) ∙ ap (map pos) (numbers_as (λ (edition : Edition). edition.title) it.0.items) in
+      let first = subst (λ ns. IsOutcome older ns summary.installs s new) (numbers_are ∙ numbers_of) made in
+      let second = subst (λ n. IsOutcome older (map pos (edition_numbers it.0.items)) n s new) (ap (λ (h : Holdings (List ℕ)). h.installs) (sym it.2)) first in
+      subst (λ (d : Database). IsMigrated version d new) it.1.settled (moved older version is it.0 s.now new (is_old version older is s it.0 it.1 (live made.was_open).0) held second.moved)
+
+  pub outcome_holds : (new : Database) → IsOutcome older numbers summary.installs s new → (M : Catalogue) → Holds version s.committed M → Holds known new M
+  outcome_holds new made M held = migrated version s.committed new M (outcome_migrated new made) held
+
+  pub outcome_left : (trees : Trees) → IsTreesOf (IsOutcome older numbers summary.installs s) trees → (M : Catalogue) → Holds version s.committed M → IsLeftAs known M trees
+  outcome_left trees left M held = (left.0, left.1, left.2, outcome_holds left.0 left.3 M held)
+
+  pub outcome_may : 1 ≤ version → version < known → (trees : Trees) → IsTreesOf (IsOutcome older numbers summary.installs s) trees → MayMigrate s trees
+  outcome_may counted before trees left =
+      let it = start left.3.was_open in
+      (left.3.was_open, (it.0, record { version = version; counted = counted; before = before; holds = it.1.holds }, outcome_left trees left it.0 it.1.holds))
+
+  pub outcome_spares : (new : Database) → IsOutcome older numbers summary.installs s new → SparesOthers s.committed new
+  outcome_spares new made =
+      let it = start made.was_open in
+      subst (λ (d : Database). SparesOthers d new) it.1.settled (others_moved older numbers summary.installs s.now new (is_old version older is s it.0 it.1 (live made.was_open).0) made.moved)
+
+-- ---- the commit of a transaction, which leaves one state at its end
+
+module _ {S : Type 0} (g : Ghosts S) (P : Database → Type 0) (old mid : Held S) {begun end new : Held S} (begins : begun ≡ record old { in_transaction = true }) (one : Survives (state g begun) (state g mid) (λ _. ⊥))
+    (two : Survives (state g mid) (state g end) (λ trees. trees ≡ (state g mid).now.trees)) (same : end ≡ new) where
+  pub ends_before : HasCleanDisk (state g new) → HasCleanDisk (state g mid)
+  ends_before clean = was_clean two (subst (λ h. HasCleanDisk (state g h)) (sym same) clean)
+
+  pub begins_before : Survives (state g old) (state g mid) (λ _. ⊥)
+  begins_before = survives_begin g old (state g mid) (λ _. ⊥) (subst (λ h. Survives (state g h) (state g mid) (λ _. ⊥)) begins one)
+
+  module _ (made : HasCleanDisk (state g mid) → P (state g mid).now × IsDatabase (state g mid).now) where
+    pub ends_survives : Survives (state g old) (state g new) (IsTreesOf P)
+    ends_survives = subst (λ h. Survives (state g old) (state g h) (IsTreesOf P)) same (leaves g old begun mid end P begins one two made)
+
+    pub ends_made : (HasCleanDisk (state g end) → Shows (state g mid) (state g end) (state g mid).now (state g mid).now false)
+        → (HasCleanDisk (state g end) → (trees : Trees) → (state g end).may_leave trees → trees ≡ (state g end).committed.trees) → HasCleanDisk (state g new) → IsCommitted P (state g new)
+    ends_made shows only = subst (λ h. HasCleanDisk (state g h) → IsCommitted P (state g h)) same (λ clean. let shown = shows clean in record {
+      is_open = shown.is_open;
+      settled = shown.now_is ∙ sym shown.committed_is;
+      holds = done g old begun mid end P begins one two made clean shown;
+      only = only_left g old begun mid end P begins one two made clean shown (only clean);
+    })
+
+  module _ {e : Error} (inside : HasCleanDisk (state g mid) → (state g mid).in_transaction ≡ true) (failed : HasCleanDisk (state g end) → FailsToCommit (state g mid) (state g end) e) where
+    pub ends_failed : HasCleanDisk (state g new) → Fails (state g mid) (state g new) ⊥ e
+    ends_failed = subst (λ h. HasCleanDisk (state g h) → Fails (state g mid) (state g h) ⊥ e) same (λ clean. commit_fails (state g mid) (state g end) e (inside (was_clean two clean)) (failed clean))
+
+    pub ends_stays : (HasCleanDisk (state g mid) → KeepsCommit (state g begun) (state g mid)) → HasCleanDisk (state g new) → StaysCommitted (state g old) (state g new)
+    ends_stays keeps clean = stays_undone (state g old) (state g mid) (state g new) (keeps_begun g old begun (state g mid) begins (keeps (ends_before clean))) (ends_failed clean).3

@@ -1,10 +1,7 @@
 -- the parts that were put in so far
 use Rattle.std.proofs.Common.{◌≡◌, take, map, codes, true}
-use Rattle.sqlite.specs.State.{HasCleanDisk, Survives, KeepsCommit}
-use Rattle.store_sql.specs.Added.{AreAdded}
-use Rattle.store_sql.specs.Effects.{seen}
-use Rattle.store_edition_sql.specs.PartRecords.{part_row}
 use Rattle.store_migration.specs.Written.{parts_in}
+use Rattle.store_migration.proofs.KitLemmas.{HasCleanDisk, Survives, KeepsCommit, AreAdded, seen, part_row}
 use Rattle.store_migration.proofs.files.put_files.Given as goal
 
 abbrev pub invariant-each : goal.invariant-each

@@ -1,89 +1,54 @@
-use Rattle.std.proofs.Common.{◌≡◌, ◌∙◌, ◌++◌, ◌+◌, List, [], ◌∷◌, map, take, refl, sym, ap, subst, arith, codes, String}
-use Rattle.std.specs.declared.alloc.Global.{Global}
-use Rattle.std.proofs.lemmas.List.{take_more, map-append}
-use Rattle.sqlite.specs.Held.{state}
-use Rattle.sqlite.specs.Order.{Row}
-use Rattle.sqlite.specs.State.{HasCleanDisk}
-use Rattle.sqlite.proofs.StateLemmas.{survives_then}
-use Rattle.store_records.specs.Records.{HeaderRecord}
-use Rattle.store_records.specs.Typed.{owned_header}
-use Rattle.store_records.specs.declared.headers.HeaderRecord.{HeaderRecord as TypedHeader}
+use Rattle.std.proofs.Common.{◌∙◌, List, map, refl, sym, ap, subst, codes}
+use Rattle.std.proofs.lemmas.List.{take_all}
 use Rattle.store_edition_sql.specs.HeaderRecords.{header_row}
-use Rattle.store_edition_sql.specs.HeaderTable.{header}
-use Rattle.store_sql.specs.Added.{AreAdded}
-use Rattle.store_sql.specs.Effects.{IsAdded, seen}
 use Rattle.store_sql.specs.Inserts.{FailsToInsert}
-use Rattle.store_sql.specs.declared.records.ReadError.TheVariants.{Store}
-use Rattle.store_sql.proofs.AddedLemmas.{none_added, one_added}
-use Rattle.store_sql.proofs.Callers.{still_has}
-use Rattle.store_sql.proofs.MakeLemmas.{goes_keeps, keeps_then}
-use Rattle.store_sql.proofs.StreamLemmas.{passed_on}
-use Rattle.store_older_sql.proofs.CopyLemmas.{keeps_none, none_more}
-use Rattle.store_migration.specs.Failing.{MigrationFailsInside}
-use Rattle.store_migration.specs.MigrationParts.{putting}
-use Rattle.store_migration.specs.FailurePlaces.{First, Putting}
-use Rattle.store_migration.proofs.FailLemmas.{fails_here, fails_later}
-use Rattle.store_migration.proofs.PlaceLemmas.{row_placed}
-use Rattle.store_migration.proofs.ReadLemmas.{header_rows}
+use Rattle.store_sql.proofs.AddedLemmas.{none_added}
+use Rattle.store_migration.specs.FailurePlaces.{Putting}
+use Rattle.store_migration.proofs.KitLemmas.{state, HasCleanDisk, header, AreAdded, IsAdded, seen, still_has, goes_keeps, keeps_then, passed_on, keeps_none, none_more, was_clean, two_survive, Row, HeaderRecord}
+use Rattle.store_migration.proofs.FailLemmas.{fails_by, row_placed, row_more, putting}
+use Rattle.store_records.specs.Typed.{owned_header}
+use Rattle.store_holdings.proofs.ReadingLemmas.{map_twice}
+use Rattle.store_migration.proofs.ReadLemmas.{owned_row}
 use Rattle.store_migration.proofs.heading.put_headers.Goals as goal
 
 pub each-init : goal.each-init
-each-init g c = record {
-  same_reference = refl;
-  added = λ clean. none_added (codes "edition") (seen g.S.Store c.args.tx.now).now;
-  inside = λ clean h. h;
-  keeps = λ clean. keeps_none (seen g.S.Store c.args.tx.now);
-  survives = none_more (seen g.S.Store c.args.tx.now);
-}
+each-init g c = record { same_reference = refl; added = λ clean. none_added (codes "edition") _; inside = λ clean h. h; keeps = λ clean. keeps_none _; survives = none_more _ }
 
 pub insert_header-requires : goal.insert_header-requires
 insert_header-requires g c clean open' =
-    let first = seen g.S.Store c.args.tx.now in
-    let mid = seen g.S.Store c.each.tx in
-    let start : HasCleanDisk first = omega (arith, c.each.invariant.survives.clean, clean) in
-    still_has header first.now mid.now (c.each.invariant.added clean).schema (c.requires start ((c.each.invariant.keeps clean).was_open open'))
+    let own = c.requires (was_clean c.each.invariant.survives clean) ((c.each.invariant.keeps clean).was_open open') in
+    still_has header (seen g.S.Store c.args.tx.now).now (seen g.S.Store c.each.tx).now (c.each.invariant.added clean).schema own
 
 pub each-preserved : goal.each-preserved
 each-preserved g c =
-    let first = seen g.S.Store c.args.tx.now in
     let mid = seen g.S.Store c.each.tx in
     let new = seen g.S.Store c.insert_header.new.tx in
     let item = c.header-item.result in
-    let all = c.args.headers.now in
-    let i = c.each.header-index in
-    let was = λ (clean : HasCleanDisk new). let early : HasCleanDisk mid = omega (arith, c.insert_header.ensures.survives.clean, clean) in early in
-    let more : map header_row (map owned_header (take (i + 1) all)) ≡ map header_row (map owned_header (take i all)) ++ header_row (owned_header item) ∷ [] =
-    ap (λ l. map header_row (map owned_header l)) (take_more all i item c.each-test.true ∙ ap (λ x. take i all ++ x ∷ []) (sym c.header-item.is))
-    ∙ ap (map header_row) (map-append owned_header (take i all) (item ∷ [])) ∙ map-append header_row (map owned_header (take i all)) (owned_header item ∷ []) in
+    let was = λ (clean : HasCleanDisk new). was_clean c.insert_header.ensures.survives clean in
     record {
       same_reference = c.insert_header.ensures.same_reference ∙ c.each.invariant.same_reference;
-      added = λ clean.
-          let one = subst (λ (h : HeaderRecord). IsAdded (codes "edition") (header_row h) mid.now new.now) c.lend-given.ensures (c.in_ok-insert_header.ensures.added clean).0 in
-          subst (λ (l : List Row). AreAdded (codes "edition") l first.now new.now) (sym more)
-          (one_added (codes "edition") (map header_row (map owned_header (take i all))) (header_row (owned_header item)) first.now mid.now new.now (c.each.invariant.added (was clean)) one);
+      added = λ clean. row_more (codes "edition") owned_row c.args.headers.now c.each.header-index item (owned_row item) c.each-test.true (ap owned_row c.header-item.is) _ _
+          (c.each.invariant.added (was clean)) _ (subst (λ (h : HeaderRecord). IsAdded (codes "edition") (header_row h) mid.now new.now) c.lend-given.ensures (c.in_ok-insert_header.ensures.added clean).0);
       inside = λ clean h. (c.in_ok-insert_header.ensures.added clean).1.mode;
-      keeps = λ clean. keeps_then first mid new (c.each.invariant.keeps (was clean)) (goes_keeps mid new (c.in_ok-insert_header.ensures.added clean).1);
-      survives = survives_then first mid new _ _ (λ _. ⊥) (λ _ db none. none) (λ _ db none. none) c.each.invariant.survives c.insert_header.ensures.survives;
+      keeps = λ clean. keeps_then _ _ _ (c.each.invariant.keeps (was clean)) (goes_keeps _ _ (c.in_ok-insert_header.ensures.added clean).1);
+      survives = two_survive _ _ _ c.each.invariant.survives c.insert_header.ensures.survives;
     }
+
+pub returns-clause-added : goal.returns-clause-added
+returns-clause-added g c clean =
+    let rows = ap (map owned_row) (take_all _ _ c.each-test.false) ∙ sym (map_twice owned_header header_row c.args.headers.now) in
+    subst (λ (l : List Row). AreAdded (codes "edition") l (seen g.S.Store c.args.tx.now).now (seen g.S.Store c.each.tx).now) rows (c.each.invariant.added clean)
 
 pub returns-in_err-insert_header-clause-failed : goal.returns-in_err-insert_header-clause-failed
 returns-in_err-insert_header-clause-failed g c clean =
     let old = c.args.tx.now.conn.now in
     let mid = c.each.tx.conn.now in
-    let new = c.insert_header.new.tx.conn.now in
-    let early : HasCleanDisk (state g.S.Store mid) = omega (arith, c.insert_header.ensures.survives.clean, clean) in
-    let e = c.in_err-insert_header.field-0.0 in
+    let early = was_clean c.insert_header.ensures.survives clean in
     let item = c.header-item.result in
-    let all = c.args.headers.now in
-    let i = c.each.header-index in
-    let f = λ (h : TypedHeader (String Global)). header_row (owned_header h) in
-    let row = f item in
-    let P = First (putting (codes "edition") row) in
-    let Q = Putting (codes "edition") (map header_row (map owned_header all)) in
-    let added = subst (λ (l : List Row). AreAdded (codes "edition") l (state g.S.Store old).now (state g.S.Store mid).now) (header_rows (take i all)) (c.each.invariant.added early) in
-    let place = row_placed (codes "edition") f all i item row c.each-test.true (ap f c.header-item.is) (state g.S.Store old).now (state g.S.Store mid).now added in
-    let fails = subst (λ (h : HeaderRecord). FailsToInsert (codes "edition") (header_row h) (state g.S.Store mid) (state g.S.Store new) e) c.lend-given.ensures (c.in_err-insert_header.ensures.failed clean) in
-    passed_on (λ e. MigrationFailsInside g.S.Store Q old new (Store e)) e c.from_residual.result c.from_residual.ensures.1
-    (fails_later g.S.Store P Q old mid new (Store e) c.each.invariant.survives (c.each.invariant.inside early)
-    (λ part at it. subst (λ (l : List Row). Putting (codes "edition") l part (state g.S.Store old).now at) (sym (header_rows all)) (place part at it))
-    (fails_here g.S.Store P (putting (codes "edition") row) mid new (Store e) (refl, refl) fails))
+    let part = putting (codes "edition") (owned_row item) in
+    let place = row_placed (codes "edition") owned_row c.args.headers.now c.each.header-index item (owned_row item) c.each-test.true (ap owned_row c.header-item.is) _ _ (c.each.invariant.added early) in
+    let fails = subst (λ (h : HeaderRecord). FailsToInsert (codes "edition") (header_row h) (state g.S.Store mid) (seen g.S.Store c.insert_header.new.tx) c.in_err-insert_header.field-0.0) c.lend-given.ensures
+    (c.in_err-insert_header.ensures.failed clean) in
+    passed_on _ _ _ c.from_residual.ensures.1
+    (fails_by mid part c.each.invariant.survives (c.each.invariant.inside early)
+    (subst (λ (l : List Row). Putting (codes "edition") l part (state g.S.Store old).now (state g.S.Store mid).now) (sym (map_twice owned_header header_row c.args.headers.now)) place) fails)

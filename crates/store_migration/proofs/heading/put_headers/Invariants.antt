@@ -1,16 +1,13 @@
 -- the headers that were put in so far
 use Rattle.std.proofs.Common.{◌≡◌, take, map, codes, true}
-use Rattle.sqlite.specs.State.{HasCleanDisk, Survives, KeepsCommit}
-use Rattle.store_records.specs.Typed.{owned_header}
-use Rattle.store_edition_sql.specs.HeaderRecords.{header_row}
-use Rattle.store_sql.specs.Added.{AreAdded}
-use Rattle.store_sql.specs.Effects.{seen}
+use Rattle.store_migration.proofs.KitLemmas.{HasCleanDisk, Survives, KeepsCommit, AreAdded, seen}
+use Rattle.store_migration.proofs.ReadLemmas.{owned_row}
 use Rattle.store_migration.proofs.heading.put_headers.Given as goal
 
 abbrev pub invariant-each : goal.invariant-each
 invariant-each g l = record {
   same_reference : l.tx.conn.ghost_name ≡ l.fn.tx.conn.ghost_name;
-  added : HasCleanDisk (seen g.S.Store l.tx) → AreAdded (codes "edition") (map header_row (map owned_header (take l.header-index l.headers))) (seen g.S.Store l.fn.tx).now (seen g.S.Store l.tx).now;
+  added : HasCleanDisk (seen g.S.Store l.tx) → AreAdded (codes "edition") (map owned_row (take l.header-index l.headers)) (seen g.S.Store l.fn.tx).now (seen g.S.Store l.tx).now;
   inside : HasCleanDisk (seen g.S.Store l.tx) → (seen g.S.Store l.fn.tx).in_transaction ≡ true → (seen g.S.Store l.tx).in_transaction ≡ true;
   keeps : HasCleanDisk (seen g.S.Store l.tx) → KeepsCommit (seen g.S.Store l.fn.tx) (seen g.S.Store l.tx);
   survives : Survives (seen g.S.Store l.fn.tx) (seen g.S.Store l.tx) (λ _. ⊥);

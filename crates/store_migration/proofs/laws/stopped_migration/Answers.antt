@@ -1,4 +1,4 @@
-use Rattle.sqlite.specs.Held.{state}
+use Rattle.store_migration.proofs.KitLemmas.{state}
 use Rattle.store_migration.proofs.StopLemmas.{stopped}
 use Rattle.store_migration.proofs.laws.stopped_migration.Goals as goal
 

@@ -1,9 +1,8 @@
 use Rattle.std.proofs.Common.{◌∙◌, ◌++◌, ◌∷◌, [], map, ap, sym, subst}
-use Rattle.store_records.specs.Records.{EntryRecord}
 use Rattle.store_rows.specs.Stored.{stored_line}
 use Rattle.store_holdings.specs.Files.{entry_line}
-use Rattle.store_sql.proofs.StreamLemmas.{passed_on}
 use Rattle.store_migration.specs.MigrationParts.{FailsToWriteIndex}
+use Rattle.store_migration.proofs.KitLemmas.{passed_on, EntryRecord}
 use Rattle.store_migration.proofs.LineLemmas.{lines_next, write_later}
 use Rattle.store_migration.proofs.lines.lines_of.Goals as goal
 

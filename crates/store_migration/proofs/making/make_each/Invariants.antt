@@ -1,8 +1,7 @@
 use Rattle.std.proofs.Common.{◌≡◌, ◌<◌, IsTrue, take, map}
-use Rattle.sqlite.specs.State.{HasCleanDisk, Survives, KeepsCommit}
-use Rattle.store_sql.specs.Effects.{GoesOn, seen}
-use Rattle.store_sql.specs.Creates.{MadeInTurn}
+use Rattle.store_sql.specs.Effects.{GoesOn}
 use Rattle.store_sql.specs.Statements.{make, RunInTurn}
+use Rattle.store_migration.proofs.KitLemmas.{HasCleanDisk, Survives, KeepsCommit, seen, MadeInTurn}
 use Rattle.store_migration.proofs.making.make_each.Given as goal
 
 abbrev pub invariant-each : goal.invariant-each

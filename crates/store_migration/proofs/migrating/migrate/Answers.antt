@@ -1,21 +1,17 @@
-use Rattle.std.proofs.Common.{◌∙◌, ℤ, List, arith, inl, inr, refl, subst}
+use Rattle.std.proofs.Common.{◌∙◌, ℤ, List, inl, inr, refl, subst}
 use Rattle.std.specs.Prelude.{IsTrue, Result, Ok, Err, IfErr, OnErr, OnOk}
 use Rattle.std.proofs.lemmas.Result.{on_ok_weaker}
-use Rattle.sqlite.specs.Effect.{Database}
-use Rattle.sqlite.specs.Held.{state}
-use Rattle.sqlite.specs.State.{HasCleanDisk}
 use Rattle.sqlite.proofs.StateLemmas.{survives_weaker}
 use Rattle.dict_catalogue.specs.Views.{summary_shown}
 use Rattle.store_migration.specs.FailurePlaces.{InMove}
 use Rattle.store_migration.specs.Failing.{MigrationFailsBefore, MigrationFailsToEnd, FailsToMigrate}
+use Rattle.store_migration.proofs.KitLemmas.{Database, state, was_clean}
 use Rattle.store_migration.proofs.FailLemmas.{why_not_begun}
 use Rattle.store_migration.specs.Migrated.{MayMigrate}
-use Rattle.store_holdings.specs.Writing.{StaysCommitted}
-use Rattle.store_holdings.specs.Committed.{IsCommitted, IsTreesOf}
+use Rattle.store_holdings.specs.Committed.{IsTreesOf}
 use Rattle.store_migration.specs.Moved.{IsMoved, IsOutcome}
-use Rattle.store_migration.proofs.EndLemmas.{is_old, outcome_holds, outcome_left, outcome_may, outcome_migrated, summary_installs, summary_numbers}
+use Rattle.store_migration.proofs.StopLemmas.{is_old, outcome_holds, outcome_left, outcome_may, outcome_migrated, outcome_spares}
 use Rattle.store_migration.specs.Spared.{SparesOthers}
-use Rattle.store_migration.proofs.OtherLemmas.{others_moved}
 use Rattle.store_migration.proofs.migrating.migrate.Goals as goal
 
 pub migrate_from-requires-clause-old : goal.migrate_from-requires-clause-old
@@ -25,35 +21,17 @@ migrate_from-requires-clause-old g c clean open' =
 
 pub returns-clause-rests : goal.returns-clause-rests
 returns-clause-rests g c clean =
-    let old = state g.S.Store c.args.conn.now in
-    let new = state g.S.Store c.migrate_from.new.conn in
-    let summary = summary_shown c.args.summary.now in
-    let clean0 : HasCleanDisk old = omega (arith, c.migrate_from.ensures.crash.clean, clean) in
+    let start = c.requires.holds (was_clean c.migrate_from.ensures.crash clean) in
     on_ok_weaker c.migrate_from.result
     (λ made M held.
-    let opened = made.holds.was_open in
-    let it = c.requires.holds clean0 opened in
-    record {
-      is_open = made.is_open;
-      settled = made.settled;
-      holds = outcome_holds c.args.version c.older_layout.result c.older_layout.ensures old it.0 it.1 (c.is_live.ensures opened).0 c.deref.result.now c.args.summary.now.installs
-          (c.deref.ensures.value ∙ (c.in-Ok.ensures.same ∙ summary_numbers it.0 summary it.2)) (summary_installs it.0 summary it.2) new.committed made.holds M held;
-    })
+    let numbers = c.deref.ensures.value ∙ c.in-Ok.ensures.same in
+    record { is_open = made.is_open; settled = made.settled; holds = outcome_holds c.older_layout.ensures start c.is_live.ensures numbers _ made.holds M held })
     (c.migrate_from.ensures.made clean)
 
 pub returns-clause-migrated : goal.returns-clause-migrated
 returns-clause-migrated g c clean =
-    let old = state g.S.Store c.args.conn.now in
-    let new = state g.S.Store c.migrate_from.new.conn in
-    let summary = summary_shown c.args.summary.now in
-    let clean0 : HasCleanDisk old = omega (arith, c.migrate_from.ensures.crash.clean, clean) in
-    on_ok_weaker c.migrate_from.result
-    (λ made.
-    let opened = made.holds.was_open in
-    let it = c.requires.holds clean0 opened in
-    outcome_migrated c.args.version c.older_layout.result c.older_layout.ensures old it.0 it.1 (c.is_live.ensures opened).0 c.deref.result.now c.args.summary.now.installs
-    (c.deref.ensures.value ∙ (c.in-Ok.ensures.same ∙ summary_numbers it.0 summary it.2)) (summary_installs it.0 summary it.2) new.committed made.holds)
-    (c.migrate_from.ensures.made clean)
+    let start = c.requires.holds (was_clean c.migrate_from.ensures.crash clean) in
+    on_ok_weaker c.migrate_from.result (λ made. outcome_migrated c.older_layout.ensures start c.is_live.ensures (c.deref.ensures.value ∙ c.in-Ok.ensures.same) _ made.holds) (c.migrate_from.ensures.made clean)
 
 pub returns-clause-moved : goal.returns-clause-moved
 returns-clause-moved g c clean =
@@ -61,73 +39,40 @@ returns-clause-moved g c clean =
     let new = state g.S.Store c.migrate_from.new.conn in
     let older = c.older_layout.result in
     let installs = c.args.summary.now.installs in
-    let clean0 : HasCleanDisk old = omega (arith, c.migrate_from.ensures.crash.clean, clean) in
+    let start = c.requires.holds (was_clean c.migrate_from.ensures.crash clean) in
     on_ok_weaker c.migrate_from.result
     (λ made.
-    let it = c.requires.holds clean0 made.holds.was_open in
-    let committed : IsMoved older c.deref.result.now installs old.committed new.committed = subst (λ (d : Database). IsMoved older c.deref.result.now installs d new.committed) it.1.settled made.holds.moved in
+    let committed = subst (λ (d : Database). IsMoved older c.deref.result.now installs d new.committed) (start made.holds.was_open).1.settled made.holds.moved in
     (older, c.older_layout.ensures, subst (λ ns. IsMoved older ns installs old.committed new.committed) (c.deref.ensures.value ∙ c.in-Ok.ensures.same) committed))
     (c.migrate_from.ensures.made clean)
 
 pub returns-clause-spares : goal.returns-clause-spares
 returns-clause-spares g c clean =
-    let old = state g.S.Store c.args.conn.now in
-    let new = state g.S.Store c.migrate_from.new.conn in
-    let clean0 : HasCleanDisk old = omega (arith, c.migrate_from.ensures.crash.clean, clean) in
-    on_ok_weaker c.migrate_from.result
-    (λ made.
-    let opened = made.holds.was_open in
-    let it = c.requires.holds clean0 opened in
-    let its = is_old c.args.version c.older_layout.result c.older_layout.ensures old it.0 it.1 (c.is_live.ensures opened).0 in
-    subst (λ (d : Database). SparesOthers d new.committed) it.1.settled (others_moved c.older_layout.result c.deref.result.now c.args.summary.now.installs old.now new.committed its made.holds.moved))
-    (c.migrate_from.ensures.made clean)
+    let start = c.requires.holds (was_clean c.migrate_from.ensures.crash clean) in
+    on_ok_weaker c.migrate_from.result (λ made. outcome_spares c.older_layout.ensures start c.is_live.ensures (c.deref.ensures.value ∙ c.in-Ok.ensures.same) _ made.holds) (c.migrate_from.ensures.made clean)
 
 pub returns-clause-only : goal.returns-clause-only
 returns-clause-only g c clean =
-    let old = state g.S.Store c.args.conn.now in
-    let summary = summary_shown c.args.summary.now in
-    let clean0 : HasCleanDisk old = omega (arith, c.migrate_from.ensures.crash.clean, clean) in
+    let start = c.requires.holds (was_clean c.migrate_from.ensures.crash clean) in
     on_ok_weaker c.migrate_from.result
-    (λ made M held trees left.
-    let opened = made.holds.was_open in
-    let it = c.requires.holds clean0 opened in
-    outcome_left c.args.version c.older_layout.result c.older_layout.ensures old it.0 it.1 (c.is_live.ensures opened).0 c.deref.result.now c.args.summary.now.installs
-    (c.deref.ensures.value ∙ (c.in-Ok.ensures.same ∙ summary_numbers it.0 summary it.2)) (summary_installs it.0 summary it.2) trees (made.only trees left) M held)
+    (λ made M held trees left. outcome_left c.older_layout.ensures start c.is_live.ensures (c.deref.ensures.value ∙ c.in-Ok.ensures.same) trees (made.only trees left) M held)
     (c.migrate_from.ensures.made clean)
 
 pub returns-clause-crash : goal.returns-clause-crash
 returns-clause-crash g c =
-    let old = state g.S.Store c.args.conn.now in
-    let new = state g.S.Store c.migrate_from.new.conn in
-    let summary = summary_shown c.args.summary.now in
-    survives_weaker old new (IsTreesOf (IsOutcome c.older_layout.result c.deref.result.now c.args.summary.now.installs old)) (MayMigrate old)
+    survives_weaker _ _ _ (MayMigrate (state g.S.Store c.args.conn.now))
     (λ clean trees left.
-    let clean0 : HasCleanDisk old = omega (arith, c.migrate_from.ensures.crash.clean, clean) in
-    let opened = left.3.was_open in
-    let it = c.requires.holds clean0 opened in
-    outcome_may c.args.version c.older_layout.result c.older_layout.ensures old it.0 it.1 (c.is_live.ensures opened).0 c.deref.result.now c.args.summary.now.installs
-    (c.deref.ensures.value ∙ (c.in-Ok.ensures.same ∙ summary_numbers it.0 summary it.2)) (summary_installs it.0 summary it.2) c.requires.older.0 c.requires.older.1 trees left)
+    let start = c.requires.holds (was_clean c.migrate_from.ensures.crash clean) in
+    outcome_may c.older_layout.ensures start c.is_live.ensures (c.deref.ensures.value ∙ c.in-Ok.ensures.same) c.requires.older.0 c.requires.older.1 trees left)
     c.migrate_from.ensures.crash
 
 pub returns-clause-beside : goal.returns-clause-beside
 returns-clause-beside g c =
     let old = state g.S.Store c.args.conn.now in
-    let new = state g.S.Store c.migrate_from.new.conn in
-    survives_weaker old new (IsTreesOf (IsOutcome c.older_layout.result c.deref.result.now c.args.summary.now.installs old)) (λ trees. IsTrue old.is_open × IsTreesOf (SparesOthers old.committed) trees)
+    survives_weaker _ _ _ (λ trees. IsTrue old.is_open × IsTreesOf (SparesOthers old.committed) trees)
     (λ clean trees left.
-    let clean0 : HasCleanDisk old = omega (arith, c.migrate_from.ensures.crash.clean, clean) in
-    let opened = left.3.was_open in
-    let it = c.requires.holds clean0 opened in
-    let its = is_old c.args.version c.older_layout.result c.older_layout.ensures old it.0 it.1 (c.is_live.ensures opened).0 in (
-      opened,
-      (
-        left.0,
-        left.1,
-        left.2,
-        subst (λ (d : Database). SparesOthers d left.0) it.1.settled
-            (others_moved c.older_layout.result c.deref.result.now c.args.summary.now.installs old.now left.0 its left.3.moved),
-      ),
-    ))
+    let start = c.requires.holds (was_clean c.migrate_from.ensures.crash clean) in
+    (left.3.was_open, (left.0, left.1, left.2, outcome_spares c.older_layout.ensures start c.is_live.ensures (c.deref.ensures.value ∙ c.in-Ok.ensures.same) left.0 left.3)))
     c.migrate_from.ensures.crash
 
 pub returns-in-Err-clause-failed : goal.returns-in-Err-clause-failed
@@ -140,32 +85,21 @@ each_err (Err e) P Q f h = f e h
 
 pub returns-clause-failed : goal.returns-clause-failed
 returns-clause-failed g c clean =
-    let old = state g.S.Store c.args.conn.now in
     let new = c.migrate_from.new.conn in
-    let summary = summary_shown c.args.summary.now in
     let older = c.older_layout.result in
     let installs = c.args.summary.now.installs in
-    let clean0 : HasCleanDisk old = omega (arith, c.migrate_from.ensures.crash.clean, clean) in
+    let start = c.requires.holds (was_clean c.migrate_from.ensures.crash clean) in
     let numbers = c.deref.ensures.value ∙ c.in-Ok.ensures.same in
-    each_err c.migrate_from.result (MigrationFailsToEnd g.S.Store (InMove older c.deref.result.now installs) (IsOutcome older c.deref.result.now installs old) c.args.conn.now new)
-    (FailsToMigrate g.S.Store c.args.version summary c.args.conn.now new)
+    each_err c.migrate_from.result (MigrationFailsToEnd g.S.Store (InMove older c.deref.result.now installs) (IsOutcome older c.deref.result.now installs (state g.S.Store c.args.conn.now)) c.args.conn.now new)
+    (FailsToMigrate g.S.Store c.args.version (summary_shown c.args.summary.now) c.args.conn.now new)
     (λ fault h. inr (record {
       older = older;
       layout = c.older_layout.ensures;
       why = elim h [
         | inl before ↦ inl (subst (λ (l : List ℤ). MigrationFailsBefore g.S.Store (InMove older l installs) c.args.conn.now new fault) numbers before)
         | inr last ↦
-            let opened = last.written.was_open in
-            let it = c.requires.holds clean0 opened in
-            inr (record {
-              told = last.told;
-              last = last.last;
-              before = last.before;
-              written = outcome_holds c.args.version older c.older_layout.ensures old it.0 it.1 (c.is_live.ensures opened).0 c.deref.result.now installs
-                  (numbers ∙ summary_numbers it.0 summary it.2) (summary_installs it.0 summary it.2) (state g.S.Store last.last).now last.written;
-              error = last.error;
-              fails = last.fails;
-            })
+            let written = outcome_holds c.older_layout.ensures start c.is_live.ensures numbers _ last.written in
+            inr (record { told = last.told; last = last.last; before = last.before; written = written; error = last.error; fails = last.fails })
       ];
     }))
     (c.migrate_from.ensures.failed clean)
@@ -176,7 +110,4 @@ either_way (Err e) P Q A f h p q = h q
 
 pub returns-clause-lives : goal.returns-clause-lives
 returns-clause-lives g c clean opened =
-    let old = state g.S.Store c.args.conn.now in
-    let new = state g.S.Store c.migrate_from.new.conn in
-    either_way c.migrate_from.result (IsCommitted (IsOutcome c.older_layout.result c.deref.result.now c.args.summary.now.installs old) new) (StaysCommitted old new) (IsTrue old.is_open)
-    (λ made. made.holds.was_open) (λ stays. stays.was_open opened) (c.migrate_from.ensures.made clean) (c.migrate_from.ensures.stays clean)
+    either_way c.migrate_from.result _ _ _ (λ made. made.holds.was_open) (λ stays. stays.was_open opened) (c.migrate_from.ensures.made clean) (c.migrate_from.ensures.stays clean)
