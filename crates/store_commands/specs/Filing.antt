@@ -112,8 +112,8 @@ IsTaking number statements = ((from : ℤ) × (statements ≡ taking_from number
 
 -- these are a part of a filing: some parts of its files are added, from the first on that isn't filed; or some of an edition that goes
 -- are taken out
-abbrev pub IsPartOf : Filing → List Statement → Type 0
-IsPartOf f statements =
+abbrev pub AreOfNextPart : Filing → List Statement → Type 0
+AreOfNextPart f statements =
     ((to : ℕ) × (statements ≡ map adding_part (slice_range (parts_of_filing f) f.parts_filed to)))
     ⊎ ((number : ℕ) × (is_gone f.gone.items (pos number) ≡ true) × IsTaking number statements)
 
@@ -132,4 +132,4 @@ module _ {S : Type 0} (g : Ghosts S) where
   abbrev pub FailsToFile : ℕ → Filing → Held S → Held S → Option Fault → Type 0
   FailsToFile next f old new why =
       ((why ≡ None) × (f.number ≢ next))
-      ⊎ ((begun : Filing) × HasSameRows f begun × ((begun ≡ f) ⊎ HasNoneFiled begun) × (statements : List Statement) × IsPartOf begun statements × FailsInside fault_filed statements old new why)
+      ⊎ ((begun : Filing) × HasSameRows f begun × ((begun ≡ f) ⊎ HasNoneFiled begun) × (statements : List Statement) × AreOfNextPart begun statements × FailsInside fault_filed statements old new why)

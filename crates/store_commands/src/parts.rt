@@ -9,7 +9,7 @@ ghost use Rattle.store_rows.specs.After.{is_gone};
 ghost use Rattle.store_commands.specs.KeptRecords.{IsUsable, FitsColumn, AreStorable};
 ghost use Rattle.store_commands.specs.Committed.{IsOfStore};
 ghost use Rattle.store_commands.specs.Writes.{CommitsNothing};
-ghost use Rattle.store_commands.specs.Filing.{parts_of_files, parts_of_filing, IsDrawnUp, AreAllPartsFiled, HasNoneFiled, HasSameRows, rested, IsUnderway, fault_filed, FailsToFile, IsPartOf, IsTaking};
+ghost use Rattle.store_commands.specs.Filing.{parts_of_files, parts_of_filing, IsDrawnUp, AreAllPartsFiled, HasNoneFiled, HasSameRows, rested, IsUnderway, fault_filed, FailsToFile, AreOfNextPart, IsTaking};
 ghost use Rattle.store_commands.specs.FiledParts.{Files, Trims, FailsAmong};
 
 use crate::editions::LAST_PARTS;
@@ -97,7 +97,7 @@ fn file_parts<S: Alter, T: OpenTransaction<S>>(tx: &mut T, filing: &Filing) -> R
     requires usable { WhileOpen (state S.Store (T.held tx.old)) IsUsable }
     ensures same_reference { T.reference tx.new ≡ T.reference tx.old }
     ensures files { IfOk result (λ to. Files S.Store filing.now (record filing.now { parts_filed = to }) (T.held tx.old) (T.held tx.new)) }
-    ensures failed { IfErr result (FailsAmong S.Store (IsPartOf filing.now) (T.held tx.old) (T.held tx.new)) }
+    ensures failed { IfErr result (FailsAmong S.Store (AreOfNextPart filing.now) (T.held tx.old) (T.held tx.new)) }
     ensures spares { CommitsNothing S.Store (T.held tx.old) (T.held tx.new) }
 {
     let files = filing.files();
@@ -124,7 +124,7 @@ fn next_part<S: Alter, T: OpenTransaction<S>>(tx: &mut T, filing: &mut Filing) -
     ensures same_reference { T.reference tx.new ≡ T.reference tx.old }
     ensures rows { HasSameRows filing.old filing.new }
     ensures files { OnOk result (Files S.Store filing.old filing.new (T.held tx.old) (T.held tx.new)) }
-    ensures failed { IfErr result (FailsAmong S.Store (IsPartOf filing.old) (T.held tx.old) (T.held tx.new)) }
+    ensures failed { IfErr result (FailsAmong S.Store (AreOfNextPart filing.old) (T.held tx.old) (T.held tx.new)) }
     ensures spares { CommitsNothing S.Store (T.held tx.old) (T.held tx.new) }
 {
     if let Some(number) = next_gone(filing) {

@@ -14,7 +14,7 @@ use Rattle.dict_catalogue.specs.declared.fault.CommandRefusal.{CommandRefusal}
 use Rattle.dict_desk.specs.AllApplied.{AreApplied}
 use Rattle.dict_desk.specs.declared.fault.Fault.{Fault}
 use Rattle.dict_desk.proofs.AllLemmas.{applied_one_more, after_one_more}
-use Rattle.store_fixtures.specs.Asked.{AreAccepted, AreReadOf, StopsAt, command_asked, request_asked, requests_asked}
+use Rattle.store_fixtures.specs.Asked.{AreAccepted, AreReadOf, FailsBehind, command_asked, request_asked, requests_asked}
 use Rattle.store_fixtures.specs.declared.asked.Asked.{Asked}
 
 abbrev Files : Type 0
@@ -55,7 +55,7 @@ module _ (editions : List ReadEdition) (asked : List (Bor (List ℕ) × Asked)) 
   -- or by a fault
   pub stopped_behind : {K : Type 0} (applies : K → CommandRequest → Result Kept Fault → K → Type 0) (old between new : K) (answer : Result Kept Fault) (fault : Fault) → answer ≡ Err fault
       → AreAccepted applies old (requests_asked editions (take i asked)) between → applies between (record { id = (get_or asked i other).0.now; command = command }) answer new
-      → StopsAt applies old (requests_asked editions asked) fault new
+      → FailsBehind applies old (requests_asked editions asked) fault new
   stopped_behind applies old between new answer fault is front last =
       let one = request_asked editions (get_or asked i other) in
       let parts : asked ≡ take i asked ++ get_or asked i other ∷ drop (i + 1) asked = sym (take-append-drop i asked) ∙ ap (λ back. take i asked ++ back) (drop_more asked i other below) in

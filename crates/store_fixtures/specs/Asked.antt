@@ -16,25 +16,25 @@ use Rattle.store_fixtures.specs.declared.asked.Source.{Source}
 use Rattle.store_fixtures.specs.declared.asked.Source.TheVariants.{Gems, Ores, Words, More, Alike}
 
 -- the place of an edition among all, from 0
-abbrev pub place_of : Source → ℕ
-place_of Gems = 0
-place_of Ores = 1
-place_of Words = 2
-place_of More = 3
-place_of Alike = 4
+abbrev pub source_place : Source → ℕ
+source_place Gems = 0
+source_place Ores = 1
+source_place Words = 2
+source_place More = 3
+source_place Alike = 4
 
 -- each of these editions was read of its own index and its text, in this order
 pub record AreReadOf (sources : List (List ℕ × List ℕ)) (editions : List ReadEdition) : Type 0 where
   pub each : AllZip (λ source edition. IsReadEdition source.0 source.1 edition) sources editions
 
 -- the edition is installed under this name; where there is none, the item of no name is taken out, which no catalogue has
-abbrev pub installed : List ℕ → Option ReadEdition → Command Edition
-installed name (Some reading) = install name (edition_of reading)
-installed name None = retire []
+abbrev pub install_asked : List ℕ → Option ReadEdition → Command Edition
+install_asked name (Some reading) = install name (edition_of reading)
+install_asked name None = retire []
 
 -- the command, where these are the editions
 abbrev pub command_asked : List ReadEdition → Asked → Command Edition
-command_asked editions (Install name source) = installed name.now (slice_get editions (place_of source))
+command_asked editions (Install name source) = install_asked name.now (slice_get editions (source_place source))
 command_asked editions (Rollback name) = rollback name.now
 command_asked editions (Retire name) = retire name.now
 command_asked editions (Put name title members) = put_virtual name.now title.now (names_shown members.now)
@@ -53,7 +53,7 @@ module _ {K : Type 0} (applies : K → CommandRequest → Result Kept Fault → 
   AreAccepted old requests new = (replies : List Kept) × AreApplied applies old requests (map Ok replies) new
 
   -- those before one of them were, and that one was answered by this fault
-  pub record StopsAt (old : K) (requests : List CommandRequest) (fault : Fault) (new : K) : Type 0 where
+  pub record FailsBehind (old : K) (requests : List CommandRequest) (fault : Fault) (new : K) : Type 0 where
     pub front : List CommandRequest
     pub request : CommandRequest
     pub rest : List CommandRequest

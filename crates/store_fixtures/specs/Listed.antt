@@ -10,18 +10,18 @@ member_text member = codes " +" ++ member
 abbrev pub members_text : List (List ℕ) → List ℕ
 members_text members = flat_map member_text members
 
-abbrev pub former_text : Option (Stored (List ℕ)) → List ℕ
-former_text None = []
-former_text (Some former) = codes "/" ++ decimal former.number
+abbrev pub former_listed : Option (Stored (List ℕ)) → List ℕ
+former_listed None = []
+former_listed (Some former) = codes "/" ++ decimal former.number
 
 -- the numbers of the editions, or the members
 abbrev pub content_text : Item (List ℕ) → List ℕ
-content_text (regular name current former) = (codes " " ++ decimal current.number) ++ former_text former
+content_text (regular name current former) = (codes " " ++ decimal current.number) ++ former_listed former
 content_text (virtual name title members) = members_text members
 
 -- name, title, and those
-abbrev pub item_text : Item (List ℕ) → List ℕ
-item_text item = name_of item ++ (codes " " ++ (title_of item ++ (content_text item ++ codes "; ")))
+abbrev pub item_listed : Item (List ℕ) → List ℕ
+item_listed item = name_of item ++ (codes " " ++ (title_of item ++ (content_text item ++ codes "; ")))
 
 abbrev pub items_text : List (Item (List ℕ)) → List ℕ
-items_text items = flat_map item_text items
+items_text items = flat_map item_listed items

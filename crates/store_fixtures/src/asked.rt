@@ -5,7 +5,7 @@ ghost use Rattle.dict_catalogue.specs.Views.{command_meant};
 ghost use Rattle.dict_catalogue.specs.Refusals.{command_refusal_number};
 ghost use Rattle.dict_desk.specs.Faults.{fault_number};
 ghost use Rattle.dict_desk.specs.Requests.{requests_meant};
-ghost use Rattle.store_fixtures.specs.Asked.{AreReadOf, command_asked, place_of, requests_asked};
+ghost use Rattle.store_fixtures.specs.Asked.{AreReadOf, command_asked, requests_asked, source_place};
 
 use dict_catalogue::{Command, CommandRefusal, Kept};
 use dict_desk::Fault;
@@ -75,7 +75,7 @@ pub enum Asked {
 
 impl Source {
     fn place(self) -> usize
-        ensures { result ≡ place_of self }
+        ensures { result ≡ source_place self }
     {
         match self {
             Source::Gems => 0,
@@ -88,7 +88,7 @@ impl Source {
 
     /// The index and the text. None of a source that isn't listed, which there is none of.
     pub fn files(self) -> Option<(&'static [u8], &'static [u8])>
-        ensures { IsSomeAnd result (λ files. IsSomeAnd (slice_get SOURCES (place_of self)) (λ source. (files.0.now ≡ source.0.now) × (files.1.now ≡ source.1.now))) }
+        ensures { IsSomeAnd result (λ files. IsSomeAnd (slice_get SOURCES (source_place self)) (λ source. (files.0.now ≡ source.0.now) × (files.1.now ≡ source.1.now))) }
     {
         SOURCES.get(self.place()).copied()
     }

@@ -12,7 +12,7 @@ ghost use Rattle.store_migration.specs.Spared.{SparesOthers};
 ghost use Rattle.store_desk.specs.Adopted.{IsAdopted, IsNotAdopted};
 ghost use Rattle.store_desk.specs.Desk.{LeavesOneOf, Shows};
 ghost use Rattle.store_desk.specs.Prepared.{Undoes};
-ghost use Rattle.store_fixtures.specs.Asked.{AreAccepted, StopsAt, requests_asked};
+ghost use Rattle.store_fixtures.specs.Asked.{AreAccepted, FailsBehind, requests_asked};
 ghost use Rattle.store_fixtures.specs.Batched.{ExecutedInTurn};
 
 use crate::asked::{Asked, Editions};
@@ -84,7 +84,7 @@ pub fn accept_all<K: Keeper>(
     asked: &[(&'static str, Asked)],
 ) -> Result<(), Fault>
     ensures applied { OnOk result (AreAccepted K.applies desk.old (requests_asked editions.now.all.items asked.now) desk.new) }
-    ensures stopped { IfErr result (λ fault. StopsAt K.applies desk.old (requests_asked editions.now.all.items asked.now) fault desk.new) }
+    ensures stopped { IfErr result (λ fault. FailsBehind K.applies desk.old (requests_asked editions.now.all.items asked.now) fault desk.new) }
     ensures shows { K.is_trusted desk.new → (M : Catalogue) → K.shows desk.old M → OnOk result (K.shows desk.new (after M (requests_asked editions.now.all.items asked.now))) }
     ensures trust { K.is_trusted desk.new → K.is_trusted desk.old }
     ensures beside { (beside : K.Beside) → K.keeps_beside desk.old beside → K.keeps_beside desk.new beside }

@@ -3,7 +3,7 @@
 ghost use Rattle.std.specs.Prelude.{◌≡◌, ◌++◌, [], List, Option, IfOk, OnOk, decimal, string_bytes};
 ghost use Rattle.dict_catalogue.specs.Steps.{Catalogue};
 ghost use Rattle.dict_catalogue.specs.Views.{item_shown, summary_shown, texts_shown};
-ghost use Rattle.store_fixtures.specs.Listed.{content_text, item_text, items_text, members_text};
+ghost use Rattle.store_fixtures.specs.Listed.{content_text, item_listed, items_text, members_text};
 
 use crate::asked::told_reply;
 use dict_catalogue::{Item, Summary, edition_numbers};
@@ -105,7 +105,7 @@ fn push_content(alloc: Global, text: &mut String, item: &Item) -> Result<(), All
 }
 
 fn push_item(alloc: Global, text: &mut String, item: &Item) -> Result<(), AllocError>
-    ensures { OnOk result (string_bytes text.new ≡ string_bytes text.old ++ item_text (item_shown item.now)) }
+    ensures { OnOk result (string_bytes text.new ≡ string_bytes text.old ++ item_listed (item_shown item.now)) }
 {
     text.push_str(item.name())?;
     text.push_str(" ")?;

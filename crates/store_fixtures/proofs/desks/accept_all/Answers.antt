@@ -2,7 +2,7 @@ use Rattle.std.specs.Prelude.{Err, IfErr}
 use Rattle.std.proofs.lemmas.Result.{err_from_is_err_and}
 use Rattle.store_fixtures.proofs.AskedLemmas.{accepted_one_more, shown_one_more, stopped_behind}
 use Rattle.dict_catalogue.specs.Steps.{after}
-use Rattle.store_fixtures.specs.Asked.{StopsAt, requests_asked}
+use Rattle.store_fixtures.specs.Asked.{FailsBehind, requests_asked}
 use Rattle.std.proofs.Common.{◌≡◌, ◌∙◌, ap, sym, subst, take}
 use Rattle.store_fixtures.proofs.desks.accept_all.Goals as goal
 
@@ -25,5 +25,5 @@ returns-in_err-_kept-clause-stopped g c =
     let asked = c.args.asked.now in
     let told = err_from_is_err_and c.from_residual.result c.from_residual.ensures.1 in
     let was : c.apply.result ≡ Err told.0 = c.in_err-_kept.was ∙ ap (λ e. Err e) (sym told.2) in
-    subst (λ r. IfErr r (λ fault. StopsAt g.K.Keeper.applies c.args.desk.now (requests_asked editions asked) fault c.apply.new.self)) (sym told.1)
+    subst (λ r. IfErr r (λ fault. FailsBehind g.K.Keeper.applies c.args.desk.now (requests_asked editions asked) fault c.apply.new.self)) (sym told.1)
     (stopped_behind editions asked c.loop-id.id-index _ _ c.loop-id-test.true c.command.ensures g.K.Keeper.applies _ _ _ _ told.0 was c.loop-id.invariant.applied c.apply.ensures.applied)
