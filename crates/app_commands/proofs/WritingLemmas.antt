@@ -108,7 +108,7 @@ module _ {K D : Type 0} (k : lookup.Ghosts K) (d : desks.Ghosts D K) where
         → IsUntouched writer
     serves_refused path dict http rounds fault writer e h = elim (serves_spoils path dict http rounds fault writer h) [
       | inl spoils ↦ spoils_not_3 fault writer (λ f. omega (arith, e, f)) spoils
-      | inr served ↦ absurd (ends_not_1 k.is_closed (WasShutBy k d new) (IsNotReopened k.leaves_one_of d.is_unreopened d.still_leaves new path) served.1.stretches served.1.last fault served.1.ends e)
+      | inr served ↦ absurd (ends_not_1 k.is_closed (WasShutBy k d new) (IsNotReopened k.leaves_one_of d.is_unreopened d.still_leaves d.still_keeps new path) served.1.stretches served.1.last fault served.1.ends e)
     ]
 
     -- memory ran out before anything was written, or in the server

@@ -36,7 +36,7 @@ TellsSound (Ok _) (Ok _) result writer = Prints (codes "sound\n") result writer
 module _ {K D : Type 0} (k : lookup.Ghosts K) (d : desks.Ghosts D K) where
   -- a desk was closed
   abbrev pub IsShutBy : K → Result (Unit {0}) ProgramFault → D → Type 0
-  IsShutBy = IsShut k.shows k.leaves_one_of k.is_trusted d.is_safe d.holds_alone d.still_leaves d.is_uncopied
+  IsShutBy = IsShut k.shows k.leaves_one_of k.is_trusted d.is_safe d.holds_alone d.still_leaves d.still_keeps d.is_uncopied
 
   -- a desk was opened, and answers
   abbrev pub IsAnswering : K → Type 0
@@ -73,7 +73,7 @@ module _ {K D : Type 0} (k : lookup.Ghosts K) (d : desks.Ghosts D K) where
       → StreamChange → Type 0
   ServesOn n expects prepares path dict http rounds old new result writer =
       (kept : Option Driver) × ServeEnds k.shows k.leaves_one_of k.keeps_beside k.is_trusted d.is_opened k.has_failed k.is_closed expects prepares (Begins n) (λ path. d.is_unopened path old new) (WasShutBy k d new)
-      (IsNotReopened k.leaves_one_of d.is_unreopened d.still_leaves new) (d.history old) (d.history new) path dict http rounds result writer kept
+      (IsNotReopened k.leaves_one_of d.is_unreopened d.still_leaves d.still_keeps new) (d.history old) (d.history new) path dict http rounds result writer kept
 
   module _ (c : catalogues.Ghosts D K) where
     -- the file that was closed holds alone a catalogue that the desk showed: this is told where it returned what was written to it

@@ -48,6 +48,6 @@ pub trait Catalogues<K: Keeper>: DeskOpener<K> {
     ) -> Result<(), ProgramFault<'w>>
         ensures spoken { (left : Option K) × has_spoken path.entry.now left self.old self.new result (change S.stream reader.old reader.new) (change W.stream writer.old writer.new)
             × Does (Self.history self.old) (Self.history self.new) (Speaks path.entry.now left ∷ [])
-            × MatchOption left ⊤ (λ desk. (closed : Result (Unit {0}) PrintedFault) × IsShut K.shows K.leaves_one_of K.is_trusted Self.is_safe Self.holds_alone Self.still_leaves Self.is_uncopied desk closed self.new) }
+            × MatchOption left ⊤ (λ desk. (closed : Result (Unit {0}) PrintedFault) × IsShut K.shows K.leaves_one_of K.is_trusted Self.is_safe Self.holds_alone Self.still_leaves Self.still_keeps Self.is_uncopied desk closed self.new) }
         ensures spared { IsSpared result (change S.stream reader.old reader.new) (change W.stream writer.old writer.new) };
 }

@@ -1,5 +1,5 @@
 // What finds entries in a catalogue.
-ghost use Rattle.std.specs.Prelude.{◌≡◌, ◌↔◌, Bool, true, false, ◌||◌, List, Option, Contains, IsOk, IfOk, IfErr, Err};
+ghost use Rattle.std.specs.Prelude.{◌≡◌, ◌↔◌, ℕ, Bool, true, false, ◌||◌, List, Option, Contains, IsOk, IfOk, IfErr, Ok, Err};
 ghost use Rattle.dict_index.specs.Edition.{Edition};
 ghost use Rattle.dict_catalogue.specs.Steps.{Catalogue, summary_of};
 ghost use Rattle.dict_catalogue.specs.Views.{summary_shown};
@@ -52,6 +52,9 @@ pub trait Lookup {
     // What it stands on has returned what was written to it.
     ghost is_trusted: { Self → Type 0 };
 
+    // Between two of its states it has counted so many looks at least: at entries, and at what was read of its store.
+    ghost looks_at: { Self → Self → ℕ → Type 0 };
+
     // Its store failed, and it answers no more.
     ghost is_closed: { Self → Bool };
 
@@ -70,6 +73,7 @@ pub trait Lookup {
     /// Hands one row to the sink, which shows nothing: what the edition's database says of itself.
     fn info<T: RowSink>(&mut self, number: u64, sink: &mut T) -> Result<End, Fault>
         ensures value { is_trusted self.new → (M : Catalogue) (edition : Edition) → shows self.old M → HasEdition M number edition → Hands T.takes T.stops sink.old sink.new (info_rows edition) result }
+        ensures looks { is_trusted self.new → (M : Catalogue) (edition : Edition) → shows self.old M → HasEdition M number edition → result ≡ Ok End.All → looks_at self.old self.new 1 }
         ensures handed { (rows : List Row) × Hands T.takes T.stops sink.old sink.new rows result }
         ensures trust { is_trusted self.new → is_trusted self.old }
         ensures beside { (beside : Beside) → keeps_beside self.old beside → keeps_beside self.new beside }
@@ -90,6 +94,7 @@ pub trait Lookup {
         what: What,
     ) -> Result<u64, Fault>
         ensures value { is_trusted self.new → (M : Catalogue) (edition : Edition) → shows self.old M → HasEdition M number edition → IfOk result (λ count. count ≡ count_of what strategy query.now edition) }
+        ensures looks { is_trusted self.new → (M : Catalogue) (edition : Edition) → shows self.old M → HasEdition M number edition → (count : ℕ) → result ≡ Ok count → looks_at self.old self.new (count_of What.Entries strategy query.now edition) }
         ensures trust { is_trusted self.new → is_trusted self.old }
         ensures beside { (beside : Beside) → keeps_beside self.old beside → keeps_beside self.new beside }
         ensures shows { is_trusted self.new → (M : Catalogue) → shows self.old M → shows self.new M }
@@ -110,6 +115,7 @@ pub trait Lookup {
         sink: &mut T,
     ) -> Result<End, Fault>
         ensures value { is_trusted self.new → (M : Catalogue) (edition : Edition) → shows self.old M → HasEdition M number edition → Hands T.takes T.stops sink.old sink.new (found_rows strategy query.now edition) result }
+        ensures looks { is_trusted self.new → (M : Catalogue) (edition : Edition) → shows self.old M → HasEdition M number edition → result ≡ Ok End.All → looks_at self.old self.new (count_of What.Entries strategy query.now edition) }
         ensures handed { (rows : List Row) × Hands T.takes T.stops sink.old sink.new rows result }
         ensures trust { is_trusted self.new → is_trusted self.old }
         ensures beside { (beside : Beside) → keeps_beside self.old beside → keeps_beside self.new beside }
@@ -131,6 +137,7 @@ pub trait Lookup {
         sink: &mut T,
     ) -> Result<End, Fault>
         ensures value { is_trusted self.new → (M : Catalogue) (edition : Edition) → shows self.old M → HasEdition M number edition → Hands T.takes T.stops sink.old sink.new (headword_rows strategy query.now edition) result }
+        ensures looks { is_trusted self.new → (M : Catalogue) (edition : Edition) → shows self.old M → HasEdition M number edition → result ≡ Ok End.All → looks_at self.old self.new (count_of What.Entries strategy query.now edition) }
         ensures handed { (rows : List Row) × Hands T.takes T.stops sink.old sink.new rows result }
         ensures trust { is_trusted self.new → is_trusted self.old }
         ensures beside { (beside : Beside) → keeps_beside self.old beside → keeps_beside self.new beside }

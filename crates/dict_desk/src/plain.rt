@@ -274,6 +274,8 @@ impl Lookup for PlainDesk {
 
     ghost is_trusted = { λ _. Unit {0} };
 
+    ghost looks_at = { λ _ _ _. Unit {0} };
+
     ghost is_closed = { λ _. false };
 
     ghost has_failed = { λ s. s.has_failed };

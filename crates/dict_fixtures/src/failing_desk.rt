@@ -87,6 +87,8 @@ impl Lookup for FailingDesk {
 
     ghost is_trusted = { λ _. Unit {0} };
 
+    ghost looks_at = { λ _ _ _. Unit {0} };
+
     ghost is_closed = { λ s. s.is_closed };
 
     ghost has_failed = { λ s. s.has_failed || s.is_closed };

@@ -120,6 +120,8 @@ impl Lookup for PartsDesk {
 
     ghost is_trusted = { λ _. Unit {0} };
 
+    ghost looks_at = { λ _ _ _. Unit {0} };
+
     ghost is_closed = { λ _. false };
 
     ghost has_failed = { λ s. s.desk.has_failed };

@@ -1,5 +1,6 @@
 -- The files of a catalogue: the connection that they are opened as, and what is left of it.
 use Rattle.std.specs.Prelude.{◌≡◌, true, List, Option, Some, None, Contains, ⊤}
+use Rattle.sqlite.specs.Effect.{Database}
 use Rattle.sqlite.specs.FileStore.{view, files as files_in}
 use Rattle.sqlite.specs.Files.{IsBlankAs, IsClosed, IsCleanLeft, IsOpened, file_state, over_files}
 use Rattle.sqlite.specs.Held.{Held, IsNew}
@@ -15,9 +16,9 @@ use Rattle.dict_catalogue.specs.Steps.{Catalogue}
 use Rattle.dict_desk.specs.declared.fault.Fault.{Fault as DeskFault}
 use Rattle.app_words.specs.Faults.{told_of}
 use Rattle.app_words.specs.declared.fault.ProgramFault.{ProgramFault}
-use Rattle.store_desk.specs.Closed.{HoldsAlone, IsUncopied, StoreLeaves}
-use Rattle.store_desk.specs.Desk.{DeskState}
-use Rattle.store_desk.specs.Over.{ConnectionLeavesOneOf}
+use Rattle.store_desk.specs.Closed.{HoldTreesAlone, HoldsAlone, IsUncopied, StoreLeaves}
+use Rattle.store_desk.specs.Desk.{DeskState, HasBeside, IsOneOf, KeepsBeside}
+use Rattle.store_desk.specs.Over.{ConnectionKeepsBeside, ConnectionLeavesOneOf}
 use Rattle.store_desk.specs.Reopened.{IsLetGo}
 use Rattle.store_desk.specs.Unopened.{HandsBack}
 use Rattle.store_desk.specs.declared.reopening.Unopened.{Unopened}
@@ -70,9 +71,21 @@ module _ {D : Type 0} {g : disk.Ghosts D} where
   abbrev pub StillLeaves : DeskState (FileStore D g) → Option (Left D g) → List (Option Catalogue) → Type 0
   StillLeaves desk None ms = ⊥
   StillLeaves desk (Some (left.Closed files)) ms = (M : Catalogue) × Contains ms (Some M) × HoldsAlone g files M
-  StillLeaves desk (Some (left.Uncopied store)) ms = StoreLeaves store ms
-  StillLeaves desk (Some (left.Unopened rest)) ms = (files : Files D) × IsLetGo desk.conn files × HandsBack files ms rest
+  StillLeaves desk (Some (left.Uncopied store)) ms = StoreLeaves store (IsOneOf ms)
+  StillLeaves desk (Some (left.Unopened rest)) ms = (files : Files D) × IsLetGo desk.conn files × HandsBack files (IsOneOf ms) rest
   StillLeaves desk (Some (left.Kept conn)) ms = ConnectionLeavesOneOf over_files conn ms
+
+  -- and it has the tables of others that this database has, as they are there
+  abbrev pub StillKeeps : DeskState (FileStore D g) → Option (Left D g) → Database → Type 0
+  StillKeeps desk None db = ⊥
+  StillKeeps desk (Some (left.Closed files)) db = AreClean g files.log files.db → HoldTreesAlone g files (HasBeside db)
+  StillKeeps desk (Some (left.Uncopied store)) db = StoreLeaves store (HasBeside db)
+  StillKeeps desk (Some (left.Unopened rest)) db = (files : Files D) × IsLetGo desk.conn files × HandsBack files (HasBeside db) rest
+  StillKeeps desk (Some (left.Kept conn)) db = ConnectionKeepsBeside over_files conn db
+
+  -- so it is of whatever the desk kept beside its catalogue
+  abbrev pub KeepsWhatWasBeside : DeskState (FileStore D g) → Option (Left D g) → Type 0
+  KeepsWhatWasBeside desk held = (db : Database) → KeepsBeside over_files desk db → StillKeeps desk held db
 
   -- why the log of a desk wasn't copied, of the store that is left, as the program tells it
   abbrev pub IsToldUncopied : DeskState (FileStore D g) → Option (Left D g) → ProgramFault → Type 0

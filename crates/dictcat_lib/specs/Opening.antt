@@ -57,6 +57,7 @@ module _ {S : Type 0} (g : Ghosts S) where
     pub only : LeavesOneOf g desk (Some empty_catalogue ∷ [])
     pub others : HasCleanDisk (state g desk.conn) → SparesOthers (state g conn).now (state g desk.conn).now
     pub beside : Survives (state g (record conn { step_limit = None })) (state g desk.conn) (IsTreesOf (SparesOthers (state g conn).now))
+    pub keeps : (db : Database) → ConnectionKeepsBeside g conn db → KeepsBeside g desk db
 
   -- None was made: there is no place for it; or a part of its making failed, behind those before it, or its commit did. Only where the
   -- store failed may a stop leave the empty catalogue, beside the tables of others as they were.

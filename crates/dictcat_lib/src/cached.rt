@@ -25,15 +25,15 @@ const PAGE_SIZE: u64 = 4_096;
 // How many pages a cache has at least, as `sqlite` has it: 8 MB.
 const FEWEST_PAGES: usize = 2_000;
 
-// And at most: 64 MB. A cache is taken whole.
-const MOST_PAGES: usize = 16_384;
+// And at most: 79 MB, into which the file of the largest edition goes. A cache is taken whole.
+const MOST_PAGES: usize = 19_200;
 
 // How many pages a cache has, for a file of so many octets: as many as the file, within the bounds. Page n has the place n modulo that
 // number, and an opening goes through all pages again and again: two pages with one place drive each other out each time. Where more
 // than half of a file's pages would do so, it has the fewest.
 fn cache_pages(octets: u64) -> usize
     ensures least { 2000 ≤ result }
-    ensures most { result ≤ 16384 }
+    ensures most { result ≤ 19200 }
 {
     let pages = (octets / PAGE_SIZE) as usize;
     if pages > MOST_PAGES + MOST_PAGES / 3 {
@@ -45,7 +45,7 @@ fn cache_pages(octets: u64) -> usize
 // How the files at this path are opened: with a cache of the size that the file has now, and a random number for the log; none where
 // the system gives none.
 pub(crate) fn options(rt: &HostRuntime, path: &str) -> Option<Options>
-    ensures { IfSome result (λ it. (2000 ≤ it.cache_pages) × (it.cache_pages ≤ 16384)) }
+    ensures { IfSome result (λ it. (2000 ≤ it.cache_pages) × (it.cache_pages ≤ 19200)) }
 {
     let state = RandomState::new(rt).ok()?;
     let octets = match fs::metadata(rt, path) {

@@ -7,7 +7,7 @@ ghost use Rattle.store_desk.specs.Reopened.{IsReopened};
 ghost use Rattle.net_serving.specs.Serving.{Follows, IsNew, IsNone};
 ghost use Rattle.app_commands.specs.Catalogues.{IsMadeEmpty};
 ghost use Rattle.dictcat_lib.specs.DeskOpener.{IsDesk, IsMadeDesk, IsNoDeskAt, IsNoDeskAgain, IsTrusted, IsUnmade};
-ghost use Rattle.dictcat_lib.specs.Files.{StillLeaves};
+ghost use Rattle.dictcat_lib.specs.Files.{KeepsWhatWasBeside, StillLeaves};
 
 use crate::cached::options;
 use crate::left::{Left, connection_of, hold};
@@ -73,6 +73,7 @@ pub(crate) fn reopen_desk<'w, D: Disk + Drop>(
         (IsNone (IsNoDeskAgain file.entry.now desk held.new)) }
     ensures follows { IfOk result (Follows (Shows over_files) (LeavesOneOf over_files) (KeepsBeside over_files) IsTrusted desk) }
     ensures leaves { IfErr result (λ _. (ms : List (Option Catalogue)) → LeavesOneOf over_files desk ms → StillLeaves desk held.new ms) }
+    ensures beside { IfErr result (λ _. KeepsWhatWasBeside desk held.new) }
 {
     let Some(options) = options(rt, file) else {
         hold(held, Left::Kept(connection_of(desk)));

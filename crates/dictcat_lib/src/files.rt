@@ -52,7 +52,7 @@ impl<'r, D: Disk + Drop, O: FileOpener<D>> CatalogueFiles<'r, D, O> {
 
 impl<D: Disk + Drop, O: FileOpener<D>> DeskOpener<Desk<FileStore<D>>> for CatalogueFiles<'_, D, O> {
     ghost use Rattle.dictcat_lib.specs.DeskOpener.{IsDesk, IsNoDeskAt, IsNoDeskAgain};
-    ghost use Rattle.dictcat_lib.specs.Files.{IsAloneIn, IsSafe, IsToldUncopied, StillLeaves};
+    ghost use Rattle.dictcat_lib.specs.Files.{IsAloneIn, IsSafe, IsToldUncopied, KeepsWhatWasBeside, StillLeaves};
 
     ghost history = { λ _. None };
 
@@ -67,6 +67,8 @@ impl<D: Disk + Drop, O: FileOpener<D>> DeskOpener<Desk<FileStore<D>>> for Catalo
     ghost holds_alone = { λ one M. IsAloneIn one.left M };
 
     ghost still_leaves = { λ desk one ms. StillLeaves desk one.left ms };
+
+    ghost still_keeps = { λ desk one. KeepsWhatWasBeside desk one.left };
 
     ghost is_uncopied = { λ desk one fault. IsToldUncopied desk one.left fault };
 

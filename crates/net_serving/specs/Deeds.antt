@@ -29,13 +29,14 @@ abbrev pub IsOfCopy : ProgramFault → Type 0
 IsOfCopy fault = (fault ≡ faults.Memory) ⊎ (fault ≡ faults.Store store_faults.Disk)
 
 module _ {K D : Type 0} (Shows : K → Catalogue → Type 0) (LeavesOneOf : K → List (Option Catalogue) → Type 0) (IsTrusted : K → Type 0)
-    (IsSafe : D → Type 0) (HoldsAlone : D → Catalogue → Type 0) (StillLeaves : K → D → List (Option Catalogue) → Type 0) (IsUncopied : K → D → ProgramFault → Type 0) where
+    (IsSafe : D → Type 0) (HoldsAlone : D → Catalogue → Type 0) (StillLeaves : K → D → List (Option Catalogue) → Type 0) (StillKeeps : K → D → Type 0) (IsUncopied : K → D → ProgramFault → Type 0) where
   -- A desk was closed: its file holds alone what was shown; or it doesn't, for a cause, and a stop may leave nothing of the file and
-  -- its log together that it couldn't leave of the desk.
+  -- its log together that it couldn't leave of the desk. What was kept beside the catalogue is kept.
   pub record IsShut (desk : K) (closed : Result (Unit {0}) ProgramFault) (new : D) : Type 0 where
     pub trust : IsSafe new → IsTrusted desk
     pub alone : IfOk closed (λ _. IsSafe new → (M : Catalogue) → Shows desk M → HoldsAlone new M)
     pub leaves : IfErr closed (λ _. (ms : List (Option Catalogue)) → LeavesOneOf desk ms → StillLeaves desk new ms)
+    pub beside : StillKeeps desk new
     pub kinds : IfErr closed IsOfCopy
     pub caused : IfErr closed (λ fault. IsSafe new → IsUncopied desk new fault)
 

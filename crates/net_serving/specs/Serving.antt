@@ -50,12 +50,13 @@ IsOfFile faults.Memory = ⊤
 abbrev pub IsNone : (ProgramFault → Type 0) → ProgramFault → Type 0
 IsNone Unopened fault = Unopened fault × IsOfFile fault
 
--- The file of a desk, which was closed, isn't opened again, for a reason that is given; and a stop leaves nothing of what is held of
--- it then that it couldn't leave of the desk.
+-- The file of a desk, which was closed, isn't opened again, for a reason that is given; a stop leaves nothing of what is held of
+-- it then that it couldn't leave of the desk; and what was kept beside the catalogue is kept.
 pub record IsNotReopened {K D : Type 0} (LeavesOneOf : K → List (Option Catalogue) → Type 0) (IsUnreopened : List ℕ → K → D → ProgramFault → Type 0)
-    (StillLeaves : K → D → List (Option Catalogue) → Type 0) (held : D) (path : List ℕ) (desk : K) (fault : ProgramFault) : Type 0 where
+    (StillLeaves : K → D → List (Option Catalogue) → Type 0) (StillKeeps : K → D → Type 0) (held : D) (path : List ℕ) (desk : K) (fault : ProgramFault) : Type 0 where
   pub why : IsUnreopened path desk held fault
   pub leaves : (ms : List (Option Catalogue)) → LeavesOneOf desk ms → StillLeaves desk held ms
+  pub beside : StillKeeps desk held
 
 -- a catalogue is shown, and a stop leaves that one alone
 abbrev pub StandsAlone : {K : Type 0} → (K → Catalogue → Type 0) → (K → List (Option Catalogue) → Type 0) → K → Type 0

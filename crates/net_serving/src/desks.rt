@@ -33,6 +33,10 @@ pub trait DeskOpener<K: Keeper> {
     /// Whatever a stop now leaves of the file of this desk, which was closed last, and of its log, is one of these.
     ghost still_leaves: { K → Self → List (Option Catalogue) → Type 0 };
 
+    /// Whatever a stop now leaves of the file of this desk, which was closed last, and of its log, has beside the catalogue what the desk
+    /// kept there.
+    ghost still_keeps: { K → Self → Type 0 };
+
     /// The fault tells why the file of this desk, which was closed last, doesn't hold its catalogue alone.
     ghost is_uncopied: { K → Self → PrintedFault → Type 0 };
 
@@ -56,11 +60,12 @@ pub trait DeskOpener<K: Keeper> {
         ensures opened { MatchResult result (IsNew K.shows K.leaves_one_of K.is_trusted (is_opened (Some desk))) (IsNone (is_unreopened path.entry.now desk self.new)) }
         ensures follows { IfOk result (Follows K.shows K.leaves_one_of K.keeps_beside K.is_trusted desk) }
         ensures leaves { IfErr result (λ _. (ms : List (Option Catalogue)) → K.leaves_one_of desk ms → still_leaves desk self.new ms) }
+        ensures beside { IfErr result (λ _. still_keeps desk self.new) }
         ensures history { Does (history self.old) (history self.new) (Reopens path.entry.now desk (got result) ∷ []) };
 
     /// Closes a desk and its file, which then holds the catalogue alone, without its log. At a fault, `Memory` or `Store(Disk)`, it
     /// holds it with its log.
     fn close(&mut self, desk: K) -> Result<(), ProgramFault<'static>>
-        ensures shut { IsShut K.shows K.leaves_one_of K.is_trusted is_safe holds_alone still_leaves is_uncopied desk result self.new }
+        ensures shut { IsShut K.shows K.leaves_one_of K.is_trusted is_safe holds_alone still_leaves still_keeps is_uncopied desk result self.new }
         ensures history { Does (history self.old) (history self.new) (Closes desk ∷ []) };
 }

@@ -44,7 +44,7 @@ pub fn serve_catalogue<
     writer: &mut W,
     kept: &mut Option<Driver<'static>>,
 ) -> Result<(), ProgramFault<'w>>
-    ensures { ServeEnds K.shows K.leaves_one_of K.keeps_beside K.is_trusted D.is_opened K.has_failed K.is_closed K.expects K.prepares (Begins B.Network) (λ path. D.is_unopened path desks.old desks.new) (WasShut K.shows K.leaves_one_of K.is_trusted D.is_safe D.holds_alone D.still_leaves D.is_uncopied desks.new) (IsNotReopened K.leaves_one_of D.is_unreopened D.still_leaves desks.new) (D.history desks.old) (D.history desks.new) path.entry.now wanted.now.dict.now wanted.now.http.now wanted.now.rounds result
+    ensures { ServeEnds K.shows K.leaves_one_of K.keeps_beside K.is_trusted D.is_opened K.has_failed K.is_closed K.expects K.prepares (Begins B.Network) (λ path. D.is_unopened path desks.old desks.new) (WasShut K.shows K.leaves_one_of K.is_trusted D.is_safe D.holds_alone D.still_leaves D.still_keeps D.is_uncopied desks.new) (IsNotReopened K.leaves_one_of D.is_unreopened D.still_leaves D.still_keeps desks.new) (D.history desks.old) (D.history desks.new) path.entry.now wanted.now.dict.now wanted.now.http.now wanted.now.rounds result
         (change W.stream writer.old writer.new) kept.new }
 {
     *kept = None;
@@ -78,7 +78,7 @@ pub fn serve_rounds<'w, K: Preparer + Drop, D: DeskOpener<K>>(
     requires { IsNew K.shows K.leaves_one_of K.is_trusted (WasOpened D.is_opened) desk }
     ensures stands { IfOk result (IsOpen K.is_closed (IsNew K.shows K.leaves_one_of K.is_trusted (WasOpened D.is_opened))) }
     ensures served { (stretches : List (Stretch K)) × AreServed K.shows K.leaves_one_of K.keeps_beside K.is_trusted D.is_opened K.has_failed K.is_closed K.expects K.prepares stretches driver.old driver.new × IsFirst rounds desk stretches
-        × EndsServing K.is_closed (WasShut K.shows K.leaves_one_of K.is_trusted D.is_safe D.holds_alone D.still_leaves D.is_uncopied desks.new) (IsNotReopened K.leaves_one_of D.is_unreopened D.still_leaves desks.new path.entry.now) stretches driver.new result
+        × EndsServing K.is_closed (WasShut K.shows K.leaves_one_of K.is_trusted D.is_safe D.holds_alone D.still_leaves D.still_keeps D.is_uncopied desks.new) (IsNotReopened K.leaves_one_of D.is_unreopened D.still_leaves D.still_keeps desks.new path.entry.now) stretches driver.new result
         × HasDone path.entry.now desk stretches (got result) (D.history desks.old) (D.history desks.new) }
     ensures made { HasMadeRounds rounds result driver.old.event_loop.rounds driver.new.event_loop.rounds }
 {
@@ -109,7 +109,7 @@ fn serve_stretch<'w, K: Preparer + Drop, D: DeskOpener<K>>(
     requires some { 0 < pending.left }
     ensures served { (left : K) × (ended : Result RoundsEnd Error) × IsOver K.shows K.leaves_one_of K.keeps_beside K.is_trusted D.is_opened K.has_failed K.is_closed K.expects K.prepares
         (record { opened = pending.desk; left = left; asked = pending.left; rounds = driver.new.event_loop.rounds - driver.old.event_loop.rounds; ended = ended }) driver.old driver.new
-        × EndsServing K.is_closed (WasShut K.shows K.leaves_one_of K.is_trusted D.is_safe D.holds_alone D.still_leaves D.is_uncopied desks.new) (IsNotReopened K.leaves_one_of D.is_unreopened D.still_leaves desks.new path.entry.now) (record { opened = pending.desk; left = left; asked = pending.left; rounds = driver.new.event_loop.rounds - driver.old.event_loop.rounds; ended = ended } ∷ []) driver.new result
+        × EndsServing K.is_closed (WasShut K.shows K.leaves_one_of K.is_trusted D.is_safe D.holds_alone D.still_leaves D.still_keeps D.is_uncopied desks.new) (IsNotReopened K.leaves_one_of D.is_unreopened D.still_leaves D.still_keeps desks.new path.entry.now) (record { opened = pending.desk; left = left; asked = pending.left; rounds = driver.new.event_loop.rounds - driver.old.event_loop.rounds; ended = ended } ∷ []) driver.new result
         × IfOk result (λ next. 0 < next.left → (K.is_closed left ≡ true) × Follows K.shows K.leaves_one_of K.keeps_beside K.is_trusted left next.desk × D.is_opened (Some left) next.desk × AreLeft ended next.left
         × HasReopened path.entry.now left next.desk (D.history desks.old) (D.history desks.new))
         × MatchResult result (λ next. HasTurned path.entry.now left (Some next.desk) (D.history desks.old) (D.history desks.new)) (λ _. HasTurned path.entry.now left None (D.history desks.old) (D.history desks.new)) }

@@ -67,11 +67,11 @@ record_at (PutVirtual name title members) installs n db is there = tt
 record_at (Place name at) installs n db is there = tt
 
 module _ {S : Type 0} (g : Ghosts S) (old new : Held S) (summary : Holdings (List ℕ)) (before : LastCall) (id : List ℕ) (typed : Typed) (open_before : is_closed before ≡ false)
-    (indexes mid settled : List (ℕ × List Indexed)) (kept texts : List (PartNumbers × List ℕ)) (made : AreOfInstalls summary.installs kept)
+    (indexes mid settled : List (ℕ × List Indexed)) (kept texts : List (PartNumbers × List ℕ)) {taken : ℕ} (made : AreOfInstalls summary.installs kept)
     (number : ℕ) (next : number ≡ min (summary.installs + 1) (2 ^ 64 - 1)) (put : HasPutIfSome number (index_coming typed) indexes mid) (M : Catalogue)
-    (shown : Shows g (record { conn = old; summary = summary; last = before; indexes = indexes; texts = kept }) M) (clean : HasCleanDisk (state g new)) (first : HasCleanDisk (state g old)) where
+    (shown : Shows g (record { conn = old; summary = summary; last = before; indexes = indexes; texts = kept; taken = taken }) M) (clean : HasCleanDisk (state g new)) (first : HasCleanDisk (state g old)) where
   abbrev was : DeskState S
-  was = record { conn = old; summary = summary; last = before; indexes = indexes; texts = kept }
+  was = record { conn = old; summary = summary; last = before; indexes = indexes; texts = kept; taken = taken }
 
   installs_is : summary.installs ≡ M.installs
   installs_is = ap (λ (s : Holdings (List ℕ)). s.installs) shown.summary
@@ -86,7 +86,7 @@ module _ {S : Type 0} (g : Ghosts S) (old new : Held S) (summary : Holdings (Lis
   made_next = subst (λ (n : ℕ). AreOfInstalls n kept) installs_is made
 
   abbrev then_by : Holdings (List ℕ) → LastCall → DeskState S
-  then_by after last = record { conn = new; summary = after; last = last; indexes = settled; texts = texts }
+  then_by after last = record { conn = new; summary = after; last = last; indexes = settled; texts = texts; taken = taken }
 
   -- it failed, or was refused
   failed_served : (fault : Fault) → (IsTrue (state g new).is_open → IsTrue (state g old).is_open) → (IsTrue (state g new).is_open → (state g new).committed ≡ (state g old).committed)
@@ -102,7 +102,7 @@ module _ {S : Type 0} (g : Ghosts S) (old new : Held S) (summary : Holdings (Lis
         → ((q : ℕ) → q ≢ number → entries_under q settled ≡ entries_under q mid) → texts ≡ kept
         → ServesEditions g (then_by summary Fine) M
     repeated_served holds stay goes is =
-        subst (λ (t : List (PartNumbers × List ℕ)). ServesEditions g (record { conn = new; summary = summary; last = Fine; indexes = settled; texts = t }) M) (sym is)
+        subst (λ (t : List (PartNumbers × List ℕ)). ServesEditions g (record { conn = new; summary = summary; last = Fine; indexes = settled; texts = t; taken = taken }) M) (sym is)
         (all_then g was new typed mid settled M shown.well_formed put_next made_next summary open_before over_lives M holds
         (each_both (ServesEdition g was) (λ (stored : Stored Edition). stored.number ≤ M.installs) (Is g was new typed mid settled M shown.well_formed put_next)
         (λ stored a b. stays_is g was new typed mid settled M shown.well_formed put_next stored a b) M.items (shown.served first) (each_low M shown.well_formed))
@@ -122,7 +122,7 @@ module _ {S : Type 0} (g : Ghosts S) (old new : Held S) (summary : Holdings (Lis
     done_served after reply free told sums holds there stay goes is =
         let did : outcome.catalogue ≡ with_effect M id (command_meant typed) = acted M id (command_meant typed) (kept_shown reply) free told in
         let installs : after.installs ≡ installs_after (command_meant typed) M.installs = ap (λ (h : Holdings (List ℕ)). h.installs) (sym sums) ∙ ap (λ (c : Catalogue). c.installs) did in
-        subst (λ (t : List (PartNumbers × List ℕ)). ServesEditions g (record { conn = new; summary = summary_shown after; last = Fine; indexes = settled; texts = t }) outcome.catalogue) (sym is)
+        subst (λ (t : List (PartNumbers × List ℕ)). ServesEditions g (record { conn = new; summary = summary_shown after; last = Fine; indexes = settled; texts = t; taken = taken }) outcome.catalogue) (sym is)
         (all_then g was new typed mid settled M shown.well_formed put_next made_next (summary_shown after) open_before over_lives outcome.catalogue holds
         (subst (λ (c : Catalogue). AllByRecursion (λ item. AllByRecursion (Is g was new typed mid settled M shown.well_formed put_next) (editions_of item)) c.items) (sym did)
         (all_is g was new typed mid settled M shown.well_formed put_next id (record_at typed M.installs after.installs (state g new).committed installs there) (shown.served first)))

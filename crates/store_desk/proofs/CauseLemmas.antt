@@ -37,7 +37,7 @@ no_limit limit is some = false≢true (sym (ap is_some is) ∙ some)
 
 -- a lookup, or a reading of a kept reply, behind what was undone of what was prepared
 module _ {S : Type 0} (g : Ghosts S) (first : DeskState S) (old new : Held S) (summary : Holdings (List ℕ)) (filing : Option Filing) (indexes : List (ℕ × List Indexed))
-    (texts : List (PartNumbers × List ℕ)) (before after : LastCall) (open_before : is_closed before ≡ false) (rest : IsAtRest g before summary filing old)
+    (texts : List (PartNumbers × List ℕ)) (taken : ℕ) (before after : LastCall) (open_before : is_closed before ≡ false) (rest : IsAtRest g before summary filing old)
     (survives : Survives (state g old) (state g new) (λ _. ⊥)) (undone : HasCleanDisk (state g new) → Undoes g first.conn old) where
   -- what an open desk has committed is a catalogue's, and it has no limit on steps
   read_holds : HasCleanDisk (state g new) → IsUnchanged (state g old) (state g new) → (M : Catalogue) × Holds known (state g old).committed M
@@ -59,7 +59,7 @@ module _ {S : Type 0} (g : Ghosts S) (first : DeskState S) (old new : Held S) (s
   -- why it isn't read, where its store doesn't fail
   module _ (Why : Fault → Type 0) (never : HasCleanDisk (state g new) → IsUnchanged (state g old) (state g new) → Why Disk → ⊥) where
     fails_for : HasCleanDisk (state g new) → (fault : Fault) → IsOfStore fault → (IsUnchanged (state g old) (state g new) × Why fault) ⊎ ((e : Error) × (fault ≡ fault_of e) × Fails (state g old) (state g new) ⊥ e)
-        → GivesWay g first (record { conn = new; summary = summary; last = after; indexes = indexes; texts = texts }) fault
+        → GivesWay g first (record { conn = new; summary = summary; last = after; indexes = indexes; texts = texts; taken = taken }) fault
     fails_for clean (Refused refusal) kind h = absurd kind
     fails_for clean Memory kind (inl h) = (old, undone clean, inr (inl (h.0, tt)))
     fails_for clean Memory kind (inr h) = (old, undone clean, inr (inr h))
@@ -72,30 +72,30 @@ module _ {S : Type 0} (g : Ghosts S) (first : DeskState S) (old new : Held S) (s
 
     gives_for : {T : Type 0} (result : Result T Fault) → IfErr result IsOfStore
         → (HasCleanDisk (state g new) → IfErr result (λ fault. (IsUnchanged (state g old) (state g new) × Why fault) ⊎ ((e : Error) × (fault ≡ fault_of e) × Fails (state g old) (state g new) ⊥ e)))
-        → HasCleanDisk (state g new) → IfErr result (GivesWay g first (record { conn = new; summary = summary; last = after; indexes = indexes; texts = texts }))
+        → HasCleanDisk (state g new) → IfErr result (GivesWay g first (record { conn = new; summary = summary; last = after; indexes = indexes; texts = texts; taken = taken }))
     gives_for (Ok value) kind failed clean = tt
     gives_for (Err fault) kind failed clean = fails_for clean fault kind (failed clean)
 
   pub lookup_gives_way : {T : Type 0} (number : ℕ) → (HasCleanDisk (state g old) → IsTrue (state g old).is_open → IsAlike number (state g old).committed (state g old).now) → (result : Result T Fault) → IfErr result IsOfStore
       → (HasCleanDisk (state g new) → IfErr result (search.FailsToLookUp (search.number_in_column number) (state g old) (state g new)))
-      → HasCleanDisk (state g new) → IfErr result (GivesWay g first (record { conn = new; summary = summary; last = after; indexes = indexes; texts = texts }))
+      → HasCleanDisk (state g new) → IfErr result (GivesWay g first (record { conn = new; summary = summary; last = after; indexes = indexes; texts = texts; taken = taken }))
   lookup_gives_way number alike result kind failed = gives_for (search.IsUnreadEdition (search.number_in_column number) (state g old)) (rows_read number alike) result kind failed
 
   -- and of a lookup that asks the store for a text at most
   found_for : (number : ℕ) → (HasCleanDisk (state g old) → IsTrue (state g old).is_open → IsAlike number (state g old).committed (state g old).now) → HasCleanDisk (state g new) → (fault : Fault) → IsOfStore fault
       → ((fault ≡ Memory) × (new ≡ old)) ⊎ search.FailsToLookUp (search.number_in_column number) (state g old) (state g new) fault
-      → GivesWay g first (record { conn = new; summary = summary; last = after; indexes = indexes; texts = texts }) fault
-  found_for number alike clean fault kind (inl h) = subst (GivesWay g first (record { conn = new; summary = summary; last = after; indexes = indexes; texts = texts })) (sym h.0) (old, undone clean, inl h.1)
+      → GivesWay g first (record { conn = new; summary = summary; last = after; indexes = indexes; texts = texts; taken = taken }) fault
+  found_for number alike clean fault kind (inl h) = subst (GivesWay g first (record { conn = new; summary = summary; last = after; indexes = indexes; texts = texts; taken = taken })) (sym h.0) (old, undone clean, inl h.1)
   found_for number alike clean fault kind (inr h) = fails_for (search.IsUnreadEdition (search.number_in_column number) (state g old)) (rows_read number alike) clean fault kind h
 
   pub found_gives_way : {T : Type 0} (number : ℕ) → (HasCleanDisk (state g old) → IsTrue (state g old).is_open → IsAlike number (state g old).committed (state g old).now) → (result : Result T Fault) → IfErr result IsOfStore
       → (HasCleanDisk (state g new) → IfErr result (λ fault. ((fault ≡ Memory) × (new ≡ old)) ⊎ search.FailsToLookUp (search.number_in_column number) (state g old) (state g new) fault))
-      → HasCleanDisk (state g new) → IfErr result (GivesWay g first (record { conn = new; summary = summary; last = after; indexes = indexes; texts = texts }))
+      → HasCleanDisk (state g new) → IfErr result (GivesWay g first (record { conn = new; summary = summary; last = after; indexes = indexes; texts = texts; taken = taken }))
   found_gives_way number alike (Ok value) kind failed clean = tt
   found_gives_way number alike (Err fault) kind failed clean = found_for number alike clean fault kind (failed clean)
 
   pub reply_gives_way : {T : Type 0} → old.in_transaction ≡ false → (result : Result T Fault) → IfErr result IsOfStore → (HasCleanDisk (state g new) → IfErr result (FailsToReadCatalogue (state g old) (state g new)))
-      → HasCleanDisk (state g new) → IfErr result (GivesWay g first (record { conn = new; summary = summary; last = after; indexes = indexes; texts = texts }))
+      → HasCleanDisk (state g new) → IfErr result (GivesWay g first (record { conn = new; summary = summary; last = after; indexes = indexes; texts = texts; taken = taken }))
   reply_gives_way alone result kind failed = gives_for (IsUnreadCatalogue (state g old)) (reply_read alone) result kind failed
 
 -- a command

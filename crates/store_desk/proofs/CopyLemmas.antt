@@ -75,14 +75,15 @@ module _ {S : Type 0} (g : Ghosts S) (old new : Held S) (summary : Holdings (Lis
   pub copied_rests : (after : LastCall) → (HasCleanDisk (state g new) → IsTrue (state g new).is_open → (state g new).now ≡ (state g new).committed) → new.in_transaction ≡ false → IsAtRest g after summary filing new
   copied_rests after settled ended = at_rest g after summary filing new (crash.limit ∙ rest.limit) rest.range (λ _. copied_committed) (λ _ clean live _. settled clean live) (λ _. copied_filed ended filing (rest.filed fine))
 
-  pub copied_shows : {T : Type 0} (result : Result T Fault) (after : LastCall) (indexes : List (ℕ × List Indexed)) (kept texts : List (PartNumbers × List ℕ)) → texts ≡ texts_behind result kept → (M : Catalogue)
-      → Shows g (record { conn = old; summary = summary; last = before; indexes = indexes; texts = kept }) M → Shows g (record { conn = new; summary = summary; last = after; indexes = indexes; texts = texts }) M
-  copied_shows result after indexes kept texts is M shown = record {
+  pub copied_shows : {T : Type 0} {taken : ℕ} (result : Result T Fault) (after : LastCall) (indexes : List (ℕ × List Indexed)) (kept texts : List (PartNumbers × List ℕ)) → texts ≡ texts_behind result kept → (M : Catalogue)
+      → Shows g (record { conn = old; summary = summary; last = before; indexes = indexes; texts = kept; taken = taken }) M
+      → Shows g (record { conn = new; summary = summary; last = after; indexes = indexes; texts = texts; taken = taken }) M
+  copied_shows {taken = taken} result after indexes kept texts is M shown = record {
     summary = shown.summary;
     well_formed = shown.well_formed;
     holds = λ open' clean live. (remains clean live).holds M (shown.holds fine (copied_first clean) (lives clean live)) (sym shown.summary);
-    served = λ clean. each_edition (ServesEdition g (record { conn = old; summary = summary; last = before; indexes = indexes; texts = kept }))
-        (ServesEdition g (record { conn = new; summary = summary; last = after; indexes = indexes; texts = texts }))
+    served = λ clean. each_edition (ServesEdition g (record { conn = old; summary = summary; last = before; indexes = indexes; texts = kept; taken = taken }))
+        (ServesEdition g (record { conn = new; summary = summary; last = after; indexes = indexes; texts = texts; taken = taken }))
         (λ stored one. record {
           index = one.index;
           stands = one.stands;
@@ -104,8 +105,8 @@ copied_keeps summary before (Err fault) after by kept texts is keeps = subst (Ke
 -- of the desk the connection alone is another
 pub copied_same : {S : Type 0} (old : DeskState S) (conn : Held S) (last : LastCall) (texts : List (PartNumbers × List ℕ)) (result : Result Bool Fault) → last ≡ last_behind old.last result → texts ≡ texts_behind result old.texts
     → result ≡ Ok true
-    → record { conn = conn; summary = old.summary; last = last; indexes = old.indexes; texts = texts } ≡ record old { conn = conn }
-copied_same old conn last texts (Ok more) by is ok = λ i. record { conn = conn; summary = old.summary; last = by i; indexes = old.indexes; texts = is i }
+    → record { conn = conn; summary = old.summary; last = last; indexes = old.indexes; texts = texts; taken = old.taken } ≡ record old { conn = conn }
+copied_same old conn last texts (Ok more) by is ok = λ i. record { conn = conn; summary = old.summary; last = by i; indexes = old.indexes; texts = is i; taken = old.taken }
 copied_same old conn last texts (Err fault) by is ok = absurd (let e = ok in cc)
 
 -- why it failed

@@ -197,20 +197,24 @@ module _ {S : Type 0} (g : Ghosts S) (old new : Held S) (summary : Holdings (Lis
       → IsAtRest g after summary filing new × KeepsTexts after summary texts
   desk_on mode kept texts is made = (rests_on mode, subst (KeepsTexts after summary) (sym is) (texts_keep after summary kept made))
 
-  module _ (indexes : List (ℕ × List Indexed)) (kept : List (PartNumbers × List ℕ)) (M : Catalogue) (shown : Shows g (record { conn = old; summary = summary; last = before; indexes = indexes; texts = kept }) M) where
+  module _ (indexes : List (ℕ × List Indexed)) (kept : List (PartNumbers × List ℕ)) {taken : ℕ} (M : Catalogue)
+      (shown : Shows g (record { conn = old; summary = summary; last = before; indexes = indexes; texts = kept; taken = taken }) M) where
     -- what is shown, with these texts
-    pub shows_with : (texts : List (PartNumbers × List ℕ))
-        → (HasCleanDisk (state g new) → (stored : Stored Edition) (one : ServesEdition g (record { conn = old; summary = summary; last = before; indexes = indexes; texts = kept }) stored) → ArePartsOf stored.number one.text texts)
-        → Shows g (record { conn = new; summary = summary; last = after; indexes = indexes; texts = texts }) M
-    shows_with texts cut = record {
+    pub shows_with : {later : ℕ} (texts : List (PartNumbers × List ℕ))
+        → (HasCleanDisk (state g new) → (stored : Stored Edition) (one : ServesEdition g (record { conn = old; summary = summary; last = before; indexes = indexes; texts = kept; taken = taken }) stored)
+        → ArePartsOf stored.number one.text texts)
+        → Shows g (record { conn = new; summary = summary; last = after; indexes = indexes; texts = texts; taken = later }) M
+    shows_with {later = later} texts cut = record {
       summary = shown.summary;
       well_formed = shown.well_formed;
       holds = λ fine clean live. subst (λ (db : Database). Holds known db M) (sym ((goes clean).committed live)) (shown.holds open_before (clean_first clean) ((goes clean).was_open live));
-      served = λ clean. served_still g (record { conn = old; summary = summary; last = before; indexes = indexes; texts = kept }) (record { conn = new; summary = summary; last = after; indexes = indexes; texts = texts })
+      served = λ clean. served_still g (record { conn = old; summary = summary; last = before; indexes = indexes; texts = kept; taken = taken })
+          (record { conn = new; summary = summary; last = after; indexes = indexes; texts = texts; taken = later })
           (λ q. refl) (λ _. open_before) (goes clean).was_open (goes clean).committed (cut clean) M (shown.served (clean_first clean));
     }
 
-    pub shows_on : (texts : List (PartNumbers × List ℕ)) → texts ≡ texts_after after kept → Shows g (record { conn = new; summary = summary; last = after; indexes = indexes; texts = texts }) M
+    pub shows_on : {later : ℕ} (texts : List (PartNumbers × List ℕ)) → texts ≡ texts_after after kept
+        → Shows g (record { conn = new; summary = summary; last = after; indexes = indexes; texts = texts; taken = later }) M
     shows_on texts is = shows_with texts (λ clean stored one. subst (ArePartsOf stored.number one.text) (sym is) (parts_after after stored.number one.text kept one.kept))
 
     pub held : HasCleanDisk (state g new) → IsTrue (state g old).is_open → Holds known (state g old).committed M

@@ -108,17 +108,19 @@ module _ {S : Type 0} (g : Ghosts S) (old new : Held S) (summary : Holdings (Lis
       undone_rests g old new summary filing last fine rest survives undone left
       (subst (λ (f : Option Filing). HasFiled g f new) (sym same) (undone_filed g old new filing (clean_behind (state g old) (state g new) survives) undone (rest.filed fine)))
 
-  pub unfinished_shows : (number : ℕ) → number ≡ min (summary.installs + 1) (2 ^ 64 - 1) → (indexes after : List (ℕ × List Indexed)) → ((q : ℕ) → q ≢ number → entries_under q after ≡ entries_under q indexes)
-      → (texts : List (PartNumbers × List ℕ)) (M : Catalogue) → Shows g (record { conn = old; summary = summary; last = last; indexes = indexes; texts = texts }) M
-      → Shows g (record { conn = new; summary = summary; last = last; indexes = after; texts = texts }) M
-  unfinished_shows number next indexes after same texts M shown =
+  pub unfinished_shows : {taken : ℕ} (number : ℕ) → number ≡ min (summary.installs + 1) (2 ^ 64 - 1) → (indexes after : List (ℕ × List Indexed)) → ((q : ℕ) → q ≢ number → entries_under q after ≡ entries_under q indexes)
+      → (texts : List (PartNumbers × List ℕ)) (M : Catalogue)
+      → Shows g (record { conn = old; summary = summary; last = last; indexes = indexes; texts = texts; taken = taken }) M
+      → Shows g (record { conn = new; summary = summary; last = last; indexes = after; texts = texts; taken = taken }) M
+  unfinished_shows {taken = taken} number next indexes after same texts M shown =
       let goes = λ (clean : HasCleanDisk (state g new)). undone_continues g old new (undone clean) in
       let first = clean_behind (state g old) (state g new) survives in
       record {
         summary = shown.summary;
         well_formed = shown.well_formed;
         holds = λ open' clean live. subst (λ (db : Database). Holds known db M) (sym ((goes clean).committed live)) (shown.holds fine (first clean) ((goes clean).was_open live));
-        served = λ clean. served_below g (record { conn = old; summary = summary; last = last; indexes = indexes; texts = texts }) (record { conn = new; summary = summary; last = last; indexes = after; texts = texts }) M shown.well_formed
+        served = λ clean. served_below g (record { conn = old; summary = summary; last = last; indexes = indexes; texts = texts; taken = taken })
+            (record { conn = new; summary = summary; last = last; indexes = after; texts = texts; taken = taken }) M shown.well_formed
             number (next_number M shown.well_formed number (next ∙ ap (λ (s : Holdings (List ℕ)). min (s.installs + 1) (2 ^ 64 - 1)) shown.summary)) same (λ _. fine) (goes clean).was_open (goes clean).committed
             (λ stored one. one.kept) (shown.served (first clean));
       }

@@ -1,5 +1,5 @@
 -- What is left of files at a path that were not opened.
-use Rattle.std.proofs.Common.{◌≡◌, ◌⊎◌, inl, inr, Bool, ℕ, List, [], ◌∷◌, IsTrue, refl, sym, ap₂, subst, cond, arith}
+use Rattle.std.proofs.Common.{◌≡◌, ◌⊎◌, inl, inr, Bool, ℕ, List, [], ◌∷◌, IsTrue, refl, sym, ap₂, subst, cond}
 use Rattle.std.specs.Prelude.{Option, Some, None, IfSome}
 use Rattle.std.proofs.lemmas.Bool.{and_from}
 use Rattle.sqlite_disk.specs.declared.Disk.{Ghosts}
@@ -16,12 +16,14 @@ use Rattle.sqlite.specs.declared.error.Error.TheVariants.{SqliteFailure}
 use Rattle.sqlite.specs.declared.error.ErrorCode.TheVariants as code
 use Rattle.sqlite.specs.declared.file.Leftover.{Leftover}
 use Rattle.sqlite.specs.declared.file.Leftover.TheVariants as left_of
-use Rattle.dict_catalogue.specs.Steps.{Catalogue}
 use Rattle.dict_desk.specs.declared.fault.Fault.{Fault}
 use Rattle.store_opening.specs.Reading.{IsOfOpening}
-use Rattle.store_desk.specs.Unopened.{fault_of_files, IsOneIn, StandsInImage, HaveOctets, IsUnopened, WasSealed}
+use Rattle.sqlite.specs.Tree.{Trees}
+use Rattle.store_desk.specs.Desk.{HasBeside, StandsFor}
+use Rattle.store_desk.specs.Reopened.{AreTreesIn}
+use Rattle.store_desk.specs.Unopened.{fault_of_files, HaveOctets, IsUnopened, RestLeaves, WasSealed}
 use Rattle.store_desk.specs.declared.reopening.Unopened.TheVariants as left
-use Rattle.store_desk.proofs.UnopenedLemmas.{IsReady, IsSealedOneIn, rest_leaves}
+use Rattle.store_desk.proofs.UnopenedLemmas.{IsReady, AreSealedIn, rest_leaves}
 
 -- ---- a file of which no call was recorded but its first
 
@@ -52,26 +54,29 @@ octets_by {D} {g} files image log db log_only db_only log_clean db_clean = recor
 }
 
 -- what stands in the octets is there where `sqlite` had begun to write them
-ready_by : {D : Type 0} {g : Ghosts D} (files : Files D) (image : Image) (m : Option Catalogue) (each : (left : Image) → outcomes g files.log files.db left → ∥ IsOneIn (m ∷ []) left ∥₁)
-    (stay : outcomes g files.log files.db (image_of g files)) → image_of g files ≡ image → StandsInImage m image → (now : Leftover D g) → WasSealed image now → IsReady files (m ∷ []) each stay now
-ready_by {D} {g} files image m each stay seen stands (left_of.Files now) was = tt
-ready_by {D} {g} files image m each stay seen stands (left_of.Unopened now) was =
-    subst (λ i. ∥ IsSealedOneIn (m ∷ []) i ∥₁) (sym seen) ∣ (m, (0, omega arith, refl), (stands.0, (stands.1, was stands.0 stands.1), stands.2)) ∣₁
-ready_by {D} {g} files image m each stay seen stands (left_of.Store now) was = tt
+ready_by : {D : Type 0} {g : Ghosts D} (files : Files D) (image : Image) (P : Trees → Type 0) (each : (left : Image) → outcomes g files.log files.db left → ∥ AreTreesIn P left ∥₁)
+    (stay : outcomes g files.log files.db (image_of g files)) → image_of g files ≡ image → AreTreesIn P image → (now : Leftover D g) → WasSealed image now → IsReady files P each stay now
+ready_by {D} {g} files image P each stay seen stands (left_of.Files now) was = tt
+ready_by {D} {g} files image P each stay seen stands (left_of.Unopened now) was = subst (λ i. ∥ AreSealedIn P i ∥₁) (sym seen) ∣ (stands.0, (stands.1, was stands.0 stands.1), stands.2) ∣₁
+ready_by {D} {g} files image P each stay seen stands (left_of.Store now) was = tt
+
+-- what is left of them leaves such trees
+rest_by : {D : Type 0} {g : Ghosts D} (image : Image) (stays : SeenMayStay g) (files : Files D) → HaveOctets g image files → (now : Leftover D g) → LeavesFiles files now → (P : Trees → Type 0)
+    → AreTreesIn P image → WasSealed image now → RestLeaves P now
+rest_by {D} {g} image stays files octets now unharmed P stands was =
+    let each : (left : Image) → outcomes g files.log files.db left → ∥ AreTreesIn P left ∥₁ = λ left out. ∣ (subst (AreTreesIn P) (sym (octets.only left out)) stands) ∣₁ in
+    let stay : outcomes g files.log files.db (image_of g files) = (stays files.log, stays files.db) in
+    rest_leaves files P each stay now (ready_by files image P each stay octets.seen stands now was) unharmed
 
 module _ {D : Type 0} {g : Ghosts D} (image : Image) (stays : SeenMayStay g) (error : Error) (fault : Fault) (told : fault ≡ fault_of_files error) (kind : IsOfOpening fault) (named : IsTrue (is_open_error error)) where
   pub unopened_from : (it : Option (Leftover D g)) → (it ≡ None → (error ≡ SqliteFailure code.CannotOpen) ⊎ ((error ≡ SqliteFailure code.OutOfMemory) ⊎ (error ≡ SqliteFailure code.DatabaseBusy)))
       → IfSome it (λ now. (files : Files D) × HaveOctets g image files × (IsCleanLeft now → FailsToOpenFiles files now error × LeavesFiles files now)) → IsUnopened image (left.Files it) fault
   unopened_from None none some = (error, told, none refl)
   unopened_from (Some now) none some =
-      let files = some.0 in
-      let octets = some.1 in
       record {
-        files = files;
-        octets = octets;
+        files = some.0;
+        octets = some.1;
         why = record { error = error; named = named; told = told; kind = kind; cause = λ still. (some.2 still).0; unharmed = λ still. (some.2 still).1 };
-        leaves = λ m stands was still.
-            let each : (left : Image) → outcomes g files.log files.db left → ∥ IsOneIn (m ∷ []) left ∥₁ = λ left out. ∣ (m, (0, omega arith, refl), subst (StandsInImage m) (sym (octets.only left out)) stands) ∣₁ in
-            let stay : outcomes g files.log files.db (image_of g files) = (stays files.log, stays files.db) in
-            rest_leaves files (m ∷ []) each stay now (ready_by files image m each stay octets.seen stands now was) (some.2 still).1;
+        leaves = λ m stands was still. rest_by image stays some.0 some.1 now (some.2 still).1 (StandsFor m) stands was;
+        beside = λ db stands was still. rest_by image stays some.0 some.1 now (some.2 still).1 (HasBeside db) stands was;
       }

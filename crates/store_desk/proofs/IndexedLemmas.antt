@@ -159,7 +159,7 @@ module _ {S : Type 0} (g : Ghosts S) (before : DeskState S) (new : Held S) (comm
   module _ (made : AreOfInstalls M.installs before.texts) (summary : Holdings (List ℕ)) (fine : is_closed before.last ≡ false) (was_open : IsTrue (state g new).is_open → IsTrue (state g before.conn).is_open)
       (M' : Catalogue) (holds : Holds known (state g new).committed M') where
     abbrev desk_then : DeskState S
-    desk_then = record { conn = new; summary = summary; last = Fine; indexes = after; texts = before.texts }
+    desk_then = record { conn = new; summary = summary; last = Fine; indexes = after; texts = before.texts; taken = before.taken }
 
     -- where it was there, its text stays
     abbrev TextStays : Stored Edition → Type 0

@@ -59,15 +59,16 @@ module _ {S : Type 0} (g : Ghosts S) where
       → (left : Option Filing) → HasFiled g left h → IsAtRest g after summary left h
   rests_as summary filing before after h fine rest left filed = at_rest g after summary left h rest.limit rest.range (λ _. rest.holds fine) (λ _. rest.settled fine) (λ _. filed)
 
-  pub shows_as : (summary : Holdings (List ℕ)) (before after : LastCall) (h : Held S) → is_closed before ≡ false → (old new : List (ℕ × List Indexed)) → ((q : ℕ) → entries_under q new ≡ entries_under q old)
+  pub shows_as : {taken later : ℕ} (summary : Holdings (List ℕ)) (before after : LastCall) (h : Held S) → is_closed before ≡ false → (old new : List (ℕ × List Indexed)) → ((q : ℕ) → entries_under q new ≡ entries_under q old)
       → (kept texts : List (PartNumbers × List ℕ)) → texts ≡ texts_after after kept
-      → (M : Catalogue) → Shows g (record { conn = h; summary = summary; last = before; indexes = old; texts = kept }) M → Shows g (record { conn = h; summary = summary; last = after; indexes = new; texts = texts }) M
-  shows_as summary before after h fine old new same kept texts is M shown = record {
+      → (M : Catalogue) → Shows g (record { conn = h; summary = summary; last = before; indexes = old; texts = kept; taken = taken }) M
+      → Shows g (record { conn = h; summary = summary; last = after; indexes = new; texts = texts; taken = later }) M
+  shows_as {taken = taken} {later = later} summary before after h fine old new same kept texts is M shown = record {
     summary = shown.summary;
     well_formed = shown.well_formed;
     holds = λ _ clean live. shown.holds fine clean live;
-    served = λ clean. served_still g (record { conn = h; summary = summary; last = before; indexes = old; texts = kept }) (record { conn = h; summary = summary; last = after; indexes = new; texts = texts }) same
-        (λ _. fine) (λ live. live) (λ live. refl)
+    served = λ clean. served_still g (record { conn = h; summary = summary; last = before; indexes = old; texts = kept; taken = taken })
+        (record { conn = h; summary = summary; last = after; indexes = new; texts = texts; taken = later }) same (λ _. fine) (λ live. live) (λ live. refl)
         (λ stored one. subst (ArePartsOf stored.number one.text) (sym is) (parts_after after stored.number one.text kept one.kept)) M (shown.served clean);
   }
 
@@ -83,9 +84,9 @@ module _ {S : Type 0} (g : Ghosts S) where
 
   -- there is more to prepare: a transaction is open, or all that is seen of the desk is as it was
   pub more_prepared : (old : DeskState S) (conn : Held S) (last : LastCall) (texts : List (PartNumbers × List ℕ)) (result : Result Bool Fault) → last ≡ last_behind old.last result → texts ≡ texts_behind result old.texts → result ≡ Ok true
-      → (conn.in_transaction ≡ true) ⊎ (conn ≡ old.conn) → (conn.in_transaction ≡ true) ⊎ (record { conn = conn; summary = old.summary; last = last; indexes = old.indexes; texts = texts } ≡ old)
+      → (conn.in_transaction ≡ true) ⊎ (conn ≡ old.conn) → (conn.in_transaction ≡ true) ⊎ (record { conn = conn; summary = old.summary; last = last; indexes = old.indexes; texts = texts; taken = old.taken } ≡ old)
   more_prepared old conn last texts (Ok more) by is ok (inl inside) = inl inside
-  more_prepared old conn last texts (Ok more) by is ok (inr same) = inr (λ i. record { conn = same i; summary = old.summary; last = by i; indexes = old.indexes; texts = is i })
+  more_prepared old conn last texts (Ok more) by is ok (inr same) = inr (λ i. record { conn = same i; summary = old.summary; last = by i; indexes = old.indexes; texts = is i; taken = old.taken })
   more_prepared old conn last texts (Err fault) by is ok h = absurd (let e = ok in cc)
 
 -- memory alone was refused
@@ -107,8 +108,9 @@ module _ {S : Type 0} (g : Ghosts S) (old new : Held S) (summary : Holdings (Lis
       (λ _. settled_on g old new summary filing last last fine rest survives (λ clean. undone_continues g old new (undone clean)))
       (λ _. filed)
 
-  pub undone_shows : (after : LastCall) (indexes : List (ℕ × List Indexed)) (texts : List (PartNumbers × List ℕ)) (M : Catalogue) → Shows g (record { conn = old; summary = summary; last = last; indexes = indexes; texts = texts }) M
-      → Shows g (record { conn = new; summary = summary; last = after; indexes = indexes; texts = texts }) M
+  pub undone_shows : {taken : ℕ} (after : LastCall) (indexes : List (ℕ × List Indexed)) (texts : List (PartNumbers × List ℕ)) (M : Catalogue)
+      → Shows g (record { conn = old; summary = summary; last = last; indexes = indexes; texts = texts; taken = taken }) M
+      → Shows g (record { conn = new; summary = summary; last = after; indexes = indexes; texts = texts; taken = taken }) M
   undone_shows after indexes texts M shown = shows_with g old new summary filing last after fine rest survives (λ clean. undone_continues g old new (undone clean)) indexes texts M shown texts (λ clean stored one. one.kept)
 
 -- ---- a reading beside what was prepared failed, and that was undone
@@ -159,14 +161,15 @@ module _ {S : Type 0} (g : Ghosts S) (old new : Held S) (summary : Holdings (Lis
   prepared_keeps (Ok value) after by kept texts is keeps = subst (KeepsTexts after summary) (sym is) (subst (λ (l : LastCall). KeepsTexts l summary kept) (sym by) keeps)
   prepared_keeps (Err fault) after by kept texts is keeps = subst (KeepsTexts after summary) (sym is) (record { made = tt; none = λ failed. refl })
 
-  pub prepared_shows : {T : Type 0} (result : Result T Fault) (after : LastCall) (indexes : List (ℕ × List Indexed)) (kept texts : List (PartNumbers × List ℕ)) → texts ≡ texts_behind result kept → (M : Catalogue)
-      → Shows g (record { conn = old; summary = summary; last = before; indexes = indexes; texts = kept }) M → Shows g (record { conn = new; summary = summary; last = after; indexes = indexes; texts = texts }) M
-  prepared_shows result after indexes kept texts is M shown = record {
+  pub prepared_shows : {T : Type 0} {taken : ℕ} (result : Result T Fault) (after : LastCall) (indexes : List (ℕ × List Indexed)) (kept texts : List (PartNumbers × List ℕ)) → texts ≡ texts_behind result kept → (M : Catalogue)
+      → Shows g (record { conn = old; summary = summary; last = before; indexes = indexes; texts = kept; taken = taken }) M
+      → Shows g (record { conn = new; summary = summary; last = after; indexes = indexes; texts = texts; taken = taken }) M
+  prepared_shows {taken = taken} result after indexes kept texts is M shown = record {
     summary = shown.summary;
     well_formed = shown.well_formed;
     holds = λ open' clean live. subst (λ (db : Database). Holds known db M) (sym ((keeps clean).committed live)) (shown.holds fine (clean_first clean) ((keeps clean).was_open live));
-    served = λ clean. served_still g (record { conn = old; summary = summary; last = before; indexes = indexes; texts = kept }) (record { conn = new; summary = summary; last = after; indexes = indexes; texts = texts })
-        (λ q. refl) (λ _. fine) (keeps clean).was_open (keeps clean).committed
+    served = λ clean. served_still g (record { conn = old; summary = summary; last = before; indexes = indexes; texts = kept; taken = taken })
+        (record { conn = new; summary = summary; last = after; indexes = indexes; texts = texts; taken = taken }) (λ q. refl) (λ _. fine) (keeps clean).was_open (keeps clean).committed
         (λ stored one. subst (ArePartsOf stored.number one.text) (sym is) (parts_behind result stored.number one.text kept one.kept)) M (shown.served (clean_first clean));
   }
 

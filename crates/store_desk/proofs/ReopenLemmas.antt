@@ -1,6 +1,7 @@
 -- From one run to the next: what is opened over the files that a stop left, or that were left with no stop; and what is left of them.
-use Rattle.std.proofs.Common.{◌≡◌, ℕ, List, IsTrue, take, refl, sym, subst, ◌∙◌, arith}
+use Rattle.std.proofs.Common.{◌≡◌, ℕ, List, IsTrue, inl, inr, take, refl, sym, subst, ◌∙◌, arith}
 use Rattle.std.specs.Prelude.{Option, Some, None, Contains}
+use Rattle.std.proofs.lemmas.Bool.{and_parts, and_from}
 use Rattle.std.proofs.Math.Logic.{∥∥₁_map, ∥∥₁_elim}
 use Rattle.sqlite_disk.specs.declared.Disk.{Ghosts}
 use Rattle.sqlite_disk.specs.declared.Files.{Files}
@@ -25,15 +26,18 @@ use Rattle.dict_catalogue.specs.Steps.{Catalogue, CommandRequest, after}
 use Rattle.dict_desk.specs.declared.fault.Fault.{Fault}
 use Rattle.store_holdings.specs.Committed.{IsTreesOf}
 use Rattle.store_holdings.specs.Holds.{IsLeft}
+use Rattle.store_holdings.proofs.OneLemmas.{database_once}
 use Rattle.store_migration.specs.Spared.{SparesOthers}
+use Rattle.store_migration.proofs.OtherLemmas.{others_then}
 use Rattle.store_opening.specs.Reading.{IsOfOpening}
-use Rattle.store_desk.specs.Desk.{DeskState, KeepsBeside, LeavesOneOf, StandsFor}
+use Rattle.store_desk.specs.Adopted.{MayCommitBeside}
+use Rattle.store_desk.specs.Desk.{DeskState, HasBeside, IsOneOf, KeepsBeside, LeavesOneOf, StandsFor}
 use Rattle.store_desk.specs.Promise.{HoldsFront}
-use Rattle.store_desk.specs.Reopened.{HoldsFrontIn, IsNoFaultOfContents, IsLetGo, IsOpenedOver, LeavesFront, ShowsFront, ShowsOneOf}
-use Rattle.store_desk.specs.Unopened.{IsOneIn, IsOneOf, IsRejected, IsUnopenedOver, IsUnopenedAgain, IsExcused, HandsBack, TellsNoHolding}
+use Rattle.store_desk.specs.Reopened.{AreTreesIn, HoldsFrontIn, IsNoFaultOfContents, IsLetGo, IsOpenedOver, IsStopped, LeavesFront, ShowsFront, ShowsOneOf}
+use Rattle.store_desk.specs.Unopened.{IsRejected, IsUnopenedOver, IsUnopenedAgain, IsExcused, HandsBack, TellsNoHolding}
 use Rattle.store_desk.specs.declared.reopening.Unopened.{Unopened}
 use Rattle.store_desk.specs.declared.reopening.Unopened.TheVariants as left
-use Rattle.store_desk.proofs.UnopenedLemmas.{IsSealedOneIn, opens_sealed, all_ready, rest_leaves, excused_by}
+use Rattle.store_desk.proofs.UnopenedLemmas.{AreSealedIn, opens_sealed, all_ready, rest_leaves, excused_by}
 use Rattle.store_migration.specs.Migrated.{MayMigrate}
 use Rattle.store_migration.proofs.StopLemmas.{stands_still}
 
@@ -49,6 +53,29 @@ pub stands_after : {D : Type 0} {g : Ghosts D} → SeenMayStay g → (conn now :
     → HasCleanDisk (file_state now) → (m : Option Catalogue) → StandsFor m (file_state conn).committed.trees → (trees : Trees) → (file_state now).may_leave trees → StandsFor m trees
 stands_after stays conn now opened survives honest m stands trees stop =
     stands_still (file_state (record conn { step_limit = None })) (file_state now) (λ live. (opened.1 live).1) (λ trees live may. settled_at conn.store stays trees live may) opened.0.is_open survives honest m stands trees stop
+
+-- and has the tables of others as they were
+pub others_after : {D : Type 0} {g : Ghosts D} → SeenMayStay g → (conn now : Held (FileStore D g)) → IsOpened conn → Survives (file_state (record conn { step_limit = None })) (file_state now) (MayCommitBeside (file_state conn))
+    → HasCleanDisk (file_state now) → (db : Database) → IsTreesOf (SparesOthers db) (file_state conn).committed.trees → (trees : Trees) → (file_state now).may_leave trees → IsTreesOf (SparesOthers db) trees
+others_after stays conn now opened survives honest db was trees stop = elim (survives.crash honest trees stop) as (λ _. IsTreesOf (SparesOthers db) trees) [
+  | inl same ↦ subst (IsTreesOf (SparesOthers db)) (sym (settled_at conn.store stays trees opened.0.is_open same)) was
+  | inr made ↦
+      let first : Database = (file_state conn).committed in
+      let spared : SparesOthers db first = subst (SparesOthers db) (database_once was.0 first was.2 (opened.1 made.0).1 (sym was.1)) was.3 in
+      (made.1.0, made.1.1, made.1.2, others_then db first made.1.0 spared made.1.3)
+]
+
+-- two files after a stop of each
+pub stopped_by : {D : Type 0} {g : Ghosts D} (was stopped : Files D) → outcomes g was.log was.db (image_of g stopped)
+    → ((octets : List ℕ) → g.may_leave stopped.log octets → g.may_leave was.log octets) × ((octets : List ℕ) → g.may_leave stopped.db octets → g.may_leave was.db octets)
+    → (IsTrue (g.is_clean stopped.log) → IsTrue (g.is_clean was.log)) × (IsTrue (g.is_clean stopped.db) → IsTrue (g.is_clean was.db)) → IsStopped g was stopped
+stopped_by {D} {g} was stopped left crash clean = record {
+  left = left;
+  crash = λ image out. (crash.0 image.log out.0, crash.1 image.db out.1);
+  clean = λ both.
+      let parts = and_parts (g.is_clean stopped.log) (g.is_clean stopped.db) both in
+      and_from (g.is_clean was.log) (g.is_clean was.db) (clean.0 parts.0) (clean.1 parts.1);
+}
 
 -- The two files that a desk let go of, as they are now, with a stop between or none: they leave nothing new.
 module _ {D : Type 0} {g : Ghosts D} (stays : SeenMayStay g) (desk : DeskState (FileStore D g)) (files now : Files D) (gone : IsLetGo desk.conn files)
@@ -81,14 +108,15 @@ module _ {D : Type 0} {g : Ghosts D} (stays : SeenMayStay g) (desk : DeskState (
   opens : AreClean g now.log now.db → (image : Image) → outcomes g now.log now.db image → ∥ ((db : Trees) × recovers gone.store db × HoldsDatabase image db) ∥₁
   opens clean image out = opens_again gone.store (gone.numbered (none clean)) (gone.sound (none clean)) image (may_be clean image out)
 
-  -- and no page of it waits for its sum
-  sealed_is : (ms : List (Option Catalogue)) → LeavesOneOf over_files desk ms → AreClean g now.log now.db → ∥ IsSealedOneIn ms (image_of g now) ∥₁
-  sealed_is ms leaves clean =
-      ∥∥₁_map (opens_sealed gone.store (gone.numbered (none clean)) (gone.sound (none clean)) (image_of g now) (may_be clean (image_of g now) stay))
-      (λ db. let h = leaves (early_desk clean) db.0 (gone.quiet.outcomes db.0 db.1) in (h.0, h.1, (db.0, db.2, h.2)))
+  -- such trees are in them, of which a stop of the desk leaves none other
+  module _ (P : Trees → Type 0) (leaves : HasCleanDisk (file_state desk.conn) → (trees : Trees) → (file_state desk.conn).may_leave trees → ∥ P trees ∥₁) (clean : AreClean g now.log now.db) where
+    -- and no page of them waits for its sum
+    sealed_is : ∥ AreSealedIn P (image_of g now) ∥₁
+    sealed_is = ∥∥₁_elim (opens_sealed gone.store (gone.numbered (none clean)) (gone.sound (none clean)) (image_of g now) (may_be clean (image_of g now) stay)) squash₁
+        (λ db. ∥∥₁_map (leaves (early_desk clean) db.0 (gone.quiet.outcomes db.0 db.1)) (λ h. (db.0, db.2, h)))
 
-  each_is : (ms : List (Option Catalogue)) → LeavesOneOf over_files desk ms → AreClean g now.log now.db → (image : Image) → outcomes g now.log now.db image → ∥ IsOneIn ms image ∥₁
-  each_is ms leaves clean image out = ∥∥₁_map (opens clean image out) (λ db. let h = leaves (early_desk clean) db.0 (gone.quiet.outcomes db.0 db.1) in (h.0, h.1, (db.0, db.2, h.2)))
+    each_is : (image : Image) → outcomes g now.log now.db image → ∥ AreTreesIn P image ∥₁
+    each_is image out = ∥∥₁_elim (opens clean image out) squash₁ (λ db. ∥∥₁_map (leaves (early_desk clean) db.0 (gone.quiet.outcomes db.0 db.1)) (λ h. (db.0, db.2, h)))
 
   -- ---- a desk over them
 
@@ -121,7 +149,7 @@ module _ {D : Type 0} {g : Ghosts D} (stays : SeenMayStay g) (desk : DeskState (
   pub still_beside : (next : DeskState (FileStore D g)) → IsOpenedOver now next → (db : Database) → KeepsBeside over_files desk db → KeepsBeside over_files next db
   still_beside next over db keeps = over.adopted.keeps db (λ first trees could.
       let is : trees ≡ (file_state over.conn).committed.trees = settled_at over.conn.store stays trees (over.opened first).0.0.is_open could in
-      ∥∥₁_elim (may over.conn over.opened first) squash₁ (λ both. subst (λ (t : Trees). ∥ IsTreesOf (SparesOthers db) t ∥₁) (sym is) (keeps both.0 (file_state over.conn).committed.trees both.1)))
+      ∥∥₁_elim (may over.conn over.opened first) squash₁ (λ both. subst (HasBeside db) (sym is) (keeps both.0 (file_state over.conn).committed.trees both.1)))
 
   -- ---- or none
 
@@ -151,6 +179,11 @@ module _ {D : Type 0} {g : Ghosts D} (stays : SeenMayStay g) (desk : DeskState (
         ∥∥₁_map (may over.conn over.opened first_clean)
         (λ both. let h = leaves both.0 (file_state over.conn).committed.trees both.1 in (h.0, h.1, stands_after stays over.conn conn (over.opened first_clean).0 over.adopted.crash honest h.0 h.2 trees stop))
 
+    -- with the tables of others that were kept
+    rejected_keeps : (db : Database) → KeepsBeside over_files desk db → (trees : Trees) → (file_state conn).may_leave trees → HasBeside db trees
+    rejected_keeps db keeps trees stop = ∥∥₁_elim (may over.conn over.opened first_clean) squash₁
+        (λ both. ∥∥₁_map (keeps both.0 (file_state over.conn).committed.trees both.1) (λ was. others_after stays over.conn conn (over.opened first_clean).0 over.adopted.beside honest db was trees stop))
+
   pub tells_none : (it : Unopened D g) (fault : Fault) → IsUnopenedOver now it fault → (ms : List (Option Catalogue)) → LeavesOneOf over_files desk ms → (Contains ms None → ⊥) → TellsNoHolding it fault
   tells_none (left.Files some) fault h = λ ms leaves never. tt
   tells_none (left.Spent both) fault h = λ ms leaves never. tt
@@ -163,16 +196,30 @@ module _ {D : Type 0} {g : Ghosts D} (stays : SeenMayStay g) (desk : DeskState (
   tells_none_of_front (left.Database conn) fault h = λ before requests answered leaves honest.
       is_of_store conn fault h honest (λ clean trees stop. let f = leaves clean trees stop in (after before (take f.0 requests), f.3.left))
 
-  pub hands_back : (it : Unopened D g) (fault : Fault) → IsUnopenedOver now it fault → (ms : List (Option Catalogue)) → LeavesOneOf over_files desk ms → HandsBack now ms it
-  hands_back (left.Files None) fault h = absurd h
-  hands_back (left.Files (Some rest)) fault h = λ ms leaves clean still.
-      rest_leaves now ms (each_is ms leaves clean) stay rest (all_ready now ms (each_is ms leaves clean) stay rest (sealed_is ms leaves clean)) (h.unharmed still)
-  hands_back (left.Spent both) fault h = absurd h
-  hands_back (left.Database conn) fault h = λ ms leaves honest trees stop. rejected_leaves conn fault h honest ms leaves trees stop
+  module _ (P : Trees → Type 0) (leaves : HasCleanDisk (file_state desk.conn) → (trees : Trees) → (file_state desk.conn).may_leave trees → ∥ P trees ∥₁) where
+    hands_by : (it : Unopened D g) (fault : Fault) → IsUnopenedOver now it fault
+        → ((conn : Held (FileStore D g)) → IsRejected now conn fault → HasCleanDisk (file_state conn) → (trees : Trees) → (file_state conn).may_leave trees → ∥ P trees ∥₁) → HandsBack now P it
+    hands_by (left.Files None) fault h rejected = absurd h
+    hands_by (left.Files (Some rest)) fault h rejected = λ clean still.
+        rest_leaves now P (each_is P leaves clean) stay rest (all_ready now P (each_is P leaves clean) stay rest (sealed_is P leaves clean)) (h.unharmed still)
+    hands_by (left.Spent both) fault h rejected = absurd h
+    hands_by (left.Database conn) fault h rejected = rejected conn h
 
-  -- both as they are
-  pub hands_spent : (ms : List (Option Catalogue)) → LeavesOneOf over_files desk ms → HandsBack {D = D} {d = g} now ms (left.Spent now)
-  hands_spent ms leaves = λ clean image out. each_is ms leaves clean image out
+    -- both as they are
+    pub hands_spent : HandsBack {D = D} {d = g} now P (left.Spent now)
+    hands_spent = λ clean image out. each_is P leaves clean image out
+
+  pub leaves_some : (ms : List (Option Catalogue)) → LeavesOneOf over_files desk ms → HasCleanDisk (file_state desk.conn) → (trees : Trees) → (file_state desk.conn).may_leave trees → ∥ IsOneOf ms trees ∥₁
+  leaves_some ms leaves = λ clean trees could. ∣ (leaves clean trees could) ∣₁
+
+  pub keeps_some : (db : Database) → KeepsBeside over_files desk db → HasCleanDisk (file_state desk.conn) → (trees : Trees) → (file_state desk.conn).may_leave trees → ∥ HasBeside db trees ∥₁
+  keeps_some db keeps = λ clean trees could. ∣ (keeps clean trees could) ∣₁
+
+  pub hands_back : (it : Unopened D g) (fault : Fault) → IsUnopenedOver now it fault → (ms : List (Option Catalogue)) → LeavesOneOf over_files desk ms → HandsBack now (IsOneOf ms) it
+  hands_back it fault h ms leaves = hands_by (IsOneOf ms) (leaves_some ms leaves) it fault h (λ conn over honest trees stop. rejected_leaves conn fault over honest ms leaves trees stop)
+
+  pub hands_beside : (it : Unopened D g) (fault : Fault) → IsUnopenedOver now it fault → (db : Database) → KeepsBeside over_files desk db → HandsBack now (HasBeside db) it
+  hands_beside it fault h db keeps = hands_by (HasBeside db) (keeps_some db keeps) it fault h (λ conn over honest trees stop. ∣ (rejected_keeps conn fault over honest db keeps trees stop) ∣₁)
 
   pub excused : (it : Unopened D g) (fault : Fault) → IsUnopenedOver now it fault → IsExcused now it fault
   excused (left.Files None) fault h = absurd h

@@ -1,6 +1,5 @@
 -- What is left of two files that were not opened.
-use Rattle.std.proofs.Common.{◌≡◌, ◌≢◌, ◌⊎◌, inl, inr, ℕ, ◌%◌, ◌≤◌, List, IsTrue, false, refl, sym, ap, subst, ◌∙◌, arith, take_all}
-use Rattle.std.specs.Prelude.{Option, Contains}
+use Rattle.std.proofs.Common.{◌≡◌, ◌≢◌, ◌⊎◌, inl, inr, ℕ, ◌%◌, ◌≤◌, IsTrue, false, refl, sym, ap, subst, ◌∙◌, arith, take_all}
 use Rattle.std.proofs.lemmas.Bool.{cases_eq, eq-eqb, ne_eqb, true≢false}
 use Rattle.std.proofs.Math.Logic.{∥∥₁_map, ∥∥₁_elim}
 use Rattle.sqlite_disk.specs.Disk.{MoreFaults}
@@ -27,11 +26,10 @@ use Rattle.sqlite.specs.declared.file.Leftover.{Leftover}
 use Rattle.sqlite.specs.declared.file.Leftover.TheVariants as rest
 use Rattle.sqlite.proofs.FileLemmas.{is_something}
 use Rattle.sqlite_store.specs.Unopened.{state_of}
-use Rattle.dict_catalogue.specs.Steps.{Catalogue}
 use Rattle.dict_desk.specs.declared.fault.Fault.{Fault}
 use Rattle.dict_desk.specs.declared.fault.Fault.TheVariants.{Memory}
-use Rattle.store_desk.specs.Unopened.{fault_of_files, IsOneIn, IsSealed, RestLeaves}
-use Rattle.store_desk.specs.Desk.{StandsFor}
+use Rattle.store_desk.specs.Reopened.{AreTreesIn}
+use Rattle.store_desk.specs.Unopened.{fault_of_files, IsSealed, RestLeaves}
 
 -- ---- the size of pages
 
@@ -94,9 +92,9 @@ plain_is_sealed image plain db held =
 
 -- ---- what is opened again
 
--- one of these is in the octets, of which no page waits for its sum
-abbrev pub IsSealedOneIn : List (Option Catalogue) → Image → Type 0
-IsSealedOneIn ms image = (m : Option Catalogue) × Contains ms m × ((db : Trees) × ((held : HoldsDatabase image db) × Recovers held.0 image held.2.pages) × StandsFor m db)
+-- such trees are in the octets, of which no page waits for its sum
+abbrev pub AreSealedIn : (Trees → Type 0) → Image → Type 0
+AreSealedIn P image = (db : Trees) × ((held : HoldsDatabase image db) × Recovers held.0 image held.2.pages) × P db
 
 -- no page waits for its sum in what a stop leaves of a store
 pub opens_sealed : {D : Type 0} {g : Ghosts D} (it : FileStore D g) → IsTrue (view it).is_numbered → AreDatabases (recovers it)
@@ -122,41 +120,41 @@ opens_sealed it numbered sound left may = ∥∥₁_elim it.safe squash₁ (λ a
     ) in
     let r : (x : Trees) × recovers it x × ((h : HoldsDatabase left x) × Recovers h.0 left h.2.pages) = (db, allowed, (held, found.1)) in r)))
 
--- ---- two files, of which a stop leaves one of these
-module _ {D : Type 0} {g : Ghosts D} (files : Files D) (ms : List (Option Catalogue)) (each : (left : Image) → outcomes g files.log files.db left → ∥ IsOneIn ms left ∥₁) (stay : outcomes g files.log files.db (image_of g files)) where
+-- ---- two files, of which a stop leaves such trees
+module _ {D : Type 0} {g : Ghosts D} (files : Files D) (P : Trees → Type 0) (each : (left : Image) → outcomes g files.log files.db left → ∥ AreTreesIn P left ∥₁) (stay : outcomes g files.log files.db (image_of g files)) where
   -- where `sqlite` had begun to write them
   abbrev pub IsReady : Leftover D g → Type 0
   IsReady (rest.Files now) = Unit {0}
-  IsReady (rest.Unopened now) = ∥ IsSealedOneIn ms (image_of g files) ∥₁
+  IsReady (rest.Unopened now) = ∥ AreSealedIn P (image_of g files) ∥₁
   IsReady (rest.Store now) = Unit {0}
 
-  pub all_ready : (now : Leftover D g) → ∥ IsSealedOneIn ms (image_of g files) ∥₁ → IsReady now
+  pub all_ready : (now : Leftover D g) → ∥ AreSealedIn P (image_of g files) ∥₁ → IsReady now
   all_ready (rest.Files now) one = tt
   all_ready (rest.Unopened now) one = one
   all_ready (rest.Store now) one = tt
 
-  pub rest_leaves : (now : Leftover D g) → IsReady now → LeavesFiles files now → RestLeaves ms now
+  pub rest_leaves : (now : Leftover D g) → IsReady now → LeavesFiles files now → RestLeaves P now
   rest_leaves (rest.Files now) ready left = λ image out. each image (left image out)
   rest_leaves (rest.Unopened now) ready left = λ image may. ∥∥₁_elim ready squash₁ (λ one.
-      let db = one.2.0 in
-      let held = one.2.1.0 in
-      elim left as (λ _. ∥ IsOneIn ms image ∥₁) [
+      let db = one.0 in
+      let held = one.1.0 in
+      elim left as (λ _. ∥ AreTreesIn P image ∥₁) [
         | inl nothing ↦ absurd (is_something (image_of g files) db held nothing.0)
-        | inr begun ↦ elim (begun.4 image may).same as (λ _. ∥ IsOneIn ms image ∥₁) [
+        | inr begun ↦ elim (begun.4 image may).same as (λ _. ∥ AreTreesIn P image ∥₁) [
           | inl out ↦ each image out
           | inr stands ↦
               let n = (state_of now).page_size in
               let same = stored_same (image_of g files) db held n begun.1 begun.3 in
               let there : HoldsDatabase image db = elim (same_or_plain (image_of g files) db held n begun.1 begun.3) [
                 | inl is ↦ still_held (image_of g files) image db held n is stands
-                | inr plain ↦ still_sealed (image_of g files) image db held one.2.1.1 n same plain stands
+                | inr plain ↦ still_sealed (image_of g files) image db held one.1.1 n same plain stands
               ] in
-              ∣ (one.0, one.1, (db, there, one.2.2)) ∣₁
+              ∣ (db, there, one.2) ∣₁
         ]
       ])
   rest_leaves (rest.Store now) ready left = λ trees found. ∥∥₁_map (each (image_of g files) stay) (λ one.
-      let same : trees ≡ one.2.0 = (left trees found).1 one.2.0 one.2.1 in
-      (one.0, one.1, subst (StandsFor one.0) (sym same) one.2.2))
+      let same : trees ≡ one.0 = (left trees found).1 one.0 one.1 in
+      subst P (sym same) one.2)
 
 -- files that hold a database are refused for memory, a failure of the disk, or a limit
 pub excused_by : {D : Type 0} {g : Ghosts D} (files : Files D) (now : Leftover D g) (error : Error) (fault : Fault) → ∥ ((db : Trees) × HoldsDatabase (image_of g files) db) ∥₁ → fault ≡ fault_of_files error

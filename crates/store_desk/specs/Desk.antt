@@ -33,13 +33,14 @@ use Rattle.store_desk.specs.declared.last.LastCall.TheVariants.{Fine, Failed, Cl
 use Rattle.store_rows.specs.Versions.{known, layout_of}
 
 -- the connection, the summary in memory, and how the last call by `&mut` ended; the indexes of editions by their numbers, and the parts
--- of texts that are kept
+-- of texts that are kept; and how many entries and rows lookups have taken
 pub record DeskState (S : Type 0) : Type 0 where
   pub conn : Held S
   pub summary : Holdings (List ℕ)
   pub last : LastCall
   pub indexes : List (ℕ × List Indexed)
   pub texts : List (PartNumbers × List ℕ)
+  pub taken : ℕ
 
 abbrev pub is_closed : LastCall → Bool
 is_closed Fine = false
@@ -61,6 +62,14 @@ abbrev pub reply_of : Result Applied Fault → Result Kept Fault
 reply_of (Ok (Repeated kept)) = Ok kept
 reply_of (Ok (Done kept summary)) = Ok kept
 reply_of (Err fault) = Err fault
+
+-- trees of a database from which one of these is opened: a catalogue, or none
+abbrev pub IsOneOf : List (Option Catalogue) → Trees → Type 0
+IsOneOf ms trees = (m : Option Catalogue) × Contains ms m × StandsFor m trees
+
+-- trees of a database with the tables of others that this one has, as they are there
+abbrev pub HasBeside : Database → Trees → Type 0
+HasBeside db trees = ∥ IsTreesOf (SparesOthers db) trees ∥₁
 
 -- while the store is open, a catalogue of this summary is committed
 abbrev pub HasCommitted : Holdings (List ℕ) → State → Type 0
@@ -110,8 +119,8 @@ module _ {S : Type 0} (g : Ghosts S) where
 
   -- whatever a stop now leaves has the tables of others that this database has, as they are there
   abbrev pub KeepsBeside : DeskState S → Database → Type 0
-  KeepsBeside desk db = HasCleanDisk (state g desk.conn) → (trees : Trees) → (state g desk.conn).may_leave trees → ∥ IsTreesOf (SparesOthers db) trees ∥₁
+  KeepsBeside desk db = HasCleanDisk (state g desk.conn) → (trees : Trees) → (state g desk.conn).may_leave trees → HasBeside db trees
 
   -- whatever a stop now leaves stands for one of these
   abbrev pub LeavesOneOf : DeskState S → List (Option Catalogue) → Type 0
-  LeavesOneOf desk ms = HasCleanDisk (state g desk.conn) → (trees : Trees) → (state g desk.conn).may_leave trees → (m : Option Catalogue) × Contains ms m × StandsFor m trees
+  LeavesOneOf desk ms = HasCleanDisk (state g desk.conn) → (trees : Trees) → (state g desk.conn).may_leave trees → IsOneOf ms trees

@@ -1,5 +1,5 @@
 -- What comes of a session over a database.
-use Rattle.std.specs.Prelude.{◌≡◌, ℕ, IsTrue, List, Option, Contains, Result}
+use Rattle.std.specs.Prelude.{◌≡◌, ℕ, IsTrue, List, Option, Result}
 use Rattle.sqlite.specs.Effect.{Database}
 use Rattle.sqlite.specs.State.{HasCleanDisk}
 use Rattle.sqlite.specs.Tree.{Trees}
@@ -7,15 +7,13 @@ use Rattle.sqlite.specs.Held.{Held, state}
 use Rattle.sqlite_trees.specs.declared.store.Store.{Ghosts}
 use Rattle.dict_catalogue.specs.Steps.{Catalogue}
 use Rattle.dict_desk.specs.declared.fault.Fault.{Fault}
-use Rattle.store_holdings.specs.Committed.{IsTreesOf}
 use Rattle.store_holdings.specs.Holds.{IsHeld, IsLeft}
-use Rattle.store_migration.specs.Spared.{SparesOthers}
 use Rattle.dict_proto.specs.Streams.{StreamChange}
 use Rattle.dict_session.specs.Desks.{Condition}
 use Rattle.dict_session.specs.Run.{Ends}
 use Rattle.dict_session.specs.declared.session.run.SessionEnd.{SessionEnd}
 use Rattle.dict_session.specs.declared.session.run.SessionFault.{SessionFault}
-use Rattle.store_desk.specs.Desk.{DeskState, Shows, StandsFor, has_failed, is_closed}
+use Rattle.store_desk.specs.Desk.{DeskState, HasBeside, IsOneOf, Shows, has_failed, is_closed}
 use Rattle.store_desk.specs.Opened.{IsNotLeft}
 use Rattle.store_desk.specs.declared.last.LastCall.{LastCall}
 
@@ -47,8 +45,8 @@ module _ {S : Type 0} (g : Ghosts S) where
 
   -- whatever a stop now leaves of the database has the tables of others that this one has, as they are there
   abbrev pub ConnectionKeepsBeside : Held S → Database → Type 0
-  ConnectionKeepsBeside conn db = HasCleanDisk (state g conn) → (trees : Trees) → (state g conn).may_leave trees → ∥ IsTreesOf (SparesOthers db) trees ∥₁
+  ConnectionKeepsBeside conn db = HasCleanDisk (state g conn) → (trees : Trees) → (state g conn).may_leave trees → HasBeside db trees
 
   -- whatever a stop now leaves of the database stands for one of these catalogues, or for none
   abbrev pub ConnectionLeavesOneOf : Held S → List (Option Catalogue) → Type 0
-  ConnectionLeavesOneOf conn ms = HasCleanDisk (state g conn) → (trees : Trees) → (state g conn).may_leave trees → (m : Option Catalogue) × Contains ms m × StandsFor m trees
+  ConnectionLeavesOneOf conn ms = HasCleanDisk (state g conn) → (trees : Trees) → (state g conn).may_leave trees → IsOneOf ms trees

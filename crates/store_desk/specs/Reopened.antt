@@ -22,9 +22,13 @@ use Rattle.store_desk.specs.Desk.{DeskState, Shows}
 use Rattle.store_desk.specs.Adopted.{IsAdopted}
 use Rattle.store_desk.specs.Promise.{HoldsFront}
 
--- these octets of a log and of its database file are those of a database from which the catalogue is opened
+-- these octets of a log and of its database file are those of a database with such trees
+abbrev pub AreTreesIn : (Trees → Type 0) → Image → Type 0
+AreTreesIn P image = (db : Trees) × HoldsDatabase image db × P db
+
+-- and of one from which the catalogue is opened
 abbrev pub IsIn : Catalogue → Image → Type 0
-IsIn M image = (db : Trees) × HoldsDatabase image db × IsLeft M db
+IsIn M image = AreTreesIn (IsLeft M) image
 
 -- no fault of what a database holds
 abbrev pub IsNoFaultOfContents : Fault → Type 0

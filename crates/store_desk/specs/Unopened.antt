@@ -1,5 +1,5 @@
 -- What is left where a database is not opened again, and why it isn't.
-use Rattle.std.specs.Prelude.{◌≡◌, ◌⊎◌, ◌&&◌, false, IsTrue, ℕ, List, [], ◌∷◌, Option, Some, None, Contains}
+use Rattle.std.specs.Prelude.{◌≡◌, ◌⊎◌, ◌&&◌, false, IsTrue, ℕ, List, Option, Some, None, Contains}
 use Rattle.sqlite.specs.Recovery.{Image}
 use Rattle.sqlite.specs.Tree.{Trees}
 use Rattle.sqlite.specs.Files.{HoldsDatabase, IsOpened, Finds, IsCleanLeft, IsFullLeft, FailsToOpenFiles, LeavesFiles, faults_of, faults_left, file_state, image_of, over_files}
@@ -25,10 +25,11 @@ use Rattle.dict_catalogue.specs.Steps.{Catalogue, CommandRequest}
 use Rattle.dict_desk.specs.declared.fault.Fault.{Fault}
 use Rattle.dict_desk.specs.declared.fault.Fault.TheVariants.{Memory, Disk, NotACatalogue}
 use Rattle.store_opening.specs.Reading.{IsOfOpening}
-use Rattle.store_desk.specs.Desk.{DeskState, LeavesOneOf, StandsFor}
+use Rattle.sqlite.specs.Effect.{Database as Contents}
+use Rattle.store_desk.specs.Desk.{DeskState, HasBeside, IsOneOf, KeepsBeside, LeavesOneOf, StandsFor}
 use Rattle.store_desk.specs.Opened.{IsNotLeft}
 use Rattle.store_desk.specs.Adopted.{IsNotAdopted, FailsToOpen}
-use Rattle.store_desk.specs.Reopened.{IsIn, IsNoFaultOfContents, IsLetGo, IsStopped, LeavesFront}
+use Rattle.store_desk.specs.Reopened.{AreTreesIn, IsIn, IsNoFaultOfContents, IsLetGo, IsStopped, LeavesFront}
 use Rattle.store_desk.specs.declared.reopening.Unopened.{Unopened}
 use Rattle.store_desk.specs.declared.reopening.Unopened.TheVariants.{Files, Spent, Database}
 
@@ -39,16 +40,9 @@ fault_of_files _ = NotACatalogue
 
 -- ---- what a stop leaves of that which is handed back
 
--- trees of a database from which one of these is opened: a catalogue, or none
-abbrev pub IsOneOf : List (Option Catalogue) → Trees → Type 0
-IsOneOf ms trees = (m : Option Catalogue) × Contains ms m × StandsFor m trees
-
--- and octets of a log and of its database file that hold such trees
+-- octets of a log and of its database file that hold a catalogue, or none
 abbrev pub StandsInImage : Option Catalogue → Image → Type 0
-StandsInImage m image = (db : Trees) × HoldsDatabase image db × StandsFor m db
-
-abbrev pub IsOneIn : List (Option Catalogue) → Image → Type 0
-IsOneIn ms image = (m : Option Catalogue) × Contains ms m × StandsInImage m image
+StandsInImage m image = AreTreesIn (StandsFor m) image
 
 -- No page of a database in these octets waits for its sum, as one in a log may to which a `sqlite3` without sums has written.
 abbrev pub IsSealed : Image → Type 0
@@ -61,11 +55,11 @@ pub record HaveOctets {D : Type 0} (d : disk.Ghosts D) (image : Image) (files : 
   pub clean : AreClean d files.log files.db
 
 module _ {D : Type 0} {d : disk.Ghosts D} where
-  -- A stop leaves one of these of what `sqlite` left of two files.
-  abbrev pub RestLeaves : List (Option Catalogue) → Leftover D d → Type 0
-  RestLeaves ms (rest.Files now) = (left : Image) → outcomes d now.log now.db left → ∥ IsOneIn ms left ∥₁
-  RestLeaves ms (rest.Unopened now) = (left : Image) → (state_of now).may_leave left → ∥ IsOneIn ms left ∥₁
-  RestLeaves ms (rest.Store now) = (trees : Trees) → recovers now trees → ∥ IsOneOf ms trees ∥₁
+  -- A stop leaves such trees of what `sqlite` left of two files.
+  abbrev pub RestLeaves : (Trees → Type 0) → Leftover D d → Type 0
+  RestLeaves P (rest.Files now) = (left : Image) → outcomes d now.log now.db left → ∥ AreTreesIn P left ∥₁
+  RestLeaves P (rest.Unopened now) = (left : Image) → (state_of now).may_leave left → ∥ AreTreesIn P left ∥₁
+  RestLeaves P (rest.Store now) = (trees : Trees) → recovers now trees → ∥ P trees ∥₁
 
   -- Where `sqlite` had begun to write two files with these octets, no page waited for its sum.
   abbrev pub WasSealed : Image → Leftover D d → Type 0
@@ -73,12 +67,12 @@ module _ {D : Type 0} {d : disk.Ghosts D} where
   WasSealed image (rest.Unopened now) = IsSealed image
   WasSealed image (rest.Store now) = Unit {0}
 
-  -- A stop leaves one of these of what is handed back of two files, while no wrong answer of them was taken as true.
-  abbrev pub HandsBack : Pair D → List (Option Catalogue) → Unopened D d → Type 0
-  HandsBack files ms (Files None) = ⊥
-  HandsBack files ms (Files (Some now)) = AreClean d files.log files.db → IsCleanLeft now → RestLeaves ms now
-  HandsBack files ms (Spent now) = AreClean d now.log now.db → (left : Image) → outcomes d now.log now.db left → ∥ IsOneIn ms left ∥₁
-  HandsBack files ms (Database now) = HasCleanDisk (file_state now) → (trees : Trees) → (file_state now).may_leave trees → ∥ IsOneOf ms trees ∥₁
+  -- A stop leaves such trees of what is handed back of two files, while no wrong answer of them was taken as true.
+  abbrev pub HandsBack : Pair D → (Trees → Type 0) → Unopened D d → Type 0
+  HandsBack files P (Files None) = ⊥
+  HandsBack files P (Files (Some now)) = AreClean d files.log files.db → IsCleanLeft now → RestLeaves P now
+  HandsBack files P (Spent now) = AreClean d now.log now.db → (left : Image) → outcomes d now.log now.db left → ∥ AreTreesIn P left ∥₁
+  HandsBack files P (Database now) = HasCleanDisk (file_state now) → (trees : Trees) → (file_state now).may_leave trees → ∥ P trees ∥₁
 
   -- ---- why
 
@@ -141,15 +135,16 @@ module _ {D : Type 0} {d : disk.Ghosts D} where
 
   -- ---- desks that are opened again
 
-  -- There is no desk over the two files that a desk let go of. What is handed back leaves nothing that the desk couldn't leave, and
-  -- where that was always a catalogue, no fault tells of what their database holds.
+  -- There is no desk over the two files that a desk let go of. What is handed back leaves nothing that the desk couldn't leave, with the
+  -- tables of others that the desk kept; and where that was always a catalogue, no fault tells of what their database holds.
   pub record IsUnreopened (desk : DeskState (FileStore D d)) (left : Unopened D d) (fault : Fault) : Type 0 where
     pub files : Pair D
     pub let_go : IsLetGo desk.conn files
     pub why : IsUnopenedAgain files left fault
     pub kind : IsOfOpening fault
     pub excused : IsExcused files left fault
-    pub leaves : (ms : List (Option Catalogue)) → LeavesOneOf over_files desk ms → HandsBack files ms left
+    pub leaves : (ms : List (Option Catalogue)) → LeavesOneOf over_files desk ms → HandsBack files (IsOneOf ms) left
+    pub beside : (db : Contents) → KeepsBeside over_files desk db → HandsBack files (HasBeside db) left
     pub of_store : (ms : List (Option Catalogue)) → LeavesOneOf over_files desk ms → (Contains ms None → ⊥) → TellsNoHolding left fault
 
   -- The same after a stop of those files.
@@ -161,19 +156,21 @@ module _ {D : Type 0} {d : disk.Ghosts D} where
     pub why : IsUnopenedOver stopped left fault
     pub kind : IsOfOpening fault
     pub excused : IsExcused stopped left fault
-    pub leaves : (ms : List (Option Catalogue)) → LeavesOneOf over_files desk ms → HandsBack stopped ms left
+    pub leaves : (ms : List (Option Catalogue)) → LeavesOneOf over_files desk ms → HandsBack stopped (IsOneOf ms) left
+    pub beside : (db : Contents) → KeepsBeside over_files desk db → HandsBack stopped (HasBeside db) left
     pub of_store : (ms : List (Option Catalogue)) → LeavesOneOf over_files desk ms → (Contains ms None → ⊥) → TellsNoHolding left fault
     pub of_front : (before : Catalogue) (requests : List CommandRequest) (answered : ℕ) → LeavesFront over_files desk before requests answered → TellsNoHolding left fault
 
   -- ---- and files at a path
 
-  -- `sqlite` refused two files with these octets, or failed. What is handed back leaves what the octets hold; where it had begun to
-  -- write, that is told of octets of which no page waited for its sum.
+  -- `sqlite` refused two files with these octets, or failed. What is handed back leaves what the octets hold, with the tables of others;
+  -- where it had begun to write, that is told of octets of which no page waited for its sum.
   pub record IsRefusedFrom (image : Image) (now : Leftover D d) (fault : Fault) : Type 0 where
     pub files : Pair D
     pub octets : HaveOctets d image files
     pub why : AreFilesRefused files now fault
-    pub leaves : (m : Option Catalogue) → StandsInImage m image → WasSealed image now → IsCleanLeft now → RestLeaves (m ∷ []) now
+    pub leaves : (m : Option Catalogue) → StandsInImage m image → WasSealed image now → IsCleanLeft now → RestLeaves (StandsFor m) now
+    pub beside : (db : Contents) → AreTreesIn (HasBeside db) image → WasSealed image now → IsCleanLeft now → RestLeaves (HasBeside db) now
 
   -- The database that files with these octets were opened as is handed back, and no desk adopted it. It leaves what the octets hold,
   -- and where that is a catalogue, no fault tells of what it holds.

@@ -13,13 +13,17 @@ ghost use Rattle.store_holdings.specs.Committed.{IsTreesOf};
 ghost use Rattle.store_migration.specs.Spared.{SparesOthers};
 ghost use Rattle.store_commands.specs.Changes.{IsInRange};
 ghost use Rattle.store_commands.specs.Answers.{HoldsBy};
-ghost use Rattle.store_desk.specs.Desk.{Shows, LeavesOneOf, is_closed};
+ghost use Rattle.sqlite.specs.Effect.{Database};
+ghost use Rattle.store_desk.specs.Desk.{KeepsBeside, Shows, LeavesOneOf, is_closed};
+ghost use Rattle.store_desk.specs.Over.{ConnectionKeepsBeside};
 ghost use Rattle.store_desk.specs.Indexed.{AreHeldCut};
 ghost use Rattle.store_desk.specs.Prepared.{Undoes};
 ghost use Rattle.store_rows.specs.Versions.{known};
 
+use crate::adopting::is_whole;
 use crate::coming::Coming;
 use crate::last::LastCall;
+use crate::laws::committed_may_stay;
 use crate::withdrawing::undo;
 use dict_catalogue::Summary;
 use dict_desk::Fault;
@@ -43,7 +47,7 @@ pub struct Desk<S: Alter + Drop> {
     pub(crate) indexes: Indexes,
     // The texts of editions that lookups keep. Those of a database stay as a command changes another one.
     pub(crate) texts: TextParts,
-    // The entries that lookups have looked at, and the rows that their statements have handed over. Nothing rests on it.
+    // The entries that lookups have looked at, and the rows that their statements have handed over. No answer rests on it.
     pub(crate) rows_taken: u64,
     // What is read of an install that may come.
     pub(crate) draft: Option<Draft>,
@@ -85,7 +89,7 @@ impl<S: Alter + Drop> Model for Desk<S> {
 
     ghost coded = { Prim.hlevel (codes, held_code S.code) };
 
-    ghost view = { λ d. record { conn = d.conn; summary = summary_shown d.summary; last = d.last; indexes = d.indexes; texts = d.texts } };
+    ghost view = { λ d. record { conn = d.conn; summary = summary_shown d.summary; last = d.last; indexes = d.indexes; texts = d.texts; taken = d.rows_taken } };
 
     ghost invariant = { λ d. IsAtRest S.Store d.last (summary_shown d.summary) d.filing d.conn × KeepsTexts d.last (summary_shown d.summary) d.texts };
 }
@@ -102,7 +106,7 @@ impl<S: Alter + Drop> Desk<S> {
         requires limit { conn.step_limit ≡ None }
         requires range { IsInRange (summary_shown summary) }
         requires holds { HoldsBy (summary_shown summary) (state S.Store conn) }
-        ensures is { result ≡ record { conn = conn; summary = summary_shown summary; last = LastCall.Fine; indexes = indexes; texts = [] } }
+        ensures is { result ≡ record { conn = conn; summary = summary_shown summary; last = LastCall.Fine; indexes = indexes; texts = []; taken = 0 } }
         ensures shows { (M : Catalogue) → summary_shown summary ≡ summary_of M → IsWellFormed M → (HasCleanDisk (state S.Store conn) → Rests known (state S.Store conn) M) → (HasCleanDisk (state S.Store conn) → AreHeldCut (state S.Store conn).committed M indexes) → Shows S.Store result M }
     {
         Desk {
@@ -135,6 +139,7 @@ impl<S: Alter + Drop> Desk<S> {
         ensures place { IfOk result (λ desk. HasPlace (state S.Store conn).now.schema) }
         ensures others { IfOk result (λ desk. HasCleanDisk (state S.Store desk.conn) → SparesOthers (state S.Store conn).now (state S.Store desk.conn).now) }
         ensures beside { IfOk result (λ desk. Survives (state S.Store (record conn { step_limit = None })) (state S.Store desk.conn) (IsTreesOf (SparesOthers (state S.Store conn).now))) }
+        ensures keeps { IfOk result (λ desk. (db : Database) → ConnectionKeepsBeside S.Store conn db → KeepsBeside S.Store desk db) }
         ensures beside_left { IfErr result (λ left. Survives (state S.Store (record conn { step_limit = None })) (state S.Store left.0) (IsTreesOf (SparesOthers (state S.Store conn).now))) }
         ensures handed { IfErr result (λ left. left.0.in_transaction ≡ false) }
         ensures no_place { IfErr result (λ left. left.1 ≡ Fault.NotACatalogue → (HasPlace (state S.Store conn).now.schema → ⊥) × (left.0 ≡ record conn { step_limit = None })) }
@@ -144,6 +149,9 @@ impl<S: Alter + Drop> Desk<S> {
         ensures failed { IfErr result (λ left. HasCleanDisk (state S.Store left.0) → left.1 ≢ Fault.NotACatalogue → CreationFailsToEnd S.Store (creation known) (λ db. Holds known db empty_catalogue) (record conn { step_limit = None }) left.0 left.1) }
         ensures kinds { IfErr result (λ left. IsOfCreation left.1) }
     {
+        is_whole(&conn);
+        committed_may_stay(&conn);
+        conn.is_autocommit();
         let mut conn = conn;
         conn.set_step_limit(None);
         match create(&mut conn) {
@@ -160,8 +168,11 @@ impl<S: Alter + Drop> Desk<S> {
     }
 
     /// How many entries this desk's lookups have looked at, and how many rows their statements have handed over, since it was opened, up to
-    /// the greatest number of its type, where it stays. Nothing rests on it: it tells what lookups cost.
-    pub fn rows_taken(&self) -> u64 {
+    /// the greatest number of its type, where it stays. No answer rests on it: it tells what lookups cost, and each lookup says how many
+    /// more there are behind it at least.
+    pub fn rows_taken(&self) -> u64
+        ensures { result ≡ self.now.taken }
+    {
         self.rows_taken
     }
 

@@ -1,5 +1,5 @@
 // The indexes of a desk over a command.
-ghost use Rattle.std.specs.Prelude.{◌≡◌, ℕ, true, IfOk, OnOk, OnErr};
+ghost use Rattle.std.specs.Prelude.{◌≡◌, ℕ, true, OnOk, OnErr};
 ghost use Rattle.dict_catalogue.specs.Commands.{verb_of};
 ghost use Rattle.dict_catalogue.specs.Views.{command_meant};
 ghost use Rattle.dict_catalogue.specs.WellFormed.{is_install};
@@ -11,23 +11,10 @@ use dict_desk::Fault;
 use std::alloc::{AllocError, Global};
 use store_commands::Applied;
 use store_lookup::{Indexes, let_go_of_gone};
-use store_search::{Index, index_of_edition};
+use store_search::making_of_edition;
 
-// The index of the edition that a command installs, if it installs one.
-fn index_coming(alloc: Global, command: &Command) -> Result<Option<Index>, AllocError>
-    ensures coming { IfOk result (λ coming. coming ≡ index_coming command.now) }
-    ensures asked { OnErr result (is_install (verb_of (command_meant command.now)) ≡ true) }
-{
-    match command {
-        Command::Install { edition, .. } => Ok(Some(index_of_edition(alloc, edition)?)),
-        Command::Rollback { .. }
-        | Command::Retire { .. }
-        | Command::PutVirtual { .. }
-        | Command::Place { .. } => Ok(None),
-    }
-}
-
-// Puts it under the number that the edition gets.
+// Puts the index of the edition that a command installs, if it installs one, under the number that the edition gets: it is made when it
+// is asked for.
 pub(crate) fn put_coming(
     alloc: Global,
     indexes: &mut Indexes,
@@ -38,10 +25,16 @@ pub(crate) fn put_coming(
     ensures refused { OnErr result ((q : ℕ) → entries_under q indexes.new ≡ entries_under q indexes.old) }
     ensures asked { OnErr result (is_install (verb_of (command_meant command.now)) ≡ true) }
 {
-    let Some(index) = index_coming(alloc, command)? else {
-        return Ok(());
-    };
-    indexes.put(number, index)
+    match command {
+        Command::Install { edition, .. } => {
+            let making = making_of_edition(alloc, edition)?;
+            indexes.put_unmade(number, making)
+        }
+        Command::Rollback { .. }
+        | Command::Retire { .. }
+        | Command::PutVirtual { .. }
+        | Command::Place { .. } => Ok(()),
+    }
 }
 
 // Where the command acted, the indexes of the editions that went are let go of, and where it didn't, the one that was to come.

@@ -107,6 +107,7 @@ impl<S: Alter + Drop> Desk<S> {
         ensures ended { OnOk result (self.new.conn.in_transaction ≡ false) }
         ensures settled { OnOk result (HasCleanDisk (state S.Store self.new.conn) → IsTrue (state S.Store self.new.conn).is_open → (state S.Store self.new.conn).now ≡ (state S.Store self.new.conn).committed) }
         ensures summary { self.new.summary ≡ self.old.summary }
+        ensures taken { self.new.taken ≡ self.old.taken }
         ensures undone { HasCleanDisk (state S.Store self.new.conn) → Undoes S.Store self.old.conn self.new.conn }
         ensures shows { HasCleanDisk (state S.Store self.new.conn) → (M : Catalogue) → Shows S.Store self.old M → Shows S.Store self.new M }
         ensures survives { Survives (state S.Store self.old.conn) (state S.Store self.new.conn) (λ _. ⊥) }
@@ -137,6 +138,7 @@ impl<S: Alter + Drop> Desk<S> {
         ensures last { OnOk result (self.new.last ≡ self.old.last) }
         ensures alike { OnOk result (HasCleanDisk (state S.Store self.new.conn) → IsTrue (state S.Store self.new.conn).is_open → IsAlike number (state S.Store self.new.conn).committed (state S.Store self.new.conn).now) }
         ensures summary { self.new.summary ≡ self.old.summary }
+        ensures taken { self.new.taken ≡ self.old.taken }
         ensures undone { HasCleanDisk (state S.Store self.new.conn) → Undoes S.Store self.old.conn self.new.conn }
         ensures shows { HasCleanDisk (state S.Store self.new.conn) → (M : Catalogue) → Shows S.Store self.old M → Shows S.Store self.new M }
         ensures survives { Survives (state S.Store self.old.conn) (state S.Store self.new.conn) (λ _. ⊥) }

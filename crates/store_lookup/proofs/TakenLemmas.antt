@@ -5,7 +5,7 @@ use Rattle.std.specs.declared.alloc.Global.{Global}
 use Rattle.dict_desk.specs.declared.fault.Fault.{Fault}
 use Rattle.dict_desk.specs.declared.lookup.End.{End}
 use Rattle.dict_desk.specs.declared.lookup.End.TheVariants.{All}
-use Rattle.store_lookup.specs.Taken.{more_taken}
+use Rattle.store_lookup.specs.Taken.{more_taken, LooksAt}
 
 pub none_more : (taken : ℕ) → taken ≤ 2 ^ 64 - 1 → taken ≡ more_taken taken 0
 none_more taken few = omega (arith, few)
@@ -17,6 +17,10 @@ more_more old mid new first second a b = omega (arith, a, b)
 -- what was read before, and then looked at
 pub more_all : (old mid new looked count read : ℕ) → mid ≡ more_taken old read → looked ≡ count → new ≡ more_taken mid looked → new ≡ more_taken old (count + read)
 more_all old mid new looked count read first second third = omega (arith, first, second, third)
+
+-- some were read, and more were looked at than were found
+pub looks_more : (old mid new looked few read : ℕ) → mid ≡ more_taken old read → few ≤ looked → new ≡ more_taken mid looked → LooksAt old new few
+looks_more old mid new looked few read first le second = omega (arith, first, le, second)
 
 -- how a lookup ended that didn't fail
 abbrev pub end_of : Result End Fault → End

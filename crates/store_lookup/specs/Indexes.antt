@@ -1,24 +1,17 @@
 -- Indexes of editions, by the numbers of the editions.
-use Rattle.std.specs.Prelude.{◌≡◌, ◌≢◌, ℕ, List, [], map, nat_eq, Option, Some, None}
+use Rattle.std.specs.Prelude.{◌≡◌, ◌≢◌, ℕ, List, [], nat_eq, Option, Some, None}
 use Rattle.std.specs.List.{AllByRecursion}
 use Rattle.std.specs.BTreeMap.{insert_entry}
 use Rattle.std.specs.Map.{lookup}
 use Rattle.std.specs.Ordering.{nat_cmp}
-use Rattle.dict_index.specs.Edition.{Edition, ReadEdition, edition_of}
-use Rattle.dict_catalogue.specs.Items.{Stored, numbers_of}
+use Rattle.dict_catalogue.specs.Items.{numbers_of}
 use Rattle.dict_catalogue.specs.Views.{item_shown}
 use Rattle.dict_catalogue.specs.declared.summary.Item.{Item}
-use Rattle.store_search.specs.Entries.{Indexed, entry_of}
+use Rattle.store_search.specs.Entries.{Indexed}
 
 -- the entries of the index that stands under a number
 abbrev pub entries_under : ℕ → List (ℕ × List Indexed) → Option (List Indexed)
 entries_under number indexes = lookup (nat_eq number) indexes
-
--- The edition is what the lines of a reading cut out of its text, and under the edition's number stands an index of these lines.
-pub record HasIndexOf (indexes : List (ℕ × List Indexed)) (stored : Stored Edition) : Type 0 where
-  pub reading : ReadEdition
-  pub says : stored.content ≡ edition_of reading
-  pub stands : entries_under stored.number indexes ≡ Some (map entry_of reading.lines)
 
 -- An index was taken out from under a number: an empty one stands there, and all is as it was before once the index is put in its place.
 pub record IsOut (number : ℕ) (index : List Indexed) (before now : List (ℕ × List Indexed)) : Type 0 where

@@ -9,6 +9,7 @@ ghost use Rattle.dict_desk.specs.Handing.{Hands};
 ghost use Rattle.store_lookup.specs.Indexes.{entries_under};
 ghost use Rattle.store_search.specs.Entries.{Indexed};
 ghost use Rattle.store_holdings.specs.Texts.{HoldsText};
+ghost use Rattle.store_lookup.specs.Taken.{LooksAt};
 ghost use Rattle.store_lookup.specs.Texts.{Cuts, IsIndexOf, ArePartsOf, AreOfInstalls, IsAtMostRead, FailsToFind};
 ghost use Rattle.store_lookup.specs.Searches.{HasLookupTables, IsOfStore};
 
@@ -32,6 +33,7 @@ pub fn count_under(
     rows_taken: &mut u64,
 ) -> Result<u64, Fault>
     ensures value { IfOk result (λ count. (index : List Indexed) (edition : Edition) → entries_under number indexes.old ≡ Some index → IsIndexOf index edition → count ≡ count_of what strategy query.now edition) }
+    ensures looks { (index : List Indexed) (edition : Edition) → entries_under number indexes.old ≡ Some index → IsIndexOf index edition → OnOk result (LooksAt rows_taken.old rows_taken.new (count_of What.Entries strategy query.now edition)) }
     ensures none { entries_under number indexes.old ≡ None → result ≡ Ok 0 }
     ensures kinds { IfErr result (λ fault. fault ≡ Fault.Memory) }
     ensures indexes { indexes.new ≡ indexes.old }
@@ -58,6 +60,7 @@ pub fn heads_under<T: RowSink>(
     rows_taken: &mut u64,
 ) -> Result<End, Fault>
     ensures value { (index : List Indexed) (edition : Edition) → entries_under number indexes.old ≡ Some index → IsIndexOf index edition → Hands T.takes T.stops sink.old sink.new (headword_rows strategy query.now edition) result }
+    ensures looks { (index : List Indexed) (edition : Edition) → entries_under number indexes.old ≡ Some index → IsIndexOf index edition → OnOk result (LooksAt rows_taken.old rows_taken.new (count_of What.Entries strategy query.now edition)) }
     ensures none { entries_under number indexes.old ≡ None → (result ≡ Ok End.All) × (sink.new ≡ sink.old) }
     ensures handed { (rows : List ShownRow) × Hands T.takes T.stops sink.old sink.new rows result }
     ensures kinds { IfErr result (λ fault. fault ≡ Fault.Memory) }
@@ -92,6 +95,7 @@ pub fn find_under<S: Alter, T: RowSink>(
 ) -> Result<End, Fault>
     requires { WhileOpen (state S.Store conn.old) HasLookupTables }
     ensures value { HasCleanDisk (state S.Store conn.new) → (index : List Indexed) (edition : Edition) (text : List ℕ) → entries_under number indexes.old ≡ Some index → Cuts index edition text → ArePartsOf number text texts.old → (IsTrue (state S.Store conn.old).is_open → HoldsText (state S.Store conn.old).now number text) → Hands T.takes T.stops sink.old sink.new (found_rows strategy query.now edition) result }
+    ensures looks { (index : List Indexed) (edition : Edition) → entries_under number indexes.old ≡ Some index → IsIndexOf index edition → result ≡ Ok End.All → LooksAt rows_taken.old rows_taken.new (count_of What.Entries strategy query.now edition) }
     ensures none { entries_under number indexes.old ≡ None → (result ≡ Ok End.All) × (sink.new ≡ sink.old) × (conn.new ≡ conn.old) }
     ensures texts { HasCleanDisk (state S.Store conn.new) → (other : ℕ) (text : List ℕ) → ArePartsOf other text texts.old → (other ≡ number → IsTrue (state S.Store conn.old).is_open → HoldsText (state S.Store conn.old).now other text) → ArePartsOf other text texts.new }
     ensures made { AreOfInstalls installs texts.old → AreOfInstalls installs texts.new }

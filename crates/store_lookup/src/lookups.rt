@@ -1,5 +1,5 @@
 // What is asked of an edition.
-ghost use Rattle.std.specs.Prelude.{◌≡◌, ◌+◌, ℕ, false, List, IsTrue, Ok, IfOk, IfErr, IsErr, OnOk, OnErr};
+ghost use Rattle.std.specs.Prelude.{◌≡◌, ◌+◌, ◌≤◌, ℕ, false, List, IsTrue, Ok, IfOk, IfErr, IsErr, OnOk, OnErr};
 ghost use Rattle.sqlite.specs.State.{HasCleanDisk, IsUnchanged, Survives};
 ghost use Rattle.sqlite.specs.Held.{state};
 ghost use Rattle.store_sql.specs.Effects.{WhileOpen};
@@ -10,7 +10,7 @@ ghost use Rattle.store_search.specs.Found.{count_selected};
 ghost use Rattle.store_holdings.specs.Texts.{HoldsText};
 ghost use Rattle.store_lookup.specs.Searches.{HasLookupTables, HoldsOne, FailsToLookUp, IsOfStore, number_in_column};
 ghost use Rattle.store_lookup.specs.Texts.{Cuts, IsIndexOf, ArePartsOf, AreOfInstalls, IsAtMostRead, FailsToFind};
-ghost use Rattle.store_lookup.specs.Taken.{more_taken};
+ghost use Rattle.store_lookup.specs.Taken.{more_taken, LooksAt};
 
 use crate::found::{hand_found, hand_headwords};
 use crate::record::info_of_number;
@@ -87,6 +87,7 @@ pub fn find<S: Alter, T: RowSink>(
     ensures made { AreOfInstalls installs texts.old → AreOfInstalls installs texts.new }
     ensures handed { (rows : List ShownRow) × Hands T.takes T.stops sink.old sink.new rows result }
     ensures taken { result ≡ Ok End.All → (read : ℕ) × (rows_taken.new ≡ more_taken rows_taken.old (count_selected strategy query.now index.now + read)) }
+    ensures looks { (edition : Edition) → IsIndexOf index.now edition → result ≡ Ok End.All → LooksAt rows_taken.old rows_taken.new (count_of What.Entries strategy query.now edition) }
     ensures same { HasCleanDisk (state S.Store conn.new) → OnOk result (IsAtMostRead S.Store conn.old conn.new) }
     ensures failed { HasCleanDisk (state S.Store conn.new) → IfErr result (FailsToFind S.Store number conn.old conn.new) }
     ensures kinds { IfErr result IsOfStore }
@@ -144,6 +145,7 @@ pub fn heads<T: RowSink>(
     ensures value { (edition : Edition) → IsIndexOf index.now edition → Hands T.takes T.stops sink.old sink.new (headword_rows strategy query.now edition) result }
     ensures handed { (rows : List ShownRow) × Hands T.takes T.stops sink.old sink.new rows result }
     ensures taken { OnOk result (rows_taken.new ≡ more_taken rows_taken.old (count_selected strategy query.now index.now)) }
+    ensures looks { (edition : Edition) → IsIndexOf index.now edition → OnOk result (LooksAt rows_taken.old rows_taken.new (count_of What.Entries strategy query.now edition)) }
     ensures kinds { IfErr result (λ fault. fault ≡ Fault.Memory) }
     ensures refused { OnErr result (sink.new ≡ sink.old) }
 {
@@ -163,6 +165,7 @@ fn counted(
 ) -> Result<Counted, AllocError>
     ensures count { IfOk result (λ counted. (edition : Edition) → IsIndexOf index.now edition → counted.count ≡ count_of what strategy query.now edition) }
     ensures looked_at { IfOk result (λ counted. counted.looked_at ≡ count_selected strategy query.now index.now) }
+    ensures fewer { IfOk result (λ counted. (edition : Edition) → IsIndexOf index.now edition → count_of What.Entries strategy query.now edition ≤ counted.looked_at) }
 {
     edition_laws();
     match what {
@@ -183,6 +186,7 @@ pub fn count(
 ) -> Result<u64, Fault>
     ensures value { IfOk result (λ count. (edition : Edition) → IsIndexOf index.now edition → count ≡ count_of what strategy query.now edition) }
     ensures taken { OnOk result (rows_taken.new ≡ more_taken rows_taken.old (count_selected strategy query.now index.now)) }
+    ensures looks { (edition : Edition) → IsIndexOf index.now edition → OnOk result (LooksAt rows_taken.old rows_taken.new (count_of What.Entries strategy query.now edition)) }
     ensures kinds { IfErr result (λ fault. fault ≡ Fault.Memory) }
 {
     let counted = counted(alloc, index, strategy, query.as_bytes(), what)?;

@@ -1,25 +1,26 @@
 -- Entries that lines make, and what is found among them.
-use Rattle.std.proofs.Common.{◌≡◌, ℕ, ◌+◌, ◌<◌, Bool, true, false, cond, List, [], ◌∷◌, ◌++◌, map, take, length, get_or, filter, refl, ap, sym, ◌∙◌, inl, inr, arith}
-use Rattle.std.specs.List.{range_with_len}
-use Rattle.std.proofs.lemmas.Bool.{cases_lt}
+use Rattle.std.proofs.Common.{◌≡◌, ℕ, ◌+◌, ◌<◌, ◌≤◌, Bool, true, false, cond, List, [], ◌∷◌, ◌++◌, map, take, length, get_or, filter, refl, ap, sym, ◌∙◌, inl, inr, arith}
+use Rattle.std.specs.List.{All, range_with_len}
+use Rattle.std.specs.Str.{IsUtf8}
+use Rattle.std.proofs.lemmas.Bool.{cases_lt, false≢true}
 use Rattle.std.proofs.lemmas.List.{length-map, map-append, take_more, get_or-map, get_or_past}
-use Rattle.std.proofs.lemmas.List.Elements.{filter_agree}
+use Rattle.std.proofs.lemmas.List.Elements.{All-tail, filter_agree}
 use Rattle.std.proofs.lemmas.List.FromFn.{fill_by_all}
 use Rattle.dict_match.specs.Key.{key_of}
 use Rattle.dict_match.specs.Matching.{is_hit}
 use Rattle.dict_match.specs.declared.strategy.Strategy.{Strategy}
 use Rattle.dict_index.specs.Line.{Line}
 use Rattle.dict_index.specs.Edition.{entry_in, ReadEdition, edition_of}
-use Rattle.store_derived.specs.Search.{Rows}
+use Rattle.store_derived.specs.Search.{Rows, rows_for}
 use Rattle.dict_desk.specs.Found.{found, is_found, shown_of as entry_shown, headwords, distinct}
 use Rattle.dict_desk.specs.Shown.{row_of, found_rows, headword_rows}
 use Rattle.store_search.specs.Entries.{Indexed, entry_of, no_entry, entry_at, entries_at, key_in, keys_of, indexed_shown, row_in, headword_row}
 use Rattle.store_places.specs.Places.{key_at, places_where}
 use Rattle.store_search.specs.Selected.{AreSelected}
 use Rattle.store_places.specs.Selected.{is_selected}
-use Rattle.store_search.specs.Found.{found_entries, found_headwords}
+use Rattle.store_search.specs.Found.{found_entries, found_headwords, count_selected}
 use Rattle.store_places.proofs.PieceLemmas.{where_is, where_rises}
-use Rattle.store_places.proofs.SelectionLemmas.{selects_decided}
+use Rattle.store_places.proofs.SelectionLemmas.{covered, selects_decided}
 
 -- ---- lists
 
@@ -59,6 +60,21 @@ entries_there test entries =
 
 pub count_there : (test : List ℕ → Bool) (entries : List Indexed) → length (places_where test (keys_of entries)) ≡ length (filter (λ (entry : Indexed). test entry.key) entries)
 count_there test entries = sym (length-map (places_where test (keys_of entries)) (entry_at entries)) ∙ ap length (entries_there test entries)
+
+-- what is found is among what is looked at
+pub fewer_found : (strategy : Strategy) (query : List ℕ) (entries : List Indexed) → All IsUtf8 (keys_of entries) → length (found_entries strategy query entries) ≤ count_selected strategy query entries
+fewer_found strategy query [] text = omega arith
+fewer_found strategy query (entry ∷ entries) text =
+    one (is_hit strategy query entry.key) (is_selected (rows_for strategy query) entry.key) (covered strategy query (entry.key ∷ keys_of entries) text 0 (omega arith))
+    (found_entries strategy query entries) (filter (λ (other : Indexed). is_selected (rows_for strategy query) other.key) entries)
+    (fewer_found strategy query entries (All-tail IsUtf8 entry.key (keys_of entries) text))
+  where
+    one : (hit selected : Bool) → (hit ≡ true → selected ≡ true) → (found looked : List Indexed) → length found ≤ length looked
+        → length (cond hit (entry ∷ found) found) ≤ length (cond selected (entry ∷ looked) looked)
+    one true true among found looked le = omega (arith, le)
+    one true false among found looked le = absurd (false≢true (among refl))
+    one false true among found looked le = omega (arith, le)
+    one false false among found looked le = le
 
 -- ---- entries that are selected
 

@@ -1,5 +1,5 @@
 //! The index of an edition, and what it is asked.
-ghost use Rattle.std.specs.Prelude.{◌≡◌, ◌&&◌, true, All, IfOk, length, map, filter, reverse};
+ghost use Rattle.std.specs.Prelude.{◌≡◌, ◌≤◌, ◌&&◌, true, All, IfOk, length, map, filter, reverse};
 ghost use Rattle.std.specs.Str.{IsUtf8, bytes_eq};
 ghost use Rattle.dict_match.specs.Matching.{is_hit};
 ghost use Rattle.dict_match.specs.declared.strategy.Strategy.TheVariants.{Substring};
@@ -301,6 +301,7 @@ impl Index {
         ensures places { IfOk result (λ found. found.places.items ≡ found_places strategy query.now self.now) }
         ensures entries { IfOk result (λ found. entries_at self.now found.places.items ≡ found_entries strategy query.now self.now) }
         ensures looked_at { IfOk result (λ found. found.looked_at ≡ count_selected strategy query.now self.now) }
+        ensures fewer { IfOk result (λ found. length (found_entries strategy query.now self.now) ≤ found.looked_at) }
     {
         let keys = self.entries.keys();
         let selection = select(alloc, strategy, query)?;
@@ -321,6 +322,7 @@ impl Index {
     ) -> Result<Found, AllocError>
         ensures shown { IfOk result (λ found. map indexed_shown (entries_at self.now found.places.items) ≡ found_headwords strategy query.now self.now) }
         ensures looked_at { IfOk result (λ found. found.looked_at ≡ count_selected strategy query.now self.now) }
+        ensures fewer { IfOk result (λ found. length (found_entries strategy query.now self.now) ≤ found.looked_at) }
     {
         let found = self.find(alloc, strategy, query)?;
         let places = first_shown(alloc, &self.entries, found.places.as_slice())?;
@@ -339,6 +341,7 @@ impl Index {
     ) -> Result<Counted, AllocError>
         ensures count { IfOk result (λ counted. counted.count ≡ length (found_entries strategy query.now self.now)) }
         ensures looked_at { IfOk result (λ counted. counted.looked_at ≡ count_selected strategy query.now self.now) }
+        ensures fewer { IfOk result (λ counted. length (found_entries strategy query.now self.now) ≤ counted.looked_at) }
     {
         let found = self.find(alloc, strategy, query)?;
         Ok(Counted {
@@ -356,6 +359,7 @@ impl Index {
     ) -> Result<Counted, AllocError>
         ensures count { IfOk result (λ counted. counted.count ≡ length (found_headwords strategy query.now self.now)) }
         ensures looked_at { IfOk result (λ counted. counted.looked_at ≡ count_selected strategy query.now self.now) }
+        ensures fewer { IfOk result (λ counted. length (found_entries strategy query.now self.now) ≤ counted.looked_at) }
     {
         let found = self.find_headwords(alloc, strategy, query)?;
         Ok(Counted {

@@ -12,7 +12,7 @@ mod same;
 mod shown;
 
 pub use builder::IndexBuilder;
-pub use edition::index_of_edition;
+pub use edition::making_of_edition;
 pub use found::{Counted, Found};
 pub use index::{Index, IndexedEntry};
 pub use laws::{edition_laws, selection_law};

@@ -181,6 +181,8 @@ impl<S: Alter + Drop, M: Machine<Desk<S>> + Drop> DeskOpener<Desk<S>> for Held<S
 
     ghost still_leaves = { λ _ _ _. ⊤ };
 
+    ghost still_keeps = { λ _ _. ⊤ };
+
     ghost is_uncopied = { λ _ _ _. ⊤ };
 
     fn open<'w>(&mut self, _path: &'w str) -> Result<Desk<S>, ProgramFault<'w>> {

@@ -12,7 +12,7 @@ returns-in-Ok g c = record {
   new = (
     c.in_ok-conn.conn,
     c.in_ok-conn.ensures.opened,
-    record { place = c.in-Ok.ensures.place; shows = c.in-Ok.ensures.shows; rests = c.in-Ok.ensures.rests; only = c.in-Ok.ensures.only; others = c.in-Ok.ensures.others; beside = c.in-Ok.ensures.beside },
+    record { place = c.in-Ok.ensures.place; shows = c.in-Ok.ensures.shows; rests = c.in-Ok.ensures.rests; only = c.in-Ok.ensures.only; others = c.in-Ok.ensures.others; beside = c.in-Ok.ensures.beside; keeps = c.in-Ok.ensures.keeps },
   );
   shows = c.in-Ok.ensures.shows;
   only = c.in-Ok.ensures.only;

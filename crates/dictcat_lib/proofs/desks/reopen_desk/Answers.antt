@@ -10,6 +10,12 @@ returns-in_default-clause-leaves g c = λ ms leaves.
     leaves (clean_behind (file_state c.args.desk.conn) (file_state c.connection_of.result) c.connection_of.ensures.survives clean) trees
     (elim (c.connection_of.ensures.survives.crash clean trees may) as (λ _. (file_state c.args.desk.conn).may_leave trees) [ inl h ↦ h | inr h ↦ absurd h ]))
 
+pub returns-in_default-clause-beside : goal.returns-in_default-clause-beside
+returns-in_default-clause-beside g c = λ db keeps.
+    rw c.hold.ensures (λ clean trees may.
+    keeps (clean_behind (file_state c.args.desk.conn) (file_state c.connection_of.result) c.connection_of.ensures.survives clean) trees
+    (elim (c.connection_of.ensures.survives.crash clean trees may) as (λ _. (file_state c.args.desk.conn).may_leave trees) [ inl h ↦ h | inr h ↦ absurd h ]))
+
 pub returns-in_default-clause-opened : goal.returns-in_default-clause-opened
 returns-in_default-clause-opened g c = (rw c.hold.ensures (c.connection_of.ensures.undone, (c.args.file, refl, refl)), tt)
 
@@ -28,3 +34,6 @@ returns-in-Err-clause-opened g c =
 
 pub returns-in-Err-clause-leaves : goal.returns-in-Err-clause-leaves
 returns-in-Err-clause-leaves g c = λ ms leaves. let why = c.in-Err.ensures.unopened in rw c.hold-in-Err.ensures (why.files, why.let_go, why.leaves ms leaves)
+
+pub returns-in-Err-clause-beside : goal.returns-in-Err-clause-beside
+returns-in-Err-clause-beside g c = λ db keeps. let why = c.in-Err.ensures.unopened in rw c.hold-in-Err.ensures (why.files, why.let_go, why.beside db keeps)

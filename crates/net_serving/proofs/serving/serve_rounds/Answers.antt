@@ -31,8 +31,8 @@ returns-in_err-pending-clause-served g c =
           c.serve_stretch.new.driver held.1 goes over.2,
       first_goes g.K.Lookup.shows g.K.Lookup.leaves_one_of g.K.Lookup.keeps_beside g.K.Lookup.is_trusted g.D.DeskOpener.is_opened g.K.Lookup.is_closed c.args.rounds c.args.desk held.0 one held.2 goes,
       rw (error.1, error.2) (ends_more g.K.Lookup.shows g.K.Lookup.leaves_one_of g.K.Lookup.keeps_beside g.K.Lookup.is_trusted g.D.DeskOpener.is_opened g.K.Lookup.is_closed
-          (WasShut g.K.Lookup.shows g.K.Lookup.leaves_one_of g.K.Lookup.is_trusted g.D.DeskOpener.is_safe g.D.DeskOpener.holds_alone g.D.DeskOpener.still_leaves g.D.DeskOpener.is_uncopied c.serve_stretch.new.desks)
-          (IsNotReopened g.K.Lookup.leaves_one_of g.D.DeskOpener.is_unreopened g.D.DeskOpener.still_leaves c.serve_stretch.new.desks c.args.path.now) held.0 one
+          (WasShut g.K.Lookup.shows g.K.Lookup.leaves_one_of g.K.Lookup.is_trusted g.D.DeskOpener.is_safe g.D.DeskOpener.holds_alone g.D.DeskOpener.still_leaves g.D.DeskOpener.still_keeps g.D.DeskOpener.is_uncopied c.serve_stretch.new.desks)
+          (IsNotReopened g.K.Lookup.leaves_one_of g.D.DeskOpener.is_unreopened g.D.DeskOpener.still_leaves g.D.DeskOpener.still_keeps c.serve_stretch.new.desks c.args.path.now) held.0 one
           c.serve_stretch.new.driver _ over.3),
       rw error.1 (turned c.args.path.now c.args.desk held.0 one c.loop-pending.pending.left c.loop-pending-test.true (g.D.DeskOpener.history c.args.desks.now) (g.D.DeskOpener.history c.loop-pending.desks)
           (g.D.DeskOpener.history c.serve_stretch.new.desks) held.4 None over.5),

@@ -39,4 +39,4 @@ pub returns-in-Err-clause-leaves_unopened : goal.returns-in-Err-clause-leaves_un
 returns-in-Err-clause-leaves_unopened g c = λ ms before. leaves_after g.S.Store c.args.connection c.in-Err.left.0 c.is_whole.ensures.live (g.met.S.Store.stays c.args.connection.store) c.in-Err.ensures.crash ms before
 
 pub returns-in-Err-clause-beside_unopened : goal.returns-in-Err-clause-beside_unopened
-returns-in-Err-clause-beside_unopened g c = λ db keeps. beside_after g.S.Store c.args.connection c.in-Err.left.0 c.is_whole.ensures.live (g.met.S.Store.stays c.args.connection.store) c.in-Err.ensures.beside_left db keeps
+returns-in-Err-clause-beside_unopened g c = λ db keeps. beside_after g.S.Store c.args.connection c.in-Err.left.0 c.is_whole.ensures.live (g.met.S.Store.stays c.args.connection.store) db keeps c.in-Err.ensures.beside_left

@@ -5,7 +5,7 @@ use Rattle.dict_desk.specs.declared.lookup.What.{What}
 use Rattle.store_search.specs.Found.{found_entries, found_headwords}
 use Rattle.store_search.specs.declared.found.Counted.{Counted}
 use Rattle.store_lookup.specs.Texts.{IsIndexOf}
-use Rattle.store_lookup.proofs.IndexLemmas.{entries_counted, headwords_counted}
+use Rattle.store_lookup.proofs.IndexLemmas.{entries_counted, headwords_counted, fewer_of}
 use Rattle.store_lookup.proofs.StateLemmas.{each_ok}
 use Rattle.store_lookup.proofs.lookups.counted.Goals as goal
 
@@ -26,3 +26,9 @@ returns-in-Headwords-clause-count c =
     (λ (counted : Counted). (edition : Edition) → IsIndexOf index edition → counted.count ≡ count_of c.args.what c.args.strategy query edition)
     (λ counted h edition is. h ∙ (headwords_counted c.args.strategy query index edition c.edition_laws.ensures.headwords_counted is
     ∙ ap (λ (what : What). count_of what c.args.strategy query edition) (sym c.in-Headwords.is))) c.count_headwords.ensures.count
+
+pub returns-in-Entries-clause-fewer : goal.returns-in-Entries-clause-fewer
+returns-in-Entries-clause-fewer c = fewer_of c.args.strategy c.args.query.now c.args.index.now c.edition_laws.ensures.entries_counted c.count_entries.result c.count_entries.ensures.fewer
+
+pub returns-in-Headwords-clause-fewer : goal.returns-in-Headwords-clause-fewer
+returns-in-Headwords-clause-fewer c = fewer_of c.args.strategy c.args.query.now c.args.index.now c.edition_laws.ensures.entries_counted c.count_headwords.result c.count_headwords.ensures.fewer

@@ -1,11 +1,19 @@
-use Rattle.std.proofs.Common.{◌≡◌, ℕ, List, map, ap, subst, ◌∙◌}
+use Rattle.std.proofs.Common.{◌≡◌, ◌≤◌, ℕ, List, [], map, ap, refl, sym, subst, ◌∙◌}
+use Rattle.std.proofs.lemmas.Result.{err_from_is_err_and}
 use Rattle.dict_desk.specs.Handing.{Hands}
-use Rattle.dict_desk.specs.Shown.{Row, found_rows}
+use Rattle.dict_desk.proofs.HandingLemmas.{hands_front}
+use Rattle.dict_desk.specs.Shown.{Row, found_rows, count_of}
+use Rattle.dict_desk.specs.declared.lookup.What.TheVariants.{Entries}
 use Rattle.store_search.specs.Entries.{entries_at, row_in}
 use Rattle.store_search.specs.Found.{found_entries, count_selected}
-use Rattle.store_lookup.proofs.IndexLemmas.{rows_cut}
-use Rattle.store_lookup.proofs.TakenLemmas.{end_of, more_all}
+use Rattle.store_lookup.proofs.IndexLemmas.{rows_cut, few_of}
+use Rattle.store_lookup.proofs.TakenLemmas.{end_of, looks_more, more_all}
 use Rattle.store_lookup.proofs.lookups.find.Goals as goal
+
+pub returns-in_err-found-clause-handed : goal.returns-in_err-found-clause-handed
+returns-in_err-found-clause-handed g c =
+    let p = err_from_is_err_and c.from_residual.result c.from_residual.ensures.1 in
+    ([], rw (p.1, p.2) (hands_front g.T.RowSink.takes g.T.RowSink.stops c.args.sink.now c.args.sink.now _ [] [] [] refl (g.met.T.RowSink.none c.args.sink.now)))
 
 pub hand_found-requires : goal.hand_found-requires
 hand_found-requires g c = λ clean live. (c.requires clean live).parts
@@ -38,6 +46,13 @@ returns-in-Ok-clause-taken g c all =
       read.0,
       more_all c.args.rows_taken.now c.hand_found.new.rows_taken _ c.looked_at-looked.result (count_selected c.args.strategy c.args.query.now index) read.0 read.1 (counted ∙ looked) c.saturating_add.ensures,
     )
+
+pub returns-in-Ok-clause-looks : goal.returns-in-Ok-clause-looks
+returns-in-Ok-clause-looks g c edition is all =
+    let read = c.in-Ok.ensures.counted in
+    let few = few_of c.args.strategy c.args.query.now _ c.args.index.now edition c.in_ok-found.found.looked_at c.edition_laws.ensures.entries_counted c.as_bytes.ensures c.in_ok-found.ensures.fewer is in
+    let most : count_of Entries c.args.strategy c.args.query.now edition ≤ c.looked_at-looked.result = subst (λ n. count_of Entries c.args.strategy c.args.query.now edition ≤ n) (sym (c.looked_at-looked.ensures (ap end_of all))) few in
+    looks_more c.args.rows_taken.now c.hand_found.new.rows_taken _ c.looked_at-looked.result _ read.0 read.1 most c.saturating_add.ensures
 
 pub returns-in-Ok-clause-texts : goal.returns-in-Ok-clause-texts
 returns-in-Ok-clause-texts g c = c.hand_found.ensures.asks.texts

@@ -1,9 +1,10 @@
-use Rattle.std.proofs.Common.{◌≡◌, ℕ, List, map, subst, ap, ◌∙◌}
+use Rattle.std.proofs.Common.{◌≡◌, ℕ, List, map, subst, ap, ◌∙◌, arith}
 use Rattle.dict_desk.specs.Shown.{Row, headword_rows}
 use Rattle.dict_desk.proofs.HandingLemmas.{hands_end}
 use Rattle.store_search.specs.Entries.{entries_at, headword_row, indexed_shown}
 use Rattle.store_search.specs.Found.{found_headwords}
-use Rattle.store_lookup.proofs.IndexLemmas.{heads_are}
+use Rattle.store_lookup.proofs.IndexLemmas.{heads_are, few_of}
+use Rattle.store_lookup.proofs.TakenLemmas.{looks_more, none_more}
 use Rattle.store_lookup.proofs.lookups.heads.Goals as goal
 
 pub returns-clause-value : goal.returns-clause-value
@@ -17,3 +18,8 @@ returns-clause-value g c = λ edition is.
     hands_end g.T.RowSink.takes g.T.RowSink.stops c.args.sink.now c.hand_headwords.new.sink c.hand_headwords.result (headword_rows c.args.strategy query edition)
     (λ e. subst (λ (all : List Row). g.T.RowSink.takes c.args.sink.now all c.hand_headwords.new.sink) rows (c.hand_headwords.ensures.all e))
     (λ e. subst (λ (all : List Row). g.T.RowSink.stops c.args.sink.now all c.hand_headwords.new.sink) rows (c.hand_headwords.ensures.stopped e))
+
+pub returns-clause-looks : goal.returns-clause-looks
+returns-clause-looks g c = λ edition is.
+    looks_more c.args.rows_taken.now c.args.rows_taken.now c.saturating_add.result c.in_ok-found.found.looked_at _ 0 (none_more c.args.rows_taken.now (omega arith))
+    (few_of c.args.strategy c.args.query.now _ c.args.index.now edition c.in_ok-found.found.looked_at c.edition_laws.ensures.entries_counted c.as_bytes.ensures c.in_ok-found.ensures.fewer is) c.saturating_add.ensures

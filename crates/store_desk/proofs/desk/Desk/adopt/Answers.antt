@@ -63,7 +63,7 @@ returns-in-Ok-clause-beside g c =
     subst (λ (d : DeskState _). Survives (state g.S.Store (record c.args.conn { step_limit = None })) (state g.S.Store d.conn) (MayCommitBeside (state g.S.Store c.args.conn))) (sym c.over.ensures.is) as_was
 
 pub returns-in-Ok-clause-keeps : goal.returns-in-Ok-clause-keeps
-returns-in-Ok-clause-keeps g c = beside_after g.S.Store c.args.conn c.over.result.conn c.is_whole.ensures.live (g.met.S.Store.stays c.args.conn.store) (returns-in-Ok-clause-beside g c)
+returns-in-Ok-clause-keeps g c db keeps = beside_after g.S.Store c.args.conn c.over.result.conn c.is_whole.ensures.live (g.met.S.Store.stays c.args.conn.store) db keeps (returns-in-Ok-clause-beside g c)
 
 pub returns-in-Err-clause-beside_left : goal.returns-in-Err-clause-beside_left
 returns-in-Err-clause-beside_left g c =

@@ -32,8 +32,15 @@ invariant_of-self g c =
 
 pub returns-clause-copied : goal.returns-clause-copied
 returns-clause-copied g c = λ clean is.
-    let old : DeskState _ = record { conn = c.self.inside.conn; summary = summary_shown c.self.inside.summary; last = c.self.inside.last; indexes = c.self.inside.indexes; texts = c.self.inside.texts } in
-    let new : DeskState _ = record { conn = c.copy_over-outcome.new.conn; summary = summary_shown c.self.inside.summary; last = c.last_behind-self-inside.result; indexes = c.self.inside.indexes; texts = c.forget_behind.new.texts } in
+    let old : DeskState _ = record { conn = c.self.inside.conn; summary = summary_shown c.self.inside.summary; last = c.self.inside.last; indexes = c.self.inside.indexes; texts = c.self.inside.texts; taken = c.self.inside.rows_taken } in
+    let new : DeskState _ = record {
+      conn = c.copy_over-outcome.new.conn;
+      summary = summary_shown c.self.inside.summary;
+      last = c.last_behind-self-inside.result;
+      indexes = c.self.inside.indexes;
+      texts = c.forget_behind.new.texts;
+      taken = c.self.inside.rows_taken;
+    } in
     subst (λ (d : DeskState _). HasCopied g.S.Store d new) c.self.view_is (record {
       before = ap (λ (d : DeskState _). d.conn.in_transaction) c.self.view_is ∙ c.requires.none;
       ended = c.copy_over-outcome.ensures.ended;
@@ -58,15 +65,29 @@ returns-clause-shows g c = λ clean M shown.
 pub returns-clause-leaves : goal.returns-clause-leaves
 returns-clause-leaves g c = λ ms left.
     let before : is_closed c.self.inside.last ≡ false = ap (λ (d : DeskState _). is_closed d.last) c.self.view_is ∙ c.requires.open in
-    copied_leaves g.S.Store (record { conn = c.self.inside.conn; summary = summary_shown c.self.inside.summary; last = c.self.inside.last; indexes = c.self.inside.indexes; texts = c.self.inside.texts })
-    (record { conn = c.copy_over-outcome.new.conn; summary = summary_shown c.self.inside.summary; last = c.last_behind-self-inside.result; indexes = c.self.inside.indexes; texts = c.forget_behind.new.texts })
+    copied_leaves g.S.Store (record { conn = c.self.inside.conn; summary = summary_shown c.self.inside.summary; last = c.self.inside.last; indexes = c.self.inside.indexes; texts = c.self.inside.texts; taken = c.self.inside.rows_taken })
+    (record {
+      conn = c.copy_over-outcome.new.conn;
+      summary = summary_shown c.self.inside.summary;
+      last = c.last_behind-self-inside.result;
+      indexes = c.self.inside.indexes;
+      texts = c.forget_behind.new.texts;
+      taken = c.self.inside.rows_taken;
+    })
     (c.self.invariant.0.holds before) c.is_whole.ensures.live c.committed_may_stay.ensures c.copy_over-outcome.ensures.crash ms (subst (λ (d : DeskState _). LeavesOneOf g.S.Store d ms) (sym c.self.view_is) left)
 
 pub returns-clause-beside : goal.returns-clause-beside
 returns-clause-beside g c = λ db kept.
     let before : is_closed c.self.inside.last ≡ false = ap (λ (d : DeskState _). is_closed d.last) c.self.view_is ∙ c.requires.open in
-    copied_beside g.S.Store (record { conn = c.self.inside.conn; summary = summary_shown c.self.inside.summary; last = c.self.inside.last; indexes = c.self.inside.indexes; texts = c.self.inside.texts })
-    (record { conn = c.copy_over-outcome.new.conn; summary = summary_shown c.self.inside.summary; last = c.last_behind-self-inside.result; indexes = c.self.inside.indexes; texts = c.forget_behind.new.texts })
+    copied_beside g.S.Store (record { conn = c.self.inside.conn; summary = summary_shown c.self.inside.summary; last = c.self.inside.last; indexes = c.self.inside.indexes; texts = c.self.inside.texts; taken = c.self.inside.rows_taken })
+    (record {
+      conn = c.copy_over-outcome.new.conn;
+      summary = summary_shown c.self.inside.summary;
+      last = c.last_behind-self-inside.result;
+      indexes = c.self.inside.indexes;
+      texts = c.forget_behind.new.texts;
+      taken = c.self.inside.rows_taken;
+    })
     (c.self.invariant.0.holds before) c.is_whole.ensures.live c.committed_may_stay.ensures c.copy_over-outcome.ensures.crash db (subst (λ (d : DeskState _). KeepsBeside g.S.Store d db) (sym c.self.view_is) kept)
 
 pub returns-clause-failed : goal.returns-clause-failed
@@ -87,8 +108,8 @@ returns-clause-caused g c = λ clean.
       summary = summary_shown c.self.inside.summary;
       last = c.last_behind-self-inside.result;
       indexes = c.self.inside.indexes;
-      texts =
-          c.forget_behind.new.texts;
+      texts = c.forget_behind.new.texts;
+      taken = c.self.inside.rows_taken;
     }) c.copy_over-outcome.result c.copy_over-outcome.ensures.kinds
     (subst (λ (d : DeskState _). OnErr c.copy_over-outcome.result (KeepsCommit (state g.S.Store d.conn) (state g.S.Store c.copy_over-outcome.new.conn))) c.self.view_is (c.copy_over-outcome.ensures.keeps clean))
     (subst (λ (d : DeskState _). IfErr c.copy_over-outcome.result (λ fault. fault ≡ Disk → MoreFaults (state g.S.Store d.conn).faults (state g.S.Store c.copy_over-outcome.new.conn).faults)) c.self.view_is

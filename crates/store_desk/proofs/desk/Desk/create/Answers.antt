@@ -1,5 +1,5 @@
-use Rattle.std.proofs.Common.{[], ◌∷◌, sym, subst}
-use Rattle.std.specs.Prelude.{Some, None}
+use Rattle.std.proofs.Common.{◌≡◌, [], ◌∷◌, ap, not, sym, subst, ◌∙◌}
+use Rattle.std.specs.Prelude.{IsTrue, Some, None}
 use Rattle.dict_catalogue.specs.Steps.{empty_catalogue}
 use Rattle.dict_catalogue.proofs.WellFormedLemmas.{empty_well_formed}
 use Rattle.sqlite.specs.State.{HasCleanDisk, Survives}
@@ -7,8 +7,9 @@ use Rattle.sqlite.specs.Held.{state}
 use Rattle.store_holdings.specs.Holds.{Rests}
 use Rattle.store_holdings.specs.Committed.{IsTreesOf}
 use Rattle.store_migration.specs.Spared.{SparesOthers}
-use Rattle.store_desk.specs.Desk.{DeskState, LeavesOneOf}
+use Rattle.store_desk.specs.Desk.{DeskState, KeepsBeside, LeavesOneOf}
 use Rattle.store_desk.proofs.DeskLemmas.{alone}
+use Rattle.store_desk.proofs.OverLemmas.{beside_made}
 use Rattle.store_desk.proofs.desk.Desk.create.Goals as goal
 use Rattle.store_rows.specs.Versions.{known}
 use Rattle.store_holdings.proofs.OneLemmas.{left_known}
@@ -37,3 +38,13 @@ returns-in-Ok-clause-beside g c =
 pub returns-in-Err-clause-beside_left : goal.returns-in-Err-clause-beside_left
 returns-in-Err-clause-beside_left g c =
     subst (λ conn. Survives (state g.S.Store conn) (state g.S.Store c.create.new.conn) (IsTreesOf (SparesOthers (state g.S.Store conn).now))) c.set_step_limit.ensures c.create.ensures.beside
+
+pub returns-in-Ok-clause-keeps : goal.returns-in-Ok-clause-keeps
+returns-in-Ok-clause-keeps g c db keeps =
+    let old = c.args.conn in
+    let settled : IsTrue (state g.S.Store old).is_open → (state g.S.Store old).now ≡ (state g.S.Store old).committed = c.is_autocommit.ensures.settled (c.is_autocommit.ensures.value ∙ ap not c.requires) in
+    let opened : HasCleanDisk (state g.S.Store c.create.new.conn) → IsTrue (state g.S.Store old).is_open =
+    λ clean. subst (λ conn. IsTrue (state g.S.Store conn).is_open) c.set_step_limit.ensures (c.in-Ok.ensures.lives clean) in
+    let as_was = subst (λ conn. Survives (state g.S.Store conn) (state g.S.Store c.create.new.conn) (IsTreesOf (SparesOthers (state g.S.Store conn).now))) c.set_step_limit.ensures c.create.ensures.beside in
+    subst (λ (d : DeskState _). KeepsBeside g.S.Store d db) (sym c.over.ensures.is)
+    (beside_made g.S.Store old c.create.new.conn c.is_whole.ensures.live c.committed_may_stay.ensures db keeps settled opened as_was)

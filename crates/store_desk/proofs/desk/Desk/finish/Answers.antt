@@ -90,7 +90,7 @@ invariant_of-self-2 g c =
     let over : AppliesOver g.S.Store summary c.args.id.now command old new c.in-Some.outcome = finished_over g.S.Store summary c.args.id.now c.args.name.now it.0 old new c.in-Some.outcome it.2 c.in-Some.ensures.settled
     (committed_rested g.S.Store summary old (c.self.invariant.0.holds before)) c.self.invariant.0.range in
     told_rests g.S.Store old new summary c.self.inside.filing c.self.inside.last c.args.id.now command c.in-Some.outcome before c.self.invariant.0 over
-    c.self.inside.indexes c.finish_coming.new.indexes c.settle.new.indexes c.self.inside.texts c.forget_by.new.texts
+    c.self.inside.indexes c.finish_coming.new.indexes c.settle.new.indexes c.self.inside.texts c.forget_by.new.texts c.self.inside.rows_taken
     (summary_shown c.take_over.new.summary) c.last_by-self-inside.result c.take_over.result c.take_over.ensures.after c.last_by-self-inside.ensures c.take_over.ensures.reply
     c.forget_by.ensures c.self.invariant.1 c.let_go_when_ended.new.filing
     (subst (λ (f : Option Filing). LetsGo new f c.let_go_when_ended.new.filing) c.finish_coming.ensures.same c.let_go_when_ended.ensures)
@@ -106,7 +106,7 @@ returns-clause-done g c =
     let over : AppliesOver g.S.Store summary c.args.id.now command old new c.in-Some.outcome = finished_over g.S.Store summary c.args.id.now c.args.name.now it.0 old new c.in-Some.outcome it.2 c.in-Some.ensures.settled
     (committed_rested g.S.Store summary old (c.self.invariant.0.holds before)) c.self.invariant.0.range in
     let typed = install_read c.args.name.now it.0 in
-    let after : DeskState _ = record { conn = new; summary = summary_shown c.take_over.new.summary; last = c.last_by-self-inside.result; indexes = c.settle.new.indexes; texts = c.forget_by.new.texts } in
+    let after : DeskState _ = record { conn = new; summary = summary_shown c.take_over.new.summary; last = c.last_by-self-inside.result; indexes = c.settle.new.indexes; texts = c.forget_by.new.texts; taken = c.self.inside.rows_taken } in
     let texts = c.forget_by.ensures ∙ ap (λ (l : LastCall). texts_after l c.self.inside.texts) c.last_by-self-inside.ensures in (
       it.0,
       it.1,
@@ -115,7 +115,7 @@ returns-clause-done g c =
             let first : HasCleanDisk (state g.S.Store old) = omega (arith, over.crash.clean, clean) in
             let was = subst (λ desk. Shows g.S.Store desk M) (sym c.self.view_is) shown in
             told_applies g.S.Store old new summary c.self.inside.filing c.self.inside.last c.args.id.now command c.in-Some.outcome before c.self.invariant.0 over
-            c.self.inside.indexes c.finish_coming.new.indexes c.settle.new.indexes c.self.inside.texts c.forget_by.new.texts
+            c.self.inside.indexes c.finish_coming.new.indexes c.settle.new.indexes c.self.inside.texts c.forget_by.new.texts c.self.inside.rows_taken
             (summary_shown c.take_over.new.summary) c.last_by-self-inside.result c.take_over.result c.take_over.ensures.after c.last_by-self-inside.ensures c.take_over.ensures.reply
             clean M was
             (λ clean.
@@ -124,23 +124,24 @@ returns-clause-done g c =
         left = λ clean M shown.
             subst (λ desk. Leaves (LeavesOneOf g.S.Store desk) (LeavesOneOf g.S.Store after) (is_some (kept_under M.kept c.args.id.now)) (step M c.args.id.now command).catalogue c.take_over.result) c.self.view_is
             (told_leaves g.S.Store old new summary c.self.inside.filing c.self.inside.last c.args.id.now command c.in-Some.outcome before c.self.invariant.0 over
-            c.self.inside.indexes c.finish_coming.new.indexes c.settle.new.indexes c.self.inside.texts c.forget_by.new.texts
+            c.self.inside.indexes c.finish_coming.new.indexes c.settle.new.indexes c.self.inside.texts c.forget_by.new.texts c.self.inside.rows_taken
             (summary_shown c.take_over.new.summary) c.last_by-self-inside.result c.take_over.result c.take_over.ensures.after c.last_by-self-inside.ensures c.take_over.ensures.reply
             clean M (subst (λ desk. Shows g.S.Store desk M) (sym c.self.view_is) shown));
         spared = λ ms left.
             told_spares g.S.Store old new summary c.self.inside.filing c.self.inside.last c.args.id.now command c.in-Some.outcome before c.self.invariant.0 over
-            c.self.inside.indexes c.finish_coming.new.indexes c.settle.new.indexes c.self.inside.texts c.forget_by.new.texts
+            c.self.inside.indexes c.finish_coming.new.indexes c.settle.new.indexes c.self.inside.texts c.forget_by.new.texts c.self.inside.rows_taken
             (summary_shown c.take_over.new.summary) c.last_by-self-inside.result c.take_over.result c.take_over.ensures.after c.last_by-self-inside.ensures c.take_over.ensures.reply
             ms (subst (λ desk. LeavesOneOf g.S.Store desk ms) (sym c.self.view_is) left);
         failed = λ clean.
             subst (λ desk. IfErr c.take_over.result (λ fault. is_failure fault ≡ true → FailsToApplyTo g.S.Store desk (record { id = c.args.id.now; command = command }) after fault)) c.self.view_is
-            (fails_to_apply g.S.Store (record { conn = old; summary = summary; last = c.self.inside.last; indexes = c.self.inside.indexes; texts = c.self.inside.texts }) c.args.id.now command after
+            (fails_to_apply g.S.Store (record { conn = old; summary = summary; last = c.self.inside.last; indexes = c.self.inside.indexes; texts = c.self.inside.texts; taken = c.self.inside.rows_taken }) c.args.id.now command after
             c.in-Some.outcome c.take_over.result c.take_over.ensures.reply over.kinds (over.failed clean));
         others = λ clean live. subst (λ (d : DeskState _). SparesTablesOfOthers (state g.S.Store d.conn).committed (state g.S.Store new).committed) c.self.view_is
             (others_by c.in-Some.outcome (state g.S.Store old).committed (state g.S.Store new).committed (over.others clean live) (it.2.stays clean live));
         beside = subst (λ (d : DeskState _). Survives (state g.S.Store d.conn) (state g.S.Store new) (LeftBeside (state g.S.Store d.conn))) c.self.view_is over.beside;
         keeps = λ db kept.
-            beside_by g.S.Store (record { conn = old; summary = summary; last = c.self.inside.last; indexes = c.self.inside.indexes; texts = c.self.inside.texts }) after (c.self.invariant.0.holds before) c.is_whole.ensures.live
+            beside_by g.S.Store (record { conn = old; summary = summary; last = c.self.inside.last; indexes = c.self.inside.indexes; texts = c.self.inside.texts; taken = c.self.inside.rows_taken })
+            after (c.self.invariant.0.holds before) c.is_whole.ensures.live
             c.committed_may_stay.ensures over.beside db (subst (λ (d : DeskState _). KeepsBeside g.S.Store d db) (sym c.self.view_is) kept);
       },
     )

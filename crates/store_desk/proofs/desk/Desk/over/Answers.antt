@@ -31,6 +31,6 @@ returns-clause-shows g c = λ M summary well rests indexed. record {
   well_formed = well;
   holds = λ fine clean live. (rests clean).holds;
   served = λ clean. each_edition (IsHeldCut (state g.S.Store c.args.conn).committed c.args.indexes)
-      (ServesEdition g.S.Store (record { conn = c.args.conn; summary = summary_shown c.args.summary; last = Fine; indexes = c.args.indexes; texts = c.new.result }))
+      (ServesEdition g.S.Store (record { conn = c.args.conn; summary = summary_shown c.args.summary; last = Fine; indexes = c.args.indexes; texts = c.new.result; taken = 0 }))
       (λ stored one. record { index = one.index; stands = one.stands; text = one.text; cuts = one.cuts; kept = subst (ArePartsOf stored.number one.text) (sym c.new.ensures) tt; held = λ fine live. one.held }) M.items (indexed clean);
 }

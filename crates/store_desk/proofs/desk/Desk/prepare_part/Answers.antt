@@ -51,14 +51,28 @@ returns-clause-shows g c = λ clean M shown.
 
 pub returns-clause-leaves : goal.returns-clause-leaves
 returns-clause-leaves g c = λ ms left.
-    leaves_on g.S.Store (record { conn = c.self.inside.conn; summary = summary_shown c.self.inside.summary; last = c.self.inside.last; indexes = c.self.inside.indexes; texts = c.self.inside.texts })
-    (record { conn = c.prepare_next-outcome.new.conn; summary = summary_shown c.self.inside.summary; last = c.last_behind-self-inside.result; indexes = c.self.inside.indexes; texts = c.forget_behind.new.texts })
+    leaves_on g.S.Store (record { conn = c.self.inside.conn; summary = summary_shown c.self.inside.summary; last = c.self.inside.last; indexes = c.self.inside.indexes; texts = c.self.inside.texts; taken = c.self.inside.rows_taken })
+    (record {
+      conn = c.prepare_next-outcome.new.conn;
+      summary = summary_shown c.self.inside.summary;
+      last = c.last_behind-self-inside.result;
+      indexes = c.self.inside.indexes;
+      texts = c.forget_behind.new.texts;
+      taken = c.self.inside.rows_taken;
+    })
     c.prepare_next-outcome.ensures.survives ms (subst (λ (d : DeskState _). LeavesOneOf g.S.Store d ms) (sym c.self.view_is) left)
 
 pub returns-clause-beside : goal.returns-clause-beside
 returns-clause-beside g c = λ db kept.
-    beside_on g.S.Store (record { conn = c.self.inside.conn; summary = summary_shown c.self.inside.summary; last = c.self.inside.last; indexes = c.self.inside.indexes; texts = c.self.inside.texts })
-    (record { conn = c.prepare_next-outcome.new.conn; summary = summary_shown c.self.inside.summary; last = c.last_behind-self-inside.result; indexes = c.self.inside.indexes; texts = c.forget_behind.new.texts })
+    beside_on g.S.Store (record { conn = c.self.inside.conn; summary = summary_shown c.self.inside.summary; last = c.self.inside.last; indexes = c.self.inside.indexes; texts = c.self.inside.texts; taken = c.self.inside.rows_taken })
+    (record {
+      conn = c.prepare_next-outcome.new.conn;
+      summary = summary_shown c.self.inside.summary;
+      last = c.last_behind-self-inside.result;
+      indexes = c.self.inside.indexes;
+      texts = c.forget_behind.new.texts;
+      taken = c.self.inside.rows_taken;
+    })
     c.prepare_next-outcome.ensures.survives db (subst (λ (d : DeskState _). KeepsBeside g.S.Store d db) (sym c.self.view_is) kept)
 
 pub returns-clause-failed : goal.returns-clause-failed
@@ -79,8 +93,8 @@ returns-clause-caused g c = λ clean.
       summary = summary_shown c.self.inside.summary;
       last = c.last_behind-self-inside.result;
       indexes = c.self.inside.indexes;
-      texts =
-          c.forget_behind.new.texts;
+      texts = c.forget_behind.new.texts;
+      taken = c.self.inside.rows_taken;
     }) c.prepare_next-outcome.result c.prepare_next-outcome.ensures.kinds
     (subst (λ (d : DeskState _). KeepsCommit (state g.S.Store d.conn) (state g.S.Store c.prepare_next-outcome.new.conn)) c.self.view_is (c.prepare_next-outcome.ensures.keeps clean))
     (subst (λ (d : DeskState _). IfErr c.prepare_next-outcome.result (λ fault. fault ≡ Disk → MoreFaults (state g.S.Store d.conn).faults (state g.S.Store c.prepare_next-outcome.new.conn).faults)) c.self.view_is
@@ -88,8 +102,15 @@ returns-clause-caused g c = λ clean.
 
 pub returns-clause-prepared : goal.returns-clause-prepared
 returns-clause-prepared g c = λ clean is.
-    let old : DeskState _ = record { conn = c.self.inside.conn; summary = summary_shown c.self.inside.summary; last = c.self.inside.last; indexes = c.self.inside.indexes; texts = c.self.inside.texts } in
+    let old : DeskState _ = record { conn = c.self.inside.conn; summary = summary_shown c.self.inside.summary; last = c.self.inside.last; indexes = c.self.inside.indexes; texts = c.self.inside.texts; taken = c.self.inside.rows_taken } in
     subst (λ (d : DeskState _). (c.prepare_next-outcome.new.conn.in_transaction ≡ true)
-    ⊎ (record { conn = c.prepare_next-outcome.new.conn; summary = summary_shown c.self.inside.summary; last = c.last_behind-self-inside.result; indexes = c.self.inside.indexes; texts = c.forget_behind.new.texts } ≡ d)) c.self.view_is
+    ⊎ (record {
+      conn = c.prepare_next-outcome.new.conn;
+      summary = summary_shown c.self.inside.summary;
+      last = c.last_behind-self-inside.result;
+      indexes = c.self.inside.indexes;
+      texts = c.forget_behind.new.texts;
+      taken = c.self.inside.rows_taken;
+    } ≡ d)) c.self.view_is
     (more_prepared g.S.Store old c.prepare_next-outcome.new.conn c.last_behind-self-inside.result c.forget_behind.new.texts c.prepare_next-outcome.result c.last_behind-self-inside.ensures c.forget_behind.ensures is
     (c.prepare_next-outcome.ensures.inside clean is))

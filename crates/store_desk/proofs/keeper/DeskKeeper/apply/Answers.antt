@@ -42,7 +42,7 @@ invariant_of-self-2 g c =
     let before : is_closed c.self.inside.last ≡ false = search rules in
     told_rests g.S.Store c.self.inside.conn c.apply_over-outcome.new.conn (summary_shown c.self.inside.summary) c.self.inside.filing c.self.inside.last c.args.id.now
     (command_meant c.args.command.now) c.apply_over-outcome.result before c.self.invariant.0
-    c.apply_over-outcome.ensures.over c.self.inside.indexes c.put_coming.new.indexes c.settle.new.indexes c.self.inside.texts c.forget_by-2.new.texts
+    c.apply_over-outcome.ensures.over c.self.inside.indexes c.put_coming.new.indexes c.settle.new.indexes c.self.inside.texts c.forget_by-2.new.texts c.self.inside.rows_taken
     (summary_shown c.take_over.new.summary) c.last_by-self-inside.result c.take_over.result c.take_over.ensures.after c.last_by-self-inside.ensures c.take_over.ensures.reply
     c.forget_by-2.ensures c.self.invariant.1 c.let_go_when_ended.new.filing c.let_go_when_ended.ensures
 
@@ -54,7 +54,7 @@ returns-clause-value g c = λ clean M shown.
     let texts = c.forget_by-2.ensures ∙ ap (λ (l : LastCall). texts_after l c.self.inside.texts) c.last_by-self-inside.ensures in
     told_applies g.S.Store c.self.inside.conn c.apply_over-outcome.new.conn (summary_shown c.self.inside.summary) c.self.inside.filing c.self.inside.last c.args.id.now
     (command_meant c.args.command.now) c.apply_over-outcome.result before c.self.invariant.0
-    c.apply_over-outcome.ensures.over c.self.inside.indexes c.put_coming.new.indexes c.settle.new.indexes c.self.inside.texts c.forget_by-2.new.texts
+    c.apply_over-outcome.ensures.over c.self.inside.indexes c.put_coming.new.indexes c.settle.new.indexes c.self.inside.texts c.forget_by-2.new.texts c.self.inside.rows_taken
     (summary_shown c.take_over.new.summary) c.last_by-self-inside.result c.take_over.result c.take_over.ensures.after c.last_by-self-inside.ensures c.take_over.ensures.reply
     clean M was
     (λ clean.
@@ -67,10 +67,10 @@ pub returns-clause-leaves : goal.returns-clause-leaves
 returns-clause-leaves g c = λ clean M shown.
     let before : is_closed c.self.inside.last ≡ false = search rules in
     subst (λ desk. Leaves (LeavesOneOf g.S.Store desk) (LeavesOneOf g.S.Store
-    (record { conn = c.apply_over-outcome.new.conn; summary = summary_shown c.take_over.new.summary; last = c.last_by-self-inside.result; indexes = c.settle.new.indexes; texts = c.forget_by-2.new.texts }))
+    (record { conn = c.apply_over-outcome.new.conn; summary = summary_shown c.take_over.new.summary; last = c.last_by-self-inside.result; indexes = c.settle.new.indexes; texts = c.forget_by-2.new.texts; taken = c.self.inside.rows_taken }))
     (is_some (kept_under M.kept c.args.id.now)) (step M c.args.id.now (command_meant c.args.command.now)).catalogue c.take_over.result) c.self.view_is (told_leaves g.S.Store c.self.inside.conn c.apply_over-outcome.new.conn
     (summary_shown c.self.inside.summary) c.self.inside.filing c.self.inside.last c.args.id.now (command_meant c.args.command.now) c.apply_over-outcome.result before c.self.invariant.0
-    c.apply_over-outcome.ensures.over c.self.inside.indexes c.put_coming.new.indexes c.settle.new.indexes c.self.inside.texts c.forget_by-2.new.texts
+    c.apply_over-outcome.ensures.over c.self.inside.indexes c.put_coming.new.indexes c.settle.new.indexes c.self.inside.texts c.forget_by-2.new.texts c.self.inside.rows_taken
     (summary_shown c.take_over.new.summary) c.last_by-self-inside.result c.take_over.result c.take_over.ensures.after c.last_by-self-inside.ensures c.take_over.ensures.reply
     clean M (subst (λ desk. Shows g.S.Store desk M) (sym c.self.view_is) shown))
 
@@ -79,15 +79,15 @@ returns-clause-spares g c = λ ms left.
     let before : is_closed c.self.inside.last ≡ false = search rules in
     told_spares g.S.Store c.self.inside.conn c.apply_over-outcome.new.conn (summary_shown c.self.inside.summary) c.self.inside.filing c.self.inside.last c.args.id.now
     (command_meant c.args.command.now) c.apply_over-outcome.result before c.self.invariant.0
-    c.apply_over-outcome.ensures.over c.self.inside.indexes c.put_coming.new.indexes c.settle.new.indexes c.self.inside.texts c.forget_by-2.new.texts
+    c.apply_over-outcome.ensures.over c.self.inside.indexes c.put_coming.new.indexes c.settle.new.indexes c.self.inside.texts c.forget_by-2.new.texts c.self.inside.rows_taken
     (summary_shown c.take_over.new.summary) c.last_by-self-inside.result c.take_over.result c.take_over.ensures.after c.last_by-self-inside.ensures c.take_over.ensures.reply
     ms (subst (λ desk. LeavesOneOf g.S.Store desk ms) (sym c.self.view_is) left)
 
 pub returns-clause-beside : goal.returns-clause-beside
 returns-clause-beside g c = λ db kept.
     let before : is_closed c.self.inside.last ≡ false = search rules in
-    beside_by g.S.Store (record { conn = c.self.inside.conn; summary = summary_shown c.self.inside.summary; last = c.self.inside.last; indexes = c.self.inside.indexes; texts = c.self.inside.texts })
-    (record { conn = c.apply_over-outcome.new.conn; summary = summary_shown c.take_over.new.summary; last = c.last_by-self-inside.result; indexes = c.settle.new.indexes; texts = c.forget_by-2.new.texts })
+    beside_by g.S.Store (record { conn = c.self.inside.conn; summary = summary_shown c.self.inside.summary; last = c.self.inside.last; indexes = c.self.inside.indexes; texts = c.self.inside.texts; taken = c.self.inside.rows_taken })
+    (record { conn = c.apply_over-outcome.new.conn; summary = summary_shown c.take_over.new.summary; last = c.last_by-self-inside.result; indexes = c.settle.new.indexes; texts = c.forget_by-2.new.texts; taken = c.self.inside.rows_taken })
     (c.self.invariant.0.holds before) c.is_whole.ensures.live c.committed_may_stay.ensures c.apply_over-outcome.ensures.over.beside db (subst (λ (d : DeskState _). KeepsBeside g.S.Store d db) (sym c.self.view_is) kept)
 
 pub returns-clause-failed : goal.returns-clause-failed
@@ -96,15 +96,29 @@ returns-clause-failed g c = ap has_failed c.last_by-self-inside.ensures ∙ fail
 pub returns-clause-caused : goal.returns-clause-caused
 returns-clause-caused g c = λ clean.
     subst (λ desk. IfErr c.take_over.result (λ fault. is_failure fault ≡ true → FailsToApplyTo g.S.Store desk (record { id = c.args.id.now; command = command_meant c.args.command.now })
-    (record { conn = c.apply_over-outcome.new.conn; summary = summary_shown c.take_over.new.summary; last = c.last_by-self-inside.result; indexes = c.settle.new.indexes; texts = c.forget_by-2.new.texts }) fault)) c.self.view_is
-    (fails_to_apply g.S.Store (record { conn = c.self.inside.conn; summary = summary_shown c.self.inside.summary; last = c.self.inside.last; indexes = c.self.inside.indexes; texts = c.self.inside.texts }) c.args.id.now
+    (record {
+      conn = c.apply_over-outcome.new.conn;
+      summary = summary_shown c.take_over.new.summary;
+      last = c.last_by-self-inside.result;
+      indexes = c.settle.new.indexes;
+      texts = c.forget_by-2.new.texts;
+      taken = c.self.inside.rows_taken;
+    }) fault)) c.self.view_is
+    (fails_to_apply g.S.Store (record {
+      conn = c.self.inside.conn;
+      summary = summary_shown c.self.inside.summary;
+      last = c.self.inside.last;
+      indexes = c.self.inside.indexes;
+      texts = c.self.inside.texts;
+      taken = c.self.inside.rows_taken;
+    }) c.args.id.now
     (command_meant c.args.command.now) (record {
       conn = c.apply_over-outcome.new.conn;
       summary = summary_shown c.take_over.new.summary;
       last = c.last_by-self-inside.result;
       indexes = c.settle.new.indexes;
-      texts =
-          c.forget_by-2.new.texts;
+      texts = c.forget_by-2.new.texts;
+      taken = c.self.inside.rows_taken;
     })
     c.apply_over-outcome.result c.take_over.result c.take_over.ensures.reply c.apply_over-outcome.ensures.over.kinds (c.apply_over-outcome.ensures.over.failed clean))
 

@@ -63,16 +63,16 @@ returns-clause-shows g c = λ clean M shown.
 pub returns-clause-leaves : goal.returns-clause-leaves
 returns-clause-leaves g c = λ ms left.
     let there = leaves_on g.S.Store c.kept_beside.new.self c.withdraw.new.self c.withdraw.ensures.survives ms (leaves_on g.S.Store c.args.self.now c.kept_beside.new.self c.kept_beside.ensures.survives ms left) in
-    leaves_on g.S.Store (record { conn = c.self.inside.conn; summary = summary_shown c.self.inside.summary; last = c.self.inside.last; indexes = c.self.inside.indexes; texts = c.self.inside.texts })
-    (record { conn = c.kept_reply-outcome.new.conn; summary = summary_shown c.self.inside.summary; last = c.last_by-self-inside.result; indexes = c.self.inside.indexes; texts = c.forget_by.new.texts })
+    leaves_on g.S.Store (record { conn = c.self.inside.conn; summary = summary_shown c.self.inside.summary; last = c.self.inside.last; indexes = c.self.inside.indexes; texts = c.self.inside.texts; taken = c.self.inside.rows_taken })
+    (record { conn = c.kept_reply-outcome.new.conn; summary = summary_shown c.self.inside.summary; last = c.last_by-self-inside.result; indexes = c.self.inside.indexes; texts = c.forget_by.new.texts; taken = c.self.inside.rows_taken })
     c.kept_reply-outcome.ensures.survives ms
     (subst (λ (d : DeskState _). LeavesOneOf g.S.Store d ms) (sym c.self.view_is) there)
 
 pub returns-clause-beside : goal.returns-clause-beside
 returns-clause-beside g c = λ db kept.
     let there = beside_on g.S.Store c.kept_beside.new.self c.withdraw.new.self c.withdraw.ensures.survives db (beside_on g.S.Store c.args.self.now c.kept_beside.new.self c.kept_beside.ensures.survives db kept) in
-    beside_on g.S.Store (record { conn = c.self.inside.conn; summary = summary_shown c.self.inside.summary; last = c.self.inside.last; indexes = c.self.inside.indexes; texts = c.self.inside.texts })
-    (record { conn = c.kept_reply-outcome.new.conn; summary = summary_shown c.self.inside.summary; last = c.last_by-self-inside.result; indexes = c.self.inside.indexes; texts = c.forget_by.new.texts })
+    beside_on g.S.Store (record { conn = c.self.inside.conn; summary = summary_shown c.self.inside.summary; last = c.self.inside.last; indexes = c.self.inside.indexes; texts = c.self.inside.texts; taken = c.self.inside.rows_taken })
+    (record { conn = c.kept_reply-outcome.new.conn; summary = summary_shown c.self.inside.summary; last = c.last_by-self-inside.result; indexes = c.self.inside.indexes; texts = c.forget_by.new.texts; taken = c.self.inside.rows_taken })
     c.kept_reply-outcome.ensures.survives db
     (subst (λ (d : DeskState _). KeepsBeside g.S.Store d db) (sym c.self.view_is) there)
 
@@ -80,7 +80,8 @@ pub returns-clause-caused : goal.returns-clause-caused
 returns-clause-caused g c =
     let before : is_closed c.self.inside.last ≡ false = ap is_closed (ap (λ (d : DeskState _). d.last) c.self.view_is ∙ c.in_ok-withdraw.ensures.last) ∙ c.in_ok-withdraw.ensures.open in
     reply_gives_way g.S.Store c.args.self.now c.self.inside.conn c.kept_reply-outcome.new.conn
-    (summary_shown c.self.inside.summary) c.self.inside.filing c.self.inside.indexes c.forget_by.new.texts c.self.inside.last c.last_by-self-inside.result before c.self.invariant.0 c.kept_reply-outcome.ensures.survives
+    (summary_shown c.self.inside.summary) c.self.inside.filing c.self.inside.indexes c.forget_by.new.texts c.self.inside.rows_taken c.self.inside.last c.last_by-self-inside.result before c.self.invariant.0
+    c.kept_reply-outcome.ensures.survives
     (λ clean.
     let honest = clean_behind (state g.S.Store c.self.inside.conn) (state g.S.Store c.kept_reply-outcome.new.conn) c.kept_reply-outcome.ensures.survives clean in
     let mid = subst (λ (d : DeskState _). HasCleanDisk (state g.S.Store d.conn)) c.self.view_is honest in

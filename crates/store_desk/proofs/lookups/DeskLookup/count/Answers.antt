@@ -1,5 +1,10 @@
-use Rattle.std.proofs.Common.{◌≡◌, false, sym, ap, subst, rules}
+use Rattle.std.proofs.Common.{◌≡◌, ℕ, false, sym, ap, subst, rules}
+use Rattle.std.specs.Prelude.{Result, OnOk}
 use Rattle.dict_catalogue.specs.Views.{summary_shown}
+use Rattle.dict_desk.specs.Shown.{count_of}
+use Rattle.dict_desk.specs.declared.fault.Fault.{Fault}
+use Rattle.dict_desk.specs.declared.lookup.What.TheVariants.{Entries}
+use Rattle.store_lookup.specs.Taken.{LooksAt}
 use Rattle.store_desk.specs.Desk.{DeskState, Shows, LeavesOneOf, is_closed, KeepsBeside}
 use Rattle.store_lookup.specs.Indexes.{entries_under}
 use Rattle.store_lookup.proofs.StateLemmas.{each_ok}
@@ -34,12 +39,42 @@ returns-clause-beside g c = λ db kept. subst (λ (d : DeskState _). KeepsBeside
 pub returns-clause-caused : goal.returns-clause-caused
 returns-clause-caused g c = λ clean.
     memory_gives_way g.S.Store c.args.self.now
-    (record { conn = c.self.inside.conn; summary = summary_shown c.self.inside.summary; last = c.last_by-self-inside.result; indexes = c.count_under-outcome.new.indexes; texts = c.forget_by.new.texts })
+    (record {
+      conn = c.self.inside.conn;
+      summary = summary_shown c.self.inside.summary;
+      last = c.last_by-self-inside.result;
+      indexes = c.count_under-outcome.new.indexes;
+      texts = c.forget_by.new.texts;
+      taken = c.count_under-outcome.new.rows_taken;
+    })
     (ap (λ (d : DeskState _). d.conn) c.self.view_is) c.count_under-outcome.result c.count_under-outcome.ensures.kinds
 
 pub returns-clause-value : goal.returns-clause-value
 returns-clause-value g c = λ clean M edition shown has.
     let ready = subst (λ (d : DeskState _). Shows g.S.Store d M) (sym c.self.view_is) shown in
-    let one = served_one g.S.Store (record { conn = c.self.inside.conn; summary = summary_shown c.self.inside.summary; last = c.self.inside.last; indexes = c.self.inside.indexes; texts = c.self.inside.texts }) M c.args.number
+    let one = served_one g.S.Store (record {
+      conn = c.self.inside.conn;
+      summary = summary_shown c.self.inside.summary;
+      last = c.self.inside.last;
+      indexes = c.self.inside.indexes;
+      texts = c.self.inside.texts;
+      taken = c.self.inside.rows_taken;
+    }) M c.args.number
     edition has (ready.served clean) in
     each_ok c.count_under-outcome.result _ _ (λ count h. h one.index edition one.stands (one.text, one.cuts)) c.count_under-outcome.ensures.value
+
+pub returns-clause-looks : goal.returns-clause-looks
+returns-clause-looks g c = λ clean M edition shown has count all.
+    let ready = subst (λ (d : DeskState _). Shows g.S.Store d M) (sym c.self.view_is) shown in
+    let one = served_one g.S.Store (record {
+      conn = c.self.inside.conn;
+      summary = summary_shown c.self.inside.summary;
+      last = c.self.inside.last;
+      indexes = c.self.inside.indexes;
+      texts = c.self.inside.texts;
+      taken = c.self.inside.rows_taken;
+    }) M c.args.number
+    edition has (ready.served clean) in
+    subst (λ (taken : ℕ). LooksAt taken c.count_under-outcome.new.rows_taken (count_of Entries c.args.strategy c.args.query.now edition)) (ap (λ (d : DeskState _). d.taken) c.self.view_is)
+    (subst (λ (r : Result ℕ Fault). OnOk r (LooksAt c.self.inside.rows_taken c.count_under-outcome.new.rows_taken (count_of Entries c.args.strategy c.args.query.now edition))) all
+    (c.count_under-outcome.ensures.looks one.index edition one.stands (one.text, one.cuts)))

@@ -1,7 +1,8 @@
 use Rattle.std.proofs.Common.{◌∙◌, refl, sym}
 use Rattle.std.proofs.lemmas.Bool.{and_parts}
 use Rattle.std.proofs.lemmas.Result.{IfOk-weaker, IfErr-weaker}
-use Rattle.store_desk.proofs.ReopenLemmas.{shows_one_of, still_beside, tells_none, hands_back, hands_spent, excused, unopened_again, kind_of}
+use Rattle.store_desk.specs.Desk.{HasBeside, IsOneOf}
+use Rattle.store_desk.proofs.ReopenLemmas.{shows_one_of, still_beside, tells_none, hands_back, hands_beside, hands_spent, keeps_some, leaves_some, excused, unopened_again, kind_of}
 use Rattle.store_desk.proofs.reopening.Desk+FileStore+D.reopen.Goals as goal
 
 pub returns-clause-reopened : goal.returns-clause-reopened
@@ -31,19 +32,23 @@ returns-clause-unopened g c =
       kind = kind_of files left.0 left.1 over;
       excused = excused stays c.args.self files files gone (λ image out. out) (λ clean. clean) left.0 left.1 over;
       leaves = hands_back stays c.args.self files files gone (λ image out. out) (λ clean. clean) left.0 left.1 over;
+      beside = hands_beside stays c.args.self files files gone (λ image out. out) (λ clean. clean) left.0 left.1 over;
       of_store = tells_none stays c.args.self files files gone (λ image out. out) (λ clean. clean) left.0 left.1 over;
     }) c.open_over.ensures.unopened
 
 pub returns-then-not-may_be_used-clause-unopened : goal.returns-then-not-may_be_used-clause-unopened
 returns-then-not-may_be_used-clause-unopened g c =
     let files = c.files_of-files.result in
+    let gone = c.files_of-files.ensures in
+    let stays = g.met.D.Disk.seen_may_stay in
     record {
       files = files;
-      let_go = c.files_of-files.ensures;
+      let_go = gone;
       why = (refl, refl, sym c.may_be_used.ensures ∙ c.if-not-may_be_used.true);
       kind = tt;
       excused = tt;
-      leaves = hands_spent g.met.D.Disk.seen_may_stay c.args.self files files c.files_of-files.ensures (λ image out. out) (λ clean. clean);
+      leaves = λ ms leaves. hands_spent stays c.args.self files files gone (λ image out. out) (λ clean. clean) (IsOneOf ms) (leaves_some stays c.args.self files files gone (λ image out. out) (λ clean. clean) ms leaves);
+      beside = λ db keeps. hands_spent stays c.args.self files files gone (λ image out. out) (λ clean. clean) (HasBeside db) (keeps_some stays c.args.self files files gone (λ image out. out) (λ clean. clean) db keeps);
       of_store = λ ms leaves never. tt;
     }
 

@@ -1,4 +1,4 @@
-use Rattle.std.proofs.Common.{◌≡◌, subst, ap, ◌∙◌, rules, length}
+use Rattle.std.proofs.Common.{◌≡◌, ◌≤◌, subst, ap, sym, ◌∙◌, rules, length}
 use Rattle.std.specs.List.{All}
 use Rattle.std.specs.Str.{IsUtf8}
 use Rattle.dict_match.specs.Matching.{is_hit}
@@ -6,7 +6,8 @@ use Rattle.store_derived.specs.Search.{rows_for}
 use Rattle.store_search.specs.Entries.{entries_at, keys_of}
 use Rattle.store_places.specs.Places.{places_where}
 use Rattle.store_places.specs.Selected.{is_selected}
-use Rattle.store_search.proofs.EditionLemmas.{entries_there, count_there}
+use Rattle.store_search.specs.Found.{found_entries}
+use Rattle.store_search.proofs.EditionLemmas.{entries_there, count_there, fewer_found}
 use Rattle.store_search.proofs.index.Index.find.Goals as goal
 
 pub places_to_test-requires-clause-text : goal.places_to_test-requires-clause-text
@@ -25,3 +26,9 @@ returns-clause-looked_at c =
     many
     ∙ ap length (c.in_ok-selected.ensures.value ∙ ap (λ rows. places_where (is_selected rows) (keys_of entries)) c.in_ok-selection.ensures)
     ∙ count_there (is_selected (rows_for c.args.strategy c.args.query.now)) entries
+
+pub returns-clause-fewer : goal.returns-clause-fewer
+returns-clause-fewer c =
+    let entries = c.args.self.now in
+    subst (λ n. length (found_entries c.args.strategy c.args.query.now entries) ≤ n) (sym (returns-clause-looked_at c))
+    (fewer_found c.args.strategy c.args.query.now entries (subst (λ l. All IsUtf8 (keys_of l)) c.self.view_is c.keys-keys.ensures.text))
