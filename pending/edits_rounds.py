@@ -99,6 +99,7 @@ EDITS = {
         "a_migration_empties_tables_of_others": ("adopting::renew", "others, beside"),
         "a_part_is_committed": ("preparing::DeskPreparer::prepare", "leaves, shows; the desk's invariant"),
         "a_reopened_desk_is_a_new_one": ("reopening::open_over", "opened"),
+        "a_desk_counts_no_looks": ("lookups::DeskLookup::count", "looks"),
         "adopted_desk_is_empty": ("desk::Desk::adopt", "held, left; over's requires holds"),
         "an_edition_gets_the_index_of_none": ("indexing::index_edition", "the only clause"),
         "an_edition_that_goes_is_answered_from_what_is_left": ("withdrawing::is_apart", "the only clause"),

@@ -20,6 +20,8 @@ sys.path[:0] = [str(HERE.parent), str(HERE.parent / "serve")]
 from lists import headwords, of_length  # noqa: E402
 
 SMALL, LARGE = (65_536, 13_000_000), (262_144, 67_108_864)
+# A quarter of the largest edition's entries and of its text, each with a fourth column as there.
+QUARTER = (LARGE[0] // 4, LARGE[1] // 4)
 QUERIES = 1000
 OLD_TABLES = (
     "CREATE TABLE mark (id INTEGER NOT NULL PRIMARY KEY, magic TEXT NOT NULL, version INTEGER NOT NULL, installs INTEGER NOT NULL) STRICT",
@@ -82,9 +84,9 @@ def bounded(what, value, unit, most, form=".1f", more=""):
 class Made:
     """A made database, and the file into which it is installed."""
 
-    def __init__(self, program, work, lines, octets, shown=False):
+    def __init__(self, program, work, lines, octets, shown=False, stem="made"):
         self.program, self.work, self.lines = program, work, lines
-        self.index, self.text, self.path = (work / f"made{lines}.{end}" for end in ("index", "dict", "db"))
+        self.index, self.text, self.path = (work / f"{stem}{lines}.{end}" for end in ("index", "dict", "db"))
         if not self.text.exists():
             words = [HERE.parent / "make_words.py", lines, octets, self.index, self.text] + ["shown"] * shown
             run(sys.executable, *words)
@@ -197,10 +199,12 @@ def installs(program, small, large):
     told("install of 65,536 lines, first run", f"{first[0]:.2f} s, {first[1]:.0f} MB; file and log {sizes(small.path)} MB")
     second = min(first[0], small.fresh()[1])
     bounded("install of 65,536 lines, the better of two", second, "s", 12, ".2f")
-    clock, seconds, memory, _ = large.fresh()
-    bounded("install of 262,144 lines: times that of 65,536", seconds / second, "times", 4.5, ".2f",
-            f" ({seconds:.1f} s, by the clock {clock:.1f}); file and log {sizes(large.path)} MB")
-    bounded("memory of that install", memory, "MB", 400, ".0f")
+    quarter = Made(program, small.work, *QUARTER, shown=True, stem="quarter")
+    part = min(quarter.fresh()[1] for _ in range(2))
+    clock, seconds, memory, _ = min(large.fresh() for _ in range(2))
+    told("install of 262,144 lines, the better of two", f"{seconds:.2f} s, by the clock {clock:.2f}; file and log {sizes(large.path)} MB")
+    bounded("times that of a quarter of its lines and text", seconds / part, "times", 4.3, ".2f")
+    bounded("memory of that install", memory, "MB", 260, ".0f")
 
 
 def stages(program, *words):
@@ -288,11 +292,12 @@ def migrated(program, old, what):
 
 def removals(program, small, large):
     for made, what in ((small, "65,536 lines"), (large, "the largest edition")):
-        path = copied(made.file(), made.work / "removed.db")
-        _, seconds, memory, _ = made.install(path, "r2")
-        told(f"install of {what} over another edition", f"{seconds:.1f} s, {memory:.0f} MB; file and log {sizes(path)} MB")
-        _, seconds, memory, _ = made.install(path, "r3")
-        told(f"install of {what} by which a former edition goes", f"{seconds:.1f} s, {memory:.0f} MB; file and log {sizes(path)} MB")
+        path = made.work / "removed.db"
+        _, first, _, _ = made.fresh(path)
+        for request, how, most in (("r2", "over another edition", 1.5), ("r3", "by which a former edition goes", 1.7)):
+            _, seconds, memory, _ = made.install(path, request)
+            told(f"install of {what} {how}", f"{seconds:.1f} s, {memory:.0f} MB; file and log {sizes(path)} MB")
+            bounded("times that into an empty file", seconds / first, "times", most, ".2f")
         _, seconds, memory, _ = run(program, "retire", path, "made", "r4")
         told(f"`retire` of both editions of {what}", f"{seconds:.1f} s, {memory:.0f} MB; file and log {sizes(path)} MB")
 
