@@ -38,7 +38,8 @@ module _ {K T S Beside : Type 0} {G : transport.Ghosts T} (Shows : K → Catalog
 
   -- one more that didn't end it
   pub made_more : (rounds rest next : ℕ) (old now : EventLoop T S G) (desk left : K) (rs : List (Round K T S G)) (one : Round K T S G) → AreMade rounds old desk now left rs rest
-      → one.before ≡ now → one.desk ≡ left → IsRoundMade Shows LeavesOneOf KeepsBeside IsTrusted has_failed is_closed expects prepares taken coming made refuses asked told wait rest one → ended one.result (is_closed one.left) one.waited rest
+      → one.before ≡ now → one.desk ≡ left → IsRoundMade Shows LeavesOneOf KeepsBeside IsTrusted has_failed is_closed expects prepares taken coming made refuses asked told wait rest one → ended one.result (is_closed one.left)
+      one.waited rest
       ≡ None → next ≡ rest - 1
       → AreMade rounds old desk one.after one.left (rs ++ one ∷ []) next
   made_more rounds rest next old now desk left [] one (same, still, kept) before over is goes less = (
@@ -53,7 +54,8 @@ module _ {K T S Beside : Type 0} {G : transport.Ghosts T} (Shows : K → Catalog
 
   -- one that ended it
   pub made_last : (rounds rest : ℕ) (old now : EventLoop T S G) (desk left : K) (rs : List (Round K T S G)) (one : Round K T S G) (result : Result RoundsEnd Error) → AreMade rounds old desk now left rs rest
-      → one.before ≡ now → one.desk ≡ left → IsRoundMade Shows LeavesOneOf KeepsBeside IsTrusted has_failed is_closed expects prepares taken coming made refuses asked told wait rest one → ended one.result (is_closed one.left) one.waited rest
+      → one.before ≡ now → one.desk ≡ left → IsRoundMade Shows LeavesOneOf KeepsBeside IsTrusted has_failed is_closed expects prepares taken coming made refuses asked told wait rest one → ended one.result (is_closed one.left)
+      one.waited rest
       ≡ Some result
       → AreRounds Shows LeavesOneOf KeepsBeside IsTrusted has_failed is_closed expects prepares taken coming made refuses asked told wait rounds old desk one.after one.left (rs ++ one ∷ []) result
   made_last rounds rest old now desk left [] one result (same, still, kept) before over is ends = (

@@ -19,7 +19,8 @@ module _ {K Beside : Type 0} (Shows : K → Catalogue → Type 0) (Leaves : K �
   GoesOn rounds desk (one ∷ []) next left = (is_closed one.left ≡ true) × Follows Shows Leaves Keeps Trusted one.left next × Opened (Some one.left) next × AreLeft one.ended left
   GoesOn rounds desk (one ∷ other ∷ others) next left = GoesOn rounds desk (other ∷ others) next left
 
-  pub goes_more : (rounds : ℕ) (desk : K) (stretches : List (Stretch K)) (one : Stretch K) (next : K) (left : ℕ) → is_closed one.left ≡ true → Follows Shows Leaves Keeps Trusted one.left next → Opened (Some one.left) next → AreLeft one.ended left
+  pub goes_more : (rounds : ℕ) (desk : K) (stretches : List (Stretch K)) (one : Stretch K) (next : K) (left : ℕ) → is_closed one.left ≡ true → Follows Shows Leaves Keeps Trusted one.left next → Opened (Some one.left) next → AreLeft
+      one.ended left
       → GoesOn rounds desk (stretches ++ one ∷ []) next left
   goes_more rounds desk [] one next left closed follows again are = (closed, follows, again, are)
   goes_more rounds desk (other ∷ []) one next left closed follows again are = (closed, follows, again, are)

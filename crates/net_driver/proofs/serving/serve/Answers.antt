@@ -66,7 +66,8 @@ returns-in_err-has_moved-clause-by_rounds g c =
     } in
     rw (error.1, error.2) (
       held.0 ++ one ∷ [],
-      made_last g.K.Lookup.shows g.K.Lookup.leaves_one_of g.K.Lookup.keeps_beside g.K.Lookup.is_trusted g.K.Lookup.has_failed g.K.Lookup.is_closed g.K.Preparer.expects g.K.Preparer.prepares g.T.Transport.taken g.T.Transport.coming g.T.Transport.made
+      made_last g.K.Lookup.shows g.K.Lookup.leaves_one_of g.K.Lookup.keeps_beside g.K.Lookup.is_trusted g.K.Lookup.has_failed g.K.Lookup.is_closed g.K.Preparer.expects g.K.Preparer.prepares g.T.Transport.taken g.T.Transport.coming
+          g.T.Transport.made
           g.S.Opening.refuses g.S.Sockets.asked g.S.Sockets.told (as_nanos c.args.wait)
           c.args.rounds rest c.args.event_loop.now c.loop-made.event_loop c.args.desk.now c.loop-made.desk held.0 one (Err c.in_err-has_moved.field-0.0) held.1 refl refl
           (record {
@@ -94,7 +95,8 @@ returns-then-is_err-clause-by_rounds g c =
     let closed : g.K.Lookup.is_closed c.round.new.desk ≡ true = closed_by_summary _ _ _ c.summary.ensures.open c.is_err.ensures.value c.if-is_err.true in
     let one : Round _ _ _ _ = record { before = c.loop-made.event_loop; desk = c.loop-made.desk; result = Ok moved; made = after; left = c.round.new.desk; waited = Ok tt; after = after } in (
       held.0 ++ one ∷ [],
-      made_last g.K.Lookup.shows g.K.Lookup.leaves_one_of g.K.Lookup.keeps_beside g.K.Lookup.is_trusted g.K.Lookup.has_failed g.K.Lookup.is_closed g.K.Preparer.expects g.K.Preparer.prepares g.T.Transport.taken g.T.Transport.coming g.T.Transport.made
+      made_last g.K.Lookup.shows g.K.Lookup.leaves_one_of g.K.Lookup.keeps_beside g.K.Lookup.is_trusted g.K.Lookup.has_failed g.K.Lookup.is_closed g.K.Preparer.expects g.K.Preparer.prepares g.T.Transport.taken g.T.Transport.coming
+          g.T.Transport.made
           g.S.Opening.refuses g.S.Sockets.asked g.S.Sockets.told (as_nanos c.args.wait)
           c.args.rounds rest c.args.event_loop.now c.loop-made.event_loop c.args.desk.now c.loop-made.desk held.0 one (Ok (Closed (rest - 1))) held.1 refl refl
           (record {
@@ -126,7 +128,8 @@ returns-in_err-wait_if-clause-by_rounds g c =
     let one : Round _ _ _ _ = record { before = c.loop-made.event_loop; desk = c.loop-made.desk; result = Ok moved; made = made; left = c.round.new.desk; waited = Err fault; after = after } in
     rw (error.1, error.2) (
       held.0 ++ one ∷ [],
-      made_last g.K.Lookup.shows g.K.Lookup.leaves_one_of g.K.Lookup.keeps_beside g.K.Lookup.is_trusted g.K.Lookup.has_failed g.K.Lookup.is_closed g.K.Preparer.expects g.K.Preparer.prepares g.T.Transport.taken g.T.Transport.coming g.T.Transport.made
+      made_last g.K.Lookup.shows g.K.Lookup.leaves_one_of g.K.Lookup.keeps_beside g.K.Lookup.is_trusted g.K.Lookup.has_failed g.K.Lookup.is_closed g.K.Preparer.expects g.K.Preparer.prepares g.T.Transport.taken g.T.Transport.coming
+          g.T.Transport.made
           g.S.Opening.refuses g.S.Sockets.asked g.S.Sockets.told (as_nanos c.args.wait)
           c.args.rounds rest c.args.event_loop.now c.loop-made.event_loop c.args.desk.now c.loop-made.desk held.0 one (Err fault) held.1 refl refl
           (record {
@@ -150,7 +153,8 @@ pub returns-clause-by_rounds : goal.returns-clause-by_rounds
 returns-clause-by_rounds g c =
     let held = c.loop-made.invariant.by_rounds in (
       held.0,
-      made_whole g.K.Lookup.shows g.K.Lookup.leaves_one_of g.K.Lookup.keeps_beside g.K.Lookup.is_trusted g.K.Lookup.has_failed g.K.Lookup.is_closed g.K.Preparer.expects g.K.Preparer.prepares g.T.Transport.taken g.T.Transport.coming g.T.Transport.made
+      made_whole g.K.Lookup.shows g.K.Lookup.leaves_one_of g.K.Lookup.keeps_beside g.K.Lookup.is_trusted g.K.Lookup.has_failed g.K.Lookup.is_closed g.K.Preparer.expects g.K.Preparer.prepares g.T.Transport.taken g.T.Transport.coming
+          g.T.Transport.made
           g.S.Opening.refuses g.S.Sockets.asked g.S.Sockets.told (as_nanos c.args.wait)
           c.args.rounds (c.args.rounds - c.loop-made.made) c.args.event_loop.now c.loop-made.event_loop c.args.desk.now c.loop-made.desk held.0 held.1 (omega (arith, c.loop-made-test.false)),
     )
@@ -166,7 +170,8 @@ loop-made-preserved g c = record {
       let closed : g.K.Lookup.is_closed c.round.new.desk ≡ false = open_by_summary _ _ _ _ c.summary.ensures.closed c.is_err.ensures.value c.if-is_err.false in
       let one : Round _ _ _ _ = record { before = c.loop-made.event_loop; desk = c.loop-made.desk; result = Ok moved; made = made; left = c.round.new.desk; waited = Ok tt; after = after } in (
         held.0 ++ one ∷ [],
-        made_more g.K.Lookup.shows g.K.Lookup.leaves_one_of g.K.Lookup.keeps_beside g.K.Lookup.is_trusted g.K.Lookup.has_failed g.K.Lookup.is_closed g.K.Preparer.expects g.K.Preparer.prepares g.T.Transport.taken g.T.Transport.coming g.T.Transport.made
+        made_more g.K.Lookup.shows g.K.Lookup.leaves_one_of g.K.Lookup.keeps_beside g.K.Lookup.is_trusted g.K.Lookup.has_failed g.K.Lookup.is_closed g.K.Preparer.expects g.K.Preparer.prepares g.T.Transport.taken g.T.Transport.coming
+            g.T.Transport.made
             g.S.Opening.refuses g.S.Sockets.asked g.S.Sockets.told (as_nanos c.args.wait)
             c.args.rounds rest (c.args.rounds - (c.loop-made.made + 1)) c.args.event_loop.now c.loop-made.event_loop c.args.desk.now c.loop-made.desk held.0 one held.1 refl refl
             (record {

@@ -8,7 +8,8 @@ use Rattle.net_driver.proofs.serving.serve.Given as goal
 
 abbrev pub invariant-loop-made : goal.invariant-loop-made
 invariant-loop-made g l = record {
-  by_rounds : (each : List (Round _ _ _ _)) × AreMade g.K.Lookup.shows g.K.Lookup.leaves_one_of g.K.Lookup.keeps_beside g.K.Lookup.is_trusted g.K.Lookup.has_failed g.K.Lookup.is_closed g.K.Preparer.expects g.K.Preparer.prepares g.T.Transport.taken
+  by_rounds : (each : List (Round _ _ _ _)) × AreMade g.K.Lookup.shows g.K.Lookup.leaves_one_of g.K.Lookup.keeps_beside g.K.Lookup.is_trusted g.K.Lookup.has_failed g.K.Lookup.is_closed g.K.Preparer.expects g.K.Preparer.prepares
+      g.T.Transport.taken
       g.T.Transport.coming g.T.Transport.made g.S.Opening.refuses
       g.S.Sockets.asked g.S.Sockets.told (as_nanos l.fn.wait) l.fn.rounds l.fn.event_loop l.fn.desk l.event_loop l.desk each (l.fn.rounds - l.made);
   grown : l.fn.event_loop.rounds ≤ l.event_loop.rounds;

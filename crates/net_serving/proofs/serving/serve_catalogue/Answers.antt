@@ -58,7 +58,8 @@ returns-in_err-desk-2 g c =
           made = made;
           ends = served.3;
         },
-        was_done (WasShut g.K.Lookup.shows g.K.Lookup.leaves_one_of g.K.Lookup.is_trusted g.D.DeskOpener.is_safe g.D.DeskOpener.holds_alone g.D.DeskOpener.still_leaves g.D.DeskOpener.still_keeps g.D.DeskOpener.is_uncopied c.serve_rounds-served.new.desks)
+        was_done (WasShut g.K.Lookup.shows g.K.Lookup.leaves_one_of g.K.Lookup.is_trusted g.D.DeskOpener.is_safe g.D.DeskOpener.holds_alone g.D.DeskOpener.still_leaves g.D.DeskOpener.still_keeps g.D.DeskOpener.is_uncopied
+            c.serve_rounds-served.new.desks)
             c.args.path.now c.in_ok-desk.desk served.0 None (g.D.DeskOpener.history c.args.desks.now) (g.D.DeskOpener.history c.open.new.self) (g.D.DeskOpener.history c.serve_rounds-served.new.desks)
             (g.D.DeskOpener.history c.serve_rounds-served.new.desks) c.in_ok-desk.ensures.history served.4 (does_none _) tt,
         refl,
@@ -96,7 +97,8 @@ returns g c =
           made = made;
           ends = tt;
         },
-        was_done (WasShut g.K.Lookup.shows g.K.Lookup.leaves_one_of g.K.Lookup.is_trusted g.D.DeskOpener.is_safe g.D.DeskOpener.holds_alone g.D.DeskOpener.still_leaves g.D.DeskOpener.still_keeps g.D.DeskOpener.is_uncopied c.close-2.new.self) c.args.path.now
+        was_done (WasShut g.K.Lookup.shows g.K.Lookup.leaves_one_of g.K.Lookup.is_trusted g.D.DeskOpener.is_safe g.D.DeskOpener.holds_alone g.D.DeskOpener.still_leaves g.D.DeskOpener.still_keeps g.D.DeskOpener.is_uncopied
+            c.close-2.new.self) c.args.path.now
             c.in_ok-desk.desk served.0 (Some c.in_ok-desk-2.desk) (g.D.DeskOpener.history c.args.desks.now) (g.D.DeskOpener.history c.open.new.self)
             (g.D.DeskOpener.history c.serve_rounds-served.new.desks) (g.D.DeskOpener.history c.close-2.new.self) c.in_ok-desk.ensures.history served.4 c.close-2.ensures.history (c.close-2.result, c.close-2.ensures.shut),
         refl,

@@ -26,12 +26,14 @@ returns-in_err-pending-clause-served g c =
     } in
     let error = err_from_is_err_and c.from_residual.result c.from_residual.ensures.1 in (
       held.0 ++ one ∷ [],
-      served_more g.K.Lookup.shows g.K.Lookup.leaves_one_of g.K.Lookup.keeps_beside g.K.Lookup.is_trusted g.D.DeskOpener.is_opened g.K.Lookup.is_closed g.K.Lookup.has_failed g.K.Preparer.expects g.K.Preparer.prepares c.args.rounds c.args.desk held.0 one
+      served_more g.K.Lookup.shows g.K.Lookup.leaves_one_of g.K.Lookup.keeps_beside g.K.Lookup.is_trusted g.D.DeskOpener.is_opened g.K.Lookup.is_closed g.K.Lookup.has_failed g.K.Preparer.expects g.K.Preparer.prepares c.args.rounds
+          c.args.desk held.0 one
           c.args.driver.now c.loop-pending.driver
           c.serve_stretch.new.driver held.1 goes over.2,
       first_goes g.K.Lookup.shows g.K.Lookup.leaves_one_of g.K.Lookup.keeps_beside g.K.Lookup.is_trusted g.D.DeskOpener.is_opened g.K.Lookup.is_closed c.args.rounds c.args.desk held.0 one held.2 goes,
       rw (error.1, error.2) (ends_more g.K.Lookup.shows g.K.Lookup.leaves_one_of g.K.Lookup.keeps_beside g.K.Lookup.is_trusted g.D.DeskOpener.is_opened g.K.Lookup.is_closed
-          (WasShut g.K.Lookup.shows g.K.Lookup.leaves_one_of g.K.Lookup.is_trusted g.D.DeskOpener.is_safe g.D.DeskOpener.holds_alone g.D.DeskOpener.still_leaves g.D.DeskOpener.still_keeps g.D.DeskOpener.is_uncopied c.serve_stretch.new.desks)
+          (WasShut g.K.Lookup.shows g.K.Lookup.leaves_one_of g.K.Lookup.is_trusted g.D.DeskOpener.is_safe g.D.DeskOpener.holds_alone g.D.DeskOpener.still_leaves g.D.DeskOpener.still_keeps g.D.DeskOpener.is_uncopied
+          c.serve_stretch.new.desks)
           (IsNotReopened g.K.Lookup.leaves_one_of g.D.DeskOpener.is_unreopened g.D.DeskOpener.still_leaves g.D.DeskOpener.still_keeps c.serve_stretch.new.desks c.args.path.now) held.0 one
           c.serve_stretch.new.driver _ over.3),
       rw error.1 (turned c.args.path.now c.args.desk held.0 one c.loop-pending.pending.left c.loop-pending-test.true (g.D.DeskOpener.history c.args.desks.now) (g.D.DeskOpener.history c.loop-pending.desks)
@@ -54,12 +56,14 @@ loop-pending-preserved g c =
     record {
       served = (
         held.0 ++ one ∷ [],
-        served_more g.K.Lookup.shows g.K.Lookup.leaves_one_of g.K.Lookup.keeps_beside g.K.Lookup.is_trusted g.D.DeskOpener.is_opened g.K.Lookup.is_closed g.K.Lookup.has_failed g.K.Preparer.expects g.K.Preparer.prepares c.args.rounds c.args.desk held.0 one
+        served_more g.K.Lookup.shows g.K.Lookup.leaves_one_of g.K.Lookup.keeps_beside g.K.Lookup.is_trusted g.D.DeskOpener.is_opened g.K.Lookup.is_closed g.K.Lookup.has_failed g.K.Preparer.expects g.K.Preparer.prepares c.args.rounds
+            c.args.desk held.0 one
             c.args.driver.now c.loop-pending.driver
             c.serve_stretch.new.driver held.1 goes over.2,
         first_goes g.K.Lookup.shows g.K.Lookup.leaves_one_of g.K.Lookup.keeps_beside g.K.Lookup.is_trusted g.D.DeskOpener.is_opened g.K.Lookup.is_closed c.args.rounds c.args.desk held.0 one held.2 goes,
         λ some. (let gave = over.4 some in
-            goes_more g.K.Lookup.shows g.K.Lookup.leaves_one_of g.K.Lookup.keeps_beside g.K.Lookup.is_trusted g.D.DeskOpener.is_opened g.K.Lookup.is_closed c.args.rounds c.args.desk held.0 one c.in_ok-pending.pending.desk c.in_ok-pending.pending.left
+            goes_more g.K.Lookup.shows g.K.Lookup.leaves_one_of g.K.Lookup.keeps_beside g.K.Lookup.is_trusted g.D.DeskOpener.is_opened g.K.Lookup.is_closed c.args.rounds c.args.desk held.0 one c.in_ok-pending.pending.desk
+            c.in_ok-pending.pending.left
             gave.0 gave.1 gave.2 gave.3),
         gone_more c.args.path.now c.args.desk held.0 one c.loop-pending.pending.left c.loop-pending-test.true (g.D.DeskOpener.history c.args.desks.now) (g.D.DeskOpener.history c.loop-pending.desks)
             (g.D.DeskOpener.history c.serve_stretch.new.desks) held.4 c.in_ok-pending.pending.desk c.in_ok-pending.pending.left over.5 (λ some. (over.4 some).4),

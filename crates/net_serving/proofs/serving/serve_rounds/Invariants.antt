@@ -6,7 +6,8 @@ use Rattle.net_serving.proofs.serving.serve_rounds.Given as goal
 
 abbrev pub invariant-loop-pending : goal.invariant-loop-pending
 invariant-loop-pending g l = record {
-  served : (stretches : List (Stretch _)) × AreServed g.K.Lookup.shows g.K.Lookup.leaves_one_of g.K.Lookup.keeps_beside g.K.Lookup.is_trusted g.D.DeskOpener.is_opened g.K.Lookup.has_failed g.K.Lookup.is_closed g.K.Preparer.expects g.K.Preparer.prepares
+  served : (stretches : List (Stretch _)) × AreServed g.K.Lookup.shows g.K.Lookup.leaves_one_of g.K.Lookup.keeps_beside g.K.Lookup.is_trusted g.D.DeskOpener.is_opened g.K.Lookup.has_failed g.K.Lookup.is_closed g.K.Preparer.expects
+      g.K.Preparer.prepares
       stretches l.fn.driver l.driver
       × IsFirst l.fn.rounds l.fn.desk stretches
       × (0 < l.pending.left → GoesOn g.K.Lookup.shows g.K.Lookup.leaves_one_of g.K.Lookup.keeps_beside g.K.Lookup.is_trusted g.D.DeskOpener.is_opened g.K.Lookup.is_closed l.fn.rounds l.fn.desk stretches l.pending.desk l.pending.left)
