@@ -11,7 +11,7 @@ use crate::plain::run_files;
 use crate::work::{audit_over, change_over, create_over, install_over, list_over};
 use app_words::{InputFiles, InstallRequest, ItemChange, ProgramFault, Task};
 use dict_catalogue::Command;
-use dict_desk::{Keeper, PlainDesk, Preparer};
+use dict_desk::{PlainDesk, Preparer};
 use dict_proto::{Sink, Source};
 use mio::net::TcpListener;
 use net_driver::{Network, SystemSockets};
@@ -111,7 +111,7 @@ fn serve<'w, K: Preparer + Drop, D: DeskOpener<K>, B: Network<TcpListener, Syste
 }
 
 // Changes the catalogue of a file.
-fn perform_change<'w, K: Keeper + Drop, D: DeskOpener<K>, I: InputFiles, W: Sink>(
+fn perform_change<'w, K: Preparer + Drop, D: DeskOpener<K>, I: InputFiles, W: Sink>(
     alloc: Global,
     desks: &mut D,
     file: &'w str,
@@ -152,7 +152,7 @@ fn perform_change<'w, K: Keeper + Drop, D: DeskOpener<K>, I: InputFiles, W: Sink
 }
 
 // Puts a virtual item into the catalogue of a file.
-fn put_virtual_over<'w, K: Keeper + Drop, D: DeskOpener<K>, W: Sink>(
+fn put_virtual_over<'w, K: Preparer + Drop, D: DeskOpener<K>, W: Sink>(
     desks: &mut D,
     file: &'w str,
     id: &str,

@@ -7,7 +7,7 @@ ghost use Rattle.app_commands.specs.Working.{AuditEnds, ChangeEnds, CreateEnds, 
 use crate::catalogues::Catalogues;
 use app_words::{InputFiles, InstallRequest, ProgramFault, change, install, list};
 use dict_catalogue::Command;
-use dict_desk::Keeper;
+use dict_desk::{Keeper, Preparer};
 use dict_proto::Sink;
 use net_serving::DeskOpener;
 use std::alloc::Global;
@@ -69,7 +69,7 @@ fn tell_sound<W: Sink>(
 }
 
 // Applies a command to a catalogue, and writes its reply.
-pub(crate) fn change_over<'w, K: Keeper + Drop, D: DeskOpener<K>, W: Sink>(
+pub(crate) fn change_over<'w, K: Preparer + Drop, D: DeskOpener<K>, W: Sink>(
     desks: &mut D,
     path: &'w str,
     id: &str,
@@ -86,7 +86,7 @@ pub(crate) fn change_over<'w, K: Keeper + Drop, D: DeskOpener<K>, W: Sink>(
 }
 
 // Installs the edition that two files make in a catalogue, and writes the reply.
-pub(crate) fn install_over<'w, K: Keeper + Drop, D: DeskOpener<K>, I: InputFiles, W: Sink>(
+pub(crate) fn install_over<'w, K: Preparer + Drop, D: DeskOpener<K>, I: InputFiles, W: Sink>(
     alloc: Global,
     desks: &mut D,
     path: &'w str,

@@ -1,3 +1,4 @@
 pub mod LineLemmas
 pub mod WordLineLemmas
 pub mod ReadingLemmas
+pub mod ChangingLemmas

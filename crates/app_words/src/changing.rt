@@ -8,15 +8,39 @@ ghost use Rattle.app_words.specs.Changing.{IsChanged, TellsAnswer, kept_line};
 
 use crate::fault::ProgramFault;
 use dict_catalogue::{Command, Kept};
-use dict_desk::{Fault as DeskFault, Keeper};
+use dict_desk::{Fault as DeskFault, Preparer};
 use dict_proto::{Sink, SinkFault};
 use http_service::put_kept;
 
-/// Applies a command under the id of its request, and writes its reply as a line of JSON.
+// What a command leaves to be done later has so many parts at most.
+const MAX_PARTS: usize = 65_536;
+
+// Does a bounded part of what commands left to be done later. Whether there is more.
+fn do_part<K: Preparer>(desk: &mut K) -> bool
+    ensures { Stays K.shows K.leaves_one_of K.keeps_beside K.is_trusted K.is_closed desk.old desk.new }
+{
+    match desk.prepare() {
+        Ok(more) => more,
+        Err(_) => false,
+    }
+}
+
+// Does what commands left to be done later. Where that fails, it is left for the next command.
+fn do_later<K: Preparer>(desk: &mut K)
+    ensures { Stays K.shows K.leaves_one_of K.keeps_beside K.is_trusted K.is_closed desk.old desk.new }
+{
+    for _ in 0..MAX_PARTS {
+        if !do_part(desk) {
+            return;
+        }
+    }
+}
+
+/// Applies a command under the id of its request, writes its reply as a line of JSON, and does what the command left to be done later.
 ///
 /// The command acts before the reply is written, and the writing takes no memory: where `Memory` is told, nothing was
 /// changed; where `CannotWrite` is, it has acted, and its reply is kept under the id.
-pub fn change<K: Keeper, W: Sink>(
+pub fn change<K: Preparer, W: Sink>(
     desk: &mut K,
     id: &str,
     command: &Command,
@@ -26,7 +50,11 @@ pub fn change<K: Keeper, W: Sink>(
     ensures memory { result ≡ Err ProgramFault.Memory → Stays K.shows K.leaves_one_of K.keeps_beside K.is_trusted K.is_closed desk.old desk.new }
 {
     let answer = desk.apply(id, command);
-    tell_answer(&answer, writer)
+    let told = tell_answer(&answer, writer);
+    if answer.is_ok() {
+        do_later(desk);
+    }
+    told
 }
 
 // Writes the reply of a command that was accepted, or gives its fault.

@@ -12,7 +12,7 @@ use crate::changing::{change, tell_kept};
 use crate::fault::ProgramFault;
 use crate::files::{InputFiles, read_file};
 use dict_catalogue::Command;
-use dict_desk::Keeper;
+use dict_desk::Preparer;
 use dict_index::{Edition, read_edition};
 use dict_proto::Sink;
 use std::alloc::Global;
@@ -29,7 +29,7 @@ pub struct InstallRequest<'w> {
 ///
 /// Where a reply is kept under the id, it is written again, and neither file is read. Else the index is read before the text,
 /// and both before what they say is refused. Where `Memory` is told, nothing was changed.
-pub fn install<'w, K: Keeper, I: InputFiles, W: Sink>(
+pub fn install<'w, K: Preparer, I: InputFiles, W: Sink>(
     alloc: Global,
     desk: &mut K,
     id: &str,
@@ -50,7 +50,7 @@ pub fn install<'w, K: Keeper, I: InputFiles, W: Sink>(
 }
 
 // Installs the edition that two files make.
-fn install_files<'w, K: Keeper, I: InputFiles, W: Sink>(
+fn install_files<'w, K: Preparer, I: InputFiles, W: Sink>(
     alloc: Global,
     desk: &mut K,
     id: &str,
@@ -69,7 +69,7 @@ fn install_files<'w, K: Keeper, I: InputFiles, W: Sink>(
 }
 
 // Installs the edition that an index and a text say.
-fn install_octets<K: Keeper, W: Sink>(
+fn install_octets<K: Preparer, W: Sink>(
     alloc: Global,
     desk: &mut K,
     id: &str,
@@ -91,7 +91,7 @@ fn install_octets<K: Keeper, W: Sink>(
 }
 
 // Installs an edition.
-fn install_edition<K: Keeper, W: Sink>(
+fn install_edition<K: Preparer, W: Sink>(
     desk: &mut K,
     id: &str,
     name: &str,

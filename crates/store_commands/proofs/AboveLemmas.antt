@@ -1,75 +1,38 @@
 -- A command keeps the text of each edition that stays, and that of the edition that it installs stands under a new number.
-use Rattle.std.proofs.Common.{◌≡◌, ◌≢◌, ℕ, ◌≤◌, ◌||◌, ◌==◌, Bool, true, false, cond, List, [], ◌∷◌, filter, not, refl, sym, ap, subst, ◌∙◌, arith}
-use Rattle.std.specs.Prelude.{pos, IfSome, IsTrue, IsPermutation}
-use Rattle.std.specs.List.{AllByRecursion, list_any}
+use Rattle.std.proofs.Common.{◌≡◌, ◌≢◌, ℕ, ◌≤◌, false, List, [], ◌∷◌, refl, sym, ap, subst, arith}
+use Rattle.std.specs.Prelude.{IfSome, IsTrue, IsPermutation}
+use Rattle.std.specs.List.{AllByRecursion}
 use Rattle.std.proofs.lemmas.Bool.{false≢true}
 use Rattle.std.proofs.lemmas.List.Sorted.{IsPermutation-refl}
 use Rattle.sqlite.specs.Effect.{Database}
 use Rattle.sqlite.specs.State.{State, HasCleanDisk}
-use Rattle.dict_text.proofs.AllLemmas.{all_weaker}
 use Rattle.dict_catalogue.specs.Items.{edition_numbers}
-use Rattle.dict_catalogue.specs.Effects.{effect, installs_after}
-use Rattle.dict_catalogue.specs.Steps.{summary_of}
+use Rattle.dict_catalogue.specs.Effects.{installs_after}
 use Rattle.dict_catalogue.specs.Tests.{Holdings}
-use Rattle.dict_catalogue.specs.Views.{command_meant, command_shown, summary_shown, IsChange}
+use Rattle.dict_catalogue.specs.Views.{command_shown, summary_shown, IsChange}
 use Rattle.dict_catalogue.specs.declared.commands.Command.{Command}
 use Rattle.dict_catalogue.specs.declared.commands.Command.TheVariants.{Install, Rollback, Retire, PutVirtual, Place}
 use Rattle.dict_catalogue.specs.declared.planning.PlannedChange.{PlannedChange as Planned}
 use Rattle.dict_desk.specs.Faults.{is_failure}
 use Rattle.dict_desk.specs.declared.fault.Fault.{Fault}
 use Rattle.dict_desk.specs.declared.fault.Fault.TheVariants.{Refused, Memory, Disk, Closed, NotACatalogue, Damaged, NewerSchema}
-use Rattle.store_rows.specs.After.{Installed, is_gone}
+use Rattle.store_rows.specs.After.{Installed}
 use Rattle.store_rows.specs.Versions.{known}
-use Rattle.store_rows.proofs.TakenLemmas.{nat_same, same_itself}
-use Rattle.store_holdings.specs.AllTables.{AllTables, HasNewNumber, with_derived, all_after}
-use Rattle.store_holdings.proofs.FileLemmas.{is_new}
+use Rattle.store_holdings.specs.AllTables.{AllTables, with_derived, all_after}
 use Rattle.store_holdings.specs.Texts.{text_rows}
 use Rattle.store_commands.specs.KeptRecords.{HasRecords, KeepsTextRows, TurnsRecords}
 use Rattle.store_commands.specs.Changes.{change_by, installed_by, IsWritable}
 use Rattle.store_holdings.specs.Committed.{IsCommitted}
 use Rattle.store_commands.specs.Committed.{IsOfStore}
-use Rattle.store_commands.specs.Decided.{LiesWithin}
 use Rattle.store_commands.specs.Installed.{HasTextOf}
 use Rattle.store_commands.specs.Answers.{HoldsBy}
 use Rattle.store_commands.proofs.ApplyLemmas.{holds_now}
-use Rattle.store_commands.proofs.DecideLemmas.{change_is}
 use Rattle.store_commands.proofs.TableLemmas.{parts_kept}
 use Rattle.store_commands.proofs.TextLemmas.{text_stays, text_there}
 
--- ---- an edition that the catalogue has after a command didn't go
-
-or_yes : (a : Bool) → (a || true) ≡ true
-or_yes true = refl
-or_yes false = refl
-
-is_itself : (n : ℕ) → (n == n) ≡ true
-is_itself n = same_itself (pos n)
-
-all_among : (numbers : List ℕ) → AllByRecursion (λ number. list_any (λ one. one == number) numbers ≡ true) numbers
-all_among [] = tt
-all_among (n ∷ numbers) = (
-  ap (λ b. b || list_any (λ one. one == n) numbers) (is_itself n),
-  all_weaker (λ number. list_any (λ one. one == number) numbers ≡ true) (λ number. list_any (λ one. one == number) (n ∷ numbers) ≡ true) (λ number there. ap (λ b. (n == number) || b) there ∙ or_yes (n == number))
-      numbers (all_among numbers),
-)
-
-none_goes : (after : List ℕ) (number : ℕ) → list_any (λ one. one == number) after ≡ true → (before : List ℕ) → is_gone (filter (λ n. not (list_any (λ one. one == n) after)) before) (pos number) ≡ false
-none_goes after number there [] = refl
-none_goes after number there (b ∷ before) = by (not (list_any (λ one. one == b) after)) refl (b == number) refl (none_goes after number there before)
-  where
-    goes : List ℕ
-    goes = filter (λ n. not (list_any (λ one. one == n) after)) before
-
-    by : (stays : Bool) → not (list_any (λ one. one == b) after) ≡ stays → (same : Bool) → (b == number) ≡ same → is_gone goes (pos number) ≡ false → is_gone (cond stays (b ∷ goes) goes) (pos number) ≡ false
-    by false e same d rest = rest
-    by true e false d rest = ap (λ c. c || is_gone goes (pos number)) d ∙ rest
-    by true e true d rest =
-        let is : b ≡ number = nat_same b number d in
-        absurd (false≢true (ap not (sym (ap (λ n. list_any (λ one. one == n) after) is ∙ there)) ∙ e))
-
-stay_all : (before after : List ℕ) → AllByRecursion (λ number. is_gone (filter (λ n. not (list_any (λ one. one == n) after)) before) (pos number) ≡ false) after
-stay_all before after = all_weaker (λ number. list_any (λ one. one == number) after ≡ true) (λ number. is_gone (filter (λ n. not (list_any (λ one. one == n) after)) before) (pos number) ≡ false)
-    (λ number there. none_goes after number there before) after (all_among after)
+pub each_one : (P : ℕ → Type 0) → ((n : ℕ) → P n) → (numbers : List ℕ) → AllByRecursion P numbers
+each_one P h [] = tt
+each_one P h (n ∷ numbers) = (h n, each_one P h numbers)
 
 -- ---- what a command does
 
@@ -95,49 +58,37 @@ counted summary command planned change = ap (λ (b : Holdings (List ℕ)). b.ins
 pub grows_by : (summary : Holdings (List ℕ)) (command : Command) (planned : Planned) → IsChange summary (command_shown command) planned → summary.installs ≤ planned.summary.installs
 grows_by summary command planned change = never_less command summary.installs planned.summary.installs (counted summary command planned change)
 
--- the editions that the catalogue has after a command that was planned stay
-planned_stay : (summary : Holdings (List ℕ)) (command : Command) (planned : Planned) → IsChange summary (command_shown command) planned → AllByRecursion (λ number. is_gone planned.gone.items (pos number) ≡ false)
-    (edition_numbers (summary_shown planned.summary).items)
-planned_stay summary command planned change =
-    let after : List ℕ = edition_numbers (effect (command_shown command) summary).items in
-    subst (λ (h : Holdings (List ℕ)). AllByRecursion (λ number. is_gone planned.gone.items (pos number) ≡ false) (edition_numbers h.items)) (sym change.1.after)
-    (subst (λ gone. AllByRecursion (λ number. is_gone gone (pos number) ≡ false) after) (sym change.1.gone) (stay_all (edition_numbers summary.items) after))
-
 -- what was committed of it
 pub above_committed : (summary : Holdings (List ℕ)) (id : List ℕ) (command : Command) (planned : Planned) → IsChange summary (command_shown command) planned → (old new : State) → HoldsBy summary old → HasCleanDisk old → IsTrue old.is_open
     → IsCommitted (TurnsRecords (all_after known (change_by id command planned)) old.now) new → KeepsTextRows summary.installs (edition_numbers (summary_shown planned.summary).items) old.now new.now
 above_committed summary id command planned change old new holds clean live done =
     let it = holds clean live in
     let held = holds_now old it.0 it.1 in
-    let all : AllTables = with_derived held.tables in
+    let all : AllTables = with_derived held.orphans held.tables in
     let before : HasRecords old.now all = record { own = held.own; keeps = held.keeps } in
     let after : HasRecords new.now (all_after known (change_by id command planned) all) = subst (λ (db : Database). HasRecords db (all_after known (change_by id command planned) all)) (sym done.settled) (done.holds all before).0 in
-    all_weaker (λ number. is_gone planned.gone.items (pos number) ≡ false) (λ number. number ≤ summary.installs → IsPermutation (text_rows number old.now) (text_rows number new.now))
-    (λ number stands low.
-    text_stays number old.now new.now planned.gone.items all.parts (installed_by planned.summary.installs command) (parts_kept old.now all before) (parts_kept new.now (all_after known (change_by id command planned) all) after) stands
+    each_one (λ number. number ≤ summary.installs → IsPermutation (text_rows number old.now) (text_rows number new.now))
+    (λ number low.
+    text_stays number old.now new.now all.parts (installed_by planned.summary.installs command) (parts_kept old.now all before) (parts_kept new.now (all_after known (change_by id command planned) all) after)
     (installed_above command summary.installs planned.summary.installs number (counted summary command planned change) low))
-    (edition_numbers (summary_shown planned.summary).items) (planned_stay summary command planned change)
+    (edition_numbers (summary_shown planned.summary).items)
 
 -- the text of the edition that a command installs stands under its number
-pub installed_there : (summary : Holdings (List ℕ)) (id : List ℕ) (command : Command) (planned : Planned) → IsChange summary (command_shown command) planned → IsWritable planned → LiesWithin command
-    → (old new : State) → HoldsBy summary old → HasCleanDisk old → IsTrue old.is_open
+pub installed_there : (summary : Holdings (List ℕ)) (id : List ℕ) (command : Command) (planned : Planned) → IsWritable planned → (old new : State) → HoldsBy summary old → HasCleanDisk old → IsTrue old.is_open
     → IsCommitted (TurnsRecords (all_after known (change_by id command planned)) old.now) new → HasTextOf command planned.summary.installs new.now
-installed_there summary id (Install name edition) planned change writable lies old new holds clean live done =
+installed_there summary id (Install name edition) planned writable old new holds clean live done =
     let command : Command = Install name edition in
     let it = holds clean live in
     let held = holds_now old it.0 it.1 in
-    let all : AllTables = with_derived held.tables in
-    let here : IsChange (summary_of it.0) (command_shown command) planned = subst (λ (b : Holdings (List ℕ)). IsChange b (command_shown command) planned) (sym it.2) change in
-    let fresh : HasNewNumber (installed_by planned.summary.installs command) held.tables =
-    is_new known held.tables it.0 id (command_meant command) (change_by id command planned) held.stands (change_is it.0 id command planned here.1 lies) in
+    let all : AllTables = with_derived held.orphans held.tables in
     let after : HasRecords new.now (all_after known (change_by id command planned) all) = subst (λ (db : Database). HasRecords db (all_after known (change_by id command planned) all)) (sym done.settled)
     (done.holds all (record { own = held.own; keeps = held.keeps })).0 in
-    text_there planned.summary.installs new.now held.tables planned.gone.items (record { owner = name.now; number = planned.summary.installs; reading = edition.now }) refl fresh writable.installs
+    text_there planned.summary.installs new.now all.parts (record { owner = name.now; number = planned.summary.installs; reading = edition.now }) refl writable.installs
     (parts_kept new.now (all_after known (change_by id command planned) all) after)
-installed_there summary id (Rollback name) planned change writable lies old new holds clean live done = tt
-installed_there summary id (Retire name) planned change writable lies old new holds clean live done = tt
-installed_there summary id (PutVirtual name title members) planned change writable lies old new holds clean live done = tt
-installed_there summary id (Place name at) planned change writable lies old new holds clean live done = tt
+installed_there summary id (Rollback name) planned writable old new holds clean live done = tt
+installed_there summary id (Retire name) planned writable old new holds clean live done = tt
+installed_there summary id (PutVirtual name title members) planned writable old new holds clean live done = tt
+installed_there summary id (Place name at) planned writable old new holds clean live done = tt
 
 -- nothing has changed
 pub above_same : (installs : ℕ) (numbers : List ℕ) (old new : Database) → new ≡ old → KeepsTextRows installs numbers old new

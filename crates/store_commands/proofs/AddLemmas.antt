@@ -16,7 +16,7 @@ use Rattle.store_rows.specs.Stored.{stored_index}
 use Rattle.store_holdings.specs.Files.{parts_under, installed_parts}
 use Rattle.store_holdings.specs.AllTables.{AllTables}
 use Rattle.store_commands.specs.KeptRecords.{HasRecords}
-use Rattle.store_commands.specs.Changes.{with_more_editions, with_more_parts, with_installed}
+use Rattle.store_commands.specs.Changes.{with_more_editions, with_more_parts, without_parts, with_installed}
 use Rattle.store_commands.specs.Statements.{adding_edition, installing}
 use Rattle.store_commands.specs.Writes.{WroteStatements, FailsToWrite}
 use Rattle.store_commands.proofs.LoopLemmas.{Grows}
@@ -66,9 +66,10 @@ pub parts_installed : (new : Installed) (index text : List ℕ) → index ≡ st
 parts_installed new index text one two = λ i. parts_under (pos new.number) (one i) (two i)
 
 pub installed_turned : (new : Installed) (db : Database) (all : AllTables) → HasRecords db
-    (with_more_editions (edition_record new.owner new.number new.reading ∷ []) (with_more_parts (installed_parts (Some new)) all)) → HasRecords db (with_installed (Some new) all)
+    (with_more_editions (edition_record new.owner new.number new.reading ∷ []) (with_more_parts (installed_parts (Some new)) (without_parts (new.number ∷ []) all))) → HasRecords db (with_installed (Some new) all)
 installed_turned new db all it =
-    other_entries db (with_more_editions (edition_record new.owner new.number new.reading ∷ []) (with_more_parts (installed_parts (Some new)) all)) it (all.entries ++ installed_entries (Some new))
+    other_entries db (with_more_editions (edition_record new.owner new.number new.reading ∷ []) (with_more_parts (installed_parts (Some new)) (without_parts (new.number ∷ []) all))) it
+    (all.entries ++ installed_entries (Some new))
 
 -- no edition is installed
 none_installed : (db : Database) (all : AllTables) → HasRecords db all → HasRecords db (with_installed None all)

@@ -23,10 +23,10 @@ use Rattle.dict_desk.specs.declared.fault.Fault.{Fault}
 use Rattle.dict_desk.specs.declared.fault.Fault.TheVariants.{Refused, Memory, Disk, Closed, NotACatalogue, Damaged, NewerSchema}
 use Rattle.store_rows.specs.After.{TableChange, IsTableChange as IsAChange, tables_after}
 use Rattle.store_rows.proofs.ChangeLemmas.{after_stands}
-use Rattle.store_rows.specs.Versions.{known, layout_of}
-use Rattle.store_holdings.specs.AllTables.{AllTables, with_derived, all_after}
-use Rattle.store_holdings.proofs.FileLemmas.{after_is, is_new}
-use Rattle.store_holdings.specs.Readings.{KeepsAll}
+use Rattle.store_rows.specs.Versions.{known}
+use Rattle.store_holdings.specs.AllTables.{AllTables, with_derived, all_after, orphans_after}
+use Rattle.store_holdings.proofs.FileLemmas.{is_new}
+use Rattle.store_holdings.proofs.OrphanLemmas.{after_keeps, after_orphans}
 use Rattle.store_holdings.specs.Faults.{IsUnreadCatalogue}
 use Rattle.store_holdings.specs.Holds.{Holds, Rests, IsLeftAs}
 use Rattle.store_holdings.specs.Writing.{FailsToEnd}
@@ -48,13 +48,15 @@ pub command_applied : (change : TableChange) (M : Catalogue) (id : List ℕ) (co
     → IsTrue (is_request_id id) → kept_under M.kept id ≡ None → refusal_of (holdings M) command ≡ None
     → IsAChange M id command change → Holds known new (with_effect M id command)
 command_applied change M id command old new turns h lawful named free allowed is =
-    let after = (turns (with_derived h.tables) (record { own = h.own; keeps = h.keeps })).0 in
+    let after = (turns (with_derived h.orphans h.tables) (record { own = h.own; keeps = h.keeps })).0 in
     record {
       own = after.own;
       tables = tables_after known change h.tables;
-      keeps = subst (KeepsAll (layout_of known) new) (sym (after_is known change h.tables (is_new known h.tables M id command change h.stands is))) after.keeps;
+      orphans = orphans_after change h.orphans h.tables;
+      keeps = after_keeps known change h.orphans h.tables new (is_new known h.tables M id command change h.stands is) after.keeps;
       shown = tt;
       stands = after_stands known h.tables M id command change h.stands lawful named free allowed is;
+      apart = after_orphans known h.tables M id command change h.orphans h.stands is h.apart;
     }
 
 -- ---- the cases of a step
@@ -163,7 +165,7 @@ pub others_spared : (summary : Holdings (List ℕ)) (old : State) (f : AllTables
 others_spared summary old f holds clean live db turns =
     let it = holds clean live in
     let held = holds_now old it.0 it.1 in
-    (turns (with_derived held.tables) (record { own = held.own; keeps = held.keeps })).1
+    (turns (with_derived held.orphans held.tables) (record { own = held.own; keeps = held.keeps })).1
 
 pub others_committed : (summary : Holdings (List ℕ)) (old new : State) (f : AllTables → AllTables) → HoldsBy summary old → HasCleanDisk old → IsTrue old.is_open → IsCommitted (TurnsRecords f old.now) new
     → SparesTablesOfOthers old.now new.now

@@ -34,8 +34,8 @@ use Rattle.store_commands.specs.Decided.{LiesWithin}
 use Rattle.store_holdings.specs.Committed.{IsCommitted, IsTreesOf}
 use Rattle.store_commands.specs.Committed.{IsOfStore}
 use Rattle.store_commands.specs.Answers.{HoldsBy, HoldsAfter, Answers, has_written, summary_after, numbers_after, IsOfApply, IsOfShut}
-use Rattle.store_commands.specs.Filing.{rested, FailsInside, IsAhead, IsUnderway, AreAllPartsFiled}
-use Rattle.store_commands.specs.Finishing.{finishing, finished, AwaitsRest, IsOfChange, IsAppliedOver, IsUndone, LooksOnly, FailsToFinish}
+use Rattle.store_commands.specs.Filing.{rested, FailsInside, IsAhead, IsOfEdition, IsUnderway, AreAllPartsFiled}
+use Rattle.store_commands.specs.Finishing.{finishing, finished, AwaitsRest, IsAppliedOver, IsUndone, LooksOnly, FailsToFinish}
 use Rattle.store_commands.specs.declared.filing.Filing.{Filing}
 use Rattle.store_commands.specs.declared.applied.Applied.{Applied}
 use Rattle.store_commands.specs.declared.applied.Applied.TheVariants.{Repeated, Done}
@@ -461,14 +461,14 @@ module _ {S : Type 0} (g : Ghosts S) (summary : Holdings (List ℕ)) (id : List 
 -- ---- an edition that is filed is the one that a command installs
 
 pub usable_by : (summary : Holdings (List ℕ)) (s : State) → HoldsBy summary (rested s) → WhileOpen (rested s) IsUsable
-usable_by summary s holds = λ clean live. let it = holds clean live in (with_derived it.1.holds.tables, record { own = it.1.holds.own; keeps = it.1.holds.keeps })
+usable_by summary s holds = λ clean live. let it = holds clean live in (with_derived it.1.holds.orphans it.1.holds.tables, record { own = it.1.holds.own; keeps = it.1.holds.keeps })
 
 module _ {S : Type 0} (g : Ghosts S) (f : Filing) (old mid : Held S) (underway : IsUnderway g f old) (inside : old.in_transaction ≡ true) (one : Survives (state g old) (state g mid) (λ _. ⊥))
     (same : HasCleanDisk (state g mid) → IsUnchanged (state g old) (state g mid)) where
   ahead_there : (clean : HasCleanDisk (state g mid)) → IsAhead f (state g old).committed (state g old).now
   ahead_there clean = underway (clean_before (state g old) (state g mid) one clean) (same clean).0.was_open inside
 
-  pub change_awaits : (change : TableChange) → AreAllPartsFiled f → IsOfChange f change.edition change.gone → HasCleanDisk (state g mid) → IsTrue (state g mid).is_open → AwaitsRest change (state g mid).committed (state g mid).now
+  pub change_awaits : (change : TableChange) → AreAllPartsFiled f → IsOfEdition f change.edition → HasCleanDisk (state g mid) → IsTrue (state g mid).is_open → AwaitsRest change (state g mid).committed (state g mid).now
   change_awaits change whole of_it clean live =
       subst (λ (db : Database). AwaitsRest change db (state g mid).now) (sym (same clean).0.committed_is)
       (subst (λ (db : Database). AwaitsRest change (state g old).committed db) (sym (same clean).0.now_is) (awaits_rest f change (state g old).committed (state g old).now whole of_it (ahead_there clean)))
@@ -476,5 +476,5 @@ module _ {S : Type 0} (g : Ghosts S) (f : Filing) (old mid : Held S) (underway :
   pub free_still : (id : List ℕ) → ((kept : List KeptFor) → HoldsReplies (state g old).now kept → None ≡ kept_under kept id) → HasCleanDisk (state g mid) → (M : Catalogue) → Rests known (rested (state g mid)) M → kept_under M.kept id ≡ None
   free_still id alone clean M rests =
       let holds : Holds known (state g old).committed M = subst (λ (db : Database). Holds known db M) (same clean).0.committed_is rests.holds in
-      let still = still_shown f (state g old).committed (state g old).now (with_derived holds.tables, record { own = holds.own; keeps = holds.keeps }) (ahead_there clean) in
+      let still = still_shown f (state g old).committed (state g old).now (with_derived holds.orphans holds.tables, record { own = holds.own; keeps = holds.keeps }) (ahead_there clean) in
       sym (alone M.kept (still.replies M.kept (holds_replies known (state g old).committed M holds)))

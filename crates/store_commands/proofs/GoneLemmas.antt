@@ -1,4 +1,4 @@
--- Editions that are taken out by their numbers, with their parts.
+-- Editions that are taken out by their numbers.
 use Rattle.std.proofs.Common.{◌≡◌, ℕ, ◌+◌, ◌<◌, ◌&&◌, ◌||◌, ℤ, pos, Bool, true, false, List, [], ◌∷◌, ◌++◌, length, take, get_or, codes, filter, not, refl, sym, ap, subst, ◌∙◌, arith, append-nil}
 use Rattle.std.specs.Prelude.{flat_map}
 use Rattle.std.proofs.lemmas.Grind.{flat_map-append}
@@ -12,7 +12,7 @@ use Rattle.sqlite.specs.Order.{Row, column}
 use Rattle.sqlite.specs.declared.types.Value.{Value}
 use Rattle.sqlite.specs.declared.types.Value.TheVariants.{Int}
 use Rattle.store_sql.specs.Effects.{IsRemoved, equals_number, same_value}
-use Rattle.store_records.specs.Records.{EditionRecord, EntryRecord, Part}
+use Rattle.store_records.specs.Records.{EditionRecord, EntryRecord}
 use Rattle.store_rows.specs.Tables.{same_number}
 use Rattle.store_rows.specs.After.{is_gone}
 use Rattle.store_rows.proofs.SelectionLemmas.{filter_filter, filter_alike}
@@ -71,11 +71,7 @@ all_stay [] = refl
 all_stay (x ∷ xs) = ap (λ l. x ∷ l) (all_stay xs)
 
 pub none_gone : (db : Database) (all : AllTables) → HasRecords db all → HasRecords db (without_editions [] all)
-none_gone db all it = subst (λ (t : AllTables). HasRecords db t) (λ i. record all {
-  editions = sym (all_stay all.editions) i;
-  entries = sym (all_stay all.entries) i;
-  parts = sym (all_stay all.parts) i;
-}) it
+none_gone db all it = subst (λ (t : AllTables). HasRecords db t) (λ i. record all { editions = sym (all_stay all.editions) i; entries = sym (all_stay all.entries) i }) it
 
 module _ {R : Type 0} (some : List ℕ) (n : ℕ) (number : R → ℤ) where
   both_gone : (rows : List R) → filter (λ row. not (is_gone (n ∷ []) (number row))) (filter (λ row. not (is_gone some (number row))) rows) ≡ filter (λ row. not (is_gone (some ++ n ∷ []) (number row))) rows
@@ -89,7 +85,6 @@ next_gone db gone i lt all it =
     let more : HasRecords db (without_editions (some ++ n ∷ []) all) = subst (λ (t : AllTables). HasRecords db t) (λ k. record all {
       editions = both_gone some n (λ (row : EditionRecord). row.number) all.editions k;
       entries = both_gone some n (λ (row : EntryRecord). row.edition) all.entries k;
-      parts = both_gone some n (λ (row : Part). row.edition) all.parts k;
     }) it in
     subst (λ l. HasRecords db (without_editions l all)) (sym (take_more gone i 0 lt)) more
 

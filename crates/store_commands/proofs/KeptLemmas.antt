@@ -191,7 +191,7 @@ module _ (id : List ℕ) where
 -- a database that holds a catalogue has its replies
 pub holds_replies : (version : ℕ) (db : Database) (M : Catalogue) → Holds version db M → HoldsReplies db M.kept
 holds_replies version db M h = record {
-  keeps = subst (λ (l : List KeptRecord). Keeps (codes "kept") kept_row db l) h.stands.kept (replies_kept (layout_of version) db h.tables h.keeps);
+  keeps = subst (λ (l : List KeptRecord). Keeps (codes "kept") kept_row db l) h.stands.kept (replies_kept (layout_of version) db h.orphans h.tables h.keeps);
   once = h.stands.well_formed.ids;
 }
 

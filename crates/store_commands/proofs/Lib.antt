@@ -16,3 +16,4 @@ pub mod FilingLemmas
 pub mod FinishLemmas
 pub mod DraftLemmas
 pub mod MarkingLemmas
+pub mod TakingLemmas

@@ -1,4 +1,4 @@
--- Parts of an edition that are taken out some at a time, and then the rest.
+-- Parts of one number that are taken out some at a time, and then the rest.
 use Rattle.std.proofs.Common.{◌≡◌, ℕ, ◌+◌, ◌<◌, ◌&&◌, ℤ, pos, Bool, true, false, List, [], ◌∷◌, map, length, take, get_or, codes, filter, not, drop, refl, sym, ap, subst, ◌∙◌}
 use Rattle.std.specs.List.{list_any}
 use Rattle.std.specs.Ordering.{is_lt}
@@ -21,6 +21,7 @@ use Rattle.store_rows.proofs.SelectionLemmas.{filter_filter}
 use Rattle.store_holdings.specs.AllTables.{AllTables}
 use Rattle.store_commands.specs.KeptRecords.{HasRecords, TurnsRecords}
 use Rattle.store_commands.specs.Changes.{without_parts}
+use Rattle.store_commands.specs.Orphans.{with_parts_that}
 use Rattle.store_commands.specs.Statements.{taking_of, taking_from, taking_parts}
 use Rattle.store_commands.specs.Writes.{WroteStatements, FailsToWrite, CommitsNothing}
 use Rattle.store_commands.proofs.GoneLemmas.{all_stay, neither, tested}
@@ -30,9 +31,6 @@ use Rattle.store_commands.proofs.TableLemmas.{parts_turned, parts_kept}
 use Rattle.store_commands.proofs.WriteLemmas.{wrote_none, wrote_as, wrote_then, wrote_taken, failed_taken, failed_before, failed_after}
 
 -- ---- some parts stay
-
-abbrev pub with_parts_that : (Part → Bool) → AllTables → AllTables
-with_parts_that stays all = record all { parts = filter stays all.parts }
 
 cut_turned : (old new : Database) (test gone : Row → Bool) → ((row : Row) → test row ≡ gone (drop 1 row)) → IsRemoved (codes "dictcat_part") test old new → TurnsRecords (with_parts_that (λ r. not (gone (part_row r)))) old new
 cut_turned old new test gone same removed = λ all it.

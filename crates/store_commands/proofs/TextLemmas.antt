@@ -1,6 +1,6 @@
 -- Which parts are of an edition, and of its text.
-use Rattle.std.proofs.Common.{◌≡◌, ◌≢◌, ℕ, zero, suc, ◌+◌, ◌&&◌, ℤ, pos, Bool, true, false, cond, List, [], ◌∷◌, ◌++◌, map, take, drop, filter, not, codes, Some, None, refl, sym, ap, subst, ◌∙◌, append-nil}
-use Rattle.std.specs.Prelude.{IfSome, IsPermutation, Option, flat_map}
+use Rattle.std.proofs.Common.{◌≡◌, ◌≢◌, ℕ, zero, suc, ◌+◌, ◌&&◌, ◌||◌, ℤ, pos, Bool, true, false, cond, List, [], ◌∷◌, ◌++◌, map, take, drop, filter, not, codes, Some, None, refl, sym, ap, subst, ◌∙◌, append-nil}
+use Rattle.std.specs.Prelude.{IfSome, IsPermutation, Option}
 use Rattle.std.specs.List.{AllByRecursion}
 use Rattle.std.proofs.lemmas.Bool.{false≢true, and_parts}
 use Rattle.std.proofs.lemmas.List.Elements.{filter-append}
@@ -8,22 +8,21 @@ use Rattle.std.proofs.lemmas.List.Sorted.{IsPermutation-sym, IsPermutation-trans
 use Rattle.sqlite_trees.proofs.ListLemmas.{IsPermutation-filter}
 use Rattle.sqlite.specs.Effect.{Database}
 use Rattle.sqlite.specs.Order.{Row}
-use Rattle.dict_text.proofs.AllLemmas.{all_append, all_filter}
+use Rattle.dict_text.proofs.AllLemmas.{all_append}
 use Rattle.store_sql.specs.Effects.{equals_number, rows_of}
 use Rattle.store_edition_sql.specs.PartRecords.{part_row}
 use Rattle.store_edition_sql.specs.Chosen.{is_of_file}
 use Rattle.store_records.specs.Records.{Part}
 use Rattle.store_rows.specs.Parts.{parts_of}
 use Rattle.store_rows.specs.Stored.{stored_index}
-use Rattle.store_rows.specs.Tables.{Tables, same_number}
+use Rattle.store_rows.specs.Tables.{same_number}
 use Rattle.store_rows.specs.After.{Installed, is_gone}
 use Rattle.store_rows.specs.Written.{numbered}
 use Rattle.store_rows.proofs.AfterLemmas.{filter_none}
 use Rattle.store_rows.proofs.SelectionLemmas.{filter_filter}
 use Rattle.store_rows.proofs.TakenLemmas.{same_number_is, same_itself, nat_same}
-use Rattle.store_holdings.specs.Files.{part_at, file_parts, parts_under, edition_parts, all_parts, installed_parts}
-use Rattle.store_holdings.specs.AllTables.{HasNoneOf}
-use Rattle.store_holdings.proofs.FileLemmas.{part_once}
+use Rattle.store_holdings.specs.Files.{part_at, file_parts, parts_under, installed_parts}
+use Rattle.store_holdings.specs.AllTables.{beside_installed}
 use Rattle.store_holdings.specs.Holds.{Keeps}
 use Rattle.store_holdings.specs.Texts.{text_rows, HoldsText}
 use Rattle.store_commands.specs.KeptRecords.{FitsColumn}
@@ -56,7 +55,7 @@ front_fails q (suc k) (p ∷ ps) h = (h.0, front_fails q k ps h.1)
 
 -- ---- the parts of editions that stay
 
-kept_test : (a q : Bool) → (q ≡ true → a ≡ true) → (a && q) ≡ q
+pub kept_test : (a q : Bool) → (q ≡ true → a ≡ true) → (a && q) ≡ q
 kept_test true true h = refl
 kept_test true false h = refl
 kept_test false true h = absurd (false≢true (h refl))
@@ -77,14 +76,31 @@ found_installed q number asks (Some new) apart =
     filter_none q (installed_parts (Some new))
     (others_fail q (pos number) (pos new.number) asks (number_apart number new.number apart) (installed_parts (Some new)) (parts_its (pos new.number) (stored_index new.reading.lines) new.reading.text))
 
--- what a test finds nothing of fails it
-none_pass : (q : Part → Bool) (ps : List Part) → filter q ps ≡ [] → AllByRecursion (λ (p : Part). q p ≡ false) ps
-none_pass q [] e = tt
-none_pass q (p ∷ ps) e = by (q p) refl e (λ none. none_pass q ps none)
+-- another number isn't the one that goes, and a number is itself
+pub gone_apart : (number other : ℕ) → number ≢ other → is_gone (other ∷ []) (pos number) ≡ false
+gone_apart number other apart = by (same_number (pos other) (pos number)) refl
   where
-    by : (b : Bool) → q p ≡ b → cond b (p ∷ filter q ps) (filter q ps) ≡ [] → (filter q ps ≡ [] → AllByRecursion (λ (r : Part). q r ≡ false) ps) → (q p ≡ false) × AllByRecursion (λ (r : Part). q r ≡ false) ps
-    by true is h rest = absurd (cc)
-    by false is h rest = (is, rest h)
+    by : (b : Bool) → same_number (pos other) (pos number) ≡ b → is_gone (other ∷ []) (pos number) ≡ false
+    by true e = absurd (apart (sym (nat_same other number e)))
+    by false e = ap (λ b. b || false) e
+
+pub gone_itself : (number : ℕ) → is_gone (number ∷ []) (pos number) ≡ true
+gone_itself number = ap (λ b. b || false) (same_itself (pos number))
+
+-- what an edition has that is installed comes in place of no part of another number
+pub found_beside : (q : Part → Bool) (number : ℕ) → ((p : Part) → q p ≡ true → p.edition ≡ pos number) → (edition : Option Installed) → IfSome edition (λ (new : Installed). number ≢ new.number) → (ps : List Part)
+    → filter q (beside_installed edition ps) ≡ filter q ps
+found_beside q number asks None apart ps = refl
+found_beside q number asks (Some new) apart ps = found_aside q number (new.number ∷ []) asks (gone_apart number new.number apart) ps
+
+pub left_out : (a q : Bool) → (q ≡ true → a ≡ false) → (a && q) ≡ false
+left_out true true h = h refl
+left_out true false h = refl
+left_out false q h = refl
+
+pub none_found : {X : Type 0} (xs : List X) → filter (λ (x : X). false) xs ≡ []
+none_found [] = refl
+none_found (x ∷ xs) = none_found xs
 
 -- ---- the rows of a text
 
@@ -108,15 +124,15 @@ module _ (number : ℕ) where
       (subst (λ l. IsPermutation (filter is_text (map part_row parts)) l) (sym (filter_map (drop 1) is_text (is_of_file (pos number) (pos 1)) text_next (rows_of (codes "dictcat_part") db)))
       (IsPermutation-filter is_text (map part_row parts) (map (drop 1) (rows_of (codes "dictcat_part") db)) k.rows))
 
-  -- a text stays where its edition neither goes nor comes
-  pub text_stays : (old new : Database) (gone : List ℕ) (parts : List Part) (edition : Option Installed) → Keeps (codes "dictcat_part") part_row old parts
-      → Keeps (codes "dictcat_part") part_row new (filter (λ (p : Part). not (is_gone gone p.edition)) parts ++ installed_parts edition)
-      → is_gone gone (pos number) ≡ false → IfSome edition (λ (new : Installed). number ≢ new.number) → IsPermutation (text_rows number old) (text_rows number new)
-  text_stays old new gone parts edition before after stands apart =
-      let rest : List Part = filter (λ (p : Part). not (is_gone gone p.edition)) parts in
+  -- a text stays where its edition doesn't come
+  pub text_stays : (old new : Database) (parts : List Part) (edition : Option Installed) → Keeps (codes "dictcat_part") part_row old parts
+      → Keeps (codes "dictcat_part") part_row new (beside_installed edition parts ++ installed_parts edition)
+      → IfSome edition (λ (new : Installed). number ≢ new.number) → IsPermutation (text_rows number old) (text_rows number new)
+  text_stays old new parts edition before after apart =
+      let rest : List Part = beside_installed edition parts in
       let same : filter of_text (rest ++ installed_parts edition) ≡ filter of_text parts =
       filter-append of_text rest (installed_parts edition) ∙ ap (λ l. filter of_text rest ++ l) (found_installed of_text number text_asks edition apart) ∙ append-nil (filter of_text rest)
-      ∙ found_aside of_text number gone text_asks stands parts in
+      ∙ found_beside of_text number text_asks edition apart parts in
       IsPermutation-trans (text_rows number old) (map part_row (filter of_text parts)) (text_rows number new) (IsPermutation-sym (map part_row (filter of_text parts)) (text_rows number old) (text_under old parts before))
       (subst (λ l. IsPermutation (map part_row l) (text_rows number new)) same (text_under new (rest ++ installed_parts edition) after))
 
@@ -145,20 +161,18 @@ module _ (number : ℕ) where
       filter-append of_text (file_parts (pos number) (pos 0) index) (file_parts (pos number) (pos 1) text)
       ∙ (λ i. filter_none of_text (file_parts (pos number) (pos 0) index) (first_fail 0 (parts_of index)) i ++ second_pass 0 (parts_of text) i)
 
-  -- no part is of an edition that no record has
-  none_there : (t : Tables) → HasNoneOf (pos number) t → filter of_text (all_parts t) ≡ []
-  none_there t none =
-      let others : filter (λ (p : Part). same_number p.edition (pos number)) (all_parts t) ≡ [] = part_once t (pos number) ∙ ap (flat_map (edition_parts t.entries)) (filter_none (λ e. same_number e.number (pos number)) t.editions none.0) in
-      sym (filter_filter of_text (λ (p : Part). same_number p.edition (pos number)) of_text
-      (λ p. kept_test (same_number p.edition (pos number)) (of_text p) (λ its. ap (λ n. same_number n (pos number)) (text_asks p its) ∙ same_itself (pos number))) (all_parts t))
-      ∙ ap (filter of_text) others
+  -- none is left of what stood under the number
+  none_left : (parts : List Part) → filter of_text (filter (λ (p : Part). not (is_gone (number ∷ []) p.edition)) parts) ≡ []
+  none_left parts =
+      filter_filter of_text (λ (p : Part). not (is_gone (number ∷ []) p.edition)) (λ (p : Part). false)
+      (λ p. left_out (not (is_gone (number ∷ []) p.edition)) (of_text p) (λ its. ap (λ n. not (is_gone (number ∷ []) n)) (text_asks p its) ∙ ap not (gone_itself number))) parts
+      ∙ none_found parts
 
-  pub text_there : (db : Database) (t : Tables) (gone : List ℕ) (new : Installed) → new.number ≡ number → HasNoneOf (pos number) t → FitsColumn number
-      → Keeps (codes "dictcat_part") part_row db (filter (λ (p : Part). not (is_gone gone p.edition)) (all_parts t) ++ installed_parts (Some new)) → HoldsText db number new.reading.text
-  text_there db t gone new is none few k =
-      let rest : List Part = filter (λ (p : Part). not (is_gone gone p.edition)) (all_parts t) in
-      let front : filter of_text rest ≡ [] =
-      filter_none of_text rest (all_filter (λ (p : Part). of_text p ≡ false) (λ (p : Part). not (is_gone gone p.edition)) (all_parts t) (none_pass of_text (all_parts t) (none_there t none))) in
+  pub text_there : (db : Database) (parts : List Part) (new : Installed) → new.number ≡ number → FitsColumn number
+      → Keeps (codes "dictcat_part") part_row db (beside_installed (Some new) parts ++ installed_parts (Some new)) → HoldsText db number new.reading.text
+  text_there db parts new is few k =
+      let rest : List Part = beside_installed (Some new) parts in
+      let front : filter of_text rest ≡ [] = ap (λ n. filter of_text (filter (λ (p : Part). not (is_gone (n ∷ []) p.edition)) parts)) is ∙ none_left parts in
       let same : filter of_text (rest ++ installed_parts (Some new)) ≡ file_parts (pos number) (pos 1) new.reading.text =
       filter-append of_text rest (installed_parts (Some new)) ∙ ap (λ l. l ++ filter of_text (installed_parts (Some new))) front
       ∙ subst (λ n. filter of_text (parts_under (pos n) (stored_index new.reading.lines) new.reading.text) ≡ file_parts (pos number) (pos 1) new.reading.text) (sym is) (own_text (stored_index new.reading.lines) new.reading.text) in

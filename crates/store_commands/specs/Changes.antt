@@ -10,7 +10,7 @@ use Rattle.dict_catalogue.specs.declared.commands.Command.TheVariants.{Install, 
 use Rattle.dict_catalogue.specs.declared.planning.PlannedChange.{PlannedChange as Planned}
 use Rattle.store_records.specs.Records.{ItemRecord, Member, EditionRecord, Part}
 use Rattle.store_holdings.specs.Files.{installed_parts}
-use Rattle.store_holdings.specs.AllTables.{AllTables}
+use Rattle.store_holdings.specs.AllTables.{AllTables, beside_installed}
 use Rattle.store_rows.specs.Stored.{stored_index}
 use Rattle.store_rows.specs.Written.{numbered, mark_record, item_record, kept_record}
 use Rattle.store_rows.specs.After.{Installed, TableChange, all_members, is_gone, installed_editions, installed_entries}
@@ -37,23 +37,20 @@ with_more_editions more all = record all { editions = all.editions ++ more }
 abbrev pub with_more_parts : List Part → AllTables → AllTables
 with_more_parts more all = record all { parts = all.parts ++ more }
 
--- without the parts of these editions, and without the editions: their records, their entries and their parts
+-- without the parts of these editions
 abbrev pub without_parts : List ℕ → AllTables → AllTables
 without_parts gone all = record all { parts = filter (λ row. not (is_gone gone row.edition)) all.parts }
 
+-- without the records and the entries of these editions; their parts are left, of no edition then
 abbrev pub without_editions : List ℕ → AllTables → AllTables
-without_editions gone all = record all {
-  editions = filter (λ row. not (is_gone gone row.number)) all.editions;
-  entries = filter (λ row. not (is_gone gone row.edition)) all.entries;
-  parts = filter (λ row. not (is_gone gone row.edition)) all.parts;
-}
+without_editions gone all = record all { editions = filter (λ row. not (is_gone gone row.number)) all.editions; entries = filter (λ row. not (is_gone gone row.edition)) all.entries }
 
--- with the edition that is installed, where there is one
+-- with the edition that is installed, where there is one, in place of parts that stood under its number
 abbrev pub with_installed : Option Installed → AllTables → AllTables
 with_installed edition all = record all {
   editions = all.editions ++ installed_editions edition;
   entries = all.entries ++ installed_entries edition;
-  parts = all.parts ++ installed_parts edition;
+  parts = beside_installed edition all.parts ++ installed_parts edition;
 }
 
 -- the mark, the items and the members written anew

@@ -1,24 +1,23 @@
 -- What the parts of a filing do, inside a transaction.
-use Rattle.std.specs.Prelude.{◌≡◌, ℕ, true, List, [], ◌∷◌}
+use Rattle.std.specs.Prelude.{◌≡◌, ◌⊎◌, true, List, [], ◌∷◌}
 use Rattle.sqlite.specs.Effect.{Database}
 use Rattle.sqlite.specs.State.{HasCleanDisk}
 use Rattle.sqlite.specs.Held.{Held, state}
 use Rattle.sqlite.specs.declared.error.Error.{Error}
 use Rattle.sqlite_trees.specs.declared.store.Store.{Ghosts}
 use Rattle.store_sql.specs.Statements.{Statement}
-use Rattle.store_holdings.specs.AllTables.{AllTables}
 use Rattle.store_commands.specs.Changes.{without_parts}
-use Rattle.store_commands.specs.Filing.{IsAhead}
+use Rattle.store_commands.specs.Filing.{IsAhead, HasNoneFiled}
+use Rattle.store_commands.specs.Statements.{taking_parts, last_parts}
 use Rattle.store_commands.specs.Writes.{WroteStatements, FailsToWrite}
 use Rattle.store_commands.specs.declared.filing.Filing.{Filing}
 
 module _ {S : Type 0} (g : Ghosts S) where
-  -- parts of the edition of this number were taken out, and nothing else has changed
-  pub record Trims (number : ℕ) (old new : Held S) : Type 0 where
-    pub statements : List Statement
-    pub effect : AllTables → AllTables
-    pub wrote : WroteStatements g statements effect old new
-    pub others : (all : AllTables) → without_parts (number ∷ []) (effect all) ≡ without_parts (number ∷ []) all
+  -- The transaction goes on; or it was begun, and what parts stood under the number of the filing were taken out.
+  abbrev pub HasBegun : Filing → Filing → Held S → Held S → Type 0
+  HasBegun before after old new =
+      ((after ≡ before) × (new ≡ old) × (old.in_transaction ≡ true))
+      ⊎ (HasNoneFiled after × WroteStatements g (taking_parts before.number last_parts) (without_parts (before.number ∷ [])) (record old { in_transaction = true }) new)
 
   -- What was ahead of a database by so much is ahead of it by so much more.
   pub record Files (before after : Filing) (old new : Held S) : Type 0 where

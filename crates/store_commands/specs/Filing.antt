@@ -1,5 +1,5 @@
 -- The files of an edition that a command is to install, their parts filed some at a time in a transaction that stays open between calls.
-use Rattle.std.specs.Prelude.{◌≡◌, ◌≢◌, ◌⊎◌, ℕ, ℤ, ◌+◌, ◌≤◌, pos, true, false, IsTrue, List, [], ◌∷◌, ◌++◌, map, slice_range, Option, Some, None, codes, take, length, IsPermutation}
+use Rattle.std.specs.Prelude.{◌≡◌, ◌≢◌, ◌⊎◌, ℕ, ◌≤◌, pos, true, false, IsTrue, List, [], ◌∷◌, ◌++◌, map, slice_range, Option, Some, None, codes, take, length, IsPermutation}
 use Rattle.sqlite.specs.Effect.{Database}
 use Rattle.sqlite.specs.State.{State, HasCleanDisk, KeepsCommit, Survives}
 use Rattle.sqlite.specs.Held.{Held, state}
@@ -13,13 +13,13 @@ use Rattle.dict_catalogue.specs.Steps.{KeptFor}
 use Rattle.dict_desk.specs.declared.fault.Fault.{Fault}
 use Rattle.dict_desk.specs.declared.fault.Fault.TheVariants.{Memory, Disk}
 use Rattle.store_rows.specs.Stored.{stored_index}
-use Rattle.store_rows.specs.After.{Installed, is_gone}
+use Rattle.store_rows.specs.After.{Installed}
 use Rattle.store_holdings.specs.Files.{parts_under}
 use Rattle.store_holdings.specs.Texts.{rows_under}
 use Rattle.store_holdings.specs.AllTables.{AllTables}
-use Rattle.store_commands.specs.KeptRecords.{HasRecords, IsUsable, SparesTablesOfOthers, HoldsReplies, FitsColumn, AreStorable}
-use Rattle.store_commands.specs.Changes.{without_parts}
-use Rattle.store_commands.specs.Statements.{adding_part, taking_from, taking_of}
+use Rattle.store_commands.specs.KeptRecords.{HasRecords, IsUsable, SparesTablesOfOthers, HoldsReplies, FitsColumn}
+use Rattle.store_commands.specs.Changes.{with_more_parts, without_parts}
+use Rattle.store_commands.specs.Statements.{adding_part, taking_parts, last_parts}
 use Rattle.store_commands.specs.declared.files.EditionFiles.{EditionFiles}
 use Rattle.store_commands.specs.declared.filing.Filing.{Filing}
 
@@ -32,19 +32,17 @@ parts_of_files files = parts_under (pos files.number) files.index.now files.text
 abbrev pub parts_of_filing : Filing → List Part
 parts_of_filing f = parts_under (pos f.number) f.index.items f.text.items
 
--- the tables can hold the numbers
+-- the tables can hold the number
 pub record IsDrawnUp (f : Filing) : Type 0 where
   pub number : FitsColumn f.number
-  pub gone : AreStorable f.gone.items
 
 -- all parts are filed
 abbrev pub AreAllPartsFiled : Filing → Type 0
 AreAllPartsFiled f = length (parts_of_filing f) ≤ f.parts_filed
 
--- none is filed, and none of an edition that goes is taken out
+-- none is filed
 pub record HasNoneFiled (f : Filing) : Type 0 where
   pub filed : f.parts_filed ≡ 0
-  pub taken : f.parts_taken ≡ 0
 
 -- the files are those of the edition that is installed, under its number
 abbrev pub IsOfEdition : Filing → Option Installed → Type 0
@@ -53,20 +51,18 @@ IsOfEdition f (Some new) = (f.number ≡ new.number) × (f.index.items ≡ store
 
 -- only how much was filed differs
 abbrev pub HasSameRows : Filing → Filing → Type 0
-HasSameRows old new = new ≡ record old { parts_taken = new.parts_taken; parts_filed = new.parts_filed }
+HasSameRows old new = new ≡ record old { parts_filed = new.parts_filed }
 
 -- ---- what the database has meanwhile
 
--- what was filed so far stands behind the parts of other editions
+-- what was filed so far stands behind the parts of other numbers
 abbrev pub filed_by : Filing → AllTables → AllTables
-filed_by f all = record all { parts = all.parts ++ take f.parts_filed (parts_of_filing f) }
+filed_by f all = with_more_parts (take f.parts_filed (parts_of_filing f)) (without_parts (f.number ∷ []) all)
 
--- Whatever records were committed, the database keeps these and what was filed, whatever parts the editions that go still have;
--- and tables that are none of the product's have the rows that they had.
+-- Whatever records were committed, the database keeps these and what was filed, in place of parts that stood under its number; and tables
+-- that are none of the product's have the rows that they had.
 abbrev pub IsAhead : Filing → Database → Database → Type 0
-IsAhead f committed now =
-    (all : AllTables) → HasRecords committed all
-    → (seen : AllTables) × HasRecords now seen × (without_parts f.gone.items seen ≡ without_parts f.gone.items (filed_by f all)) × SparesTablesOfOthers committed now
+IsAhead f committed now = (all : AllTables) → HasRecords committed all → HasRecords now (filed_by f all) × SparesTablesOfOthers committed now
 
 -- a store as a rollback would leave it: what it shows is what was committed
 abbrev pub rested : State → State
@@ -87,12 +83,12 @@ pub record KeepsEdition (number : ℕ) (old new : Database) : Type 0 where
   pub editions : HasSameUnder (codes "edition") number old new
   pub parts : HasSameUnder (codes "dictcat_part") number old new
 
--- what a database shows that is ahead of another one: the tables are there, each edition that neither goes nor comes has what it had,
--- and the same replies are kept
+-- what a database shows that is ahead of another one: the tables are there, each edition but the one that comes has what it had, and the
+-- same replies are kept
 pub record ShowsStill (f : Filing) (committed now : Database) : Type 0 where
   pub schema : now.schema ≡ committed.schema
   pub usable : IsUsable now
-  pub editions : (number : ℕ) → is_gone f.gone.items (pos number) ≡ false → number ≢ f.number → KeepsEdition number committed now
+  pub editions : (number : ℕ) → number ≢ f.number → KeepsEdition number committed now
   pub replies : (kept : List KeptFor) → HoldsReplies committed kept → HoldsReplies now kept
 
 -- ---- why a part fails
@@ -106,16 +102,16 @@ fault_filed (SqliteFailure code.DatabaseCorrupt) = Some Disk
 fault_filed (SqliteFailure code.DiskFull) = Some Disk
 fault_filed _ = None
 
--- these take out parts of the edition of this number: those of its text from one on, or all that are left
-abbrev pub IsTaking : ℕ → List Statement → Type 0
-IsTaking number statements = ((from : ℤ) × (statements ≡ taking_from number from ∷ [])) ⊎ (statements ≡ taking_of (codes "dictcat_part") number ∷ [])
-
--- these are a part of a filing: some parts of its files are added, from the first on that isn't filed; or some of an edition that goes
--- are taken out
+-- these go on with a filing: some parts of its files are added, from the first on that isn't filed
 abbrev pub AreOfNextPart : Filing → List Statement → Type 0
-AreOfNextPart f statements =
-    ((to : ℕ) × (statements ≡ map adding_part (slice_range (parts_of_filing f) f.parts_filed to)))
-    ⊎ ((number : ℕ) × (is_gone f.gone.items (pos number) ≡ true) × IsTaking number statements)
+AreOfNextPart f statements = (to : ℕ) × (statements ≡ map adding_part (slice_range (parts_of_filing f) f.parts_filed to))
+
+-- these begin it: what parts stand under its number are taken out, and its first parts are added
+abbrev pub AreOfFirstPart : Filing → List Statement → Type 0
+AreOfFirstPart f statements = (to : ℕ) × (statements ≡ taking_parts f.number last_parts ++ map adding_part (slice_range (parts_of_filing f) 0 to))
+
+abbrev pub AreOfSomePart : Filing → List Statement → Type 0
+AreOfSomePart f statements = AreOfNextPart f statements ⊎ AreOfFirstPart f statements
 
 module _ {S : Type 0} (g : Ghosts S) where
   -- In the open transaction one of these statements failed, where those before it had done what they say; then the transaction was
@@ -132,4 +128,4 @@ module _ {S : Type 0} (g : Ghosts S) where
   abbrev pub FailsToFile : ℕ → Filing → Held S → Held S → Option Fault → Type 0
   FailsToFile next f old new why =
       ((why ≡ None) × (f.number ≢ next))
-      ⊎ ((begun : Filing) × HasSameRows f begun × ((begun ≡ f) ⊎ HasNoneFiled begun) × (statements : List Statement) × AreOfNextPart begun statements × FailsInside fault_filed statements old new why)
+      ⊎ ((statements : List Statement) × AreOfSomePart f statements × FailsInside fault_filed statements old new why)

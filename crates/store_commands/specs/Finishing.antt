@@ -1,5 +1,5 @@
 -- The rest of a command whose edition was filed.
-use Rattle.std.specs.Prelude.{◌≡◌, ◌⊎◌, ◌≤◌, ℕ, List, ◌++◌, map, flat_map, true, false, pos, IsTrue, IfErr, OnOk, OnErr, Result, Option}
+use Rattle.std.specs.Prelude.{◌≡◌, ◌⊎◌, ◌≤◌, ℕ, List, ◌++◌, map, flat_map, true, false, IsTrue, IfErr, OnOk, OnErr, Result}
 use Rattle.sqlite.specs.Effect.{Database}
 use Rattle.sqlite.specs.State.{State, HasCleanDisk, IsUnchanged, IsRolledBack, Survives}
 use Rattle.sqlite.specs.Held.{Held, state}
@@ -14,7 +14,7 @@ use Rattle.dict_desk.specs.Faults.{is_failure}
 use Rattle.store_holdings.specs.Faults.{fault_of}
 use Rattle.dict_desk.specs.declared.fault.Fault.{Fault}
 use Rattle.store_rows.specs.Versions.{known}
-use Rattle.store_rows.specs.After.{Installed, TableChange, is_gone, installed_editions}
+use Rattle.store_rows.specs.After.{TableChange, installed_editions}
 use Rattle.store_holdings.specs.AllTables.{AllTables, all_after}
 use Rattle.store_holdings.specs.Holds.{Holds, IsLeftAs}
 use Rattle.store_holdings.specs.Writing.{FailsAtLast}
@@ -25,11 +25,10 @@ use Rattle.store_holdings.specs.Committed.{IsTreesOf}
 use Rattle.store_commands.specs.Answers.{Answers, has_written, summary_after, numbers_after, IsOfApply, IsOfShut, IsPlanned, HoldsAfter, FailsToApply}
 use Rattle.store_commands.specs.declared.applied.Applied.{Applied}
 use Rattle.store_commands.specs.Installs.{install_read}
-use Rattle.store_commands.specs.Filing.{IsOfEdition, rested, FailsInside}
+use Rattle.store_commands.specs.Filing.{rested, FailsInside}
 use Rattle.store_commands.specs.Installed.{HasInstalled}
-use Rattle.store_commands.specs.declared.filing.Filing.{Filing}
 
--- behind what was filed: the summary anew, what is left of the editions that go, the record of the edition, and the reply
+-- behind what was filed: the summary anew, the editions that go, the record of the edition, and the reply
 abbrev pub finishing : ℕ → TableChange → List Statement
 finishing version change =
     summary_anew version change.summary.installs change.summary.items
@@ -41,12 +40,6 @@ finished change all =
     with_reply change.kept
     (with_more_editions (installed_editions change.edition)
     (without_editions change.gone (with_members change.summary.items (with_items change.summary.items (with_mark change.summary.installs all)))))
-
--- the filing has the files of the edition that is installed, and no other editions go
-pub record IsOfChange (f : Filing) (edition : Option Installed) (gone : List ℕ) : Type 0 where
-  pub gone_is : f.gone.items ≡ gone
-  pub files : IsOfEdition f edition
-  pub stays : is_gone gone (pos f.number) ≡ false
 
 -- Whatever records were committed, those that the database keeps lack the rest of the change, and nothing else.
 abbrev pub AwaitsRest : TableChange → Database → Database → Type 0

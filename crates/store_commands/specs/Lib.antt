@@ -12,3 +12,4 @@ pub mod FiledParts
 pub mod Finishing
 pub mod Installed
 pub mod Marking
+pub mod Orphans

@@ -1,5 +1,5 @@
 -- The statements of a command that acts, in their order.
-use Rattle.std.specs.Prelude.{ℕ, ℤ, pos, true, List, [], ◌∷◌, ◌++◌, codes, map, flat_map, Option}
+use Rattle.std.specs.Prelude.{ℕ, ℤ, pos, true, List, [], ◌∷◌, ◌++◌, codes, map, flat_map, Option, Some, None}
 use Rattle.store_tables.specs.Tables.{table_of}
 use Rattle.store_tables.specs.declared.tables.StoreTable.{StoreTable}
 use Rattle.store_tables.specs.declared.tables.StoreTable.TheVariants as table
@@ -69,14 +69,18 @@ abbrev pub last_parts : List ℤ
 last_parts =
     pos 3840 ∷ pos 3584 ∷ pos 3328 ∷ pos 3072 ∷ pos 2816 ∷ pos 2560 ∷ pos 2304 ∷ pos 2048 ∷ pos 1792 ∷ pos 1536 ∷ pos 1280 ∷ pos 1024 ∷ pos 768 ∷ pos 512 ∷ pos 256 ∷ []
 
--- the parts of the edition of this number are taken out, and then its own record
+-- the record of the edition of this number is taken out; its parts are left
 abbrev pub taking : ℕ → List Statement
-taking number = taking_parts number last_parts ++ taking_of (codes "edition") number ∷ []
+taking number = taking_of (codes "edition") number ∷ []
 
--- the parts of the edition that is installed are added, if there is one, those of its index and then those of its text, and then
--- its own record
+-- what parts stand under the number of the edition that is installed are taken out, if there is one
+abbrev pub clearing_parts : Option Installed → List Statement
+clearing_parts None = []
+clearing_parts (Some new) = taking_parts new.number last_parts
+
+-- then its parts are added, those of its index and then those of its text, and then its own record
 abbrev pub installing : Option Installed → List Statement
-installing edition = map adding_part (installed_parts edition) ++ map adding_edition (installed_editions edition)
+installing edition = clearing_parts edition ++ (map adding_part (installed_parts edition) ++ map adding_edition (installed_editions edition))
 
 -- the editions that go are taken out, and then the one that is installed is added
 abbrev pub exchanging : List ℕ → Option Installed → List Statement

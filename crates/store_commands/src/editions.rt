@@ -26,8 +26,8 @@ pub(crate) const LAST_PARTS: &[i64] = &[
     3840, 3584, 3328, 3072, 2816, 2560, 2304, 2048, 1792, 1536, 1280, 1024, 768, 512, 256,
 ];
 
-// Takes out the parts of the edition of this number: those of its text from each of these on, one after the other, and then the rest.
-fn take_parts<S: Alter, T: OpenTransaction<S>>(
+/// Takes out the parts of this number: those of a text from each of these on, one after the other, and then the rest.
+pub(crate) fn take_parts<S: Alter, T: OpenTransaction<S>>(
     tx: &mut T,
     number: u64,
     parts: &[i64],
@@ -47,7 +47,7 @@ fn take_parts<S: Alter, T: OpenTransaction<S>>(
     Ok(())
 }
 
-// Takes out the edition of this number, with its parts.
+// Takes out the record of the edition of this number. Its parts are left, of no edition then.
 fn take_edition<S: Alter, T: OpenTransaction<S>>(tx: &mut T, number: u64) -> Result<(), Error>
     requires number { FitsColumn number }
     requires usable { WhileOpen (state S.Store (T.held tx.old)) IsUsable }
@@ -57,12 +57,11 @@ fn take_edition<S: Alter, T: OpenTransaction<S>>(tx: &mut T, number: u64) -> Res
     ensures failed { IfErr result (FailsToWrite S.Store (taking number) (T.held tx.old) (T.held tx.new)) }
     ensures spares { CommitsNothing S.Store (T.held tx.old) (T.held tx.new) }
 {
-    take_parts(tx, number, LAST_PARTS)?;
     delete_header(tx, number as i64)?;
     Ok(())
 }
 
-/// Takes out the editions of these numbers, with their parts.
+/// Takes out the records of the editions of these numbers. Their parts are left, of no edition then.
 pub(crate) fn take_editions<S: Alter, T: OpenTransaction<S>>(
     tx: &mut T,
     gone: &[u64],
@@ -120,7 +119,8 @@ pub(crate) fn add_record<S: Alter, T: OpenTransaction<S>>(
     Ok(())
 }
 
-// Adds an edition of this owner under its number, behind the parts of its index, which is these octets, and of its text.
+// Adds an edition of this owner under its number, behind the parts of its index, which is these octets, and of its text. What parts stood
+// under the number, of no edition, are taken out first.
 fn add_edition<S: Alter, T: OpenTransaction<S>>(
     tx: &mut T,
     owner: &str,
@@ -142,6 +142,7 @@ fn add_edition<S: Alter, T: OpenTransaction<S>>(
         index,
         text: edition.text(),
     };
+    take_parts(tx, number, LAST_PARTS)?;
     add_parts(tx, &files, 0, files.part_count())?;
     add_record(tx, owner, number, edition.title(), edition.info())?;
     Ok(())

@@ -25,8 +25,8 @@ ghost use Rattle.store_commands.specs.Answers.{HoldsBy, Answers};
 ghost use Rattle.store_commands.specs.Installs.{IsReadInstall, install_read};
 ghost use Rattle.store_commands.specs.Installed.{HasInstalled};
 ghost use Rattle.store_commands.specs.Writes.{WroteStatements, FailsToWrite, CommitsNothing};
-ghost use Rattle.store_commands.specs.Filing.{IsUnderway, rested, FailsInside};
-ghost use Rattle.store_commands.specs.Finishing.{finishing, finished, AwaitsRest, IsOfChange, IsFinished, IsAppliedOver, IsUndone, LooksOnly, FailsToFinish};
+ghost use Rattle.store_commands.specs.Filing.{IsOfEdition, IsUnderway, rested, FailsInside};
+ghost use Rattle.store_commands.specs.Finishing.{finishing, finished, AwaitsRest, IsFinished, IsAppliedOver, IsUndone, LooksOnly, FailsToFinish};
 
 use crate::applied::Applied;
 use crate::editions::{add_record, take_editions};
@@ -45,14 +45,12 @@ use std::alloc::Global;
 use store_holdings::fault_of;
 use store_sql::transaction::{OpenTransaction, commit_open, roll_back};
 
-// Whether the change is under the filing's number, and the same editions go.
+// Whether the change is under the filing's number.
 fn is_planned_so(filing: &Filing, change: &PlannedChange) -> bool
     ensures { IsTrue result → (name : List ℕ) (reading : ReadEdition) → filing.now.index.items ≡ stored_index reading.lines → filing.now.text.items ≡ reading.text
-        → IsOfChange filing.now (installed_by change.now.summary.installs (install_read name reading)) change.now.gone.items }
+        → IsOfEdition filing.now (installed_by change.now.summary.installs (install_read name reading)) }
 {
     filing.number == change.summary.installs
-        && filing.gone == change.gone
-        && !change.gone.contains(&filing.number)
 }
 
 // What an install does, where all of its edition is filed, and no reply is kept under the id.
@@ -247,9 +245,9 @@ fn apply_files<S: Alter>(
 /// the command is written, and committed with what was filed. No line is read again.
 ///
 /// The answer is that of `apply` where the one edition that its files say is installed under its name; what is said of `apply` holds of what is
-/// committed, before and after. None, and what was filed is undone: not all of it is filed; another number is next, or other editions go;
-/// the summary refuses the install, a reply is kept under the id, or that is unlawful; or there is no memory. The command may then be
-/// applied as if nothing had been filed. No transaction is open then.
+/// committed, before and after. None, and what was filed is undone: not all of it is filed; another number is next; the summary refuses the
+/// install, a reply is kept under the id, or that is unlawful; or there is no memory. The command may then be applied as if nothing had been
+/// filed. No transaction is open then.
 pub fn apply_read<S: Alter>(
     alloc: Global,
     conn: &mut Connection<S>,

@@ -25,7 +25,7 @@ pub fn summaries_in_range()
 {}
 
 /// A command that makes of all records what `all_after` says leaves a database that holds the catalogue after it, with the parts of
-/// its files.
+/// its files, and those of editions that went as orphans.
 ///
 /// It does nothing. Its clause is the law.
 pub fn command_holds()
@@ -33,8 +33,7 @@ pub fn command_holds()
         → IsTableChange M id command change → Holds known new (with_effect M id command) }
 {}
 
-/// While an edition is filed, each edition that neither goes nor comes has the record and the parts that it had, and the same replies
-/// are kept.
+/// While an edition is filed, each edition but that one has the record and the parts that it had, and the same replies are kept.
 ///
 /// It does nothing. Its clause is the law.
 pub fn shows_still()

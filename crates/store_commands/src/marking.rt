@@ -10,7 +10,9 @@ ghost use Rattle.store_commands.specs.Changes.{with_mark};
 ghost use Rattle.store_holdings.specs.Committed.{IsCommitted, IsTreesOf};
 ghost use Rattle.store_commands.specs.Committed.{IsOfStore, StaysCommitted};
 ghost use Rattle.store_commands.specs.Answers.{HoldsBy};
-ghost use Rattle.store_commands.specs.Marking.{Remains, FailsToCommitMark, FailsToMark};
+ghost use Rattle.store_commands.specs.Marking.{Remains, FailsToCommitRun, FailsToMark};
+ghost use Rattle.store_commands.specs.Statements.{mark_anew};
+ghost use Rattle.store_rows.specs.Versions.{known};
 
 use crate::parts::fault_filed;
 use crate::small::write_mark;
@@ -27,7 +29,7 @@ fn commit_mark<S: Alter>(conn: &mut Connection<S>, installs: u64) -> Result<(), 
     ensures made { HasCleanDisk (state S.Store conn.new) → OnOk result (IsCommitted (λ db. IsTrue (state S.Store conn.old).is_open × TurnsRecords (with_mark installs) (state S.Store conn.old).now db) (state S.Store conn.new)) }
     ensures stays { HasCleanDisk (state S.Store conn.new) → OnErr result (StaysCommitted (state S.Store conn.old) (state S.Store conn.new)) }
     ensures lives { HasCleanDisk (state S.Store conn.new) → IsTrue (state S.Store conn.new).is_open → IsTrue (state S.Store conn.old).is_open }
-    ensures failed { HasCleanDisk (state S.Store conn.new) → IfErr result (FailsToCommitMark S.Store installs conn.old conn.new) }
+    ensures failed { HasCleanDisk (state S.Store conn.new) → IfErr result (FailsToCommitRun S.Store (mark_anew known installs) conn.old conn.new) }
     ensures faulted { HasCleanDisk (state S.Store conn.new) → IfErr result (λ why. why ≡ Some Fault.Disk → MoreFaults (state S.Store conn.old).faults (state S.Store conn.new).faults) }
     ensures kinds { IfErr result (λ why. IfSome why IsOfStore) }
     ensures autocommit { (state S.Store conn.new).in_transaction ≡ false }

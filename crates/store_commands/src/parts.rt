@@ -1,83 +1,27 @@
 // One bounded part of a filing, in a transaction that stays open when it is done.
-ghost use Rattle.std.specs.Prelude.{◌≡◌, ◌≢◌, ◌⊎◌, ◌+◌, ◌≤◌, ◌<◌, true, false, IsTrue, Some, IfErr, IfOk, IfSome, OnErr, OnOk, length, pos};
+ghost use Rattle.std.specs.Prelude.{◌≡◌, ◌≢◌, ◌+◌, ◌≤◌, ◌<◌, true, false, IsTrue, Some, IfErr, IfOk, IfSome, OnErr, OnOk, length};
 ghost use Rattle.sqlite.specs.Disk.{MoreFaults};
 ghost use Rattle.sqlite.specs.State.{HasCleanDisk, KeepsCommit, Survives, is_disk_error};
 ghost use Rattle.sqlite.specs.Held.{state};
 ghost use Rattle.store_sql.specs.Effects.{WhileOpen};
 ghost use Rattle.dict_catalogue.specs.Views.{summary_shown};
-ghost use Rattle.store_rows.specs.After.{is_gone};
-ghost use Rattle.store_commands.specs.KeptRecords.{IsUsable, FitsColumn, AreStorable};
+ghost use Rattle.store_commands.specs.KeptRecords.{IsUsable, FitsColumn};
 ghost use Rattle.store_commands.specs.Committed.{IsOfStore};
-ghost use Rattle.store_commands.specs.Writes.{CommitsNothing};
-ghost use Rattle.store_commands.specs.Filing.{parts_of_files, parts_of_filing, IsDrawnUp, AreAllPartsFiled, HasNoneFiled, HasSameRows, rested, IsUnderway, fault_filed, FailsToFile, AreOfNextPart, IsTaking};
-ghost use Rattle.store_commands.specs.FiledParts.{Files, Trims, FailsAmong};
+ghost use Rattle.store_commands.specs.Writes.{CommitsNothing, FailsToWrite};
+ghost use Rattle.store_commands.specs.Filing.{parts_of_files, parts_of_filing, IsDrawnUp, AreAllPartsFiled, HasNoneFiled, HasSameRows, rested, IsUnderway, fault_filed, FailsToFile, AreOfNextPart, AreOfSomePart};
+ghost use Rattle.store_commands.specs.FiledParts.{Files, HasBegun, FailsAmong};
+ghost use Rattle.store_commands.specs.Statements.{taking_parts, last_parts};
 
-use crate::editions::LAST_PARTS;
+use crate::editions::{LAST_PARTS, take_parts};
 use crate::files::{EditionFiles, add_parts};
 use crate::filing::Filing;
 use dict_catalogue::Summary;
 use dict_desk::Fault;
 use sqlite::{Alter, Connection, Error, ErrorCode};
-use store_edition_sql::{delete_parts, delete_parts_from};
 use store_sql::transaction::{OpenTransaction, begin, roll_back};
 
 // So many parts are filed at a time: 1 MiB.
 const PARTS: usize = 64;
-
-// An edition that goes is taken out so many times: its text from each of the bounds on, and then the rest.
-const BOUNDS: usize = 16;
-
-// A text of so few octets comes in place of one that is about as small, which goes as one part of the command.
-const FEW: usize = 1_048_576;
-
-// Takes out the parts of the text of the edition of this number from one on.
-fn take_from<S: Alter, T: OpenTransaction<S>>(
-    tx: &mut T,
-    number: u64,
-    from: i64,
-) -> Result<(), Error>
-    requires number { FitsColumn number }
-    requires usable { WhileOpen (state S.Store (T.held tx.old)) IsUsable }
-    ensures same_reference { T.reference tx.new ≡ T.reference tx.old }
-    ensures trims { OnOk result (Trims S.Store number (T.held tx.old) (T.held tx.new)) }
-    ensures failed { IfErr result (FailsAmong S.Store (IsTaking number) (T.held tx.old) (T.held tx.new)) }
-    ensures spares { CommitsNothing S.Store (T.held tx.old) (T.held tx.new) }
-{
-    delete_parts_from(tx, number as i64, 1, from)?;
-    Ok(())
-}
-
-// Takes out what is left of its parts.
-fn take_rest<S: Alter, T: OpenTransaction<S>>(tx: &mut T, number: u64) -> Result<(), Error>
-    requires number { FitsColumn number }
-    requires usable { WhileOpen (state S.Store (T.held tx.old)) IsUsable }
-    ensures same_reference { T.reference tx.new ≡ T.reference tx.old }
-    ensures trims { OnOk result (Trims S.Store number (T.held tx.old) (T.held tx.new)) }
-    ensures failed { IfErr result (FailsAmong S.Store (IsTaking number) (T.held tx.old) (T.held tx.new)) }
-    ensures spares { CommitsNothing S.Store (T.held tx.old) (T.held tx.new) }
-{
-    delete_parts(tx, number as i64)?;
-    Ok(())
-}
-
-// Takes the edition of this number out from one bound on, or what is left of it behind the last.
-fn take_bound<S: Alter, T: OpenTransaction<S>>(
-    tx: &mut T,
-    number: u64,
-    bound: usize,
-) -> Result<(), Error>
-    requires number { FitsColumn number }
-    requires usable { WhileOpen (state S.Store (T.held tx.old)) IsUsable }
-    ensures same_reference { T.reference tx.new ≡ T.reference tx.old }
-    ensures trims { OnOk result (Trims S.Store number (T.held tx.old) (T.held tx.new)) }
-    ensures failed { IfErr result (FailsAmong S.Store (IsTaking number) (T.held tx.old) (T.held tx.new)) }
-    ensures spares { CommitsNothing S.Store (T.held tx.old) (T.held tx.new) }
-{
-    match LAST_PARTS.get(bound) {
-        Some(from) => take_from(tx, number, *from),
-        None => take_rest(tx, number),
-    }
-}
 
 // How many are filed behind the next part, of so many, of which some are.
 fn part_end(filed: usize, all: usize) -> usize
@@ -106,18 +50,7 @@ fn file_parts<S: Alter, T: OpenTransaction<S>>(tx: &mut T, filing: &Filing) -> R
     Ok(to)
 }
 
-// The edition that goes of which the next bound is taken out, where they go so.
-fn next_gone(filing: &Filing) -> Option<u64>
-    requires { AreStorable filing.now.gone.items }
-    ensures { IfSome result (λ number. FitsColumn number × (is_gone filing.now.gone.items (pos number) ≡ true)) }
-{
-    if filing.text.len() < FEW {
-        return None;
-    }
-    filing.gone.get(filing.parts_taken / BOUNDS).copied()
-}
-
-// Takes an edition that goes out from the next bound on, or files the next parts.
+// Files the next parts, where not all are filed.
 fn next_part<S: Alter, T: OpenTransaction<S>>(tx: &mut T, filing: &mut Filing) -> Result<(), Error>
     requires drawn { IsDrawnUp filing.old }
     requires usable { WhileOpen (state S.Store (T.held tx.old)) IsUsable }
@@ -127,11 +60,6 @@ fn next_part<S: Alter, T: OpenTransaction<S>>(tx: &mut T, filing: &mut Filing) -
     ensures failed { IfErr result (FailsAmong S.Store (AreOfNextPart filing.old) (T.held tx.old) (T.held tx.new)) }
     ensures spares { CommitsNothing S.Store (T.held tx.old) (T.held tx.new) }
 {
-    if let Some(number) = next_gone(filing) {
-        take_bound(tx, number, filing.parts_taken % BOUNDS)?;
-        filing.parts_taken = filing.parts_taken.saturating_add(1);
-        return Ok(());
-    }
     if !filing.is_whole() {
         filing.parts_filed = file_parts(tx, filing)?;
     }
@@ -164,24 +92,44 @@ impl Filing {
         ensures rows { HasSameRows self.old self.new }
         ensures none { HasNoneFiled self.new }
     {
-        self.parts_taken = 0;
         self.parts_filed = 0;
     }
 }
 
-// Begins a transaction where none is open, in which nothing is filed yet.
-fn begin_filing<S: Alter>(conn: &mut Connection<S>, filing: &mut Filing)
+// Begins a transaction where none is open, and takes out what parts stand under the number of the filing, of no edition; none of its own
+// is filed then.
+fn begin_filing<S: Alter>(conn: &mut Connection<S>, filing: &mut Filing) -> Result<(), Error>
+    requires drawn { IsDrawnUp filing.old }
     requires usable { WhileOpen (rested (state S.Store conn.old)) IsUsable }
     requires underway { IsUnderway S.Store filing.old conn.old }
-    ensures begun { conn.new ≡ record conn.old { in_transaction = true } }
     ensures rows { HasSameRows filing.old filing.new }
-    ensures goes_on { (filing.new ≡ filing.old) ⊎ HasNoneFiled filing.new }
-    ensures underway { IsUnderway S.Store filing.new conn.new }
+    ensures begun { OnOk result (HasBegun S.Store filing.old filing.new conn.old conn.new) }
+    ensures underway { OnOk result (IsUnderway S.Store filing.new conn.new) }
+    ensures usable { OnOk result (WhileOpen (state S.Store conn.new) IsUsable) }
+    ensures failed { IfErr result (FailsToWrite S.Store (taking_parts filing.old.number last_parts) (record conn.old { in_transaction = true }) conn.new) }
+    ensures spares { CommitsNothing S.Store conn.old conn.new }
 {
-    if conn.is_autocommit() {
-        filing.restart();
-        begin(conn);
+    if !conn.is_autocommit() {
+        return Ok(());
     }
+    filing.restart();
+    begin(conn);
+    take_parts(conn, filing.number, LAST_PARTS)
+}
+
+// Begins a transaction where none is open, and files the next parts.
+fn file_next<S: Alter>(conn: &mut Connection<S>, filing: &mut Filing) -> Result<(), Error>
+    requires drawn { IsDrawnUp filing.old }
+    requires usable { WhileOpen (rested (state S.Store conn.old)) IsUsable }
+    requires underway { IsUnderway S.Store filing.old conn.old }
+    ensures rows { HasSameRows filing.old filing.new }
+    ensures underway { OnOk result (IsUnderway S.Store filing.new conn.new) }
+    ensures inside { HasCleanDisk (state S.Store conn.new) → OnOk result (conn.new.in_transaction ≡ true) }
+    ensures failed { IfErr result (FailsAmong S.Store (AreOfSomePart filing.old) (record conn.old { in_transaction = true }) conn.new) }
+    ensures spares { CommitsNothing S.Store conn.old conn.new }
+{
+    begin_filing(conn, filing)?;
+    next_part(conn, filing)
 }
 
 // Whether another number than this is the one that the next edition gets.
@@ -211,7 +159,7 @@ pub(crate) fn fault_filed(error: Error) -> Option<Fault>
 /// was, it begins one, and files from the start. It answers whether there is more.
 ///
 /// What is committed stays, and so does what a stop may leave. What the connection shows is what is committed and the parts that were
-/// filed, without some of those of the editions that go. At an error the transaction is undone with all that was filed:
+/// filed, in place of such as stood under the number, of no edition. At an error the transaction is undone with all that was filed:
 /// `Memory` tells that a growth was refused, `Disk` that the disk failed. None tells that it can't be filed: another number than the
 /// filing's is the next of the summary, or a statement was refused.
 pub fn file_part<S: Alter>(
@@ -241,8 +189,7 @@ pub fn file_part<S: Alter>(
         conn.is_autocommit();
         return Err(None);
     }
-    begin_filing(conn, filing);
-    if let Err(error) = next_part(conn, filing) {
+    if let Err(error) = file_next(conn, filing) {
         roll_back(conn);
         conn.is_autocommit();
         return Err(fault_filed(error));

@@ -74,10 +74,8 @@ pub fn plan_draft(alloc: Global, summary: &Summary, draft: Draft) -> Option<Read
     let change = decide_read(alloc, summary, name.as_str(), &reader, &came, &text)?;
     let filing = Filing {
         number: change.summary.installs,
-        gone: change.gone,
         index: stored,
         text,
-        parts_taken: 0,
         parts_filed: 0,
     };
     Some(ReadInstall {

@@ -1,6 +1,7 @@
 -- What a desk is behind a commit that changes nothing that is held.
-use Rattle.std.proofs.Common.{◌≡◌, inl, inr, ℕ, Bool, true, false, List, refl, sym, subst, ◌∙◌, arith}
-use Rattle.std.specs.Prelude.{IsTrue, Option, Some, None, Contains, Result, Ok, Err, OnErr, IfErr}
+use Rattle.std.proofs.Common.{◌≡◌, inl, inr, ℕ, ◌≤◌, Bool, true, false, List, [], ◌∷◌, refl, sym, subst, ◌∙◌, arith}
+use Rattle.std.specs.Prelude.{IsTrue, IsPermutation, Option, Some, None, Contains, Result, Ok, Err, OnErr, IfErr}
+use Rattle.std.specs.List.{AllByRecursion}
 use Rattle.std.proofs.lemmas.Bool.{false≢true}
 use Rattle.sqlite.proofs.StateLemmas.{survives_weaker}
 use Rattle.sqlite.specs.Disk.{MoreFaults}
@@ -9,11 +10,15 @@ use Rattle.sqlite.specs.Tree.{Trees}
 use Rattle.sqlite.specs.State.{State, HasCleanDisk, IsLive, KeepsCommit, Survives}
 use Rattle.sqlite.specs.Held.{Held, state}
 use Rattle.sqlite_trees.specs.declared.store.Store.{Ghosts}
+use Rattle.dict_text.proofs.AllLemmas.{all_weaker}
+use Rattle.dict_index.specs.Edition.{Edition}
+use Rattle.dict_catalogue.specs.Items.{Stored, Item, editions_of, edition_numbers}
 use Rattle.dict_catalogue.specs.Steps.{Catalogue}
 use Rattle.dict_catalogue.specs.Tests.{Holdings}
 use Rattle.dict_desk.specs.declared.fault.Fault.{Fault}
 use Rattle.dict_desk.specs.declared.fault.Fault.TheVariants.{Refused, Memory, Disk, Closed as Shut, NotACatalogue, Damaged, NewerSchema}
 use Rattle.store_holdings.specs.Holds.{IsLeft}
+use Rattle.store_holdings.specs.Texts.{text_rows}
 use Rattle.store_holdings.proofs.OneLemmas.{held_known, one_left}
 use Rattle.store_lookup.specs.Texts.{ArePartsOf}
 use Rattle.store_lookup.specs.KeptTexts.{PartNumbers}
@@ -24,6 +29,7 @@ use Rattle.store_commands.specs.Committed.{IsOfStore, StaysCommitted}
 use Rattle.store_commands.specs.KeptRecords.{SparesTablesOfOthers}
 use Rattle.store_commands.specs.Marking.{Remains}
 use Rattle.store_commands.specs.declared.filing.Filing.{Filing}
+use Rattle.store_commands.proofs.AboveLemmas.{above_same}
 use Rattle.store_commands.proofs.WriteLemmas.{others_none}
 use Rattle.store_desk.specs.Causes.{FailsToPrepare}
 use Rattle.store_desk.specs.Desk.{DeskState, HasCommitted, HasFiled, IsAtRest, ServesEdition, Shows, KeepsBeside, LeavesOneOf, StandsFor, is_closed}
@@ -33,12 +39,13 @@ use Rattle.store_desk.specs.declared.last.LastCall.{LastCall}
 use Rattle.store_desk.proofs.BesideLemmas.{beside_by}
 use Rattle.store_desk.proofs.DeskLemmas.{at_rest}
 use Rattle.store_desk.proofs.PreparingLemmas.{parts_behind}
-use Rattle.store_desk.proofs.ServedLemmas.{each_edition}
+use Rattle.store_desk.proofs.IndexedLemmas.{each_both, each_low}
+use Rattle.store_desk.proofs.TextLemmas.{text_carried, texts_stay}
 
 -- ---- a connection
 
 pub remains_itself : (summary : Holdings (List ℕ)) (db : Database) → Remains summary db db
-remains_itself summary db = record { holds = λ M held is. held; texts = λ number text held. held; others = others_none db }
+remains_itself summary db = record { holds = λ M held is. held; texts = above_same summary.installs (edition_numbers summary.items) db db refl; others = others_none db }
 
 -- what was committed is so still
 pub remains_still : (summary : Holdings (List ℕ)) (old new : State) → StaysCommitted old new → IsTrue new.is_open → Remains summary old.committed new.committed
@@ -52,6 +59,17 @@ resting_by g last summary filing h fine rest none = λ clean live.
     (it.0, record { is_open = live; settled = rest.settled fine clean live none; holds = it.1 }, it.2)
 
 -- ---- a desk
+
+-- what holds of each where something is so
+all_where : {X : Type 0} (A : Type 0) (P : X → Type 0) (xs : List X) → (A → AllByRecursion P xs) → AllByRecursion (λ x. A → P x) xs
+all_where A P [] h = tt
+all_where A P (x ∷ xs) h = ((λ a. (h a).0), all_where A P xs (λ a. (h a).1))
+
+each_where : (A : Type 0) (P : Stored Edition → Type 0) (items : List (Item Edition)) → (A → AllByRecursion (λ item. AllByRecursion P (editions_of item)) items)
+    → AllByRecursion (λ item. AllByRecursion (λ stored. A → P stored) (editions_of item)) items
+each_where A P items h =
+    all_weaker (λ (item : Item Edition). A → AllByRecursion P (editions_of item)) (λ item. AllByRecursion (λ stored. A → P stored) (editions_of item)) (λ item p. all_where A P (editions_of item) p) items
+    (all_where A (λ item. AllByRecursion P (editions_of item)) items h)
 
 -- what a stop may leave of such a commit
 abbrev pub CommitsSame : {S : Type 0} → Ghosts S → Holdings (List ℕ) → Held S → Trees → Type 0
@@ -82,17 +100,24 @@ module _ {S : Type 0} (g : Ghosts S) (old new : Held S) (summary : Holdings (Lis
     summary = shown.summary;
     well_formed = shown.well_formed;
     holds = λ open' clean live. (remains clean live).holds M (shown.holds fine (copied_first clean) (lives clean live)) (sym shown.summary);
-    served = λ clean. each_edition (ServesEdition g (record { conn = old; summary = summary; last = before; indexes = indexes; texts = kept; taken = taken }))
+    served = λ clean.
+        let TextStays : Stored Edition → Type 0 = λ stored. stored.number ≤ summary.installs → IsPermutation (text_rows stored.number (state g old).committed) (text_rows stored.number (state g new).committed) in
+        let WhileOpen : Stored Edition → Type 0 = λ stored. IsTrue (state g new).is_open → TextStays stored in
+        let Low : Stored Edition → Type 0 = λ stored. stored.number ≤ M.installs in
+        let stay = each_where (IsTrue (state g new).is_open) TextStays M.items
+        (λ live. texts_stay M summary (sym shown.summary) summary.installs (state g old).committed (state g new).committed (remains clean live).texts) in
+        each_both (ServesEdition g (record { conn = old; summary = summary; last = before; indexes = indexes; texts = kept; taken = taken })) (λ stored. WhileOpen stored × Low stored)
         (ServesEdition g (record { conn = new; summary = summary; last = after; indexes = indexes; texts = texts; taken = taken }))
-        (λ stored one. record {
+        (λ stored one both. record {
           index = one.index;
           stands = one.stands;
           text = one.text;
           cuts = one.cuts;
           kept = subst (ArePartsOf stored.number one.text) (sym is) (parts_behind result stored.number one.text kept one.kept);
-          held = λ open' live. (remains clean live).texts stored.number one.text (one.held fine (lives clean live));
+          held = λ open' live. text_carried (state g old).committed (state g new).committed stored.number one.text
+              (both.0 live (subst (λ (s : Holdings (List ℕ)). stored.number ≤ s.installs) (sym shown.summary) both.1)) (one.held fine (lives clean live));
         })
-        M.items (shown.served (copied_first clean));
+        M.items (shown.served (copied_first clean)) (each_both WhileOpen Low (λ stored. WhileOpen stored × Low stored) (λ stored a b. (a, b)) M.items stay (each_low M shown.well_formed));
   }
 
 -- the texts that are kept

@@ -26,7 +26,7 @@ use Rattle.store_lookup.specs.Searches.{HoldsOne, IsEditionReadable}
 use Rattle.store_lookup.proofs.RowLemmas.{column_behind, filter_map}
 use Rattle.sqlite_trees.proofs.ListLemmas.{IsPermutation-filter}
 use Rattle.store_commands.specs.KeptRecords.{HasRecords, IsUsable, HoldsReplies}
-use Rattle.store_commands.specs.Filing.{IsAhead, KeepsEdition}
+use Rattle.store_commands.specs.Filing.{IsAhead, KeepsEdition, filed_by}
 use Rattle.store_commands.specs.declared.filing.Filing.{Filing}
 use Rattle.store_commands.proofs.TableLemmas.{editions_kept, kept_kept, parts_kept}
 use Rattle.store_desk.proofs.TextLemmas.{text_carried}
@@ -62,7 +62,7 @@ text_among number db =
     filter_map (drop 1) (equals_number 2 (pos 1)) text_test (λ row. ap (λ v. same_value v (Int (pos 1))) (sym (column_behind row 1 (drop 1 row) refl))) (filter (equals_number 1 (pos number)) rows)
     ∙ ap (map (drop 1)) (filter_filter (equals_number 2 (pos 1)) (equals_number 1 (pos number)) (is_of_file (pos number) (pos 1)) (λ row. refl) rows)
 
--- ---- an edition that neither goes nor comes
+-- ---- an edition other than the one that comes
 
 module _ (number : ℕ) (committed now : Database) (keeps : KeepsEdition number committed now) where
   pub one_still : (reading : ReadEdition) → HoldsOne committed number reading → HoldsOne now number reading
@@ -102,19 +102,17 @@ module _ (number : ℕ) (committed now : Database) (keeps : KeepsEdition number 
 
 module _ (filing : Filing) (committed now : Database) (M : Catalogue) (holds : Holds known committed M) (ahead : IsAhead filing committed now) where
   abbrev all_committed : AllTables
-  all_committed = with_derived holds.tables
+  all_committed = with_derived holds.orphans holds.tables
 
   before : HasRecords committed all_committed
   before = record { own = holds.own; keeps = holds.keeps }
 
   pub layout_still : HasLayout (layout_of known) now.schema
-  layout_still = (ahead all_committed before).1.own
+  layout_still = (ahead all_committed before).0.own
 
   pub replies_still : HoldsReplies now M.kept
   replies_still =
-      let it = ahead all_committed before in
-      let same : it.0.kept ≡ all_committed.kept = ap (λ (t : AllTables). t.kept) it.2 in
       record {
-        keeps = subst (λ l. Keeps (codes "kept") kept_row now l) (same ∙ holds.stands.kept) (kept_kept now it.0 it.1);
+        keeps = subst (λ l. Keeps (codes "kept") kept_row now l) holds.stands.kept (kept_kept now (filed_by filing all_committed) (ahead all_committed before).0);
         once = holds.stands.well_formed.ids;
       }

@@ -1,7 +1,6 @@
 -- What is seen of editions beside what is prepared, and what a desk is behind that.
-use Rattle.std.proofs.Common.{◌≡◌, ◌≢◌, inl, inr, ℕ, ◌||◌, Bool, true, false, List, [], ◌∷◌, refl, sym, subst, ◌∙◌}
-use Rattle.std.specs.Prelude.{pos, IsTrue, Option, Some, None}
-use Rattle.std.specs.List.{AllByRecursion}
+use Rattle.std.proofs.Common.{◌≡◌, ◌≢◌, inl, inr, ℕ, Bool, true, false, List, refl, sym, subst, ◌∙◌}
+use Rattle.std.specs.Prelude.{IsTrue, Option, Some, None}
 use Rattle.std.proofs.lemmas.Bool.{false≢true}
 use Rattle.sqlite.specs.Effect.{Database}
 use Rattle.sqlite.specs.State.{HasCleanDisk}
@@ -9,10 +8,7 @@ use Rattle.sqlite.specs.Held.{Held, state}
 use Rattle.sqlite_trees.specs.declared.store.Store.{Ghosts}
 use Rattle.dict_catalogue.specs.Steps.{Catalogue}
 use Rattle.dict_catalogue.specs.Tests.{Holdings}
-use Rattle.store_rows.specs.After.{is_gone}
-use Rattle.store_rows.specs.Tables.{same_number}
 use Rattle.store_rows.specs.Versions.{known, layout_of}
-use Rattle.store_rows.proofs.TakenLemmas.{nat_same}
 use Rattle.store_holdings.specs.AllTables.{with_derived}
 use Rattle.store_holdings.specs.Holds.{HasLayout, Holds}
 use Rattle.store_sql.specs.Effects.{Has}
@@ -28,17 +24,8 @@ use Rattle.store_desk.specs.Prepared.{IsAlike, IsApart}
 use Rattle.store_desk.specs.declared.last.LastCall.{LastCall}
 use Rattle.store_desk.proofs.FiledLemmas.{one_still, readable_still, replies_still, text_still}
 
--- none of the numbers is this one
-stays_by : (number one : ℕ) (gone : List ℕ) (b : Bool) → same_number (pos one) (pos number) ≡ b → one ≢ number → is_gone gone (pos number) ≡ false → (b || is_gone gone (pos number)) ≡ false
-stays_by number one gone true same other rest = absurd (other (nat_same one number same))
-stays_by number one gone false same other rest = rest
-
-pub stays : (number : ℕ) (gone : List ℕ) → AllByRecursion (λ one. one ≢ number) gone → is_gone gone (pos number) ≡ false
-stays number [] others = refl
-stays number (one ∷ gone) others = stays_by number one gone (same_number (pos one) (pos number)) refl others.0 (stays number gone others.1)
-
 pub usable : (committed : Database) (M : Catalogue) → Holds known committed M → IsUsable committed
-usable committed M holds = (with_derived holds.tables, record { own = holds.own; keeps = holds.keeps })
+usable committed M holds = (with_derived holds.orphans holds.tables, record { own = holds.own; keeps = holds.keeps })
 
 -- the table of the replies is there
 pub kept_there : (db : Database) → HasLayout (layout_of known) db.schema → Has kept db
@@ -53,11 +40,11 @@ same_alike number committed now same = record {
 }
 
 module _ (law : (f : Filing) (committed now : Database) → IsUsable committed → IsAhead f committed now → ShowsStill f committed now) where
-  still_alike : (f : Filing) (committed now : Database) (M : Catalogue) → Holds known committed M → IsAhead f committed now → (number : ℕ) → AllByRecursion (λ one. one ≢ number) f.gone.items × (f.number ≢ number)
-      → AllByRecursion (λ one. one ≢ number_in_column number) f.gone.items × (f.number ≢ number_in_column number) → IsAlike number committed now
+  still_alike : (f : Filing) (committed now : Database) (M : Catalogue) → Holds known committed M → IsAhead f committed now → (number : ℕ) → f.number ≢ number
+      → f.number ≢ number_in_column number → IsAlike number committed now
   still_alike f committed now M holds ahead number apart as_column =
       let still = law f committed now (usable committed M holds) ahead in
-      let keeps : (n : ℕ) → AllByRecursion (λ one. one ≢ n) f.gone.items × (f.number ≢ n) → KeepsEdition n committed now = λ n others. still.editions n (stays n f.gone.items others.0) (λ same. others.1 (sym same)) in
+      let keeps : (n : ℕ) → f.number ≢ n → KeepsEdition n committed now = λ n other. still.editions n (λ same. other (sym same)) in
       record {
         one = one_still number committed now (keeps number apart);
         text = text_still number committed now (keeps number apart);
@@ -72,7 +59,7 @@ module _ (law : (f : Filing) (committed now : Database) → IsUsable committed �
       settled : h.in_transaction ≡ false → IsAlike number (state g h).committed (state g h).now
       settled none = same_alike number (state g h).committed (state g h).now (rest.settled fine clean live none)
 
-      inside_by : (f : Filing) → HasFiled g (Some f) h → AllByRecursion (λ one. one ≢ number) f.gone.items × (f.number ≢ number) → AllByRecursion (λ one. one ≢ number_in_column number) f.gone.items × (f.number ≢ number_in_column number)
+      inside_by : (f : Filing) → HasFiled g (Some f) h → f.number ≢ number → f.number ≢ number_in_column number
           → (b : Bool) → h.in_transaction ≡ b → IsAlike number (state g h).committed (state g h).now
       inside_by f some here there false none = settled none
       inside_by f some here there true inside =

@@ -109,8 +109,7 @@ module _ {S : Type 0} (g : Ghosts S) where
   ServesEditions desk M = AllByRecursion (λ item. AllByRecursion (ServesEdition desk) (editions_of item)) M.items
 
   -- The catalogue is shown: the summary is its, lookups are answered by its editions, and while the desk isn't closed and the store is
-  -- open, the database holds it, as it was committed. While a change is prepared, the connection sees more rows than these, and fewer of editions that are to go: none of them
-  -- is shown, and none is committed.
+  -- open, the database holds it, as it was committed. While a change is prepared, the connection sees more rows than these: none of them is shown, and none is committed.
   pub record Shows (desk : DeskState S) (M : Catalogue) : Type 0 where
     pub summary : desk.summary ≡ summary_of M
     pub well_formed : IsWellFormed M

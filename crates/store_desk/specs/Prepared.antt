@@ -1,6 +1,5 @@
 -- What is seen beside what is prepared of a change, and how that is undone.
 use Rattle.std.specs.Prelude.{◌≡◌, ◌≢◌, ◌⊎◌, ℕ, false, IsTrue, List, Option, Some, None, Result, Ok, Err}
-use Rattle.std.specs.List.{AllByRecursion}
 use Rattle.sqlite.specs.Effect.{Database}
 use Rattle.sqlite.specs.Held.{Held, state}
 use Rattle.sqlite.specs.State.{State, IsRolledBack, Survives}
@@ -34,10 +33,10 @@ pub record Continues (old new : State) : Type 0 where
   pub committed : IsTrue new.is_open → new.committed ≡ old.committed
   pub now : IsTrue new.is_open → ((new.now ≡ old.now) × (new.in_transaction ≡ old.in_transaction)) ⊎ ((new.now ≡ old.committed) × (new.in_transaction ≡ false))
 
--- no transaction is open, or what is filed in it has nothing of the edition of this number
+-- no transaction is open, or what is filed in it is of another number than this one
 abbrev pub IsApart : {S : Type 0} → Option Filing → ℕ → Held S → Type 0
 IsApart None number h = h.in_transaction ≡ false
-IsApart (Some filing) number h = (h.in_transaction ≡ false) ⊎ (AllByRecursion (λ one. one ≢ number) filing.gone.items × (filing.number ≢ number))
+IsApart (Some filing) number h = (h.in_transaction ≡ false) ⊎ (filing.number ≢ number)
 
 -- what was prepared is prepared still; or it is let go of, where no transaction is open
 abbrev pub LetsGo : {S : Type 0} → Held S → Option Filing → Option Filing → Type 0
@@ -48,9 +47,9 @@ module _ {S : Type 0} (g : Ghosts S) where
   abbrev pub Undoes : Held S → Held S → Type 0
   Undoes old new = (new ≡ old) ⊎ (IsTrue old.in_transaction × IsRolledBack (state g old) (state g new) × Survives (state g old) (state g new) (λ _. ⊥))
 
-  -- The log was copied, by a commit behind which all that was held is held; of the desk the connection alone is another. No transaction
-  -- was open, nor is one.
-  pub record HasCopied (old new : DeskState S) : Type 0 where
+  -- The log was copied, or parts of no edition were taken out, by a commit behind which all that was held is held; of the desk the
+  -- connection alone is another. No transaction was open, nor is one.
+  pub record HasCommittedSame (old new : DeskState S) : Type 0 where
     pub before : old.conn.in_transaction ≡ false
     pub ended : new.conn.in_transaction ≡ false
     pub same : new ≡ record old { conn = new.conn }

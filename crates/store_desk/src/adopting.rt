@@ -59,9 +59,12 @@ pub(crate) fn is_whole<S: Alter>(conn: &Connection<S>)
     let _schema = conn.schema();
 }
 
-// Reads a database whole: the version of its tables, the summary of the catalogue that it holds, and the indexes of its editions. Nothing
-// is written.
-fn read<S: Alter>(alloc: Global, conn: &mut Connection<S>) -> Result<(u64, Summary, Indexes), Fault>
+// Reads a database whole: the version of its tables, the summary of the catalogue that it holds, the indexes of its editions, and the numbers
+// under which there are parts of no edition. Nothing is written.
+fn read<S: Alter>(
+    alloc: Global,
+    conn: &mut Connection<S>,
+) -> Result<(u64, Summary, Indexes, Vec<u64>), Fault>
     requires { conn.old.in_transaction ≡ false }
     ensures rests { HasCleanDisk (state S.Store conn.new) → IfOk result (λ found. (M : Catalogue) × Rests found.0 (state S.Store conn.new) M × (summary_of M ≡ summary_shown found.1) × IsHeldIndexed found.0 (state S.Store conn.new).committed M found.2) }
     ensures version { IfOk result (λ found. IsVersion found.0) }
@@ -117,12 +120,12 @@ fn renew<S: Alter>(
     }
 }
 
-// Reads a database whole, whose tables are those of the known version then: the summary of the catalogue that it holds, and the indexes of
-// its editions.
+// Reads a database whole, whose tables are those of the known version then: the summary of the catalogue that it holds, the indexes of its
+// editions, and the numbers under which there are parts of none.
 fn read_renewed<S: Alter>(
     alloc: Global,
     conn: &mut Connection<S>,
-) -> Result<(Summary, Indexes), Fault>
+) -> Result<(Summary, Indexes, Vec<u64>), Fault>
     requires { conn.old.in_transaction ≡ false }
     ensures rests { HasCleanDisk (state S.Store conn.new) → IfOk result (λ found. (M : Catalogue) × Rests known (state S.Store conn.new) M × (summary_of M ≡ summary_shown found.0) × AreHeldCut (state S.Store conn.new).committed M found.1) }
     ensures every { HasCleanDisk (state S.Store conn.new) → IfOk result (λ found. (M : Catalogue) → IsHeld (state S.Store conn.old).committed M → Rests known (state S.Store conn.new) M × (summary_of M ≡ summary_shown found.0) × AreHeldCut (state S.Store conn.new).committed M found.1) }
@@ -142,9 +145,9 @@ fn read_renewed<S: Alter>(
     ensures crash { Survives (state S.Store conn.old) (state S.Store conn.new) (MayMigrate (state S.Store conn.old)) }
 {
     one_is_held();
-    let (version, summary, indexes) = read(alloc, conn)?;
+    let (version, summary, indexes, orphans) = read(alloc, conn)?;
     renew(alloc, conn, version, &summary)?;
-    Ok((summary, indexes))
+    Ok((summary, indexes, orphans))
 }
 
 // Reads a database whole whose tables are those of the known version. Nothing is written.
@@ -164,7 +167,7 @@ fn read_again<S: Alter>(alloc: Global, conn: &mut Connection<S>) -> Result<(), F
 {
     one_is_held();
     match read(alloc, conn) {
-        Ok((version, _, _)) => {
+        Ok((version, _, _, _)) => {
             if version == KNOWN_VERSION {
                 Ok(())
             } else {
@@ -237,9 +240,9 @@ impl<S: Alter + Drop> Desk<S> {
         is_whole(&conn);
         conn.set_step_limit(None);
         match read_renewed(alloc, &mut conn) {
-            Ok((summary, indexes)) => {
+            Ok((summary, indexes, orphans)) => {
                 is_whole(&conn);
-                Ok(Desk::over(alloc, conn, summary, indexes))
+                Ok(Desk::over(alloc, conn, summary, indexes, orphans))
             }
             Err(fault) => Err((conn, fault)),
         }

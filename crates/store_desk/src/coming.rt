@@ -1,6 +1,5 @@
 // An edition that may come: it is read, filed, and its index is made.
 ghost use Rattle.std.specs.Prelude.{◌≡◌, ◌≢◌, ◌+◌, ℕ, true, false, IsTrue, IfErr, IfNone, IfOk, IfSome, OnErr, OnOk, Some, map};
-ghost use Rattle.std.specs.List.{AllByRecursion};
 ghost use Rattle.sqlite.specs.Disk.{MoreFaults};
 ghost use Rattle.sqlite.specs.State.{HasCleanDisk, KeepsCommit, Survives};
 ghost use Rattle.sqlite.specs.Held.{state};
@@ -103,10 +102,9 @@ impl Coming {
         make_part(&self.install, &mut self.index)
     }
 
-    /// Whether the edition of this number has nothing to do with it.
+    /// Whether the edition that it installs gets another number than this one.
     pub(crate) fn spares(&self, number: u64) -> bool
-        ensures gone { IsTrue result → AllByRecursion (λ one. one ≢ number) self.now.gone.items }
-        ensures number { IsTrue result → self.now.number ≢ number }
+        ensures { IsTrue result → self.now.number ≢ number }
     {
         self.install.filing.spares(number)
     }

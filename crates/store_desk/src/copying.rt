@@ -13,7 +13,7 @@ ghost use Rattle.store_commands.specs.Marking.{Remains};
 ghost use Rattle.dict_desk.specs.Faults.{has_closed_by, has_failed_by};
 ghost use Rattle.store_desk.specs.Causes.{FailsToPrepare};
 ghost use Rattle.store_desk.specs.Desk.{KeepsBeside, LeavesOneOf, Shows, has_failed, is_closed};
-ghost use Rattle.store_desk.specs.Prepared.{HasCopied};
+ghost use Rattle.store_desk.specs.Prepared.{HasCommittedSame};
 
 use crate::adopting::is_whole;
 use crate::desk::Desk;
@@ -83,7 +83,7 @@ impl<S: Alter + Drop> Desk<S> {
     pub(crate) fn copy_log(&mut self) -> Result<bool, Fault>
         requires open { is_closed self.old.last ≡ false }
         requires none { self.old.conn.in_transaction ≡ false }
-        ensures copied { HasCleanDisk (state S.Store self.new.conn) → result ≡ Ok true → HasCopied S.Store self.old self.new }
+        ensures committed { HasCleanDisk (state S.Store self.new.conn) → result ≡ Ok true → HasCommittedSame S.Store self.old self.new }
         ensures trust { HasCleanDisk (state S.Store self.new.conn) → HasCleanDisk (state S.Store self.old.conn) }
         ensures shows { HasCleanDisk (state S.Store self.new.conn) → (M : Catalogue) → Shows S.Store self.old M → Shows S.Store self.new M }
         ensures leaves { (ms : List (Option Catalogue)) → LeavesOneOf S.Store self.old ms → LeavesOneOf S.Store self.new ms }

@@ -57,6 +57,8 @@ pub struct Desk<S: Alter + Drop> {
     pub(crate) begins: u8,
     // Whether an install may have left a long log. Nothing rests on it.
     pub(crate) is_log_long: bool,
+    // The numbers under which there may be parts of no edition. Nothing rests on it.
+    pub(crate) orphans: Vec<u64>,
 }
 
 // It is written out, so that what owns one doesn't prove again how each part is dropped.
@@ -74,6 +76,7 @@ impl<S: Alter + Drop> Drop for Desk<S> {
             filing: _,
             begins: _,
             is_log_long: _,
+            orphans: _,
         } = self;
     }
 }
@@ -95,12 +98,14 @@ impl<S: Alter + Drop> Model for Desk<S> {
 }
 
 impl<S: Alter + Drop> Desk<S> {
-    // The desk over a database at rest that holds a catalogue of this summary, of whose editions these are the indexes.
+    // The desk over a database at rest that holds a catalogue of this summary, of whose editions these are the indexes. Under the numbers of
+    // `orphans` there may be parts of no edition.
     pub(crate) fn over(
         alloc: Global,
         conn: Connection<S>,
         summary: Summary,
         indexes: Indexes,
+        orphans: Vec<u64>,
     ) -> Desk<S>
         requires autocommit { conn.in_transaction ≡ false }
         requires limit { conn.step_limit ≡ None }
@@ -121,6 +126,7 @@ impl<S: Alter + Drop> Desk<S> {
             filing: None,
             begins: 0,
             is_log_long: false,
+            orphans,
         }
     }
 
@@ -155,7 +161,13 @@ impl<S: Alter + Drop> Desk<S> {
         let mut conn = conn;
         conn.set_step_limit(None);
         match create(&mut conn) {
-            Ok(()) => Ok(Desk::over(alloc, conn, Summary::new(alloc), Indexes::new(alloc))),
+            Ok(()) => Ok(Desk::over(
+                alloc,
+                conn,
+                Summary::new(alloc),
+                Indexes::new(alloc),
+                Vec::new(alloc),
+            )),
             Err(fault) => Err((conn, fault)),
         }
     }
@@ -200,6 +212,7 @@ impl<S: Alter + Drop> Desk<S> {
             filing: _,
             begins: _,
             is_log_long: _,
+            orphans: _,
         } = self;
         conn
     }

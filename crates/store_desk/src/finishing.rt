@@ -28,6 +28,7 @@ use crate::keeper::take_over;
 use crate::kept::forget_by;
 use crate::last::last_by;
 use crate::laws::committed_may_stay;
+use crate::tidying::note_gone;
 use crate::withdrawing::let_go_when_ended;
 use dict_catalogue::{Kept, Summary};
 use dict_desk::Fault;
@@ -130,6 +131,7 @@ impl<S: Alter + Drop> Desk<S> {
         self.is_log_long = is_long_behind(self.is_log_long, octets, &outcome);
         let_go_when_ended(&self.conn, &mut self.filing);
         settle(&mut self.indexes, &self.summary.items, number, &outcome);
+        note_gone(self.alloc, &mut self.orphans, &self.summary.items, &outcome);
         Some(take_over(&mut self.summary, outcome))
     }
 }

@@ -16,6 +16,7 @@ use crate::indexing::{put_coming, settle};
 use crate::kept::forget_by;
 use crate::last::{LastCall, last_by};
 use crate::laws::committed_may_stay;
+use crate::tidying::note_gone;
 use crate::withdrawing::{Withdrawn, let_go_when_ended};
 use dict_catalogue::{Command, Kept, Summary};
 use dict_desk::{Fault, Keeper};
@@ -100,6 +101,7 @@ impl<S: Alter + Drop> Keeper for Desk<S> {
         drop(self.draft.take());
         let_go_when_ended(&self.conn, &mut self.filing);
         settle(&mut self.indexes, &self.summary.items, number, &outcome);
+        note_gone(self.alloc, &mut self.orphans, &self.summary.items, &outcome);
         take_over(&mut self.summary, outcome)
     }
 }

@@ -18,6 +18,7 @@ mod preparing;
 mod promise;
 mod reopening;
 mod session;
+mod tidying;
 mod withdrawing;
 
 pub use desk::Desk;

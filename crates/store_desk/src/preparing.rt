@@ -14,7 +14,7 @@ ghost use Rattle.store_commands.specs.KeptRecords.{IsUsable};
 ghost use Rattle.dict_desk.specs.Faults.{has_closed_by, has_failed_by};
 ghost use Rattle.store_desk.specs.Causes.{FailsToPrepare};
 ghost use Rattle.store_desk.specs.Desk.{HasFiled, KeepsBeside, LeavesOneOf, Shows, has_failed, is_closed};
-ghost use Rattle.store_desk.specs.Prepared.{HasCopied, LetsGo, last_behind};
+ghost use Rattle.store_desk.specs.Prepared.{HasCommittedSame, LetsGo, last_behind};
 
 use crate::coming::Coming;
 use crate::desk::Desk;
@@ -238,15 +238,17 @@ impl<S: Alter + Drop> Desk<S> {
 }
 
 /// An install is noted by its files: they are copied, and read in slices before any of it is filed. A filing is at most begun three times: a
-/// lookup that is refused memory undoes it. What is filed is let go of where another command, a lookup in the text of an edition that goes
-/// or comes, or a call that hands the connection out comes first.
+/// lookup that is refused memory undoes it. What is filed is let go of where another command, a lookup in the text of the edition that
+/// comes, or a call that hands the connection out comes first. Before it is filed, what earlier commands left is tidied up: parts of no edition
+/// are taken out.
 impl<S: Alter + Drop> Preparer for Desk<S> {
     // It failed, or what was prepared before is let go of: no transaction is open.
     ghost expects = { λ _ _ desk. (has_failed desk.last ≡ true) ⊎ (desk.conn.in_transaction ≡ false) };
 
     // Where there is more to prepare, a transaction is open, in which rows of it are filed; or the files are being read, and all that is
-    // seen of the desk is as it was; or what an install left in the log was copied, by a commit that changes nothing that is held.
-    ghost prepares = { λ old result desk. HasCleanDisk (state S.Store desk.conn) → result ≡ Ok true → (desk.conn.in_transaction ≡ true) ⊎ ((desk ≡ old) ⊎ HasCopied S.Store old desk) };
+    // seen of the desk is as it was; or what an install left in the log was copied, or parts of no edition were taken out, by a commit that
+    // changes nothing that is held.
+    ghost prepares = { λ old result desk. HasCleanDisk (state S.Store desk.conn) → result ≡ Ok true → (desk.conn.in_transaction ≡ true) ⊎ ((desk ≡ old) ⊎ HasCommittedSame S.Store old desk) };
 
     ghost fails_to_prepare = { FailsToPrepare S.Store };
 
@@ -277,6 +279,9 @@ impl<S: Alter + Drop> Preparer for Desk<S> {
         }
         if self.may_copy() {
             return self.copy_log();
+        }
+        if self.may_tidy() {
+            return self.take_orphans_next();
         }
         self.prepare_part()
     }

@@ -44,7 +44,7 @@ fn column_of(number: u64) -> u64
     number
 }
 
-// Whether no transaction is open, or what is filed in it has nothing of the edition of this number.
+// Whether no transaction is open, or what is filed in it is of another number than this one.
 fn is_apart<S: Alter>(conn: &Connection<S>, filing: &Option<Coming>, number: u64) -> bool
     ensures { IsTrue result → IsApart filing.now number conn.now }
 {
@@ -131,7 +131,7 @@ impl<S: Alter + Drop> Desk<S> {
         Err(Fault::Disk)
     }
 
-    // Readies the desk for a lookup in the edition of a number: where that edition goes or comes by what is prepared, this is undone, as
+    // Readies the desk for a lookup in the edition of a number: where what is prepared is of an edition that gets this number, it is undone, as
     // `withdraw` does.
     pub(crate) fn make_ready(&mut self, number: u64) -> Result<(), Fault>
         ensures open { OnOk result (is_closed self.old.last ≡ false) }

@@ -15,10 +15,10 @@ use Rattle.store_rows.specs.Stored.{stored_index}
 use Rattle.store_rows.specs.Stands.{Stands}
 use Rattle.store_rows.specs.Tables.{Tables, same_number, entries_of, editions_numbered}
 use Rattle.store_rows.specs.Written.{numbered, edition_record, entry_record}
-use Rattle.store_rows.specs.After.{TableChange, Installed, IsTableChange, is_gone, installed_entries, installed_editions, tables_after}
+use Rattle.store_rows.specs.After.{TableChange, Installed, IsTableChange, is_gone, installed_entries, installed_editions}
 use Rattle.store_rows.proofs.ChangeLemmas.{IsFit, IsFree, fit_of, free_of}
 use Rattle.store_rows.proofs.TakenLemmas.{same_number_is, same_itself}
-use Rattle.store_holdings.specs.AllTables.{with_derived, all_after, HasNoneOf, HasNewNumber}
+use Rattle.store_holdings.specs.AllTables.{HasNoneOf, HasNewNumber}
 use Rattle.store_holdings.specs.Files.{part_at, file_parts, parts_under, edition_parts, all_parts, index_octets, entry_line, installed_parts}
 
 -- ---- what passes a test, and what is made of it
@@ -47,7 +47,7 @@ pub of_numbered : (test : ℤ → Bool) (edition file : ℤ) (n : ℕ) (os : Lis
 of_numbered test edition file n [] = tt
 of_numbered test edition file n (o ∷ os) = (refl, of_numbered test edition file (n + 1) os)
 
-of_under : (test : ℤ → Bool) (edition : ℤ) (index text : List ℕ) → AllByRecursion (λ (p : Part). test p.edition ≡ test edition) (parts_under edition index text)
+pub of_under : (test : ℤ → Bool) (edition : ℤ) (index text : List ℕ) → AllByRecursion (λ (p : Part). test p.edition ≡ test edition) (parts_under edition index text)
 of_under test edition index text =
     all_append (λ (p : Part). test p.edition ≡ test edition) (file_parts edition (pos 0) index) (file_parts edition (pos 1) text)
     (of_numbered test edition (pos 0) 0 (parts_of index)) (of_numbered test edition (pos 1) 0 (parts_of text))
@@ -121,7 +121,7 @@ staying : (gone : List ℕ) (ed : Option Installed) (t : Tables) (e : EditionRec
     → edition_parts (filter (λ (r : EntryRecord). not (is_gone gone r.edition)) t.entries ++ installed_entries ed) e ≡ edition_parts t.entries e
 staying gone ed t e stay none = ap (λ l. parts_under e.number (index_octets l) e.body) (kept_entries gone e.number stay (installed_entries ed) none t.entries)
 
-parts_after : (gone : List ℕ) (ed : Option Installed) (t : Tables) → HasNewNumber ed t
+pub parts_after : (gone : List ℕ) (ed : Option Installed) (t : Tables) → HasNewNumber ed t
     → flat_map (edition_parts (filter (λ (r : EntryRecord). not (is_gone gone r.edition)) t.entries ++ installed_entries ed)) (filter (λ (r : EditionRecord). not (is_gone gone r.number)) t.editions ++ installed_editions ed)
     ≡ filter (λ (p : Part). not (is_gone gone p.edition)) (all_parts t) ++ installed_parts ed
 parts_after gone ed t new = whole ed new
@@ -165,11 +165,6 @@ parts_after gone ed t new = whole ed new
         swapped (edition_parts t.entries) (those (Some one)) (λ (r : EditionRecord). not (is_gone gone r.number)) t.editions (installed_editions (Some one)) (each (Some one) t.editions (fresh one t.editions h.0))
         ∙ ap (λ l. l ++ flat_map (those (Some one)) (installed_editions (Some one))) filtered
         ∙ ap (λ l. filter (λ (p : Part). not (is_gone gone p.edition)) (all_parts t) ++ l) (append-nil (those (Some one) (edition_record one.owner one.number one.reading)) ∙ coming one h)
-
-pub after_is : (version : ℕ) (change : TableChange) (old : Tables) → HasNewNumber change.edition old → with_derived (tables_after version change old) ≡ all_after version change (with_derived old)
-after_is version change old new =
-    let parts = parts_after change.gone change.edition old new in
-    λ i. record (with_derived (tables_after version change old)) { parts = parts i }
 
 -- the number of an edition that a command installs is new
 new_number : (number : ℕ) (edition : Option Installed) (old : Tables) → IsFit number edition → IsFree number old → HasNewNumber edition old

@@ -3,6 +3,7 @@ pub mod FilePlaceLemmas
 pub mod VersionLemmas
 pub mod MoreLemmas
 pub mod RiseLemmas
+pub mod OrphanLemmas
 pub mod TellLemmas
 pub mod WorkedLemmas
 pub mod ReadingLemmas

@@ -1,5 +1,5 @@
 -- A database holds one catalogue at most, and under one version.
-use Rattle.std.proofs.Common.{◌≡◌, ℕ, ℤ, pos, List, [], ◌∷◌, map, drop, codes, Option, Some, None, refl, sym, ap, subst, ◌∙◌, arith}
+use Rattle.std.proofs.Common.{◌≡◌, ℕ, ℤ, pos, List, [], ◌∷◌, ◌++◌, map, drop, codes, Option, Some, None, refl, sym, ap, subst, ◌∙◌, arith}
 use Rattle.std.specs.List.{AllByRecursion}
 use Rattle.std.specs.List.Sorted.{IsPermutation}
 use Rattle.std.proofs.lemmas.List.Sorted.{IsPermutation-map, IsPermutation-sym, IsPermutation-trans}
@@ -150,14 +150,14 @@ both encode decode undo xs ys rows a b =
 
 -- ---- the same records
 
-module _ (db : Database) (T U : Tables) where
+module _ (db : Database) (o p : List spec.Part) (T U : Tables) where
   -- entries whose headwords are shown, by rows without what is shown
   old_kept : (rows : List Row) → AllByRecursion spec.ShowsHeadword T.entries → AllByRecursion spec.ShowsHeadword U.entries
       → IsPermutation (map entry_row T.entries) rows → IsPermutation (map entry_row U.entries) rows → IsPermutation T.entries U.entries
   old_kept rows t u a b = both_where spec.ShowsHeadword entry_row decode_entry entry_back T.entries U.entries rows t u a b
 
   -- the records of a layout in which these are those of editions and entries
-  same_kept : (layout : Layout) → IsPermutation T.editions U.editions → IsPermutation T.entries U.entries → KeepsAll layout db (with_derived T) → KeepsAll layout db (with_derived U) → HaveSame T U
+  same_kept : (layout : Layout) → IsPermutation T.editions U.editions → IsPermutation T.entries U.entries → KeepsAll layout db (with_derived o T) → KeepsAll layout db (with_derived p U) → HaveSame T U
   same_kept layout editions entries a b = record {
     marks = both mark_row decode_mark mark_back T.marks U.marks _ a.0.rows b.0.rows;
     items = both item_row decode_item item_back T.items U.items _ a.1.0.rows b.1.0.rows;
@@ -167,7 +167,7 @@ module _ (db : Database) (T U : Tables) where
     kept = both kept_row decode_kept kept_back T.kept U.kept _ a.1.1.1.0.rows b.1.1.1.0.rows;
   }
 
-  same_files : KeepsAll Parted db (with_derived T) → KeepsAll Parted db (with_derived U) → HaveSameFiles T U
+  same_files : KeepsAll Parted db (with_derived o T) → KeepsAll Parted db (with_derived p U) → HaveSameFiles o p T U
   same_files a b = record {
     marks = both mark_row decode_mark mark_back T.marks U.marks _ a.0.rows b.0.rows;
     items = both item_row decode_item item_back T.items U.items _ a.1.0.rows b.1.0.rows;
@@ -175,7 +175,7 @@ module _ (db : Database) (T U : Tables) where
     headers = (let rows = map (λ row. drop 1 row) (rows_of (codes "edition") db) in
         both header_row decode_header header_back (map spec.header_of T.editions) (map spec.header_of U.editions) rows
         (subst (λ l. IsPermutation l rows) (sym (map_twice spec.header_of header_row T.editions)) a.1.1.1.1.0.rows) (subst (λ l. IsPermutation l rows) (sym (map_twice spec.header_of header_row U.editions)) b.1.1.1.1.0.rows));
-    parts = both part_row decode_part part_back (all_parts T) (all_parts U) _ a.1.1.1.1.1.0.rows b.1.1.1.1.1.0.rows;
+    parts = both part_row decode_part part_back (o ++ all_parts T) (p ++ all_parts U) _ a.1.1.1.1.1.0.rows b.1.1.1.1.1.0.rows;
     kept = both kept_row decode_kept kept_back T.kept U.kept _ a.1.1.1.0.rows b.1.1.1.0.rows;
   }
 
@@ -210,11 +210,11 @@ same_version version db M N a b = by (layout_of version) a.shown b.shown a.keeps
     editions : (rows : List Row) → IsPermutation (map edition_row T.editions) rows → IsPermutation (map edition_row U.editions) rows → IsPermutation T.editions U.editions
     editions rows x y = both edition_row decode_edition edition_back T.editions U.editions rows x y
 
-    by : (layout : Layout) → AreShownIn layout T.entries → AreShownIn layout U.entries → KeepsAll layout db (with_derived T) → KeepsAll layout db (with_derived U) → M ≡ N
-    by Plain t u x y = told (same_kept db T U Plain (editions _ x.1.1.1.1.0.rows y.1.1.1.1.0.rows) (old_kept db T U _ t u x.1.1.1.1.1.0.rows y.1.1.1.1.1.0.rows) x y)
-    by Keyed t u x y = told (same_kept db T U Keyed (editions _ x.1.1.1.1.0.rows y.1.1.1.1.0.rows) (old_kept db T U _ t u x.1.1.1.1.1.0.rows y.1.1.1.1.1.0.rows) x y)
-    by Shown t u x y = told (same_kept db T U Shown (editions _ x.1.1.1.1.0.rows y.1.1.1.1.0.rows) (both shown_row decode_shown shown_back T.entries U.entries _ x.1.1.1.1.1.0.rows y.1.1.1.1.1.0.rows) x y)
-    by Parted t u x y = told_once version T U M N (same_files db T U x y) a.stands b.stands
+    by : (layout : Layout) → AreShownIn layout T.entries → AreShownIn layout U.entries → KeepsAll layout db (with_derived a.orphans T) → KeepsAll layout db (with_derived b.orphans U) → M ≡ N
+    by Plain t u x y = told (same_kept db a.orphans b.orphans T U Plain (editions _ x.1.1.1.1.0.rows y.1.1.1.1.0.rows) (old_kept db a.orphans b.orphans T U _ t u x.1.1.1.1.1.0.rows y.1.1.1.1.1.0.rows) x y)
+    by Keyed t u x y = told (same_kept db a.orphans b.orphans T U Keyed (editions _ x.1.1.1.1.0.rows y.1.1.1.1.0.rows) (old_kept db a.orphans b.orphans T U _ t u x.1.1.1.1.1.0.rows y.1.1.1.1.1.0.rows) x y)
+    by Shown t u x y = told (same_kept db a.orphans b.orphans T U Shown (editions _ x.1.1.1.1.0.rows y.1.1.1.1.0.rows) (both shown_row decode_shown shown_back T.entries U.entries _ x.1.1.1.1.1.0.rows y.1.1.1.1.1.0.rows) x y)
+    by Parted t u x y = told_once version a.orphans b.orphans T U M N (same_files db a.orphans b.orphans T U x y) a.apart b.apart a.stands b.stands
 
 pub one_catalogue : (db : Database) (v w : ℕ) (M N : Catalogue) → Holds v db M → Holds w db N → M ≡ N
 one_catalogue db v w M N a b = same_version v db M N a (subst (λ version. Holds version db N) (sym (one_version db v w M N a b)) b)

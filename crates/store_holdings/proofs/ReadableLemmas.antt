@@ -1,5 +1,6 @@
 -- Each row of a database that holds a catalogue stands for a record, and no edition has more entries than the limit.
-use Rattle.std.proofs.Common.{◌≡◌, ◌⊎◌, inl, inr, ℕ, ◌+◌, ◌<◌, ◌≤◌, ℤ, pos, Bool, true, false, cond, ◌||◌, ◌&&◌, ◌==◌, List, [], ◌∷◌, length, map, filter, drop, take, codes, Option, Some, None, refl, sym, ap, subst, ◌∙◌, arith, eqb-true}
+use Rattle.std.proofs.Common.{◌≡◌, ◌⊎◌, inl, inr, ℕ, ◌+◌, ◌<◌, ◌≤◌, ℤ, pos, Bool, true, false, cond, ◌||◌, ◌&&◌, ◌==◌, List, [], ◌∷◌, ◌++◌, length, map, filter, drop, take, codes, Option, Some, None, refl, sym, ap, subst, ◌∙◌}
+use Rattle.std.proofs.Common.{arith, eqb-true}
 use Rattle.std.specs.Prelude.{bytes_eq, nat_le, IsTrue, option_map}
 use Rattle.std.specs.List.{AllByRecursion, list_all, list_any}
 use Rattle.std.specs.Str.{IsAscii, IsUtf8}
@@ -356,33 +357,34 @@ each_part : (ps : List spec.Part) → AllByRecursion (HasColumns part_values) (m
 each_part [] = tt
 each_part (p ∷ ps) = (((p.edition, refl), ((p.file, refl), ((p.number, refl), ((p.octets, refl), tt)))), each_part ps)
 
-module _ (version : ℕ) (db : Database) (tables : Tables) (M : Catalogue) (s : Stands version tables M) where
-  whole_readable : KeepsRows looks.whole_editions db (with_derived tables) → IsReadable looks.whole_editions db
-  whole_readable k = kept_readable looks.whole_editions edition_values refl (λ row. refl) db (with_derived tables) k (written_all edition_row edition_values tables.editions (edition_rows version tables M s))
+module _ (version : ℕ) (db : Database) (orphans : List spec.Part) (tables : Tables) (M : Catalogue) (s : Stands version tables M) where
+  whole_readable : KeepsRows looks.whole_editions db (with_derived orphans tables) → IsReadable looks.whole_editions db
+  whole_readable k = kept_readable looks.whole_editions edition_values refl (λ row. refl) db (with_derived orphans tables) k (written_all edition_row edition_values tables.editions (edition_rows version tables M s))
 
-  editions_readable : (layout : Layout) → KeepsRows (looks.editions layout) db (with_derived tables) → IsReadable (looks.editions layout) db
+  editions_readable : (layout : Layout) → KeepsRows (looks.editions layout) db (with_derived orphans tables) → IsReadable (looks.editions layout) db
   editions_readable Plain k = whole_readable k
   editions_readable Keyed k = whole_readable k
   editions_readable Shown k = whole_readable k
   editions_readable Parted k =
-      kept_readable (looks.editions Parted) header_values refl (λ row. refl) db (with_derived tables) k
+      kept_readable (looks.editions Parted) header_values refl (λ row. refl) db (with_derived orphans tables) k
       (each_record EditionRow (λ e. header_row (spec.header_of e)) header_values header_cells tables.editions (edition_rows version tables M s))
 
-  contents_readable : (layout : Layout) → KeepsRows (looks.contents layout) db (with_derived tables) → IsReadable (looks.contents layout) db
-  contents_readable Plain k = kept_readable (looks.contents Plain) entry_values refl (λ row. refl) db (with_derived tables) k (each_record EntryRow entry_row entry_values (λ e h. h.0) tables.entries (entry_rows version tables M s))
-  contents_readable Keyed k = kept_readable (looks.contents Keyed) entry_values refl first_six db (with_derived tables) k (each_record EntryRow entry_row entry_values (λ e h. h.0) tables.entries (entry_rows version tables M s))
-  contents_readable Shown k = kept_readable (looks.contents Shown) shown_values refl first_of_six db (with_derived tables) k (each_record EntryRow looks.shown_row shown_values shown_cells tables.entries (entry_rows version tables M s))
-  contents_readable Parted k = kept_readable (looks.contents Parted) part_values refl (λ row. refl) db (with_derived tables) k (each_part (all_parts tables))
+  contents_readable : (layout : Layout) → KeepsRows (looks.contents layout) db (with_derived orphans tables) → IsReadable (looks.contents layout) db
+  contents_readable Plain k = kept_readable (looks.contents Plain) entry_values refl (λ row. refl) db (with_derived orphans tables) k (each_record EntryRow entry_row entry_values (λ e h. h.0) tables.entries (entry_rows version tables M s))
+  contents_readable Keyed k = kept_readable (looks.contents Keyed) entry_values refl first_six db (with_derived orphans tables) k (each_record EntryRow entry_row entry_values (λ e h. h.0) tables.entries (entry_rows version tables M s))
+  contents_readable Shown k = kept_readable (looks.contents Shown) shown_values refl first_of_six db (with_derived orphans tables) k
+      (each_record EntryRow looks.shown_row shown_values shown_cells tables.entries (entry_rows version tables M s))
+  contents_readable Parted k = kept_readable (looks.contents Parted) part_values refl (λ row. refl) db (with_derived orphans tables) k (each_part (orphans ++ all_parts tables))
 
-  pub stands_readable : (layout : Layout) → KeepsAll layout db (with_derived tables) → HasReadableRows layout db
+  pub stands_readable : (layout : Layout) → KeepsAll layout db (with_derived orphans tables) → HasReadableRows layout db
   stands_readable layout k = (
-    kept_readable looks.marks mark_values refl (λ row. refl) db (with_derived tables) k.0 (written_all mark_row mark_values tables.marks (mark_rows version tables M s)),
+    kept_readable looks.marks mark_values refl (λ row. refl) db (with_derived orphans tables) k.0 (written_all mark_row mark_values tables.marks (mark_rows version tables M s)),
     (
-      kept_readable looks.items item_values refl (λ row. refl) db (with_derived tables) k.1.0 (written_all item_row item_values tables.items (item_rows version tables M s)),
+      kept_readable looks.items item_values refl (λ row. refl) db (with_derived orphans tables) k.1.0 (written_all item_row item_values tables.items (item_rows version tables M s)),
       (
-        kept_readable looks.members member_values refl (λ row. refl) db (with_derived tables) k.1.1.0 (written_all member_row member_values tables.members (member_rows version tables M s)),
+        kept_readable looks.members member_values refl (λ row. refl) db (with_derived orphans tables) k.1.1.0 (written_all member_row member_values tables.members (member_rows version tables M s)),
         (
-          kept_readable looks.kept_replies kept_values refl (λ row. refl) db (with_derived tables) k.1.1.1.0 (written_all kept_row kept_values tables.kept (reply_rows version tables M s)),
+          kept_readable looks.kept_replies kept_values refl (λ row. refl) db (with_derived orphans tables) k.1.1.1.0 (written_all kept_row kept_values tables.kept (reply_rows version tables M s)),
           (editions_readable layout k.1.1.1.1.0, (contents_readable layout k.1.1.1.1.1.0, tt)),
         ),
       ),
@@ -390,7 +392,7 @@ module _ (version : ℕ) (db : Database) (tables : Tables) (M : Catalogue) (s : 
   )
 
 pub held_readable : (version : ℕ) (db : Database) (M : Catalogue) → Holds version db M → HasReadableRows (layout_of version) db
-held_readable version db M h = stands_readable version db h.tables M h.stands (layout_of version) h.keeps
+held_readable version db M h = stands_readable version db h.orphans h.tables M h.stands (layout_of version) h.keeps
 
 -- those of the replies, whatever the layout
 pub held_replies : (version : ℕ) (db : Database) (M : Catalogue) → Holds version db M → AllByRecursion (HasColumns kept_columns) (rows_of (codes "kept") db)

@@ -1,7 +1,7 @@
 -- What a database keeps by the readings of a layout.
-use Rattle.std.proofs.Common.{◌≡◌, List, [], ◌∷◌, map, codes, refl, ap, subst}
+use Rattle.std.proofs.Common.{◌≡◌, List, [], ◌∷◌, ◌++◌, map, codes, refl, ap, subst}
 use Rattle.sqlite.specs.Effect.{Database}
-use Rattle.store_records.specs.Records.{header_of}
+use Rattle.store_records.specs.Records.{Part, header_of}
 use Rattle.store_sql.specs.Encodings.{mark_row, item_row, member_row, edition_row, kept_row}
 use Rattle.store_edition_sql.specs.HeaderRecords.{header_row}
 use Rattle.store_edition_sql.specs.PartRecords.{part_row}
@@ -19,33 +19,33 @@ map_twice f g (x ∷ xs) = ap (λ l. g (f x) ∷ l) (map_twice f g xs)
 
 -- ---- of any version, but for its editions and what is kept of their entries
 
-pub marks_kept : (layout : Layout) (db : Database) (t : Tables) → KeepsAll layout db (with_derived t) → Keeps (codes "mark") mark_row db t.marks
-marks_kept layout db t k = record { rows = k.0.rows; apart = k.0.apart }
+pub marks_kept : (layout : Layout) (db : Database) (o : List Part) (t : Tables) → KeepsAll layout db (with_derived o t) → Keeps (codes "mark") mark_row db t.marks
+marks_kept layout db o t k = record { rows = k.0.rows; apart = k.0.apart }
 
-pub items_kept : (layout : Layout) (db : Database) (t : Tables) → KeepsAll layout db (with_derived t) → Keeps (codes "item") item_row db t.items
-items_kept layout db t k = record { rows = k.1.0.rows; apart = k.1.0.apart }
+pub items_kept : (layout : Layout) (db : Database) (o : List Part) (t : Tables) → KeepsAll layout db (with_derived o t) → Keeps (codes "item") item_row db t.items
+items_kept layout db o t k = record { rows = k.1.0.rows; apart = k.1.0.apart }
 
-pub members_kept : (layout : Layout) (db : Database) (t : Tables) → KeepsAll layout db (with_derived t) → Keeps (codes "member") member_row db t.members
-members_kept layout db t k = record { rows = k.1.1.0.rows; apart = k.1.1.0.apart }
+pub members_kept : (layout : Layout) (db : Database) (o : List Part) (t : Tables) → KeepsAll layout db (with_derived o t) → Keeps (codes "member") member_row db t.members
+members_kept layout db o t k = record { rows = k.1.1.0.rows; apart = k.1.1.0.apart }
 
-pub replies_kept : (layout : Layout) (db : Database) (t : Tables) → KeepsAll layout db (with_derived t) → Keeps (codes "kept") kept_row db t.kept
-replies_kept layout db t k = record { rows = k.1.1.1.0.rows; apart = k.1.1.1.0.apart }
+pub replies_kept : (layout : Layout) (db : Database) (o : List Part) (t : Tables) → KeepsAll layout db (with_derived o t) → Keeps (codes "kept") kept_row db t.kept
+replies_kept layout db o t k = record { rows = k.1.1.1.0.rows; apart = k.1.1.1.0.apart }
 
 -- ---- the editions of the known version, and the parts of their files
 
-pub headers_kept : (db : Database) (t : Tables) → KeepsAll Parted db (with_derived t) → Keeps (codes "edition") (λ e. header_row (header_of e)) db t.editions
-headers_kept db t k = record { rows = k.1.1.1.1.0.rows; apart = k.1.1.1.1.0.apart }
+pub headers_kept : (db : Database) (o : List Part) (t : Tables) → KeepsAll Parted db (with_derived o t) → Keeps (codes "edition") (λ e. header_row (header_of e)) db t.editions
+headers_kept db o t k = record { rows = k.1.1.1.1.0.rows; apart = k.1.1.1.1.0.apart }
 
-pub parts_kept : (db : Database) (t : Tables) → KeepsAll Parted db (with_derived t) → Keeps (codes "dictcat_part") part_row db (all_parts t)
-parts_kept db t k = record { rows = k.1.1.1.1.1.0.rows; apart = k.1.1.1.1.1.0.apart }
+pub parts_kept : (db : Database) (o : List Part) (t : Tables) → KeepsAll Parted db (with_derived o t) → Keeps (codes "dictcat_part") part_row db (o ++ all_parts t)
+parts_kept db o t k = record { rows = k.1.1.1.1.1.0.rows; apart = k.1.1.1.1.1.0.apart }
 
 -- ---- the editions of an older version
 
-pub editions_kept : (layout : Layout) (db : Database) (t : Tables) → looks.editions layout ≡ looks.whole_editions → KeepsAll layout db (with_derived t) → Keeps (codes "edition") edition_row db t.editions
-editions_kept Plain db t e k = record { rows = k.1.1.1.1.0.rows; apart = k.1.1.1.1.0.apart }
-editions_kept Keyed db t e k = record { rows = k.1.1.1.1.0.rows; apart = k.1.1.1.1.0.apart }
-editions_kept Shown db t e k = record { rows = k.1.1.1.1.0.rows; apart = k.1.1.1.1.0.apart }
-editions_kept Parted db t e k = by (subst (λ r. KeepsRows r db (with_derived t)) e k.1.1.1.1.0)
+pub editions_kept : (layout : Layout) (db : Database) (o : List Part) (t : Tables) → looks.editions layout ≡ looks.whole_editions → KeepsAll layout db (with_derived o t) → Keeps (codes "edition") edition_row db t.editions
+editions_kept Plain db o t e k = record { rows = k.1.1.1.1.0.rows; apart = k.1.1.1.1.0.apart }
+editions_kept Keyed db o t e k = record { rows = k.1.1.1.1.0.rows; apart = k.1.1.1.1.0.apart }
+editions_kept Shown db o t e k = record { rows = k.1.1.1.1.0.rows; apart = k.1.1.1.1.0.apart }
+editions_kept Parted db o t e k = by (subst (λ r. KeepsRows r db (with_derived o t)) e k.1.1.1.1.0)
   where
-    by : KeepsRows looks.whole_editions db (with_derived t) → Keeps (codes "edition") edition_row db t.editions
+    by : KeepsRows looks.whole_editions db (with_derived o t) → Keeps (codes "edition") edition_row db t.editions
     by one = record { rows = one.rows; apart = one.apart }

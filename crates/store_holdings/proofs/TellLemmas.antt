@@ -28,8 +28,10 @@ use Rattle.store_rows.proofs.LawfulLemmas.{pos_same}
 use Rattle.store_rows.proofs.OnceLemmas.{catalogue_same}
 use Rattle.store_rows.proofs.OrderLemmas.{IsIn, Same, Below, in_all, in_passed, same_from, same_passed, one_once, ordered_once, numbered_rise, all_with, all_same, ordered_stands}
 use Rattle.store_holdings.specs.Files.{part_at, file_parts, parts_under, edition_parts, all_parts, index_octets}
+use Rattle.store_holdings.specs.Holds.{AreOrphans}
 use Rattle.store_holdings.specs.Told.{HaveSameFiles}
 use Rattle.store_holdings.proofs.FileLemmas.{part_once, lines_back}
+use Rattle.store_holdings.proofs.OrphanLemmas.{beside_orphans}
 use Rattle.store_holdings.proofs.RiseLemmas.{order_weaker, ordered}
 
 -- ---- one file of an edition
@@ -113,7 +115,8 @@ parts_held t owner stored h =
     parts_of_one t (pos stored.number) (edition_record owner stored.number h.reading) h.row
     ∙ ap (λ octets. parts_under (pos stored.number) octets h.reading.text) (index_is t stored.number h.reading.lines h.entries)
 
-module _ (version : ℕ) (a b : Tables) (M N : Catalogue) (same : HaveSameFiles a b) (sa : Stands version a M) (sb : Stands version b N) where
+module _ (version : ℕ) (o p : List Part) (a b : Tables) (M N : Catalogue) (same : HaveSameFiles o p a b) (orphans_a : AreOrphans version M o) (orphans_b : AreOrphans version N p) (sa : Stands version a M)
+    (sb : Stands version b N) where
   -- one record of the number is there, with the same header and the same files
   edition_told : (owner : List ℕ) (stored : Stored AnEdition) → HoldsEdition a owner stored → IsWellFormedEdition stored.content → HoldsEdition b owner stored
   edition_told owner stored h lawful =
@@ -127,10 +130,14 @@ module _ (version : ℕ) (a b : Tables) (M N : Catalogue) (same : HaveSameFiles 
       let found = one_of_map header_of (editions_numbered number b.editions) (header_of mine) header in
       let theirs : EditionRecord = found.0 in
       let at : theirs.number ≡ number = ap (λ (x : HeaderRecord). x.number) found.2 in
+      let there : IsIn mine a.editions = (in_passed (λ (r : EditionRecord). same_number r.number number) mine a.editions (subst (IsIn mine) (sym h.row) (inl refl))).0 in
+      let here : IsIn theirs b.editions = (in_passed (λ (r : EditionRecord). same_number r.number number) theirs b.editions (subst (IsIn theirs) (sym found.1) (inl refl))).0 in
+      let known_a : has_number M.items number ≡ true = in_all (λ (r : EditionRecord). IsTrue (has_number M.items r.number)) mine a.editions sa.numbers there in
+      let known : has_number N.items number ≡ true = subst (λ n. has_number N.items n ≡ true) at (in_all (λ (r : EditionRecord). IsTrue (has_number N.items r.number)) theirs b.editions sb.numbers here) in
       let parts : Same (edition_parts a.entries mine) (edition_parts b.entries theirs) =
-      subst (λ l. Same l (edition_parts b.entries theirs)) (parts_of_one a number mine h.row)
-      (subst (Same (filter (λ (p : Part). same_number p.edition number) (all_parts a))) (parts_of_one b number theirs found.1)
-      (same_passed (λ (p : Part). same_number p.edition number) (all_parts a) (all_parts b) (same_from (all_parts a) (all_parts b) same.parts))) in
+      subst (λ l. Same l (edition_parts b.entries theirs)) (beside_orphans version M o a number orphans_a known_a ∙ parts_of_one a number mine h.row)
+      (subst (Same (filter (λ (r : Part). same_number r.edition number) (o ++ all_parts a))) (beside_orphans version N p b number orphans_b known ∙ parts_of_one b number theirs found.1)
+      (same_passed (λ (r : Part). same_number r.edition number) (o ++ all_parts a) (p ++ all_parts b) (same_from (o ++ all_parts a) (p ++ all_parts b) same.parts))) in
       let index_a = index_octets (entries_of number a.entries) in
       let index_b = index_octets (entries_of number b.entries) in
       let parts_at : Same (parts_under number index_a h.reading.text) (parts_under number index_b theirs.body) =
@@ -145,8 +152,6 @@ module _ (version : ℕ) (a b : Tables) (M N : Catalogue) (same : HaveSameFiles 
       (same_passed (λ (p : Part). same_number p.file (pos 1)) (parts_under number index_a h.reading.text) (parts_under number index_b theirs.body) parts_at)) in
       let index : index_a ≡ index_b = file_once number (pos 0) index_a index_b indexes in
       let text : h.reading.text ≡ theirs.body = file_once number (pos 1) h.reading.text theirs.body texts in
-      let here : IsIn theirs b.editions = (in_passed (λ (r : EditionRecord). same_number r.number number) theirs b.editions (subst (IsIn theirs) (sym found.1) (inl refl))).0 in
-      let known : has_number N.items number ≡ true = subst (λ n. has_number N.items n ≡ true) at (in_all (λ (r : EditionRecord). IsTrue (has_number N.items r.number)) theirs b.editions sb.numbers here) in
       let other : Found b N.items number = found_in b N.items number known sb.editions sb.well_formed.editions in
       let n : other.stored.number ≡ stored.number = pos_same _ _ other.is in
       let lines_b = other.holds.reading.lines in

@@ -18,9 +18,9 @@ pub record AllTables : Type 0 where
   pub parts : List Part
   pub kept : List KeptRecord
 
--- the records with the parts of their files
-abbrev pub with_derived : Tables → AllTables
-with_derived t = record { marks = t.marks; items = t.items; members = t.members; editions = t.editions; entries = t.entries; parts = all_parts t; kept = t.kept }
+-- the records with the parts of their files, behind orphans: parts of no edition
+abbrev pub with_derived : List Part → Tables → AllTables
+with_derived orphans t = record { marks = t.marks; items = t.items; members = t.members; editions = t.editions; entries = t.entries; parts = orphans ++ all_parts t; kept = t.kept }
 
 -- the same records under the mark of another version
 abbrev pub as_version : ℕ → Tables → Tables
@@ -32,7 +32,16 @@ HasNoneOf number t = AllByRecursion (λ row. same_number row.number number ≡ f
 
 -- ---- what a command does
 
--- all records after a command, from those before
+-- the parts beside those of an edition that is installed: none has its number
+abbrev pub beside_installed : Option Installed → List Part → List Part
+beside_installed None parts = parts
+beside_installed (Some new) parts = filter (λ row. not (is_gone (new.number ∷ []) row.edition)) parts
+
+-- the orphans after a command: those that there were, and the parts of the editions that went
+abbrev pub orphans_after : TableChange → List Part → Tables → List Part
+orphans_after change orphans old = beside_installed change.edition orphans ++ filter (λ row. is_gone change.gone row.edition) (all_parts old)
+
+-- all records after a command, from those before; the parts of an edition that goes are left, of no edition then
 abbrev pub all_after : ℕ → TableChange → AllTables → AllTables
 all_after version change old = record {
   marks = mark_record version change.summary.installs ∷ [];
@@ -40,7 +49,7 @@ all_after version change old = record {
   members = all_members change.summary.items;
   editions = filter (λ row. not (is_gone change.gone row.number)) old.editions ++ installed_editions change.edition;
   entries = filter (λ row. not (is_gone change.gone row.edition)) old.entries ++ installed_entries change.edition;
-  parts = filter (λ row. not (is_gone change.gone row.edition)) old.parts ++ installed_parts change.edition;
+  parts = beside_installed change.edition old.parts ++ installed_parts change.edition;
   kept = old.kept ++ kept_record change.kept ∷ [];
 }
 

@@ -1,11 +1,12 @@
 -- Which catalogue a database stands for, under which version.
-use Rattle.std.specs.Prelude.{◌≡◌, ℕ, false, IsTrue, List, map, drop, IsPermutation}
+use Rattle.std.specs.Prelude.{◌≡◌, ◌<◌, ℕ, false, IsTrue, List, [], map, drop, IsPermutation}
 use Rattle.std.specs.List.{AllByRecursion}
 use Rattle.sqlite.specs.Effect.{Database, IsDatabase}
 use Rattle.sqlite.specs.Order.{Row}
 use Rattle.sqlite.specs.Tree.{Trees}
 use Rattle.sqlite.specs.State.{State}
 use Rattle.sqlite.specs.Schema.{Schema}
+use Rattle.store_records.specs.Records.{Part}
 use Rattle.store_tables.specs.Found.{HasOwn}
 use Rattle.store_tables.specs.Names.{has_prefixed}
 use Rattle.store_tables.specs.Room.{HasRoom, LeavesRoom}
@@ -14,7 +15,7 @@ use Rattle.store_edition_sql.specs.PartTable.{part}
 use Rattle.dict_catalogue.specs.Steps.{Catalogue}
 use Rattle.store_rows.specs.Versions.{Layout, layout_of, IsVersion}
 use Rattle.store_rows.specs.Tables.{Tables}
-use Rattle.store_rows.specs.Stands.{Stands}
+use Rattle.store_rows.specs.Stands.{Stands, has_number}
 use Rattle.store_holdings.specs.AllTables.{with_derived}
 use Rattle.store_holdings.specs.Readings.{KeepsAll, AreShownIn, tables_of}
 use Rattle.store_holdings.specs.Room.{MayBecomeKnown}
@@ -29,14 +30,22 @@ pub record HasLayout (layout : Layout) (schema : Schema) : Type 0 where
   pub tables : AllByRecursion (HasOwn schema) (tables_of layout)
   pub room : MayBecomeKnown layout schema
 
+-- Parts of no edition of the catalogue: of one that was to come, or of one that went. Before version 6 there are none.
+pub record AreOrphans (version : ℕ) (M : Catalogue) (orphans : List Part) : Type 0 where
+  pub apart : AllByRecursion (λ row. has_number M.items row.edition ≡ false) orphans
+  pub later : version < 6 → orphans ≡ []
+
 -- The database has the product's tables, as this version lays them out; and the records that they keep, in parts of files where
--- the version has these, stand for the catalogue. Where a table has no column for what is shown, it is the headword.
+-- the version has these, stand for the catalogue, whatever orphans are beside them. Where a table has no column for what is shown, it
+-- is the headword.
 pub record Holds (version : ℕ) (db : Database) (M : Catalogue) : Type 0 where
   pub own : HasLayout (layout_of version) db.schema
   pub tables : Tables
-  pub keeps : KeepsAll (layout_of version) db (with_derived tables)
+  pub orphans : List Part
+  pub keeps : KeepsAll (layout_of version) db (with_derived orphans tables)
   pub shown : AreShownIn (layout_of version) tables.entries
   pub stands : Stands version tables M
+  pub apart : AreOrphans version M orphans
 
 -- the database holds the catalogue under a version that is known
 pub record IsHeld (db : Database) (M : Catalogue) : Type 0 where

@@ -1,5 +1,5 @@
 -- What lookups find in a database that holds a catalogue.
-use Rattle.std.proofs.Common.{◌≡◌, ℕ, ◌+◌, ◌≤◌, ◌&&◌, Bool, true, false, cond, List, [], ◌∷◌, length, map, drop, codes, refl, ap, sym, subst, ◌∙◌, arith}
+use Rattle.std.proofs.Common.{◌≡◌, ℕ, ◌+◌, ◌≤◌, ◌&&◌, Bool, true, false, cond, List, [], ◌∷◌, ◌++◌, length, map, drop, codes, refl, ap, sym, subst, ◌∙◌, arith}
 use Rattle.std.specs.Prelude.{ℤ, pos, filter, Contains, IsPermutation}
 use Rattle.std.specs.List.{AllByRecursion}
 use Rattle.std.proofs.lemmas.List.Sorted.{IsPermutation-map, IsPermutation-sym, IsPermutation-trans}
@@ -18,16 +18,18 @@ use Rattle.store_edition_sql.specs.HeaderRecords.{header_row, header_columns}
 use Rattle.store_edition_sql.specs.Chosen.{is_of_file}
 use Rattle.store_edition_sql.specs.PartRecords.{part_row, part_columns}
 use Rattle.dict_index.specs.Edition.{Edition as AnEdition, ReadEdition, edition_of}
-use Rattle.dict_catalogue.specs.Items.{Stored, Item, name_of, editions_of, numbers_of}
+use Rattle.dict_catalogue.specs.Items.{Stored, Item, name_of, editions_of, edition_numbers, numbers_of}
 use Rattle.dict_catalogue.specs.Steps.{Catalogue, KeptFor}
 use Rattle.dict_catalogue.specs.WellFormed.{IsWellFormed, how_many, is_install}
 use Rattle.store_rows.specs.Stored.{stored_index}
 use Rattle.store_rows.specs.Tables.{Tables, same_number, editions_numbered}
-use Rattle.store_rows.specs.Stands.{HoldsEdition, HoldsEditions}
+use Rattle.store_rows.specs.Stands.{HoldsEdition, HoldsEditions, has_number}
 use Rattle.store_rows.specs.Versions.{Parted, layout_of, known}
+use Rattle.store_rows.proofs.ChangeLemmas.{each_among}
 use Rattle.store_rows.proofs.SelectionLemmas.{filter_filter}
 use Rattle.store_holdings.specs.AllTables.{with_derived}
 use Rattle.store_holdings.specs.Files.{all_parts, file_parts}
+use Rattle.store_holdings.proofs.OrphanLemmas.{beside_orphans}
 use Rattle.store_holdings.proofs.TellLemmas.{file_told, text_under, parts_held}
 use Rattle.dict_desk.specs.Shown.{HasEdition}
 use Rattle.store_holdings.specs.Readings.{KeepsAll}
@@ -43,7 +45,7 @@ use Rattle.store_lookup.proofs.ListLemmas.{all_unmapped, map_undone}
 
 -- ---- the rows of a number
 
-module _ (db : Database) (T : Tables) (k : KeepsAll Parted db (with_derived T)) (number : ℕ) where
+module _ (db : Database) (orphans : List Part) (T : Tables) (k : KeepsAll Parted db (with_derived orphans T)) (number : ℕ) where
   pub headers_under : IsPermutation (map (λ (e : EditionRecord). header_row (header_of e)) (editions_numbered (pos number) T.editions)) (rows_under (codes "edition") number db)
   headers_under = rows_numbered (λ (e : EditionRecord). header_row (header_of e)) (λ (e : EditionRecord). e.number) (λ e. refl) (codes "edition") db T.editions k.1.1.1.1.0.rows (pos number)
 
@@ -110,17 +112,31 @@ number_few M well number edition has =
     bound : (a b c d e : ℕ) → a ≤ b → b ≡ c → c ≤ d → d ≤ e → a ≤ e
     bound a b c d e p q r s = omega arith
 
--- the parts of its text
-text_under_number : (T : Tables) (owner : List ℕ) (stored : Stored AnEdition) (one : HoldsEdition T owner stored) → filter (part_test (pos stored.number) (pos 1)) (all_parts T) ≡ file_parts (pos stored.number) (pos 1) one.reading.text
-text_under_number T owner stored one =
-    sym (filter_filter (λ (p : Part). same_number p.file (pos 1)) (λ (p : Part). same_number p.edition (pos stored.number)) (part_test (pos stored.number) (pos 1)) (λ p. refl) (all_parts T))
-    ∙ ap (filter (λ (p : Part). same_number p.file (pos 1))) (parts_held T owner stored one) ∙ text_under (pos stored.number) (stored_index one.reading.lines) one.reading.text
+-- the catalogue has its number
+pub number_known : (M : Catalogue) (number : ℕ) (edition : AnEdition) → HasEdition M number edition → has_number M.items (pos number) ≡ true
+number_known M number edition has =
+    let stored : Stored AnEdition = record { number = number; content = edition } in
+    let each = all_flat_map_parts (λ n. has_number M.items (pos n) ≡ true) numbers_of M.items (each_among (edition_numbers M.items)) in
+    number_all (λ n. has_number M.items (pos n) ≡ true) (editions_of has.item) stored
+    (all_contains (λ (i : Item AnEdition). AllByRecursion (λ n. has_number M.items (pos n) ≡ true) (numbers_of i)) M.items has.item each has.stands) has.stored
 
-pub text_held : (db : Database) (T : Tables) (k : KeepsAll Parted db (with_derived T)) (owner : List ℕ) (stored : Stored AnEdition) (one : HoldsEdition T owner stored)
+-- no orphan has the number
+abbrev pub AreBeside : List Part → Tables → ℕ → Type 0
+AreBeside orphans T number = filter (λ (p : Part). same_number p.edition (pos number)) (orphans ++ all_parts T) ≡ filter (λ (p : Part). same_number p.edition (pos number)) (all_parts T)
+
+-- the parts of its text, whatever orphans are beside
+text_under_number : (orphans : List Part) (T : Tables) (owner : List ℕ) (stored : Stored AnEdition) (one : HoldsEdition T owner stored) → AreBeside orphans T stored.number
+    → filter (part_test (pos stored.number) (pos 1)) (orphans ++ all_parts T) ≡ file_parts (pos stored.number) (pos 1) one.reading.text
+text_under_number orphans T owner stored one beside =
+    sym (filter_filter (λ (p : Part). same_number p.file (pos 1)) (λ (p : Part). same_number p.edition (pos stored.number)) (part_test (pos stored.number) (pos 1)) (λ p. refl) (orphans ++ all_parts T))
+    ∙ ap (filter (λ (p : Part). same_number p.file (pos 1))) (beside ∙ parts_held T owner stored one) ∙ text_under (pos stored.number) (stored_index one.reading.lines) one.reading.text
+
+pub text_held : (db : Database) (orphans : List Part) (T : Tables) (k : KeepsAll Parted db (with_derived orphans T)) (owner : List ℕ) (stored : Stored AnEdition) (one : HoldsEdition T owner stored) → AreBeside orphans T stored.number
     → stored.number ≤ 9223372036854775807 → HoldsText db stored.number one.reading.text
-text_held db T k owner stored one few =
-    let parts : IsPermutation (map part_row (filter (part_test (pos stored.number) (pos 1)) (all_parts T))) (text_rows stored.number db) = parts_of_file db (all_parts T) k.1.1.1.1.1.0.rows (pos stored.number) (pos 1) in
-    record { few = few; rows = subst (λ (l : List Part). IsPermutation (map part_row l) (text_rows stored.number db)) (text_under_number T owner stored one) parts }
+text_held db orphans T k owner stored one beside few =
+    let parts : IsPermutation (map part_row (filter (part_test (pos stored.number) (pos 1)) (orphans ++ all_parts T))) (text_rows stored.number db) =
+    parts_of_file db (orphans ++ all_parts T) k.1.1.1.1.1.0.rows (pos stored.number) (pos 1) in
+    record { few = few; rows = subst (λ (l : List Part). IsPermutation (map part_row l) (text_rows stored.number db)) (text_under_number orphans T owner stored one beside) parts }
 
 -- ---- one text stands under a number
 
@@ -154,7 +170,8 @@ pub held_one : (db : Database) (M : Catalogue) (number : ℕ) (edition : AnEditi
     → (reading : ReadEdition) × HoldsOne db number reading × (edition ≡ edition_of reading) × HoldsText db number reading.text × Cuts (map entry_of reading.lines) edition reading.text
 held_one db M number edition holds has =
     let T = holds.tables in
-    let k : KeepsAll Parted db (with_derived T) = holds.keeps in
+    let orphans = holds.orphans in
+    let k : KeepsAll Parted db (with_derived orphans T) = holds.keeps in
     let item = has.item in
     let stored : Stored AnEdition = record { number = number; content = edition } in
     let one : HoldsEdition T (name_of item) stored = all_contains (HoldsEdition T (name_of item)) (editions_of item) stored (all_contains (HoldsEditions T) M.items item holds.stands.editions has.stands) has.stored in
@@ -163,10 +180,10 @@ held_one db M number edition holds has =
       record {
         few = few;
         owner = name_of item;
-        row = subst (λ (l : List EditionRecord). IsPermutation (map (λ (e : EditionRecord). header_row (header_of e)) l) (rows_under (codes "edition") number db)) one.row (headers_under db T k number);
+        row = subst (λ (l : List EditionRecord). IsPermutation (map (λ (e : EditionRecord). header_row (header_of e)) l) (rows_under (codes "edition") number db)) one.row (headers_under db orphans T k number);
       },
       one.says,
-      text_held db T k (name_of item) stored one few,
+      text_held db orphans T k (name_of item) stored one (beside_orphans known M orphans T (pos number) holds.apart (number_known M number edition has)) few,
       record { lines = one.reading.lines; entries = refl; cut = ap (λ (e : AnEdition). e.entries) one.says; short = one.short },
     )
 

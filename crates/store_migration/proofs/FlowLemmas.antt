@@ -71,7 +71,7 @@ all_keep : (old new : Database) → IsMade (part 0) old new → (tables : List (
 all_keep old new made [] may own = tt
 all_keep old new made (t ∷ ts) may own = (one_keeps part part_defined old new made t may.0 own.0, all_keep old new made ts may.3 own.1)
 
-module _ (older : Older) (old new : Database) (its : IsOld older old) (made : IsMade (part 0) old new) where
+module _ (older : Older) (old new : Database) (its : IsOld (layout_as older) old) (made : IsMade (part 0) old new) where
   pub made_gone : AllByRecursion (HasOwn new.schema) (gone_tables older)
   made_gone = all_keep old new made (gone_tables older) (may_go (form_of older)) (old_has older old.schema its.own).gone
 
@@ -90,7 +90,7 @@ gone_later older old new same own = subst (λ (s : Schema). AllByRecursion (HasO
 
 -- ---- what is left of them
 
-module _ (older : Older) (numbers : List ℤ) (headers : List HeaderRecord) (old new : Database) (its : IsOld older old) (h : AreTakenApart older numbers headers old new) where
+module _ (older : Older) (numbers : List ℤ) (headers : List HeaderRecord) (old new : Database) (its : IsOld (layout_as older) old) (h : AreTakenApart older numbers headers old new) where
   files_same : h.with_files.schema ≡ h.with_table.schema
   files_same = parted_schema older numbers headers h.with_table h.with_files h.parted
 

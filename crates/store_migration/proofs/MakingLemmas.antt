@@ -24,6 +24,7 @@ use Rattle.store_holdings.specs.AllTables.{with_derived}
 use Rattle.store_holdings.specs.Readings.{TableReading, KeepsRows, table_name_of, marks, items, members, editions, contents, kept_replies}
 use Rattle.store_holdings.specs.Holds.{HasPlace, Holds}
 use Rattle.store_holdings.proofs.KeepLemmas.{keeps_added, keeps_none}
+use Rattle.store_holdings.proofs.OrphanLemmas.{no_orphans}
 use Rattle.store_migration.specs.Making.{CreationStep, one, StepsRunInTurn, StepsFailInTurn, lasting_tables}
 use Rattle.store_migration.proofs.KitLemmas.{Database, IsDatabase, Held, Table, IsDefinition, HasOwn, mark, item, member, kept, table_of, store_defined, IsFree, IsMade, MadeInTurn, HasApartRowids, IsAdded, rows_of, apart_none, own_in}
 use Rattle.store_migration.proofs.KitLemmas.{one_keeps, one_own, one_rows, header, header_defined, part, part_defined, mark_row, mark_record}
@@ -107,8 +108,8 @@ module _ (old mid : Database) (place : HasPlace old.schema) (sound : IsDatabase 
         own_new : (table : ℕ → Table) → HasOwn late.schema table → HasOwn new.schema table
         own_new table own = own_still table late new put.schema own
 
-        none_new : (r : TableReading) → IsDefinition r.table → same_name (table_name_of r) (mark 0).name ≡ false → HasOwn late.schema r.table → rows_of (table_name_of r) late ≡ [] → r.rows (with_derived empty_tables) ≡ []
-            → KeepsRows r new (with_derived empty_tables)
+        none_new : (r : TableReading) → IsDefinition r.table → same_name (table_name_of r) (mark 0).name ≡ false → HasOwn late.schema r.table → rows_of (table_name_of r) late ≡ [] → r.rows (with_derived [] empty_tables) ≡ []
+            → KeepsRows r new (with_derived [] empty_tables)
         none_new r defined apart own none no_rows =
             let empty = others_rows mark (store_defined Mark) r.table defined apart late new put.schema put.others mark_there own ∙ none in
             record {
@@ -116,7 +117,7 @@ module _ (old mid : Database) (place : HasPlace old.schema) (sound : IsDatabase 
               apart = subst HasApartRowids (sym empty) apart_none;
             }
 
-        marks_new : KeepsRows marks new (with_derived empty_tables)
+        marks_new : KeepsRows marks new (with_derived [] empty_tables)
         marks_new =
             let k = keeps_added (codes "mark") mark_row late new [] (mark_record known 0) put (keeps_none (codes "mark") mark_row late (late_none mark (store_defined Mark) all_there.own.0 all_there.empty.0)) in
             record { rows = k.rows; apart = k.apart }
@@ -135,6 +136,7 @@ module _ (old mid : Database) (place : HasPlace old.schema) (sound : IsDatabase 
                 room = tt;
               };
               tables = empty_tables;
+              orphans = [];
               keeps = (
                 marks_new,
                 (
@@ -150,4 +152,5 @@ module _ (old mid : Database) (place : HasPlace old.schema) (sound : IsDatabase 
               );
               shown = tt;
               stands = record { well_formed = empty_well_formed; marks = refl; items = refl; members = tt; owners = tt; editions = tt; numbers = tt; entries = tt; kept = refl };
+              apart = no_orphans known empty_catalogue;
             }

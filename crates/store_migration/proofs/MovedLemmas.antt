@@ -1,5 +1,5 @@
 -- What a whole migration makes.
-use Rattle.std.proofs.Common.{◌≡◌, ◌++◌, ◌∙◌, ℕ, ℤ, pos, true, false, not, List, [], ◌∷◌, map, drop, filter, codes, refl, sym, subst}
+use Rattle.std.proofs.Common.{◌≡◌, ◌++◌, ◌∙◌, ◌<◌, ℕ, ℤ, pos, Option, Some, None, true, false, not, List, [], ◌∷◌, map, drop, filter, codes, refl, sym, subst}
 use Rattle.std.specs.List.Sorted.{IsPermutation}
 use Rattle.std.proofs.lemmas.List.Sorted.{IsPermutation-map, IsPermutation-trans}
 use Rattle.sqlite_schema.specs.Names.{same_name}
@@ -20,10 +20,11 @@ use Rattle.store_holdings.specs.Readings.{TableReading, KeepsAll, KeepsRows, tab
 use Rattle.store_holdings.specs.Holds.{HasLayout, Holds}
 use Rattle.store_holdings.proofs.KeepLemmas.{keeps_added, keeps_none}
 use Rattle.store_holdings.proofs.OneLemmas.{same_version}
+use Rattle.store_holdings.proofs.OrphanLemmas.{no_orphans}
 use Rattle.store_holdings.proofs.ReadingLemmas.{map_twice}
 use Rattle.store_migration.specs.Migrated.{IsMigrated}
-use Rattle.store_migration.specs.Moved.{AreHeaded, AreTakenApart, IsMarkedAnew, IsMoved}
-use Rattle.store_migration.specs.Older.{IsOld, form_of, layout_as}
+use Rattle.store_migration.specs.Moved.{AreHeaded, AreTakenApart, IsMarkedAnew, IsMoved, IsRenewed}
+use Rattle.store_migration.specs.Older.{IsOld, form_of, layout_as, layout_before}
 use Rattle.store_migration.specs.Spared.{IsBeside, Spares}
 use Rattle.store_migration.specs.declared.older.Older.{Older}
 use Rattle.store_migration.specs.declared.older.Older.TheVariants.{Plain, Keyed, Shown}
@@ -46,7 +47,7 @@ beside = (
 
 -- ---- the headers
 
-module _ (older : Older) (numbers : List ℤ) (headers : List spec.HeaderRecord) (old apart new : Database) (its : IsOld older old) (takes : AreTakenApart older numbers headers old apart) (h : AreHeaded headers apart new) where
+module _ (older : Older) (numbers : List ℤ) (headers : List spec.HeaderRecord) (old apart new : Database) (its : IsOld (layout_as older) old) (takes : AreTakenApart older numbers headers old apart) (h : AreHeaded headers apart new) where
   pub made_header : HasOwn h.with_table.schema header
   made_header =
       let may = apart_headed older numbers headers old apart its takes in
@@ -93,7 +94,7 @@ module _ (installs : ℕ) (last new : Database) (own : HasOwn last.schema mark) 
       others_rows mark (store_defined store.Mark) other also apart h.cleared new h.put.schema h.put.others (own_still mark last h.cleared h.taken.schema own) (own_still other last h.cleared h.taken.schema its)
       ∙ others_rows mark (store_defined store.Mark) other also apart last h.cleared h.taken.schema h.taken.others own its
 
-  pub marked_marks : (version : ℕ) (t : Tables) → t.marks ≡ mark_record version installs ∷ [] → KeepsRows marks new (with_derived (as_version known t))
+  pub marked_marks : (version : ℕ) (t : Tables) → t.marks ≡ mark_record version installs ∷ [] → KeepsRows marks new (with_derived [] (as_version known t))
   marked_marks version t is =
       let k = keeps_added (codes "mark") mark_row h.cleared new [] (mark_record known installs) h.put (keeps_none (codes "mark") mark_row h.cleared (h.taken.rows ∙ none_left (rows_of (codes "mark") last))) in
       let rows = map (drop 1) (rows_of (codes "mark") new) in
@@ -104,18 +105,22 @@ module _ (installs : ℕ) (last new : Database) (own : HasOwn last.schema mark) 
 
 -- ---- all of it
 
+-- these records stand for the one catalogue that is held
+one_held_so : (version : ℕ) (db : Database) (M N : Catalogue) → Holds version db N → (t : Tables) → KeepsAll (layout_of version) db (with_derived [] t) → AreShownIn (layout_of version) t.entries → Stands version t M → M ≡ N
+one_held_so version db M N held t k shown s = same_version version db M N (record { own = held.own; tables = t; orphans = []; keeps = k; shown = shown; stands = s; apart = no_orphans version M }) held
+
 again : (r : TableReading) (A B : AllTables) (old new : Database) → r.rows A ≡ r.rows B → rows_of (table_name_of r) new ≡ rows_of (table_name_of r) old → KeepsRows r old A → KeepsRows r new B
 again r A B old new same still k = record {
   rows = subst (λ l. IsPermutation (r.rows B) (map (λ row. drop 1 (r.looked row)) l)) (sym still) (subst (λ l. IsPermutation l (map (λ row. drop 1 (r.looked row)) (rows_of (table_name_of r) old))) same k.rows);
   apart = subst HasApartRowids (sym still) k.apart;
 }
 
-records_of : (older : Older) (t : Tables) (db : Database) → KeepsAll (layout_as older) db (with_derived t) → AreShownIn (layout_as older) t.entries → HasRecordsOf older t db
+records_of : (older : Older) (t : Tables) (db : Database) → KeepsAll (layout_as older) db (with_derived [] t) → AreShownIn (layout_as older) t.entries → HasRecordsOf older t db
 records_of Plain t db k shown = record { editions = k.1.1.1.1.0.rows; entries = k.1.1.1.1.1.0.rows; shown = shown }
 records_of Keyed t db k shown = record { editions = k.1.1.1.1.0.rows; entries = k.1.1.1.1.1.0.rows; shown = shown }
 records_of Shown t db k shown = record { editions = k.1.1.1.1.0.rows; entries = k.1.1.1.1.1.0.rows; shown = shown }
 
-module _ (older : Older) (version : ℕ) (is : layout_of version ≡ layout_as older) (N : Catalogue) (old new : Database) (its : IsOld older old) (held : Holds version old N)
+module _ (older : Older) (version : ℕ) (is : layout_of version ≡ layout_as older) (before : version < known) (N : Catalogue) (old new : Database) (its : IsOld (layout_as older) old) (held : Holds version old N)
     (m : IsMoved older (map pos (edition_numbers N.items)) N.installs old new) where
   abbrev numbers : List ℤ
   numbers = map pos (edition_numbers N.items)
@@ -158,7 +163,7 @@ module _ (older : Older) (version : ℕ) (is : layout_of version ≡ layout_as o
         room = tt;
       }
 
-  module _ (t : Tables) (s : Stands version t N) (shown : AreShownIn (layout_as older) t.entries) (k : KeepsAll (layout_as older) old (with_derived t)) where
+  module _ (t : Tables) (s : Stands version t N) (shown : AreShownIn (layout_as older) t.entries) (k : KeepsAll (layout_as older) old (with_derived [] t)) where
     first_records : HasRecordsOf older t m.takes.with_table
     first_records =
         let own = (old_has older old.schema its.own).edition in
@@ -179,13 +184,13 @@ module _ (older : Older) (version : ℕ) (is : layout_of version ≡ layout_as o
 
     -- a table that stays has what it had
     other_kept : (r : TableReading) → IsDefinition r.table → IsBeside (table_name_of r) → same_name (table_name_of r) (mark 0).name ≡ false → HasOwn old.schema r.table
-        → r.rows (with_derived t) ≡ r.rows (with_derived (as_version known t)) → KeepsRows r old (with_derived t) → KeepsRows r new (with_derived (as_version known t))
+        → r.rows (with_derived [] t) ≡ r.rows (with_derived [] (as_version known t)) → KeepsRows r old (with_derived [] t) → KeepsRows r new (with_derived [] (as_version known t))
     other_kept r defined beside apart own same kept =
         let stay = stays r.table defined beside own in
-        again r (with_derived t) (with_derived (as_version known t)) old new same (rows_new r.table defined apart stay.0 ∙ stay.1) kept
+        again r (with_derived [] t) (with_derived [] (as_version known t)) old new same (rows_new r.table defined apart stay.0 ∙ stay.1) kept
 
     -- all parts
-    parts_kept : KeepsRows (contents Parted) new (with_derived (as_version known t))
+    parts_kept : KeepsRows (contents Parted) new (with_derived [] (as_version known t))
     parts_kept =
         let whole = filter_whole (λ (p : spec.Part). is_of numbers p.edition) (all_parts t) (parts_known version t N s) in
         let same = rows_new part part_defined apart_mark.1.1 parts_last ∙ headed_parts_are older numbers m.headers old m.apart m.headed its m.takes m.heads in
@@ -196,7 +201,7 @@ module _ (older : Older) (version : ℕ) (is : layout_of version ≡ layout_as o
         }
 
     -- all headers
-    headers_kept : KeepsRows (editions Parted) new (with_derived (as_version known t))
+    headers_kept : KeepsRows (editions Parted) new (with_derived [] (as_version known t))
     headers_kept =
         let whole = filter_whole (λ (e : spec.EditionRecord). is_of numbers e.number) t.editions (editions_known version t N s) in
         let same = rows_new header header_defined apart_mark.1.0 headers_last in
@@ -209,7 +214,7 @@ module _ (older : Older) (version : ℕ) (is : layout_of version ≡ layout_as o
           apart = subst HasApartRowids (sym same) (m.heads.added.apart (subst HasApartRowids (sym m.heads.made.empty) apart_none));
         }
 
-    moved_keeps : KeepsAll (layout_of known) new (with_derived (as_version known t))
+    moved_keeps : KeepsAll (layout_of known) new (with_derived [] (as_version known t))
     moved_keeps =
         let own = its.own.tables in
         let away = apart_mark in (
@@ -225,8 +230,49 @@ module _ (older : Older) (version : ℕ) (is : layout_of version ≡ layout_as o
 
   pub moved : IsMigrated version old new
   moved = record {
+    before = before;
     own = moved_own;
     keeps = λ t M k shown s.
-        let same : M ≡ N = same_version version old M N (record { own = held.own; tables = t; keeps = k; shown = shown; stands = s }) held in
-        moved_keeps t (subst (Stands version t) same s) (subst (λ layout. AreShownIn layout t.entries) is shown) (subst (λ layout. KeepsAll layout old (with_derived t)) is k);
+        let same : M ≡ N = one_held_so version old M N held t k shown s in
+        moved_keeps t (subst (Stands version t) same s) (subst (λ layout. AreShownIn layout t.entries) is shown) (subst (λ layout. KeepsAll layout old (with_derived [] t)) is k);
   }
+
+-- ---- of tables that are laid out as those of the known version, the mark alone
+
+module _ (version : ℕ) (is : layout_of version ≡ Parted) (before : version < known) (N : Catalogue) (old new : Database) (its : IsOld Parted old) (held : Holds version old N) (m : IsMarkedAnew N.installs old new) where
+  -- a table has what it had
+  still_kept : (t : Tables) (r : TableReading) → IsDefinition r.table → same_name (table_name_of r) (mark 0).name ≡ false → HasOwn old.schema r.table → r.rows (with_derived [] t) ≡ r.rows (with_derived [] (as_version known t))
+      → KeepsRows r old (with_derived [] t) → KeepsRows r new (with_derived [] (as_version known t))
+  still_kept t r defined apart own same kept = again r (with_derived [] t) (with_derived [] (as_version known t)) old new same (marked_rows N.installs old new its.own.tables.0 m r.table defined apart own) kept
+
+  all_kept : (t : Tables) → Stands version t N → KeepsAll Parted old (with_derived [] t) → KeepsAll (layout_of known) new (with_derived [] (as_version known t))
+  all_kept t s k =
+      let own = its.own.tables in
+      let away = apart_mark in (
+        marked_marks N.installs old new own.0 m version t s.marks,
+        (
+          still_kept t items (store_defined store.Item) away.0.0 own.1.0 refl k.1.0,
+          (
+            still_kept t members (store_defined store.Member) away.0.1 own.1.1.0 refl k.1.1.0,
+            (
+              still_kept t kept_replies (store_defined store.Kept) away.0.2 own.1.1.1.0 refl k.1.1.1.0,
+              (still_kept t (editions Parted) header_defined away.1.0 own.1.1.1.1.0 refl k.1.1.1.1.0, (still_kept t (contents Parted) part_defined away.1.1 own.1.1.1.1.1.0 refl k.1.1.1.1.1.0, tt)),
+            ),
+          ),
+        ),
+      )
+
+  pub marked : IsMigrated version old new
+  marked = record {
+    before = before;
+    own = subst (HasLayout Parted) (sym (m.put.schema ∙ m.taken.schema)) its.own;
+    keeps = λ t M k shown s.
+        let same : M ≡ N = one_held_so version old M N held t k shown s in
+        all_kept t (subst (Stands version t) same s) (subst (λ layout. KeepsAll layout old (with_derived [] t)) is k);
+  }
+
+-- either
+pub renewed : (older : Option Older) (version : ℕ) → layout_of version ≡ layout_before older → version < known → (N : Catalogue) (old new : Database) → IsOld (layout_before older) old → Holds version old N
+    → IsRenewed older (map pos (edition_numbers N.items)) N.installs old new → IsMigrated version old new
+renewed (Some older) version is before N old new its held m = moved older version is before N old new its held m
+renewed None version is before N old new its held m = marked version is before N old new its held m

@@ -1,5 +1,5 @@
 -- The tables of others stay as they are.
-use Rattle.std.proofs.Common.{◌≡◌, ◌≢◌, ◌==◌, ◌∙◌, ℕ, ℤ, true, false, not, filter, find, List, [], ◌∷◌, Some, inl, inr, refl, sym, ap, subst}
+use Rattle.std.proofs.Common.{◌≡◌, ◌≢◌, ◌==◌, ◌∙◌, ℕ, ℤ, true, false, not, filter, find, List, [], ◌∷◌, Option, Some, None, inl, inr, refl, sym, ap, subst}
 use Rattle.std.specs.List.{AllByRecursion}
 use Rattle.std.proofs.lemmas.Bool.{false≢true, cases_Bool}
 use Rattle.sqlite_rules.specs.Lists.{Has}
@@ -16,8 +16,8 @@ use Rattle.store_sql.proofs.MakeLemmas.{found_later}
 use Rattle.store_older_sql.specs.declared.entries.EntryForm.{EntryForm}
 use Rattle.store_older_sql.specs.declared.entries.EntryForm.TheVariants as form
 use Rattle.store_rows.proofs.TakenLemmas.{nat_itself}
-use Rattle.store_migration.specs.Moved.{IsMoved}
-use Rattle.store_migration.specs.Older.{DroppedInTurn, IsOld, form_of, gone_tables, gone_with}
+use Rattle.store_migration.specs.Moved.{IsMarkedAnew, IsMoved, IsRenewed}
+use Rattle.store_migration.specs.Older.{DroppedInTurn, IsOld, form_of, gone_tables, gone_with, layout_as, layout_before}
 use Rattle.store_migration.specs.Spared.{IsOthers, SparesOthers}
 use Rattle.store_migration.specs.Steps.{AreParted}
 use Rattle.store_migration.specs.declared.older.Older.{Older}
@@ -127,7 +127,11 @@ others_gone (table ∷ tables) may are old new own h =
 
 -- ---- all of a migration
 
-pub others_moved : (older : Older) (numbers : List ℤ) (installs : ℕ) (old new : Database) → IsOld older old → IsMoved older numbers installs old new → SparesOthers old new
+others_anew : (installs : ℕ) (old new : Database) → HasOwn old.schema mark → IsMarkedAnew installs old new → SparesOthers old new
+others_anew installs old new own m =
+    others_then old m.cleared new (others_marked old m.cleared own m.taken.schema m.taken.others) (others_marked m.cleared new (own_still mark old m.cleared m.taken.schema own) m.put.schema m.put.others)
+
+others_moved : (older : Older) (numbers : List ℤ) (installs : ℕ) (old new : Database) → IsOld (layout_as older) old → IsMoved older numbers installs old new → SparesOthers old new
 others_moved older numbers installs old new its m =
     let takes = m.takes in
     let heads = m.heads in
@@ -138,12 +142,13 @@ others_moved older numbers installs old new its m =
     (gone_files older numbers m.headers old m.apart its takes) in
     let four = others_made (header 0) m.apart heads.with_table heads.made in
     let five = others_rows header header_defined (λ name none. none.1.1.1.0) heads.with_table m.headed (made_header older numbers m.headers old m.apart m.headed its takes heads) heads.added.schema heads.added.others in
-    let cleared = m.marked.cleared in
-    let six = others_marked m.headed cleared behind m.marked.taken.schema m.marked.taken.others in
-    let seven = others_marked cleared new (own_still mark m.headed cleared m.marked.taken.schema behind) m.marked.put.schema m.marked.put.others in
     others_then old m.headed new
     (others_then old m.apart m.headed (others_then old takes.with_files m.apart (others_then old takes.with_table takes.with_files one two) three) (others_then m.apart heads.with_table m.headed four five))
-    (others_then m.headed cleared new six seven)
+    (others_anew installs m.headed new behind m.marked)
+
+pub others_renewed : (older : Option Older) (numbers : List ℤ) (installs : ℕ) (old new : Database) → IsOld (layout_before older) old → IsRenewed older numbers installs old new → SparesOthers old new
+others_renewed (Some older) numbers installs old new its m = others_moved older numbers installs old new its m
+others_renewed None numbers installs old new its m = others_anew installs old new its.own.tables.0 m
 
 -- ---- and of a creation
 

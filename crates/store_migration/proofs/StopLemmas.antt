@@ -1,12 +1,14 @@
 -- What a migration makes, and what a stop in it leaves.
-use Rattle.std.proofs.Common.{◌≡◌, ◌↔◌, ℕ, List, sym, subst, inl, inr, arith, ◌∙◌, ◌<◌, ◌≤◌, ℤ, pos, true, false, map, Some, None, ap}
+use Rattle.std.proofs.Common.{◌≡◌, ◌↔◌, ℕ, List, [], sym, subst, inl, inr, arith, ◌∙◌, ◌<◌, ◌≤◌, ℤ, pos, true, false, map, Some, None, ap}
 use Rattle.std.specs.Prelude.{IsTrue, Option, Some, None}
 use Rattle.std.specs.List.{Contains}
 use Rattle.sqlite.specs.Tree.{Trees}
 use Rattle.sqlite.specs.State.{Shows, Fails, IsLive}
 use Rattle.dict_catalogue.specs.Steps.{Catalogue, summary_of}
 use Rattle.store_rows.specs.Versions.{known, IsVersion, Layout, layout_of}
-use Rattle.store_holdings.specs.AllTables.{as_version}
+use Rattle.store_holdings.specs.AllTables.{as_version, with_derived}
+use Rattle.store_holdings.specs.Readings.{KeepsAll}
+use Rattle.store_holdings.proofs.OrphanLemmas.{no_orphans}
 use Rattle.store_rows.proofs.LawfulLemmas.{numbers_as}
 use Rattle.store_holdings.proofs.VersionLemmas.{same_stands}
 use Rattle.store_holdings.specs.Holds.{Holds, IsHeld, HasLayout, IsLeftAs, Rests}
@@ -24,20 +26,22 @@ use Rattle.store_holdings.specs.Committed.{IsCommitted, IsTreesOf}
 use Rattle.store_holdings.specs.Writing.{StaysCommitted}
 use Rattle.store_holdings.proofs.CommitLemmas.{leaves, done, only_left, commit_fails, keeps_begun, stays_undone}
 use Rattle.store_migration.specs.Moved.{IsOutcome}
-use Rattle.store_migration.specs.Older.{IsOld, layout_as}
+use Rattle.store_migration.specs.Older.{IsOld, layout_before}
 use Rattle.store_migration.specs.declared.older.Older.{Older}
 use Rattle.store_migration.specs.Spared.{SparesOthers}
-use Rattle.store_migration.proofs.KitLemmas.{Database, IsDatabase, State, HasCleanDisk, Survives, KeepsCommit, Held, state, was_clean}
-use Rattle.store_migration.proofs.OtherLemmas.{others_moved}
-use Rattle.store_migration.proofs.MovedLemmas.{moved}
+use Rattle.store_migration.proofs.KitLemmas.{Database, IsDatabase, State, HasCleanDisk, Survives, KeepsCommit, Held, Part, state, was_clean}
+use Rattle.store_migration.proofs.OtherLemmas.{others_renewed}
+use Rattle.store_migration.proofs.MovedLemmas.{renewed}
 
 pub migrated : (version : ℕ) (old new : Database) (M : Catalogue) → IsMigrated version old new → Holds version old M → Holds known new M
 migrated version old new M m h = record {
   own = m.own;
   tables = as_version known h.tables;
-  keeps = m.keeps h.tables M h.keeps h.shown h.stands;
+  orphans = [];
+  keeps = m.keeps h.tables M (subst (λ (orphans : List Part). KeepsAll (layout_of version) old (with_derived orphans h.tables)) (h.apart.later m.before) h.keeps) h.shown h.stands;
   shown = tt;
   stands = same_stands version known h.tables M h.stands;
+  apart = no_orphans known M;
 }
 
 older : (db : Database) (M : Catalogue) → HoldsOlder db M → IsHeld db M
@@ -85,7 +89,7 @@ same_held old new N was is M = (
 
 -- ---- what a migration that was committed leaves
 
-pub outcome_of : {S : Type 0} (g : Ghosts S) (older : Older) (numbers : List ℤ) (installs : ℕ) (old begun : Held S) (new : Database) → begun ≡ record old { in_transaction = true }
+pub outcome_of : {S : Type 0} (g : Ghosts S) (older : Option Older) (numbers : List ℤ) (installs : ℕ) (old begun : Held S) (new : Database) → begun ≡ record old { in_transaction = true }
     → IsOutcome older numbers installs (state g begun) new → IsOutcome older numbers installs (state g old) new
 outcome_of g older numbers installs old begun new is it =
     let there = subst (λ h. IsOutcome older numbers installs (state g h) new) is it in
@@ -93,7 +97,7 @@ outcome_of g older numbers installs old begun new is it =
 
 -- ---- a store at rest that holds a catalogue under an older version
 
-pub is_old : (version : ℕ) (older : Older) → layout_of version ≡ layout_as older → (s : State) (N : Catalogue) → Rests version s N → IsDatabase s.now → IsOld older s.now
+pub is_old : (version : ℕ) (older : Option Older) → layout_of version ≡ layout_before older → (s : State) (N : Catalogue) → Rests version s N → IsDatabase s.now → IsOld (layout_before older) s.now
 is_old version older is s N rests sound =
     let held : Holds version s.now N = subst (λ (d : Database). Holds version d N) (sym rests.settled) rests.holds in
     record {
@@ -102,7 +106,8 @@ is_old version older is s N rests sound =
       marks = held.keeps.0.apart;
     }
 
-module _ {version : ℕ} {older : Older} (is : layout_of version ≡ layout_as older) {s : State} {summary : Holdings (List ℕ)} (start : IsTrue s.is_open → (N : Catalogue) × Rests version s N × (summary_of N ≡ summary)) (live : IsLive s)
+module _ {version : ℕ} {older : Option Older} (is : layout_of version ≡ layout_before older) (before : version < known) {s : State} {summary : Holdings (List ℕ)}
+    (start : IsTrue s.is_open → (N : Catalogue) × Rests version s N × (summary_of N ≡ summary)) (live : IsLive s)
     {numbers : List ℤ} (numbers_are : numbers ≡ map pos (edition_numbers summary.items)) where
   pub outcome_migrated : (new : Database) → IsOutcome older numbers summary.installs s new → IsMigrated version s.committed new
   outcome_migrated new made =
@@ -111,7 +116,7 @@ module _ {version : ℕ} {older : Older} (is : layout_of version ≡ layout_as o
       let numbers_of = ap (λ (h : Holdings (List ℕ)). map pos (edition_numbers h.items)) (sym it.2) ∙ ap (map pos) (numbers_as (λ (edition : Edition). edition.title) it.0.items) in
       let first = subst (λ ns. IsOutcome older ns summary.installs s new) (numbers_are ∙ numbers_of) made in
       let second = subst (λ n. IsOutcome older (map pos (edition_numbers it.0.items)) n s new) (ap (λ (h : Holdings (List ℕ)). h.installs) (sym it.2)) first in
-      subst (λ (d : Database). IsMigrated version d new) it.1.settled (moved older version is it.0 s.now new (is_old version older is s it.0 it.1 (live made.was_open).0) held second.moved)
+      subst (λ (d : Database). IsMigrated version d new) it.1.settled (renewed older version is before it.0 s.now new (is_old version older is s it.0 it.1 (live made.was_open).0) held second.moved)
 
   pub outcome_holds : (new : Database) → IsOutcome older numbers summary.installs s new → (M : Catalogue) → Holds version s.committed M → Holds known new M
   outcome_holds new made M held = migrated version s.committed new M (outcome_migrated new made) held
@@ -119,15 +124,15 @@ module _ {version : ℕ} {older : Older} (is : layout_of version ≡ layout_as o
   pub outcome_left : (trees : Trees) → IsTreesOf (IsOutcome older numbers summary.installs s) trees → (M : Catalogue) → Holds version s.committed M → IsLeftAs known M trees
   outcome_left trees left M held = (left.0, left.1, left.2, outcome_holds left.0 left.3 M held)
 
-  pub outcome_may : 1 ≤ version → version < known → (trees : Trees) → IsTreesOf (IsOutcome older numbers summary.installs s) trees → MayMigrate s trees
-  outcome_may counted before trees left =
+  pub outcome_may : 1 ≤ version → (trees : Trees) → IsTreesOf (IsOutcome older numbers summary.installs s) trees → MayMigrate s trees
+  outcome_may counted trees left =
       let it = start left.3.was_open in
       (left.3.was_open, (it.0, record { version = version; counted = counted; before = before; holds = it.1.holds }, outcome_left trees left it.0 it.1.holds))
 
   pub outcome_spares : (new : Database) → IsOutcome older numbers summary.installs s new → SparesOthers s.committed new
   outcome_spares new made =
       let it = start made.was_open in
-      subst (λ (d : Database). SparesOthers d new) it.1.settled (others_moved older numbers summary.installs s.now new (is_old version older is s it.0 it.1 (live made.was_open).0) made.moved)
+      subst (λ (d : Database). SparesOthers d new) it.1.settled (others_renewed older numbers summary.installs s.now new (is_old version older is s it.0 it.1 (live made.was_open).0) made.moved)
 
 -- ---- the commit of a transaction, which leaves one state at its end
 

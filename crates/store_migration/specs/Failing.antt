@@ -1,5 +1,5 @@
 -- Why nothing comes of a migration.
-use Rattle.std.specs.Prelude.{◌≡◌, ◌⊎◌, ◌≤◌, ℕ, true, List, map, pos}
+use Rattle.std.specs.Prelude.{◌≡◌, ◌⊎◌, ◌≤◌, ℕ, true, List, map, pos, Option}
 use Rattle.std.specs.List.{AllByRecursion}
 use Rattle.sqlite.specs.Effect.{Database}
 use Rattle.sqlite.specs.State.{Survives, Fails, IsRolledBack}
@@ -19,9 +19,9 @@ use Rattle.store_rows.specs.Versions.{known, layout_of}
 use Rattle.store_holdings.specs.Faults.{fault_of_read}
 use Rattle.store_holdings.specs.Holds.{Holds}
 use Rattle.store_migration.specs.declared.older.Older.{Older}
-use Rattle.store_migration.specs.Older.{layout_as}
+use Rattle.store_migration.specs.Older.{layout_before}
 use Rattle.store_migration.specs.MigrationParts.{MigrationPart, FailsBy}
-use Rattle.store_migration.specs.FailurePlaces.{FailurePlace, InMove}
+use Rattle.store_migration.specs.FailurePlaces.{FailurePlace, InRenewal}
 
 -- one of the numbers is above all that a column holds, or a growth was refused
 abbrev pub FailsToSign : List ℕ → ReadError → Type 0
@@ -71,12 +71,13 @@ module _ {S : Type 0} (g : Ghosts S) where
     pub same : new ≡ old
     pub why : (fault ≡ Memory) ⊎ ((fault ≡ Disk) × IsBeyond summary)
 
-  -- A part of the migration of the editions of this summary failed, or its commit did, behind which a catalogue that was held under
-  -- this version is held under the known one.
+  -- A part of the migration of the editions of this summary failed (where the tables were laid out as those of the known version
+  -- already, of the two statements that write the mark anew), or its commit did, behind which a catalogue that was held under this
+  -- version is held under the known one.
   pub record FailsToMoveEditions (version : ℕ) (summary : Holdings (List ℕ)) (old new : Held S) (fault : Fault) : Type 0 where
-    pub older : Older
-    pub layout : layout_of version ≡ layout_as older
-    pub why : MigrationFailsToEnd (InMove older (map pos (edition_numbers summary.items)) summary.installs) (λ db. (M : Catalogue) → Holds version (state g old).committed M → Holds known db M) old new fault
+    pub older : Option Older
+    pub layout : layout_of version ≡ layout_before older
+    pub why : MigrationFailsToEnd (InRenewal older (map pos (edition_numbers summary.items)) summary.installs) (λ db. (M : Catalogue) → Holds version (state g old).committed M → Holds known db M) old new fault
 
   -- either
   abbrev pub FailsToMigrate : ℕ → Holdings (List ℕ) → Held S → Held S → Fault → Type 0

@@ -1,5 +1,5 @@
 -- At which moments of a migration each of its parts fails: what it had made before of the database that it began with.
-use Rattle.std.specs.Prelude.{◌≡◌, ◌⊎◌, ◌++◌, ℕ, ℤ, true, List, ◌∷◌, map, codes, IsPermutation}
+use Rattle.std.specs.Prelude.{◌≡◌, ◌⊎◌, ◌++◌, ℕ, ℤ, true, List, ◌∷◌, map, codes, IsPermutation, Option, Some, None}
 use Rattle.sqlite.specs.Effect.{Database}
 use Rattle.sqlite.specs.Order.{Row}
 use Rattle.store_records.specs.Records.{EditionRecord, EntryRecord, HeaderRecord}
@@ -107,3 +107,8 @@ InRest older numbers installs part old at = (headers : List HeaderRecord) × Beh
 
 abbrev pub InMove : Older → List ℤ → ℕ → FailurePlace
 InMove older numbers installs = Either (InApart older numbers) (InRest older numbers installs)
+
+-- all of it, or the mark alone
+abbrev pub InRenewal : Option Older → List ℤ → ℕ → FailurePlace
+InRenewal (Some older) numbers installs = InMove older numbers installs
+InRenewal None numbers installs = InMark installs

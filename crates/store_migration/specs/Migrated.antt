@@ -1,5 +1,5 @@
 -- What a migration makes of a database of an older version, and what it may leave.
-use Rattle.std.specs.Prelude.{◌<◌, ◌≤◌, ℕ, IsTrue}
+use Rattle.std.specs.Prelude.{◌<◌, ◌≤◌, ℕ, IsTrue, []}
 use Rattle.sqlite.specs.Effect.{Database}
 use Rattle.sqlite.specs.Tree.{Trees}
 use Rattle.sqlite.specs.State.{State}
@@ -12,11 +12,12 @@ use Rattle.store_holdings.specs.Readings.{KeepsAll, AreShownIn}
 use Rattle.store_holdings.specs.Holds.{Holds, HasLayout, IsLeftAs}
 
 -- Whatever records the tables of an older version keep that stand for a catalogue, those of the known one keep them, with the parts
--- of their files. (Of records that stand for none nothing is said: entries of no edition aren't carried over.)
+-- of their files, and no orphans. (Of records that stand for none nothing is said: entries of no edition aren't carried over.)
 pub record IsMigrated (version : ℕ) (old new : Database) : Type 0 where
+  pub before : version < known
   pub own : HasLayout (layout_of known) new.schema
-  pub keeps : (tables : Tables) (M : Catalogue) → KeepsAll (layout_of version) old (with_derived tables) → AreShownIn (layout_of version) tables.entries → Stands version tables M
-      → KeepsAll (layout_of known) new (with_derived (as_version known tables))
+  pub keeps : (tables : Tables) (M : Catalogue) → KeepsAll (layout_of version) old (with_derived [] tables) → AreShownIn (layout_of version) tables.entries → Stands version tables M
+      → KeepsAll (layout_of known) new (with_derived [] (as_version known tables))
 
 -- the database holds the catalogue under a version before the known one
 pub record HoldsOlder (db : Database) (M : Catalogue) : Type 0 where

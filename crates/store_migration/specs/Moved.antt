@@ -1,5 +1,5 @@
 -- A whole migration, before its commit.
-use Rattle.std.specs.Prelude.{ℕ, ℤ, true, IsTrue, List, codes, map}
+use Rattle.std.specs.Prelude.{ℕ, ℤ, true, IsTrue, List, codes, map, Option, Some, None}
 use Rattle.sqlite.specs.Effect.{Database}
 use Rattle.sqlite.specs.State.{State}
 use Rattle.store_records.specs.Records.{HeaderRecord}
@@ -46,7 +46,12 @@ pub record IsMoved (older : Older) (numbers : List ℤ) (installs : ℕ) (old ne
   pub heads : AreHeaded headers apart headed
   pub marked : IsMarkedAnew installs headed new
 
+-- all of it; or, where the tables were laid out as those of the known version already, the mark alone was written anew
+abbrev pub IsRenewed : Option Older → List ℤ → ℕ → Database → Database → Type 0
+IsRenewed (Some older) numbers installs old new = IsMoved older numbers installs old new
+IsRenewed None numbers installs old new = IsMarkedAnew installs old new
+
 -- what is made of an open store
-pub record IsOutcome (older : Older) (numbers : List ℤ) (installs : ℕ) (old : State) (new : Database) : Type 0 where
+pub record IsOutcome (older : Option Older) (numbers : List ℤ) (installs : ℕ) (old : State) (new : Database) : Type 0 where
   pub was_open : IsTrue old.is_open
-  pub moved : IsMoved older numbers installs old.now new
+  pub moved : IsRenewed older numbers installs old.now new

@@ -1,5 +1,5 @@
 -- How the tables of an older version are laid out, and which of them are dropped.
-use Rattle.std.specs.Prelude.{◌≡◌, ℕ, List, [], ◌∷◌, codes}
+use Rattle.std.specs.Prelude.{◌≡◌, ℕ, List, [], ◌∷◌, codes, Option, Some, None}
 use Rattle.sqlite.specs.Effect.{Database, IsDatabase}
 use Rattle.sqlite.specs.Order.{Row}
 use Rattle.sqlite.specs.Table.{Table}
@@ -30,6 +30,11 @@ abbrev pub layout_as : Older → Layout
 layout_as Plain = layout.Plain
 layout_as Keyed = layout.Keyed
 layout_as Shown = layout.Shown
+
+-- how they are laid out before a migration: as an older version did, or already as the known one does
+abbrev pub layout_before : Option Older → Layout
+layout_before (Some older) = layout_as older
+layout_before None = layout.Parted
 
 -- what the columns of the table of entries hold, the rowid first
 abbrev pub columns_of : Older → List Content
@@ -79,8 +84,9 @@ abbrev pub DroppedInTurn : List (List ℕ) → Database → Database → Type 0
 DroppedInTurn [] old new = new ≡ old
 DroppedInTurn (name ∷ names) old new = (mid : Database) × IsDropped name old mid × DroppedInTurn names mid new
 
--- a sound database with the tables of an older version, and room for that of the parts of files; no two marks have one rowid
-pub record IsOld (older : Older) (db : Database) : Type 0 where
-  pub own : HasLayout (layout_as older) db.schema
+-- a sound database with the tables of an older version, and room for that of the parts of files where it isn't there; no two marks
+-- have one rowid
+pub record IsOld (layout : Layout) (db : Database) : Type 0 where
+  pub own : HasLayout layout db.schema
   pub sound : IsDatabase db
   pub marks : HasApartRowids (rows_of (codes "mark") db)

@@ -1,5 +1,5 @@
 // The end of a migration: the mark is that of the known version.
-ghost use Rattle.std.specs.Prelude.{◌≡◌, ◌≤◌, true, IfErr, OnOk};
+ghost use Rattle.std.specs.Prelude.{◌≡◌, ◌≤◌, true, IsTrue, IfErr, OnOk};
 ghost use Rattle.sqlite.specs.State.{HasCleanDisk, KeepsCommit, Survives};
 ghost use Rattle.store_tables.specs.Tables.{mark};
 ghost use Rattle.store_sql.specs.Deletes.{HasToRemove};
@@ -21,6 +21,7 @@ pub(crate) fn renew_mark<S: Alter>(tx: &mut Transaction<'_, S>, installs: u64) -
     requires mark { WhileOpen (seen S.Store tx.old) (HasToRemove mark) }
     ensures same_reference { tx.new.conn.ghost_name ≡ tx.old.conn.ghost_name }
     ensures marked { HasCleanDisk (seen S.Store tx.new) → OnOk result (IsMarkedAnew installs (seen S.Store tx.old).now (seen S.Store tx.new).now) }
+    ensures opened { HasCleanDisk (seen S.Store tx.new) → OnOk result (IsTrue (seen S.Store tx.old).is_open) }
     ensures inside { HasCleanDisk (seen S.Store tx.new) → OnOk result ((seen S.Store tx.new).in_transaction ≡ true) }
     ensures failed { HasCleanDisk (seen S.Store tx.new) → IfErr result (λ e. MigrationFailsInside S.Store (InMark installs) tx.old.conn.now tx.new.conn.now (Store e)) }
     ensures keeps { HasCleanDisk (seen S.Store tx.new) → KeepsCommit (seen S.Store tx.old) (seen S.Store tx.new) }

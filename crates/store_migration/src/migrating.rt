@@ -1,5 +1,5 @@
 // A database of an older version becomes one of the next, in one transaction.
-ghost use Rattle.std.specs.Prelude.{◌≡◌, ◌≤◌, ◌<◌, true, false, map, pos, IsTrue, IfOk, IfErr, OnOk, OnErr};
+ghost use Rattle.std.specs.Prelude.{◌≡◌, ◌≤◌, ◌<◌, true, false, map, pos, Option, Some, IsTrue, IfOk, IfErr, OnOk, OnErr};
 ghost use Rattle.sqlite.specs.Effect.{IsDatabase};
 ghost use Rattle.sqlite.specs.Held.{state};
 ghost use Rattle.sqlite.specs.State.{HasCleanDisk, IsLive, KeepsCommit, Survives};
@@ -15,10 +15,10 @@ ghost use Rattle.store_holdings.specs.Holds.{Holds, IsLeftAs, Rests};
 ghost use Rattle.store_holdings.specs.Writing.{StaysCommitted};
 ghost use Rattle.store_migration.specs.Migrated.{IsMigrated, MayMigrate};
 ghost use Rattle.store_holdings.specs.Committed.{IsCommitted, IsTreesOf};
-ghost use Rattle.store_migration.specs.Moved.{AreTakenApart, IsMoved, IsOutcome};
-ghost use Rattle.store_migration.specs.Older.{IsOld, layout_as};
+ghost use Rattle.store_migration.specs.Moved.{AreTakenApart, IsOutcome, IsRenewed};
+ghost use Rattle.store_migration.specs.Older.{IsOld, layout_as, layout_before};
 ghost use Rattle.store_migration.specs.declared.older.Older.{Older as OlderLayout};
-ghost use Rattle.store_migration.specs.FailurePlaces.{InApart, InMove};
+ghost use Rattle.store_migration.specs.FailurePlaces.{InApart, InMove, InRenewal};
 ghost use Rattle.store_migration.specs.Spared.{SparesOthers};
 ghost use Rattle.store_migration.specs.Failing.{MigrationFailsInside, MigrationFailsToEnd, FailsToMigrate, FailsToSign};
 ghost use Rattle.store_holdings.specs.Faults.{IsOfStore};
@@ -41,6 +41,9 @@ use store_sql::records::ReadError;
 /// The greatest number that a column holds.
 const MAX_NUMBER: u64 = 9_223_372_036_854_775_807;
 
+/// The older version whose tables are laid out as those of the known one.
+const LAID_OUT: u64 = 5;
+
 // Makes the table of parts, puts the files of these editions in, and drops the old tables. It answers the editions' headers.
 fn take_apart<S: Alter>(
     alloc: Global,
@@ -48,7 +51,7 @@ fn take_apart<S: Alter>(
     layout: Older,
     numbers: &[i64],
 ) -> Result<Vec<HeaderRecord<String>>, ReadError>
-    requires { WhileOpen (seen S.Store tx.old) (IsOld layout) }
+    requires { WhileOpen (seen S.Store tx.old) (IsOld (layout_as layout)) }
     ensures same_reference { tx.new.conn.ghost_name ≡ tx.old.conn.ghost_name }
     ensures apart { HasCleanDisk (seen S.Store tx.new) → IfOk result (λ headers. AreTakenApart layout numbers.now (map owned_header headers.items) (seen S.Store tx.old).now (seen S.Store tx.new).now) }
     ensures opened { HasCleanDisk (seen S.Store tx.new) → OnOk result (IsTrue (seen S.Store tx.old).is_open) }
@@ -63,8 +66,8 @@ fn take_apart<S: Alter>(
     Ok(headers)
 }
 
-// All that is done before the commit.
-fn migrate_inside<S: Alter>(
+// All that is done before the commit to tables that an older version laid out.
+fn move_tables<S: Alter>(
     alloc: Global,
     tx: &mut Transaction<'_, S>,
     layout: Older,
@@ -72,9 +75,9 @@ fn migrate_inside<S: Alter>(
     installs: u64,
 ) -> Result<(), ReadError>
     requires installs { installs ≤ 9223372036854775807 }
-    requires old { WhileOpen (seen S.Store tx.old) (IsOld layout) }
+    requires old { WhileOpen (seen S.Store tx.old) (IsOld (layout_as layout)) }
     ensures same_reference { tx.new.conn.ghost_name ≡ tx.old.conn.ghost_name }
-    ensures moved { HasCleanDisk (seen S.Store tx.new) → OnOk result (IsOutcome layout numbers.now installs (seen S.Store tx.old) (seen S.Store tx.new).now × IsDatabase (seen S.Store tx.new).now) }
+    ensures moved { HasCleanDisk (seen S.Store tx.new) → OnOk result (IsOutcome (Some layout) numbers.now installs (seen S.Store tx.old) (seen S.Store tx.new).now × IsDatabase (seen S.Store tx.new).now) }
     ensures inside { HasCleanDisk (seen S.Store tx.new) → OnOk result ((seen S.Store tx.new).in_transaction ≡ true) }
     ensures failed { HasCleanDisk (seen S.Store tx.new) → IfErr result (MigrationFailsInside S.Store (InMove layout numbers.now installs) tx.old.conn.now tx.new.conn.now) }
     ensures keeps { HasCleanDisk (seen S.Store tx.new) → KeepsCommit (seen S.Store tx.old) (seen S.Store tx.new) }
@@ -86,21 +89,44 @@ fn migrate_inside<S: Alter>(
     Ok(())
 }
 
+// All that is done before the commit: of tables that are laid out as those of the known version already, the mark alone is written.
+fn migrate_inside<S: Alter>(
+    alloc: Global,
+    tx: &mut Transaction<'_, S>,
+    layout: Option<Older>,
+    numbers: &[i64],
+    installs: u64,
+) -> Result<(), ReadError>
+    requires installs { installs ≤ 9223372036854775807 }
+    requires old { WhileOpen (seen S.Store tx.old) (IsOld (layout_before layout)) }
+    ensures same_reference { tx.new.conn.ghost_name ≡ tx.old.conn.ghost_name }
+    ensures moved { HasCleanDisk (seen S.Store tx.new) → OnOk result (IsOutcome layout numbers.now installs (seen S.Store tx.old) (seen S.Store tx.new).now × IsDatabase (seen S.Store tx.new).now) }
+    ensures inside { HasCleanDisk (seen S.Store tx.new) → OnOk result ((seen S.Store tx.new).in_transaction ≡ true) }
+    ensures failed { HasCleanDisk (seen S.Store tx.new) → IfErr result (MigrationFailsInside S.Store (InRenewal layout numbers.now installs) tx.old.conn.now tx.new.conn.now) }
+    ensures keeps { HasCleanDisk (seen S.Store tx.new) → KeepsCommit (seen S.Store tx.old) (seen S.Store tx.new) }
+    ensures survives { Survives (seen S.Store tx.old) (seen S.Store tx.new) (λ _. ⊥) }
+{
+    match layout {
+        Some(older) => move_tables(alloc, tx, older, numbers, installs),
+        None => Ok(renew_mark(tx, installs)?),
+    }
+}
+
 // The transaction of a migration, and its commit.
 fn migrate_from<S: Alter>(
     alloc: Global,
     conn: &mut Connection<S>,
-    layout: Older,
+    layout: Option<Older>,
     numbers: &[i64],
     installs: u64,
 ) -> Result<(), Fault>
     requires autocommit { conn.old.in_transaction ≡ false }
     requires installs { installs ≤ 9223372036854775807 }
-    requires old { WhileOpen (state S.Store conn.old) (IsOld layout) }
+    requires old { WhileOpen (state S.Store conn.old) (IsOld (layout_before layout)) }
     ensures made { HasCleanDisk (state S.Store conn.new) → OnOk result (IsCommitted (IsOutcome layout numbers.now installs (state S.Store conn.old)) (state S.Store conn.new)) }
     ensures stays { HasCleanDisk (state S.Store conn.new) → OnErr result (StaysCommitted (state S.Store conn.old) (state S.Store conn.new)) }
     ensures adds_none { IfErr result (λ fault. is_disk fault ≡ false → Survives (state S.Store conn.old) (state S.Store conn.new) (λ _. ⊥)) }
-    ensures failed { HasCleanDisk (state S.Store conn.new) → IfErr result (MigrationFailsToEnd S.Store (InMove layout numbers.now installs) (IsOutcome layout numbers.now installs (state S.Store conn.old)) conn.old conn.new) }
+    ensures failed { HasCleanDisk (state S.Store conn.new) → IfErr result (MigrationFailsToEnd S.Store (InRenewal layout numbers.now installs) (IsOutcome layout numbers.now installs (state S.Store conn.old)) conn.old conn.new) }
     ensures kinds { IfErr result IsOfStore }
     ensures autocommit { (state S.Store conn.new).in_transaction ≡ false }
     ensures crash { Survives (state S.Store conn.old) (state S.Store conn.new) (IsTreesOf (IsOutcome layout numbers.now installs (state S.Store conn.old))) }
@@ -146,23 +172,27 @@ fn numbers_of(alloc: Global, summary: &Summary) -> Result<Vec<i64>, ReadError>
     signed_numbers(alloc, &numbers)
 }
 
-// How the tables of an older version are laid out.
-fn older_layout(version: u64) -> Older
+// How the tables of an older version are laid out; none, where it is as those of the known one.
+fn older_layout(version: u64) -> Option<Older>
     requires older { (1 ≤ version) × (version < known) }
-    ensures { layout_of version ≡ layout_as result }
+    ensures { layout_of version ≡ layout_before result }
 {
     if version == 1 {
-        return Older::Plain;
+        return Some(Older::Plain);
     }
     if version == 4 {
-        return Older::Shown;
+        return Some(Older::Shown);
     }
-    Older::Keyed
+    if version == LAID_OUT {
+        return None;
+    }
+    Some(Older::Keyed)
 }
 
 /// Makes of the tables of an older version those of the known one, by one commit: of the same catalogue, the index of each edition,
 /// with what is shown of each entry, and its text as parts of files. What an older version derived of headwords isn't looked at. It
-/// holds one edition at a time. The tables of others stay as they are.
+/// holds one edition at a time. Of version 5, which has these tables, the mark alone is written anew. The tables of others stay as
+/// they are.
 ///
 /// `Memory` tells that a growth was refused before the commit: all is as it was. `Disk` tells that a statement failed for
 /// another cause, or the commit did, for whatever cause: the next opening finds the catalogue under the older version or under
@@ -178,8 +208,9 @@ pub fn migrate<S: Alter>(
     requires holds { HasCleanDisk (state S.Store conn.old) → IsTrue (state S.Store conn.old).is_open → (M : Catalogue) × Rests version (state S.Store conn.old) M × (summary_of M ≡ summary_shown summary.now) }
     ensures rests { HasCleanDisk (state S.Store conn.new) → OnOk result ((M : Catalogue) → Holds version (state S.Store conn.old).committed M → Rests known (state S.Store conn.new) M) }
     ensures migrated { HasCleanDisk (state S.Store conn.new) → OnOk result (IsMigrated version (state S.Store conn.old).committed (state S.Store conn.new).committed) }
-    // the tables that the older version alone has are gone, those of the known one are made and filled, and nothing else is done
-    ensures moved { HasCleanDisk (state S.Store conn.new) → OnOk result ((older : OlderLayout) × (layout_of version ≡ layout_as older) × IsMoved older (map pos (numbers_in (summary_shown summary.now).items)) summary.now.installs (state S.Store conn.old).committed (state S.Store conn.new).committed) }
+    // The tables that the older version alone has are gone, those of the known one are made and filled, and nothing else is done; or,
+    // where they are laid out as those of the known one, the mark alone is another.
+    ensures moved { HasCleanDisk (state S.Store conn.new) → OnOk result ((older : Option OlderLayout) × (layout_of version ≡ layout_before older) × IsRenewed older (map pos (numbers_in (summary_shown summary.now).items)) summary.now.installs (state S.Store conn.old).committed (state S.Store conn.new).committed) }
     ensures spares { HasCleanDisk (state S.Store conn.new) → OnOk result (SparesOthers (state S.Store conn.old).committed (state S.Store conn.new).committed) }
     ensures beside { Survives (state S.Store conn.old) (state S.Store conn.new) (λ trees. IsTrue (state S.Store conn.old).is_open × IsTreesOf (SparesOthers (state S.Store conn.old).committed) trees) }
     ensures only { HasCleanDisk (state S.Store conn.new) → OnOk result ((M : Catalogue) → Holds version (state S.Store conn.old).committed M → (trees : Trees) → (state S.Store conn.new).may_leave trees → IsLeftAs known M trees) }

@@ -1,5 +1,5 @@
 -- All records were read.
-use Rattle.std.proofs.Common.{◌≡◌, ℕ, ◌+◌, ℤ, pos, Bool, true, false, List, [], ◌∷◌, ◌++◌, map, drop, filter, length, codes, inl, inr, refl, sym, ap, subst, ◌∙◌, arith, append-nil}
+use Rattle.std.proofs.Common.{◌≡◌, ℕ, ℤ, pos, Bool, true, false, List, [], ◌∷◌, ◌++◌, map, drop, filter, length, codes, inl, inr, refl, sym, ap, subst, ◌∙◌, arith, append-nil}
 use Rattle.std.specs.Prelude.{IsTrue}
 use Rattle.std.specs.List.{AllByRecursion}
 use Rattle.std.specs.List.Sorted.{IsPermutation}
@@ -27,54 +27,57 @@ use Rattle.store_rows.specs.Taken.{BeginsWith, GoesOnFrom, HasTaken}
 use Rattle.store_rows.specs.Versions.{Layout, Parted, layout_of}
 use Rattle.store_rows.specs.Whole.{with_replies}
 use Rattle.store_rows.specs.declared.reader.Reader.{Reader}
+use Rattle.store_rows.proofs.StrayLemmas.{numbers_taken}
 use Rattle.store_rows.proofs.OrderLemmas.{IsIn, Same, in_all, passed_in, same_from, same_passed}
 use Rattle.store_rows.proofs.AfterLemmas.{filter_none}
 use Rattle.store_rows.proofs.SelectionLemmas.{filter_whole}
 use Rattle.store_rows.proofs.TakenLemmas.{holds_same, same_number_is, same_itself}
 use Rattle.store_holdings.specs.AllTables.{with_derived}
 use Rattle.store_holdings.specs.Files.{entry_line, index_octets}
-use Rattle.store_holdings.specs.Holds.{Keeps}
+use Rattle.store_holdings.specs.Holds.{Keeps, AreOrphans}
 use Rattle.store_holdings.specs.Readings.{AreShownIn, editions, contents, table_name_of}
+use Rattle.store_holdings.proofs.OrphanLemmas.{beside_orphans}
 use Rattle.store_holdings.proofs.ReadingLemmas.{map_twice, editions_kept, replies_kept}
-use Rattle.store_scans.specs.Census.{one_of, is_of_contents}
+use Rattle.store_scans.specs.Census.{one_of}
 use Rattle.store_scans.specs.Entries.{looked_behind_rowid, entry_cells}
 use Rattle.store_scans.specs.Files.{HasFile}
 use Rattle.store_scans.specs.Takers.{KeptRow}
 use Rattle.store_scans.proofs.CodecLemmas.{Codec, edition_codec, header_codec, kept_codec}
-use Rattle.store_opening.specs.Opens.{Keeping, KeepsNone, AllGoOnFrom, HasBegun, HasNamed, HasRows, HasAllRows, AreAllKnown, HasReplies, HasAll, numbers_in}
+use Rattle.store_opening.specs.Opens.{Keeping, KeepsNone, AllGoOnFrom, HasBegun, HasNamed, HasRows, HasAllRows, AreAllKnown, ArePartRows, HasReplies, HasAll, may_have_orphans, numbers_in}
 use Rattle.store_opening.proofs.EntryLemmas.{HasEntryTable, entries_rows, entries_both}
 use Rattle.store_opening.proofs.FileLemmas.{has_index, headers_of, index_is}
 use Rattle.store_opening.proofs.FitLemmas.{fits_replies}
+use Rattle.store_opening.proofs.OrphanLemmas.{HasFound, are_orphans, none_before, has_found, editions_beside}
 use Rattle.store_opening.proofs.ToldLemmas.{KeptAs, kept_as, find, headers_keep, its_record, only, index_told}
 use Rattle.store_opening.proofs.WrongLemmas.{rows_listed}
 
 -- ---- no strays, so what was read of the editions of the items is all
 
 -- more replies change nothing of editions and of entries
-editions_still : (layout : Layout) (db : Database) (t : Tables) (kept : List spec.KeptRecord) → HasRows db t (editions layout) → HasRows db (record t { kept = kept }) (editions layout)
-editions_still Parted db t kept h = h
-editions_still layout db t kept h = h
+editions_still : (layout : Layout) (db : Database) (o : List spec.Part) (t : Tables) (kept : List spec.KeptRecord) → HasRows db o t (editions layout) → HasRows db o (record t { kept = kept }) (editions layout)
+editions_still Parted db o t kept h = h
+editions_still layout db o t kept h = h
 
-contents_still : (layout : Layout) (db : Database) (t : Tables) (kept : List spec.KeptRecord) → HasRows db t (contents layout) → HasRows db (record t { kept = kept }) (contents layout)
-contents_still Parted db t kept h = h
-contents_still layout db t kept h = h
+contents_still : (layout : Layout) (db : Database) (o : List spec.Part) (t : Tables) (kept : List spec.KeptRecord) → HasRows db o t (contents layout) → HasRows db o (record t { kept = kept }) (contents layout)
+contents_still Parted db o t kept h = h
+contents_still layout db o t kept h = h
 
-module _ (version : ℕ) (db : Database) (reader : Reader) (front taken : Tables) (all : AreAllKnown (layout_of version) db (numbers_in reader)) (named : HasNamed version db reader front taken) where
+module _ (version : ℕ) (db : Database) (reader : Reader) (front taken : Tables) (all : AreAllKnown (layout_of version) (may_have_orphans version) db (numbers_in reader)) (parts : ArePartRows (layout_of version) db)
+    (named : HasNamed version db reader front taken) where
   abbrev layout : Layout
   layout = layout_of version
 
   abbrev numbers : List ℤ
   numbers = numbers_in reader
 
-  editions_all : HasRows db taken (editions layout)
-  editions_all =
-      subst (λ rows. IsPermutation ((editions layout).rows (with_derived taken)) (map (λ row. drop 1 ((editions layout).looked row)) rows))
-      (filter_whole (one_of numbers) (rows_of (table_name_of (editions layout)) db) all.editions.known) named.editions_are
+  found : HasFound layout (may_have_orphans version) db numbers taken
+  found = has_found (may_have_orphans version) db numbers taken layout parts all.contents.known named.contents_are
 
-  contents_all : HasRows db taken (contents layout)
-  contents_all =
-      subst (λ rows. IsPermutation ((contents layout).rows (with_derived taken)) (map (λ row. drop 1 ((contents layout).looked row)) rows))
-      (filter_whole (is_of_contents layout numbers) (rows_of (table_name_of (contents layout)) db) all.contents.known) named.contents_are
+  editions_all : HasRows db found.orphans taken (editions layout)
+  editions_all =
+      editions_beside layout db found.orphans taken
+      (subst (λ rows. IsPermutation ((editions layout).rows (with_derived [] taken)) (map (λ row. drop 1 ((editions layout).looked row)) rows))
+      (filter_whole (one_of numbers) (rows_of (table_name_of (editions layout)) db) all.editions.known) named.editions_are)
 
   module _ (begun : HasBegun version db front) (after : Tables) (replies : HasReplies db taken after) where
     none_yet : taken.kept ≡ []
@@ -93,7 +96,10 @@ module _ (version : ℕ) (db : Database) (reader : Reader) (front taken : Tables
         let members = subst (λ ms. IsPermutation (map member_row ms) (map (drop 1) (rows_of (codes "member") db))) (sym named.members) begun.members in
         let replied = subst (λ ks. IsPermutation (map kept_row ks) (map (drop 1) (rows_of (codes "kept") db))) (sym kept_is) (rows_listed kept_codec (codes "kept") (2 ∷ []) db given replies.listing) in
         record {
-          keeps = (marks, (items, (members, (replied, (editions_still layout db taken _ editions_all, (contents_still layout db taken _ contents_all, tt))))));
+          orphans = found.orphans;
+          keeps = (marks, (items, (members, (replied, (editions_still layout db found.orphans taken _ editions_all, (contents_still layout db found.orphans taken _ found.contents_are, tt))))));
+          unknown = found.unknown;
+          later = (λ before. found.later (none_before version before));
           shown = named.shown;
           goes = record {
             marks = named.marks;
@@ -175,23 +181,23 @@ record AreSame (T after : Tables) : Type 0 where
   editions : (n : ℤ) → editions_numbered n T.editions ≡ editions_numbered n after.editions
   entries : (n : ℤ) → entries_of n T.entries ≡ entries_of n after.entries
 
-module _ (version : ℕ) (db : Database) (T after : Tables) (M : Catalogue) (s : Stands version T M) (goes : GoesOnFrom after T) where
+module _ (version : ℕ) (db : Database) (T after : Tables) (M : Catalogue) (s : Stands version T M) (goes : GoesOnFrom after T) (o : List spec.Part) (beside : AreOrphans version M o) where
   table_same : (layout : Layout) → HasEntryTable layout → KeptAs layout db T → AreShownIn layout after.entries → Keeps (codes "edition") edition_codec.encode db T.editions
       → IsPermutation (map edition_codec.encode after.editions) (map (drop 1) (rows_of (codes "edition") db))
       → IsPermutation (map (entry_cells layout) after.entries) (map (looked_behind_rowid layout) (rows_of (codes "entry") db)) → AreSame T after
   table_same layout has k shown keeps rows cells =
       let editions = records_back edition_codec (codes "edition") db T.editions after.editions keeps rows in
-      let entries = entries_both layout T.entries after.entries (map (looked_behind_rowid layout) (rows_of (codes "entry") db)) k.shown shown (entries_rows layout has db T k.keeps.1.1.1.1.1.0) cells in
+      let entries = entries_both layout T.entries after.entries (map (looked_behind_rowid layout) (rows_of (codes "entry") db)) k.shown shown (entries_rows layout has db k.orphans T k.keeps.1.1.1.1.1.0) cells in
       record {
         editions = (λ n. nothing_more _ _ (goes.editions n) (same_passed (λ row. same_number row.number n) T.editions after.editions (same_from T.editions after.editions editions)));
         entries = (λ n. nothing_more _ _ (goes.entries n) (same_passed (λ row. same_number row.edition n) T.entries after.entries (same_from T.entries after.entries entries)));
       }
 
-  parted_same : KeptAs Parted db T → HasRows db after (editions Parted) → HasRows db after (contents Parted) → AreSame T after
+  parted_same : KeptAs Parted db T → HasRows db o after (editions Parted) → HasRows db o after (contents Parted) → AreSame T after
   parted_same k rows parts = record { editions = one; entries = (λ n. each n (has_number M.items n) refl) }
     where
       headers : IsPermutation (map header_of T.editions) (map header_of after.editions)
-      headers = records_back header_codec (codes "edition") db (map header_of T.editions) (map header_of after.editions) (headers_keep db T k.keeps)
+      headers = records_back header_codec (codes "edition") db (map header_of T.editions) (map header_of after.editions) (headers_keep db k.orphans T k.keeps)
           (subst (λ l. IsPermutation l (map (drop 1) (rows_of (codes "edition") db))) (sym (map_twice header_of header_row after.editions)) rows)
 
       one : (n : ℤ) → editions_numbered n T.editions ≡ editions_numbered n after.editions
@@ -216,8 +222,9 @@ module _ (version : ℕ) (db : Database) (T after : Tables) (M : Catalogue) (s :
       each : (n : ℤ) (b : Bool) → has_number M.items n ≡ b → entries_of n T.entries ≡ entries_of n after.entries
       each n true known =
           let found = find version T M n s known in
-          let index : HasFile db n (pos 0) (index_octets (entries_of n after.entries)) = has_index db after parts n (its_record db T M.items n found) (sym (one n) ∙ only db T M.items n found) found.is in
-          let told = index_told db T M.items n found k.keeps (index_octets (entries_of n after.entries)) index in
+          let index : HasFile db n (pos 0) (index_octets (entries_of n after.entries)) = has_index db o after parts n (its_record db T M.items n found) (sym (one n) ∙ only db T M.items n found) found.is
+          (beside_orphans version M o after n beside known) in
+          let told = index_told db T M.items n found k (index_octets (entries_of n after.entries)) index in
           let own : index_octets (entries_of n T.entries) ≡ stored_index found.holds.reading.lines =
           subst (λ m. index_octets (entries_of m T.entries) ≡ stored_index found.holds.reading.lines) found.is (index_is T found.stored.number found.holds.reading.lines found.holds.entries) in
           same_index (entries_of n T.entries) (entries_of n after.entries) (goes.entries n) (own ∙ sym told)
@@ -225,17 +232,18 @@ module _ (version : ℕ) (db : Database) (T after : Tables) (M : Catalogue) (s :
           let none = unknown n absent T.entries s.entries in
           none ∙ sym (nothing (entries_of n T.entries) (entries_of n after.entries) (goes.entries n) none)
 
-  are_same : (layout : Layout) → KeptAs layout db T → AreShownIn layout after.entries → HasRows db after (editions layout) → HasRows db after (contents layout) → AreSame T after
+  are_same : (layout : Layout) → KeptAs layout db T → AreShownIn layout after.entries → HasRows db o after (editions layout) → HasRows db o after (contents layout) → AreSame T after
   are_same Parted k shown rows cells = parted_same k rows cells
-  are_same layout k shown rows cells = table_same layout tt k shown (editions_kept layout db T refl k.keeps) rows cells
+  are_same layout k shown rows cells = table_same layout tt k shown (editions_kept layout db k.orphans T refl k.keeps) rows cells
 
-module _ (version : ℕ) (db : Database) (after : Tables) (keeps : HasAllRows version db after) (shown : AreShownIn (layout_of version) after.entries) (fits : AllGoOnFrom version db after) where
+module _ (version : ℕ) (db : Database) (o : List spec.Part) (after : Tables) (keeps : HasAllRows version db o after)
+    (beside : (T : Tables) (M : Catalogue) → Keeping version db after.members T M → AreOrphans version M o) (shown : AreShownIn (layout_of version) after.entries) (fits : AllGoOnFrom version db after) where
   stands_after : (T : Tables) (M : Catalogue) → Keeping version db after.members T M → Stands version after M
   stands_after T M K =
       let goes = fits T M K in
       let s = K.stands in
-      let kept = records_back kept_codec (codes "kept") db T.kept after.kept (replies_kept (layout_of version) db T K.keeps) keeps.1.1.1.0 in
-      let it = are_same version db T after M s goes (layout_of version) (kept_as version db after.members T M K) shown keeps.1.1.1.1.0 keeps.1.1.1.1.1.0 in
+      let kept = records_back kept_codec (codes "kept") db T.kept after.kept (replies_kept (layout_of version) db K.orphans T K.keeps) keeps.1.1.1.0 in
+      let it = are_same version db T after M s goes o (beside T M K) (layout_of version) (kept_as version db after.members T M K) shown keeps.1.1.1.1.0 keeps.1.1.1.1.1.0 in
       record {
         well_formed = s.well_formed;
         marks = sym goes.marks ∙ s.marks;
@@ -252,6 +260,24 @@ module _ (version : ℕ) (db : Database) (after : Tables) (keeps : HasAllRows ve
 
   pub finish_wrong : ((M : Catalogue) → Stands version after M → ⊥) → KeepsNone version db after.members
   finish_wrong none T M K = none M (stands_after T M K)
+
+-- so what was read, once it is found to stand for none
+pub all_wrong : (version : ℕ) (db : Database) (reader : Reader) (front after : Tables) → HasTaken version reader front → HasBegun version db front → HasAll version db reader front after → ((M : Catalogue) → Stands version after M → ⊥)
+    → KeepsNone version db after.members
+all_wrong version db reader front after h b all none = finish_wrong version db all.orphans after all.keeps beside all.shown all.fits none
+  where
+    beside : (T : Tables) (M : Catalogue) → Keeping version db after.members T M → AreOrphans version M all.orphans
+    beside T M K =
+        let before : Keeping version db front.members T M = record {
+          orphans = K.orphans;
+          keeps = K.keeps;
+          shown = K.shown;
+          same_members = K.same_members ∙ all.goes.members;
+          stands = K.stands;
+          records = K.records;
+          beside = K.beside;
+        } in
+        are_orphans version reader M all.orphans (numbers_taken version reader front T M h (b.fits T M before) K.stands) all.unknown all.later
 
 -- what is read of a front, where the same is shown
 pub read_then : (R : Database → Tables → Type 0) (version : ℕ) (last : Reader) (front : Tables) {mid old : Database} → mid ≡ old → (HasBegun version mid front → (after : Tables) × HasTaken version last after × R mid after)

@@ -82,10 +82,10 @@ numbers_in Plain e = (refl, refl)
 numbers_in layout e = (refl, refl)
 
 -- the rows of what a database keeps
-pub entries_rows : (layout : Layout) → HasEntryTable layout → (db : Database) (t : Tables) → KeepsRows (contents layout) db (with_derived t)
+pub entries_rows : (layout : Layout) → HasEntryTable layout → (db : Database) (o : List spec.Part) (t : Tables) → KeepsRows (contents layout) db (with_derived o t)
     → IsPermutation (map (entry_cells layout) t.entries) (map (looked_behind_rowid layout) (rows_of (codes "entry") db))
-entries_rows Parted has db t k = absurd has
-entries_rows layout has db t k = k.rows
+entries_rows Parted has db o t k = absurd has
+entries_rows layout has db o t k = k.rows
 
 -- ---- rows of entries
 

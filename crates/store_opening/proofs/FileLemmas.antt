@@ -1,5 +1,5 @@
 -- The files of the editions that a database keeps.
-use Rattle.std.proofs.Common.{◌≡◌, ℕ, ℤ, pos, Bool, ◌&&◌, List, [], ◌∷◌, map, drop, filter, codes, refl, sym, ap, subst, ◌∙◌, append-nil}
+use Rattle.std.proofs.Common.{◌≡◌, ℕ, ℤ, pos, Bool, ◌&&◌, List, [], ◌∷◌, ◌++◌, map, drop, filter, codes, refl, sym, ap, subst, ◌∙◌, append-nil}
 use Rattle.std.specs.Prelude.{flat_map, IsPermutation}
 use Rattle.sqlite_trees.proofs.ListLemmas.{IsPermutation-filter}
 use Rattle.sqlite.specs.Effect.{Database}
@@ -45,23 +45,30 @@ parts_of_file db ps same n f =
 
 -- ---- the files of an edition of which there is one record
 
-module _ (db : Database) (t : Tables) (keeps : IsPermutation (map part_row (all_parts t)) (map (drop 1) (rows_of (codes "dictcat_part") db))) (n : ℤ) (e : EditionRecord) (one : editions_numbered n t.editions ≡ e ∷ [])
-    (at : e.number ≡ n) where
-  of_file : (f : ℤ) → filter (part_test n f) (all_parts t) ≡ filter (λ (p : Part). same_number p.file f) (edition_parts t.entries e)
+-- the parts of this number are those of editions, whatever orphans are beside them
+abbrev pub AreBeside : List Part → Tables → ℤ → Type 0
+AreBeside orphans t n = filter (λ (p : Part). same_number p.edition n) (orphans ++ all_parts t) ≡ filter (λ (p : Part). same_number p.edition n) (all_parts t)
+
+module _ (db : Database) (orphans : List Part) (t : Tables) (keeps : IsPermutation (map part_row (orphans ++ all_parts t)) (map (drop 1) (rows_of (codes "dictcat_part") db))) (n : ℤ) (e : EditionRecord)
+    (one : editions_numbered n t.editions ≡ e ∷ []) (at : e.number ≡ n) (beside : AreBeside orphans t n) where
+  abbrev all : List Part
+  all = orphans ++ all_parts t
+
+  of_file : (f : ℤ) → filter (part_test n f) all ≡ filter (λ (p : Part). same_number p.file f) (edition_parts t.entries e)
   of_file f =
-      sym (filter_filter (λ (p : Part). same_number p.file f) (λ (p : Part). same_number p.edition n) (part_test n f) (λ p. refl) (all_parts t))
-      ∙ ap (filter (λ (p : Part). same_number p.file f)) (part_once t n ∙ ap (flat_map (edition_parts t.entries)) one ∙ append-nil (edition_parts t.entries e))
+      sym (filter_filter (λ (p : Part). same_number p.file f) (λ (p : Part). same_number p.edition n) (part_test n f) (λ p. refl) all)
+      ∙ ap (filter (λ (p : Part). same_number p.file f)) (beside ∙ part_once t n ∙ ap (flat_map (edition_parts t.entries)) one ∙ append-nil (edition_parts t.entries e))
 
   pub has_index : HasFile db n (pos 0) (index_octets (entries_of n t.entries))
   has_index =
-      let are : filter (part_test n (pos 0)) (all_parts t) ≡ file_parts n (pos 0) (index_octets (entries_of n t.entries)) =
+      let are : filter (part_test n (pos 0)) all ≡ file_parts n (pos 0) (index_octets (entries_of n t.entries)) =
       of_file (pos 0) ∙ index_under e.number (index_octets (entries_of e.number t.entries)) e.body ∙ ap (λ m. file_parts m (pos 0) (index_octets (entries_of m t.entries))) at in
-      subst (λ l. IsPermutation (map part_row l) (file_rows n (pos 0) db)) are (parts_of_file db (all_parts t) keeps n (pos 0))
+      subst (λ l. IsPermutation (map part_row l) (file_rows n (pos 0) db)) are (parts_of_file db all keeps n (pos 0))
 
   pub has_text : HasFile db n (pos 1) e.body
   has_text =
-      let are : filter (part_test n (pos 1)) (all_parts t) ≡ file_parts n (pos 1) e.body = of_file (pos 1) ∙ text_under e.number (index_octets (entries_of e.number t.entries)) e.body ∙ ap (λ m. file_parts m (pos 1) e.body) at in
-      subst (λ l. IsPermutation (map part_row l) (file_rows n (pos 1) db)) are (parts_of_file db (all_parts t) keeps n (pos 1))
+      let are : filter (part_test n (pos 1)) all ≡ file_parts n (pos 1) e.body = of_file (pos 1) ∙ text_under e.number (index_octets (entries_of e.number t.entries)) e.body ∙ ap (λ m. file_parts m (pos 1) e.body) at in
+      subst (λ l. IsPermutation (map part_row l) (file_rows n (pos 1) db)) are (parts_of_file db all keeps n (pos 1))
 
 -- ---- headers
 

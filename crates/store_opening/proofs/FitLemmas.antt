@@ -58,17 +58,17 @@ listing_is {R} {W} k name db at key place ws keeps strict rows l =
 module _ (version : ℕ) (db : Database) (members : List spec.Member) (T : Tables) (M : Catalogue) (K : Keeping version db members T M) where
   pub marks_read : (rows : List Row) → IsListing (codes "mark") (1 ∷ []) db rows → T.marks ≡ map (read mark_codec) rows
   marks_read rows l =
-      let found = (listed_records mark_codec (codes "mark") db T.marks (marks_kept (layout_of version) db T K.keeps) rows l.same).0 in
+      let found = (listed_records mark_codec (codes "mark") db T.marks (marks_kept (layout_of version) db K.orphans T K.keeps) rows l.same).0 in
       K.stands.marks ∙ sym (one_once _ _ (subst (λ xs. Same xs (map (read mark_codec) rows)) K.stands.marks (same_from T.marks (map (read mark_codec) rows) found)))
 
   pub items_read : (rows : List Row) → IsListing (codes "item") (1 ∷ []) db rows → T.items ≡ map (read item_codec) rows
   items_read =
-      listing_is item_codec (codes "item") db 0 (λ (row : spec.ItemRecord). row.place) (λ w. refl) T.items (items_kept (layout_of version) db T K.keeps)
+      listing_is item_codec (codes "item") db 0 (λ (row : spec.ItemRecord). row.place) (λ w. refl) T.items (items_kept (layout_of version) db K.orphans T K.keeps)
       (subst (InOrder (λ (a b : spec.ItemRecord). Below a.place b.place)) (sym K.stands.items) (numbered_rise item_record (λ (row : spec.ItemRecord). row.place) item_placed 0 M.items))
 
   pub replies_read : (rows : List Row) → IsListing (codes "kept") (2 ∷ []) db rows → T.kept ≡ map (read kept_codec) rows
   replies_read =
-      listing_is kept_codec (codes "kept") db 1 (λ (row : spec.KeptRecord). row.number) (λ w. refl) T.kept (replies_kept (layout_of version) db T K.keeps)
+      listing_is kept_codec (codes "kept") db 1 (λ (row : spec.KeptRecord). row.number) (λ w. refl) T.kept (replies_kept (layout_of version) db K.orphans T K.keeps)
       (subst (InOrder (λ (a b : spec.KeptRecord). Below a.number b.number)) (sym K.stands.kept) (kept_rise 1 M.kept K.stands.well_formed.numbered))
 
 -- a front of the rows, and the others

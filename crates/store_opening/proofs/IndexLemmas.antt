@@ -64,7 +64,7 @@ module _ (version : ℕ) (db : Database) (M : Catalogue) (h : Holds version db M
   layout = layout_of version
 
   keeping : Keeping version db h.tables.members h.tables M
-  keeping = record { keeps = h.keeps; shown = h.shown; same_members = refl; stands = h.stands; records = held_readable version db M h }
+  keeping = record { orphans = h.orphans; keeps = h.keeps; shown = h.shown; same_members = refl; stands = h.stands; records = held_readable version db M h; beside = h.apart }
 
   -- under the number of an edition of the catalogue stands what its rows are
   abbrev IsThere : ℕ → Type 0

@@ -6,6 +6,7 @@ pub mod FileLemmas
 pub mod ToldLemmas
 pub mod FitLemmas
 pub mod PartLemmas
+pub mod OrphanLemmas
 pub mod NoneLemmas
 pub mod ReadLemmas
 pub mod ReadableLemmas

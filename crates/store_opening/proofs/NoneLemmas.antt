@@ -70,9 +70,10 @@ module _ (db : Database) (T : Tables) (items : List (Item Edition)) (n : ℤ) (f
   pub no_edition : (layout : Layout) → KeptAs layout db T → HasNoEdition layout db n → ⊥
   no_edition Parted k (inl h) =
       not_one header_codec header_columns db n (λ (e : spec.HeaderRecord). same_number e.number n) (λ row w e. first_number row (header_row w) w.number n e refl) (map header_of T.editions)
-      (headers_keep db T k.keeps) (header_of (its_record db T items n found)) (headers_of n T.editions ∙ ap (map header_of) (only db T items n found)) k.records.1.1.1.1.0 h
-  no_edition Parted k (inr none) = none k.records.1.1.1.1.1.0 (its_record db T items n found).body (has_text db T (parts_kept db T k.keeps).rows n (its_record db T items n found) (only db T items n found) found.is)
-  no_edition layout k h = no_whole (editions_kept layout db T refl k.keeps) k.records.1.1.1.1.0 h
+      (headers_keep db k.orphans T k.keeps) (header_of (its_record db T items n found)) (headers_of n T.editions ∙ ap (map header_of) (only db T items n found)) k.records.1.1.1.1.0 h
+  no_edition Parted k (inr none) = none k.records.1.1.1.1.1.0 (its_record db T items n found).body (has_text db k.orphans T (parts_kept db k.orphans T k.keeps).rows n (its_record db T items n found) (only db T items n found) found.is
+      (k.beside n (its_record db T items n found) (only db T items n found)))
+  no_edition layout k h = no_whole (editions_kept layout db k.orphans T refl k.keeps) k.records.1.1.1.1.0 h
 
 -- the first lines of an edition are its first entries
 numbered_begins : (number place : ℕ) (given rest : List Line) → BeginsWith (numbered (entry_record number) place (given ++ rest)) (numbered (entry_record number) place given)
@@ -113,7 +114,7 @@ module _ (version : ℕ) (db : Database) (taken : Tables) (n : ℤ) (can : CanRe
           let k = keeps T M K in
           let test = equals_number 1 n in
           let rows = rows_of (codes "entry") db in
-          let written = all_contains (IsEntryRow layout) (filter test rows) w.0 (all_filter (IsEntryRow layout) test rows (entries_written layout db T.entries (entries_rows layout has db T k.keeps.1.1.1.1.1.0) k.shown)) w.1 in
+          let written = all_contains (IsEntryRow layout) (filter test rows) w.0 (all_filter (IsEntryRow layout) test rows (entries_written layout db T.entries (entries_rows layout has db k.orphans T k.keeps.1.1.1.1.1.0) k.shown)) w.1 in
           w.2 (readable layout has k w.1) written.0 written.1
         where
           readable : (layout : Layout) → HasEntryTable layout → KeptAs layout db T → Contains (filter (equals_number 1 n) (rows_of (codes "entry") db)) w.0 → HasColumns (contents layout).columns ((contents layout).looked w.0)
@@ -130,12 +131,13 @@ module _ (version : ℕ) (db : Database) (taken : Tables) (n : ℤ) (can : CanRe
       wrong_index keeps (inl none) T M K =
           let k = keeps T M K in
           let found = there T M K in
-          none k.records.1.1.1.1.1.0 (index_octets (entries_of n T.entries)) (has_index db T (parts_kept db T k.keeps).rows n (its_record db T M.items n found) (only db T M.items n found) found.is)
+          none k.records.1.1.1.1.1.0 (index_octets (entries_of n T.entries)) (has_index db k.orphans T (parts_kept db k.orphans T k.keeps).rows n (its_record db T M.items n found) (only db T M.items n found) found.is
+          (k.beside n (its_record db T M.items n found) (only db T M.items n found)))
       wrong_index keeps (inr (octets, file, wrong)) T M K =
           let found = there T M K in
           let number = found.stored.number in
           let lines = found.holds.reading.lines in
-          let w = wrong number (sym found.is) lines (storable T found.owner found.stored found.holds found.lawful) (index_told db T M.items n found (keeps T M K).keeps octets file) in
+          let w = wrong number (sym found.is) lines (storable T found.owner found.stored found.holds found.lawful) (index_told db T M.items n found (keeps T M K) octets file) in
           let given = w.0 in
           let es = numbered (entry_record number) 0 given in
           let next : next_entries (with_edition taken e) number given ≡ es = subst (λ m. numbered (entry_record number) (length (entries_of m taken.entries)) given ≡ es) (sym found.is)

@@ -100,7 +100,7 @@ module _ (version : ℕ) (db : Database) (reader : Reader) (numbers : List ℤ) 
   pub can_next : CanReadOne version db taken next
   can_next = record {
     fits = done.fits;
-    known = (λ T M K. known T M (record { keeps = K.keeps; shown = K.shown; same_members = K.same_members ∙ done.members; stands = K.stands; records = K.records }));
+    known = (λ T M K. known T M (record { orphans = K.orphans; keeps = K.keeps; shown = K.shown; same_members = K.same_members ∙ done.members; stands = K.stands; records = K.records; beside = K.beside }));
     no_editions = done.other_editions next is_new;
     no_entries = done.other_entries next is_new;
   }

@@ -1,12 +1,12 @@
 -- What is found wrong with a table, and that then no catalogue is held.
-use Rattle.std.proofs.Common.{◌≡◌, ◌⊎◌, ℕ, ◌+◌, ℤ, ◌≤◌, pos, true, false, ◌||◌, ◌&&◌, ◌==◌, List, [], ◌∷◌, ◌++◌, map, drop, codes, inl, inr, refl, sym, ap, subst, ◌∙◌, arith, String}
+use Rattle.std.proofs.Common.{◌≡◌, ◌⊎◌, ℕ, ◌+◌, ℤ, ◌≤◌, pos, Bool, true, false, ◌||◌, ◌&&◌, ◌==◌, List, [], ◌∷◌, ◌++◌, map, drop, codes, inl, inr, refl, sym, ap, subst, ◌∙◌, arith, String}
 use Rattle.std.specs.Prelude.{cond, not, nat_le, length, bytes_eq, ◌≤ℤ◌, IsTrue}
 use Rattle.std.specs.List.{AllByRecursion, list_any, list_all}
 use Rattle.std.specs.List.Sorted.{IsPermutation}
 use Rattle.std.specs.Ordering.{is_lt, ordering_then, ordering_reverse}
 use Rattle.std.specs.declared.cmp.Ordering.{Ordering}
 use Rattle.std.specs.declared.cmp.Ordering.TheVariants.{Less, Equal, Greater}
-use Rattle.std.proofs.lemmas.Bool.{false≢true, and_parts, and_from, or_parts, not-true}
+use Rattle.std.proofs.lemmas.Bool.{false≢true, and_parts, or_parts, not-true}
 use Rattle.std.proofs.Math.Bool.{or-true}
 use Rattle.std.proofs.lemmas.Bool.Decides.{nat_tests}
 use Rattle.std.proofs.lemmas.List.{map-append}
@@ -51,30 +51,32 @@ use Rattle.store_rows.specs.declared.reader.Reader.{Reader}
 use Rattle.store_rows.proofs.ApartLemmas.{neighbours_apart, apart_once}
 use Rattle.store_rows.proofs.LawfulLemmas.{once_true}
 use Rattle.store_rows.proofs.FinishLemmas.{ids_same}
-use Rattle.store_rows.proofs.OrderLemmas.{ordered_stands, Same, same_from, all_same, all_with}
+use Rattle.store_rows.proofs.OrderLemmas.{ordered_stands, Same, same_from, all_same}
 use Rattle.store_rows.proofs.StrayLemmas.{numbers_taken}
 use Rattle.store_rows.proofs.TakenLemmas.{same_itself}
 use Rattle.store_holdings.specs.AllTables.{with_derived}
 use Rattle.store_holdings.specs.Files.{part_at, file_parts, parts_under, edition_parts, all_parts, index_octets}
-use Rattle.store_holdings.specs.Holds.{Keeps}
+use Rattle.store_holdings.specs.Holds.{Keeps, AreOrphans}
 use Rattle.store_holdings.specs.Readings.{KeepsRows, KeepsAll, editions, contents, table_name_of}
 use Rattle.store_holdings.proofs.ReadLemmas.{sorted_order, second_le, records_order}
 use Rattle.store_holdings.proofs.RiseLemmas.{ordered}
 use Rattle.store_holdings.proofs.ReadableLemmas.{held_readable}
 use Rattle.store_holdings.proofs.ReadingLemmas.{map_twice, members_kept, replies_kept, parts_kept}
-use Rattle.store_scans.specs.Census.{one_of, is_in_file, is_known_part, is_of_contents, AreKnownApart}
+use Rattle.store_scans.specs.Census.{one_of, may_stand, may_be_in_contents, AreKnownApart}
 use Rattle.store_scans.specs.Cursors.{InStore}
 use Rattle.store_scans.specs.Entries.{looked_behind_rowid, entry_cells}
 use Rattle.store_scans.specs.Scans.{HasNoRecordIn, IsWrong}
 use Rattle.store_scans.specs.Takers.{KeptRow, ids_given, HasIdsApart, HasIdTwice, refuses_replies}
 use Rattle.store_scans.proofs.CodecLemmas.{Codec, read, read_stored, stored_rows, listed_records, member_codec, kept_codec, mark_codec, item_codec}
+use Rattle.store_scans.proofs.CensusLemmas.{known_row}
 use Rattle.store_scans.proofs.NumberLemmas.{behind_column, same_int}
 use Rattle.store_scans.proofs.RowidLemmas.{all_of_map}
-use Rattle.store_opening.specs.Opens.{Keeping, KeepsNone, AllGoOnFrom, HoldsNoneAs, HasBegun, CanRead, AreReadableEditions, AreAllKnown, numbers_in}
+use Rattle.store_opening.specs.Opens.{Keeping, KeepsNone, AllGoOnFrom, HoldsNoneAs, HasBegun, CanRead, AreReadableEditions, AreAllKnown, may_have_orphans, numbers_in}
 use Rattle.store_opening.proofs.EntryLemmas.{HasEntryTable, entries_rows, each_row, number_is}
 use Rattle.store_opening.proofs.FitLemmas.{front_read, fits_begun, fits_replies, none_kept}
 use Rattle.store_scans.proofs.PlaceLemmas.{last_holds}
 use Rattle.store_opening.proofs.PartLemmas.{numbered_row, numbers_is}
+use Rattle.store_opening.proofs.OrphanLemmas.{some_since}
 use Rattle.store_opening.proofs.ToldLemmas.{KeptAs, kept_as}
 
 -- ---- rowids
@@ -102,19 +104,19 @@ members_order db rows h =
     (λ a b r same. second_le (owned_member a.value).owner (owned_member b.value).owner a.value.ord b.value.ord same r) rows (sorted_order (1 ∷ 2 ∷ []) (map stored_member rows) h.sorted)
 
 -- the same tables with their members in another order
-module _ (db : Database) (T : Tables) (members : List spec.Member) (rows : IsPermutation (map member_row members) (map (drop 1) (rows_of (codes "member") db))) where
+module _ (db : Database) (o : List spec.Part) (T : Tables) (members : List spec.Member) (rows : IsPermutation (map member_row members) (map (drop 1) (rows_of (codes "member") db))) where
   abbrev changed : Tables
   changed = record T { members = members }
 
-  editions_so : (layout : Layout) → KeepsRows (editions layout) db (with_derived T) → KeepsRows (editions layout) db (with_derived changed)
+  editions_so : (layout : Layout) → KeepsRows (editions layout) db (with_derived o T) → KeepsRows (editions layout) db (with_derived o changed)
   editions_so Parted k = record { rows = k.rows; apart = k.apart }
   editions_so layout k = record { rows = k.rows; apart = k.apart }
 
-  contents_so : (layout : Layout) → KeepsRows (contents layout) db (with_derived T) → KeepsRows (contents layout) db (with_derived changed)
+  contents_so : (layout : Layout) → KeepsRows (contents layout) db (with_derived o T) → KeepsRows (contents layout) db (with_derived o changed)
   contents_so Parted k = record { rows = k.rows; apart = k.apart }
   contents_so layout k = record { rows = k.rows; apart = k.apart }
 
-  keeps_so : (layout : Layout) → KeepsAll layout db (with_derived T) → KeepsAll layout db (with_derived changed)
+  keeps_so : (layout : Layout) → KeepsAll layout db (with_derived o T) → KeepsAll layout db (with_derived o changed)
   keeps_so layout k = (
     record { rows = k.0.rows; apart = k.0.apart },
     (
@@ -151,11 +153,13 @@ module _ (version : ℕ) (db : Database) (marks : List (Beside (typed.Mark.Mark 
     fits = fits_begun version db marks items members lm li;
     none = (λ none M h.
         none (record h.tables { members = members_given members }) M (record {
-          keeps = keeps_so db h.tables (members_given members) listed (layout_of version) h.keeps;
+          orphans = h.orphans;
+          keeps = keeps_so db h.orphans h.tables (members_given members) listed (layout_of version) h.keeps;
           shown = h.shown;
           same_members = refl;
-          stands = stands_so h.tables M (members_kept (layout_of version) db h.tables h.keeps) h.stands;
+          stands = stands_so h.tables M (members_kept (layout_of version) db h.orphans h.tables h.keeps) h.stands;
           records = held_readable version db M h;
+          beside = h.apart;
         }));
   }
 
@@ -254,7 +258,7 @@ module _ (version : ℕ) (db : Database) (reader : Reader) (taken : Tables) (h :
   entries_named layout has k =
       all_weaker (λ row. (e : spec.EntryRecord) × (looked_behind_rowid layout row ≡ entry_cells layout e) × IsTrue (has_number M.items e.edition)) (λ row. one_of numbers row ≡ true)
       (λ row e. numbered_row row e.0.edition numbers (number_is layout row e.0 e.1) (number_named e.0.edition e.2)) (rows_of (codes "entry") db)
-      (each_row layout db T.entries (entries_rows layout has db T k.keeps.1.1.1.1.1.0) (λ (e : spec.EntryRecord). IsTrue (has_number M.items e.edition)) K.stands.entries)
+      (each_row layout db T.entries (entries_rows layout has db k.orphans T k.keeps.1.1.1.1.1.0) (λ (e : spec.EntryRecord). IsTrue (has_number M.items e.edition)) K.stands.entries)
 
   -- ---- parts
 
@@ -267,39 +271,61 @@ module _ (version : ℕ) (db : Database) (reader : Reader) (taken : Tables) (h :
       (all_weaker (λ (e : spec.EditionRecord). is_of numbers e.number ≡ true) (λ e. AllByRecursion IsKnownPart (edition_parts T.entries e))
       (λ e k. all_weaker (IsPartOf e.number) IsKnownPart (λ p is. (ap (is_of numbers) is.0 ∙ k, is.1)) (edition_parts T.entries e) (edition_parts_so e.number (index_octets (entries_of e.number T.entries)) e.body)) T.editions editions_known)
 
-  abbrev IsInFile : Row → Type 0
-  IsInFile s = (f : ℤ) × (column s 1 ≡ Int f) × ((same_number f (pos 0) || same_number f (pos 1)) ≡ true)
+  abbrev may : Bool
+  may = may_have_orphans version
 
-  in_file : (row : Row) → IsInFile (drop 1 row) → is_in_file row ≡ true
-  in_file row p = (λ i. file_is (pos 0) i || file_is (pos 1) i) ∙ p.2
+  -- a part of such a number is of a file, and others are there where there may be orphans
+  abbrev IsStanding : ℤ → ℤ → Type 0
+  IsStanding edition file = cond (is_of numbers edition) (same_number file (pos 0) || same_number file (pos 1)) may ≡ true
+
+  abbrev StandsPart : spec.Part → Type 0
+  StandsPart p = IsStanding p.edition p.file
+
+  abbrev StandsRow : Row → Type 0
+  StandsRow s = (n f : ℤ) × (column s 0 ≡ Int n) × (column s 1 ≡ Int f) × IsStanding n f
+
+  row_stands : (row : Row) → StandsRow (drop 1 row) → may_stand may numbers row ≡ true
+  row_stands row p = (λ i. cond (edition_is i) (file_is (pos 0) i || file_is (pos 1) i) may) ∙ p.4
     where
-      file_is : (f : ℤ) → equals_number 2 f row ≡ same_number p.0 f
-      file_is f = ap (λ v. same_value v (Int f)) (behind_column row 1 ∙ p.1) ∙ same_int p.0 f
+      edition_is : one_of numbers row ≡ is_of numbers p.0
+      edition_is = known_row numbers row p.0 (behind_column row 0 ∙ p.2)
 
-  parts_named : KeepsAll Parted db (with_derived T) → AreKnownApart (is_known_part numbers) (codes "dictcat_part") db
-  parts_named keeps =
+      file_is : (f : ℤ) → equals_number 2 f row ≡ same_number p.1 f
+      file_is f = ap (λ v. same_value v (Int f)) (behind_column row 1 ∙ p.3) ∙ same_int p.1 f
+
+  number_unnamed : (n : ℤ) → has_number M.items n ≡ false → is_of numbers n ≡ false
+  number_unnamed n unknown = sym (numbers_is (edition_numbers (items_in reader)) n) ∙ sym (ap (λ ns. list_any (λ one. same_number (pos one) n) ns) numbers_are) ∙ unknown
+
+  orphans_stand : (o : List spec.Part) → AreOrphans version M o → (b : Bool) → may ≡ b → AllByRecursion StandsPart o
+  orphans_stand o are true always =
+      all_weaker (λ (p : spec.Part). has_number M.items p.edition ≡ false) StandsPart
+      (λ p unknown. ap (λ b. cond b (same_number p.file (pos 0) || same_number p.file (pos 1)) may) (number_unnamed p.edition unknown) ∙ always) o are.apart
+  orphans_stand o are false never = subst (AllByRecursion StandsPart) (sym (are.later (some_since version never))) tt
+
+  parts_named : (o : List spec.Part) → KeepsAll Parted db (with_derived o T) → AreOrphans version M o → AreKnownApart (may_stand may numbers) (codes "dictcat_part") db
+  parts_named o keeps are =
       let rows = rows_of (codes "dictcat_part") db in
-      let kept = parts_kept db T keeps in
-      let numbered_so = named (codes "dictcat_part") part_row (λ (p : spec.Part). p.edition) (λ p. refl) (all_parts T) kept.rows
-      (all_weaker IsKnownPart (λ (p : spec.Part). is_of numbers p.edition ≡ true) (λ p k. k.0) (all_parts T) parts_known) in
-      let files = all_of_map (drop 1) IsInFile (λ row. is_in_file row ≡ true) in_file rows
-      (all_same IsInFile (map part_row (all_parts T)) (map (drop 1) rows) kept.rows (all_map IsKnownPart IsInFile part_row (λ p k. (p.file, refl, k.1)) (all_parts T) parts_known)) in
+      let kept = parts_kept db o T keeps in
+      let all = all_append StandsPart o (all_parts T) (orphans_stand o are may refl)
+      (all_weaker IsKnownPart StandsPart (λ p k. ap (λ b. cond b (same_number p.file (pos 0) || same_number p.file (pos 1)) may) k.0 ∙ k.1) (all_parts T) parts_known) in
       record {
         apart = kept.apart;
-        known = all_with (λ row. one_of numbers row ≡ true) (λ row. is_in_file row ≡ true) (λ row. is_known_part numbers row ≡ true) (λ row p q. and_from (one_of numbers row) (is_in_file row) p q) rows numbered_so files;
+        known = all_of_map (drop 1) StandsRow (λ row. may_stand may numbers row ≡ true) row_stands rows
+            (all_same StandsRow (map part_row (o ++ all_parts T)) (map (drop 1) rows) kept.rows
+            (all_map StandsPart StandsRow part_row (λ p k. (p.edition, p.file, refl, refl, k)) (o ++ all_parts T) all));
       }
 
-  contents_named : (layout : Layout) → KeptAs layout db T → AreKnownApart (is_of_contents layout numbers) (table_name_of (contents layout)) db
-  contents_named Parted k = let it = parts_named k.keeps in record { apart = it.apart; known = it.known }
-  contents_named layout k = record { apart = k.keeps.1.1.1.1.1.0.apart; known = entries_named layout tt k }
+  contents_named : (layout : Layout) → KeptAs layout db T → (o : List spec.Part) → KeepsAll layout db (with_derived o T) → AreOrphans version M o → AreKnownApart (may_be_in_contents may layout numbers) (table_name_of (contents layout)) db
+  contents_named Parted k o keeps are = let it = parts_named o keeps are in record { apart = it.apart; known = it.known }
+  contents_named layout k o keeps are = record { apart = k.keeps.1.1.1.1.1.0.apart; known = entries_named layout tt k }
 
-  pub all_named : AreAllKnown (layout_of version) db numbers
+  pub all_named : AreAllKnown (layout_of version) may db numbers
   all_named =
       let k = kept_as version db taken.members T M K in
-      record { editions = editions_named (layout_of version) k; contents = contents_named (layout_of version) k }
+      record { editions = editions_named (layout_of version) k; contents = contents_named (layout_of version) k K.orphans K.keeps K.beside }
 
 pub rows_stray : (version : ℕ) (db : Database) (reader : Reader) (taken : Tables) → HasTaken version reader taken → AllGoOnFrom version db taken
-    → (AreReadableEditions (layout_of version) db → AreAllKnown (layout_of version) db (numbers_in reader) → ⊥) → KeepsNone version db taken.members
+    → (AreReadableEditions (layout_of version) db → AreAllKnown (layout_of version) (may_have_orphans version) db (numbers_in reader) → ⊥) → KeepsNone version db taken.members
 rows_stray version db reader taken h fits wrong T M K = wrong (K.records.1.1.1.1.0, (K.records.1.1.1.1.1.0, tt)) (all_named version db reader taken h fits T M K)
 
 -- ---- the kept replies
@@ -325,7 +351,7 @@ pub ids_twice : (version : ℕ) (db : Database) (members : List spec.Member) →
 ids_twice version db members (inl w) T M K = w.3 (last_holds (HasColumns kept_columns) (rows_of (codes "kept") db) (map stored_kept w.0) w.2.0 w.1 K.records.1.1.1.0 w.2.1.same)
 ids_twice version db members (inr w) T M K =
     let rows = map stored_kept w.0 ++ w.1.0 in
-    let found = (listed_records kept_codec (codes "kept") db T.kept (replies_kept (layout_of version) db T K.keeps) rows w.1.1.same).0 in
+    let found = (listed_records kept_codec (codes "kept") db T.kept (replies_kept (layout_of version) db K.orphans T K.keeps) rows w.1.1.same).0 in
     let once : IsEachOnce (map id_of T.kept) = subst IsEachOnce (sym (ap (map id_of) K.stands.kept ∙ ids_same M.kept)) K.stands.well_formed.ids in
     let there = once_same (map id_of T.kept) (map id_of (map (read kept_codec) rows)) (same_from _ _ (IsPermutation-map id_of T.kept (map (read kept_codec) rows) found)) once in
     let split : map id_of (map (read kept_codec) rows) ≡ ids_given w.0 ++ map id_of (map (read kept_codec) w.1.0) = ap (map id_of) (front_read kept_codec w.0 w.1.0) ∙ map-append id_of (kept_given w.0) (map (read kept_codec) w.1.0) in

@@ -1,11 +1,11 @@
 -- Which files are opened, and what becomes of the others.
-use Rattle.std.specs.Prelude.{◌≡◌, ◌⊎◌, ◌≤◌, ℕ, ℤ, pos, true, false, Bool, List, [], ◌∷◌, map, drop, filter, length, codes, IsPermutation, String}
+use Rattle.std.specs.Prelude.{◌≡◌, ◌⊎◌, ◌≤◌, ◌<◌, ℕ, ℤ, pos, true, false, Bool, nat_le, List, [], ◌∷◌, map, drop, filter, length, codes, IsPermutation, String}
 use Rattle.std.specs.List.{AllByRecursion}
 use Rattle.std.specs.declared.alloc.Global.{Global}
 use Rattle.sqlite.specs.Effect.{Database}
 use Rattle.sqlite.specs.Order.{Row}
 use Rattle.sqlite.specs.declared.types.Value.TheVariants.{Int}
-use Rattle.store_records.specs.Records.{Mark, Member, EntryRecord, EditionRecord, header_of}
+use Rattle.store_records.specs.Records.{Mark, Member, EntryRecord, EditionRecord, Part, header_of}
 use Rattle.store_records.specs.Typed.{owned_edition, owned_header}
 use Rattle.store_records.specs.declared.records as typed
 use Rattle.store_records.specs.declared.records.StoredRow.{StoredRow}
@@ -30,21 +30,24 @@ use Rattle.store_rows.specs.Whole.{with_entries, with_replies}
 use Rattle.store_rows.specs.declared.reader.Reader.{Reader}
 use Rattle.store_holdings.specs.AllTables.{with_derived}
 pub use Rattle.store_holdings.specs.Holds.{HoldsNone, HoldsNoneAs}
+use Rattle.store_holdings.specs.Holds.{AreOrphans}
 pub use Rattle.store_holdings.specs.Readings.{HasReadableRows, HasRowidsApart}
 use Rattle.store_holdings.specs.Readings.{TableReading, KeepsAll, AreShownIn, IsReadable, readings, edition_readings, editions, contents, tables_of, table_name_of}
-use Rattle.store_scans.specs.Census.{one_of, is_of_contents, AreKnownApart}
+use Rattle.store_scans.specs.Census.{one_of, is_of_contents, may_be_in_contents, AreKnownApart, HasPartRows}
 use Rattle.store_scans.specs.Entries.{HasEntries}
 use Rattle.store_scans.specs.Files.{HasFile, HasNoFile}
 use Rattle.store_scans.specs.Takers.{EditionRow, KeptRow, ids_given}
 use Rattle.store_opening.specs.Marks.{HasMarkTable}
 
--- the database keeps tables with the members in this order, and they stand for the catalogue under this version
+-- the database keeps tables with the members in this order, and they stand for the catalogue under this version, whatever orphans are beside them
 pub record Keeping (version : ℕ) (db : Database) (members : List Member) (tables : Tables) (M : Catalogue) : Type 0 where
-  pub keeps : KeepsAll (layout_of version) db (with_derived tables)
+  pub orphans : List Part
+  pub keeps : KeepsAll (layout_of version) db (with_derived orphans tables)
   pub shown : AreShownIn (layout_of version) tables.entries
   pub same_members : tables.members ≡ members
   pub stands : Stands version tables M
   pub records : HasReadableRows (layout_of version) db
+  pub beside : AreOrphans version M orphans
 
 -- it keeps none that stand for a catalogue
 abbrev pub KeepsNone : ℕ → Database → List Member → Type 0
@@ -112,7 +115,7 @@ pub record CanRead (version : ℕ) (db : Database) (reader : Reader) (numbers : 
 
 -- the rows that pass the test are those of what was read
 abbrev pub HasRowsOf : (Row → Bool) → Database → Tables → TableReading → Type 0
-HasRowsOf test db after r = IsPermutation (r.rows (with_derived after)) (map (λ row. drop 1 (r.looked row)) (filter test (rows_of (table_name_of r) db)))
+HasRowsOf test db after r = IsPermutation (r.rows (with_derived [] after)) (map (λ row. drop 1 (r.looked row)) (filter test (rows_of (table_name_of r) db)))
 
 -- the editions of these numbers were read, and their entries
 pub record HasReadEditions (version : ℕ) (db : Database) (numbers : List ℤ) (front after : Tables) : Type 0 where
@@ -136,13 +139,13 @@ HasVersionTables version db = HasTablesOf (layout_of version) db
 
 -- ---- the whole file
 
--- a table has a row for each of its records and no others
-abbrev pub HasRows : Database → Tables → TableReading → Type 0
-HasRows db tables r = IsPermutation (r.rows (with_derived tables)) (map (λ row. drop 1 (r.looked row)) (rows_of (table_name_of r) db))
+-- a table has a row for each of its records and no others; beside the parts of editions it has those of the orphans
+abbrev pub HasRows : Database → List Part → Tables → TableReading → Type 0
+HasRows db orphans tables r = IsPermutation (r.rows (with_derived orphans tables)) (map (λ row. drop 1 (r.looked row)) (rows_of (table_name_of r) db))
 
 -- Each table of this version does.
-abbrev pub HasAllRows : ℕ → Database → Tables → Type 0
-HasAllRows version db tables = AllByRecursion (HasRows db tables) (readings (layout_of version))
+abbrev pub HasAllRows : ℕ → Database → List Part → Tables → Type 0
+HasAllRows version db orphans tables = AllByRecursion (HasRows db orphans tables) (readings (layout_of version))
 
 -- the mark, the items and the members were read
 pub record HasBegun (version : ℕ) (db : Database) (front : Tables) : Type 0 where
@@ -163,10 +166,21 @@ numbers_in reader = map pos (edition_numbers (items_in reader))
 abbrev pub HasNamed : ℕ → Database → Reader → Tables → Tables → Type 0
 HasNamed version db reader front after = HasReadEditions version db (numbers_in reader) front after
 
--- no two rows of the editions have one rowid, nor two of what is kept of their entries, and each is of an edition that has one of these numbers
-pub record AreAllKnown (layout : Layout) (db : Database) (numbers : List ℤ) : Type 0 where
+-- from version 6 on there may be orphans
+abbrev pub may_have_orphans : ℕ → Bool
+may_have_orphans version = nat_le 6 version
+
+-- no two rows of the editions have one rowid, nor two of what is kept of their entries, and each is of an edition that has one of these numbers, or an orphan where there may be any
+pub record AreAllKnown (layout : Layout) (orphans : Bool) (db : Database) (numbers : List ℤ) : Type 0 where
   pub editions : AreKnownApart (one_of numbers) (table_name_of (editions layout)) db
-  pub contents : AreKnownApart (is_of_contents layout numbers) (table_name_of (contents layout)) db
+  pub contents : AreKnownApart (may_be_in_contents orphans layout numbers) (table_name_of (contents layout)) db
+
+-- the rows of the parts, where a layout has them, are those of parts
+abbrev pub ArePartRows : Layout → Database → Type 0
+ArePartRows Plain db = Unit {0}
+ArePartRows Keyed db = Unit {0}
+ArePartRows Shown db = Unit {0}
+ArePartRows Parted db = HasPartRows db
 
 -- the rows of both stand for records
 abbrev pub AreReadableEditions : Layout → Database → Type 0
@@ -188,25 +202,30 @@ pub record HasReplies (db : Database) (taken after : Tables) : Type 0 where
 
 -- all records were read
 pub record HasAll (version : ℕ) (db : Database) (reader : Reader) (front after : Tables) : Type 0 where
-  pub keeps : HasAllRows version db after
+  pub orphans : List Part
+  pub keeps : HasAllRows version db orphans after
+  pub unknown : AllByRecursion (λ row. is_of (numbers_in reader) row.edition ≡ false) orphans
+  pub later : version < 6 → orphans ≡ []
   pub shown : AreShownIn (layout_of version) after.entries
   pub goes : GoesOnFrom front after
   pub fits : AllGoOnFrom version db after
   pub ids : HasIdsOnce after
-  pub known : AreAllKnown (layout_of version) db (numbers_in reader)
+  pub known : AreAllKnown (layout_of version) (may_have_orphans version) db (numbers_in reader)
 
 -- the rowids of editions, and of what is kept of their entries, are apart
 abbrev pub AreApartEditions : Layout → Database → Type 0
 AreApartEditions layout db = AllByRecursion (λ r. HasApartRowids (rows_of (table_name_of r) db)) (edition_readings layout)
 
--- the records of all rows stand for the catalogue of this summary, under this version
+-- the records of all rows, but for orphans, stand for the catalogue of this summary, under this version
 pub record HasSummary (version : ℕ) (db : Database) (holdings : Holdings (List ℕ)) : Type 0 where
   pub catalogue : Catalogue
   pub tables : Tables
-  pub keeps : HasAllRows version db tables
+  pub orphans : List Part
+  pub keeps : HasAllRows version db orphans tables
   pub apart : AreApartEditions (layout_of version) db
   pub shown : AreShownIn (layout_of version) tables.entries
   pub stands : Stands version tables catalogue
+  pub beside : AreOrphans version catalogue orphans
   pub summary : summary_of catalogue ≡ holdings
 
 -- ---- the mark

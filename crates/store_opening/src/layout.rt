@@ -10,6 +10,7 @@ ghost use Rattle.store_rows.specs.Versions.{Plain, Keyed, Shown, Parted, layout_
 ghost use Rattle.store_holdings.specs.Holds.{HasLayout};
 ghost use Rattle.store_holdings.specs.Readings.{tables_of};
 ghost use Rattle.store_opening.specs.Layouts.{layout_in};
+ghost use Rattle.store_opening.specs.Opens.{may_have_orphans};
 
 use sqlite_schema::schema::Schema;
 use store_edition_sql::{has_header_table, has_part_table};
@@ -40,10 +41,17 @@ pub(crate) fn layout_of(version: u64) -> TableLayout
     if version == 4 {
         return TableLayout::Shown;
     }
-    if version == 5 {
+    if version == 5 || version == 6 {
         return TableLayout::Parted;
     }
     TableLayout::Keyed
+}
+
+/// Whether a file of this version may have parts of no edition.
+pub(crate) fn may_have_orphans(version: u64) -> bool
+    ensures { result ≡ may_have_orphans version }
+{
+    version >= 6
 }
 
 // Whether a schema has the tables that all layouts have.
@@ -112,7 +120,7 @@ fn has_file_tables(schema: &Schema) -> bool
     has_header_table(schema) && has_part_table(schema)
 }
 
-// All tables of schema 5.
+// All tables of schemas 5 and 6.
 fn has_parted_tables(schema: &Schema) -> bool
     ensures { IsTrue result ↔ AllByRecursion (HasOwn schema.now) (tables_of Parted) }
 {

@@ -29,14 +29,14 @@ use store_rows::{KNOWN_VERSION, number_in};
 use store_scans::ReadingFault;
 use store_sql::records::ReadError;
 
-/// The summary of the catalogue that the tables hold, and indexes of its editions, where these are the records of the mark, which is of this version. Editions are read first: what
+/// The summary of the catalogue that the tables hold, indexes of its editions, and the numbers of orphans, where these are the records of the mark, which is of this version. Editions are read first: what
 /// is read before them leaves less room for their texts.
 fn read_tables<S: Alter>(
     alloc: Global,
     conn: &mut Connection<S>,
     version: u64,
     marks: &[StoredRow<Mark<String>>],
-) -> Result<(Summary, Indexes), ReadingFault>
+) -> Result<(Summary, Indexes, Vec<u64>), ReadingFault>
     ensures reads { OnlyReads (state S.Store conn.old) (state S.Store conn.new) }
     ensures failed { HasCleanDisk (state S.Store conn.new) → IfErr result (IsExcusedReading (state S.Store conn.old) (state S.Store conn.new)) }
     ensures same { HasCleanDisk (state S.Store conn.new) → OnOk result (Same (state S.Store conn.old) (state S.Store conn.new)) }
@@ -135,8 +135,9 @@ fn told(fault: ReadingFault) -> Fault
     }
 }
 
-/// Reads a file whole, and gives its version, the summary of the catalogue that it holds, and an index of each of its editions, current
-/// and former, under the edition's number. Nothing is written. Beside the indexes it takes memory by the largest edition, and not by
+/// Reads a file whole, and gives its version, the summary of the catalogue that it holds, an index of each of its editions, current
+/// and former, under the edition's number, and the numbers of orphans: of parts of files that are of no edition of the catalogue, which a
+/// file may have from version 6 on. Each such number that an edition can have is there at least once. Nothing is written. Beside the indexes it takes memory by the largest edition, and not by
 /// their sum.
 ///
 /// `NotACatalogue` tells that there is no readable mark, `NewerSchema` that the mark is of a version above the known one,
@@ -146,7 +147,7 @@ fn told(fault: ReadingFault) -> Fault
 pub fn read_catalogue<S: Alter>(
     alloc: Global,
     conn: &mut Connection<S>,
-) -> Result<(u64, Summary, Indexes), Fault>
+) -> Result<(u64, Summary, Indexes, Vec<u64>), Fault>
     requires { conn.old.in_transaction ≡ false }
     ensures rests { HasCleanDisk (state S.Store conn.new) → IfOk result (λ found. (M : Catalogue) × Rests found.0 (state S.Store conn.new) M × (summary_of M ≡ summary_shown found.1) × IsHeldIndexed found.0 (state S.Store conn.new).committed M found.2) }
     ensures known { IfOk result (λ found. IsVersion found.0) }
@@ -168,7 +169,7 @@ pub fn read_catalogue<S: Alter>(
     let read = read_tables(alloc, conn, version, &marks);
     drop(marks);
     match read {
-        Ok((summary, indexes)) => Ok((version, summary, indexes)),
+        Ok((summary, indexes, orphans)) => Ok((version, summary, indexes, orphans)),
         Err(fault) => Err(told(fault)),
     }
 }

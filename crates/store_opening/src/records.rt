@@ -103,13 +103,15 @@ fn read_kept<S: Alter>(
     test_ids(alloc, conn)
 }
 
-/// Takes the editions, the entries and the kept replies: all that are there. An index of each edition is put under its number.
+/// Takes the editions, the entries and the kept replies: all that are there. An index of each edition is put under its number, and the
+/// numbers of orphans are put into `orphans`.
 fn read_all<S: Alter>(
     alloc: Global,
     conn: &mut Connection<S>,
     version: u64,
     reader: &mut IndexingReader,
     indexes: &mut Indexes,
+    orphans: &mut Vec<u64>,
 ) -> Result<(), ReadingFault>
     requires { WhileOpen (state S.Store conn.old) (HasVersionTables version) }
     ensures reads { OnlyReads (state S.Store conn.old) (state S.Store conn.new) }
@@ -119,19 +121,19 @@ fn read_all<S: Alter>(
     ensures all { HasCleanDisk (state S.Store conn.new) → OnOk result ((front : Tables) → HasTaken version reader.old.reader front → HasBegun version (state S.Store conn.old).now front → (after : Tables) × HasTaken version reader.new.reader after × HasAll version (state S.Store conn.old).now reader.old.reader front after) }
     ensures damaged { HasCleanDisk (state S.Store conn.new) → IfErr result (λ fault. fault ≡ ReadingFault.Damaged → (front : Tables) → HasTaken version reader.old.reader front → HasBegun version (state S.Store conn.old).now front → HoldsNoneAs version (state S.Store conn.old).now) }
 {
-    test_strays(alloc, conn, version, &reader.reader)?;
+    test_strays(alloc, conn, version, &reader.reader, orphans)?;
     read_named(alloc, conn, version, reader, indexes)?;
     read_kept(alloc, conn, version, &mut reader.reader)
 }
 
 /// The summary of the catalogue that the records of all tables stand for, where these are those of the mark, which is of this version;
-/// and indexes of its editions.
+/// indexes of its editions; and the numbers of orphans.
 pub(crate) fn read_records<S: Alter>(
     alloc: Global,
     conn: &mut Connection<S>,
     version: u64,
     marks: &[StoredRow<Mark<String>>],
-) -> Result<(Summary, Indexes), ReadingFault>
+) -> Result<(Summary, Indexes, Vec<u64>), ReadingFault>
     requires { WhileOpen (state S.Store conn.old) (HasVersionTables version) }
     ensures reads { OnlyReads (state S.Store conn.old) (state S.Store conn.new) }
     ensures failed { HasCleanDisk (state S.Store conn.new) → IfErr result (IsExcusedReading (state S.Store conn.old) (state S.Store conn.new)) }
@@ -146,17 +148,27 @@ pub(crate) fn read_records<S: Alter>(
         index: EditionIndex::new(alloc),
     };
     let mut indexes = Indexes::new(alloc);
-    if let Err(fault) = read_all(alloc, conn, version, &mut reader, &mut indexes) {
+    let mut orphans = Vec::new(alloc);
+    if let Err(fault) = read_all(
+        alloc,
+        conn,
+        version,
+        &mut reader,
+        &mut indexes,
+        &mut orphans,
+    ) {
         drop(reader);
         drop(indexes);
+        drop(orphans);
         return Err(fault);
     }
     let IndexingReader { reader, index } = reader;
     drop(index);
     match reader.finish() {
-        Ok(summary) => Ok((summary, indexes)),
+        Ok(summary) => Ok((summary, indexes, orphans)),
         Err(fault) => {
             drop(indexes);
+            drop(orphans);
             Err(fault_of_rows(fault))
         }
     }

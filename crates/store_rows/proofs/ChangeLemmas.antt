@@ -36,7 +36,7 @@ abbrev pub IsFit : ℕ → Option Installed → Type 0
 IsFit number None = Unit {0}
 IsFit number (Some new) = (new.number ≡ number) × AllByRecursion (IsWithin new.reading.text) new.reading.lines × (length new.reading.text < 64 ^ 6)
 
-abbrev IsNewOf : Option Installed → List ℕ → Stored Edition → Type 0
+abbrev pub IsNewOf : Option Installed → List ℕ → Stored Edition → Type 0
 IsNewOf None owner stored = ⊥
 IsNewOf (Some new) owner stored = (owner ≡ new.owner) × (stored.number ≡ new.number) × (stored.content ≡ edition_of new.reading)
 
@@ -108,7 +108,7 @@ new_holds version change old number owner stored (Some one) e fit free new =
           ∙ ap (λ n. numbered (entry_record n) 0 one.reading.lines) (sym new.1);
     }
 
-abbrev AreOldOrNew : Tables → ℕ → Option Installed → Item Edition → Type 0
+abbrev pub AreOldOrNew : Tables → ℕ → Option Installed → Item Edition → Type 0
 AreOldOrNew old installs edition item = AllByRecursion (λ stored. IsOld old installs (name_of item) stored ⊎ IsNewOf edition (name_of item) stored) (editions_of item)
 
 old_to : (old : Tables) (installs : ℕ) (edition : Option Installed) (item : Item Edition) → AreOld old installs item → AreOldOrNew old installs edition item
@@ -162,7 +162,7 @@ or_second : (a b : Bool) → b ≡ true → (a || b) ≡ true
 or_second true b e = refl
 or_second false b e = e
 
-each_among : (ns : List ℕ) → AllByRecursion (λ n. list_any (λ one. one == n) ns ≡ true) ns
+pub each_among : (ns : List ℕ) → AllByRecursion (λ n. list_any (λ one. one == n) ns ≡ true) ns
 each_among [] = tt
 each_among (n ∷ ns) = (
   or_first (n == n) (list_any (λ one. one == n) ns) (nat_itself n n refl),
@@ -198,7 +198,7 @@ one_after version change old installs owner stored fit free stay (inl p) =
     holds_same old (tables_after version change old) owner stored (same_at version change old (installs + 1) stored.number fit (let le : stored.number ≤ installs = p.few in omega arith) stay) p.holds
 one_after version change old installs owner stored fit free stay (inr p) = new_holds version change old (installs + 1) owner stored change.edition refl fit free p
 
-old_each : (old : Tables) (installs : ℕ) (items : List (Item Edition)) → AllByRecursion (HoldsEditions old) items → AllByRecursion (λ n. (1 ≤ n) × (n ≤ installs)) (edition_numbers items) → AllByRecursion (AreOld old installs) items
+pub old_each : (old : Tables) (installs : ℕ) (items : List (Item Edition)) → AllByRecursion (HoldsEditions old) items → AllByRecursion (λ n. (1 ≤ n) × (n ≤ installs)) (edition_numbers items) → AllByRecursion (AreOld old installs) items
 old_each old installs items h range =
     all_with (HoldsEditions old) (λ (item : Item Edition). AllByRecursion (λ stored. (1 ≤ stored.number) × (stored.number ≤ installs)) (editions_of item)) (AreOld old installs)
     (λ item p q. all_with (HoldsEdition old (name_of item)) (λ (stored : Stored Edition). (1 ≤ stored.number) × (stored.number ≤ installs)) (IsOld old installs (name_of item)) (λ stored a b. record { holds = a; few = b.1 })

@@ -3,7 +3,7 @@ use Rattle.std.specs.Prelude.{ℕ, ◌≤◌, ◌==◌, if◌then◌else◌}
 
 -- the version that is written, and the greatest that is opened
 abbrev pub known : ℕ
-known = 5
+known = 6
 
 -- files of this version are opened
 pub record IsVersion (version : ℕ) : Type 0 where
@@ -19,4 +19,4 @@ pub data Layout : Type 0 where
   Parted : Layout
 
 abbrev pub layout_of : ℕ → Layout
-layout_of version = if version == 1 then Plain else (if version == 4 then Shown else (if version == 5 then Parted else Keyed))
+layout_of version = if version == 1 then Plain else (if version == 4 then Shown else (if version == 5 then Parted else (if version == 6 then Parted else Keyed)))

@@ -10,7 +10,7 @@ use dict_catalogue::{Item, Kept as Reply, Verb};
 use store_records::{ItemRecord as ItemRow, KeptRecord, Mark, Member};
 
 /// The version of the tables that is written, and the greatest that is opened.
-pub const KNOWN_VERSION: u64 = 5;
+pub const KNOWN_VERSION: u64 = 6;
 
 /// The mark of a file of this version, with the count of installs.
 pub fn mark_row(version: u64, installs: u64) -> Mark<&'static str>

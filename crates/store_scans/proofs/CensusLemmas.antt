@@ -1,14 +1,14 @@
 -- Rows that were read in the order of their rowids, beside the numbers of the editions that there are.
-use Rattle.std.proofs.Common.{◌≡◌, ◌↔◌, ◌⊎◌, ℕ, ℤ, pos, Bool, true, false, ◌&&◌, ◌||◌, List, [], ◌∷◌, ◌++◌, map, codes, inl, inr, refl, sym, ap, subst, ◌∙◌}
+use Rattle.std.proofs.Common.{◌≡◌, ◌↔◌, ◌⊎◌, ℕ, ℤ, pos, Bool, true, false, cond, ◌||◌, List, [], ◌∷◌, ◌++◌, map, codes, inl, inr, refl, sym, ap, subst, ◌∙◌}
 use Rattle.std.specs.List.{AllByRecursion}
 use Rattle.std.specs.List.Sorted.{IsPermutation, IsSorted}
-use Rattle.std.proofs.lemmas.Bool.{false≢true, and_parts}
+use Rattle.std.proofs.lemmas.Bool.{false≢true}
 use Rattle.std.proofs.lemmas.List.{map-append}
 use Rattle.std.proofs.lemmas.List.Sorted.{IsPermutation-sym}
 use Rattle.sqlite.specs.Effect.{Database}
 use Rattle.sqlite.specs.Order.{Row, column}
 use Rattle.sqlite.specs.declared.types.Value.TheVariants.{Int}
-use Rattle.dict_text.proofs.AllLemmas.{all_map, all_weaker}
+use Rattle.dict_text.proofs.AllLemmas.{all_map}
 use Rattle.store_sql.specs.Columns.{Content, HasColumns, edition_columns, number_columns}
 use Rattle.store_sql.specs.Effects.{HasApartRowids, rows_of, same_value, equals_number}
 use Rattle.store_sql.specs.Encodings.{stored_number}
@@ -20,12 +20,14 @@ use Rattle.store_sql.proofs.ListingLemmas.{all_pass}
 use Rattle.store_rows.specs.Apart.{HasTakenRowids}
 use Rattle.store_rows.specs.Order.{is_of, InOrder}
 use Rattle.store_rows.specs.Tables.{same_number}
-use Rattle.store_rows.proofs.OrderLemmas.{all_same, all_with}
+use Rattle.store_rows.proofs.OrderLemmas.{all_same}
 use Rattle.store_rows.proofs.TakenLemmas.{same_number_is, same_itself}
-use Rattle.store_scans.specs.Census.{one_of, is_in_file, is_known_part, AreKnownApart, AreNumberedApart, TakesCensus, refuses_census, TakesPartCensus, refuses_part_census}
+use Rattle.store_scans.specs.Census.{one_of, is_in_file, may_stand, AreKnownApart, AreNumberedApart, HasPartRows, TakesCensus, refuses_census, TakesPartCensus, refuses_part_census}
 use Rattle.store_scans.specs.Cursors.{Cursor, IsScannedToEnd, IsFrontOfScan}
 use Rattle.store_scans.specs.Cursors.Cursor.{InStore, PartsByRowid}
-use Rattle.store_scans.specs.Scans.{TakesAll, IsWrong}
+use Rattle.store_scans.specs.Scans.{TakesAll, HasNoRecordIn, IsWrong}
+use Rattle.store_scans.specs.Takers.{takes_rowids, refuses_rowids}
+use Rattle.store_rows.specs.declared.apart.RowidReader.{RowidReader}
 use Rattle.store_scans.specs.declared.census.Census.{Census}
 use Rattle.store_scans.specs.declared.census.PartCensus.{PartCensus}
 use Rattle.store_scans.proofs.NumberLemmas.{same_int}
@@ -66,29 +68,39 @@ record ArePassedApart (test : Row → Bool) (all : List Row) : Type 0 where
   apart : HasApartRowids all
   known : AllByRecursion (λ row. test row ≡ true) all
 
+module _ {R : Type 0} (stored : R → Row) (columns : List Content) (what : Cursor) (all : List Row) (db : Database) (test : Row → Bool) (first : RowidReader) (none : HasTakenRowids first [])
+    (lists : (rows : List Row) → IsScannedToEnd what db rows → IsPermutation all rows × IsSorted (by_columns (0 ∷ [])) rows) where
+  passed_all : (given : List R) → IsScannedToEnd what db (map stored given) → (last : RowidReader) → takes_rowids stored first given last → AllByRecursion (λ r. test (stored r) ≡ true) given → ArePassedApart test all
+  passed_all given scanned last rowids known =
+      let l = lists (map stored given) scanned in
+      record {
+        apart = all_apart stored all first none given last l.0 l.1 rowids;
+        known = all_same (λ row. test row ≡ true) (map stored given) all (IsPermutation-sym all (map stored given) l.0)
+            (all_map (λ r. test (stored r) ≡ true) (λ row. test row ≡ true) stored (λ r p. p) given known);
+      }
+
+  -- two of the rows that were read have one rowid, or the last doesn't pass
+  abbrev IsRefused : List R → Type 0
+  IsRefused given = refuses_rowids stored first given ⊎ ((front : List R) × (next : R) × (given ≡ front ++ next ∷ []) × (test (stored next) ≡ false))
+
+  passed_none : AllByRecursion (HasColumns columns) all → ArePassedApart test all → HasNoRecordIn stored columns what db ⊎ ((given : List R) × IsFrontOfScan what db (map stored given) × IsRefused given) → ⊥
+  passed_none readable apart (inl w) = w.3 (last_holds (HasColumns columns) all (map stored w.0) w.2.0 w.1 readable (lists ((map stored w.0 ++ w.1 ∷ []) ++ w.2.0) w.2.1).0)
+  passed_none readable apart (inr (given, begins, inl twice)) = all_wrong stored all first none given begins.0 (lists (map stored given ++ begins.0) begins.1).0 twice apart.apart
+  passed_none readable apart (inr (given, begins, inr (front, next, is, fails))) =
+      let rows : map stored given ≡ map stored front ++ stored next ∷ [] = ap (map stored) is ∙ map-append stored front (next ∷ []) in
+      let passes = last_holds (λ row. test row ≡ true) all (map stored front) begins.0 (stored next) apart.known
+      (lists ((map stored front ++ stored next ∷ []) ++ begins.0) (subst (λ l. IsScannedToEnd what db (l ++ begins.0)) rows begins.1)).0 in
+      false≢true (sym fails ∙ passes)
+
 module _ {R : Type 0} (stored : R → Row) (columns : List Content) (what : Cursor) (all : List Row) (db : Database) (numbers : List ℤ) (first : Census) (same : first.numbers.now ≡ numbers) (none : HasTakenRowids first.rowids [])
     (lists : (rows : List Row) → IsScannedToEnd what db rows → IsPermutation all rows × IsSorted (by_columns (0 ∷ [])) rows) where
   census_all : (last : Census) → TakesAll stored (TakesCensus stored) what db first last → ArePassedApart (one_of numbers) all
   census_all last h =
-      let l = lists (map stored h.0) h.1 in
-      record {
-        apart = all_apart stored all first.rowids none h.0 last.rowids l.0 l.1 h.2.rowids;
-        known = subst (λ ns. AllByRecursion (λ row. one_of ns row ≡ true) all) same
-            (all_same (λ row. one_of first.numbers.now row ≡ true) (map stored h.0) all (IsPermutation-sym all (map stored h.0) l.0)
-            (all_map (λ r. one_of first.numbers.now (stored r) ≡ true) (λ row. one_of first.numbers.now row ≡ true) stored (λ r p. p) h.0 h.2.known));
-      }
-
-  -- the last of those that were read passes what all do
-  last_passes : (test : Row → Bool) → AllByRecursion (λ row. test row ≡ true) all → (given front : List R) (next : R) → given ≡ front ++ next ∷ [] → IsFrontOfScan what db (map stored given) → test (stored next) ≡ false → ⊥
-  last_passes test known given front next is begins fails =
-      let rows : map stored given ≡ map stored front ++ stored next ∷ [] = ap (map stored) is ∙ map-append stored front (next ∷ []) in
-      let passes = last_holds (λ row. test row ≡ true) all (map stored front) begins.0 (stored next) known (lists ((map stored front ++ stored next ∷ []) ++ begins.0) (subst (λ l. IsScannedToEnd what db (l ++ begins.0)) rows begins.1)).0 in
-      false≢true (sym fails ∙ passes)
+      subst (λ ns. ArePassedApart (one_of ns) all) same (passed_all stored columns what all db (one_of first.numbers.now) first.rowids none lists h.0 h.1 last.rowids h.2.rowids h.2.known)
 
   census_none : AllByRecursion (HasColumns columns) all → ArePassedApart (one_of numbers) all → IsWrong stored columns (refuses_census stored) what db first → ⊥
-  census_none readable apart (inl w) = w.3 (last_holds (HasColumns columns) all (map stored w.0) w.2.0 w.1 readable (lists ((map stored w.0 ++ w.1 ∷ []) ++ w.2.0) w.2.1).0)
-  census_none readable apart (inr (given, begins, inl twice)) = all_wrong stored all first.rowids none given begins.0 (lists (map stored given ++ begins.0) begins.1).0 twice apart.apart
-  census_none readable apart (inr (given, begins, inr (front, next, is, unknown))) = last_passes (one_of numbers) apart.known given front next is begins (subst (λ ns. one_of ns (stored next) ≡ false) same unknown)
+  census_none readable apart w =
+      passed_none stored columns what all db (one_of first.numbers.now) first.rowids none lists readable (subst (λ ns. ArePassedApart (one_of ns) all) (sym same) apart) w
 
 module _ {R : Type 0} (stored : R → Row) (columns : List Content) (what : Cursor) (name : List ℕ) (db : Database) (numbers : List ℤ) (first : Census) (same : first.numbers.now ≡ numbers) (none : HasTakenRowids first.rowids [])
     (lists : (rows : List Row) → IsScannedToEnd what db rows → IsPermutation (rows_of name db) rows × IsSorted (by_columns (0 ∷ [])) rows) where
@@ -122,48 +134,52 @@ module _ (db : Database) (numbers : List ℤ) (first : Census) (same : first.num
 
 -- ---- the parts of files
 
-both_true : (a b : Bool) → a ≡ true → b ≡ true → (a && b) ≡ true
-both_true true b p q = q
-both_true false b p q = absurd (false≢true p)
-
-module _ (db : Database) (numbers : List ℤ) (first : PartCensus) (same : first.census.numbers.now ≡ numbers) (none : HasTakenRowids first.census.rowids []) where
+module _ (db : Database) (first : PartCensus) (none : HasTakenRowids first.rowids []) where
   abbrev parts : List Row
   parts = rows_of (codes "dictcat_part") db
+
+  abbrev stands : Row → Bool
+  stands = may_stand first.may_have_orphans first.numbers.now
 
   lists : (rows : List Row) → IsScannedToEnd PartsByRowid db rows → IsPermutation parts rows × IsSorted (by_columns (0 ∷ [])) rows
   lists rows h = selection_lists (codes "dictcat_part") db rows h
 
-  pub parts_whole : (last : PartCensus) → TakesAll stored_part TakesPartCensus PartsByRowid db first last → AreKnownApart (is_known_part numbers) (codes "dictcat_part") db
+  pub parts_whole : (last : PartCensus) → TakesAll stored_part TakesPartCensus PartsByRowid db first last → AreKnownApart stands (codes "dictcat_part") db
   parts_whole last h =
-      let it = census_all stored_part part_columns PartsByRowid parts db numbers first.census same none lists last.census (h.0, h.1, h.2.census) in
-      let files = all_same (λ row. is_in_file row ≡ true) (map stored_part h.0) parts (IsPermutation-sym parts (map stored_part h.0) (lists (map stored_part h.0) h.1).0)
-      (all_map (λ r. is_in_file (stored_part r) ≡ true) (λ row. is_in_file row ≡ true) stored_part (λ r p. p) h.0 h.2.files) in
-      record {
-        apart = it.apart;
-        known = all_with (λ row. one_of numbers row ≡ true) (λ row. is_in_file row ≡ true) (λ row. is_known_part numbers row ≡ true) (λ row p q. both_true (one_of numbers row) (is_in_file row) p q) parts
-            it.known files;
-      }
+      let it = passed_all stored_part part_columns PartsByRowid parts db stands first.rowids none lists h.0 h.1 last.rowids h.2.rowids h.2.known in
+      record { apart = it.apart; known = it.known }
 
-  pub parts_wrong : AllByRecursion (HasColumns part_columns) parts → AreKnownApart (is_known_part numbers) (codes "dictcat_part") db → IsWrong stored_part part_columns refuses_part_census PartsByRowid db first → ⊥
-  parts_wrong readable apart w = by w
-    where
-      known : ArePassedApart (one_of numbers) parts
-      known = record { apart = apart.apart; known = all_weaker (λ row. is_known_part numbers row ≡ true) (λ row. one_of numbers row ≡ true) (λ row p. (and_parts (one_of numbers row) (is_in_file row) p).0) parts apart.known }
+  pub parts_read : (last : PartCensus) → TakesAll stored_part TakesPartCensus PartsByRowid db first last → HasPartRows db
+  parts_read last h = (h.0, (lists (map stored_part h.0) h.1).0)
 
-      by : IsWrong stored_part part_columns refuses_part_census PartsByRowid db first → ⊥
-      by (inl w) = census_none stored_part part_columns PartsByRowid parts db numbers first.census same none lists readable known (inl w)
-      by (inr (given, begins, inl w)) = census_none stored_part part_columns PartsByRowid parts db numbers first.census same none lists readable known (inr (given, begins, w))
-      by (inr (given, begins, inr (front, next, is, fails))) =
-          last_passes stored_part part_columns PartsByRowid parts db numbers first.census same none lists is_in_file
-          (all_weaker (λ row. is_known_part numbers row ≡ true) (λ row. is_in_file row ≡ true) (λ row p. (and_parts (one_of numbers row) (is_in_file row) p).1) parts apart.known) given front next is begins fails
+  pub parts_wrong : AllByRecursion (HasColumns part_columns) parts → AreKnownApart stands (codes "dictcat_part") db → IsWrong stored_part part_columns refuses_part_census PartsByRowid db first → ⊥
+  parts_wrong readable apart w = passed_none stored_part part_columns PartsByRowid parts db stands first.rowids none lists readable (record { apart = apart.apart; known = apart.known }) w
 
 -- one part more
-module _ (first : PartCensus) (given : List StoredPart) (next : StoredPart) (old : PartCensus) (t : TakesPartCensus first given old) where
-  pub part_next : (new : PartCensus) → TakesCensus stored_part first.census (given ++ next ∷ []) new.census → is_in_file (stored_part next) ≡ true → TakesPartCensus first (given ++ next ∷ []) new
-  part_next new census file = record { census = census; files = all_push (λ r. is_in_file (stored_part r) ≡ true) given next t.files file }
+module _ (first : PartCensus) (given : List StoredPart) (next : StoredPart) (old : PartCensus) (t : TakesPartCensus first given old) (id : ℤ) (rowid : next.rowid ≡ id) where
+  pub part_next : (new : PartCensus) → new.numbers ≡ old.numbers → new.may_have_orphans ≡ old.may_have_orphans → ((taken : List ℤ) → HasTakenRowids old.rowids taken → HasTakenRowids new.rowids (taken ++ id ∷ []))
+      → may_stand old.may_have_orphans old.numbers.now (stored_part next) ≡ true → TakesPartCensus first (given ++ next ∷ []) new
+  part_next new same orphans more stands = record {
+    numbers = ap (λ n. n.now) same ∙ t.numbers;
+    orphans = orphans ∙ t.orphans;
+    rowids = rowids_next stored_part first.rowids given next id old.rowids (ap Int rowid) t.rowids new.rowids more;
+    known = all_push (λ r. may_stand first.may_have_orphans first.numbers.now (stored_part r) ≡ true) given next t.known ((λ i. may_stand (sym t.orphans i) (sym t.numbers i) (stored_part next)) ∙ stands);
+  }
 
-  pub part_in_no_file : is_in_file (stored_part next) ≡ false → refuses_part_census first (given ++ next ∷ [])
-  part_in_no_file fails = inr (given, next, refl, fails)
+  pub part_twice : ((taken : List ℤ) → HasTakenRowids old.rowids taken → InOrder (λ a b. a ≡ b → ⊥) (taken ++ id ∷ []) → ⊥) → refuses_part_census first (given ++ next ∷ [])
+  part_twice twice = inl (rowids_refused stored_part first.rowids given next id old.rowids (ap Int rowid) t.rowids twice)
+
+pub part_strays : (first : PartCensus) (given : List StoredPart) (next : StoredPart) (old : PartCensus) → TakesPartCensus first given old → may_stand old.may_have_orphans old.numbers.now (stored_part next) ≡ false
+    → refuses_part_census first (given ++ next ∷ [])
+part_strays first given next old t strays = inr (given, next, refl, (λ i. may_stand (sym t.orphans i) (sym t.numbers i) (stored_part next)) ∙ strays)
+
+-- a part of a number that is one of these may stand where it is of a file, and one of another where there may be orphans
+module _ (orphans : Bool) (numbers : List ℤ) (part : StoredPart) (known : Bool) (is : known ≡ is_of numbers part.part.edition) where
+  pub known_stands : known ≡ true → may_stand orphans numbers (stored_part part) ≡ is_in_file (stored_part part)
+  known_stands found = ap (λ b. cond b (is_in_file (stored_part part)) orphans) (known_row numbers (stored_part part) part.part.edition refl ∙ sym is ∙ found)
+
+  pub unknown_stands : known ≡ false → may_stand orphans numbers (stored_part part) ≡ orphans
+  unknown_stands missing = ap (λ b. cond b (is_in_file (stored_part part)) orphans) (known_row numbers (stored_part part) part.part.edition refl ∙ sym is ∙ missing)
 
 -- a part of the index, and one that is none
 pub in_index : (part : StoredPart) (b : Bool) → b ≡ same_number part.part.file (pos 0) → b ≡ true → b ≡ is_in_file (stored_part part)

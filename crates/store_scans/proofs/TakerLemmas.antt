@@ -44,6 +44,10 @@ pub ok_both : {T E P Q R : Type 0} (result : Result T E) → OnOk result P → O
 ok_both (Ok x) h k f = f h k
 ok_both (Err e) h k f = tt
 
+pub ok_always : {T E P : Type 0} (result : Result T E) → P → OnOk result P
+ok_always (Ok x) p = p
+ok_always (Err e) p = tt
+
 pub all_push : {X : Type 0} (P : X → Type 0) (xs : List X) (x : X) → AllByRecursion P xs → P x → AllByRecursion P (xs ++ x ∷ [])
 all_push P [] x h p = (p, tt)
 all_push P (y ∷ xs) x h p = (h.0, all_push P xs x h.1 p)

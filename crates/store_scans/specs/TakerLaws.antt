@@ -49,4 +49,4 @@ pub no_census : {R : Type 0} (stored : R → Row) (census : Census) → TakesCen
 no_census stored census = record { numbers = refl; rowids = no_rowids stored census.rowids; known = tt }
 
 pub no_part_census : (census : PartCensus) → TakesPartCensus census [] census
-no_part_census census = record { census = no_census stored_part census.census; files = tt }
+no_part_census census = record { numbers = refl; orphans = refl; rowids = no_rowids stored_part census.rowids; known = tt }

@@ -1,4 +1,5 @@
-// The rows of tables whose rows are those of editions: no two under one rowid, and none of an edition that isn't there.
+// The rows of tables whose rows are those of editions: no two under one rowid, and none of an edition that isn't there, but for parts
+// where there may be such.
 ghost use Rattle.std.specs.Prelude.{◌≡◌, ◌⊎◌, ◌++◌, ◌∷◌, [], true, false, ℤ, List, codes, IfErr, OnOk};
 ghost use Rattle.sqlite.specs.State.{HasCleanDisk};
 ghost use Rattle.sqlite.specs.Held.{state};
@@ -14,7 +15,7 @@ ghost use Rattle.store_rows.specs.Tables.{same_number};
 ghost use Rattle.store_rows.specs.Versions.{Plain, Keyed, Shown};
 ghost use Rattle.store_holdings.specs.Readings.{IsReadable, contents, table_name_of};
 ghost use Rattle.store_scans.specs.Reading.{Same, OnlyReads, IsExcusedReading};
-ghost use Rattle.store_scans.specs.Census.{AreNumberedApart, is_in_file, reading_of, TakesCensus, refuses_census, TakesPartCensus, refuses_part_census};
+ghost use Rattle.store_scans.specs.Census.{AreNumberedApart, is_in_file, may_stand, reading_of, TakesCensus, refuses_census, TakesPartCensus, refuses_part_census};
 ghost use Rattle.store_scans.specs.TakerLaws.{no_census, no_part_census};
 
 use crate::entries::is_live;
@@ -26,7 +27,7 @@ use std::alloc::Global;
 use store_edition_sql::{StoredHeader, StoredPart};
 use store_older_sql::{read_old_by_rowid, read_shown_by_rowid};
 use store_records::{EntryRecord, KeyedEntry, OldEntry, StoredRow};
-use store_rows::{RowidReader, RowsFault};
+use store_rows::{RowidReader, RowsFault, number_in};
 use store_sql::records::{EditionNumber, Record};
 use store_sql::stream::read_by_rowid;
 use store_tables::StoreTable;
@@ -127,10 +128,14 @@ impl<R: OfEdition + Drop> Taker<R> for Census<'_> {
     ghost none = { no_census R.stored };
 }
 
-/// What takes the parts in the order of their rowids, beside the numbers of the editions that there are.
+/// What takes the parts in the order of their rowids, beside the numbers of the editions that there are. Where there may be orphans,
+/// parts of any other number pass too, and their numbers are noted.
 #[derive(Drop)]
 pub(crate) struct PartCensus<'a> {
-    pub(crate) census: Census<'a>,
+    pub(crate) numbers: &'a [i64],
+    pub(crate) may_have_orphans: bool,
+    pub(crate) rowids: RowidReader,
+    pub(crate) orphans: Vec<u64>,
 }
 
 fn is_in_file(part: &StoredPart) -> bool
@@ -139,16 +144,66 @@ fn is_in_file(part: &StoredPart) -> bool
     is_same(part.part.file, INDEX_FILE) || is_same(part.part.file, TEXT_FILE)
 }
 
+/// Whether the number is the last of these.
+fn is_last(numbers: &[u64], number: u64) -> bool {
+    match numbers.last() {
+        Some(last) => *last == number,
+        None => false,
+    }
+}
+
+/// Notes the number of an orphan: once where others of it follow, and not at all where it is no number of an edition.
+fn note(orphans: &mut Vec<u64>, number: i64) -> Result<(), RowsFault>
+    ensures { IfErr result (λ fault. fault ≡ RowsFault.Memory) }
+{
+    let Some(number) = number_in(&number) else {
+        return Ok(());
+    };
+    if is_last(orphans, number) {
+        return Ok(());
+    }
+    match orphans.push(number) {
+        Ok(()) => Ok(()),
+        Err(_) => Err(RowsFault::Memory),
+    }
+}
+
+/// Tests that the part is one of the index or of the text of an edition that has one of these numbers, or, where there may be
+/// orphans, one of another number, which is noted then.
+fn test_part(
+    numbers: &[i64],
+    may_have_orphans: bool,
+    orphans: &mut Vec<u64>,
+    part: &StoredPart,
+) -> Result<(), RowsFault>
+    ensures passes { OnOk result (may_stand may_have_orphans numbers.now (stored_part part.now) ≡ true) }
+    ensures damaged { IfErr result (λ fault. fault ≡ RowsFault.Damaged → may_stand may_have_orphans numbers.now (stored_part part.now) ≡ false) }
+{
+    if is_one_of(numbers, part.part.edition) {
+        if is_in_file(part) {
+            return Ok(());
+        }
+        return Err(RowsFault::Damaged);
+    }
+    if !may_have_orphans {
+        return Err(RowsFault::Damaged);
+    }
+    note(orphans, part.part.edition)
+}
+
 impl Taker<StoredPart> for PartCensus<'_> {
     ghost takes = { TakesPartCensus };
 
     ghost refuses = { refuses_part_census };
 
     fn take(&mut self, _: Global, next: StoredPart) -> Result<(), RowsFault> {
-        if !is_in_file(&next) {
-            return Err(RowsFault::Damaged);
-        }
-        self.census.row(next.rowid, next.part.edition)
+        test_part(
+            self.numbers,
+            self.may_have_orphans,
+            &mut self.orphans,
+            &next,
+        )?;
+        self.rowids.rowid(next.rowid)
     }
 
     ghost none = { no_part_census };

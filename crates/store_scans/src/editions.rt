@@ -9,13 +9,17 @@ ghost use Rattle.store_sql.specs.Effects.{Has, WhileOpen};
 ghost use Rattle.store_rows.specs.Versions.{Parted};
 ghost use Rattle.store_holdings.specs.Readings.{IsReadable, whole_editions, editions, contents};
 ghost use Rattle.store_scans.specs.Reading.{Same, OnlyReads, IsExcusedReading};
-ghost use Rattle.store_scans.specs.Census.{AreKnownApart, AreNumberedApart, is_known_part};
+ghost use Rattle.store_edition_sql.specs.PartRecords.{part_columns, stored_part};
+ghost use Rattle.store_scans.specs.Census.{AreKnownApart, AreNumberedApart, HasPartRows, TakesPartCensus, may_stand, refuses_part_census};
+ghost use Rattle.store_scans.specs.Cursors.Cursor.{PartsByRowid};
+ghost use Rattle.store_scans.specs.Scans.{TakesAll, IsWrong};
 
 use crate::census::{Census, PartCensus};
 use crate::fault::{ReadingFault, fault_of_store};
 use crate::scan::take_all;
 use sqlite::{Alter, Connection};
 use std::alloc::Global;
+use std::mem::replace;
 use store_edition_sql::{StoredHeader, StoredPart, read_headers_by_rowid, read_parts_by_rowid};
 use store_records::StoredRow;
 use store_rows::RowidReader;
@@ -72,31 +76,54 @@ pub fn test_headers<S: Alter>(
     take_all::<S, StoredHeader, Census<'_>>(alloc, &mut rows, &mut census)
 }
 
+// Takes all parts.
+fn take_parts<S: Alter>(
+    alloc: Global,
+    conn: &mut Connection<S>,
+    census: &mut PartCensus<'_>,
+) -> Result<(), ReadingFault>
+    requires { WhileOpen (state S.Store conn.old) (Has part) }
+    ensures reads { OnlyReads (state S.Store conn.old) (state S.Store conn.new) }
+    ensures failed { HasCleanDisk (state S.Store conn.new) → IfErr result (IsExcusedReading (state S.Store conn.old) (state S.Store conn.new)) }
+    ensures same { HasCleanDisk (state S.Store conn.new) → OnOk result (Same (state S.Store conn.old) (state S.Store conn.new)) }
+    ensures whole { HasCleanDisk (state S.Store conn.new) → OnOk result (TakesAll stored_part TakesPartCensus PartsByRowid (state S.Store conn.old).now census.old census.new) }
+    ensures damaged { HasCleanDisk (state S.Store conn.new) → IfErr result (λ fault. fault ≡ ReadingFault.Damaged → IsWrong stored_part part_columns refuses_part_census PartsByRowid (state S.Store conn.old).now census.old) }
+{
+    let mut rows = match read_parts_by_rowid(conn) {
+        Ok(rows) => rows,
+        Err(error) => return Err(fault_of_store(error)),
+    };
+    take_all::<S, StoredPart, PartCensus<'_>>(alloc, &mut rows, census)
+}
+
 /// Tests that no two parts have one rowid, and that each is one of the index or of the text of an edition that has one of these
-/// numbers. One scan does both, and holds one part.
+/// numbers; where there may be orphans, that each of these numbers is. One scan does both, and holds one part. `orphans` is then the
+/// numbers of the others, in the order of their rowids, each once where parts of one number follow one another. Such as no edition can
+/// have are left out.
 ///
 /// `Damaged` tells that it isn't so, or that a row is of another kind than a part.
 pub fn test_parts<S: Alter>(
     alloc: Global,
     conn: &mut Connection<S>,
     numbers: &[i64],
+    may_have_orphans: bool,
+    orphans: &mut Vec<u64>,
 ) -> Result<(), ReadingFault>
     requires { WhileOpen (state S.Store conn.old) (Has part) }
     ensures reads { OnlyReads (state S.Store conn.old) (state S.Store conn.new) }
     ensures failed { HasCleanDisk (state S.Store conn.new) → IfErr result (IsExcusedReading (state S.Store conn.old) (state S.Store conn.new)) }
     ensures same { HasCleanDisk (state S.Store conn.new) → OnOk result (Same (state S.Store conn.old) (state S.Store conn.new)) }
-    ensures whole { HasCleanDisk (state S.Store conn.new) → OnOk result (AreKnownApart (is_known_part numbers.now) (codes "dictcat_part") (state S.Store conn.old).now) }
-    ensures damaged { HasCleanDisk (state S.Store conn.new) → IfErr result (λ fault. fault ≡ ReadingFault.Damaged → IsReadable (contents Parted) (state S.Store conn.old).now → AreKnownApart (is_known_part numbers.now) (codes "dictcat_part") (state S.Store conn.old).now → ⊥) }
+    ensures whole { HasCleanDisk (state S.Store conn.new) → OnOk result (AreKnownApart (may_stand may_have_orphans numbers.now) (codes "dictcat_part") (state S.Store conn.old).now) }
+    ensures parts { HasCleanDisk (state S.Store conn.new) → OnOk result (HasPartRows (state S.Store conn.old).now) }
+    ensures damaged { HasCleanDisk (state S.Store conn.new) → IfErr result (λ fault. fault ≡ ReadingFault.Damaged → IsReadable (contents Parted) (state S.Store conn.old).now → AreKnownApart (may_stand may_have_orphans numbers.now) (codes "dictcat_part") (state S.Store conn.old).now → ⊥) }
 {
-    let mut rows = match read_parts_by_rowid(conn) {
-        Ok(rows) => rows,
-        Err(error) => return Err(fault_of_store(error)),
-    };
     let mut census = PartCensus {
-        census: Census {
-            numbers,
-            rowids: RowidReader::new(),
-        },
+        numbers,
+        may_have_orphans,
+        rowids: RowidReader::new(),
+        orphans: Vec::new(alloc),
     };
-    take_all::<S, StoredPart, PartCensus<'_>>(alloc, &mut rows, &mut census)
+    take_parts(alloc, conn, &mut census)?;
+    drop(replace(orphans, census.orphans));
+    Ok(())
 }

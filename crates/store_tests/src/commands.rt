@@ -216,7 +216,7 @@ const ONE: &[Row] = &[GEM];
 // What a new catalogue has.
 const NEW: &[(&str, i64)] = &[
     (
-        "SELECT count(*) FROM mark WHERE id = 1 AND magic = 'dictcat' AND version = 5 AND installs = 0",
+        "SELECT count(*) FROM mark WHERE id = 1 AND magic = 'dictcat' AND version = 6 AND installs = 0",
         1,
     ),
     ("SELECT count(*) FROM mark", 1),
@@ -227,7 +227,7 @@ const NEW: &[(&str, i64)] = &[
     ("SELECT count(*) FROM kept", 0),
 ];
 
-// An edition goes at the third install.
+// An edition goes at the third install. Its parts stay behind, and are taken out later.
 const INSTALLED: &[Row] = &[
     GEM,
     ORES_OVER_GEM,
@@ -238,6 +238,11 @@ const INSTALLED: &[Row] = &[
         "4 Install gem Some(3)",
         "gem Gems 3/1; ",
     ),
+];
+
+const LEFT: &[(&str, i64)] = &[
+    ("SELECT count(*) FROM edition", 2),
+    ("SELECT count(*) FROM dictcat_part", 6),
 ];
 
 const ROWS: &[(&str, i64)] = &[
@@ -301,6 +306,8 @@ static TABLES: [&[Step]; 3] = [
         Step::Make(&[]),
         Step::Numbers(NEW),
         Step::Open(INSTALLED),
+        Step::Numbers(LEFT),
+        Step::Settle,
         Step::Numbers(ROWS),
     ],
     &[Step::Make(FOUR), Step::Look, Step::Look],

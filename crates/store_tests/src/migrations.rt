@@ -1,4 +1,4 @@
-//! Files that stock `sqlite3` wrote are opened, those of schemas 1 to 4 by making the tables of schema 5: they have the same catalogue.
+//! Files that stock `sqlite3` wrote are opened, those of schemas 1 to 5 by making the tables of schema 6: they have the same catalogue.
 use crate::steps::{Row, Step, over_memory};
 use std::test::Fail;
 use store_fixtures::{Asked, CAPITALS, PARTED, SHOWN, Source, older_files};
@@ -43,7 +43,7 @@ const REPEATED: &[Row] = &[
 
 // What a migration leaves of others, and makes.
 const LEFT: &[(&str, i64)] = &[
-    ("SELECT version FROM mark", 5),
+    ("SELECT version FROM mark", 6),
     ("SELECT installs FROM mark", 2),
     ("SELECT count(*) FROM mark", 1),
     ("SELECT count(*) FROM edition", 2),
@@ -115,7 +115,7 @@ const ETE: &[Row] = &[Row(
 
 // A headword in capitals stays as it is.
 const ETE_LEFT: &[(&str, i64)] = &[
-    ("SELECT version FROM mark", 5),
+    ("SELECT version FROM mark", 6),
     ("SELECT count(*) FROM dictcat_part", 2),
     (
         "SELECT count(*) FROM dictcat_part WHERE file = 0 AND octets = x'c38954c389095a09480a'",
@@ -151,7 +151,7 @@ const GEMS_TWICE: &[Row] = &[
 
 // What is shown of an entry of schema 4 comes along, and so does the former edition.
 const SHOWN_LEFT: &[(&str, i64)] = &[
-    ("SELECT version FROM mark", 5),
+    ("SELECT version FROM mark", 6),
     ("SELECT count(*) FROM edition", 2),
     ("SELECT count(*) FROM dictcat_part", 4),
     (
@@ -171,8 +171,53 @@ static FOURTH: [Step; 6] = [
     Step::Keep(&[]),
 ];
 
-// A file of schema 5 is opened as it is.
-static KNOWN: [Step; 3] = [Step::Batch(PARTED), Step::Made(GEMS_TWICE), Step::Keep(&[])];
+// Of a file of schema 5 the mark alone is written anew.
+static FIFTH: [Step; 5] = [
+    Step::Batch(PARTED),
+    Step::Made(GEMS_TWICE),
+    Step::Open(&[]),
+    Step::Numbers(SHOWN_LEFT),
+    Step::Keep(&[]),
+];
+
+// Parts of no edition: of one that went, of the one that comes next, and of files and numbers that no edition has.
+const ORPHANS: &str = "UPDATE mark SET version = 6; \
+     INSERT INTO dictcat_part VALUES (3, 1, 0, x'61'), (3, 1, 300, x'62'), (3, 7, 0, x''), (9, 0, 0, x'ff'), (-4, 0, 0, x'61')";
+
+const MORE: &[Row] = &[Row(
+    "r3",
+    Asked::Install("gem", Source::More),
+    "3 Install gem Some(3)",
+    "gem Gems 3/2; ",
+)];
+
+// What is there of an edition that is installed where others' parts stood, and of the one that went.
+const REPLACED: &[(&str, i64)] = &[
+    ("SELECT count(*) FROM edition", 2),
+    ("SELECT count(*) FROM dictcat_part WHERE edition = 3", 2),
+    ("SELECT count(*) FROM dictcat_part WHERE edition = 1", 2),
+    ("SELECT count(*) FROM dictcat_part WHERE edition = 9", 1),
+];
+
+const SETTLED: &[(&str, i64)] = &[
+    ("SELECT count(*) FROM dictcat_part WHERE edition > 0", 4),
+    ("SELECT count(*) FROM dictcat_part WHERE edition = 1", 0),
+    ("SELECT count(*) FROM dictcat_part WHERE edition = 9", 0),
+];
+
+// Parts of no edition are let be as the file is opened; an edition that is installed comes in place of those of its number, and the others
+// are taken out behind commands.
+static BESIDE: [Step; 9] = [
+    Step::Batch(PARTED),
+    Step::Batch(ORPHANS),
+    Step::Made(GEMS_TWICE),
+    Step::Keep(&[]),
+    Step::Open(MORE),
+    Step::Numbers(REPLACED),
+    Step::Settle,
+    Step::Numbers(SETTLED),
+    Step::Keep(&[]),
+];
 
 #[test]
 fn files_of_others(rt: HostRuntime) -> Result<(), Fail> {
@@ -195,5 +240,6 @@ fn files_of_others(rt: HostRuntime) -> Result<(), Fail> {
     }
     over_memory(&rt, rt.alloc(), &CAPITAL)?;
     over_memory(&rt, rt.alloc(), &FOURTH)?;
-    over_memory(&rt, rt.alloc(), &KNOWN)
+    over_memory(&rt, rt.alloc(), &FIFTH)?;
+    over_memory(&rt, rt.alloc(), &BESIDE)
 }

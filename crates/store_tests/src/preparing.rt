@@ -413,14 +413,15 @@ fn an_install_is_prepared_part_by_part(rt: HostRuntime) -> Result<(), Fail> {
     over_a_long_text(&rt, rt.alloc(), &PREPARED)
 }
 
-// All editions are asked, of which a former one ends what was prepared.
+// All editions are asked, the former ones too, and what was prepared goes on.
 static ASKED: [&[&[Act]]; 1] = [&[&[
     Act::All(false),
     EXPECT,
     SOME,
     Act::All(false),
-    Act::Part(false),
-    NEXT,
+    Act::Part(true),
+    WHOLE,
+    PREPARED_ONE,
     Act::Shows(AFTER),
     Act::Audit,
     Act::All(true),
@@ -499,13 +500,17 @@ fn nothing_is_prepared_of_other_commands(rt: HostRuntime) -> Result<(), Fail> {
     over_a_long_text(&rt, rt.alloc(), &OTHERS)
 }
 
-// What an install left in the log is copied first, in a part of its own, behind which all is as it was: once, whatever comes next.
+// What an install left in the log is copied first, in a part of its own, behind which all is as it was: once, whatever comes next. Then the
+// parts of the edition that went are taken out.
 static COPIED: [&[&[Act]]; 2] = [
     &[&[
         EXPECT,
         WHOLE,
         PREPARED_ONE,
         Act::Expect(Asked::Rollback("gem")),
+        Act::Part(true),
+        Act::All(true),
+        Act::Audit,
         Act::Part(true),
         Act::All(true),
         Act::Audit,

@@ -15,7 +15,7 @@ const REFERRED: &[(&str, Fault)] = &[
         Fault::Damaged,
     ),
     (
-        "CREATE TABLE others (a INTEGER REFERENCES mark (id)) STRICT; UPDATE mark SET version = 6",
+        "CREATE TABLE others (a INTEGER REFERENCES mark (id)) STRICT; UPDATE mark SET version = 7",
         Fault::NewerSchema,
     ),
     (

@@ -138,7 +138,7 @@ const STATEMENTS: &[(&str, Fault)] = &[
         "UPDATE dictcat_part SET octets = x'6f70616c095a095009787878787878787878787878787878787878787878787878787878787878787878787878787878787878787878787878787878787878787878787878787878787878787878787878787878787878787878787878787878787878787878787878787878787878787878787878787878787878787878787878787878787878787878787878787878787878787878787878787878787878787878787878787878787878787878787878787878787878787878787878787878787878787878787878787878787878787878787878787878787878787878787878787878787878787878787878787878787878787878787878787878787878787878787878787878780a46697265204f70616c095a09500a646f74096f09460a' WHERE edition = 2 AND file = 0",
         Fault::Damaged,
     ),
-    // The parts: one missing, empty, of a number that isn't the next, of a third file, of no edition; a text whose body is none.
+    // The parts: one missing, empty, of a number that isn't the next, of a third file, in schema 5 of no edition; a text whose body is none.
     (
         "DELETE FROM dictcat_part WHERE edition = 2 AND file = 1",
         Fault::Damaged,
@@ -176,7 +176,7 @@ const STATEMENTS: &[(&str, Fault)] = &[
         Fault::Damaged,
     ),
     (
-        "INSERT INTO dictcat_part VALUES (9, 0, 0, x'61')",
+        "UPDATE mark SET version = 5; INSERT INTO dictcat_part VALUES (9, 0, 0, x'61')",
         Fault::Damaged,
     ),
     (
@@ -217,7 +217,7 @@ const STATEMENTS: &[(&str, Fault)] = &[
     ("UPDATE mark SET version = 2", Fault::Damaged),
     ("UPDATE mark SET version = 3", Fault::Damaged),
     ("UPDATE mark SET version = 4", Fault::Damaged),
-    ("UPDATE mark SET version = 6", Fault::NewerSchema),
+    ("UPDATE mark SET version = 7", Fault::NewerSchema),
     ("UPDATE mark SET version = 9", Fault::NewerSchema),
     ("UPDATE mark SET version = 0", Fault::NotACatalogue),
     ("UPDATE mark SET version = -4", Fault::NotACatalogue),
@@ -225,7 +225,7 @@ const STATEMENTS: &[(&str, Fault)] = &[
     ("UPDATE mark SET id = 2", Fault::NotACatalogue),
     ("DELETE FROM mark", Fault::NotACatalogue),
     (
-        "INSERT INTO mark VALUES (2, 'dictcat', 5, 2)",
+        "INSERT INTO mark VALUES (2, 'dictcat', 6, 2)",
         Fault::NotACatalogue,
     ),
     ("DROP TABLE mark", Fault::NotACatalogue),

@@ -4,7 +4,7 @@ use crate::checks::{holds, same_text};
 use crate::tables::{dumped, has_numbers};
 use crate::taken::Counted;
 use crate::{borders, full, kept_texts, looked_at, looking, many, spoken};
-use dict_desk::{Fault, Keeper, PlainDesk};
+use dict_desk::{Fault, Keeper, PlainDesk, Preparer};
 use sqlite::{Alter, Connection};
 use std::alloc::Global;
 use std::process::Abort;
@@ -35,7 +35,9 @@ pub(crate) enum Step {
     Make(&'static [Row]),
     /// The store is opened, and commands are answered so.
     Open(&'static [Row]),
-    /// The same, and no row changes.
+    /// The store is opened, and what commands left to be done later is done.
+    Settle,
+    /// The same as `Open`, and no row changes.
     Keep(&'static [Row]),
     /// No store is made, or the one that is there isn't opened, by this fault, after what is named. No row changes.
     Refuse(bool, Fault, &'static str),
@@ -80,8 +82,18 @@ pub(crate) fn play<K: Keeper>(
     Ok(())
 }
 
+// Does what commands left to be done later.
+fn settle<K: Preparer>(desk: &mut K) -> Result<(), Fault> {
+    for _ in 0..64 {
+        if !desk.prepare()? {
+            return Ok(());
+        }
+    }
+    Ok(())
+}
+
 // What a step does over a desk, and what the desk shows then.
-fn act<K: Keeper + Counted>(
+fn act<K: Preparer + Counted>(
     rt: &impl Abort,
     alloc: Global,
     desk: &mut K,
@@ -92,6 +104,7 @@ fn act<K: Keeper + Counted>(
         Step::Made(rows) | Step::Make(rows) | Step::Open(rows) | Step::Keep(rows) => {
             play(rt, alloc, desk, editions, *rows)?
         }
+        Step::Settle => settle(desk)?,
         Step::Look => looking::look(rt, alloc, desk, &looking::CASES)?,
         Step::Fill => full::fill(rt, alloc, desk, editions)?,
         Step::Many => many::look(rt, alloc, desk)?,

@@ -73,7 +73,7 @@ commit_change-requires-clause-usable g c = λ clean live.
     let old = state g.S.Store c.args.conn.now in
     let it = c.requires.holds clean live in
     let held = holds_now old it.0 it.1 in
-    (with_derived held.tables, record { own = held.own; keeps = held.keeps })
+    (with_derived held.orphans held.tables, record { own = held.own; keeps = held.keeps })
 
 pub returns-clause-others : goal.returns-clause-others
 returns-clause-others g c clean =
@@ -124,7 +124,7 @@ returns-clause-installed g c clean =
     let old = state g.S.Store c.args.conn.now in
     let new = state g.S.Store c.commit_change.new.conn in
     let done = c.in_default.ensures.made clean in
-    installed_there (summary_shown c.args.summary.now) c.args.id.now c.args.command.now c.in_ok-change.change c.in_ok-change.ensures.planned c.in_ok-change.ensures.writable.0 c.lies_within.ensures old new
+    installed_there (summary_shown c.args.summary.now) c.args.id.now c.args.command.now c.in_ok-change.change c.in_ok-change.ensures.writable.0 old new
     c.requires.holds (clean_before old new c.commit_change.ensures.crash clean) (c.commit_change.ensures.lives clean done.is_open) done
 
 pub returns-clause-grows : goal.returns-clause-grows

@@ -15,7 +15,7 @@ use Rattle.store_commands.proofs.WriteLemmas.{clean_before}
 use Rattle.store_commands.proofs.ending.apply_planned.Goals as goal
 
 pub commit_read-requires-clause-usable : goal.commit_read-requires-clause-usable
-commit_read-requires-clause-usable g c = λ clean live. let it = c.requires.holds clean live in (with_derived it.1.holds.tables, record { own = it.1.holds.own; keeps = it.1.holds.keeps })
+commit_read-requires-clause-usable g c = λ clean live. let it = c.requires.holds clean live in (with_derived it.1.holds.orphans it.1.holds.tables, record { own = it.1.holds.own; keeps = it.1.holds.keeps })
 
 pub returns-clause-applied : goal.returns-clause-applied
 returns-clause-applied g c =
@@ -42,8 +42,7 @@ returns-clause-installed g c = λ clean live.
     let made = c.in_default.ensures.made clean in
     let done : IsCommitted (TurnsRecords (all_after known (change_by c.args.id.now (install_read c.args.name.now c.args.reading.now) c.args.change)) old.committed) (rested new) =
     record { is_open = made.is_open; settled = refl; holds = made.holds; only = made.only } in
-    installed_there (summary_shown c.args.summary.now) c.args.id.now (install_read c.args.name.now c.args.reading.now) c.args.change c.requires.planned.0 c.requires.planned.1
-    (read_lies c.args.name.now c.args.reading.now c.requires.read) (rested old) (rested new) c.requires.holds
+    installed_there (summary_shown c.args.summary.now) c.args.id.now (install_read c.args.name.now c.args.reading.now) c.args.change c.requires.planned.1 (rested old) (rested new) c.requires.holds
     (clean_before old new c.commit_read.ensures.crash clean) (c.commit_read.ensures.lives clean live)
     done
 

@@ -7,8 +7,10 @@ use Rattle.dict_catalogue.specs.Views.{summary_shown}
 use Rattle.store_holdings.specs.AllTables.{with_derived}
 use Rattle.store_commands.specs.KeptRecords.{TurnsRecords}
 use Rattle.store_commands.specs.Changes.{with_mark}
+use Rattle.store_commands.specs.Statements.{mark_anew}
+use Rattle.store_rows.specs.Versions.{known}
 use Rattle.store_holdings.specs.Committed.{IsCommitted}
-use Rattle.store_commands.specs.Marking.{Remains, FailsToCommitMark, FailsToMark}
+use Rattle.store_commands.specs.Marking.{Remains, FailsToCommitRun, FailsToMark}
 use Rattle.store_commands.proofs.ApplyLemmas.{holds_now}
 use Rattle.store_commands.proofs.DraftLemmas.{on_ok}
 use Rattle.store_commands.proofs.LoopLemmas.{each_err}
@@ -20,7 +22,7 @@ pub commit_mark-requires-clause-usable : goal.commit_mark-requires-clause-usable
 commit_mark-requires-clause-usable g c = λ clean live.
     let it = c.requires.holds clean live in
     let held = holds_now (state g.S.Store c.args.conn.now) it.0 it.1 in
-    (with_derived held.tables, record { own = held.own; keeps = held.keeps })
+    (with_derived held.orphans held.tables, record { own = held.own; keeps = held.keeps })
 
 pub returns-clause-made : goal.returns-clause-made
 returns-clause-made g c clean =
@@ -34,7 +36,7 @@ returns-clause-made g c clean =
 
 pub returns-clause-failed : goal.returns-clause-failed
 returns-clause-failed g c clean =
-    each_err c.commit_mark.result (FailsToCommitMark g.S.Store c.args.summary.now.installs c.args.conn.now c.commit_mark.new.conn)
+    each_err c.commit_mark.result (FailsToCommitRun g.S.Store (mark_anew known c.args.summary.now.installs) c.args.conn.now c.commit_mark.new.conn)
     (FailsToMark g.S.Store c.args.summary.now.installs c.args.conn.now c.commit_mark.new.conn) (λ why h. inr h) (c.commit_mark.ensures.failed clean)
 
 pub returns-clause-crash : goal.returns-clause-crash

@@ -1,4 +1,4 @@
-use Rattle.std.proofs.Common.{ap, inl, map}
+use Rattle.std.proofs.Common.{ap, map}
 use Rattle.std.specs.Prelude.{slice_range}
 use Rattle.store_sql.proofs.StreamLemmas.{passed_on}
 use Rattle.store_commands.specs.Statements.{adding_part}
@@ -18,4 +18,4 @@ returns-clause-files g c =
 pub returns-in_err-add_parts-clause-failed : goal.returns-in_err-add_parts-clause-failed
 returns-in_err-add_parts-clause-failed g c =
     passed_on (FailsAmong g.S.Store (AreOfNextPart c.args.filing.now) (g.T.OpenTransaction.held c.args.tx.now) (g.T.OpenTransaction.held c.add_parts.new.tx)) c.in_err-add_parts.field-0.0 c.from_residual.result c.from_residual.ensures.1
-    (_, inl (c.part_end-to.result, ap (λ l. map adding_part (slice_range l c.args.filing.now.parts_filed c.part_end-to.result)) c.files-files.ensures.parts), c.in_err-add_parts.ensures.failed)
+    (_, (c.part_end-to.result, ap (λ l. map adding_part (slice_range l c.args.filing.now.parts_filed c.part_end-to.result)) c.files-files.ensures.parts), c.in_err-add_parts.ensures.failed)

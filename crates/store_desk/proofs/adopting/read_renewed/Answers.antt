@@ -1,4 +1,4 @@
-use Rattle.std.proofs.Common.{◌≡◌, ◌⊎◌, ℕ, List, sym, subst, arith, inr}
+use Rattle.std.proofs.Common.{◌≡◌, ◌⊎◌, ℕ, List, sym, ap, subst, ◌∙◌, arith, inr}
 use Rattle.std.proofs.lemmas.Result.{err_from_is_err_and}
 use Rattle.sqlite.specs.Effect.{Database}
 use Rattle.sqlite.specs.State.{HasCleanDisk}
@@ -142,3 +142,14 @@ returns-clause-same g c = λ clean M.
           let is : IsHeld new.committed M = record { version = known; known = record { counted = omega arith; within = omega arith }; holds = held } in
           subst (λ (N : Catalogue). IsHeld old.committed N) (c.one_is_held.ensures.held new.committed found.0 M was is) first),
     )
+
+pub returns-clause-unwritten : goal.returns-clause-unwritten
+returns-clause-unwritten g c = λ clean M held.
+    let old = state g.S.Store c.args.conn.now in
+    let one = c.renew.ensures.crash.clean in
+    let there : HasCleanDisk (state g.S.Store c.read.new.conn) = omega (arith, one, clean) in
+    let found = c.in_ok-version.ensures.rests there in
+    let same = c.in_ok-version.ensures.committed there found.1.is_open in
+    let first : Holds c.in_ok-version.version old.committed found.0 = subst (λ (db : Database). Holds c.in_ok-version.version db found.0) same found.1.holds in
+    let is : c.in_ok-version.version ≡ known = c.one_is_held.ensures.version old.committed c.in_ok-version.version known found.0 M first held in
+    ap (λ conn. (state g.S.Store conn).committed) (c.in_ok-renew.ensures.unwritten is) ∙ same

@@ -8,4 +8,4 @@ returns-then-is_autocommit g c told =
     apart_alone c.args.filing.now c.args.number c.args.conn.now none
 
 pub returns-in-Some : goal.returns-in-Some
-returns-in-Some g c told = rw c.in-Some.is (inr (c.spares.ensures.gone told, c.spares.ensures.number told))
+returns-in-Some g c told = rw c.in-Some.is (inr (c.spares.ensures told))

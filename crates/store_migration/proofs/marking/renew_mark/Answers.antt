@@ -28,3 +28,6 @@ returns-in_err-insert_mark-clause-failed g c clean =
     let fails = subst (λ (m : Mark). FailsToInsert (codes "mark") (mark_row m) s1 s2 c.in_err-insert_mark.field-0.0) c.mark_row-row.ensures (c.in_err-insert_mark.ensures.failed clean) in
     passed_on _ _ _ c.from_residual-in_err-insert_mark.ensures.1
     (fails_by c.clear_table.new.tx.conn.now (putting (codes "mark") (mark_row (mark_record known c.args.installs))) c.clear_table.ensures.survives (λ begun. removed.1.mode) (inr (_, removed.0, (refl, refl))) fails)
+
+pub returns-clause-opened : goal.returns-clause-opened
+returns-clause-opened g c clean = (c.in_ok-clear_table.ensures.removed (was_clean c.insert_mark.ensures.survives clean)).1.was_open

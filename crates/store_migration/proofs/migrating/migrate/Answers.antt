@@ -3,13 +3,13 @@ use Rattle.std.specs.Prelude.{IsTrue, Result, Ok, Err, IfErr, OnErr, OnOk}
 use Rattle.std.proofs.lemmas.Result.{on_ok_weaker}
 use Rattle.sqlite.proofs.StateLemmas.{survives_weaker}
 use Rattle.dict_catalogue.specs.Views.{summary_shown}
-use Rattle.store_migration.specs.FailurePlaces.{InMove}
+use Rattle.store_migration.specs.FailurePlaces.{InRenewal}
 use Rattle.store_migration.specs.Failing.{MigrationFailsBefore, MigrationFailsToEnd, FailsToMigrate}
 use Rattle.store_migration.proofs.KitLemmas.{Database, state, was_clean}
 use Rattle.store_migration.proofs.FailLemmas.{why_not_begun}
 use Rattle.store_migration.specs.Migrated.{MayMigrate}
 use Rattle.store_holdings.specs.Committed.{IsTreesOf}
-use Rattle.store_migration.specs.Moved.{IsMoved, IsOutcome}
+use Rattle.store_migration.specs.Moved.{IsRenewed, IsOutcome}
 use Rattle.store_migration.proofs.StopLemmas.{is_old, outcome_holds, outcome_left, outcome_may, outcome_migrated, outcome_spares}
 use Rattle.store_migration.specs.Spared.{SparesOthers}
 use Rattle.store_migration.proofs.migrating.migrate.Goals as goal
@@ -25,13 +25,13 @@ returns-clause-rests g c clean =
     on_ok_weaker c.migrate_from.result
     (λ made M held.
     let numbers = c.deref.ensures.value ∙ c.in-Ok.ensures.same in
-    record { is_open = made.is_open; settled = made.settled; holds = outcome_holds c.older_layout.ensures start c.is_live.ensures numbers _ made.holds M held })
+    record { is_open = made.is_open; settled = made.settled; holds = outcome_holds c.older_layout.ensures c.requires.older.1 start c.is_live.ensures numbers _ made.holds M held })
     (c.migrate_from.ensures.made clean)
 
 pub returns-clause-migrated : goal.returns-clause-migrated
 returns-clause-migrated g c clean =
     let start = c.requires.holds (was_clean c.migrate_from.ensures.crash clean) in
-    on_ok_weaker c.migrate_from.result (λ made. outcome_migrated c.older_layout.ensures start c.is_live.ensures (c.deref.ensures.value ∙ c.in-Ok.ensures.same) _ made.holds) (c.migrate_from.ensures.made clean)
+    on_ok_weaker c.migrate_from.result (λ made. outcome_migrated c.older_layout.ensures c.requires.older.1 start c.is_live.ensures (c.deref.ensures.value ∙ c.in-Ok.ensures.same) _ made.holds) (c.migrate_from.ensures.made clean)
 
 pub returns-clause-moved : goal.returns-clause-moved
 returns-clause-moved g c clean =
@@ -42,20 +42,20 @@ returns-clause-moved g c clean =
     let start = c.requires.holds (was_clean c.migrate_from.ensures.crash clean) in
     on_ok_weaker c.migrate_from.result
     (λ made.
-    let committed = subst (λ (d : Database). IsMoved older c.deref.result.now installs d new.committed) (start made.holds.was_open).1.settled made.holds.moved in
-    (older, c.older_layout.ensures, subst (λ ns. IsMoved older ns installs old.committed new.committed) (c.deref.ensures.value ∙ c.in-Ok.ensures.same) committed))
+    let committed = subst (λ (d : Database). IsRenewed older c.deref.result.now installs d new.committed) (start made.holds.was_open).1.settled made.holds.moved in
+    (older, c.older_layout.ensures, subst (λ ns. IsRenewed older ns installs old.committed new.committed) (c.deref.ensures.value ∙ c.in-Ok.ensures.same) committed))
     (c.migrate_from.ensures.made clean)
 
 pub returns-clause-spares : goal.returns-clause-spares
 returns-clause-spares g c clean =
     let start = c.requires.holds (was_clean c.migrate_from.ensures.crash clean) in
-    on_ok_weaker c.migrate_from.result (λ made. outcome_spares c.older_layout.ensures start c.is_live.ensures (c.deref.ensures.value ∙ c.in-Ok.ensures.same) _ made.holds) (c.migrate_from.ensures.made clean)
+    on_ok_weaker c.migrate_from.result (λ made. outcome_spares c.older_layout.ensures c.requires.older.1 start c.is_live.ensures (c.deref.ensures.value ∙ c.in-Ok.ensures.same) _ made.holds) (c.migrate_from.ensures.made clean)
 
 pub returns-clause-only : goal.returns-clause-only
 returns-clause-only g c clean =
     let start = c.requires.holds (was_clean c.migrate_from.ensures.crash clean) in
     on_ok_weaker c.migrate_from.result
-    (λ made M held trees left. outcome_left c.older_layout.ensures start c.is_live.ensures (c.deref.ensures.value ∙ c.in-Ok.ensures.same) trees (made.only trees left) M held)
+    (λ made M held trees left. outcome_left c.older_layout.ensures c.requires.older.1 start c.is_live.ensures (c.deref.ensures.value ∙ c.in-Ok.ensures.same) trees (made.only trees left) M held)
     (c.migrate_from.ensures.made clean)
 
 pub returns-clause-crash : goal.returns-clause-crash
@@ -63,7 +63,7 @@ returns-clause-crash g c =
     survives_weaker _ _ _ (MayMigrate (state g.S.Store c.args.conn.now))
     (λ clean trees left.
     let start = c.requires.holds (was_clean c.migrate_from.ensures.crash clean) in
-    outcome_may c.older_layout.ensures start c.is_live.ensures (c.deref.ensures.value ∙ c.in-Ok.ensures.same) c.requires.older.0 c.requires.older.1 trees left)
+    outcome_may c.older_layout.ensures c.requires.older.1 start c.is_live.ensures (c.deref.ensures.value ∙ c.in-Ok.ensures.same) c.requires.older.0 trees left)
     c.migrate_from.ensures.crash
 
 pub returns-clause-beside : goal.returns-clause-beside
@@ -72,7 +72,7 @@ returns-clause-beside g c =
     survives_weaker _ _ _ (λ trees. IsTrue old.is_open × IsTreesOf (SparesOthers old.committed) trees)
     (λ clean trees left.
     let start = c.requires.holds (was_clean c.migrate_from.ensures.crash clean) in
-    (left.3.was_open, (left.0, left.1, left.2, outcome_spares c.older_layout.ensures start c.is_live.ensures (c.deref.ensures.value ∙ c.in-Ok.ensures.same) left.0 left.3)))
+    (left.3.was_open, (left.0, left.1, left.2, outcome_spares c.older_layout.ensures c.requires.older.1 start c.is_live.ensures (c.deref.ensures.value ∙ c.in-Ok.ensures.same) left.0 left.3)))
     c.migrate_from.ensures.crash
 
 pub returns-in-Err-clause-failed : goal.returns-in-Err-clause-failed
@@ -90,15 +90,15 @@ returns-clause-failed g c clean =
     let installs = c.args.summary.now.installs in
     let start = c.requires.holds (was_clean c.migrate_from.ensures.crash clean) in
     let numbers = c.deref.ensures.value ∙ c.in-Ok.ensures.same in
-    each_err c.migrate_from.result (MigrationFailsToEnd g.S.Store (InMove older c.deref.result.now installs) (IsOutcome older c.deref.result.now installs (state g.S.Store c.args.conn.now)) c.args.conn.now new)
+    each_err c.migrate_from.result (MigrationFailsToEnd g.S.Store (InRenewal older c.deref.result.now installs) (IsOutcome older c.deref.result.now installs (state g.S.Store c.args.conn.now)) c.args.conn.now new)
     (FailsToMigrate g.S.Store c.args.version (summary_shown c.args.summary.now) c.args.conn.now new)
     (λ fault h. inr (record {
       older = older;
       layout = c.older_layout.ensures;
       why = elim h [
-        | inl before ↦ inl (subst (λ (l : List ℤ). MigrationFailsBefore g.S.Store (InMove older l installs) c.args.conn.now new fault) numbers before)
+        | inl before ↦ inl (subst (λ (l : List ℤ). MigrationFailsBefore g.S.Store (InRenewal older l installs) c.args.conn.now new fault) numbers before)
         | inr last ↦
-            let written = outcome_holds c.older_layout.ensures start c.is_live.ensures numbers _ last.written in
+            let written = outcome_holds c.older_layout.ensures c.requires.older.1 start c.is_live.ensures numbers _ last.written in
             inr (record { told = last.told; last = last.last; before = last.before; written = written; error = last.error; fails = last.fails })
       ];
     }))

@@ -1,6 +1,6 @@
 use Rattle.std.proofs.Common.{◌≡◌, rules, sym, subst, refl, inl, inr}
 use Rattle.sqlite.specs.State.{IsRolledBack}
-use Rattle.store_migration.specs.FailurePlaces.{InMove}
+use Rattle.store_migration.specs.FailurePlaces.{InRenewal}
 use Rattle.store_migration.specs.Failing.{MigrationFailsInside}
 use Rattle.store_migration.proofs.KitLemmas.{HasCleanDisk, Survives, state, was_clean}
 use Rattle.store_migration.proofs.StopLemmas.{outcome_of, ends_before, begins_before, ends_survives, ends_made, ends_failed, ends_stays}
@@ -39,7 +39,7 @@ returns-in-Err-clause-failed g c clean =
       error = c.in-Err.error;
       told = c.fault_of_read.ensures.is;
       last = mid;
-      within = subst (λ h. MigrationFailsInside g.S.Store (InMove c.args.layout c.args.numbers.now c.args.installs) h mid c.in-Err.error) c.transaction-tx.ensures.begun
+      within = subst (λ h. MigrationFailsInside g.S.Store (InRenewal c.args.layout c.args.numbers.now c.args.installs) h mid c.in-Err.error) c.transaction-tx.ensures.begun
           (c.in-Err.ensures.failed (was_clean c.drop-tx.ensures.survives late));
       after = subst (λ h. Survives (state g.S.Store mid) (state g.S.Store h) (λ _. ⊥)) same c.drop-tx.ensures.survives;
       undone = subst (λ h. IsRolledBack (state g.S.Store mid) (state g.S.Store h)) same (c.drop-tx.ensures.undone late);

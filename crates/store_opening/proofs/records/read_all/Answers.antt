@@ -46,7 +46,7 @@ returns-clause-all g c clean =
     let named = read_then (λ (d : Database) after. HasNamed c.args.version d c.args.reader.now.reader front after) c.args.version _ front early.1 (c.in_ok-read_named.ensures.named late.0 front h) b in
     let got = replies named.0 named.1 in
     let replied = subst (λ (d : Database). HasReplies d named.0 got.0) (late.1 ∙ early.1) got.2 in
-    (got.0, got.1, has_all c.args.version _ c.args.reader.now.reader front named.0 (c.in_ok-test_strays.ensures.known early.0) named.2 b got.0 replied))
+    (got.0, got.1, has_all c.args.version _ c.args.reader.now.reader front named.0 (c.in_ok-test_strays.ensures.known early.0) (c.in_ok-test_strays.ensures.parts early.0) named.2 b got.0 replied))
     (c.read_kept.ensures.replies clean)
 
 pub returns-clause-damaged : goal.returns-clause-damaged

@@ -10,7 +10,7 @@ use Rattle.dict_catalogue.specs.Views.{summary_shown}
 use Rattle.store_rows.proofs.StrayLemmas.{numbers_taken}
 use Rattle.store_scans.proofs.StateLemmas.{reads_then, while_same}
 use Rattle.store_opening.specs.Opens.{HasVersionTables, KeepsNone, HoldsNoneAs, HasBegun, HasAll}
-use Rattle.store_opening.proofs.CloseLemmas.{finish_wrong, read_then}
+use Rattle.store_opening.proofs.CloseLemmas.{all_wrong, read_then}
 use Rattle.store_opening.proofs.HoldLemmas.{has_summary}
 use Rattle.store_opening.proofs.IndexLemmas.{numbers_summed}
 use Rattle.store_opening.proofs.StepLemmas.{before, fails_then}
@@ -43,7 +43,7 @@ returns-in-Ok-clause-stands g c clean lm =
     let begun = c.in_ok-reader.ensures.begun first.0 lm in
     let all = read_then (λ (d : Database) after. HasAll c.args.version d c.in_ok-reader.reader begun.0 after) c.args.version _ begun.0 first.1 (c.in_default.ensures.all clean begun.0 begun.1) begun.2 in
     let found = c.in-Ok.ensures.stands c.args.version all.0 all.1 all.2.ids in
-    has_summary c.args.version _ c.in_ok-reader.reader begun.0 all.0 all.2 found.0 found.1 _ found.2
+    has_summary c.args.version _ c.in_ok-reader.reader begun.0 all.0 begun.1 all.2 found.0 found.1 _ found.2
 
 pub returns-in-Ok-clause-indexed : goal.returns-in-Ok-clause-indexed
 returns-in-Ok-clause-indexed g c clean lm =
@@ -63,4 +63,4 @@ returns-in-Err-finish-clause-damaged g c clean is lm =
     let begun = c.in_ok-reader.ensures.begun first.0 lm in
     let all = read_then (λ (d : Database) after. HasAll c.args.version d c.in_ok-reader.reader begun.0 after) c.args.version _ begun.0 first.1 (c.in_default.ensures.all clean begun.0 begun.1) begun.2 in
     begun.2.none (subst (KeepsNone c.args.version (state g.S.Store c.args.conn.now).now) all.2.goes.members
-    (finish_wrong c.args.version _ all.0 all.2.keeps all.2.shown all.2.fits (c.in-Err-finish.ensures.damaged c.args.version all.0 all.1)))
+    (all_wrong c.args.version _ c.in_ok-reader.reader begun.0 all.0 begun.1 begun.2 all.2 (c.in-Err-finish.ensures.damaged c.args.version all.0 all.1)))

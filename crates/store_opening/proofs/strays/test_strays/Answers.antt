@@ -12,11 +12,14 @@ returns-in-Err-clause-damaged g c clean is taken h fits T M K =
 pub returns-clause-known : goal.returns-clause-known
 returns-clause-known g c clean =
     let are = c.deref.ensures.value ∙ c.in-Ok.ensures.numbers in
-    on_ok_weaker c.test_numbers.result (λ known. rw c.layout_of.ensures at (rw are at known)) (c.test_numbers.ensures.known clean)
+    on_ok_weaker c.test_numbers.result (λ known. rw c.may_have_orphans.ensures at (rw c.layout_of.ensures at (rw are at known))) (c.test_numbers.ensures.known clean)
+
+pub returns-clause-parts : goal.returns-clause-parts
+returns-clause-parts g c clean = on_ok_weaker c.test_numbers.result (λ parts. rw c.layout_of.ensures at parts) (c.test_numbers.ensures.parts clean)
 
 pub returns-clause-damaged : goal.returns-clause-damaged
 returns-clause-damaged g c clean =
     let are = c.deref.ensures.value ∙ c.in-Ok.ensures.numbers in
     if_err_then _ _ c.test_numbers.result
-    (λ fault wrong is taken h fits. rows_stray c.args.version _ c.args.reader.now taken h fits (rw c.layout_of.ensures at (rw are at wrong is)))
+    (λ fault wrong is taken h fits. rows_stray c.args.version _ c.args.reader.now taken h fits (rw c.may_have_orphans.ensures at (rw c.layout_of.ensures at (rw are at wrong is))))
     (c.test_numbers.ensures.damaged clean)

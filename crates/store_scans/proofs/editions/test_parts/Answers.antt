@@ -1,38 +1,20 @@
-use Rattle.std.proofs.Common.{rules}
-use Rattle.std.proofs.lemmas.Result.{on_ok_weaker}
 use Rattle.sqlite.specs.Held.{state}
-use Rattle.store_scans.specs.Scans.{TakesAll, IsWrong}
-use Rattle.store_edition_sql.specs.PartRecords.{part_columns, stored_part}
-use Rattle.store_scans.specs.Cursors.Cursor.{PartsByRowid}
-use Rattle.store_scans.proofs.CensusLemmas.{parts_whole, parts_wrong}
-use Rattle.std.proofs.Common.{refl}
-use Rattle.store_scans.specs.Census.{TakesPartCensus, refuses_part_census}
-use Rattle.store_scans.proofs.BeginLemmas.{reads_on, whole_on, damaged_on, cause_on}
-use Rattle.store_scans.proofs.TakerLemmas.{if_err_then}
-use Rattle.store_scans.proofs.CauseLemmas.{told_cause}
+use Rattle.store_sql.proofs.StreamLemmas.{passed_on}
+use Rattle.store_scans.proofs.CensusLemmas.{parts_whole, parts_read, parts_wrong}
 use Rattle.store_scans.proofs.editions.test_parts.Goals as goal
 
-pub returns-clause-reads : goal.returns-clause-reads
-returns-clause-reads g c =
-    reads_on g.S.Store PartsByRowid c.args.conn.now c.in-Ok.rows.conn.now c.take_all.new.rows.conn.now c.conn-2-1.given.0 (search rules) c.in-Ok.ensures.begun c.take_all.ensures.survives c.in-Ok.ensures.mode c.in-Ok.ensures.survives
-    c.take_all.ensures.mode c.take_all.ensures.stays
+pub returns-in_err-take_parts-clause-damaged : goal.returns-in_err-take_parts-clause-damaged
+returns-in_err-take_parts-clause-damaged g c clean =
+    passed_on _ _ c.from_residual.result c.from_residual.ensures.1
+    (λ is readable apart. parts_wrong (state g.S.Store c.args.conn.now).now (record { numbers = c.args.numbers; may_have_orphans = c.args.may_have_orphans; rowids = c.new.result; orphans = c.new-2.result }) c.new.ensures readable apart
+    (c.in_err-take_parts.ensures.damaged clean is))
 
 pub returns-clause-whole : goal.returns-clause-whole
 returns-clause-whole g c clean =
-    on_ok_weaker c.take_all.result (λ all. parts_whole (state g.S.Store c.args.conn.now).now c.args.numbers.now (record { census = record { numbers = c.args.numbers; rowids = c.new.result } }) refl c.new.ensures c.take_all.new.taker all)
-    (whole_on g.S.Store PartsByRowid c.args.conn.now c.in-Ok.rows.conn.now c.take_all.new.rows.conn.now c.conn-2-1.given.0 (search rules) c.in-Ok.ensures.begun c.take_all.ensures.survives c.take_all.result
-    (λ what db. TakesAll stored_part TakesPartCensus what db (record { census = record { numbers = c.args.numbers; rowids = c.new.result } }) c.take_all.new.taker) c.take_all.ensures.whole clean)
+    parts_whole (state g.S.Store c.args.conn.now).now (record { numbers = c.args.numbers; may_have_orphans = c.args.may_have_orphans; rowids = c.new.result; orphans = c.new-2.result }) c.new.ensures c.take_parts.new.census
+    (c.in_ok-take_parts.ensures.whole clean)
 
-pub returns-clause-damaged : goal.returns-clause-damaged
-returns-clause-damaged g c clean =
-    if_err_then _ _ c.take_all.result (λ fault wrong is. λ readable apart. parts_wrong (state g.S.Store c.args.conn.now).now c.args.numbers.now (record { census = record { numbers = c.args.numbers; rowids = c.new.result } }) refl
-    c.new.ensures readable apart (wrong is)) (damaged_on g.S.Store PartsByRowid c.args.conn.now c.in-Ok.rows.conn.now c.take_all.new.rows.conn.now c.conn-2-1.given.0 (search rules) c.in-Ok.ensures.begun c.take_all.ensures.survives
-    c.take_all.result (λ what db. IsWrong stored_part part_columns refuses_part_census what db (record { census = record { numbers = c.args.numbers; rowids = c.new.result } })) c.take_all.ensures.damaged clean)
-
-pub returns-clause-failed : goal.returns-clause-failed
-returns-clause-failed g c clean =
-    cause_on g.S.Store PartsByRowid c.args.conn.now c.in-Ok.rows.conn.now c.take_all.new.rows.conn.now c.conn-2-1.given.0 (search rules) c.in-Ok.ensures.begun c.take_all.ensures.survives c.in-Ok.ensures.survives c.take_all.result
-    c.take_all.ensures.failed clean
-
-pub returns-in-Err-clause-failed : goal.returns-in-Err-clause-failed
-returns-in-Err-clause-failed g c clean = told_cause (state g.S.Store c.args.conn.now) (state g.S.Store c.read_parts_by_rowid.follows.lender-at-none) c.in-Err.error c.fault_of_store.result c.fault_of_store.ensures (search rules)
+pub returns-clause-parts : goal.returns-clause-parts
+returns-clause-parts g c clean =
+    parts_read (state g.S.Store c.args.conn.now).now (record { numbers = c.args.numbers; may_have_orphans = c.args.may_have_orphans; rowids = c.new.result; orphans = c.new-2.result }) c.new.ensures c.take_parts.new.census
+    (c.in_ok-take_parts.ensures.whole clean)

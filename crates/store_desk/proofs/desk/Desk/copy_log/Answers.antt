@@ -7,7 +7,7 @@ use Rattle.dict_catalogue.specs.Views.{summary_shown}
 use Rattle.dict_desk.specs.Faults.{has_failed_by, has_closed_by}
 use Rattle.dict_desk.specs.declared.fault.Fault.TheVariants.{Disk}
 use Rattle.store_desk.specs.Desk.{DeskState, Shows, LeavesOneOf, has_failed, is_closed, KeepsBeside}
-use Rattle.store_desk.specs.Prepared.{HasCopied}
+use Rattle.store_desk.specs.Prepared.{HasCommittedSame}
 use Rattle.store_desk.proofs.CopyLemmas.{copied_beside, copied_caused, copied_first, copied_keeps, copied_leaves, copied_rests, copied_same, copied_shows, resting_by}
 use Rattle.store_desk.proofs.PreparingLemmas.{behind_failed, behind_closed}
 use Rattle.store_desk.proofs.desk.Desk.copy_log.Goals as goal
@@ -30,8 +30,8 @@ invariant_of-self g c =
           c.forget_behind.ensures c.self.invariant.1,
     )
 
-pub returns-clause-copied : goal.returns-clause-copied
-returns-clause-copied g c = λ clean is.
+pub returns-clause-committed : goal.returns-clause-committed
+returns-clause-committed g c = λ clean is.
     let old : DeskState _ = record { conn = c.self.inside.conn; summary = summary_shown c.self.inside.summary; last = c.self.inside.last; indexes = c.self.inside.indexes; texts = c.self.inside.texts; taken = c.self.inside.rows_taken } in
     let new : DeskState _ = record {
       conn = c.copy_over-outcome.new.conn;
@@ -41,7 +41,7 @@ returns-clause-copied g c = λ clean is.
       texts = c.forget_behind.new.texts;
       taken = c.self.inside.rows_taken;
     } in
-    subst (λ (d : DeskState _). HasCopied g.S.Store d new) c.self.view_is (record {
+    subst (λ (d : DeskState _). HasCommittedSame g.S.Store d new) c.self.view_is (record {
       before = ap (λ (d : DeskState _). d.conn.in_transaction) c.self.view_is ∙ c.requires.none;
       ended = c.copy_over-outcome.ensures.ended;
       same = copied_same old c.copy_over-outcome.new.conn c.last_behind-self-inside.result c.forget_behind.new.texts c.copy_over-outcome.result c.last_behind-self-inside.ensures c.forget_behind.ensures is;

@@ -1,38 +1,28 @@
-use Rattle.std.proofs.Common.{◌≡◌, true, false, inl, rules, ap, sym, ◌∙◌}
+use Rattle.std.proofs.Common.{refl, rules, sym}
 use Rattle.std.proofs.lemmas.Int.{to_z-of_z}
+use Rattle.std.proofs.lemmas.Result.{on_ok_weaker}
 use mir.Syntax.{w64}
 use mir.Val.{to_z, of_z, SFits}
-use Rattle.sqlite.specs.declared.types.Value.TheVariants.{Int}
-use Rattle.store_edition_sql.specs.PartRecords.{stored_part}
-use Rattle.store_scans.specs.Census.{is_in_file}
-use Rattle.store_scans.proofs.CensusLemmas.{census_next, census_refused, part_next, part_in_no_file}
-use Rattle.store_scans.proofs.TakerLemmas.{if_err_then, ok_both}
+use Rattle.store_sql.proofs.StreamLemmas.{passed_on}
+use Rattle.store_scans.proofs.CensusLemmas.{part_next, part_twice, part_strays}
+use Rattle.store_scans.proofs.TakerLemmas.{at_err}
 use Rattle.store_scans.proofs.census.PartCensusTakerStoredPart.take.Goals as goal
 
-pub returns-then-not-is_in_file-clause-refused : goal.returns-then-not-is_in_file-clause-refused
-returns-then-not-is_in_file-clause-refused c = λ is first given h.
-    let no : c.is_in_file.result ≡ false = search rules in
-    part_in_no_file first given c.args.next c.args.self.now h (sym c.is_in_file.ensures ∙ no)
+pub returns-in_err-test_part-clause-refused : goal.returns-in_err-test_part-clause-refused
+returns-in_err-test_part-clause-refused c =
+    passed_on _ _ c.from_residual.result c.from_residual.ensures.1 (λ is first given h. part_strays first given c.args.next c.args.self.now h (c.in_err-test_part.ensures.damaged is))
 
 pub returns-clause-taken : goal.returns-clause-taken
 returns-clause-taken c =
-    let yes : c.is_in_file.result ≡ true = search rules in
     let fits : SFits w64 c.args.next.rowid = search rules in
-    let fits_edition : SFits w64 c.args.next.part.edition = search rules in
-    let rowid = ap Int (sym (to_z-of_z w64 c.args.next.rowid fits)) in
-    let number = ap Int (sym (to_z-of_z w64 c.args.next.part.edition fits_edition)) in
-    ok_both c.row.result c.row.ensures.taken c.row.ensures.known
-    (λ more known first given h. part_next first given c.args.next c.args.self.now h (record { census = c.row.new.self })
-    (census_next stored_part first.census given c.args.next c.args.self.now.census h.census (to_z w64 (of_z w64 c.args.next.rowid)) (to_z w64 (of_z w64 c.args.next.part.edition)) rowid number c.row.new.self c.row.ensures.numbers
-    more known) (sym c.is_in_file.ensures ∙ yes))
+    let rowid = sym (to_z-of_z w64 c.args.next.rowid fits) in
+    on_ok_weaker c.rowid.result
+    (λ more first given h. part_next first given c.args.next c.args.self.now h (to_z w64 (of_z w64 c.args.next.rowid)) rowid
+    (record { numbers = c.args.self.now.numbers; may_have_orphans = c.args.self.now.may_have_orphans; rowids = c.rowid.new.self; orphans = c.test_part.new.orphans }) refl refl more c.in_ok-test_part.ensures.passes)
+    c.rowid.ensures.taken
 
 pub returns-clause-refused : goal.returns-clause-refused
 returns-clause-refused c =
     let fits : SFits w64 c.args.next.rowid = search rules in
-    let fits_edition : SFits w64 c.args.next.part.edition = search rules in
-    let rowid = ap Int (sym (to_z-of_z w64 c.args.next.rowid fits)) in
-    let number = ap Int (sym (to_z-of_z w64 c.args.next.part.edition fits_edition)) in
-    if_err_then _ _ c.row.result
-    (λ fault wrong is first given h. inl (census_refused stored_part first.census given c.args.next c.args.self.now.census h.census (to_z w64 (of_z w64 c.args.next.rowid)) (to_z w64 (of_z w64 c.args.next.part.edition)) rowid number
-    (wrong is)))
-    c.row.ensures.damaged
+    let rowid = sym (to_z-of_z w64 c.args.next.rowid fits) in
+    at_err _ c.rowid.result (λ wrong fault e first given h. part_twice first given c.args.next c.args.self.now h (to_z w64 (of_z w64 c.args.next.rowid)) rowid wrong) c.rowid.ensures.damaged

@@ -3,7 +3,7 @@ use Rattle.store_migration.proofs.KitLemmas.{passed_on, was_clean, two_survive}
 use Rattle.store_migration.proofs.FailLemmas.{fails_later, fails_within}
 use Rattle.store_migration.proofs.FlowLemmas.{apart_headed}
 use Rattle.store_migration.proofs.MovedLemmas.{mark_behind}
-use Rattle.store_migration.proofs.migrating.migrate_inside.Goals as goal
+use Rattle.store_migration.proofs.migrating.move_tables.Goals as goal
 
 pub head_editions-requires : goal.head_editions-requires
 head_editions-requires g c clean open' =

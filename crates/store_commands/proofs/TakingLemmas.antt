@@ -1,0 +1,179 @@
+-- What a database holds still where parts of no edition were taken out.
+use Rattle.std.proofs.Common.{◌≡◌, ◌≢◌, ℕ, ◌≤◌, ◌&&◌, ◌||◌, ℤ, pos, Bool, true, false, cond, List, [], ◌∷◌, ◌++◌, map, filter, not, codes, refl, sym, ap, subst, ◌∙◌, arith}
+use Rattle.std.specs.Prelude.{IsTrue}
+use Rattle.std.specs.List.{AllByRecursion, list_any}
+use Rattle.std.specs.List.Sorted.{IsPermutation}
+use Rattle.std.proofs.lemmas.Bool.{false≢true}
+use Rattle.std.proofs.lemmas.List.Elements.{filter-append}
+use Rattle.std.proofs.lemmas.List.Sorted.{IsPermutation-sym, IsPermutation-trans, length_permutation}
+use Rattle.std.specs.Ordering.{is_lt}
+use Rattle.sqlite.specs.Effect.{Database}
+use Rattle.sqlite.specs.Order.{column, value_cmp}
+use Rattle.sqlite.specs.declared.types.Value.TheVariants.{Int}
+use Rattle.sqlite.specs.State.{State, HasCleanDisk}
+use Rattle.dict_text.proofs.AllLemmas.{all_append, all_weaker, all_filter, all_flat_map}
+use Rattle.dict_index.specs.Edition.{Edition}
+use Rattle.dict_catalogue.specs.Items.{edition_numbers, numbers_of}
+use Rattle.dict_catalogue.specs.Views.{item_shown}
+use Rattle.dict_catalogue.specs.declared.summary.Item.{Item}
+use Rattle.dict_catalogue.specs.Steps.{Catalogue, summary_of}
+use Rattle.dict_catalogue.specs.Tests.{Holdings}
+use Rattle.store_records.specs.Records.{EditionRecord, Part}
+use Rattle.store_edition_sql.specs.PartRecords.{part_row}
+use Rattle.store_sql.specs.Effects.{equals_number}
+use Rattle.store_rows.specs.Versions.{known}
+use Rattle.store_rows.specs.Stands.{Stands, has_number}
+use Rattle.store_rows.specs.Tables.{Tables, same_number, entries_of}
+use Rattle.store_rows.proofs.LawfulLemmas.{numbers_as}
+use Rattle.store_rows.proofs.SelectionLemmas.{filter_filter}
+use Rattle.store_rows.proofs.TakenLemmas.{nat_same, same_number_is, same_itself}
+use Rattle.store_holdings.specs.AllTables.{AllTables, with_derived}
+use Rattle.store_holdings.specs.Files.{all_parts, edition_parts, index_octets}
+use Rattle.store_holdings.specs.Holds.{Holds}
+use Rattle.store_holdings.specs.Texts.{rows_under, text_rows}
+use Rattle.store_holdings.proofs.FileLemmas.{of_under}
+use Rattle.store_commands.specs.KeptRecords.{HasRecords}
+use Rattle.store_commands.specs.Answers.{HoldsBy}
+use Rattle.store_commands.specs.Marking.{Remains}
+use Rattle.store_commands.specs.Orphans.{LosesParts, HasNoParts, with_parts_that}
+use Rattle.store_commands.proofs.FilingLemmas.{part_asks, stands_under}
+use Rattle.store_commands.proofs.RowLemmas.{filter_map, compared_values}
+use Rattle.store_commands.proofs.PartLemmas.{is_late}
+use Rattle.store_commands.proofs.TableLemmas.{parts_kept}
+use Rattle.store_commands.proofs.TextLemmas.{kept_test, left_out, none_found, of_text, text_asks, text_under}
+
+-- ---- numbers
+
+numbers_apart : (m n : ℕ) → m ≢ n → same_number (pos m) (pos n) ≡ false
+numbers_apart m n apart = by (same_number (pos m) (pos n)) refl
+  where
+    by : (b : Bool) → same_number (pos m) (pos n) ≡ b → b ≡ false
+    by true e = absurd (apart (nat_same m n e))
+    by false e = refl
+
+-- a number that none of a list is
+none_among : (number : ℕ) (numbers : List ℕ) → AllByRecursion (λ one. one ≢ number) numbers → list_any (λ one. same_number (pos one) (pos number)) numbers ≡ false
+none_among number [] h = refl
+none_among number (n ∷ numbers) h = ap (λ b. b || list_any (λ one. same_number (pos one) (pos number)) numbers) (numbers_apart n number h.0) ∙ none_among number numbers h.1
+
+number_of_none : (M : Catalogue) (summary : Holdings (List ℕ)) (number : ℕ) → summary_of M ≡ summary → AllByRecursion (λ one. one ≢ number) (edition_numbers summary.items) → has_number M.items (pos number) ≡ false
+number_of_none M summary number is apart =
+    let same : edition_numbers summary.items ≡ edition_numbers M.items = ap (λ (s : Holdings (List ℕ)). edition_numbers s.items) (sym is) ∙ numbers_as (λ (edition : Edition). edition.title) M.items in
+    none_among number (edition_numbers M.items) (subst (AllByRecursion (λ one. one ≢ number)) same apart)
+
+-- no edition of the item has the number
+abbrev pub HasNotNumber : ℕ → Item → Type 0
+HasNotNumber number item = AllByRecursion (λ one. one ≢ number) (numbers_of (item_shown item))
+
+pub none_of_items : (number : ℕ) (items : List Item) → AllByRecursion (HasNotNumber number) items → AllByRecursion (λ one. one ≢ number) (edition_numbers (map item_shown items))
+none_of_items number [] h = tt
+none_of_items number (item ∷ items) h = all_append (λ one. one ≢ number) (numbers_of (item_shown item)) (edition_numbers (map item_shown items)) h.0 (none_of_items number items h.1)
+
+-- ---- parts
+
+-- those that are left behind some bounds of a text
+abbrev pub behind_stays : ℕ → List ℤ → Part → Bool
+behind_stays number done r = not (list_any (λ from. is_late number from (part_row r)) done)
+
+pub behind_others : (number : ℕ) (done : List ℤ) (part : Part) → same_number (pos number) part.edition ≡ false → behind_stays number done part ≡ true
+behind_others number done part other = ap not (none_late done)
+  where
+    none_late : (l : List ℤ) → list_any (λ from. is_late number from (part_row part)) l ≡ false
+    none_late [] = refl
+    none_late (from ∷ l) =
+        ap (λ b. ((b && equals_number 1 (pos 1) (part_row part)) && not (is_lt (value_cmp (column (part_row part) 2) (Int from)))) || list_any (λ z. is_late number z (part_row part)) l)
+        (compared_values (pos number) part.edition ∙ other) ∙ none_late l
+
+all_pass : (stays : Part → Bool) (ps : List Part) → AllByRecursion (λ (p : Part). stays p ≡ true) ps → filter stays ps ≡ ps
+all_pass stays [] h = refl
+all_pass stays (p ∷ ps) h = ap (λ b. cond b (p ∷ filter stays ps) (filter stays ps)) h.0 ∙ ap (λ l. p ∷ l) (all_pass stays ps h.1)
+
+-- those of editions have numbers of the catalogue
+each_known : (M : Catalogue) (t : Tables) → Stands known t M → AllByRecursion (λ (p : Part). has_number M.items p.edition ≡ true) (all_parts t)
+each_known M t stands =
+    all_flat_map (λ (p : Part). has_number M.items p.edition ≡ true) (edition_parts t.entries) t.editions
+    (all_weaker (λ (e : EditionRecord). IsTrue (has_number M.items e.number)) (λ (e : EditionRecord). AllByRecursion (λ (p : Part). has_number M.items p.edition ≡ true) (edition_parts t.entries e))
+    (λ e there.
+    all_weaker (λ (p : Part). has_number M.items p.edition ≡ has_number M.items e.number) (λ (p : Part). has_number M.items p.edition ≡ true) (λ p same. same ∙ there) (edition_parts t.entries e)
+    (of_under (has_number M.items) e.number (index_octets (entries_of e.number t.entries)) e.body))
+    t.editions stands.numbers)
+
+module _ (M : Catalogue) (number : ℕ) (apart : has_number M.items (pos number) ≡ false) (old new : Database) (h : Holds known old M) (loses : LosesParts number old new) where
+  abbrev all : AllTables
+  all = with_derived h.orphans h.tables
+
+  abbrev rest : List Part
+  rest = filter loses.stays h.orphans
+
+  another : (p : Part) → has_number M.items p.edition ≡ true → same_number (pos number) p.edition ≡ false
+  another p there = by (same_number (pos number) p.edition) refl
+    where
+      by : (b : Bool) → same_number (pos number) p.edition ≡ b → b ≡ false
+      by true e = absurd (false≢true (sym apart ∙ ap (has_number M.items) (same_number_is (pos number) p.edition e) ∙ there))
+      by false e = refl
+
+  parts_stay : filter loses.stays (all_parts h.tables) ≡ all_parts h.tables
+  parts_stay = all_pass loses.stays (all_parts h.tables)
+      (all_weaker (λ (p : Part). has_number M.items p.edition ≡ true) (λ (p : Part). loses.stays p ≡ true) (λ p there. loses.others p (another p there)) (all_parts h.tables) (each_known M h.tables h.stands))
+
+  after : HasRecords new (with_derived rest h.tables)
+  after = subst (λ (l : List Part). HasRecords new (record all { parts = l })) (filter-append loses.stays h.orphans (all_parts h.tables) ∙ ap (λ l. rest ++ l) parts_stay)
+      (loses.turns all (record { own = h.own; keeps = h.keeps })).0
+
+  held_on : Holds known new M
+  held_on = record {
+    own = after.own;
+    tables = h.tables;
+    orphans = rest;
+    keeps = after.keeps;
+    shown = h.shown;
+    stands = h.stands;
+    apart = record { apart = all_filter (λ (p : Part). has_number M.items p.edition ≡ false) loses.stays h.orphans h.apart.apart; later = λ low. absurd (omega (arith, low)) };
+  }
+
+-- ---- the text of another number
+
+module _ (number other : ℕ) (apart : other ≢ number) (old new : Database) (all : AllTables) (before : HasRecords old all) (loses : LosesParts number old new) where
+  text_on : IsPermutation (text_rows other old) (text_rows other new)
+  text_on =
+      let q : Part → Bool = of_text other in
+      let same : filter q (filter loses.stays all.parts) ≡ filter q all.parts =
+      filter_filter q loses.stays q
+      (λ p. kept_test (loses.stays p) (q p) (λ its. loses.others p (ap (same_number (pos number)) (text_asks other p its) ∙ numbers_apart number other (λ is. apart (sym is))))) all.parts in
+      let here = text_under other old all.parts (parts_kept old all before) in
+      let there = text_under other new (filter loses.stays all.parts) (parts_kept new (with_parts_that loses.stays all) (loses.turns all before).0) in
+      IsPermutation-trans (text_rows other old) (map part_row (filter q all.parts)) (text_rows other new) (IsPermutation-sym (map part_row (filter q all.parts)) (text_rows other old) here)
+      (subst (λ l. IsPermutation (map part_row l) (text_rows other new)) same there)
+
+-- what is committed of it holds what was held
+pub remains_without : (summary : Holdings (List ℕ)) (number : ℕ) → AllByRecursion (λ one. one ≢ number) (edition_numbers summary.items) → (old : State) → HoldsBy summary old → HasCleanDisk old → IsTrue old.is_open
+    → (db : Database) → LosesParts number old.now db → Remains summary old.committed db
+remains_without summary number apart old holds clean live db loses =
+    let it = holds clean live in
+    let from : LosesParts number old.committed db = subst (λ (d : Database). LosesParts number d db) it.1.settled loses in
+    let all : AllTables = with_derived it.1.holds.orphans it.1.holds.tables in
+    let before : HasRecords old.committed all = record { own = it.1.holds.own; keeps = it.1.holds.keeps } in
+    record {
+      holds = λ M held is. held_on M number (number_of_none M summary number is apart) old.committed db held from;
+      texts = all_weaker (λ one. one ≢ number) (λ one. one ≤ summary.installs → IsPermutation (text_rows one old.committed) (text_rows one db)) (λ one other low. text_on number one other old.committed db all before from)
+          (edition_numbers summary.items) apart;
+      others = (from.turns all before).1;
+    }
+
+-- ---- none is left
+
+none_at_all : {X : Type 0} (xs : List X) → IsPermutation [] xs → xs ≡ []
+none_at_all [] same = refl
+none_at_all (x ∷ xs) same = absurd (let few = length_permutation [] (x ∷ xs) same in omega (arith, few))
+
+pub none_has : (number : ℕ) (stays : Part → Bool) → ((part : Part) → same_number (pos number) part.edition ≡ true → stays part ≡ false) → (db : Database) (all : AllTables) → HasRecords db (with_parts_that stays all) → HasNoParts number db
+none_has number stays its db all it =
+    let q : Part → Bool = λ (p : Part). equals_number 0 (pos number) (part_row p) in
+    let rest : List Part = filter stays all.parts in
+    let none : filter q rest ≡ [] =
+    filter_filter q stays (λ (p : Part). false)
+    (λ p. left_out (stays p) (q p) (λ asked. its p (ap (same_number (pos number)) (part_asks number p asked) ∙ same_itself (pos number)))) all.parts ∙ none_found all.parts in
+    let nothing : filter (λ row. equals_number 0 (pos number) row) (map part_row rest) ≡ [] =
+    sym (filter_map part_row (λ row. equals_number 0 (pos number) row) q (λ p. refl) rest) ∙ ap (map part_row) none in
+    none_at_all (rows_under (codes "dictcat_part") number db)
+    (subst (λ l. IsPermutation l (rows_under (codes "dictcat_part") number db)) nothing (stands_under (codes "dictcat_part") part_row number db rest (parts_kept db (with_parts_that stays all) it)))

@@ -1,0 +1,18 @@
+-- what was written so far
+use Rattle.std.proofs.Common.{◌≡◌, take}
+use Rattle.sqlite.specs.Held.{state}
+use Rattle.store_sql.specs.Effects.{WhileOpen}
+use Rattle.store_commands.specs.KeptRecords.{IsUsable}
+use Rattle.store_commands.specs.Writes.{WroteStatements, CommitsNothing}
+use Rattle.store_commands.proofs.PartLemmas.{behind, last_ones}
+use Rattle.store_commands.proofs.orphans.take_slice.Given as goal
+
+abbrev pub invariant-each : goal.invariant-each
+invariant-each g l =
+    let some = take l.from-index l.bounds in
+    record {
+      same_reference : g.T.OpenTransaction.reference l.tx ≡ g.T.OpenTransaction.reference l.fn.tx;
+      wrote : WroteStatements g.S.Store (last_ones g.S.Store l.number some) (behind g.S.Store l.number some) (g.T.OpenTransaction.held l.fn.tx) (g.T.OpenTransaction.held l.tx);
+      usable : WhileOpen (state g.S.Store (g.T.OpenTransaction.held l.tx)) IsUsable;
+      spares : CommitsNothing g.S.Store (g.T.OpenTransaction.held l.fn.tx) (g.T.OpenTransaction.held l.tx);
+    }

@@ -1,0 +1,116 @@
+use Rattle.std.proofs.Common.{◌≡◌, ◌||◌, false, sym, ap, subst, ◌∙◌}
+use Rattle.std.specs.Prelude.{IfErr, OnErr}
+use Rattle.sqlite.specs.Held.{state}
+use Rattle.sqlite.specs.Disk.{MoreFaults}
+use Rattle.sqlite.specs.State.{HasCleanDisk, KeepsCommit}
+use Rattle.dict_catalogue.specs.Views.{summary_shown}
+use Rattle.dict_desk.specs.Faults.{has_failed_by, has_closed_by}
+use Rattle.dict_desk.specs.declared.fault.Fault.TheVariants.{Disk}
+use Rattle.store_desk.specs.Desk.{DeskState, Shows, LeavesOneOf, has_failed, is_closed, KeepsBeside}
+use Rattle.store_desk.specs.Prepared.{HasCommittedSame}
+use Rattle.store_desk.proofs.CopyLemmas.{copied_beside, copied_caused, copied_first, copied_keeps, copied_leaves, copied_rests, copied_same, copied_shows, resting_by}
+use Rattle.store_desk.proofs.PreparingLemmas.{behind_failed, behind_closed}
+use Rattle.store_desk.proofs.desk.Desk.take_orphans_next.Goals as goal
+
+pub take_last-outcome-requires-clause-autocommit : goal.take_last-outcome-requires-clause-autocommit
+take_last-outcome-requires-clause-autocommit g c = ap (λ (d : DeskState _). d.conn.in_transaction) c.self.view_is ∙ c.requires.none
+
+pub take_last-outcome-requires-clause-holds : goal.take_last-outcome-requires-clause-holds
+take_last-outcome-requires-clause-holds g c =
+    let before : is_closed c.self.inside.last ≡ false = ap (λ (d : DeskState _). is_closed d.last) c.self.view_is ∙ c.requires.open in
+    resting_by g.S.Store c.self.inside.last (summary_shown c.self.inside.summary) c.self.inside.filing c.self.inside.conn before c.self.invariant.0
+    (ap (λ (d : DeskState _). d.conn.in_transaction) c.self.view_is ∙ c.requires.none)
+
+pub invariant_of-self : goal.invariant_of-self
+invariant_of-self g c =
+    let before : is_closed c.self.inside.last ≡ false = ap (λ (d : DeskState _). is_closed d.last) c.self.view_is ∙ c.requires.open in (
+      copied_rests g.S.Store c.self.inside.conn c.take_last-outcome.new.conn (summary_shown c.self.inside.summary) c.self.inside.filing c.self.inside.last before c.self.invariant.0
+          c.take_last-outcome.ensures.crash c.take_last-outcome.ensures.lives c.take_last-outcome.ensures.remains c.last_behind-self-inside.result c.take_last-outcome.ensures.settled c.take_last-outcome.ensures.ended,
+      copied_keeps (summary_shown c.self.inside.summary) c.self.inside.last c.take_last-outcome.result c.last_behind-self-inside.result c.last_behind-self-inside.ensures c.self.inside.texts c.forget_behind.new.texts
+          c.forget_behind.ensures c.self.invariant.1,
+    )
+
+pub returns-clause-committed : goal.returns-clause-committed
+returns-clause-committed g c = λ clean is.
+    let old : DeskState _ = record { conn = c.self.inside.conn; summary = summary_shown c.self.inside.summary; last = c.self.inside.last; indexes = c.self.inside.indexes; texts = c.self.inside.texts; taken = c.self.inside.rows_taken } in
+    let new : DeskState _ = record {
+      conn = c.take_last-outcome.new.conn;
+      summary = summary_shown c.self.inside.summary;
+      last = c.last_behind-self-inside.result;
+      indexes = c.self.inside.indexes;
+      texts = c.forget_behind.new.texts;
+      taken = c.self.inside.rows_taken;
+    } in
+    subst (λ (d : DeskState _). HasCommittedSame g.S.Store d new) c.self.view_is (record {
+      before = ap (λ (d : DeskState _). d.conn.in_transaction) c.self.view_is ∙ c.requires.none;
+      ended = c.take_last-outcome.ensures.ended;
+      same = copied_same old c.take_last-outcome.new.conn c.last_behind-self-inside.result c.forget_behind.new.texts c.take_last-outcome.result c.last_behind-self-inside.ensures c.forget_behind.ensures is;
+      done = c.take_last-outcome.ensures.made clean is;
+    })
+
+pub returns-clause-trust : goal.returns-clause-trust
+returns-clause-trust g c = λ clean.
+    let before : is_closed c.self.inside.last ≡ false = ap (λ (d : DeskState _). is_closed d.last) c.self.view_is ∙ c.requires.open in
+    subst (λ (d : DeskState _). HasCleanDisk (state g.S.Store d.conn)) c.self.view_is
+    (copied_first g.S.Store c.self.inside.conn c.take_last-outcome.new.conn (summary_shown c.self.inside.summary) c.self.inside.filing c.self.inside.last before c.self.invariant.0
+    c.take_last-outcome.ensures.crash c.take_last-outcome.ensures.lives c.take_last-outcome.ensures.remains clean)
+
+pub returns-clause-shows : goal.returns-clause-shows
+returns-clause-shows g c = λ clean M shown.
+    let before : is_closed c.self.inside.last ≡ false = ap (λ (d : DeskState _). is_closed d.last) c.self.view_is ∙ c.requires.open in
+    copied_shows g.S.Store c.self.inside.conn c.take_last-outcome.new.conn (summary_shown c.self.inside.summary) c.self.inside.filing c.self.inside.last before c.self.invariant.0
+    c.take_last-outcome.ensures.crash c.take_last-outcome.ensures.lives c.take_last-outcome.ensures.remains
+    c.take_last-outcome.result c.last_behind-self-inside.result c.self.inside.indexes c.self.inside.texts c.forget_behind.new.texts c.forget_behind.ensures M (subst (λ (d : DeskState _). Shows g.S.Store d M) (sym c.self.view_is) shown)
+
+pub returns-clause-leaves : goal.returns-clause-leaves
+returns-clause-leaves g c = λ ms left.
+    let before : is_closed c.self.inside.last ≡ false = ap (λ (d : DeskState _). is_closed d.last) c.self.view_is ∙ c.requires.open in
+    copied_leaves g.S.Store (record { conn = c.self.inside.conn; summary = summary_shown c.self.inside.summary; last = c.self.inside.last; indexes = c.self.inside.indexes; texts = c.self.inside.texts; taken = c.self.inside.rows_taken })
+    (record {
+      conn = c.take_last-outcome.new.conn;
+      summary = summary_shown c.self.inside.summary;
+      last = c.last_behind-self-inside.result;
+      indexes = c.self.inside.indexes;
+      texts = c.forget_behind.new.texts;
+      taken = c.self.inside.rows_taken;
+    })
+    (c.self.invariant.0.holds before) c.is_whole.ensures.live c.committed_may_stay.ensures c.take_last-outcome.ensures.crash ms (subst (λ (d : DeskState _). LeavesOneOf g.S.Store d ms) (sym c.self.view_is) left)
+
+pub returns-clause-beside : goal.returns-clause-beside
+returns-clause-beside g c = λ db kept.
+    let before : is_closed c.self.inside.last ≡ false = ap (λ (d : DeskState _). is_closed d.last) c.self.view_is ∙ c.requires.open in
+    copied_beside g.S.Store (record { conn = c.self.inside.conn; summary = summary_shown c.self.inside.summary; last = c.self.inside.last; indexes = c.self.inside.indexes; texts = c.self.inside.texts; taken = c.self.inside.rows_taken })
+    (record {
+      conn = c.take_last-outcome.new.conn;
+      summary = summary_shown c.self.inside.summary;
+      last = c.last_behind-self-inside.result;
+      indexes = c.self.inside.indexes;
+      texts = c.forget_behind.new.texts;
+      taken = c.self.inside.rows_taken;
+    })
+    (c.self.invariant.0.holds before) c.is_whole.ensures.live c.committed_may_stay.ensures c.take_last-outcome.ensures.crash db (subst (λ (d : DeskState _). KeepsBeside g.S.Store d db) (sym c.self.view_is) kept)
+
+pub returns-clause-failed : goal.returns-clause-failed
+returns-clause-failed g c =
+    ap has_failed c.last_behind-self-inside.ensures ∙ (behind_failed c.self.inside.last c.take_last-outcome.result c.take_last-outcome.ensures.kinds
+    ∙ ap (λ (d : DeskState _). has_failed d.last || has_failed_by c.take_last-outcome.result) c.self.view_is)
+
+pub returns-clause-closes : goal.returns-clause-closes
+returns-clause-closes g c =
+    let before : is_closed c.self.inside.last ≡ false = ap (λ (d : DeskState _). is_closed d.last) c.self.view_is ∙ c.requires.open in
+    ap is_closed c.last_behind-self-inside.ensures ∙ (behind_closed c.self.inside.last c.take_last-outcome.result before c.take_last-outcome.ensures.kinds
+    ∙ ap (λ (d : DeskState _). is_closed d.last || has_closed_by c.take_last-outcome.result) c.self.view_is)
+
+pub returns-clause-caused : goal.returns-clause-caused
+returns-clause-caused g c = λ clean.
+    copied_caused g.S.Store c.args.self.now (record {
+      conn = c.take_last-outcome.new.conn;
+      summary = summary_shown c.self.inside.summary;
+      last = c.last_behind-self-inside.result;
+      indexes = c.self.inside.indexes;
+      texts = c.forget_behind.new.texts;
+      taken = c.self.inside.rows_taken;
+    }) c.take_last-outcome.result c.take_last-outcome.ensures.kinds
+    (subst (λ (d : DeskState _). OnErr c.take_last-outcome.result (KeepsCommit (state g.S.Store d.conn) (state g.S.Store c.take_last-outcome.new.conn))) c.self.view_is (c.take_last-outcome.ensures.keeps clean))
+    (subst (λ (d : DeskState _). IfErr c.take_last-outcome.result (λ fault. fault ≡ Disk → MoreFaults (state g.S.Store d.conn).faults (state g.S.Store c.take_last-outcome.new.conn).faults)) c.self.view_is
+    (c.take_last-outcome.ensures.faulted clean))

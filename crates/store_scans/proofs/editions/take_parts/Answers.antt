@@ -1,0 +1,32 @@
+use Rattle.std.proofs.Common.{rules}
+use Rattle.sqlite.specs.Held.{state}
+use Rattle.store_scans.specs.Scans.{TakesAll, IsWrong}
+use Rattle.store_edition_sql.specs.PartRecords.{part_columns, stored_part}
+use Rattle.store_scans.specs.Cursors.Cursor.{PartsByRowid}
+use Rattle.store_scans.specs.Census.{TakesPartCensus, refuses_part_census}
+use Rattle.store_scans.proofs.BeginLemmas.{reads_on, whole_on, damaged_on, cause_on}
+use Rattle.store_scans.proofs.CauseLemmas.{told_cause}
+use Rattle.store_scans.proofs.editions.take_parts.Goals as goal
+
+pub returns-clause-reads : goal.returns-clause-reads
+returns-clause-reads g c =
+    reads_on g.S.Store PartsByRowid c.args.conn.now c.in-Ok.rows.conn.now c.take_all.new.rows.conn.now c.conn-2-1.given.0 (search rules) c.in-Ok.ensures.begun c.take_all.ensures.survives c.in-Ok.ensures.mode c.in-Ok.ensures.survives
+    c.take_all.ensures.mode c.take_all.ensures.stays
+
+pub returns-clause-whole : goal.returns-clause-whole
+returns-clause-whole g c clean =
+    whole_on g.S.Store PartsByRowid c.args.conn.now c.in-Ok.rows.conn.now c.take_all.new.rows.conn.now c.conn-2-1.given.0 (search rules) c.in-Ok.ensures.begun c.take_all.ensures.survives c.take_all.result
+    (λ what db. TakesAll stored_part TakesPartCensus what db c.args.census.now c.take_all.new.taker) c.take_all.ensures.whole clean
+
+pub returns-clause-damaged : goal.returns-clause-damaged
+returns-clause-damaged g c clean =
+    damaged_on g.S.Store PartsByRowid c.args.conn.now c.in-Ok.rows.conn.now c.take_all.new.rows.conn.now c.conn-2-1.given.0 (search rules) c.in-Ok.ensures.begun c.take_all.ensures.survives c.take_all.result
+    (λ what db. IsWrong stored_part part_columns refuses_part_census what db c.args.census.now) c.take_all.ensures.damaged clean
+
+pub returns-clause-failed : goal.returns-clause-failed
+returns-clause-failed g c clean =
+    cause_on g.S.Store PartsByRowid c.args.conn.now c.in-Ok.rows.conn.now c.take_all.new.rows.conn.now c.conn-2-1.given.0 (search rules) c.in-Ok.ensures.begun c.take_all.ensures.survives c.in-Ok.ensures.survives c.take_all.result
+    c.take_all.ensures.failed clean
+
+pub returns-in-Err-clause-failed : goal.returns-in-Err-clause-failed
+returns-in-Err-clause-failed g c clean = told_cause (state g.S.Store c.args.conn.now) (state g.S.Store c.read_parts_by_rowid.follows.lender-at-none) c.in-Err.error c.fault_of_store.result c.fault_of_store.ensures (search rules)
