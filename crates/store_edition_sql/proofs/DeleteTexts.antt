@@ -22,11 +22,9 @@ use Rattle.sqlite_ast.specs.declared.Binary.TheVariants as binary
 use Rattle.store_tables.specs.Tables.{needed}
 use Rattle.store_sql.specs.Effects.{Has, HasApartRowids, IsRemoved, equals_number, rows_of, shown}
 use Rattle.store_sql.specs.Refusals.{RefusesToRemove}
-use Rattle.store_sql.specs.Transactions.{EndsNothing}
 use Rattle.store_sql.proofs.CompareLemmas.{and_true, equals_is}
 use Rattle.store_sql.proofs.DeleteLemmas.{column_expr, parameter_expr, equals_expr, tests_equals}
 use Rattle.store_sql.proofs.DeleteTexts.{Takes, remove_fails, ReadsDelete, removes_rows}
-use Rattle.store_sql.proofs.KindLemmas.{delete_ends_none}
 use Rattle.store_sql.proofs.ListLemmas.{passes}
 use Rattle.store_sql.proofs.ReadLemmas.{context_of}
 use Rattle.store_sql.proofs.TextLemmas.{parsed_or}
@@ -72,9 +70,6 @@ pub parts_stay : (old new : State) (n : ℤ) (e : Error) → Has part old.now �
     → (RefusesToRemove (codes "dictcat_part") (equals_number 1 n) old e × IsUnchanged old new) ⊎ Fails old new ⊥ e
 parts_stay old new n e =
     remove_fails part_delete_text read_delete part (Some (equals_expr (codes "edition"))) test_edition 99997 reads_delete (λ tree. refl) (Int n ∷ []) (takes_delete n) (equals_number 1 n) (λ tree row. part_goes tree n row) old new e
-
-pub delete_ends : EndsNothing part_delete_text
-delete_ends = delete_ends_none part_delete_text read_delete part _ _ _ reads_delete
 
 -- ---- of a file of it, from a number on
 
@@ -172,6 +167,3 @@ pub from_stay : (old new : State) (n f m : ℤ) (e : Error) → Has part old.now
     → (RefusesToRemove (codes "dictcat_part") (is_part_from n f m) old e × IsUnchanged old new) ⊎ Fails old new ⊥ e
 from_stay old new n f m e =
     remove_fails delete_from_text read_from part (Some from_number_on) test_from 99989 reads_from (λ tree. refl) (Int n ∷ Int f ∷ Int m ∷ []) (takes_from n f m) (is_part_from n f m) (λ tree row. from_goes tree n f m row) old new e
-
-pub from_ends : EndsNothing delete_from_text
-from_ends = delete_ends_none delete_from_text read_from part _ _ _ reads_from

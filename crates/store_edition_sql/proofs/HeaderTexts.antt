@@ -25,13 +25,11 @@ use Rattle.store_tables.specs.Tables.{needed}
 use Rattle.store_sql.specs.Creates.{IsFree, IsMade}
 use Rattle.store_sql.specs.Effects.{Has, HasApartRowids, IsAdded, IsRemoved, equals_number, rows_of, shown}
 use Rattle.store_sql.specs.Refusals.{RefusesToMake, RefusesToAdd, RefusesToRemove, IsTooBig}
-use Rattle.store_sql.specs.Transactions.{EndsNothing}
 use Rattle.store_sql.proofs.AddFaults.{cause}
 use Rattle.store_sql.proofs.CompareLemmas.{and_true, equals_is}
 use Rattle.store_sql.proofs.CreateLemmas.{ReadsCreate, makes, Stands, make_fails}
 use Rattle.store_sql.proofs.DeleteLemmas.{column_expr, parameter_expr, equals_expr, tests_equals}
 use Rattle.store_sql.proofs.DeleteTexts.{Takes, remove_fails, ReadsDelete, removes_rows}
-use Rattle.store_sql.proofs.KindLemmas.{insert_ends_none, create_ends_none, delete_ends_none}
 use Rattle.store_sql.proofs.FaultLemmas.{faults_inside}
 use Rattle.store_sql.proofs.InsertLemmas.{adds_given, cast_int, cast_null}
 use Rattle.store_sql.proofs.ListLemmas.{passes}
@@ -59,9 +57,6 @@ makes_header old new count = makes header_create_text read_create (header 0) rea
 
 pub make_fails_in : (old new : State) → IsFree old.now.schema (header 0).name → (e : Error) → ExecutesInside 0 header_create_text [] old new (Err e) → (RefusesToMake (header 0) old e × IsUnchanged old new) ⊎ Fails old new ⊥ e
 make_fails_in = make_fails header_create_text read_create (header 0) reads_create create_stands
-
-pub make_ends_none : EndsNothing header_create_text
-make_ends_none = create_ends_none header_create_text read_create (header 0) reads_create
 
 -- ---- INSERT
 
@@ -103,9 +98,6 @@ header_fails old new h e has runs =
     (faults_inside header_insert_text read_insert (Insert at (Values header_terms 5)) (header_row h) old new e (insert_is header_insert_text read_insert header (Values header_terms 5) reads_insert old.now.schema at tree has.2)
     whole_insert.0 whole_insert.1 refl refl runs)
 
-pub add_ends_none : EndsNothing header_insert_text
-add_ends_none = insert_ends_none header_insert_text read_insert header _ reads_insert
-
 -- ---- DELETE
 
 abbrev test_number : List Term
@@ -142,6 +134,3 @@ pub headers_stay : (old new : State) (n : ℤ) (e : Error) → Has header old.no
 headers_stay old new n e =
     remove_fails header_delete_text read_delete header (Some (equals_expr (codes "number"))) test_number 99997 reads_delete (λ tree. refl) (Int n ∷ []) (takes_delete n) (equals_number 1 n) (λ tree row. header_goes tree n row) old
     new e
-
-pub delete_ends : EndsNothing header_delete_text
-delete_ends = delete_ends_none header_delete_text read_delete header _ _ _ reads_delete

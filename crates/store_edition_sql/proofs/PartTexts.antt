@@ -19,10 +19,8 @@ use Rattle.store_records.specs.Records.{Part}
 use Rattle.store_sql.specs.Creates.{IsFree, IsMade}
 use Rattle.store_sql.specs.Effects.{Has, IsAdded}
 use Rattle.store_sql.specs.Refusals.{RefusesToMake, RefusesToAdd, IsTooBig}
-use Rattle.store_sql.specs.Transactions.{EndsNothing}
 use Rattle.store_sql.proofs.AddFaults.{cause}
 use Rattle.store_sql.proofs.CreateLemmas.{ReadsCreate, makes, Stands, make_fails}
-use Rattle.store_sql.proofs.KindLemmas.{insert_ends_none, create_ends_none}
 use Rattle.store_sql.proofs.FaultLemmas.{faults_inside}
 use Rattle.store_sql.proofs.InsertLemmas.{adds_chosen, cast_int, cast_null}
 use Rattle.store_sql.proofs.TextLemmas.{parsed_or, ReadsInsert, insert_is, insert_command, insert_plain}
@@ -50,9 +48,6 @@ makes_part old new count = makes part_create_text read_create (part 0) reads_cre
 
 pub make_fails_in : (old new : State) → IsFree old.now.schema (part 0).name → (e : Error) → ExecutesInside 0 part_create_text [] old new (Err e) → (RefusesToMake (part 0) old e × IsUnchanged old new) ⊎ Fails old new ⊥ e
 make_fails_in = make_fails part_create_text read_create (part 0) reads_create create_stands
-
-pub make_ends_none : EndsNothing part_create_text
-make_ends_none = create_ends_none part_create_text read_create (part 0) reads_create
 
 -- ---- INSERT
 
@@ -93,6 +88,3 @@ part_fails old new r e has h =
     (rw (cast_int r.edition, cast_int r.file, cast_int r.number) (refl)) (rw (cast_int r.edition, cast_int r.file, cast_int r.number) (refl)) e
     (faults_inside part_insert_text read_insert (Insert at (Values part_terms 5)) (part_row r) old new e (insert_is part_insert_text read_insert part (Values part_terms 5) reads_insert old.now.schema at tree has.2) whole_insert.0
     whole_insert.1 refl refl h)
-
-pub add_ends_none : EndsNothing part_insert_text
-add_ends_none = insert_ends_none part_insert_text read_insert part _ reads_insert

@@ -14,8 +14,6 @@ use Rattle.store_tables.specs.Keyed.{entry_with_keys, word, gram, keyed_table_of
 use Rattle.store_older_sql.specs.Texts.{keyed_drop_text}
 use Rattle.store_tables.specs.declared.keyed.KeyedTable.{KeyedTable}
 use Rattle.store_tables.specs.declared.keyed.KeyedTable.TheVariants as keyed
-use Rattle.store_sql.proofs.KindLemmas.{drop_ends_none}
-use Rattle.store_sql.specs.Transactions.{EndsNothing}
 
 -- all of the text is read, and it names no value
 abbrev IsRead : KeyedTable → Parsed → Type 0
@@ -67,8 +65,3 @@ pub drop_fails_in : (t : KeyedTable) (old new : State) (e : Error) → Has (keye
 drop_fails_in keyed.Entry old new e has = fails (keyed_drop_text keyed.Entry) read_entry entry_with_keys reads_entry whole_entry.0 whole_entry.1 old new has.0 has.1 has.2 e
 drop_fails_in keyed.Word old new e has = fails (keyed_drop_text keyed.Word) read_word word reads_word whole_word.0 whole_word.1 old new has.0 has.1 has.2 e
 drop_fails_in keyed.Gram old new e has = fails (keyed_drop_text keyed.Gram) read_gram gram reads_gram whole_gram.0 whole_gram.1 old new has.0 has.1 has.2 e
-
-pub take_ends_none : (t : KeyedTable) → EndsNothing (keyed_drop_text t)
-take_ends_none keyed.Entry = drop_ends_none (keyed_drop_text keyed.Entry) read_entry entry_with_keys reads_entry
-take_ends_none keyed.Word = drop_ends_none (keyed_drop_text keyed.Word) read_word word reads_word
-take_ends_none keyed.Gram = drop_ends_none (keyed_drop_text keyed.Gram) read_gram gram reads_gram

@@ -30,8 +30,6 @@ use Rattle.store_tables.specs.Keyed.{old_entry, entry_with_keys as shown_entry}
 use Rattle.store_older_sql.specs.Entries.{entry_table_of, entry_drop_text, entry_select_text}
 use Rattle.store_older_sql.specs.declared.entries.EntryForm.{EntryForm}
 use Rattle.store_older_sql.specs.declared.entries.EntryForm.TheVariants.{Plain, Keyed, Shown}
-use Rattle.store_sql.proofs.KindLemmas.{drop_ends_none}
-use Rattle.store_sql.specs.Transactions.{EndsNothing}
 
 -- ---- DROP
 
@@ -136,6 +134,3 @@ form_names Keyed Shown = refl
 form_names Shown Plain = refl
 form_names Shown Keyed = refl
 form_names Shown Shown = refl
-
-pub take_ends_none : EndsNothing entry_drop_text
-take_ends_none = drop_ends_none entry_drop_text read_drop old_entry reads_keyed

@@ -28,6 +28,3 @@ pub mod Callers
 pub mod NumberLemmas
 pub mod AddedLemmas
 pub mod TurnLemmas
-pub mod KindLemmas
-pub mod TransactionLemmas
-pub mod TransactionTexts

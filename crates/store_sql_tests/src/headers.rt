@@ -8,7 +8,6 @@ ghost use Rattle.store_sql.specs.Deletes.{HasToRemove};
 ghost use Rattle.store_edition_sql.specs.HeaderTable.{header};
 
 use crate::checks::{holds, same_text};
-use crate::opened::open;
 use crate::rest::rest;
 use crate::texts::told;
 use sqlite::{Alter, Connection, Error};
@@ -20,8 +19,9 @@ use store_edition_sql::{
     infos_numbered, insert_header, read_headers_by_rowid,
 };
 use store_records::HeaderRecord;
+use store_sql::commit::commit;
 use store_sql::records::ReadError;
-use store_sql::transaction::{OpenTransaction, begin, commit_open};
+use store_sql::transaction::OpenTransaction;
 use store_tables::{StoreTable, has_table, is_name_used, lacks_counting_table};
 
 const FIRST: &str =
@@ -31,16 +31,16 @@ const SECOND: &str =
     "StoredHeader { rowid: 4, value: HeaderRecord { number: 4, owner: \"ore\", title: \"\", info: \"of\\nores\" } }";
 
 // Makes the table where its name is free.
-fn make<S: Alter>(conn: &mut Connection<S>) -> Result<usize, Error>
+fn make<S: Alter>(conn: &mut Connection<S>) -> Result<(), Error>
     ensures { HasCleanDisk (state S.Store conn.new) → OnOk result (HasApartRowids (rows_of (header 0).name (state S.Store conn.new).now)) }
 {
-    open(conn)?;
     let schema = conn.schema();
-    if is_name_used(schema, b"edition") || lacks_counting_table(schema) {
+    if is_name_used(schema, b"edition") || lacks_counting_table(schema) || !conn.is_autocommit() {
         return Err(Error::InvalidQuery);
     }
-    create_header_table(conn)?;
-    commit_open(conn)
+    let mut tx = conn.transaction();
+    create_header_table(&mut tx)?;
+    commit(tx)
 }
 
 fn put<S: Alter, T: OpenTransaction<S>>(
@@ -79,9 +79,9 @@ fn change<S: Alter>(conn: &mut Connection<S>) -> Result<usize, Error>
     if !has_header_table(conn.schema()) || !conn.is_autocommit() {
         return Err(Error::InvalidQuery);
     }
-    begin(conn);
-    let taken = put_and_take(conn)?;
-    commit_open(conn)?;
+    let mut tx = conn.transaction();
+    let taken = put_and_take(&mut tx)?;
+    commit(tx)?;
     Ok(taken)
 }
 

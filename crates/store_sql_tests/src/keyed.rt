@@ -1,7 +1,6 @@
 //! The tables of schema 4 that have what is derived of headwords: recognised and dropped, the entries read row by row.
 
 use crate::checks::{holds, same_text};
-use crate::opened::open;
 use crate::rest::told_rest;
 use crate::texts::{compare_numbers, raw};
 use sqlite::{Alter, Connection, Error, Rows};
@@ -10,8 +9,8 @@ use std::process::Abort;
 use std::test::Fail;
 use store_older_sql::{drop_keyed_table, has_keyed_table, read_shown_by_rowid, read_shown_rows_of};
 use store_records::{KeyedEntry, StoredRow};
+use store_sql::commit::commit;
 use store_sql::records::ReadError;
-use store_sql::transaction::commit_open;
 use store_tables::{KeyedTable, is_name_used};
 
 // What `.dump` of stock `sqlite3` writes of these tables, with an index over the entries and a table of another's.
@@ -67,13 +66,13 @@ fn read<S: Alter>(
     told
 }
 
-fn drop_table<S: Alter>(conn: &mut Connection<S>, table: KeyedTable) -> Result<usize, Error> {
-    open(conn)?;
-    if !has_keyed_table(conn.schema(), table) {
+fn drop_table<S: Alter>(conn: &mut Connection<S>, table: KeyedTable) -> Result<(), Error> {
+    if !has_keyed_table(conn.schema(), table) || !conn.is_autocommit() {
         return Err(Error::InvalidQuery);
     }
-    drop_keyed_table(conn, table)?;
-    commit_open(conn)
+    let mut tx = conn.transaction();
+    drop_keyed_table(&mut tx, table)?;
+    commit(tx)
 }
 
 // Drops each table, whose name is free then.

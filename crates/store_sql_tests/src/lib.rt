@@ -18,7 +18,6 @@ mod old;
 #[cfg(test)]
 mod older;
 #[cfg(test)]
-mod opened;
 #[cfg(test)]
 mod parts;
 #[cfg(test)]

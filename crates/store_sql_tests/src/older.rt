@@ -1,15 +1,14 @@
 //! The tables `edition` and `entry` of schema 4, read inside a transaction, and the first of them dropped.
 
 use crate::checks::{holds, same_text};
-use crate::opened::open;
 use crate::texts::{raw, told};
 use sqlite::{Alter, Connection, Error};
 use std::alloc::Global;
 use std::process::Abort;
 use std::test::Fail;
 use store_older_sql::{drop_old_edition, editions_inside, has_keyed_table, shown_entries_inside};
+use store_sql::commit::commit;
 use store_sql::records::ReadError;
-use store_sql::transaction::{commit_open, roll_back};
 use store_tables::{KeyedTable, StoreTable, has_table, is_name_used};
 
 const EDITIONS: &str =
@@ -24,13 +23,11 @@ fn editions_of<S: Alter>(
     conn: &mut Connection<S>,
     number: i64,
 ) -> Result<String, ReadError> {
-    open(conn)?;
-    if !has_table(conn.schema(), StoreTable::Edition) {
+    if !has_table(conn.schema(), StoreTable::Edition) || !conn.is_autocommit() {
         return Err(ReadError::Store(Error::InvalidQuery));
     }
-    let found = told(alloc, editions_inside(alloc, conn, number));
-    roll_back(conn);
-    found
+    let mut tx = conn.transaction();
+    told(alloc, editions_inside(alloc, &mut tx, number))
 }
 
 fn entries_of<S: Alter>(
@@ -38,22 +35,20 @@ fn entries_of<S: Alter>(
     conn: &mut Connection<S>,
     edition: i64,
 ) -> Result<String, ReadError> {
-    open(conn)?;
-    if !has_keyed_table(conn.schema(), KeyedTable::Entry) {
+    if !has_keyed_table(conn.schema(), KeyedTable::Entry) || !conn.is_autocommit() {
         return Err(ReadError::Store(Error::InvalidQuery));
     }
-    let found = told(alloc, shown_entries_inside(alloc, conn, edition));
-    roll_back(conn);
-    found
+    let mut tx = conn.transaction();
+    told(alloc, shown_entries_inside(alloc, &mut tx, edition))
 }
 
-fn drop_editions<S: Alter>(conn: &mut Connection<S>) -> Result<usize, Error> {
-    open(conn)?;
-    if !has_table(conn.schema(), StoreTable::Edition) {
+fn drop_editions<S: Alter>(conn: &mut Connection<S>) -> Result<(), Error> {
+    if !has_table(conn.schema(), StoreTable::Edition) || !conn.is_autocommit() {
         return Err(Error::InvalidQuery);
     }
-    drop_old_edition(conn)?;
-    commit_open(conn)
+    let mut tx = conn.transaction();
+    drop_old_edition(&mut tx)?;
+    commit(tx)
 }
 
 /// An edition comes with its text, and its entries in the order of their places, whatever their keys are. Where the table of editions went its name is free.

@@ -8,7 +8,6 @@ ghost use Rattle.store_sql.specs.Deletes.{HasToRemove};
 ghost use Rattle.store_edition_sql.specs.PartTable.{part};
 
 use crate::checks::holds;
-use crate::opened::open;
 use reads::look;
 use sqlite::{Alter, Connection, Error};
 use std::alloc::Global;
@@ -17,22 +16,26 @@ use std::test::Fail;
 use store_edition_sql::{
     Part, create_part_table, delete_parts, delete_parts_from, has_part_table, insert_part,
 };
-use store_sql::transaction::{OpenTransaction, begin, commit_open};
+use store_sql::commit::commit;
+use store_sql::transaction::OpenTransaction;
 use store_tables::{is_name_used, lacks_counting_table};
 
 mod reads;
 
 // Makes the table where its name is free.
-fn make<S: Alter>(conn: &mut Connection<S>) -> Result<usize, Error>
+fn make<S: Alter>(conn: &mut Connection<S>) -> Result<(), Error>
     ensures { HasCleanDisk (state S.Store conn.new) → OnOk result (HasApartRowids (rows_of (part 0).name (state S.Store conn.new).now)) }
 {
-    open(conn)?;
     let schema = conn.schema();
-    if is_name_used(schema, b"dictcat_part") || lacks_counting_table(schema) {
+    if is_name_used(schema, b"dictcat_part")
+        || lacks_counting_table(schema)
+        || !conn.is_autocommit()
+    {
         return Err(Error::InvalidQuery);
     }
-    create_part_table(conn)?;
-    commit_open(conn)
+    let mut tx = conn.transaction();
+    create_part_table(&mut tx)?;
+    commit(tx)
 }
 
 fn put<S: Alter, T: OpenTransaction<S>>(
@@ -91,9 +94,9 @@ fn change<S: Alter>(conn: &mut Connection<S>) -> Result<usize, Error>
     if !has_part_table(conn.schema()) || !conn.is_autocommit() {
         return Err(Error::InvalidQuery);
     }
-    begin(conn);
-    let taken = put_and_take(conn)?;
-    commit_open(conn)?;
+    let mut tx = conn.transaction();
+    let taken = put_and_take(&mut tx)?;
+    commit(tx)?;
     Ok(taken)
 }
 

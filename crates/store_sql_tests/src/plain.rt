@@ -9,11 +9,10 @@ use std::process::Abort;
 use std::test::Fail;
 use store_tables::{StoreTable, has_table, is_name_used};
 
-mod left_open;
 mod reads;
 mod rows;
 
-/// Makes the tables, fills them and reads them. Their names aren't free a second time. A transaction is left open between calls.
+/// Makes the tables, fills them and reads them. Their names aren't free a second time.
 pub(crate) fn fill<S: Alter>(
     rt: &impl Abort,
     alloc: Global,
@@ -37,8 +36,7 @@ pub(crate) fn fill<S: Alter>(
          INSERT INTO entry VALUES (2, 0, '''ore''', 0, 9223372036854775807), (1, 1, 'opal', 1, 9223372036854775807), (1, 0, '', 0, 9223372036854775807); \
          INSERT INTO entry (rowid, edition, ord, headword, start, length) VALUES (9223372036854775807, 3, 0, 'zinc', 0, 0)",
     )?;
-    reads::look(rt, alloc, conn)?;
-    left_open::run(rt, conn)
+    reads::look(rt, alloc, conn)
 }
 
 // The rows of the other tables, and of two of the store's.

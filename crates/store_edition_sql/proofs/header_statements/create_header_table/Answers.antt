@@ -3,11 +3,8 @@ use Rattle.sqlite.specs.Held.{state}
 use Rattle.store_sql.proofs.StateLemmas.{stated, makes_aside}
 use Rattle.store_edition_sql.specs.HeaderTable.{header}
 use Rattle.store_edition_sql.specs.HeaderTexts.{header_create_text}
-use Rattle.store_edition_sql.proofs.HeaderTexts.{make_ends_none, makes_header, make_fails_in}
+use Rattle.store_edition_sql.proofs.HeaderTexts.{makes_header, make_fails_in}
 use Rattle.store_edition_sql.proofs.header_statements.create_header_table.Goals as goal
-
-pub execute-requires : goal.execute-requires
-execute-requires g c = make_ends_none
 
 pub returns : goal.returns
 returns g c =

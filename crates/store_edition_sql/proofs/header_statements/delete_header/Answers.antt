@@ -5,11 +5,8 @@ use Rattle.store_sql.specs.Effects.{equals_number}
 use Rattle.store_sql.proofs.StateLemmas.{stated, removes_aside}
 use Rattle.store_sql.proofs.NumberLemmas.{bound_int}
 use Rattle.store_edition_sql.specs.HeaderTexts.{header_delete_text}
-use Rattle.store_edition_sql.proofs.HeaderTexts.{delete_ends, removes_headers, headers_stay}
+use Rattle.store_edition_sql.proofs.HeaderTexts.{removes_headers, headers_stay}
 use Rattle.store_edition_sql.proofs.header_statements.delete_header.Goals as goal
-
-pub execute-requires : goal.execute-requires
-execute-requires g c = delete_ends
 
 pub returns : goal.returns
 returns g c =

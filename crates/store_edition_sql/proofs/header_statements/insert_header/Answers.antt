@@ -6,11 +6,8 @@ use Rattle.store_sql.proofs.NumberLemmas.{bound_int}
 use Rattle.store_sql.proofs.StateLemmas.{stated, adds_aside}
 use Rattle.store_edition_sql.specs.HeaderRecords.{header_row}
 use Rattle.store_edition_sql.specs.HeaderTexts.{header_insert_text}
-use Rattle.store_edition_sql.proofs.HeaderTexts.{add_ends_none, adds_header, header_fails}
+use Rattle.store_edition_sql.proofs.HeaderTexts.{adds_header, header_fails}
 use Rattle.store_edition_sql.proofs.header_statements.insert_header.Goals as goal
-
-pub execute-requires : goal.execute-requires
-execute-requires g c = add_ends_none
 
 pub returns : goal.returns
 returns g c =

@@ -3,11 +3,8 @@ use Rattle.sqlite.specs.Held.{state}
 use Rattle.store_sql.proofs.StateLemmas.{stated, makes_aside}
 use Rattle.store_edition_sql.specs.PartTable.{part}
 use Rattle.store_edition_sql.specs.PartTexts.{part_create_text}
-use Rattle.store_edition_sql.proofs.PartTexts.{make_ends_none, makes_part, make_fails_in}
+use Rattle.store_edition_sql.proofs.PartTexts.{makes_part, make_fails_in}
 use Rattle.store_edition_sql.proofs.part_statements.create_part_table.Goals as goal
-
-pub execute-requires : goal.execute-requires
-execute-requires g c = make_ends_none
 
 pub returns : goal.returns
 returns g c =

@@ -5,11 +5,8 @@ use Rattle.store_sql.proofs.StateLemmas.{stated, removes_aside}
 use Rattle.store_sql.proofs.NumberLemmas.{bound_int}
 use Rattle.store_sql.specs.Effects.{equals_number}
 use Rattle.store_edition_sql.specs.PartTexts.{part_delete_text}
-use Rattle.store_edition_sql.proofs.DeleteTexts.{delete_ends, removes_parts, parts_stay}
+use Rattle.store_edition_sql.proofs.DeleteTexts.{removes_parts, parts_stay}
 use Rattle.store_edition_sql.proofs.part_statements.delete_parts.Goals as goal
-
-pub execute-requires : goal.execute-requires
-execute-requires g c = delete_ends
 
 pub returns : goal.returns
 returns g c =

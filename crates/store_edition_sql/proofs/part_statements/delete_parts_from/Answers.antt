@@ -5,11 +5,8 @@ use Rattle.store_sql.proofs.StateLemmas.{stated, removes_aside}
 use Rattle.store_sql.proofs.NumberLemmas.{bound_int}
 use Rattle.store_edition_sql.specs.Chosen.{is_part_from}
 use Rattle.store_edition_sql.specs.PartTexts.{delete_from_text}
-use Rattle.store_edition_sql.proofs.DeleteTexts.{from_ends, removes_from, from_stay}
+use Rattle.store_edition_sql.proofs.DeleteTexts.{removes_from, from_stay}
 use Rattle.store_edition_sql.proofs.part_statements.delete_parts_from.Goals as goal
-
-pub execute-requires : goal.execute-requires
-execute-requires g c = from_ends
 
 pub returns : goal.returns
 returns g c =

@@ -5,11 +5,8 @@ use Rattle.store_sql.proofs.NumberLemmas.{bound_int}
 use Rattle.store_sql.proofs.StateLemmas.{stated, adds_aside}
 use Rattle.store_edition_sql.specs.PartRecords.{lent_part, part_row}
 use Rattle.store_edition_sql.specs.PartTexts.{part_insert_text}
-use Rattle.store_edition_sql.proofs.PartTexts.{add_ends_none, adds_part, part_fails}
+use Rattle.store_edition_sql.proofs.PartTexts.{adds_part, part_fails}
 use Rattle.store_edition_sql.proofs.part_statements.insert_part.Goals as goal
-
-pub execute-requires : goal.execute-requires
-execute-requires g c = add_ends_none
 
 pub returns : goal.returns
 returns g c =

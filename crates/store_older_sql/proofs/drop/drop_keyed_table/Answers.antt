@@ -3,11 +3,8 @@ use Rattle.sqlite.specs.Held.{state}
 use Rattle.store_sql.proofs.StateLemmas.{stated, drops_aside}
 use Rattle.store_tables.specs.Keyed.{keyed_table_of}
 use Rattle.store_older_sql.specs.Texts.{keyed_drop_text}
-use Rattle.store_older_sql.proofs.DropTexts.{take_ends_none, drops_table, drop_fails_in}
+use Rattle.store_older_sql.proofs.DropTexts.{drops_table, drop_fails_in}
 use Rattle.store_older_sql.proofs.drop.drop_keyed_table.Goals as goal
-
-pub execute-requires : goal.execute-requires
-execute-requires g c = rw c.text_of.ensures (take_ends_none c.args.table)
 
 pub returns : goal.returns
 returns g c =

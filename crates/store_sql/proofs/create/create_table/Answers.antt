@@ -4,11 +4,7 @@ use Rattle.store_tables.specs.Tables.{table_of}
 use Rattle.store_sql.specs.Creates.{create_text}
 use Rattle.store_sql.proofs.StateLemmas.{stated, makes_aside}
 use Rattle.store_sql.proofs.CreateLemmas.{make_fails_in, makes_table}
-use Rattle.store_sql.proofs.KindLemmas.{make_ends_none}
 use Rattle.store_sql.proofs.create.create_table.Goals as goal
-
-pub execute-requires : goal.execute-requires
-execute-requires g c = rw c.text_of.ensures (make_ends_none c.args.table)
 
 pub returns : goal.returns
 returns g c =

@@ -4,11 +4,7 @@ use Rattle.store_sql.proofs.StateLemmas.{stated, removes_aside}
 use Rattle.store_tables.specs.Tables.{table_of}
 use Rattle.store_sql.specs.Deletes.{clear_text}
 use Rattle.store_sql.proofs.DeleteTexts.{clear_fails, clears_rows}
-use Rattle.store_sql.proofs.KindLemmas.{clear_ends_none}
 use Rattle.store_sql.proofs.delete.clear_table.Goals as goal
-
-pub execute-requires : goal.execute-requires
-execute-requires g c = rw c.text_of.ensures (clear_ends_none c.args.table)
 
 pub returns : goal.returns
 returns g c =

@@ -4,11 +4,7 @@ use Rattle.store_tables.specs.Tables.{table_of}
 use Rattle.store_sql.specs.Drops.{drop_text}
 use Rattle.store_sql.proofs.StateLemmas.{stated, drops_aside}
 use Rattle.store_sql.proofs.DropLemmas.{drop_fails_in, drops_table}
-use Rattle.store_sql.proofs.KindLemmas.{take_ends_none}
 use Rattle.store_sql.proofs.drop.drop_table.Goals as goal
-
-pub execute-requires : goal.execute-requires
-execute-requires g c = rw c.text_of.ensures (take_ends_none c.args.table)
 
 pub returns : goal.returns
 returns g c =

@@ -6,12 +6,8 @@ use Rattle.store_sql.specs.Inserts.{insert_item}
 use Rattle.store_sql.specs.Encodings.{item_row}
 use Rattle.store_sql.proofs.NumberLemmas.{bound_int}
 use Rattle.store_sql.proofs.StateLemmas.{stated, adds_aside}
-use Rattle.store_sql.proofs.InsertTexts.{item_fails, adds_item, bound_number, bound_text, read_item, reads_item}
-use Rattle.store_sql.proofs.KindLemmas.{insert_ends_none}
+use Rattle.store_sql.proofs.InsertTexts.{item_fails, adds_item, bound_number, bound_text}
 use Rattle.store_sql.proofs.insert.insert_item.Goals as goal
-
-pub execute-requires : goal.execute-requires
-execute-requires g c = insert_ends_none insert_item read_item _ _ reads_item
 
 pub returns : goal.returns
 returns g c =

@@ -6,12 +6,8 @@ use Rattle.store_sql.specs.Inserts.{insert_kept}
 use Rattle.store_sql.specs.Encodings.{kept_row}
 use Rattle.store_sql.proofs.NumberLemmas.{bound_int}
 use Rattle.store_sql.proofs.StateLemmas.{stated, adds_aside}
-use Rattle.store_sql.proofs.InsertTexts.{kept_fails, adds_kept, bound_number, read_kept, reads_kept}
-use Rattle.store_sql.proofs.KindLemmas.{insert_ends_none}
+use Rattle.store_sql.proofs.InsertTexts.{kept_fails, adds_kept, bound_number}
 use Rattle.store_sql.proofs.insert.insert_kept.Goals as goal
-
-pub execute-requires : goal.execute-requires
-execute-requires g c = insert_ends_none insert_kept read_kept _ _ reads_kept
 
 pub returns : goal.returns
 returns g c =

@@ -6,12 +6,8 @@ use Rattle.store_sql.specs.Inserts.{insert_mark}
 use Rattle.store_sql.specs.Encodings.{mark_row}
 use Rattle.store_sql.proofs.NumberLemmas.{bound_int}
 use Rattle.store_sql.proofs.StateLemmas.{stated, adds_aside}
-use Rattle.store_sql.proofs.InsertTexts.{mark_fails, adds_mark, read_mark, reads_mark}
-use Rattle.store_sql.proofs.KindLemmas.{insert_ends_none}
+use Rattle.store_sql.proofs.InsertTexts.{mark_fails, adds_mark}
 use Rattle.store_sql.proofs.insert.insert_mark.Goals as goal
-
-pub execute-requires : goal.execute-requires
-execute-requires g c = insert_ends_none insert_mark read_mark _ _ reads_mark
 
 pub returns : goal.returns
 returns g c =

@@ -6,12 +6,8 @@ use Rattle.store_sql.specs.Inserts.{insert_member}
 use Rattle.store_sql.specs.Encodings.{member_row}
 use Rattle.store_sql.proofs.NumberLemmas.{bound_int}
 use Rattle.store_sql.proofs.StateLemmas.{stated, adds_aside}
-use Rattle.store_sql.proofs.InsertTexts.{member_fails, adds_member, read_member, reads_member}
-use Rattle.store_sql.proofs.KindLemmas.{insert_ends_none}
+use Rattle.store_sql.proofs.InsertTexts.{member_fails, adds_member}
 use Rattle.store_sql.proofs.insert.insert_member.Goals as goal
-
-pub execute-requires : goal.execute-requires
-execute-requires g c = insert_ends_none insert_member read_member _ _ reads_member
 
 pub returns : goal.returns
 returns g c =

@@ -1,6 +1,7 @@
-use Rattle.std.proofs.Common.{arith}
+use Rattle.std.proofs.Common.{◌≡◌, OnOk, arith, rules, subst, sym}
 use Rattle.sqlite.specs.State.{HasCleanDisk}
 use Rattle.sqlite.specs.Held.{state}
+use Rattle.store_sql.specs.Effects.{HasApartRowids, rows_of}
 use Rattle.store_sql_tests.proofs.CommitLemmas.{after_commit, apart_made}
 use Rattle.store_edition_sql.specs.PartTable.{part}
 use Rattle.store_sql_tests.proofs.parts.make.Goals as goal
@@ -8,5 +9,9 @@ use Rattle.store_sql_tests.proofs.parts.make.Goals as goal
 pub returns : goal.returns
 returns g c clean =
     let name = (part 0).name in
-    let late : HasCleanDisk (state g.S.Store c.create_part_table.new.tx) = omega (arith, c.commit_open.ensures.survives.clean, clean) in
-    after_commit name c.commit_open.result _ _ (c.commit_open.ensures.committed clean) (apart_made (part 0) _ _ (c.in_ok-create_part_table.ensures.made late).0)
+    let end = c.commit.new.tx.0 in
+    let same : end ≡ c.conn-2-1.given.0 = search rules in
+    let late : HasCleanDisk (state g.S.Store end) = subst (λ h. HasCleanDisk (state g.S.Store h)) (sym same) clean in
+    let early : HasCleanDisk (state g.S.Store c.create_part_table.new.tx.conn.now) = omega (arith, c.commit.ensures.survives.clean, late) in
+    subst (λ h. OnOk c.commit.result (HasApartRowids (rows_of name (state g.S.Store h).now))) same
+    (after_commit name c.commit.result _ _ (c.commit.ensures.committed late) (apart_made (part 0) _ _ (c.in_ok-create_part_table.ensures.made early).0))
