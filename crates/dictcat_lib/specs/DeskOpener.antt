@@ -12,7 +12,6 @@ use Rattle.dict_desk.specs.declared.fault.Fault.{Fault as DeskFault}
 use Rattle.dict_desk.specs.declared.fault.Fault.TheVariants as desk_faults
 use Rattle.store_desk.specs.Desk.{DeskState, KeepsBeside, Shows}
 use Rattle.store_desk.specs.Adopted.{IsAdopted}
-use Rattle.store_desk.specs.Prepared.{Undoes}
 use Rattle.store_desk.specs.Reopened.{IsIn, IsReopened}
 use Rattle.store_desk.specs.Unopened.{IsRejectedFrom, IsUnopened, IsUnreopened}
 use Rattle.store_desk.specs.declared.reopening.Unopened.{Unopened}
@@ -46,10 +45,10 @@ module _ {D : Type 0} {d : disk.Ghosts D} where
   TellsUnopened path (handed.Database conn) why fault = fault ≡ told_of why
 
   -- The file of a desk isn't opened again, as the program tells it: what is held was handed back, and the store's fault tells why; or no
-  -- random number was had, and the desk's connection is held, in which what was prepared of a change is undone.
+  -- random number was had, and the desk's connection is held.
   abbrev pub IsNoDeskAgain : List ℕ → DeskState (FileStore D d) → Option (Left D d) → ProgramFault → Type 0
   IsNoDeskAgain path desk (Some (left.Unopened rest)) fault = (why : DeskFault) × IsUnreopened desk rest why × TellsUnopened path rest why fault
-  IsNoDeskAgain path desk (Some (left.Kept conn)) fault = (HasCleanDisk (file_state conn) → Undoes over_files desk.conn conn) × IsToldUnreadable path fault
+  IsNoDeskAgain path desk (Some (left.Kept conn)) fault = (conn ≡ desk.conn) × IsToldUnreadable path fault
   IsNoDeskAgain path desk held fault = ⊥
 
 -- By the octets that the two files at the path hold as they are opened, which is done once: what stands for them is there until then.

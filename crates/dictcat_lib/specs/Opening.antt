@@ -20,7 +20,6 @@ use Rattle.dict_session.specs.declared.session.run.SessionFault.{SessionFault}
 use Rattle.dict_session.specs.declared.session.run.SessionFault.TheVariants as session_faults
 use Rattle.store_desk.specs.Desk.{DeskState, KeepsBeside, Shows, LeavesOneOf}
 use Rattle.store_desk.specs.Opened.{TellsOfDatabase, IsNotHeld}
-use Rattle.store_desk.specs.Prepared.{rested}
 use Rattle.store_desk.specs.Over.{HasRun, ConnectionKeepsBeside, ConnectionLeavesOneOf}
 use Rattle.app_words.specs.Faults.{told_of}
 use Rattle.app_words.specs.declared.fault.ProgramFault.{ProgramFault}
@@ -75,8 +74,8 @@ module _ {S : Type 0} (g : Ghosts S) where
   -- what is committed was read, and the fault, as the program tells it, is what that holds instead; or it couldn't be read, since its store failed or memory ran out
   abbrev pub IsUnsound : DeskState S → DeskState S → ProgramFault → Type 0
   IsUnsound old new fault =
-      (why : DeskFault) × (fault ≡ told_of why) × (HasCleanDisk (state g new.conn) → TellsOfDatabase (rested (state g old.conn)).now why × IsNotHeld (rested (state g old.conn)).now why
-      × (why ≡ Disk → HasFailedToRead (rested (state g old.conn)) (state g new.conn)))
+      (why : DeskFault) × (fault ≡ told_of why) × (HasCleanDisk (state g new.conn) → TellsOfDatabase (state g old.conn).committed why × IsNotHeld (state g old.conn).committed why
+      × (why ≡ Disk → HasFailedToRead (state g old.conn) (state g new.conn)))
 
   -- A session over the catalogue of an opened database ended so, and left this desk of it.
   pub record HasSpoken (conn : Held S) (desk : DeskState S) (end : Result SessionEnd SessionFault) (reader writer : StreamChange) : Type 0 where

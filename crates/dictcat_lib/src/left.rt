@@ -1,8 +1,5 @@
 // What is left of a file that is no longer served.
 ghost use Rattle.std.specs.Prelude.{◌≡◌, Some};
-ghost use Rattle.sqlite.specs.Files.{file_state, over_files};
-ghost use Rattle.sqlite.specs.State.{HasCleanDisk, Survives};
-ghost use Rattle.store_desk.specs.Prepared.{Undoes};
 
 use sqlite::{Connection, FileStore, Files};
 use sqlite_disk::Disk;
@@ -33,15 +30,11 @@ impl<D: Disk + Drop> Drop for Left<D> {
     }
 }
 
-// The connection of a desk, in which what was prepared is undone.
+// The connection of a desk.
 pub(crate) fn connection_of<D: Disk + Drop>(desk: Desk<FileStore<D>>) -> Connection<FileStore<D>>
-    ensures undone { HasCleanDisk (file_state result) → Undoes over_files desk.conn result }
-    ensures survives { Survives (file_state desk.conn) (file_state result) (λ _. ⊥) }
+    ensures { result ≡ desk.conn }
 {
-    match desk.into_connection() {
-        Ok(conn) => conn,
-        Err(conn) => conn,
-    }
+    desk.into_connection()
 }
 
 // Holds what is left of a file in place of what was held.

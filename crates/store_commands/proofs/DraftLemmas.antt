@@ -1,5 +1,5 @@
 -- What is known of an edition that was read of two files, and of its lines as they are stored.
-use Rattle.std.proofs.Common.{◌≡◌, ℕ, suc, ◌+◌, ◌≤◌, ◌<◌, List, [], ◌∷◌, ◌++◌, length, map, take, get_or, not, arith, refl, sym, ap, subst, ◌∙◌}
+use Rattle.std.proofs.Common.{◌≡◌, ℕ, suc, ◌+◌, ◌≤◌, ◌<◌, List, [], ◌∷◌, ◌++◌, length, map, take, get_or, not, arith, sym, ap, subst, ◌∙◌}
 use Rattle.std.specs.Prelude.{Option, Some, None, IfSome, IfNone, Result, Ok, Err, OnOk, slice_get, slice_index_or}
 use Rattle.std.specs.List.{AllByRecursion, AllZip}
 use Rattle.std.proofs.lemmas.List.{take_all, take_more}
@@ -86,9 +86,13 @@ pub each_some : {X : Type 0} (found : Option X) (P Q : X → Type 0) → ((x : X
 each_some None P Q f h = tt
 each_some (Some x) P Q f h = f x h
 
-pub none_by : {X P : Type 0} (found : Option X) → ((x : X) → found ≡ Some x → ⊥) → IfNone found P → P
-none_by None never h = h
-none_by (Some x) never h = absurd (never x refl)
+pub either_way : {X R : Type 0} (found : Option X) (P : X → Type 0) (Q : Type 0) → ((x : X) → P x → R) → (Q → R) → IfSome found P → IfNone found Q → R
+either_way None P Q some none h k = none k
+either_way (Some x) P Q some none h k = some x h
+
+pub both_none : {X : Type 0} (found : Option X) (P Q : Type 0) → IfNone found P → IfNone found Q → IfNone found (P × Q)
+both_none None P Q h k = (h, k)
+both_none (Some x) P Q h k = tt
 
 -- ---- no line is read, or a test fails
 

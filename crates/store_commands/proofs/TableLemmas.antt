@@ -3,6 +3,7 @@ use Rattle.std.proofs.Common.{◌≡◌, ◌≢◌, ◌⊎◌, inl, inr, ℕ, Li
 use Rattle.std.specs.List.{AllByRecursion}
 use Rattle.std.specs.List.Sorted.{IsPermutation}
 use Rattle.std.proofs.lemmas.Bool.{false≢true}
+use Rattle.std.proofs.lemmas.List.Sorted.{IsPermutation-trans}
 use Rattle.std.proofs.lemmas.Slice.Eq.{bytes_eq-Decides}
 use Rattle.sqlite.specs.Effect.{Database}
 use Rattle.sqlite.specs.Table.{Table}
@@ -264,6 +265,34 @@ module _ (db : Database) (all : AllTables) (it : HasRecords db all) where
             (
               record { rows = it.keeps.1.1.1.1.0.rows; apart = it.keeps.1.1.1.1.0.apart },
               (record { rows = it.keeps.1.1.1.1.1.0.rows; apart = it.keeps.1.1.1.1.1.0.apart }, tt),
+            ),
+          ),
+        ),
+      ),
+    );
+  }
+
+  -- nor which of the parts of the same rows
+  pub other_parts : (parts : List Part) → IsPermutation (map part_row parts) (map part_row all.parts) → HasRecords db (record all { parts = parts })
+  other_parts parts same = record {
+    own = it.own;
+    keeps = (
+      record { rows = it.keeps.0.rows; apart = it.keeps.0.apart },
+      (
+        record { rows = it.keeps.1.0.rows; apart = it.keeps.1.0.apart },
+        (
+          record { rows = it.keeps.1.1.0.rows; apart = it.keeps.1.1.0.apart },
+          (
+            record { rows = it.keeps.1.1.1.0.rows; apart = it.keeps.1.1.1.0.apart },
+            (
+              record { rows = it.keeps.1.1.1.1.0.rows; apart = it.keeps.1.1.1.1.0.apart },
+              (
+                record {
+                  rows = IsPermutation-trans (map part_row parts) (map part_row all.parts) (map (drop 1) (rows_of (codes "dictcat_part") db)) same parts_kept.rows;
+                  apart = it.keeps.1.1.1.1.1.0.apart;
+                },
+                tt,
+              ),
             ),
           ),
         ),

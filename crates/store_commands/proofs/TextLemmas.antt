@@ -1,5 +1,5 @@
 -- Which parts are of an edition, and of its text.
-use Rattle.std.proofs.Common.{◌≡◌, ◌≢◌, ℕ, zero, suc, ◌+◌, ◌&&◌, ◌||◌, ℤ, pos, Bool, true, false, cond, List, [], ◌∷◌, ◌++◌, map, take, drop, filter, not, codes, Some, None, refl, sym, ap, subst, ◌∙◌, append-nil}
+use Rattle.std.proofs.Common.{◌≡◌, ◌≢◌, ℕ, ◌+◌, ◌&&◌, ◌||◌, ℤ, pos, Bool, true, false, cond, List, [], ◌∷◌, ◌++◌, map, drop, filter, not, codes, Some, None, refl, sym, ap, subst, ◌∙◌, append-nil}
 use Rattle.std.specs.Prelude.{IfSome, IsPermutation, Option}
 use Rattle.std.specs.List.{AllByRecursion}
 use Rattle.std.proofs.lemmas.Bool.{false≢true, and_parts}
@@ -47,11 +47,6 @@ others_fail q number other asks apart (p ∷ ps) h = (fails (q p) refl, others_f
     fails : (b : Bool) → q p ≡ b → q p ≡ false
     fails true e = absurd (apart (sym (asks p e) ∙ h.0))
     fails false e = e
-
-pub front_fails : (q : Part → Bool) (k : ℕ) (ps : List Part) → AllByRecursion (λ (p : Part). q p ≡ false) ps → AllByRecursion (λ (p : Part). q p ≡ false) (take k ps)
-front_fails q zero ps h = tt
-front_fails q (suc k) [] h = tt
-front_fails q (suc k) (p ∷ ps) h = (h.0, front_fails q k ps h.1)
 
 -- ---- the parts of editions that stay
 

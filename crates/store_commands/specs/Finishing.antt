@@ -1,7 +1,7 @@
 -- The rest of a command whose edition was filed.
-use Rattle.std.specs.Prelude.{◌≡◌, ◌⊎◌, ◌≤◌, ℕ, List, ◌++◌, map, flat_map, true, false, IsTrue, IfErr, OnOk, OnErr, Result}
+use Rattle.std.specs.Prelude.{◌≡◌, ◌≤◌, ℕ, List, ◌++◌, map, flat_map, true, false, IsTrue, IfErr, OnOk, OnErr, Result}
 use Rattle.sqlite.specs.Effect.{Database}
-use Rattle.sqlite.specs.State.{State, HasCleanDisk, IsUnchanged, IsRolledBack, Survives}
+use Rattle.sqlite.specs.State.{State, HasCleanDisk, IsUnchanged, Survives}
 use Rattle.sqlite.specs.Held.{Held, state}
 use Rattle.sqlite_trees.specs.declared.store.Store.{Ghosts}
 use Rattle.store_sql.specs.Statements.{Statement}
@@ -11,21 +11,19 @@ use Rattle.dict_catalogue.specs.Commands.{Command, install}
 use Rattle.dict_catalogue.specs.Tests.{Holdings}
 use Rattle.dict_catalogue.specs.Steps.{Catalogue, summary_of, step}
 use Rattle.dict_desk.specs.Faults.{is_failure}
-use Rattle.store_holdings.specs.Faults.{fault_of}
 use Rattle.dict_desk.specs.declared.fault.Fault.{Fault}
 use Rattle.store_rows.specs.Versions.{known}
 use Rattle.store_rows.specs.After.{TableChange, installed_editions}
 use Rattle.store_holdings.specs.AllTables.{AllTables, all_after}
-use Rattle.store_holdings.specs.Holds.{Holds, IsLeftAs}
-use Rattle.store_holdings.specs.Writing.{FailsAtLast}
+use Rattle.store_holdings.specs.Holds.{Rests, IsLeftAs}
+use Rattle.store_holdings.specs.Writing.{FailsToEnd}
 use Rattle.store_commands.specs.KeptRecords.{HasRecords, SparesTablesOfOthers, KeepsTextRows}
 use Rattle.store_commands.specs.Changes.{IsInRange, with_mark, with_items, with_members, with_more_editions, without_editions, with_reply}
 use Rattle.store_commands.specs.Statements.{summary_anew, taking, adding_edition, replying}
 use Rattle.store_holdings.specs.Committed.{IsTreesOf}
-use Rattle.store_commands.specs.Answers.{Answers, has_written, summary_after, numbers_after, IsOfApply, IsOfShut, IsPlanned, HoldsAfter, FailsToApply}
+use Rattle.store_commands.specs.Answers.{Answers, HoldsBy, has_written, summary_after, numbers_after, IsOfApply, IsOfShut, IsPlanned, HoldsAfter}
 use Rattle.store_commands.specs.declared.applied.Applied.{Applied}
 use Rattle.store_commands.specs.Installs.{install_read}
-use Rattle.store_commands.specs.Filing.{rested, FailsInside}
 use Rattle.store_commands.specs.Installed.{HasInstalled}
 
 -- behind what was filed: the summary anew, the editions that go, the record of the edition, and the reply
@@ -41,18 +39,16 @@ finished change all =
     (with_more_editions (installed_editions change.edition)
     (without_editions change.gone (with_members change.summary.items (with_items change.summary.items (with_mark change.summary.installs all)))))
 
--- Whatever records were committed, those that the database keeps lack the rest of the change, and nothing else.
-abbrev pub AwaitsRest : TableChange → Database → Database → Type 0
-AwaitsRest change committed now =
-    (all : AllTables) → HasRecords committed all
-    → (seen : AllTables) × HasRecords now seen × SparesTablesOfOthers committed now × ((db : Database) → HasRecords db (finished change seen) → HasRecords db (all_after known change all))
+-- Whatever records the database keeps, the rest of the change makes of them what the whole makes, and nothing else.
+abbrev pub AwaitsRest : TableChange → Database → Type 0
+AwaitsRest change db = (all : AllTables) → HasRecords db all → (after : Database) → HasRecords after (finished change all) → HasRecords after (all_after known change all)
 
--- What a command under a lawful id does to a store, whatever an open transaction shows: over each catalogue with this summary that
--- was committed, what `Answers` says of what is committed then. What is committed alone tells which tables and numbers stay.
+-- What a command under a lawful id does to a store that shows what is committed: over each catalogue with this summary, what `Answers` says.
+-- What is committed alone tells which tables and numbers stay.
 pub record IsAppliedOver (summary : Holdings (List ℕ)) (id : List ℕ) (command : Command Edition) (old new : State) (result : Result Applied Fault) : Type 0 where
-  pub value : HasCleanDisk new → (M : Catalogue) → (IsTrue old.is_open → Holds known old.committed M) → summary_of M ≡ summary → Answers (rested new) M id (step M id command) result
+  pub value : HasCleanDisk new → (M : Catalogue) → Rests known old M → summary_of M ≡ summary → Answers new M id (step M id command) result
   pub spares : has_written result ≡ false → Survives old new (λ _. ⊥)
-  pub crash : Survives old new (λ trees. IsTrue old.is_open × ((M : Catalogue) → Holds known old.committed M → summary_of M ≡ summary → IsLeftAs known (step M id command).catalogue trees))
+  pub crash : Survives old new (λ trees. IsTrue old.is_open × ((M : Catalogue) → Rests known old M → summary_of M ≡ summary → IsLeftAs known (step M id command).catalogue trees))
   pub beside : Survives old new (λ trees. IsTrue old.is_open × IsTreesOf (SparesTablesOfOthers old.committed) trees)
   pub lives : HasCleanDisk new → IsTrue new.is_open → IsTrue old.is_open
   pub shut : HasCleanDisk new → old.is_open ≡ false → IsOfShut id result
@@ -62,41 +58,24 @@ pub record IsAppliedOver (summary : Holdings (List ℕ)) (id : List ℕ) (comman
   pub grows : summary.installs ≤ (summary_after summary result).installs
   pub kinds : IfErr result IsOfApply
   pub range : IsInRange (summary_after summary result)
-  pub ended : HasCleanDisk new → new.in_transaction ≡ false
+  pub holds : HoldsBy (summary_after summary result) new
+  pub ended : new.in_transaction ≡ false
 
 module _ {S : Type 0} (g : Ghosts S) where
   -- The rest of a command that was planned isn't made: one of its statements failed behind those before it, or the commit did.
   abbrev pub FailsToFinish : Holdings (List ℕ) → List ℕ → Command Edition → Held S → Held S → Fault → Type 0
   FailsToFinish summary id command old new fault =
-      (change : TableChange) × IsPlanned summary (rested (state g old)) id command change
-      × (FailsInside g fault_of (finishing known change) old new fault ⊎ FailsAtLast g (finishing known change) (HoldsAfter summary (rested (state g old)) id command) old new fault)
-
-  -- What was filed is undone: where a transaction was open it was rolled back, and where none was nothing has changed.
-  abbrev pub IsUndone : Held S → Held S → Type 0
-  IsUndone old new = ((old.in_transaction ≡ false) × (new ≡ old)) ⊎ IsRolledBack (state g old) (state g new)
-
-  -- Nothing was written: nothing has changed, or a lookup in an open transaction failed, and that was rolled back.
-  abbrev pub LooksOnly : Held S → Held S → Type 0
-  LooksOnly old new = (new ≡ old) ⊎ ((old.in_transaction ≡ true) × (IsUnchanged (state g old) (state g new) ⊎ IsRolledBack (state g old) (state g new)))
-
-  -- A command that is not refused fails where a transaction was open: what was filed is undone, and it fails anew.
-  abbrev pub FailsToApplyAnew : Holdings (List ℕ) → List ℕ → Command Edition → Held S → Held S → Fault → Type 0
-  FailsToApplyAnew summary id command old new fault =
-      (mid : Held S) × IsUndone old mid × Survives (state g old) (state g mid) (λ _. ⊥) × FailsToApply g summary id command mid new fault
+      (change : TableChange) × IsPlanned summary (state g old) id command change
+      × FailsToEnd g (finishing known change) (HoldsAfter summary (state g old) id command) old new fault
 
   -- A command whose edition was filed fails: behind a lookup the rest isn't made.
   abbrev pub FailsBehindFiled : Holdings (List ℕ) → List ℕ → Command Edition → Held S → Held S → Fault → Type 0
   FailsBehindFiled summary id command old new fault =
       (mid : Held S) × IsUnchanged (state g old) (state g mid) × Survives (state g old) (state g mid) (λ _. ⊥) × FailsToFinish summary id command mid new fault
 
-  -- A command over a filing fails that is not refused, in either way.
-  abbrev pub FailsToApplyFiled : Holdings (List ℕ) → List ℕ → Command Edition → Held S → Held S → Fault → Type 0
-  FailsToApplyFiled summary id command old new fault = FailsToApplyAnew summary id command old new fault ⊎ FailsBehindFiled summary id command old new fault
-
-  -- The install of what was read, under a name, was answered so, behind what was filed of it: as a command, of what is committed.
+  -- The install of what was read, under a name, was answered so, behind what was filed of it.
   pub record IsFinished (summary : Holdings (List ℕ)) (id name : List ℕ) (reading : ReadEdition) (old new : Held S) (result : Result Applied Fault) : Type 0 where
     pub lawful : is_request_id id ≡ true
-    pub inside : old.in_transaction ≡ true
     pub applied : IsAppliedOver summary id (install name (edition_of reading)) (state g old) (state g new) result
     pub failed : HasCleanDisk (state g new) → IfErr result (λ fault. is_failure fault ≡ true → FailsBehindFiled summary id (install name (edition_of reading)) old new fault)
     pub installed : HasCleanDisk (state g new) → IsTrue (state g new).is_open → HasInstalled (install_read name reading) result (state g new).committed

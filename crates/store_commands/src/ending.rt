@@ -1,7 +1,7 @@
-// An install whose edition is filed on a connection.
-ghost use Rattle.std.specs.Prelude.{◌≡◌, ◌⊎◌, ℕ, List, true, false, None, IsTrue, IfErr, IfNone, IfSome, OnErr, OnOk, string_bytes};
+// An install whose edition is filed.
+ghost use Rattle.std.specs.Prelude.{◌≡◌, ℕ, List, true, false, None, IsTrue, IfErr, IfNone, IfSome, OnErr, OnOk, string_bytes};
 ghost use Rattle.sqlite.specs.Effect.{IsDatabase};
-ghost use Rattle.sqlite.specs.State.{HasCleanDisk, IsUnchanged, KeepsCommit, Survives};
+ghost use Rattle.sqlite.specs.State.{HasCleanDisk, IsUnchanged, Survives};
 ghost use Rattle.sqlite.specs.Held.{state};
 ghost use Rattle.dict_text.specs.Names.{is_request_id};
 ghost use Rattle.store_sql.specs.Effects.{WhileOpen};
@@ -11,22 +11,21 @@ ghost use Rattle.dict_catalogue.specs.Commands.{install};
 ghost use Rattle.dict_catalogue.specs.Steps.{Catalogue, summary_of, kept_under, step};
 ghost use Rattle.dict_catalogue.specs.Views.{summary_shown, IsChange};
 ghost use Rattle.dict_desk.specs.Faults.{is_disk, is_failure};
-ghost use Rattle.store_holdings.specs.Faults.{fault_of};
 ghost use Rattle.store_rows.specs.Stored.{stored_index};
 ghost use Rattle.store_rows.specs.Versions.{known};
 ghost use Rattle.store_holdings.specs.AllTables.{all_after};
 ghost use Rattle.store_holdings.specs.Holds.{Rests};
-ghost use Rattle.store_holdings.specs.Writing.{FailsAtLast};
+ghost use Rattle.store_holdings.specs.Writing.{FailsToEnd};
 ghost use Rattle.store_commands.specs.KeptRecords.{IsUsable, TurnsRecords};
 ghost use Rattle.store_commands.specs.Changes.{change_by, installed_by, IsInRange, IsWritable};
 ghost use Rattle.store_holdings.specs.Committed.{IsCommitted, IsTreesOf};
-ghost use Rattle.store_commands.specs.Committed.{IsOfStore};
+ghost use Rattle.store_commands.specs.Committed.{IsOfStore, StaysCommitted};
 ghost use Rattle.store_commands.specs.Answers.{HoldsBy, Answers};
 ghost use Rattle.store_commands.specs.Installs.{IsReadInstall, install_read};
 ghost use Rattle.store_commands.specs.Installed.{HasInstalled};
 ghost use Rattle.store_commands.specs.Writes.{WroteStatements, FailsToWrite, CommitsNothing};
-ghost use Rattle.store_commands.specs.Filing.{IsOfEdition, IsUnderway, rested, FailsInside};
-ghost use Rattle.store_commands.specs.Finishing.{finishing, finished, AwaitsRest, IsFinished, IsAppliedOver, IsUndone, LooksOnly, FailsToFinish};
+ghost use Rattle.store_commands.specs.Filing.{IsOfEdition, IsFiledSoFar};
+ghost use Rattle.store_commands.specs.Finishing.{finishing, finished, AwaitsRest, IsFinished, IsAppliedOver, FailsToFinish};
 
 use crate::applied::Applied;
 use crate::editions::{add_record, take_editions};
@@ -43,7 +42,8 @@ use dict_text::is_request_id;
 use sqlite::{Alter, Connection, Error};
 use std::alloc::Global;
 use store_holdings::fault_of;
-use store_sql::transaction::{OpenTransaction, commit_open, roll_back};
+use store_sql::commit::commit;
+use store_sql::transaction::OpenTransaction;
 
 // Whether the change is under the filing's number.
 fn is_planned_so(filing: &Filing, change: &PlannedChange) -> bool
@@ -64,20 +64,19 @@ fn read_change<S: Alter>(
 ) -> Option<PlannedChange>
     requires read { IsReadEdition whole.now.came.items whole.now.filing.text.items reading.now }
     requires known { IsReadInstall whole.now }
-    requires underway { IsUnderway S.Store whole.now.filing conn.old }
-    requires holds { HoldsBy (summary_shown summary.now) (rested (state S.Store conn.old)) }
+    requires autocommit { conn.old.in_transaction ≡ false }
+    requires filed { IsFiledSoFar whole.now.filing (state S.Store conn.old) }
+    requires holds { HoldsBy (summary_shown summary.now) (state S.Store conn.old) }
     requires range { IsInRange (summary_shown summary.now) }
     ensures planned { IfSome result (λ change. IsChange (summary_shown summary.now) (install (string_bytes whole.now.name) reading.now.title) change × IsWritable change × IsInRange (summary_shown change.summary)) }
-    ensures opened { IfSome result (λ _. conn.old.in_transaction ≡ true) }
-    ensures inside { IfSome result (λ _. HasCleanDisk (state S.Store conn.new) → conn.new.in_transaction ≡ true) }
+    ensures autocommit { conn.new.in_transaction ≡ false }
     ensures same { IfSome result (λ _. HasCleanDisk (state S.Store conn.new) → IsUnchanged (state S.Store conn.old) (state S.Store conn.new)) }
-    ensures awaits { IfSome result (λ change. HasCleanDisk (state S.Store conn.new) → IsTrue (state S.Store conn.new).is_open → AwaitsRest (change_by id.now (install_read (string_bytes whole.now.name) reading.now) change) (state S.Store conn.new).committed (state S.Store conn.new).now) }
-    ensures left { HasCleanDisk (state S.Store conn.new) → IfNone result (LooksOnly S.Store conn.old conn.new) }
-    ensures free { IfSome result (λ _. HasCleanDisk (state S.Store conn.new) → (M : Catalogue) → Rests known (rested (state S.Store conn.new)) M → kept_under M.kept id.now ≡ None) }
-    ensures keeps { HasCleanDisk (state S.Store conn.new) → KeepsCommit (state S.Store conn.old) (state S.Store conn.new) }
+    ensures awaits { IfSome result (λ change. HasCleanDisk (state S.Store conn.new) → IsTrue (state S.Store conn.new).is_open → AwaitsRest (change_by id.now (install_read (string_bytes whole.now.name) reading.now) change) (state S.Store conn.new).now) }
+    ensures left { HasCleanDisk (state S.Store conn.new) → IfNone result (StaysCommitted (state S.Store conn.old) (state S.Store conn.new)) }
+    ensures free { IfSome result (λ _. HasCleanDisk (state S.Store conn.new) → (M : Catalogue) → Rests known (state S.Store conn.new) M → kept_under M.kept id.now ≡ None) }
     ensures survives { Survives (state S.Store conn.old) (state S.Store conn.new) (λ _. ⊥) }
 {
-    if conn.is_autocommit() || !whole.filing.is_whole() {
+    if !whole.filing.is_whole() {
         return None;
     }
     let Some(change) = decide_install(alloc, summary, whole.name.as_str(), reading.title()) else {
@@ -124,7 +123,7 @@ fn write_read<S: Alter, T: OpenTransaction<S>>(
     Ok(())
 }
 
-// Makes the rest of a planned install, and commits it with what was filed.
+// Makes the rest of a planned install by one commit.
 fn commit_read<S: Alter>(
     conn: &mut Connection<S>,
     id: &str,
@@ -133,24 +132,24 @@ fn commit_read<S: Alter>(
     change: &PlannedChange,
 ) -> Result<(), Fault>
     requires writable { IsWritable change.now }
-    requires inside { HasCleanDisk (state S.Store conn.old) → conn.old.in_transaction ≡ true }
-    requires awaits { HasCleanDisk (state S.Store conn.old) → IsTrue (state S.Store conn.old).is_open → AwaitsRest (change_by id.now (install_read name.now reading.now) change.now) (state S.Store conn.old).committed (state S.Store conn.old).now }
-    requires usable { WhileOpen (rested (state S.Store conn.old)) IsUsable }
-    ensures made { HasCleanDisk (state S.Store conn.new) → OnOk result (IsCommitted (TurnsRecords (all_after known (change_by id.now (install_read name.now reading.now) change.now)) (state S.Store conn.old).committed) (state S.Store conn.new)) }
-    ensures keeps { HasCleanDisk (state S.Store conn.new) → OnErr result (KeepsCommit (state S.Store conn.old) (state S.Store conn.new)) }
+    requires autocommit { conn.old.in_transaction ≡ false }
+    requires awaits { HasCleanDisk (state S.Store conn.old) → IsTrue (state S.Store conn.old).is_open → AwaitsRest (change_by id.now (install_read name.now reading.now) change.now) (state S.Store conn.old).now }
+    requires usable { WhileOpen (state S.Store conn.old) IsUsable }
+    ensures made { HasCleanDisk (state S.Store conn.new) → OnOk result (IsCommitted (TurnsRecords (all_after known (change_by id.now (install_read name.now reading.now) change.now)) (state S.Store conn.old).now) (state S.Store conn.new)) }
+    ensures stays { HasCleanDisk (state S.Store conn.new) → OnErr result (StaysCommitted (state S.Store conn.old) (state S.Store conn.new)) }
     ensures lives { HasCleanDisk (state S.Store conn.new) → IsTrue (state S.Store conn.new).is_open → IsTrue (state S.Store conn.old).is_open }
     ensures adds_none { IfErr result (λ fault. is_disk fault ≡ false → Survives (state S.Store conn.old) (state S.Store conn.new) (λ _. ⊥)) }
-    ensures failed { HasCleanDisk (state S.Store conn.new) → IfErr result (λ fault. FailsInside S.Store fault_of (finishing known (change_by id.now (install_read name.now reading.now) change.now)) conn.old conn.new fault ⊎ FailsAtLast S.Store (finishing known (change_by id.now (install_read name.now reading.now) change.now)) (TurnsRecords (all_after known (change_by id.now (install_read name.now reading.now) change.now)) (state S.Store conn.old).committed) conn.old conn.new fault) }
+    ensures failed { HasCleanDisk (state S.Store conn.new) → IfErr result (FailsToEnd S.Store (finishing known (change_by id.now (install_read name.now reading.now) change.now)) (TurnsRecords (all_after known (change_by id.now (install_read name.now reading.now) change.now)) (state S.Store conn.old).now) conn.old conn.new) }
     ensures kinds { IfErr result IsOfStore }
-    ensures ended { HasCleanDisk (state S.Store conn.new) → conn.new.in_transaction ≡ false }
-    ensures crash { Survives (state S.Store conn.old) (state S.Store conn.new) (λ trees. IsTrue (state S.Store conn.old).is_open × IsTreesOf (TurnsRecords (all_after known (change_by id.now (install_read name.now reading.now) change.now)) (state S.Store conn.old).committed) trees) }
+    ensures autocommit { (state S.Store conn.new).in_transaction ≡ false }
+    ensures crash { Survives (state S.Store conn.old) (state S.Store conn.new) (λ trees. IsTrue (state S.Store conn.old).is_open × IsTreesOf (TurnsRecords (all_after known (change_by id.now (install_read name.now reading.now) change.now)) (state S.Store conn.old).now) trees) }
 {
-    if let Err(error) = write_read(conn, id, name, reading, change) {
-        roll_back(conn);
+    let mut tx = conn.transaction();
+    if let Err(error) = write_read(&mut tx, id, name, reading, change) {
         return Err(fault_of(error));
     }
-    match commit_open(conn) {
-        Ok(_) => Ok(()),
+    match commit(tx) {
+        Ok(()) => Ok(()),
         Err(_) => Err(Fault::Disk),
     }
 }
@@ -166,11 +165,11 @@ fn apply_planned<S: Alter>(
 ) -> Result<Applied, Fault>
     requires id { is_request_id id.now ≡ true }
     requires read { IsRead reading.now }
-    requires inside { HasCleanDisk (state S.Store conn.old) → conn.old.in_transaction ≡ true }
+    requires autocommit { conn.old.in_transaction ≡ false }
     requires planned { IsChange (summary_shown summary.now) (install name.now reading.now.title) change × IsWritable change × IsInRange (summary_shown change.summary) }
-    requires awaits { HasCleanDisk (state S.Store conn.old) → IsTrue (state S.Store conn.old).is_open → AwaitsRest (change_by id.now (install_read name.now reading.now) change) (state S.Store conn.old).committed (state S.Store conn.old).now }
-    requires free { HasCleanDisk (state S.Store conn.old) → (M : Catalogue) → Rests known (rested (state S.Store conn.old)) M → kept_under M.kept id.now ≡ None }
-    requires holds { HoldsBy (summary_shown summary.now) (rested (state S.Store conn.old)) }
+    requires awaits { HasCleanDisk (state S.Store conn.old) → IsTrue (state S.Store conn.old).is_open → AwaitsRest (change_by id.now (install_read name.now reading.now) change) (state S.Store conn.old).now }
+    requires free { HasCleanDisk (state S.Store conn.old) → (M : Catalogue) → Rests known (state S.Store conn.old) M → kept_under M.kept id.now ≡ None }
+    requires holds { HoldsBy (summary_shown summary.now) (state S.Store conn.old) }
     requires range { IsInRange (summary_shown summary.now) }
     ensures applied { IsAppliedOver (summary_shown summary.now) id.now (install name.now (edition_of reading.now)) (state S.Store conn.old) (state S.Store conn.new) result }
     ensures failed { HasCleanDisk (state S.Store conn.new) → IfErr result (λ fault. is_failure fault ≡ true → FailsToFinish S.Store (summary_shown summary.now) id.now (install name.now (edition_of reading.now)) conn.old conn.new fault) }
@@ -202,11 +201,13 @@ fn apply_reading<S: Alter>(
     requires id { is_request_id id.now ≡ true }
     requires read { IsReadEdition whole.now.came.items whole.now.filing.text.items reading.now }
     requires known { IsReadInstall whole.now }
-    requires underway { IsUnderway S.Store whole.now.filing conn.old }
-    requires holds { HoldsBy (summary_shown summary.now) (rested (state S.Store conn.old)) }
+    requires autocommit { conn.old.in_transaction ≡ false }
+    requires filed { IsFiledSoFar whole.now.filing (state S.Store conn.old) }
+    requires holds { HoldsBy (summary_shown summary.now) (state S.Store conn.old) }
     requires range { IsInRange (summary_shown summary.now) }
     ensures finished { IfSome result (IsFinished S.Store (summary_shown summary.now) id.now (string_bytes whole.now.name) reading.now conn.old conn.new) }
-    ensures left { HasCleanDisk (state S.Store conn.new) → IfNone result (LooksOnly S.Store conn.old conn.new) }
+    ensures left { HasCleanDisk (state S.Store conn.new) → IfNone result (StaysCommitted (state S.Store conn.old) (state S.Store conn.new)) }
+    ensures ended { conn.new.in_transaction ≡ false }
     ensures survives { IfNone result (Survives (state S.Store conn.old) (state S.Store conn.new) (λ _. ⊥)) }
 {
     let Some(change) = read_change(alloc, conn, summary, id, whole, reading) else {
@@ -225,11 +226,13 @@ fn apply_files<S: Alter>(
     whole: &ReadInstall,
 ) -> Option<Result<Applied, Fault>>
     requires known { IsReadInstall whole.now }
-    requires underway { IsUnderway S.Store whole.now.filing conn.old }
-    requires holds { HoldsBy (summary_shown summary.now) (rested (state S.Store conn.old)) }
+    requires autocommit { conn.old.in_transaction ≡ false }
+    requires filed { IsFiledSoFar whole.now.filing (state S.Store conn.old) }
+    requires holds { HoldsBy (summary_shown summary.now) (state S.Store conn.old) }
     requires range { IsInRange (summary_shown summary.now) }
     ensures finished { IfSome result (λ outcome. (reading : ReadEdition) × IsReadEdition whole.now.came.items whole.now.filing.text.items reading × IsFinished S.Store (summary_shown summary.now) id.now (string_bytes whole.now.name) reading conn.old conn.new outcome) }
-    ensures left { HasCleanDisk (state S.Store conn.new) → IfNone result (LooksOnly S.Store conn.old conn.new) }
+    ensures left { HasCleanDisk (state S.Store conn.new) → IfNone result (StaysCommitted (state S.Store conn.old) (state S.Store conn.new)) }
+    ensures ended { conn.new.in_transaction ≡ false }
     ensures survives { IfNone result (Survives (state S.Store conn.old) (state S.Store conn.new) (λ _. ⊥)) }
 {
     if !is_request_id(id) {
@@ -241,13 +244,12 @@ fn apply_files<S: Alter>(
     apply_reading(alloc, conn, summary, id, whole, &reading)
 }
 
-/// Applies an install whose edition was read and filed, over the connection on which it is filed, and by the id of the request: the rest of
-/// the command is written, and committed with what was filed. No line is read again.
+/// Applies an install whose edition was read and filed by the id of the request: the rest of the command is written, and committed. No line is
+/// read again, and no part is written.
 ///
-/// The answer is that of `apply` where the one edition that its files say is installed under its name; what is said of `apply` holds of what is
-/// committed, before and after. None, and what was filed is undone: not all of it is filed; another number is next; the summary refuses the
-/// install, a reply is kept under the id, or that is unlawful; or there is no memory. The command may then be applied as if nothing had been
-/// filed. No transaction is open then.
+/// The answer is that of `apply` where the one edition that its files say is installed under its name. None, and nothing was written: not all of
+/// it is filed; another number is next; the summary refuses the install, a reply is kept under the id, or that is unlawful; or there is no memory,
+/// or the store failed at a look. The command may then be applied as if nothing had been filed. No transaction is open then.
 pub fn apply_read<S: Alter>(
     alloc: Global,
     conn: &mut Connection<S>,
@@ -256,23 +258,18 @@ pub fn apply_read<S: Alter>(
     whole: &ReadInstall,
 ) -> Option<Result<Applied, Fault>>
     requires known { IsReadInstall whole.now }
-    requires underway { IsUnderway S.Store whole.now.filing conn.old }
-    requires holds { HoldsBy (summary_shown summary.now) (rested (state S.Store conn.old)) }
+    requires autocommit { conn.old.in_transaction ≡ false }
+    requires filed { IsFiledSoFar whole.now.filing (state S.Store conn.old) }
+    requires holds { HoldsBy (summary_shown summary.now) (state S.Store conn.old) }
     requires range { IsInRange (summary_shown summary.now) }
     ensures finished { IfSome result (λ outcome. (reading : ReadEdition) × IsReadEdition whole.now.came.items whole.now.filing.text.items reading × IsFinished S.Store (summary_shown summary.now) id.now (string_bytes whole.now.name) reading conn.old conn.new outcome) }
-    ensures value { HasCleanDisk (state S.Store conn.new) → (M : Catalogue) → Rests known (rested (state S.Store conn.old)) M → summary_of M ≡ summary_shown summary.now
-        → IfSome result (λ outcome. (reading : ReadEdition) → IsReadEdition whole.now.came.items whole.now.filing.text.items reading → Answers (rested (state S.Store conn.new)) M id.now (step M id.now (install (string_bytes whole.now.name) (edition_of reading))) outcome) }
-    ensures undone { HasCleanDisk (state S.Store conn.new) → IfNone result (IsUndone S.Store conn.old conn.new) }
-    ensures ended { HasCleanDisk (state S.Store conn.new) → conn.new.in_transaction ≡ false }
+    ensures value { HasCleanDisk (state S.Store conn.new) → (M : Catalogue) → Rests known (state S.Store conn.old) M → summary_of M ≡ summary_shown summary.now
+        → IfSome result (λ outcome. (reading : ReadEdition) → IsReadEdition whole.now.came.items whole.now.filing.text.items reading → Answers (state S.Store conn.new) M id.now (step M id.now (install (string_bytes whole.now.name) (edition_of reading))) outcome) }
+    ensures stays { HasCleanDisk (state S.Store conn.new) → IfNone result (StaysCommitted (state S.Store conn.old) (state S.Store conn.new)) }
+    ensures ended { conn.new.in_transaction ≡ false }
     ensures settled { HasCleanDisk (state S.Store conn.new) → IsTrue (state S.Store conn.new).is_open → (state S.Store conn.new).now ≡ (state S.Store conn.new).committed }
     ensures survives { IfNone result (Survives (state S.Store conn.old) (state S.Store conn.new) (λ _. ⊥)) }
 {
     one_meaning();
-    let Some(outcome) = apply_files(alloc, conn, summary, id, whole) else {
-        roll_back(conn);
-        conn.is_autocommit();
-        return None;
-    };
-    conn.is_autocommit();
-    Some(outcome)
+    apply_files(alloc, conn, summary, id, whole)
 }

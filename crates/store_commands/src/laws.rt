@@ -12,10 +12,8 @@ ghost use Rattle.store_rows.specs.After.{TableChange, IsTableChange};
 ghost use Rattle.store_rows.specs.Versions.{known};
 ghost use Rattle.store_holdings.specs.AllTables.{all_after};
 ghost use Rattle.store_holdings.specs.Holds.{Holds};
-ghost use Rattle.store_commands.specs.KeptRecords.{IsUsable, TurnsRecords};
+ghost use Rattle.store_commands.specs.KeptRecords.{TurnsRecords};
 ghost use Rattle.store_commands.specs.Changes.{IsInRange};
-ghost use Rattle.store_commands.specs.Filing.{IsAhead, ShowsStill};
-ghost use Rattle.store_commands.specs.declared.filing.Filing.{Filing};
 
 /// The summary of a well formed catalogue has its editions' numbers in range, so commands can be applied over it.
 ///
@@ -31,11 +29,4 @@ pub fn summaries_in_range()
 pub fn command_holds()
     ensures { (change : TableChange) (M : Catalogue) (id : List ℕ) (command : Command Edition) (old new : Database) → TurnsRecords (all_after known change) old new → Holds known old M → IsLawfulCommand command → IsTrue (is_request_id id) → kept_under M.kept id ≡ None → refusal_of (holdings M) command ≡ None
         → IsTableChange M id command change → Holds known new (with_effect M id command) }
-{}
-
-/// While an edition is filed, each edition but that one has the record and the parts that it had, and the same replies are kept.
-///
-/// It does nothing. Its clause is the law.
-pub fn shows_still()
-    ensures { (f : Filing) (committed now : Database) → IsUsable committed → IsAhead f committed now → ShowsStill f committed now }
 {}

@@ -1,16 +1,20 @@
-// One bounded part of a filing, in a transaction that stays open when it is done.
-ghost use Rattle.std.specs.Prelude.{◌≡◌, ◌≢◌, ◌+◌, ◌≤◌, ◌<◌, true, false, IsTrue, Some, IfErr, IfOk, IfSome, OnErr, OnOk, length};
+// One bounded part of a filing, filed by one commit.
+ghost use Rattle.std.specs.Prelude.{◌≡◌, ◌≢◌, ◌+◌, ◌≤◌, ◌<◌, ℕ, List, true, false, IsTrue, Some, IfErr, IfOk, IfSome, OnErr, OnOk, length};
 ghost use Rattle.sqlite.specs.Disk.{MoreFaults};
-ghost use Rattle.sqlite.specs.State.{HasCleanDisk, KeepsCommit, Survives, is_disk_error};
+ghost use Rattle.sqlite.specs.Effect.{IsDatabase};
+ghost use Rattle.sqlite.specs.State.{HasCleanDisk, Survives, is_disk_error};
 ghost use Rattle.sqlite.specs.Held.{state};
 ghost use Rattle.store_sql.specs.Effects.{WhileOpen};
+ghost use Rattle.store_sql.specs.Statements.{Statement};
 ghost use Rattle.dict_catalogue.specs.Views.{summary_shown};
-ghost use Rattle.store_commands.specs.KeptRecords.{IsUsable, FitsColumn};
-ghost use Rattle.store_commands.specs.Committed.{IsOfStore};
-ghost use Rattle.store_commands.specs.Writes.{CommitsNothing, FailsToWrite};
-ghost use Rattle.store_commands.specs.Filing.{parts_of_files, parts_of_filing, IsDrawnUp, AreAllPartsFiled, HasNoneFiled, HasSameRows, rested, IsUnderway, fault_filed, FailsToFile, AreOfNextPart, AreOfSomePart};
-ghost use Rattle.store_commands.specs.FiledParts.{Files, HasBegun, FailsAmong};
-ghost use Rattle.store_commands.specs.Statements.{taking_parts, last_parts};
+ghost use Rattle.store_holdings.specs.Committed.{IsCommitted, IsTreesOf};
+ghost use Rattle.store_commands.specs.KeptRecords.{IsUsable};
+ghost use Rattle.store_commands.specs.Answers.{HoldsBy};
+ghost use Rattle.store_commands.specs.Committed.{IsOfStore, StaysCommitted};
+ghost use Rattle.store_commands.specs.Marking.{Remains, FailsToCommitRun};
+ghost use Rattle.store_commands.specs.Filing.{parts_of_files, parts_of_filing, IsDrawnUp, AreAllPartsFiled, HasSameRows, IsFiledSoFar, fault_filed, AreOfSomePart};
+ghost use Rattle.store_commands.specs.FiledParts.{FailsAmong, FailsToFile, FilesUpTo, WritesUpTo};
+ghost use Rattle.store_commands.specs.Writes.{CommitsNothing};
 
 use crate::editions::{LAST_PARTS, take_parts};
 use crate::files::{EditionFiles, add_parts};
@@ -18,7 +22,8 @@ use crate::filing::Filing;
 use dict_catalogue::Summary;
 use dict_desk::Fault;
 use sqlite::{Alter, Connection, Error, ErrorCode};
-use store_sql::transaction::{OpenTransaction, begin, roll_back};
+use store_sql::commit::commit;
+use store_sql::transaction::OpenTransaction;
 
 // So many parts are filed at a time: 1 MiB.
 const PARTS: usize = 64;
@@ -26,44 +31,13 @@ const PARTS: usize = 64;
 // How many are filed behind the next part, of so many, of which some are.
 fn part_end(filed: usize, all: usize) -> usize
     requires { filed ≤ all }
-    ensures { (filed ≤ result) × (result ≤ all) }
+    ensures within { (filed ≤ result) × (result ≤ all) }
+    ensures more { filed < all → filed < result }
 {
     if all - filed <= PARTS {
         return all;
     }
     filed + PARTS
-}
-
-// Files the next parts. It answers how many are filed then.
-fn file_parts<S: Alter, T: OpenTransaction<S>>(tx: &mut T, filing: &Filing) -> Result<usize, Error>
-    requires number { FitsColumn filing.now.number }
-    requires some { filing.now.parts_filed < length (parts_of_filing filing.now) }
-    requires usable { WhileOpen (state S.Store (T.held tx.old)) IsUsable }
-    ensures same_reference { T.reference tx.new ≡ T.reference tx.old }
-    ensures files { IfOk result (λ to. Files S.Store filing.now (record filing.now { parts_filed = to }) (T.held tx.old) (T.held tx.new)) }
-    ensures failed { IfErr result (FailsAmong S.Store (AreOfNextPart filing.now) (T.held tx.old) (T.held tx.new)) }
-    ensures spares { CommitsNothing S.Store (T.held tx.old) (T.held tx.new) }
-{
-    let files = filing.files();
-    let to = part_end(filing.parts_filed, files.part_count());
-    add_parts(tx, &files, filing.parts_filed, to)?;
-    Ok(to)
-}
-
-// Files the next parts, where not all are filed.
-fn next_part<S: Alter, T: OpenTransaction<S>>(tx: &mut T, filing: &mut Filing) -> Result<(), Error>
-    requires drawn { IsDrawnUp filing.old }
-    requires usable { WhileOpen (state S.Store (T.held tx.old)) IsUsable }
-    ensures same_reference { T.reference tx.new ≡ T.reference tx.old }
-    ensures rows { HasSameRows filing.old filing.new }
-    ensures files { OnOk result (Files S.Store filing.old filing.new (T.held tx.old) (T.held tx.new)) }
-    ensures failed { IfErr result (FailsAmong S.Store (AreOfNextPart filing.old) (T.held tx.old) (T.held tx.new)) }
-    ensures spares { CommitsNothing S.Store (T.held tx.old) (T.held tx.new) }
-{
-    if !filing.is_whole() {
-        filing.parts_filed = file_parts(tx, filing)?;
-    }
-    Ok(())
 }
 
 impl Filing {
@@ -80,64 +54,12 @@ impl Filing {
     }
 
     /// Whether all parts are filed.
-    pub(crate) fn is_whole(&self) -> bool
+    pub fn is_whole(&self) -> bool
         ensures whole { IsTrue result → AreAllPartsFiled self.now }
-        ensures some { result ≡ false → self.now.parts_filed < length (parts_of_filing self.now) }
+        ensures rest { result ≡ false → self.now.is_begun ≡ true → self.now.parts_filed < length (parts_of_filing self.now) }
     {
-        self.files().part_count() <= self.parts_filed
+        self.is_begun && self.files().part_count() <= self.parts_filed
     }
-
-    // Nothing is filed.
-    fn restart(&mut self)
-        ensures rows { HasSameRows self.old self.new }
-        ensures none { HasNoneFiled self.new }
-    {
-        self.parts_filed = 0;
-    }
-}
-
-// Begins a transaction where none is open, and takes out what parts stand under the number of the filing, of no edition; none of its own
-// is filed then.
-fn begin_filing<S: Alter>(conn: &mut Connection<S>, filing: &mut Filing) -> Result<(), Error>
-    requires drawn { IsDrawnUp filing.old }
-    requires usable { WhileOpen (rested (state S.Store conn.old)) IsUsable }
-    requires underway { IsUnderway S.Store filing.old conn.old }
-    ensures rows { HasSameRows filing.old filing.new }
-    ensures begun { OnOk result (HasBegun S.Store filing.old filing.new conn.old conn.new) }
-    ensures underway { OnOk result (IsUnderway S.Store filing.new conn.new) }
-    ensures usable { OnOk result (WhileOpen (state S.Store conn.new) IsUsable) }
-    ensures failed { IfErr result (FailsToWrite S.Store (taking_parts filing.old.number last_parts) (record conn.old { in_transaction = true }) conn.new) }
-    ensures spares { CommitsNothing S.Store conn.old conn.new }
-{
-    if !conn.is_autocommit() {
-        return Ok(());
-    }
-    filing.restart();
-    begin(conn);
-    take_parts(conn, filing.number, LAST_PARTS)
-}
-
-// Begins a transaction where none is open, and files the next parts.
-fn file_next<S: Alter>(conn: &mut Connection<S>, filing: &mut Filing) -> Result<(), Error>
-    requires drawn { IsDrawnUp filing.old }
-    requires usable { WhileOpen (rested (state S.Store conn.old)) IsUsable }
-    requires underway { IsUnderway S.Store filing.old conn.old }
-    ensures rows { HasSameRows filing.old filing.new }
-    ensures underway { OnOk result (IsUnderway S.Store filing.new conn.new) }
-    ensures inside { HasCleanDisk (state S.Store conn.new) → OnOk result (conn.new.in_transaction ≡ true) }
-    ensures failed { IfErr result (FailsAmong S.Store (AreOfSomePart filing.old) (record conn.old { in_transaction = true }) conn.new) }
-    ensures spares { CommitsNothing S.Store conn.old conn.new }
-{
-    begin_filing(conn, filing)?;
-    next_part(conn, filing)
-}
-
-// Whether another number than this is the one that the next edition gets.
-fn is_other_number(summary: &Summary, number: u64) -> bool
-    ensures other { IsTrue result → number ≢ (summary_shown summary.now).installs + 1 }
-    ensures next { result ≡ false → number ≡ (summary_shown summary.now).installs + 1 }
-{
-    number <= summary.installs || number - summary.installs != 1
 }
 
 /// The fault that an error of a part is told as, if it isn't that a statement was refused.
@@ -155,44 +77,106 @@ pub(crate) fn fault_filed(error: Error) -> Option<Fault>
     }
 }
 
-/// Files the next part of an edition that is to come over this summary, in a transaction that is open when this returns; where none
-/// was, it begins one, and files from the start. It answers whether there is more.
+// Files the next parts; before the first ones what stands under the number is taken out. It answers how many are filed then.
+fn write_parts<S: Alter, T: OpenTransaction<S>>(tx: &mut T, filing: &Filing) -> Result<usize, Error>
+    requires drawn { IsDrawnUp filing.now }
+    requires rest { filing.now.is_begun ≡ true → filing.now.parts_filed < length (parts_of_filing filing.now) }
+    requires usable { WhileOpen (state S.Store (T.held tx.old)) IsUsable }
+    ensures same_reference { T.reference tx.new ≡ T.reference tx.old }
+    ensures wrote { IfOk result (λ to. WritesUpTo S.Store filing.now to (T.held tx.old) (T.held tx.new)) }
+    ensures lives { HasCleanDisk (state S.Store (T.held tx.new)) → OnOk result (IsTrue (state S.Store (T.held tx.old)).is_open) }
+    ensures sound { HasCleanDisk (state S.Store (T.held tx.new)) → OnOk result (IsDatabase (state S.Store (T.held tx.new)).now) }
+    ensures inside { HasCleanDisk (state S.Store (T.held tx.new)) → OnOk result ((state S.Store (T.held tx.new)).in_transaction ≡ true) }
+    ensures failed { IfErr result (FailsAmong S.Store (AreOfSomePart filing.now) (T.held tx.old) (T.held tx.new)) }
+    ensures spares { CommitsNothing S.Store (T.held tx.old) (T.held tx.new) }
+{
+    let files = filing.files();
+    let all = files.part_count();
+    if filing.is_begun {
+        let to = part_end(filing.parts_filed, all);
+        add_parts(tx, &files, filing.parts_filed, to)?;
+        return Ok(to);
+    }
+    take_parts(tx, filing.number, LAST_PARTS)?;
+    let to = part_end(0, all);
+    add_parts(tx, &files, 0, to)?;
+    Ok(to)
+}
+
+// Files the next parts by one commit. It answers how many are filed then.
+fn commit_parts<S: Alter>(conn: &mut Connection<S>, filing: &Filing) -> Result<usize, Option<Fault>>
+    requires autocommit { conn.old.in_transaction ≡ false }
+    requires drawn { IsDrawnUp filing.now }
+    requires rest { filing.now.is_begun ≡ true → filing.now.parts_filed < length (parts_of_filing filing.now) }
+    requires usable { WhileOpen (state S.Store conn.old) IsUsable }
+    ensures made { HasCleanDisk (state S.Store conn.new) → IfOk result (λ to. IsCommitted (λ db. IsTrue (state S.Store conn.old).is_open × FilesUpTo filing.now to (state S.Store conn.old).now db) (state S.Store conn.new)) }
+    ensures stays { HasCleanDisk (state S.Store conn.new) → OnErr result (StaysCommitted (state S.Store conn.old) (state S.Store conn.new)) }
+    ensures lives { HasCleanDisk (state S.Store conn.new) → IsTrue (state S.Store conn.new).is_open → IsTrue (state S.Store conn.old).is_open }
+    ensures failed { HasCleanDisk (state S.Store conn.new) → IfErr result (λ why. (statements : List Statement) × AreOfSomePart filing.now statements × FailsToCommitRun S.Store statements conn.old conn.new why) }
+    ensures faulted { HasCleanDisk (state S.Store conn.new) → IfErr result (λ why. why ≡ Some Fault.Disk → MoreFaults (state S.Store conn.old).faults (state S.Store conn.new).faults) }
+    ensures kinds { IfErr result (λ why. IfSome why IsOfStore) }
+    ensures autocommit { (state S.Store conn.new).in_transaction ≡ false }
+    ensures crash { Survives (state S.Store conn.old) (state S.Store conn.new) (IsTreesOf (λ db. IsTrue (state S.Store conn.old).is_open × (to : ℕ) × FilesUpTo filing.now to (state S.Store conn.old).now db)) }
+{
+    let mut tx = conn.transaction();
+    let filed = match write_parts(&mut tx, filing) {
+        Ok(filed) => filed,
+        Err(error) => return Err(fault_filed(error)),
+    };
+    match commit(tx) {
+        Ok(()) => Ok(filed),
+        Err(error) => Err(fault_filed(error)),
+    }
+}
+
+// Whether another number than this is the one that the next edition gets.
+fn is_other_number(summary: &Summary, number: u64) -> bool
+    ensures other { IsTrue result → number ≢ (summary_shown summary.now).installs + 1 }
+    ensures next { result ≡ false → number ≡ (summary_shown summary.now).installs + 1 }
+{
+    number <= summary.installs || number - summary.installs != 1
+}
+
+/// Files the next part of an edition that is to come over this summary, by one commit, under the number that the edition gets; before the first
+/// part what stands under that number, of no edition, is taken out. It answers whether there is more. Each catalogue of this summary that was held
+/// is held still, and a stop leaves no other: the parts are of no edition yet.
 ///
-/// What is committed stays, and so does what a stop may leave. What the connection shows is what is committed and the parts that were
-/// filed, in place of such as stood under the number, of no edition. At an error the transaction is undone with all that was filed:
-/// `Memory` tells that a growth was refused, `Disk` that the disk failed. None tells that it can't be filed: another number than the
-/// filing's is the next of the summary, or a statement was refused.
+/// At an error what was committed is so still, and as much is filed as was. `Memory` tells that a growth was refused, `Disk` that the disk failed.
+/// None tells that it can't be filed: all of it is, another number than the filing's is the next of the summary, a statement was refused, or the
+/// store was shut before.
 pub fn file_part<S: Alter>(
     conn: &mut Connection<S>,
     summary: &Summary,
     filing: &mut Filing,
 ) -> Result<bool, Option<Fault>>
     requires drawn { IsDrawnUp filing.old }
-    requires usable { WhileOpen (rested (state S.Store conn.old)) IsUsable }
-    requires underway { IsUnderway S.Store filing.old conn.old }
+    requires autocommit { conn.old.in_transaction ≡ false }
+    requires holds { HoldsBy (summary_shown summary.now) (state S.Store conn.old) }
+    requires filed { IsFiledSoFar filing.old (state S.Store conn.old) }
     ensures rows { HasSameRows filing.old filing.new }
     ensures drawn { IsDrawnUp filing.new }
     ensures next { OnOk result (filing.new.number ≡ (summary_shown summary.now).installs + 1) }
-    ensures underway { IsUnderway S.Store filing.new conn.new }
+    ensures made { HasCleanDisk (state S.Store conn.new) → OnOk result (IsCommitted (Remains (summary_shown summary.now) (state S.Store conn.old).committed) (state S.Store conn.new)) }
+    ensures filed { OnOk result (IsFiledSoFar filing.new (state S.Store conn.new)) }
+    ensures begun { OnOk result (filing.new.is_begun ≡ true) }
     ensures whole { IfOk result (λ more. more ≡ false → AreAllPartsFiled filing.new) }
-    ensures inside { HasCleanDisk (state S.Store conn.new) → OnOk result (conn.new.in_transaction ≡ true) }
-    ensures undone { HasCleanDisk (state S.Store conn.new) → OnErr result (conn.new.in_transaction ≡ false) }
-    ensures settled { HasCleanDisk (state S.Store conn.new) → OnErr result (IsTrue (state S.Store conn.new).is_open → (state S.Store conn.new).now ≡ (state S.Store conn.new).committed) }
-    ensures keeps { HasCleanDisk (state S.Store conn.new) → KeepsCommit (state S.Store conn.old) (state S.Store conn.new) }
+    ensures same { OnErr result (filing.new ≡ filing.old) }
+    ensures stays { HasCleanDisk (state S.Store conn.new) → OnErr result (StaysCommitted (state S.Store conn.old) (state S.Store conn.new)) }
+    ensures lives { HasCleanDisk (state S.Store conn.new) → IsTrue (state S.Store conn.new).is_open → IsTrue (state S.Store conn.old).is_open }
     ensures failed { HasCleanDisk (state S.Store conn.new) → IfErr result (FailsToFile S.Store ((summary_shown summary.now).installs + 1) filing.old conn.old conn.new) }
     ensures faulted { HasCleanDisk (state S.Store conn.new) → IfErr result (λ why. why ≡ Some Fault.Disk → MoreFaults (state S.Store conn.old).faults (state S.Store conn.new).faults) }
     ensures kinds { IfErr result (λ why. IfSome why IsOfStore) }
-    ensures survives { Survives (state S.Store conn.old) (state S.Store conn.new) (λ _. ⊥) }
+    ensures autocommit { (state S.Store conn.new).in_transaction ≡ false }
+    ensures crash { Survives (state S.Store conn.old) (state S.Store conn.new) (λ trees. IsTrue (state S.Store conn.old).is_open × IsTreesOf (Remains (summary_shown summary.now) (state S.Store conn.old).committed) trees) }
 {
-    if is_other_number(summary, filing.number) {
-        roll_back(conn);
-        conn.is_autocommit();
+    if filing.is_whole() || is_other_number(summary, filing.number) {
         return Err(None);
     }
-    if let Err(error) = file_next(conn, filing) {
-        roll_back(conn);
-        conn.is_autocommit();
-        return Err(fault_filed(error));
-    }
+    let filed = match commit_parts(conn, filing) {
+        Ok(filed) => filed,
+        Err(why) => return Err(why),
+    };
+    filing.is_begun = true;
+    filing.parts_filed = filed;
     Ok(!filing.is_whole())
 }

@@ -76,6 +76,7 @@ pub fn plan_draft(alloc: Global, summary: &Summary, draft: Draft) -> Option<Read
         number: change.summary.installs,
         index: stored,
         text,
+        is_begun: false,
         parts_filed: 0,
     };
     Some(ReadInstall {

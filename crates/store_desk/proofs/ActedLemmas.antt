@@ -20,7 +20,6 @@ use Rattle.dict_catalogue.specs.declared.summary.Summary.{Summary}
 use Rattle.dict_catalogue.specs.declared.commands.Command.TheVariants.{Install, Rollback, Retire, PutVirtual, Place}
 use Rattle.dict_catalogue.specs.declared.fault.CommandRefusal.{CommandRefusal}
 use Rattle.store_commands.specs.Answers.{summary_after}
-use Rattle.store_commands.specs.Filing.{rested}
 use Rattle.store_commands.specs.Installed.{HasInstalled, HasTextOf}
 use Rattle.store_commands.specs.KeptRecords.{KeepsTextRows}
 use Rattle.store_commands.specs.declared.applied.Applied.{Applied}
@@ -69,7 +68,8 @@ record_at (Place name at) installs n db is there = tt
 module _ {S : Type 0} (g : Ghosts S) (old new : Held S) (summary : Holdings (List ℕ)) (before : LastCall) (id : List ℕ) (typed : Typed) (open_before : is_closed before ≡ false)
     (indexes mid settled : List (ℕ × List Indexed)) (kept texts : List (PartNumbers × List ℕ)) {taken : ℕ} (made : AreOfInstalls summary.installs kept)
     (number : ℕ) (next : number ≡ min (summary.installs + 1) (2 ^ 64 - 1)) (put : HasPutIfSome number (index_coming typed) indexes mid) (M : Catalogue)
-    (shown : Shows g (record { conn = old; summary = summary; last = before; indexes = indexes; texts = kept; taken = taken }) M) (clean : HasCleanDisk (state g new)) (first : HasCleanDisk (state g old)) where
+    (shown : Shows g (record { conn = old; summary = summary; last = before; indexes = indexes; texts = kept; taken = taken }) M) (clean : HasCleanDisk (state g new)) (first : HasCleanDisk (state g old))
+    (seen : IsTrue (state g old).is_open → (state g old).now ≡ (state g old).committed) where
   abbrev was : DeskState S
   was = record { conn = old; summary = summary; last = before; indexes = indexes; texts = kept; taken = taken }
 
@@ -134,8 +134,8 @@ module _ {S : Type 0} (g : Ghosts S) (old new : Held S) (summary : Holdings (Lis
   live_before true e f never = f e
   live_before false e f never = absurd (never e)
 
-  rests_before : IsTrue (state g old).is_open → Rests known (rested (state g old)) M
-  rests_before live = record { is_open = live; settled = refl; holds = shown.holds open_before first live }
+  rests_before : IsTrue (state g old).is_open → Rests known (state g old) M
+  rests_before live = record { is_open = live; settled = seen live; holds = shown.holds open_before first live }
 
   pub served_by : (result : Result Applied Fault) → AppliesOver g summary id (command_meant typed) old new result → HasSettled number result mid settled → texts ≡ texts_after (last_by result) kept
       → (IsTrue (state g new).is_open → HasInstalled typed result (state g new).committed)

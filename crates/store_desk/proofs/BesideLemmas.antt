@@ -24,8 +24,9 @@ use Rattle.store_holdings.specs.Holds.{HasLayout}
 use Rattle.store_holdings.proofs.OneLemmas.{database_once}
 use Rattle.store_migration.specs.Spared.{IsOthers, SparesOthers}
 use Rattle.store_migration.proofs.OtherLemmas.{apart_from, others_then, stands_at}
+use Rattle.store_commands.specs.Answers.{HoldsBy}
 use Rattle.store_commands.specs.KeptRecords.{IsOther, SparesTablesOfOthers}
-use Rattle.store_desk.specs.Desk.{DeskState, HasCommitted, KeepsBeside}
+use Rattle.store_desk.specs.Desk.{DeskState, KeepsBeside}
 use Rattle.store_desk.proofs.DeskLemmas.{clean_behind}
 
 -- ---- tables of others, by their names
@@ -75,7 +76,7 @@ module _ {S : Type 0} (g : Ghosts S) (old new : DeskState S) where
       keeps (clean_behind (state g old.conn) (state g new.conn) survives clean) trees (elim (survives.crash clean trees may) as (λ _. (state g old.conn).may_leave trees) [ inl h ↦ h | inr h ↦ absurd h ])
 
   -- a commit may be left, of a database in which tables of others are as they were
-  pub beside_by : HasCommitted old.summary (state g old.conn) → IsLive (state g old.conn) → (IsTrue (state g old.conn).is_open → (state g old.conn).may_leave (state g old.conn).committed.trees)
+  pub beside_by : HoldsBy old.summary (state g old.conn) → IsLive (state g old.conn) → (IsTrue (state g old.conn).is_open → (state g old.conn).may_leave (state g old.conn).committed.trees)
       → Survives (state g old.conn) (state g new.conn) (λ trees. IsTrue (state g old.conn).is_open × IsTreesOf (SparesTablesOfOthers (state g old.conn).committed) trees)
       → (db : Database) → KeepsBeside g old db → KeepsBeside g new db
   beside_by holds sound stays survives db keeps clean trees may =
@@ -86,6 +87,6 @@ module _ {S : Type 0} (g : Ghosts S) (old new : DeskState S) where
             let was : Database = (state g old.conn).committed in
             ∥∥₁_map (keeps early was.trees (stays h.0)) (λ it.
             let spared : SparesOthers db was = subst (SparesOthers db) (database_once it.0 was it.2 (sound h.0).1 (sym it.1)) it.3 in
-            (h.1.0, h.1.1, h.1.2, others_then db was h.1.0 spared (others_of was h.1.0 (holds early h.0).1.own h.1.3)))
+            (h.1.0, h.1.1, h.1.2, others_then db was h.1.0 spared (others_of was h.1.0 (holds early h.0).1.holds.own h.1.3)))
             )
       ]

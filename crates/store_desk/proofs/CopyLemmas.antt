@@ -2,7 +2,6 @@
 use Rattle.std.proofs.Common.{◌≡◌, inl, inr, ℕ, ◌≤◌, Bool, true, false, List, [], ◌∷◌, refl, sym, subst, ◌∙◌, arith}
 use Rattle.std.specs.Prelude.{IsTrue, IsPermutation, Option, Some, None, Contains, Result, Ok, Err, OnErr, IfErr}
 use Rattle.std.specs.List.{AllByRecursion}
-use Rattle.std.proofs.lemmas.Bool.{false≢true}
 use Rattle.sqlite.proofs.StateLemmas.{survives_weaker}
 use Rattle.sqlite.specs.Disk.{MoreFaults}
 use Rattle.sqlite.specs.Effect.{Database}
@@ -32,12 +31,11 @@ use Rattle.store_commands.specs.declared.filing.Filing.{Filing}
 use Rattle.store_commands.proofs.AboveLemmas.{above_same}
 use Rattle.store_commands.proofs.WriteLemmas.{others_none}
 use Rattle.store_desk.specs.Causes.{FailsToPrepare}
-use Rattle.store_desk.specs.Desk.{DeskState, HasCommitted, HasFiled, IsAtRest, ServesEdition, Shows, KeepsBeside, LeavesOneOf, StandsFor, is_closed}
+use Rattle.store_desk.specs.Desk.{DeskState, HasFiled, IsAtRest, ServesEdition, Shows, KeepsBeside, LeavesOneOf, StandsFor, is_closed}
 use Rattle.store_desk.specs.KeptParts.{KeepsTexts, texts_behind}
 use Rattle.store_desk.specs.Prepared.{last_behind}
 use Rattle.store_desk.specs.declared.last.LastCall.{LastCall}
 use Rattle.store_desk.proofs.BesideLemmas.{beside_by}
-use Rattle.store_desk.proofs.DeskLemmas.{at_rest}
 use Rattle.store_desk.proofs.PreparingLemmas.{parts_behind}
 use Rattle.store_desk.proofs.IndexedLemmas.{each_both, each_low}
 use Rattle.store_desk.proofs.TextLemmas.{text_carried, texts_stay}
@@ -50,13 +48,6 @@ remains_itself summary db = record { holds = λ M held is. held; texts = above_s
 -- what was committed is so still
 pub remains_still : (summary : Holdings (List ℕ)) (old new : State) → StaysCommitted old new → IsTrue new.is_open → Remains summary old.committed new.committed
 remains_still summary old new stays live = subst (λ (db : Database). Remains summary old.committed db) (sym (stays.committed live)) (remains_itself summary old.committed)
-
--- a store that shows what is committed, by what is true of every desk
-pub resting_by : {S : Type 0} (g : Ghosts S) (last : LastCall) (summary : Holdings (List ℕ)) (filing : Option Filing) (h : Held S) → is_closed last ≡ false → IsAtRest g last summary filing h → h.in_transaction ≡ false
-    → HoldsBy summary (state g h)
-resting_by g last summary filing h fine rest none = λ clean live.
-    let it = rest.holds fine clean live in
-    (it.0, record { is_open = live; settled = rest.settled fine clean live none; holds = it.1 }, it.2)
 
 -- ---- a desk
 
@@ -81,17 +72,17 @@ module _ {S : Type 0} (g : Ghosts S) (old new : Held S) (summary : Holdings (Lis
   pub copied_first : HasCleanDisk (state g new) → HasCleanDisk (state g old)
   copied_first clean = omega (arith, crash.clean)
 
-  copied_committed : HasCommitted summary (state g new)
-  copied_committed clean live =
-      let it = rest.holds fine (copied_first clean) (lives clean live) in
-      (it.0, (remains clean live).holds it.0 it.1 it.2, it.2)
-
-  copied_filed : new.in_transaction ≡ false → (found : Option Filing) → HasFiled g found old → HasFiled g found new
-  copied_filed ended None filed = λ clean. ended
-  copied_filed ended (Some f) filed = (filed.0, λ clean live inside. absurd (false≢true (sym ended ∙ inside)))
-
-  pub copied_rests : (after : LastCall) → (HasCleanDisk (state g new) → IsTrue (state g new).is_open → (state g new).now ≡ (state g new).committed) → new.in_transaction ≡ false → IsAtRest g after summary filing new
-  copied_rests after settled ended = at_rest g after summary filing new (crash.limit ∙ rest.limit) rest.range (λ _. copied_committed) (λ _ clean live _. settled clean live) (λ _. copied_filed ended filing (rest.filed fine))
+  pub copied_rests : (after : LastCall) (left : Option Filing) → (HasCleanDisk (state g new) → IsTrue (state g new).is_open → (state g new).now ≡ (state g new).committed) → new.in_transaction ≡ false
+      → HasFiled left (state g new) → IsAtRest g after summary left new
+  copied_rests after left settled ended filed = record {
+    limit = crash.limit ∙ rest.limit;
+    ended = ended;
+    range = rest.range;
+    holds = λ _ clean live.
+        let it = rest.holds fine (copied_first clean) (lives clean live) in
+        (it.0, record { is_open = live; settled = settled clean live; holds = (remains clean live).holds it.0 it.1.holds it.2 }, it.2);
+    filed = λ _. filed;
+  }
 
   pub copied_shows : {T : Type 0} {taken : ℕ} (result : Result T Fault) (after : LastCall) (indexes : List (ℕ × List Indexed)) (kept texts : List (PartNumbers × List ℕ)) → texts ≡ texts_behind result kept → (M : Catalogue)
       → Shows g (record { conn = old; summary = summary; last = before; indexes = indexes; texts = kept; taken = taken }) M
@@ -152,7 +143,7 @@ stands_on : (m : Option Catalogue) (M : Catalogue) (before after : Trees) → Is
 stands_on None M before after was is stands = absurd (stands M was)
 stands_on (Some N) M before after was is stands = subst (λ (one : Catalogue). IsLeft one after) (one_left before M N was stands) is
 
-pub copied_leaves : {S : Type 0} (g : Ghosts S) (old new : DeskState S) → HasCommitted old.summary (state g old.conn) → IsLive (state g old.conn)
+pub copied_leaves : {S : Type 0} (g : Ghosts S) (old new : DeskState S) → HoldsBy old.summary (state g old.conn) → IsLive (state g old.conn)
     → (IsTrue (state g old.conn).is_open → (state g old.conn).may_leave (state g old.conn).committed.trees) → Survives (state g old.conn) (state g new.conn) (CommitsSame g old.summary old.conn)
     → (ms : List (Option Catalogue)) → LeavesOneOf g old ms → LeavesOneOf g new ms
 copied_leaves g old new holds sound stays crash ms left clean trees may =
@@ -163,13 +154,13 @@ copied_leaves g old new holds sound stays crash ms left clean trees may =
           let db : Database = (state g old.conn).committed in
           let it = holds early h.0 in
           let one = left early db.trees (stays h.0) in
-          let was : IsLeft it.0 db.trees = (db, refl, (sound h.0).1, held_known db it.0 it.1) in
-          let is : IsLeft it.0 trees = (h.1.0, h.1.1, h.1.2, held_known h.1.0 it.0 (h.1.3.holds it.0 it.1 it.2)) in
+          let was : IsLeft it.0 db.trees = (db, refl, (sound h.0).1, held_known db it.0 it.1.holds) in
+          let is : IsLeft it.0 trees = (h.1.0, h.1.1, h.1.2, held_known h.1.0 it.0 (h.1.3.holds it.0 it.1.holds it.2)) in
           (one.0, one.1, stands_on one.0 it.0 db.trees trees was is one.2)
           )
     ]
 
-pub copied_beside : {S : Type 0} (g : Ghosts S) (old new : DeskState S) → HasCommitted old.summary (state g old.conn) → IsLive (state g old.conn)
+pub copied_beside : {S : Type 0} (g : Ghosts S) (old new : DeskState S) → HoldsBy old.summary (state g old.conn) → IsLive (state g old.conn)
     → (IsTrue (state g old.conn).is_open → (state g old.conn).may_leave (state g old.conn).committed.trees) → Survives (state g old.conn) (state g new.conn) (CommitsSame g old.summary old.conn)
     → (db : Database) → KeepsBeside g old db → KeepsBeside g new db
 copied_beside g old new holds sound stays crash =

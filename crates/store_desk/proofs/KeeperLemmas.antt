@@ -1,7 +1,7 @@
 -- What a command leaves of a desk.
 use Rattle.store_search.specs.Entries.{Indexed}
 use Rattle.std.proofs.Common.{◌≡◌, inl, inr, ℕ, Bool, true, false, List, [], ◌∷◌, refl, sym, ap, subst, ◌∙◌, arith, ◌≤◌}
-use Rattle.std.specs.Prelude.{IsTrue, Option, Some, is_some, Contains, Result, Ok, Err, OnOk, OnErr, None, IfNone, IfOk, IfErr, MatchBool}
+use Rattle.std.specs.Prelude.{IsTrue, Option, Some, is_some, Contains, Result, Ok, Err, OnOk, OnErr, None, IfOk, IfErr, MatchBool}
 use Rattle.std.proofs.lemmas.Bool.{false≢true}
 use Rattle.sqlite.specs.Tree.{Trees}
 use Rattle.sqlite.specs.State.{State, HasCleanDisk, IsUnchanged, Survives}
@@ -23,7 +23,6 @@ use Rattle.dict_desk.specs.declared.fault.Fault.TheVariants.{Refused, Memory, Di
 use Rattle.dict_desk.proofs.LeavesLemmas.{contains_later}
 use Rattle.store_holdings.specs.Holds.{Rests, IsLeftAs}
 use Rattle.store_commands.specs.Answers.{Answers, has_written, summary_after, IsOfShut}
-use Rattle.store_commands.specs.Filing.{IsUnderway, rested}
 use Rattle.store_commands.specs.KeptRecords.{SparesTablesOfOthers}
 use Rattle.store_commands.proofs.WriteLemmas.{others_none}
 use Rattle.sqlite.specs.Effect.{Database}
@@ -31,12 +30,11 @@ use Rattle.store_commands.specs.declared.filing.Filing.{Filing}
 use Rattle.store_commands.specs.declared.applied.Applied.{Applied}
 use Rattle.store_commands.specs.declared.applied.Applied.TheVariants.{Repeated, Done}
 use Rattle.store_desk.specs.Applied.{AppliesOver}
-use Rattle.store_desk.specs.Desk.{DeskState, HasFiled, IsAtRest, Shows, ServesEditions, LeavesOneOf, StandsFor, is_closed, has_failed, last_by, reply_of}
-use Rattle.store_desk.specs.Prepared.{LetsGo}
+use Rattle.store_desk.specs.Desk.{DeskState, IsAtRest, Shows, ServesEditions, LeavesOneOf, StandsFor, is_closed, has_failed, last_by, reply_of}
 use Rattle.store_desk.specs.KeptParts.{KeepsTexts, texts_after}
 use Rattle.store_desk.proofs.TextLemmas.{more_installs}
 use Rattle.store_desk.specs.declared.last.LastCall.{LastCall}
-use Rattle.store_desk.proofs.DeskLemmas.{at_rest, filed_less, texts_keep}
+use Rattle.store_desk.proofs.DeskLemmas.{texts_keep}
 use Rattle.store_rows.specs.Versions.{known}
 use Rattle.store_holdings.proofs.OneLemmas.{left_known}
 use Rattle.store_lookup.specs.KeptTexts.{PartNumbers}
@@ -48,12 +46,7 @@ pub kept_value : {T : Type 0} (P Q : T → Type 0) (result : Result T Fault) (ol
 kept_value P Q (Ok value) old new then same h = then value same.0.was_open h
 kept_value P Q (Err fault) old new then same h = tt
 
--- what holds where nothing was told
-pub none_by : {T P : Type 0} (told : Option T) → ((value : T) → told ≡ Some value → ⊥) → IfNone told P → P
-none_by None never h = h
-none_by (Some value) never h = absurd (never value refl)
-
--- and where it wasn't done
+-- what holds where it wasn't done
 pub err_by : {T E P : Type 0} (told : Result T E) → ((value : T) → told ≡ Ok value → ⊥) → OnErr told P → P
 err_by (Ok value) never h = absurd (never value refl)
 err_by (Err fault) never h = h
@@ -76,11 +69,11 @@ module _ {S : Type 0} (g : Ghosts S) (new : Held S) (M : Catalogue) (id : List �
   abbrev desk_by : Holdings (List ℕ) → LastCall → DeskState S
   desk_by summary last = record { conn = new; summary = summary; last = last; indexes = indexes; texts = texts; taken = taken }
 
-  shown_by : (summary : Holdings (List ℕ)) (last : LastCall) (N : Catalogue) → summary ≡ summary_of N → IsWellFormed N → (IsTrue (state g new).is_open → Rests known (rested (state g new)) N)
+  shown_by : (summary : Holdings (List ℕ)) (last : LastCall) (N : Catalogue) → summary ≡ summary_of N → IsWellFormed N → (IsTrue (state g new).is_open → Rests known (state g new) N)
       → (HasCleanDisk (state g new) → ServesEditions g (desk_by summary last) N) → Shows g (desk_by summary last) N
   shown_by summary last N is well rests served = record { summary = is; well_formed = well; holds = λ fine clean live. (rests live).holds; served = served }
 
-  pub applies_open : (summary : Holdings (List ℕ)) (result : Result Applied Fault) → summary ≡ summary_of M → IsWellFormed M → Answers (rested (state g new)) M id outcome result
+  pub applies_open : (summary : Holdings (List ℕ)) (result : Result Applied Fault) → summary ≡ summary_of M → IsWellFormed M → Answers (state g new) M id outcome result
       → (HasCleanDisk (state g new) → ServesEditions g (desk_by (summary_after summary result) (last_by result)) (catalogue_by M outcome result))
       → Applies (Shows g (desk_by (summary_after summary result) (last_by result))) M outcome (reply_of result)
   applies_open summary (Ok (Repeated kept)) is well h served = (
@@ -197,7 +190,7 @@ module _ {S : Type 0} (g : Ghosts S) (old new : Held S) (summary : Holdings (Lis
   no_more : Survives (state g old) (state g new) (λ _. ⊥) → (ms : List (Option Catalogue)) → LeavesOneOf g desk_before ms → LeavesOneOf g desk_after ms
   no_more survives ms left clean trees may = left (clean_first clean) trees (elim (survives.crash clean trees may) as (λ _. (state g old).may_leave trees) [ inl h ↦ h | inr h ↦ absurd h ])
 
-  one_more : (M : Catalogue) → (IsTrue (state g old).is_open → Rests known (rested (state g old)) M) → summary_of M ≡ summary → (ms : List (Option Catalogue)) → LeavesOneOf g desk_before ms
+  one_more : (M : Catalogue) → (IsTrue (state g old).is_open → Rests known (state g old) M) → summary_of M ≡ summary → (ms : List (Option Catalogue)) → LeavesOneOf g desk_before ms
       → LeavesOneOf g desk_after (Some (step M id command).catalogue ∷ ms)
   one_more M rests is ms left clean trees may =
       elim (over.crash.crash clean trees may) as (λ _. (m : Option Catalogue) × Contains (Some (step M id command).catalogue ∷ ms) m × StandsFor m trees) [
@@ -205,11 +198,11 @@ module _ {S : Type 0} (g : Ghosts S) (old new : Held S) (summary : Holdings (Lis
         | inr h ↦ (Some (step M id command).catalogue, (0, omega arith, refl), left_known (step M id command).catalogue trees (h.1 M (rests h.0) is))
       ]
 
-  rests_before : (M : Catalogue) → Shows g desk_before M → HasCleanDisk (state g new) → IsTrue (state g old).is_open → Rests known (rested (state g old)) M
-  rests_before M shown clean live = record { is_open = live; settled = refl; holds = shown.holds open_before (clean_first clean) live }
+  rests_before : (M : Catalogue) → Shows g desk_before M → HasCleanDisk (state g new) → IsTrue (state g old).is_open → Rests known (state g old) M
+  rests_before M shown clean live = record { is_open = live; settled = (rest.holds open_before (clean_first clean) live).1.settled; holds = shown.holds open_before (clean_first clean) live }
 
   -- shut before: it is so after
-  shut_after : HasCleanDisk (state g new) → (state g old).is_open ≡ false → (M : Catalogue) → IsTrue (state g new).is_open → Rests known (rested (state g new)) M
+  shut_after : HasCleanDisk (state g new) → (state g old).is_open ≡ false → (M : Catalogue) → IsTrue (state g new).is_open → Rests known (state g new) M
   shut_after clean closed M live = absurd (false≢true (sym closed ∙ over.lives clean live))
 
   by_open : (A : Type 0) (b : Bool) → (b ≡ true → A) → (b ≡ false → A) → A
@@ -228,7 +221,7 @@ module _ {S : Type 0} (g : Ghosts S) (old new : Held S) (summary : Holdings (Lis
 
   pub leaves : HasCleanDisk (state g new) → (M : Catalogue) → Shows g desk_before M → Leaves (LeavesOneOf g desk_before) (LeavesOneOf g desk_after) (is_some (kept_under M.kept id)) (step M id command).catalogue (reply_of result)
   leaves clean M shown = by_open (Leaves (LeavesOneOf g desk_before) (LeavesOneOf g desk_after) (is_some (kept_under M.kept id)) (step M id command).catalogue (reply_of result)) (state g old).is_open
-      (λ live. leaves_open (LeavesOneOf g desk_before) (LeavesOneOf g desk_after) M id (rested (state g new)) (step M id command) result (over.value clean M (rests_before M shown clean live) (sym shown.summary)) spared
+      (λ live. leaves_open (LeavesOneOf g desk_before) (LeavesOneOf g desk_after) M id (state g new) (step M id command) result (over.value clean M (rests_before M shown clean live) (sym shown.summary)) spared
       (λ all clean_now trees may. (Some (step M id command).catalogue, (0, omega arith, refl), left_known (step M id command).catalogue trees (all trees may))) (one_more M (rests_before M shown clean) (sym shown.summary)))
       (λ closed. leaves_shut (LeavesOneOf g desk_before) (LeavesOneOf g desk_after) (is_some (kept_under M.kept id)) (step M id command).catalogue id result (over.shut clean closed) spared
       (one_more M (rests_before M shown clean) (sym shown.summary)))
@@ -236,18 +229,9 @@ module _ {S : Type 0} (g : Ghosts S) (old new : Held S) (summary : Holdings (Lis
   pub spares_all : (ms : List (Option Catalogue)) → LeavesOneOf g desk_before ms → IfErr (reply_of result) (λ fault. is_disk fault ≡ false → LeavesOneOf g desk_after ms)
   spares_all = spares_by (LeavesOneOf g desk_before) (LeavesOneOf g desk_after) result spared
 
-  -- what is prepared: nothing was done to it, or no transaction is open
-  filed_after : (f : Option Filing) → HasFiled g f old → HasFiled g f new
-  filed_after None none = λ clean. by_mode clean new.in_transaction refl
-    where
-      by_mode : HasCleanDisk (state g new) → (b : Bool) → new.in_transaction ≡ b → new.in_transaction ≡ false
-      by_mode clean false is = is
-      by_mode clean true is = subst (λ (h : Held S). h.in_transaction ≡ false) (sym (over.inside clean is)) (none (clean_first clean))
-  filed_after (Some f) some = (some.0, λ clean live inside. (subst (λ (h : Held S). IsUnderway g f h) (sym (over.inside clean inside)) some.1) clean live inside)
-
-  pub rests_after : (after : Option Filing) → LetsGo new filing after → IsAtRest g (last_by result) (summary_after summary result) after new
-  rests_after after less = at_rest g (last_by result) (summary_after summary result) after new (over.crash.limit ∙ rest.limit) over.range
-      (λ fine clean live. let it = over.holds clean live in (it.0, it.1.holds, it.2)) (λ fine. over.settled) (λ fine. filed_less g filing after new less (filed_after filing (rest.filed open_before)))
+  -- what was prepared is let go of
+  rests_after : IsAtRest g (last_by result) (summary_after summary result) None new
+  rests_after = record { limit = over.crash.limit ∙ rest.limit; ended = over.ended; range = over.range; holds = λ _. over.holds; filed = λ _. tt }
 
   -- the desk after the call, by what its fields became
   module _ (after : Holdings (List ℕ)) (last : LastCall) (told : Result Kept Fault) (after_is : after ≡ summary_after summary result) (last_is : last ≡ last_by result) (told_is : told ≡ reply_of result) where
@@ -259,9 +243,9 @@ module _ {S : Type 0} (g : Ghosts S) (old new : Held S) (summary : Holdings (Lis
     desk_told = record { conn = new; summary = after; last = last; indexes = settled; texts = texts; taken = taken }
 
     -- what is true of it
-    pub told_rests : texts ≡ texts_after last kept → KeepsTexts before summary kept → (left : Option Filing) → LetsGo new filing left → IsAtRest g last after left new × KeepsTexts last after texts
-    told_rests is keeps left less =
-        let rests : IsAtRest g (last_by result) (summary_after summary result) left new = rests_after left less in
+    pub told_rests : texts ≡ texts_after last kept → KeepsTexts before summary kept → (left : Option Filing) → left ≡ None → IsAtRest g last after left new × KeepsTexts last after texts
+    told_rests is keeps left none =
+        let rests : IsAtRest g (last_by result) (summary_after summary result) left new = subst (λ (f : Option Filing). IsAtRest g (last_by result) (summary_after summary result) f new) (sym none) rests_after in
         let more : summary.installs ≤ after.installs = subst (λ (s : Holdings (List ℕ)). summary.installs ≤ s.installs) (sym after_is) over.grows in (
           subst (λ (s : Holdings (List ℕ)). IsAtRest g last s left new) (sym after_is) (subst (λ (l : LastCall). IsAtRest g l (summary_after summary result) left new) (sym last_is) rests),
           subst (KeepsTexts last after) (sym is) (texts_keep last after kept (more_installs summary.installs after.installs more kept keeps.made)),

@@ -54,7 +54,7 @@ install_same r after same known =
 pub index_same : (r : ReadInstall) (after : Filing) (part : IndexPart) → HasSameRows r.filing after → IsIndexOfInstall r part → IsIndexOfInstall (record r { filing = after }) part
 index_same r after part same is = subst (λ (f : Filing). IsIndexOfInstall (record r { filing = f }) part) (sym same) (by part is)
   where
-    by : (p : IndexPart) → IsIndexOfInstall r p → IsIndexOfInstall (record r { filing = record r.filing { parts_filed = after.parts_filed } }) p
+    by : (p : IndexPart) → IsIndexOfInstall r p → IsIndexOfInstall (record r { filing = record r.filing { is_begun = after.is_begun; parts_filed = after.parts_filed } }) p
     by (Entries builder) k = k
     by (Parts making) k = k
     by Lost k = k

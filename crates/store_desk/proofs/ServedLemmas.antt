@@ -14,7 +14,6 @@ use Rattle.dict_desk.specs.Shown.{HasEdition}
 use Rattle.store_holdings.specs.Texts.{HoldsText}
 use Rattle.store_lookup.specs.Texts.{ArePartsOf}
 use Rattle.store_lookup.proofs.FailLemmas.{all_contains}
-use Rattle.store_desk.specs.Prepared.{IsAlike}
 use Rattle.store_desk.specs.Desk.{DeskState, ServesEdition, ServesEditions, is_closed}
 
 -- what holds of each edition of each item
@@ -44,8 +43,3 @@ pub served_one : {S : Type 0} (g : Ghosts S) (desk : DeskState S) (M : Catalogue
     → ServesEdition g desk (record { number = number; content = edition })
 served_one g desk M number edition has served =
     all_contains (ServesEdition g desk) (editions_of has.item) (record { number = number; content = edition }) (all_contains (λ item. AllByRecursion (ServesEdition g desk) (editions_of item)) M.items has.item served has.stands) has.stored
-
--- what is committed under a number is seen, where nothing of it is prepared
-pub seen_text : (number : ℕ) (committed now : Database) → IsAlike number committed now → (other : ℕ) → other ≡ number → (text : List ℕ) → HoldsText committed other text → HoldsText now other text
-seen_text number committed now alike other same text held =
-    subst (λ (n : ℕ). HoldsText now n text) (sym same) (alike.text text (subst (λ (n : ℕ). HoldsText committed n text) same held))

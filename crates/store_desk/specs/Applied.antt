@@ -1,4 +1,4 @@
--- What a command does over a connection on which a change may be prepared.
+-- What a command does over a connection.
 use Rattle.std.specs.Prelude.{◌≡◌, ◌≤◌, ℕ, false, true, IsTrue, List, Result, OnOk, IfErr}
 use Rattle.sqlite.specs.Held.{Held, state}
 use Rattle.sqlite.specs.State.{HasCleanDisk, Survives}
@@ -14,18 +14,16 @@ use Rattle.store_holdings.specs.Holds.{Rests, IsLeftAs}
 use Rattle.store_holdings.specs.Committed.{IsTreesOf}
 use Rattle.store_commands.specs.KeptRecords.{KeepsTextRows, SparesTablesOfOthers}
 use Rattle.store_commands.specs.Changes.{IsInRange}
-use Rattle.store_commands.specs.Filing.{rested}
 use Rattle.store_commands.specs.Answers.{HoldsBy, Answers, has_written, numbers_after, summary_after, IsOfApply, IsOfShut}
 use Rattle.store_commands.specs.declared.applied.Applied.{Applied}
 use Rattle.store_desk.specs.Causes.{FailsToApplyOver}
 
 module _ {S : Type 0} (g : Ghosts S) where
-  -- A command under an id was answered so between these two states of a connection: as `store_commands` says of a command, of what is
-  -- committed, before and after. Where a transaction is open still, nothing was done.
+  -- A command under an id was answered so between these two states of a connection, as `store_commands` says of a command.
   pub record AppliesOver (summary : Holdings (List ℕ)) (id : List ℕ) (command : Command Edition) (old new : Held S) (result : Result Applied Fault) : Type 0 where
-    pub value : HasCleanDisk (state g new) → (M : Catalogue) → Rests known (rested (state g old)) M → summary_of M ≡ summary → Answers (rested (state g new)) M id (step M id command) result
+    pub value : HasCleanDisk (state g new) → (M : Catalogue) → Rests known (state g old) M → summary_of M ≡ summary → Answers (state g new) M id (step M id command) result
     pub spares : has_written result ≡ false → Survives (state g old) (state g new) (λ _. ⊥)
-    pub crash : Survives (state g old) (state g new) (λ trees. IsTrue (state g old).is_open × ((M : Catalogue) → Rests known (rested (state g old)) M → summary_of M ≡ summary → IsLeftAs known (step M id command).catalogue trees))
+    pub crash : Survives (state g old) (state g new) (λ trees. IsTrue (state g old).is_open × ((M : Catalogue) → Rests known (state g old) M → summary_of M ≡ summary → IsLeftAs known (step M id command).catalogue trees))
     pub shut : HasCleanDisk (state g new) → (state g old).is_open ≡ false → IsOfShut id result
     pub lives : HasCleanDisk (state g new) → IsTrue (state g new).is_open → IsTrue (state g old).is_open
     pub failed : HasCleanDisk (state g new) → IfErr result (λ fault. is_failure fault ≡ true → FailsToApplyOver g summary id command old new fault)
@@ -36,6 +34,5 @@ module _ {S : Type 0} (g : Ghosts S) where
     pub grows : summary.installs ≤ (summary_after summary result).installs
     pub kinds : IfErr result IsOfApply
     pub range : IsInRange (summary_after summary result)
-    pub holds : HoldsBy (summary_after summary result) (rested (state g new))
-    pub settled : HasCleanDisk (state g new) → IsTrue (state g new).is_open → new.in_transaction ≡ false → (state g new).now ≡ (state g new).committed
-    pub inside : HasCleanDisk (state g new) → IsTrue new.in_transaction → new ≡ old
+    pub holds : HoldsBy (summary_after summary result) (state g new)
+    pub ended : new.in_transaction ≡ false

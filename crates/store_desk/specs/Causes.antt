@@ -20,9 +20,8 @@ use Rattle.store_holdings.specs.Faults.{fault_of, FailsToReadCatalogue}
 use Rattle.store_commands.specs.Answers.{FailsToApply}
 use Rattle.store_holdings.specs.Committed.{IsTreesOf}
 use Rattle.store_commands.specs.KeptRecords.{SparesTablesOfOthers}
-use Rattle.store_commands.specs.Finishing.{FailsToApplyFiled}
+use Rattle.store_commands.specs.Finishing.{FailsBehindFiled}
 use Rattle.store_desk.specs.Desk.{DeskState, KeepsBeside, Shows, LeavesOneOf, is_closed}
-use Rattle.store_desk.specs.Prepared.{Undoes}
 
 -- The store failed between these two states, by an error that is no want of memory, for the cause that it names: its disk
 -- failed once more, or it was shut before. It shows what was committed.
@@ -30,12 +29,12 @@ abbrev pub StoreFails : State → State → Type 0
 StoreFails old new = (e : Error) × (Disk ≡ fault_of e) × Fails old new ⊥ e
 
 module _ {S : Type 0} (g : Ghosts S) where
-  -- A call that changes no catalogue failed, behind what it undid of what was prepared: memory was refused, to it, before it asked the
-  -- store or in its asking, or to the store; the store failed between just these two states of the connection; or the desk was closed, and is as it was.
+  -- A call that changes no catalogue failed: memory was refused, to it, before it asked the store or in its asking, or to the store; the store
+  -- failed between just these two states of the connection; or the desk was closed, and is as it was.
   abbrev pub GivesWay : DeskState S → DeskState S → Fault → Type 0
   GivesWay old new (Refused refusal) = ⊥
-  GivesWay old new Memory = (mid : Held S) × Undoes g old.conn mid × ((new.conn ≡ mid) ⊎ FailsToReadCatalogue (state g mid) (state g new.conn) Memory)
-  GivesWay old new Disk = (mid : Held S) × Undoes g old.conn mid × StoreFails (state g mid) (state g new.conn)
+  GivesWay old new Memory = (new.conn ≡ old.conn) ⊎ FailsToReadCatalogue (state g old.conn) (state g new.conn) Memory
+  GivesWay old new Disk = StoreFails (state g old.conn) (state g new.conn)
   GivesWay old new Closed = (is_closed old.last ≡ true) × (new ≡ old)
   GivesWay old new NotACatalogue = ⊥
   GivesWay old new Damaged = ⊥
@@ -52,11 +51,10 @@ module _ {S : Type 0} (g : Ghosts S) where
   FailsToPrepare old new Damaged = ⊥
   FailsToPrepare old new NewerSchema = ⊥
 
-  -- A command fails over a connection. Where no transaction was open, its reply was not looked up, or its change was not made; where one was,
-  -- in which an edition was filed, that was undone first, or the rest of the change was not made.
+  -- A command fails over a connection: its reply was not looked up, or its change was not made; or, where an edition was filed for it, the rest
+  -- of the change was not made.
   abbrev pub FailsToApplyOver : Holdings (List ℕ) → List ℕ → Command Edition → Held S → Held S → Fault → Type 0
-  FailsToApplyOver summary id command old new fault =
-      ((old.in_transaction ≡ false) × FailsToApply g summary id command old new fault) ⊎ (IsTrue old.in_transaction × FailsToApplyFiled g summary id command old new fault)
+  FailsToApplyOver summary id command old new fault = FailsToApply g summary id command old new fault ⊎ FailsBehindFiled g summary id command old new fault
 
   -- A command that is not refused failed so; or it installs an edition, and memory was refused to the index of this, before the store was
   -- asked; or the desk was closed, and is as it was.

@@ -14,7 +14,7 @@ use Rattle.dict_catalogue.specs.WellFormed.{IsWellFormed}
 use Rattle.dict_desk.specs.Faults.{is_disk, is_failure}
 use Rattle.dict_desk.specs.declared.fault.Fault.{Fault}
 use Rattle.store_holdings.specs.Committed.{IsTreesOf}
-use Rattle.store_holdings.specs.Holds.{HasLayout, Holds}
+use Rattle.store_holdings.specs.Holds.{Holds}
 use Rattle.store_lookup.specs.Indexes.{entries_under}
 use Rattle.store_holdings.specs.Texts.{HoldsText}
 use Rattle.store_lookup.specs.Texts.{Cuts, ArePartsOf}
@@ -23,14 +23,15 @@ pub use Rattle.store_migration.specs.Leaves.{StandsFor}
 use Rattle.store_migration.specs.Spared.{SparesOthers}
 use Rattle.store_search.specs.Entries.{Indexed}
 use Rattle.store_commands.specs.Changes.{IsInRange}
-use Rattle.store_commands.specs.Filing.{IsDrawnUp, IsUnderway}
+use Rattle.store_commands.specs.Answers.{HoldsBy}
+use Rattle.store_commands.specs.Filing.{IsDrawnUp, IsFiledSoFar}
 use Rattle.store_commands.specs.declared.filing.Filing.{Filing}
 use Rattle.store_commands.specs.declared.applied.Applied.{Applied}
 use Rattle.store_commands.specs.declared.applied.Applied.TheVariants.{Repeated, Done}
 use Rattle.dict_catalogue.specs.declared.reply.Kept.{Kept}
 use Rattle.store_desk.specs.declared.last.LastCall.{LastCall}
 use Rattle.store_desk.specs.declared.last.LastCall.TheVariants.{Fine, Failed, Closed}
-use Rattle.store_rows.specs.Versions.{known, layout_of}
+use Rattle.store_rows.specs.Versions.{known}
 
 -- the connection, the summary in memory, and how the last call by `&mut` ended; the indexes of editions by their numbers, and the parts
 -- of texts that are kept; and how many entries and rows lookups have taken
@@ -71,28 +72,21 @@ IsOneOf ms trees = (m : Option Catalogue) × Contains ms m × StandsFor m trees
 abbrev pub HasBeside : Database → Trees → Type 0
 HasBeside db trees = ∥ IsTreesOf (SparesOthers db) trees ∥₁
 
--- while the store is open, a catalogue of this summary is committed
-abbrev pub HasCommitted : Holdings (List ℕ) → State → Type 0
-HasCommitted summary s = HasCleanDisk s → IsTrue s.is_open → (M : Catalogue) × Holds known s.committed M × (summary_of M ≡ summary)
+-- What is prepared of a change that may come: so many parts of an edition are filed; or nothing is.
+abbrev pub HasFiled : Option Filing → State → Type 0
+HasFiled None s = Unit {0}
+HasFiled (Some filing) s = IsDrawnUp filing × IsFiledSoFar filing s
 
 module _ {S : Type 0} (g : Ghosts S) where
-  -- What is prepared of a change that may come: the rows of an edition, of which an open transaction has filed so much; or nothing, and
-  -- no transaction is open.
-  abbrev pub HasFiled : Option Filing → Held S → Type 0
-  HasFiled None h = HasCleanDisk (state g h) → h.in_transaction ≡ false
-  HasFiled (Some filing) h = IsDrawnUp filing × IsUnderway g filing h
-
-  -- What is true of every desk between two calls: its connection has no limit on steps; the numbers in its summary are those of
-  -- installs; and where it isn't closed, and while the store is open and the disk gives what was written, a catalogue of this summary is
-  -- committed, in the product's tables. Where no transaction is open, what is seen is that. Where one is, rows of a change that may
-  -- come are filed in it beside what is committed.
+  -- What is true of every desk between two calls: its connection has no limit on steps, and no transaction is open; the numbers in its
+  -- summary are those of installs; and where it isn't closed, and while the store is open and the disk gives what was written, what is seen
+  -- is committed, and holds a catalogue of this summary; and of what is prepared of a change that may come, so much is committed beside it.
   pub record IsAtRest (last : LastCall) (summary : Holdings (List ℕ)) (filing : Option Filing) (h : Held S) : Type 0 where
     pub limit : h.step_limit ≡ None
+    pub ended : h.in_transaction ≡ false
     pub range : IsInRange summary
-    pub holds : is_closed last ≡ false → HasCommitted summary (state g h)
-    pub settled : is_closed last ≡ false → HasCleanDisk (state g h) → IsTrue (state g h).is_open → h.in_transaction ≡ false → (state g h).now ≡ (state g h).committed
-    pub filed : is_closed last ≡ false → HasFiled filing h
-    pub own : is_closed last ≡ false → HasCleanDisk (state g h) → IsTrue (state g h).is_open → HasLayout (layout_of known) (state g h).now.schema
+    pub holds : is_closed last ≡ false → HoldsBy summary (state g h)
+    pub filed : is_closed last ≡ false → HasFiled filing (state g h)
 
   -- Lookups in an edition are answered by it: under its number stands an index that cuts its entries out of a text; what is kept under the
   -- number are parts of this text; and while the desk isn't closed and the store is open, this is the one that is committed under it.
@@ -109,7 +103,7 @@ module _ {S : Type 0} (g : Ghosts S) where
   ServesEditions desk M = AllByRecursion (λ item. AllByRecursion (ServesEdition desk) (editions_of item)) M.items
 
   -- The catalogue is shown: the summary is its, lookups are answered by its editions, and while the desk isn't closed and the store is
-  -- open, the database holds it, as it was committed. While a change is prepared, the connection sees more rows than these: none of them is shown, and none is committed.
+  -- open, the database holds it, as it was committed.
   pub record Shows (desk : DeskState S) (M : Catalogue) : Type 0 where
     pub summary : desk.summary ≡ summary_of M
     pub well_formed : IsWellFormed M

@@ -3,8 +3,6 @@ ghost use Rattle.std.specs.Prelude.{◌≡◌, ◌<◌, ◌↔◌, ◌||◌, ℕ
 ghost use Rattle.sqlite.specs.Effect.{Database};
 ghost use Rattle.sqlite.specs.State.{HasCleanDisk, IsLive, Survives};
 ghost use Rattle.sqlite.specs.Held.{state};
-ghost use Rattle.store_tables.specs.Tables.{kept as kept_table};
-ghost use Rattle.store_sql.specs.Effects.{Has, WhileOpen};
 ghost use Rattle.dict_catalogue.specs.Steps.{Catalogue, summary_of};
 ghost use Rattle.dict_catalogue.specs.Views.{summary_shown};
 ghost use Rattle.store_holdings.specs.Holds.{Holds, IsHeld, IsLeft, Rests};
@@ -12,12 +10,10 @@ ghost use Rattle.store_holdings.specs.Writing.{StaysCommitted};
 ghost use Rattle.store_migration.specs.Failing.{FailsToMigrate};
 ghost use Rattle.store_migration.specs.Migrated.{MayMigrate};
 ghost use Rattle.store_commands.specs.Changes.{IsInRange};
-ghost use Rattle.store_commands.specs.Filing.{rested};
 ghost use Rattle.dict_desk.specs.Faults.{has_closed_by, has_failed_by, is_disk};
 ghost use Rattle.store_opening.specs.Reading.{IsOfOpening, HasFailedToRead};
 ghost use Rattle.store_desk.specs.Desk.{KeepsBeside, Shows, LeavesOneOf, is_closed, has_failed};
 ghost use Rattle.store_desk.specs.Opened.{TellsOfDatabase, IsNotHeld, IsNotLeft, HoldsItsTrees};
-ghost use Rattle.store_desk.specs.Prepared.{Continues};
 ghost use Rattle.store_opening.specs.Indexed.{IsHeldIndexed};
 ghost use Rattle.store_desk.specs.Indexed.{AreHeldCut};
 ghost use Rattle.store_search.specs.Entries.{Indexed};
@@ -30,7 +26,6 @@ ghost use Rattle.store_holdings.specs.Faults.{IsOfStore};
 use crate::desk::Desk;
 use crate::kept::forget_by;
 use crate::last::{LastCall, last_by};
-use crate::withdrawing::Withdrawn;
 use dict_catalogue::{Summary, edition_numbers};
 use dict_desk::Fault;
 use sqlite::{Alter, Connection};
@@ -182,15 +177,13 @@ fn read_again<S: Alter>(alloc: Global, conn: &mut Connection<S>) -> Result<(), F
 // tells that it is.
 fn read_committed<S: Alter>(alloc: Global, conn: &mut Connection<S>) -> Result<(), Fault>
     requires autocommit { conn.old.in_transaction ≡ false }
-    requires limit { conn.old.step_limit ≡ None }
-    requires tables { WhileOpen (state S.Store conn.old) (Has kept_table) }
     requires holds { HasCleanDisk (state S.Store conn.old) → IsTrue (state S.Store conn.old).is_open → (M : Catalogue) × Rests known (state S.Store conn.old) M }
     ensures rests { HasCleanDisk (state S.Store conn.new) → OnOk result ((M : Catalogue) × Rests known (state S.Store conn.new) M) }
     ensures kinds { IfErr result IsOfOpening }
-    ensures failed { HasCleanDisk (state S.Store conn.new) → IfErr result (λ fault. fault ≡ Fault.Disk → HasFailedToRead (rested (state S.Store conn.old)) (state S.Store conn.new)) }
-    ensures told { HasCleanDisk (state S.Store conn.new) → (db : Database) → (IsTrue (state S.Store conn.old).is_open → (state S.Store conn.old).committed ≡ db) → IfErr result (TellsOfDatabase db) }
-    ensures not_held { HasCleanDisk (state S.Store conn.new) → (db : Database) → (IsTrue (state S.Store conn.old).is_open → (state S.Store conn.old).committed ≡ db) → IfErr result (IsNotHeld db) }
-    ensures continues { HasCleanDisk (state S.Store conn.new) → Continues (state S.Store conn.old) (state S.Store conn.new) }
+    ensures failed { HasCleanDisk (state S.Store conn.new) → IfErr result (λ fault. fault ≡ Fault.Disk → HasFailedToRead (state S.Store conn.old) (state S.Store conn.new)) }
+    ensures told { HasCleanDisk (state S.Store conn.new) → IfErr result (TellsOfDatabase (state S.Store conn.old).committed) }
+    ensures not_held { HasCleanDisk (state S.Store conn.new) → IfErr result (IsNotHeld (state S.Store conn.old).committed) }
+    ensures stays { HasCleanDisk (state S.Store conn.new) → StaysCommitted (state S.Store conn.old) (state S.Store conn.new) }
     ensures autocommit { conn.new.in_transaction ≡ false }
     ensures survives { Survives (state S.Store conn.old) (state S.Store conn.new) (λ _. ⊥) }
 {
@@ -249,15 +242,15 @@ impl<S: Alter + Drop> Desk<S> {
     }
 
     /// Reads the database whole again, as `adopt` does: what is committed. Nothing is written: no tables are made. What is prepared is
-    /// undone first.
+    /// let go of first.
     ///
     /// `Ok`: it holds a catalogue, and the desk goes on. `Damaged`, `NewerSchema` and `NotACatalogue` tell what `adopt` would.
     /// `Memory`: a growth was refused. `Disk`: the store failed, and the desk is closed. `Closed`: it was so before.
     pub fn audit(&mut self) -> Result<(), Fault>
         ensures sound { IfOk result (λ _. HasCleanDisk (state S.Store self.new.conn) → (M : Catalogue) × Rests known (state S.Store self.new.conn) M) }
-        ensures told { IfErr result (λ fault. HasCleanDisk (state S.Store self.new.conn) → TellsOfDatabase (rested (state S.Store self.old.conn)).now fault) }
-        ensures not_held { IfErr result (λ fault. HasCleanDisk (state S.Store self.new.conn) → IsNotHeld (rested (state S.Store self.old.conn)).now fault) }
-        ensures broken { HasCleanDisk (state S.Store self.new.conn) → IfErr result (λ fault. fault ≡ Fault.Disk → HasFailedToRead (rested (state S.Store self.old.conn)) (state S.Store self.new.conn)) }
+        ensures told { IfErr result (λ fault. HasCleanDisk (state S.Store self.new.conn) → TellsOfDatabase (state S.Store self.old.conn).committed fault) }
+        ensures not_held { IfErr result (λ fault. HasCleanDisk (state S.Store self.new.conn) → IsNotHeld (state S.Store self.old.conn).committed fault) }
+        ensures broken { HasCleanDisk (state S.Store self.new.conn) → IfErr result (λ fault. fault ≡ Fault.Disk → HasFailedToRead (state S.Store self.old.conn) (state S.Store self.new.conn)) }
         ensures shows { HasCleanDisk (state S.Store self.new.conn) → (M : Catalogue) → Shows S.Store self.old M → Shows S.Store self.new M }
         ensures spares { Survives (state S.Store self.old.conn) (state S.Store self.new.conn) (λ _. ⊥) }
         ensures same { HasCleanDisk (state S.Store self.new.conn) → IsTrue (state S.Store self.new.conn).is_open → (state S.Store self.new.conn).committed ≡ (state S.Store self.old.conn).committed }
@@ -266,7 +259,7 @@ impl<S: Alter + Drop> Desk<S> {
         ensures closed { is_closed self.old.last ≡ true → result ≡ Err Fault.Closed }
         ensures kinds { is_closed self.old.last ≡ false → IfErr result IsOfOpening }
     {
-        self.withdraw(Withdrawn::All)?;
+        self.withdraw()?;
         let outcome = read_committed(self.alloc, &mut self.conn);
         self.last = last_by(&outcome);
         forget_by(&mut self.texts, self.last);

@@ -1,24 +1,23 @@
 // An edition that may come: it is read, filed, and its index is made.
 ghost use Rattle.std.specs.Prelude.{◌≡◌, ◌≢◌, ◌+◌, ℕ, true, false, IsTrue, IfErr, IfNone, IfOk, IfSome, OnErr, OnOk, Some, map};
 ghost use Rattle.sqlite.specs.Disk.{MoreFaults};
-ghost use Rattle.sqlite.specs.State.{HasCleanDisk, KeepsCommit, Survives};
+ghost use Rattle.sqlite.specs.State.{HasCleanDisk, Survives};
 ghost use Rattle.sqlite.specs.Held.{state};
-ghost use Rattle.store_sql.specs.Effects.{WhileOpen};
 ghost use Rattle.dict_index.specs.Edition.{ReadEdition};
 ghost use Rattle.dict_index.specs.Meaning.{IsReadEdition};
 ghost use Rattle.store_lookup.specs.Indexes.{entries_under};
 ghost use Rattle.store_search.specs.Entries.{entry_of};
 ghost use Rattle.dict_catalogue.specs.Views.{summary_shown};
-ghost use Rattle.store_commands.specs.Committed.{IsOfStore};
+ghost use Rattle.store_holdings.specs.Committed.{IsCommitted, IsTreesOf};
+ghost use Rattle.store_commands.specs.Committed.{IsOfStore, StaysCommitted};
 ghost use Rattle.store_commands.specs.Answers.{HoldsBy};
 ghost use Rattle.store_commands.specs.Changes.{IsInRange};
-ghost use Rattle.store_commands.specs.Filing.{IsDrawnUp, IsUnderway, AreAllPartsFiled, HasSameRows, rested};
+ghost use Rattle.store_commands.specs.Filing.{IsDrawnUp, IsFiledSoFar, AreAllPartsFiled, HasSameRows};
 ghost use Rattle.store_commands.specs.Finishing.{IsFinished};
 ghost use Rattle.store_commands.specs.Installs.{IsInstallOf, IsReadInstall};
-ghost use Rattle.store_commands.specs.KeptRecords.{IsUsable};
+ghost use Rattle.store_commands.specs.Marking.{Remains};
 ghost use Rattle.store_desk.specs.Coming.{IsIndexOfInstall};
 ghost use Rattle.store_desk.specs.Indexed.{HasPutIfSome};
-ghost use Rattle.store_desk.specs.Prepared.{Undoes};
 
 use crate::making::{IndexPart, make_part, take_whole};
 use dict_catalogue::Summary;
@@ -77,22 +76,33 @@ impl Coming {
         conn: &mut Connection<S>,
         summary: &Summary,
     ) -> Result<bool, Option<Fault>>
-        requires usable { WhileOpen (rested (state S.Store conn.old)) IsUsable }
-        requires underway { IsUnderway S.Store self.old conn.old }
+        requires autocommit { conn.old.in_transaction ≡ false }
+        requires holds { HoldsBy (summary_shown summary.now) (state S.Store conn.old) }
+        requires filed { IsFiledSoFar self.old (state S.Store conn.old) }
         ensures rows { HasSameRows self.old self.new }
         ensures drawn { IsDrawnUp self.new }
         ensures next { OnOk result (self.new.number ≡ (summary_shown summary.now).installs + 1) }
-        ensures underway { IsUnderway S.Store self.new conn.new }
+        ensures made { HasCleanDisk (state S.Store conn.new) → OnOk result (IsCommitted (Remains (summary_shown summary.now) (state S.Store conn.old).committed) (state S.Store conn.new)) }
+        ensures filed { OnOk result (IsFiledSoFar self.new (state S.Store conn.new)) }
         ensures whole { IfOk result (λ more. more ≡ false → AreAllPartsFiled self.new) }
-        ensures inside { HasCleanDisk (state S.Store conn.new) → OnOk result (conn.new.in_transaction ≡ true) }
-        ensures undone { HasCleanDisk (state S.Store conn.new) → OnErr result (conn.new.in_transaction ≡ false) }
-        ensures settled { HasCleanDisk (state S.Store conn.new) → OnErr result (IsTrue (state S.Store conn.new).is_open → (state S.Store conn.new).now ≡ (state S.Store conn.new).committed) }
-        ensures keeps { HasCleanDisk (state S.Store conn.new) → KeepsCommit (state S.Store conn.old) (state S.Store conn.new) }
+        ensures stays { HasCleanDisk (state S.Store conn.new) → OnErr result (StaysCommitted (state S.Store conn.old) (state S.Store conn.new)) }
+        ensures lives { HasCleanDisk (state S.Store conn.new) → IsTrue (state S.Store conn.new).is_open → IsTrue (state S.Store conn.old).is_open }
         ensures faulted { HasCleanDisk (state S.Store conn.new) → IfErr result (λ why. why ≡ Some Fault.Disk → MoreFaults (state S.Store conn.old).faults (state S.Store conn.new).faults) }
         ensures kinds { IfErr result (λ why. IfSome why IsOfStore) }
-        ensures survives { Survives (state S.Store conn.old) (state S.Store conn.new) (λ _. ⊥) }
+        ensures autocommit { (state S.Store conn.new).in_transaction ≡ false }
+        ensures crash { Survives (state S.Store conn.old) (state S.Store conn.new) (λ trees. IsTrue (state S.Store conn.old).is_open × IsTreesOf (Remains (summary_shown summary.now) (state S.Store conn.old).committed) trees) }
     {
         file_part(conn, summary, &mut self.install.filing)
+    }
+
+    /// Whether all of its parts are filed.
+    pub(crate) fn is_filed(&self) -> bool {
+        self.install.filing.is_whole()
+    }
+
+    /// The number under which parts of it may stand.
+    pub(crate) fn number_filed(&self) -> Option<u64> {
+        self.install.filing.number_filed()
     }
 
     /// Makes the next part of the index. Whether there was one.
@@ -102,15 +112,8 @@ impl Coming {
         make_part(&self.install, &mut self.index)
     }
 
-    /// Whether the edition that it installs gets another number than this one.
-    pub(crate) fn spares(&self, number: u64) -> bool
-        ensures { IsTrue result → self.now.number ≢ number }
-    {
-        self.install.filing.spares(number)
-    }
-
     /// Finishes the install of what was prepared, where it is of this name and these files, and its index is whole: that is put under the
-    /// number that the edition gets. None, and at most what was filed is undone: it isn't so; or `apply_read` tells that it can't be finished.
+    /// number that the edition gets. None, and nothing is written: it isn't so; or `apply_read` tells that it can't be finished.
     pub(crate) fn finish<S: Alter>(
         &mut self,
         alloc: Global,
@@ -120,16 +123,17 @@ impl Coming {
         number: u64,
         request: &AskedInstall<'_>,
     ) -> Option<Result<Applied, Fault>>
-        requires inside { conn.old.in_transaction ≡ true }
-        requires underway { IsUnderway S.Store self.old conn.old }
-        requires holds { HoldsBy (summary_shown summary.now) (rested (state S.Store conn.old)) }
+        requires autocommit { conn.old.in_transaction ≡ false }
+        requires filed { IsFiledSoFar self.old (state S.Store conn.old) }
+        requires holds { HoldsBy (summary_shown summary.now) (state S.Store conn.old) }
         requires range { IsInRange (summary_shown summary.now) }
         ensures same { self.new ≡ self.old }
         ensures finished { IfSome result (λ outcome. (reading : ReadEdition) × IsReadEdition request.now.index.now request.now.text.now reading
             × IsFinished S.Store (summary_shown summary.now) request.now.id.now request.now.name.now reading conn.old conn.new outcome × HasPutIfSome number (Some (map entry_of reading.lines)) indexes.old indexes.new) }
         ensures settled { HasCleanDisk (state S.Store conn.new) → IsTrue (state S.Store conn.new).is_open → IfSome result (λ _. (state S.Store conn.new).now ≡ (state S.Store conn.new).committed) }
         ensures others { (q : ℕ) → q ≢ number → entries_under q indexes.new ≡ entries_under q indexes.old }
-        ensures undone { HasCleanDisk (state S.Store conn.new) → IfNone result (Undoes S.Store conn.old conn.new) }
+        ensures stays { HasCleanDisk (state S.Store conn.new) → IfNone result (StaysCommitted (state S.Store conn.old) (state S.Store conn.new)) }
+        ensures ended { conn.new.in_transaction ≡ false }
         ensures survives { IfNone result (Survives (state S.Store conn.old) (state S.Store conn.new) (λ _. ⊥)) }
     {
         if put_index(&self.install, &mut self.index, indexes, number, request) {

@@ -20,6 +20,7 @@ use crate::desk::Desk;
 use crate::kept::forget_behind;
 use crate::laws::committed_may_stay;
 use crate::preparing::{last_behind, told_of};
+use crate::withdrawing::let_go;
 use dict_catalogue::{Command, Summary};
 use dict_desk::Fault;
 use sqlite::{Alter, Connection};
@@ -72,17 +73,14 @@ fn copy_over<S: Alter>(conn: &mut Connection<S>, summary: &Summary) -> Result<bo
 }
 
 impl<S: Alter + Drop> Desk<S> {
-    // Whether an install may have left a long log, no files are read and no transaction is open.
-    pub(crate) fn may_copy(&self) -> bool
-        ensures { IsTrue result → self.now.conn.in_transaction ≡ false }
-    {
-        self.is_log_long && self.draft.is_none() && self.conn.is_autocommit()
+    // Whether an install may have left a long log, and nothing is read or filed.
+    pub(crate) fn may_copy(&self) -> bool {
+        self.is_log_long && self.draft.is_none() && self.filing.is_none()
     }
 
-    // Has the log copied. Whether it was: then there may be more to prepare.
+    // Has the log copied. Whether it was: then there may be more to prepare. Nothing is filed, or it is let go of.
     pub(crate) fn copy_log(&mut self) -> Result<bool, Fault>
-        requires open { is_closed self.old.last ≡ false }
-        requires none { self.old.conn.in_transaction ≡ false }
+        requires { is_closed self.old.last ≡ false }
         ensures committed { HasCleanDisk (state S.Store self.new.conn) → result ≡ Ok true → HasCommittedSame S.Store self.old self.new }
         ensures trust { HasCleanDisk (state S.Store self.new.conn) → HasCleanDisk (state S.Store self.old.conn) }
         ensures shows { HasCleanDisk (state S.Store self.new.conn) → (M : Catalogue) → Shows S.Store self.old M → Shows S.Store self.new M }
@@ -93,6 +91,7 @@ impl<S: Alter + Drop> Desk<S> {
         ensures failed { has_failed self.new.last ≡ (has_failed self.old.last || has_failed_by result) }
         ensures closes { is_closed self.new.last ≡ (is_closed self.old.last || has_closed_by result) }
     {
+        let_go(&mut self.filing, &mut self.orphans);
         is_whole(&self.conn);
         committed_may_stay(&self.conn);
         let outcome = copy_over(&mut self.conn, &self.summary);

@@ -1,5 +1,5 @@
 // A desk over one database.
-ghost use Rattle.std.specs.Prelude.{◌≡◌, ◌≢◌, ◌∷◌, [], Some, None, Ok, false, IfOk, IfErr, MatchResult};
+ghost use Rattle.std.specs.Prelude.{◌≡◌, ◌≢◌, ◌∷◌, [], Some, None, false, IfOk, IfErr};
 ghost use Rattle.sqlite.specs.State.{HasCleanDisk, Survives};
 ghost use Rattle.sqlite.specs.Held.{state};
 ghost use Rattle.dict_catalogue.specs.Steps.{Catalogue, empty_catalogue, summary_of};
@@ -17,14 +17,12 @@ ghost use Rattle.sqlite.specs.Effect.{Database};
 ghost use Rattle.store_desk.specs.Desk.{KeepsBeside, Shows, LeavesOneOf, is_closed};
 ghost use Rattle.store_desk.specs.Over.{ConnectionKeepsBeside};
 ghost use Rattle.store_desk.specs.Indexed.{AreHeldCut};
-ghost use Rattle.store_desk.specs.Prepared.{Undoes};
 ghost use Rattle.store_rows.specs.Versions.{known};
 
 use crate::adopting::is_whole;
 use crate::coming::Coming;
 use crate::last::LastCall;
 use crate::laws::committed_may_stay;
-use crate::withdrawing::undo;
 use dict_catalogue::Summary;
 use dict_desk::Fault;
 use sqlite::{Alter, Connection};
@@ -36,8 +34,8 @@ use store_migration::create;
 
 /// A desk over one database: the connection to it, the summary of the catalogue that it holds, and an index of each of its editions,
 /// current and former, which counts and finds. The texts of editions from which entries were handed out last are kept in memory, up to
-/// `store_lookup::MAX_OCTETS`. Between two calls a transaction may be open, in which rows of a
-/// change that may come are filed: none of them is shown before that change is applied.
+/// `store_lookup::MAX_OCTETS`. Parts of an edition that may come are committed under the number that it gets, of which no edition is: none of them
+/// is shown before the edition is installed.
 pub struct Desk<S: Alter + Drop> {
     pub(crate) alloc: Global,
     pub(crate) conn: Connection<S>,
@@ -51,10 +49,8 @@ pub struct Desk<S: Alter + Drop> {
     pub(crate) rows_taken: u64,
     // What is read of an install that may come.
     pub(crate) draft: Option<Draft>,
-    // What is prepared of it, once it is read: rows of it are filed in the transaction that is open, if one is.
+    // What is prepared of it, once it is read: parts of it are filed.
     pub(crate) filing: Option<Coming>,
-    // How many times it may begin yet. Nothing rests on it.
-    pub(crate) begins: u8,
     // Whether an install may have left a long log. Nothing rests on it.
     pub(crate) is_log_long: bool,
     // The numbers under which there may be parts of no edition. Nothing rests on it.
@@ -74,7 +70,6 @@ impl<S: Alter + Drop> Drop for Desk<S> {
             rows_taken: _,
             draft: _,
             filing: _,
-            begins: _,
             is_log_long: _,
             orphans: _,
         } = self;
@@ -124,7 +119,6 @@ impl<S: Alter + Drop> Desk<S> {
             rows_taken: 0,
             draft: None,
             filing: None,
-            begins: 0,
             is_log_long: false,
             orphans,
         }
@@ -198,7 +192,8 @@ impl<S: Alter + Drop> Desk<S> {
 
     // The connection of a desk, of which nothing else is left.
     pub(crate) fn only_connection(self) -> Connection<S>
-        ensures { result ≡ self.conn }
+        ensures same { result ≡ self.conn }
+        ensures autocommit { result.in_transaction ≡ false }
     {
         let Desk {
             alloc: _,
@@ -210,25 +205,17 @@ impl<S: Alter + Drop> Desk<S> {
             rows_taken: _,
             draft: _,
             filing: _,
-            begins: _,
             is_log_long: _,
             orphans: _,
         } = self;
         conn
     }
 
-    /// The connection, as the desk left it, in no transaction: what is prepared is undone first. Where it couldn't be undone, which is
-    /// only where the disk has given other octets than were written, the connection is handed back as an error, in its transaction.
-    pub fn into_connection(self) -> Result<Connection<S>, Connection<S>>
-        ensures same { self.conn.in_transaction ≡ false → result ≡ Ok self.conn }
-        ensures autocommit { IfOk result (λ conn. conn.in_transaction ≡ false) }
-        ensures undone { IfOk result (λ conn. HasCleanDisk (state S.Store conn) → Undoes S.Store self.conn conn) }
-        ensures cause { IfErr result (λ conn. HasCleanDisk (state S.Store conn) → ⊥) }
-        ensures survives { MatchResult result
-            (λ conn. Survives (state S.Store self.conn) (state S.Store conn) (λ _. ⊥))
-            (λ conn. Survives (state S.Store self.conn) (state S.Store conn) (λ _. ⊥)) }
+    /// The connection, as the desk left it, in no transaction.
+    pub fn into_connection(self) -> Connection<S>
+        ensures same { result ≡ self.conn }
+        ensures autocommit { result.in_transaction ≡ false }
     {
-        let mut conn = self.only_connection();
-        if undo(&mut conn) { Ok(conn) } else { Err(conn) }
+        self.only_connection()
     }
 }

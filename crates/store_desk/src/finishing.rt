@@ -1,5 +1,5 @@
 // The install of what was prepared.
-ghost use Rattle.std.specs.Prelude.{◌≡◌, ◌≢◌, ℕ, false, true, map, Err, Some, IsTrue, IfErr, IfSome, IfNone};
+ghost use Rattle.std.specs.Prelude.{◌≡◌, ◌≢◌, ℕ, false, map, Err, Some, IsTrue, IfErr, IfSome, IfNone};
 ghost use Rattle.sqlite.specs.State.{HasCleanDisk, Survives};
 ghost use Rattle.sqlite.specs.Held.{state};
 ghost use Rattle.dict_index.specs.Edition.{ReadEdition, edition_of};
@@ -9,7 +9,7 @@ ghost use Rattle.dict_catalogue.specs.Steps.{Catalogue};
 ghost use Rattle.dict_catalogue.specs.Views.{summary_shown};
 ghost use Rattle.store_commands.specs.Answers.{HoldsBy};
 ghost use Rattle.store_commands.specs.Changes.{IsInRange};
-ghost use Rattle.store_commands.specs.Filing.{rested};
+ghost use Rattle.store_commands.specs.Committed.{StaysCommitted};
 ghost use Rattle.store_commands.specs.Finishing.{IsFinished};
 ghost use Rattle.dict_desk.specs.Faults.{IsOfCommand, has_closed_by, has_failed_by};
 ghost use Rattle.store_desk.specs.Causes.{IsAppliedTo};
@@ -17,11 +17,9 @@ ghost use Rattle.store_lookup.specs.Indexes.{entries_under};
 ghost use Rattle.store_search.specs.Entries.{entry_of};
 ghost use Rattle.store_desk.specs.Desk.{HasFiled, Shows, is_closed, has_failed};
 ghost use Rattle.store_desk.specs.Indexed.{HasPutIfSome};
-ghost use Rattle.store_desk.specs.Prepared.{Undoes};
 
 use crate::adopting::is_whole;
 use crate::coming::{AskedInstall, Coming};
-use crate::copying::is_long_behind;
 use crate::desk::Desk;
 use crate::indexing::settle;
 use crate::keeper::take_over;
@@ -29,7 +27,7 @@ use crate::kept::forget_by;
 use crate::last::last_by;
 use crate::laws::committed_may_stay;
 use crate::tidying::note_gone;
-use crate::withdrawing::let_go_when_ended;
+use crate::withdrawing::let_go;
 use dict_catalogue::{Kept, Summary};
 use dict_desk::Fault;
 use dict_index::EditionRefusal;
@@ -48,16 +46,17 @@ fn finish_coming<S: Alter>(
     filing: &mut Option<Coming>,
     request: &AskedInstall<'_>,
 ) -> Option<Result<Applied, Fault>>
-    requires inside { conn.old.in_transaction ≡ true }
-    requires filed { HasFiled S.Store filing.old conn.old }
-    requires holds { HoldsBy (summary_shown summary.now) (rested (state S.Store conn.old)) }
+    requires autocommit { conn.old.in_transaction ≡ false }
+    requires filed { HasFiled filing.old (state S.Store conn.old) }
+    requires holds { HoldsBy (summary_shown summary.now) (state S.Store conn.old) }
     requires range { IsInRange (summary_shown summary.now) }
     ensures same { filing.new ≡ filing.old }
     ensures finished { IfSome result (λ outcome. (reading : ReadEdition) × IsReadEdition request.now.index.now request.now.text.now reading
         × IsFinished S.Store (summary_shown summary.now) request.now.id.now request.now.name.now reading conn.old conn.new outcome × HasPutIfSome number (Some (map entry_of reading.lines)) indexes.old indexes.new) }
     ensures settled { HasCleanDisk (state S.Store conn.new) → IsTrue (state S.Store conn.new).is_open → IfSome result (λ _. (state S.Store conn.new).now ≡ (state S.Store conn.new).committed) }
     ensures others { (q : ℕ) → q ≢ number → entries_under q indexes.new ≡ entries_under q indexes.old }
-    ensures undone { HasCleanDisk (state S.Store conn.new) → IfNone result (Undoes S.Store conn.old conn.new) }
+    ensures stays { HasCleanDisk (state S.Store conn.new) → IfNone result (StaysCommitted (state S.Store conn.old) (state S.Store conn.new)) }
+    ensures ended { conn.new.in_transaction ≡ false }
     ensures survives { IfNone result (Survives (state S.Store conn.old) (state S.Store conn.new) (λ _. ⊥)) }
 {
     let Some(coming) = filing else {
@@ -82,8 +81,8 @@ impl<S: Alter + Drop> Desk<S> {
         }
     }
 
-    // Finishes the install of what was prepared of this name and these files, under an id. None, and nothing is done but that what was
-    // filed may be undone: it isn't prepared whole, or not of these; or `apply_read` tells that it can't be finished.
+    // Finishes the install of what was prepared of this name and these files, under an id. None, and nothing is written: it isn't prepared
+    // whole, or not of these; or `apply_read` tells that it can't be finished.
     pub(crate) fn finish(
         &mut self,
         id: &str,
@@ -101,9 +100,6 @@ impl<S: Alter + Drop> Desk<S> {
         ensures shows { HasCleanDisk (state S.Store self.new.conn) → (M : Catalogue) → Shows S.Store self.old M → IfNone result (Shows S.Store self.new M) }
         ensures survives { IfNone result (Survives (state S.Store self.old.conn) (state S.Store self.new.conn) (λ _. ⊥)) }
     {
-        if self.conn.is_autocommit() {
-            return None;
-        }
         let number = self.summary.installs.saturating_add(1);
         let request = AskedInstall {
             id,
@@ -127,9 +123,7 @@ impl<S: Alter + Drop> Desk<S> {
         };
         self.last = last_by(&outcome);
         forget_by(&mut self.texts, self.last);
-        let octets = index.len().saturating_add(text.len());
-        self.is_log_long = is_long_behind(self.is_log_long, octets, &outcome);
-        let_go_when_ended(&self.conn, &mut self.filing);
+        let_go(&mut self.filing, &mut self.orphans);
         settle(&mut self.indexes, &self.summary.items, number, &outcome);
         note_gone(self.alloc, &mut self.orphans, &self.summary.items, &outcome);
         Some(take_over(&mut self.summary, outcome))

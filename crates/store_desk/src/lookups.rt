@@ -43,7 +43,9 @@ impl<S: Alter + Drop> Lookup for Desk<S> {
     }
 
     fn info<T: RowSink>(&mut self, number: u64, sink: &mut T) -> Result<End, Fault> {
-        self.make_ready(number)?;
+        if self.last == LastCall::Closed {
+            return Err(Fault::Closed);
+        }
         let outcome = store_lookup::info(
             self.alloc,
             &mut self.conn,
@@ -87,7 +89,9 @@ impl<S: Alter + Drop> Lookup for Desk<S> {
         query: &Key,
         sink: &mut T,
     ) -> Result<End, Fault> {
-        self.make_ready(number)?;
+        if self.last == LastCall::Closed {
+            return Err(Fault::Closed);
+        }
         let outcome = find_under(
             self.alloc,
             &mut self.conn,

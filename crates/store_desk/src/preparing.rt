@@ -1,26 +1,29 @@
 // What a desk prepares of a change that may come.
-ghost use Rattle.std.specs.Prelude.{◌≡◌, ◌≢◌, ◌⊎◌, ◌||◌, true, false, IsTrue, IfErr, IfSome, List, Ok, Option, Some};
+ghost use Rattle.std.specs.Prelude.{◌≡◌, ◌≢◌, ◌⊎◌, ◌||◌, true, false, IsTrue, IfErr, IfSome, List, Ok, OnErr, Option, Some};
 ghost use Rattle.sqlite.specs.Disk.{MoreFaults};
 ghost use Rattle.sqlite.specs.Effect.{Database};
 ghost use Rattle.sqlite.specs.State.{HasCleanDisk, KeepsCommit, Survives};
 ghost use Rattle.sqlite.specs.Held.{state};
-ghost use Rattle.store_sql.specs.Effects.{WhileOpen};
 ghost use Rattle.store_commands.specs.Committed.{IsOfStore};
 ghost use Rattle.dict_catalogue.specs.Steps.{Catalogue};
 ghost use Rattle.dict_catalogue.specs.Views.{summary_shown};
 ghost use Rattle.store_commands.specs.Changes.{IsInRange};
-ghost use Rattle.store_commands.specs.Filing.{IsDrawnUp, rested};
-ghost use Rattle.store_commands.specs.KeptRecords.{IsUsable};
+ghost use Rattle.store_commands.specs.Answers.{HoldsBy};
+ghost use Rattle.store_commands.specs.Filing.{HasNoneFiled, IsDrawnUp};
+ghost use Rattle.store_commands.specs.Marking.{Remains};
+ghost use Rattle.store_holdings.specs.Committed.{IsCommitted, IsTreesOf};
 ghost use Rattle.dict_desk.specs.Faults.{has_closed_by, has_failed_by};
 ghost use Rattle.store_desk.specs.Causes.{FailsToPrepare};
 ghost use Rattle.store_desk.specs.Desk.{HasFiled, KeepsBeside, LeavesOneOf, Shows, has_failed, is_closed};
-ghost use Rattle.store_desk.specs.Prepared.{HasCommittedSame, LetsGo, last_behind};
+ghost use Rattle.store_desk.specs.Prepared.{HasCommittedSame, last_behind};
 
+use crate::adopting::is_whole;
 use crate::coming::Coming;
 use crate::desk::Desk;
 use crate::kept::{forget_behind, forget_by};
 use crate::last::LastCall;
-use crate::withdrawing::{Withdrawn, let_go};
+use crate::laws::committed_may_stay;
+use crate::withdrawing::let_go;
 use dict_catalogue::{Command, Summary};
 use dict_desk::{Answered, Fault, Preparer};
 use dict_index::one_meaning;
@@ -28,34 +31,6 @@ use sqlite::{Alter, Connection};
 use std::alloc::Global;
 use std::mem;
 use store_commands::{Draft, plan_draft};
-
-// A filing may begin so many times. A lookup that fails for want of memory undoes what was filed; after the last time nothing is
-// prepared any more, and the change is made when it comes.
-const MAX_BEGINS: u8 = 3;
-
-// Counts that a filing begins, if it does, where no transaction is open; one that may not begin any more is let go of.
-fn count_begin<S: Alter>(conn: &Connection<S>, filing: &mut Option<Coming>, begins: &mut u8)
-    ensures { LetsGo conn.now filing.old filing.new }
-{
-    if !conn.is_autocommit() {
-        return;
-    }
-    if *begins > 0 {
-        *begins -= 1;
-        return;
-    }
-    drop(filing.take());
-}
-
-// Whether there is more, or else makes a part of the index: whether there was one.
-fn goes_on(more: bool, planned: &mut Coming) -> bool
-    ensures { planned.new ≡ planned.old }
-{
-    if more {
-        return true;
-    }
-    planned.make()
-}
 
 // What is told where a part wasn't filed: the fault, if there was one.
 pub(crate) fn told_of(why: Option<Fault>) -> Result<bool, Fault>
@@ -68,31 +43,38 @@ pub(crate) fn told_of(why: Option<Fault>) -> Result<bool, Fault>
     }
 }
 
-// Files a bounded part of what is to be prepared over this summary, if anything is, and once all is filed makes a part of its index.
-// What can't be filed is let go of.
+// Files a bounded part of what is to be prepared over this summary, if anything is, and once all is filed makes a part of its index. Whether
+// there is more. What can't be filed is let go of.
 fn file_next<S: Alter>(
     conn: &mut Connection<S>,
     summary: &Summary,
     filing: &mut Option<Coming>,
+    orphans: &mut Vec<u64>,
 ) -> Result<bool, Fault>
-    requires filed { HasFiled S.Store filing.old conn.old }
-    requires usable { WhileOpen (rested (state S.Store conn.old)) IsUsable }
-    requires settled { HasCleanDisk (state S.Store conn.old) → IsTrue (state S.Store conn.old).is_open → conn.old.in_transaction ≡ false → (state S.Store conn.old).now ≡ (state S.Store conn.old).committed }
-    ensures filed { HasFiled S.Store filing.new conn.new }
-    ensures keeps { HasCleanDisk (state S.Store conn.new) → KeepsCommit (state S.Store conn.old) (state S.Store conn.new) }
-    ensures settled { HasCleanDisk (state S.Store conn.new) → IsTrue (state S.Store conn.new).is_open → conn.new.in_transaction ≡ false → (state S.Store conn.new).now ≡ (state S.Store conn.new).committed }
+    requires autocommit { conn.old.in_transaction ≡ false }
+    requires holds { HoldsBy (summary_shown summary.now) (state S.Store conn.old) }
+    requires filed { HasFiled filing.old (state S.Store conn.old) }
+    ensures filed { HasFiled filing.new (state S.Store conn.new) }
+    ensures made { HasCleanDisk (state S.Store conn.new) → result ≡ Ok true → (conn.new ≡ conn.old) ⊎ IsCommitted (Remains (summary_shown summary.now) (state S.Store conn.old).committed) (state S.Store conn.new) }
+    ensures remains { HasCleanDisk (state S.Store conn.new) → IsTrue (state S.Store conn.new).is_open → Remains (summary_shown summary.now) (state S.Store conn.old).committed (state S.Store conn.new).committed }
+    ensures settled { HasCleanDisk (state S.Store conn.new) → IsTrue (state S.Store conn.new).is_open → (state S.Store conn.new).now ≡ (state S.Store conn.new).committed }
+    ensures lives { HasCleanDisk (state S.Store conn.new) → IsTrue (state S.Store conn.new).is_open → IsTrue (state S.Store conn.old).is_open }
+    ensures keeps { HasCleanDisk (state S.Store conn.new) → OnErr result (KeepsCommit (state S.Store conn.old) (state S.Store conn.new)) }
     ensures faulted { HasCleanDisk (state S.Store conn.new) → IfErr result (λ fault. fault ≡ Fault.Disk → MoreFaults (state S.Store conn.old).faults (state S.Store conn.new).faults) }
     ensures kinds { IfErr result IsOfStore }
-    ensures inside { HasCleanDisk (state S.Store conn.new) → result ≡ Ok true → conn.new.in_transaction ≡ true }
-    ensures survives { Survives (state S.Store conn.old) (state S.Store conn.new) (λ _. ⊥) }
+    ensures ended { conn.new.in_transaction ≡ false }
+    ensures crash { Survives (state S.Store conn.old) (state S.Store conn.new) (λ trees. IsTrue (state S.Store conn.old).is_open × IsTreesOf (Remains (summary_shown summary.now) (state S.Store conn.old).committed) trees) }
 {
     let Some(planned) = filing else {
         return Ok(false);
     };
+    if planned.is_filed() {
+        return Ok(planned.make());
+    }
     match planned.file(conn, summary) {
-        Ok(more) => Ok(goes_on(more, planned)),
+        Ok(_) => Ok(true),
         Err(why) => {
-            let_go(filing);
+            let_go(filing, orphans);
             told_of(why)
         }
     }
@@ -101,7 +83,7 @@ fn file_next<S: Alter>(
 // What is to be filed of a draft of which all is read, planned over this summary. It is none where a test fails. The draft is used up.
 fn plan_next(alloc: Global, summary: &Summary, draft: &mut Option<Draft>) -> Option<Coming>
     requires { IsInRange (summary_shown summary.now) }
-    ensures { IfSome result IsDrawnUp }
+    ensures { IfSome result (λ f. IsDrawnUp f × HasNoneFiled f) }
 {
     let Some(whole) = draft.take() else {
         return None;
@@ -155,7 +137,7 @@ fn read_next(
     filing: &mut Option<Coming>,
 ) -> Result<bool, Fault>
     requires range { IsInRange (summary_shown summary.now) }
-    ensures filed { (filing.new ≡ filing.old) ⊎ IfSome filing.new IsDrawnUp }
+    ensures filed { (filing.new ≡ filing.old) ⊎ IfSome filing.new (λ f. IsDrawnUp f × HasNoneFiled f) }
     ensures kinds { IfErr result (λ fault. fault ≡ Fault.Memory) }
 {
     match step_draft(draft) {
@@ -176,25 +158,27 @@ fn prepare_next<S: Alter>(
     summary: &Summary,
     draft: &mut Option<Draft>,
     filing: &mut Option<Coming>,
-    begins: &mut u8,
+    orphans: &mut Vec<u64>,
 ) -> Result<bool, Fault>
     requires range { IsInRange (summary_shown summary.now) }
-    requires filed { HasFiled S.Store filing.old conn.old }
-    requires usable { WhileOpen (rested (state S.Store conn.old)) IsUsable }
-    requires settled { HasCleanDisk (state S.Store conn.old) → IsTrue (state S.Store conn.old).is_open → conn.old.in_transaction ≡ false → (state S.Store conn.old).now ≡ (state S.Store conn.old).committed }
-    ensures filed { HasFiled S.Store filing.new conn.new }
-    ensures keeps { HasCleanDisk (state S.Store conn.new) → KeepsCommit (state S.Store conn.old) (state S.Store conn.new) }
-    ensures settled { HasCleanDisk (state S.Store conn.new) → IsTrue (state S.Store conn.new).is_open → conn.new.in_transaction ≡ false → (state S.Store conn.new).now ≡ (state S.Store conn.new).committed }
+    requires autocommit { conn.old.in_transaction ≡ false }
+    requires holds { HoldsBy (summary_shown summary.now) (state S.Store conn.old) }
+    requires filed { HasFiled filing.old (state S.Store conn.old) }
+    ensures filed { HasFiled filing.new (state S.Store conn.new) }
+    ensures made { HasCleanDisk (state S.Store conn.new) → result ≡ Ok true → (conn.new ≡ conn.old) ⊎ IsCommitted (Remains (summary_shown summary.now) (state S.Store conn.old).committed) (state S.Store conn.new) }
+    ensures remains { HasCleanDisk (state S.Store conn.new) → IsTrue (state S.Store conn.new).is_open → Remains (summary_shown summary.now) (state S.Store conn.old).committed (state S.Store conn.new).committed }
+    ensures settled { HasCleanDisk (state S.Store conn.new) → IsTrue (state S.Store conn.new).is_open → (state S.Store conn.new).now ≡ (state S.Store conn.new).committed }
+    ensures lives { HasCleanDisk (state S.Store conn.new) → IsTrue (state S.Store conn.new).is_open → IsTrue (state S.Store conn.old).is_open }
+    ensures keeps { HasCleanDisk (state S.Store conn.new) → OnErr result (KeepsCommit (state S.Store conn.old) (state S.Store conn.new)) }
     ensures faulted { HasCleanDisk (state S.Store conn.new) → IfErr result (λ fault. fault ≡ Fault.Disk → MoreFaults (state S.Store conn.old).faults (state S.Store conn.new).faults) }
     ensures kinds { IfErr result IsOfStore }
-    ensures inside { HasCleanDisk (state S.Store conn.new) → result ≡ Ok true → (conn.new.in_transaction ≡ true) ⊎ (conn.new ≡ conn.old) }
-    ensures survives { Survives (state S.Store conn.old) (state S.Store conn.new) (λ _. ⊥) }
+    ensures ended { conn.new.in_transaction ≡ false }
+    ensures crash { Survives (state S.Store conn.old) (state S.Store conn.new) (λ trees. IsTrue (state S.Store conn.old).is_open × IsTreesOf (Remains (summary_shown summary.now) (state S.Store conn.old).committed) trees) }
 {
-    if draft.is_some() && conn.is_autocommit() {
+    if draft.is_some() {
         return read_next(alloc, summary, draft, filing);
     }
-    count_begin(conn, filing, begins);
-    file_next(conn, summary, filing)
+    file_next(conn, summary, filing, orphans)
 }
 
 // How the last call ended, where something was prepared behind it with this outcome.
@@ -213,7 +197,7 @@ impl<S: Alter + Drop> Desk<S> {
     // Prepares a bounded part of what was noted: reads it, or files it. Whether there is more.
     pub(crate) fn prepare_part(&mut self) -> Result<bool, Fault>
         requires { is_closed self.old.last ≡ false }
-        ensures prepared { HasCleanDisk (state S.Store self.new.conn) → result ≡ Ok true → (self.new.conn.in_transaction ≡ true) ⊎ (self.new ≡ self.old) }
+        ensures prepared { HasCleanDisk (state S.Store self.new.conn) → result ≡ Ok true → (self.new ≡ self.old) ⊎ HasCommittedSame S.Store self.old self.new }
         ensures trust { HasCleanDisk (state S.Store self.new.conn) → HasCleanDisk (state S.Store self.old.conn) }
         ensures shows { HasCleanDisk (state S.Store self.new.conn) → (M : Catalogue) → Shows S.Store self.old M → Shows S.Store self.new M }
         ensures leaves { (ms : List (Option Catalogue)) → LeavesOneOf S.Store self.old ms → LeavesOneOf S.Store self.new ms }
@@ -223,13 +207,15 @@ impl<S: Alter + Drop> Desk<S> {
         ensures failed { has_failed self.new.last ≡ (has_failed self.old.last || has_failed_by result) }
         ensures closes { is_closed self.new.last ≡ (is_closed self.old.last || has_closed_by result) }
     {
+        is_whole(&self.conn);
+        committed_may_stay(&self.conn);
         let outcome = prepare_next(
             self.alloc,
             &mut self.conn,
             &self.summary,
             &mut self.draft,
             &mut self.filing,
-            &mut self.begins,
+            &mut self.orphans,
         );
         forget_behind(&mut self.texts, &outcome);
         self.last = last_behind(self.last, &outcome);
@@ -237,31 +223,29 @@ impl<S: Alter + Drop> Desk<S> {
     }
 }
 
-/// An install is noted by its files: they are copied, and read in slices before any of it is filed. A filing is at most begun three times: a
-/// lookup that is refused memory undoes it. What is filed is let go of where another command, a lookup in the text of the edition that
-/// comes, or a call that hands the connection out comes first. Before it is filed, what earlier commands left is tidied up: parts of no edition
-/// are taken out.
+/// An install is noted by its files: they are copied, read in slices, and filed in slices, each by a commit under the
+/// number that the edition gets, which changes nothing that is held. What is filed is let go of where another command, or a call that hands the
+/// connection out, comes first. Before an install is filed, and before every other command, what earlier ones left is tidied up: parts of no edition are
+/// taken out.
 impl<S: Alter + Drop> Preparer for Desk<S> {
-    // It failed, or what was prepared before is let go of: no transaction is open.
-    ghost expects = { λ _ _ desk. (has_failed desk.last ≡ true) ⊎ (desk.conn.in_transaction ≡ false) };
+    // No transaction is open, and all that is seen of the desk is as it was; or it failed, and its connection is.
+    ghost expects = { λ old _ desk. (desk.conn.in_transaction ≡ false) × ((desk ≡ old) ⊎ ((has_failed desk.last ≡ true) × (desk.conn ≡ old.conn))) };
 
-    // Where there is more to prepare, a transaction is open, in which rows of it are filed; or the files are being read, and all that is
-    // seen of the desk is as it was; or what an install left in the log was copied, or parts of no edition were taken out, by a commit that
-    // changes nothing that is held.
-    ghost prepares = { λ old result desk. HasCleanDisk (state S.Store desk.conn) → result ≡ Ok true → (desk.conn.in_transaction ≡ true) ⊎ ((desk ≡ old) ⊎ HasCommittedSame S.Store old desk) };
+    // Where there is more to prepare, all that is seen of the desk is as it was; or what an install left in the log was copied, parts of no edition
+    // were taken out, or some of the edition that comes were filed, by a commit that changes nothing that is held.
+    ghost prepares = { λ old result desk. HasCleanDisk (state S.Store desk.conn) → result ≡ Ok true → (desk ≡ old) ⊎ HasCommittedSame S.Store old desk };
 
     ghost fails_to_prepare = { FailsToPrepare S.Store };
 
     fn expect(&mut self, _command: &Command) -> Result<(), Fault> {
-        self.withdraw(Withdrawn::All)
+        self.withdraw()
     }
 
     fn expect_install(&mut self, name: &str, index: &[u8], text: &[u8]) -> Result<(), Fault> {
-        self.withdraw(Withdrawn::All)?;
+        self.withdraw()?;
         match Draft::begin(self.alloc, name, index, text) {
             Ok(draft) => {
                 drop(mem::replace(&mut self.draft, Some(draft)));
-                self.begins = MAX_BEGINS;
                 Ok(())
             }
             Err(_) => {
@@ -306,13 +290,11 @@ impl<S: Alter + Drop> Preparer for Desk<S> {
         if let Some(outcome) = self.finish(id, name, index, text) {
             return Ok(Some(Answered::Done(outcome)));
         }
-        match self.withdraw(Withdrawn::All) {
-            Ok(()) => Ok(None),
-            Err(fault) => Err(fault),
-        }
+        self.let_go_of_prepared();
+        Ok(None)
     }
 
     fn forget(&mut self) -> Result<(), Fault> {
-        self.withdraw(Withdrawn::All)
+        self.withdraw()
     }
 }

@@ -20,6 +20,7 @@ use crate::desk::Desk;
 use crate::kept::forget_behind;
 use crate::laws::committed_may_stay;
 use crate::preparing::{last_behind, told_of};
+use crate::withdrawing::let_go;
 use dict_catalogue::{Item, Summary, edition_numbers};
 use dict_desk::Fault;
 use sqlite::{Alter, Connection};
@@ -103,17 +104,14 @@ fn take_last<S: Alter>(
 }
 
 impl<S: Alter + Drop> Desk<S> {
-    // Whether there may be parts of no edition, nothing is filed and no transaction is open.
-    pub(crate) fn may_tidy(&self) -> bool
-        ensures { IsTrue result → self.now.conn.in_transaction ≡ false }
-    {
-        !self.orphans.is_empty() && self.filing.is_none() && self.conn.is_autocommit()
+    // Whether there may be parts of no edition, and nothing is filed.
+    pub(crate) fn may_tidy(&self) -> bool {
+        !self.orphans.is_empty() && self.filing.is_none()
     }
 
-    // Takes out some parts of no edition. Whether something was committed: then there may be more to prepare.
+    // Takes out some parts of no edition. Whether something was committed: then there may be more to prepare. Nothing is filed, or it is let go of.
     pub(crate) fn take_orphans_next(&mut self) -> Result<bool, Fault>
-        requires open { is_closed self.old.last ≡ false }
-        requires none { self.old.conn.in_transaction ≡ false }
+        requires { is_closed self.old.last ≡ false }
         ensures committed { HasCleanDisk (state S.Store self.new.conn) → result ≡ Ok true → HasCommittedSame S.Store self.old self.new }
         ensures trust { HasCleanDisk (state S.Store self.new.conn) → HasCleanDisk (state S.Store self.old.conn) }
         ensures shows { HasCleanDisk (state S.Store self.new.conn) → (M : Catalogue) → Shows S.Store self.old M → Shows S.Store self.new M }
@@ -124,6 +122,7 @@ impl<S: Alter + Drop> Desk<S> {
         ensures failed { has_failed self.new.last ≡ (has_failed self.old.last || has_failed_by result) }
         ensures closes { is_closed self.new.last ≡ (is_closed self.old.last || has_closed_by result) }
     {
+        let_go(&mut self.filing, &mut self.orphans);
         is_whole(&self.conn);
         committed_may_stay(&self.conn);
         let outcome = take_last(&mut self.conn, &self.summary, &mut self.orphans);

@@ -1,7 +1,7 @@
 //! Desks over databases that are made or found, commands that they accept, and statements of others.
 
 ghost use Rattle.std.specs.Prelude.{◌≡◌, ◌∷◌, [], false, Err, Some, IsTrue, IfOk, IfErr, OnOk};
-ghost use Rattle.sqlite.specs.State.{HasCleanDisk, Survives};
+ghost use Rattle.sqlite.specs.State.{HasCleanDisk};
 ghost use Rattle.sqlite.specs.Held.{state};
 ghost use Rattle.dict_catalogue.specs.Steps.{Catalogue, after, empty_catalogue};
 ghost use Rattle.dict_desk.specs.Faults.{IsOfCommand};
@@ -11,7 +11,6 @@ ghost use Rattle.store_holdings.specs.Writing.{IsOfCreation};
 ghost use Rattle.store_migration.specs.Spared.{SparesOthers};
 ghost use Rattle.store_desk.specs.Adopted.{IsAdopted, IsNotAdopted};
 ghost use Rattle.store_desk.specs.Desk.{LeavesOneOf, Shows};
-ghost use Rattle.store_desk.specs.Prepared.{Undoes};
 ghost use Rattle.store_fixtures.specs.Asked.{AreAccepted, FailsBehind, requests_asked};
 ghost use Rattle.store_fixtures.specs.Batched.{ExecutedInTurn};
 
@@ -64,17 +63,12 @@ pub fn desk_over<S: Alter + Drop>(
     }
 }
 
-/// The connection of a desk, in a transaction only where that couldn't be undone.
+/// The connection of a desk, in no transaction.
 pub fn connection_of<S: Alter + Drop>(desk: Desk<S>) -> Connection<S>
-    ensures same { desk.conn.in_transaction ≡ false → result ≡ desk.conn }
-    ensures undone { HasCleanDisk (state S.Store result) → Undoes S.Store desk.conn result }
-    ensures autocommit { HasCleanDisk (state S.Store result) → result.in_transaction ≡ false }
-    ensures survives { Survives (state S.Store desk.conn) (state S.Store result) (λ _. ⊥) }
+    ensures same { result ≡ desk.conn }
+    ensures autocommit { result.in_transaction ≡ false }
 {
-    match desk.into_connection() {
-        Ok(conn) => conn,
-        Err(conn) => conn,
-    }
+    desk.into_connection()
 }
 
 /// Applies commands in turn, up to the first that is not accepted, whose fault it answers.

@@ -1,5 +1,5 @@
 //! A catalogue on two disks, of which one fails. What holds it is any store, but where the two disks are opened.
-ghost use Rattle.std.specs.Prelude.{◌≡◌, ⊤, false, IfOk, IfSome, MatchResult};
+ghost use Rattle.std.specs.Prelude.{◌≡◌, ⊤, false, IfOk, MatchResult};
 ghost use Rattle.sqlite.specs.State.{HasCleanDisk};
 ghost use Rattle.sqlite.specs.Files.{file_state, over_files};
 ghost use Rattle.sqlite.specs.Held.{state};
@@ -46,13 +46,6 @@ fn made<S: Alter + Drop>(alloc: Global, conn: Connection<S>) -> Option<Desk<S>> 
     }
 }
 
-// The connection of a desk, in no transaction.
-fn connection_of<S: Alter + Drop>(desk: Desk<S>) -> Option<Connection<S>>
-    ensures { IfSome result (λ conn. conn.in_transaction ≡ false) }
-{
-    desk.into_connection().ok()
-}
-
 // The desk of the catalogue in the database of another.
 fn adopt<S: Alter + Drop>(alloc: Global, desk: Desk<S>) -> Result<Desk<S>, ProgramFault<'static>>
     ensures answers { IfOk result (λ desk. is_closed desk.last ≡ false) }
@@ -60,10 +53,7 @@ fn adopt<S: Alter + Drop>(alloc: Global, desk: Desk<S>) -> Result<Desk<S>, Progr
         (IsNew (Shows S.Store) (LeavesOneOf S.Store) (λ desk. HasCleanDisk (state S.Store desk.conn)) (λ _. ⊤))
         (IsNone (λ _. ⊤)) }
 {
-    let Some(conn) = connection_of(desk) else {
-        return Err(ProgramFault::Store(StoreFault::Closed));
-    };
-    match Desk::adopt(alloc, conn) {
+    match Desk::adopt(alloc, desk.into_connection()) {
         Ok(desk) => Ok(desk),
         Err((_, fault)) => Err(ProgramFault::from(fault)),
     }

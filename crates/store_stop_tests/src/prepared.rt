@@ -66,8 +66,8 @@ fn what_was_prepared_is_committed_with_its_command(rt: HostRuntime) -> Result<()
     is_listed(&rt, rt.alloc(), &editions, Work::PrepareAndInstall, AFTER)
 }
 
-// The calls of the log that fail: those of the opening are before them.
-static CALLS: [u64; 6] = [8, 16, 24, 40, 64, 96];
+// At so many calls of the log it fails, each in a run of its own: those of the opening are the first of them.
+const CALLS: u64 = 128;
 
 // One run with a failure at this call: the catalogue is the one before the command, or where it was answered the one after it.
 fn fails_at(
@@ -91,8 +91,8 @@ fn disks_fail_while_an_install_is_prepared(rt: HostRuntime) -> Result<(), Fail> 
     let alloc = rt.alloc();
     let editions = read_editions(alloc)?;
     let octets = made(&rt, alloc, &editions, &BEGUN)?;
-    for call in &CALLS {
-        fails_at(&rt, alloc, &editions, &octets, *call)?;
+    for call in 1..CALLS {
+        fails_at(&rt, alloc, &editions, &octets, call)?;
     }
     Ok(())
 }

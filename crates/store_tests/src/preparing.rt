@@ -500,17 +500,14 @@ fn nothing_is_prepared_of_other_commands(rt: HostRuntime) -> Result<(), Fail> {
     over_a_long_text(&rt, rt.alloc(), &OTHERS)
 }
 
-// What an install left in the log is copied first, in a part of its own, behind which all is as it was: once, whatever comes next. Then the
-// parts of the edition that went are taken out.
+// What an install left in the log that wasn't prepared is copied first, in a part of its own, behind which all is as it was: once, whatever comes
+// next. Then the parts of the edition that went are taken out. One that was prepared leaves no long log.
 static COPIED: [&[&[Act]]; 2] = [
     &[&[
         EXPECT,
         WHOLE,
         PREPARED_ONE,
         Act::Expect(Asked::Rollback("gem")),
-        Act::Part(true),
-        Act::All(true),
-        Act::Audit,
         Act::Part(true),
         Act::All(true),
         Act::Audit,
@@ -535,6 +532,79 @@ static COPIED: [&[&[Act]]; 2] = [
 #[test]
 fn the_log_is_copied_before_the_next_command(rt: HostRuntime) -> Result<(), Fail> {
     over_a_long_text(&rt, rt.alloc(), &COPIED)
+}
+
+// What was filed of an install that doesn't come is taken out, before the next one is filed or the next command comes: of a front of its text
+// by one commit, of the whole by two. Where an install that wasn't prepared takes its number, nothing of it is left.
+static LET_GO: [&[&[Act]]; 4] = [
+    &[&[
+        EXPECT,
+        SOME,
+        Act::Expect(Asked::Retire("ore")),
+        Act::Part(true),
+        Act::Part(false),
+        Act::All(false),
+        Act::Audit,
+    ]],
+    &[&[
+        EXPECT,
+        WHOLE,
+        Act::Expect(Asked::Retire("ore")),
+        Act::Part(true),
+        Act::Part(true),
+        Act::Part(false),
+        Act::All(false),
+        Act::Audit,
+    ]],
+    &[&[
+        EXPECT,
+        SOME,
+        EXPECT,
+        WHOLE,
+        PREPARED_ONE,
+        Act::Shows(AFTER),
+        Act::Audit,
+        Act::All(true),
+    ]],
+    &[
+        &[EXPECT, SOME],
+        &[
+            EXPECT,
+            Act::Part(true),
+            Act::All(false),
+            WHOLE,
+            PREPARED_ONE,
+            Act::Shows(AFTER),
+            Act::Audit,
+            Act::All(true),
+        ],
+    ],
+];
+
+#[test]
+fn what_is_let_go_of_is_taken_out(rt: HostRuntime) -> Result<(), Fail> {
+    over_a_long_text(&rt, rt.alloc(), &LET_GO)
+}
+
+static TAKEN_OVER: [&[&[Act]]; 1] = [&[&[
+    EXPECT,
+    SOME,
+    Act::Apply(
+        "d",
+        Some(Asked::Install("gem", Source::Gems)),
+        "4 Install gem Some(4)",
+    ),
+    Act::Finds(4, "opal=opal\n  a stone\n/"),
+    Act::Audit,
+    Act::Expect(Asked::Retire("ore")),
+    Act::Part(true),
+    Act::Part(false),
+    Act::Audit,
+]]];
+
+#[test]
+fn another_install_takes_the_number_of_what_was_filed(rt: HostRuntime) -> Result<(), Fail> {
+    over_a_long_text(&rt, rt.alloc(), &TAKEN_OVER)
 }
 
 // Files of which one differs in an octet, or which come under another name, aren't answered by what was prepared.

@@ -1,23 +1,18 @@
-use Rattle.std.proofs.Common.{inl, inr, refl}
-use Rattle.sqlite.specs.Files.{file_state}
-use Rattle.store_desk.proofs.DeskLemmas.{clean_behind}
+use Rattle.std.proofs.Common.{refl, sym, subst}
+use Rattle.sqlite.specs.Files.{over_files}
+use Rattle.sqlite.specs.Held.{Held}
+use Rattle.store_desk.specs.Over.{ConnectionKeepsBeside, ConnectionLeavesOneOf}
 use Rattle.dictcat_lib.proofs.UnopenedLemmas.{told_of_file}
 use Rattle.dictcat_lib.proofs.desks.reopen_desk.Goals as goal
 
 pub returns-in_default-clause-leaves : goal.returns-in_default-clause-leaves
-returns-in_default-clause-leaves g c = λ ms leaves.
-    rw c.hold.ensures (λ clean trees may.
-    leaves (clean_behind (file_state c.args.desk.conn) (file_state c.connection_of.result) c.connection_of.ensures.survives clean) trees
-    (elim (c.connection_of.ensures.survives.crash clean trees may) as (λ _. (file_state c.args.desk.conn).may_leave trees) [ inl h ↦ h | inr h ↦ absurd h ]))
+returns-in_default-clause-leaves g c = λ ms leaves. rw c.hold.ensures (subst (λ (h : Held _). ConnectionLeavesOneOf over_files h ms) (sym c.connection_of.ensures) leaves)
 
 pub returns-in_default-clause-beside : goal.returns-in_default-clause-beside
-returns-in_default-clause-beside g c = λ db keeps.
-    rw c.hold.ensures (λ clean trees may.
-    keeps (clean_behind (file_state c.args.desk.conn) (file_state c.connection_of.result) c.connection_of.ensures.survives clean) trees
-    (elim (c.connection_of.ensures.survives.crash clean trees may) as (λ _. (file_state c.args.desk.conn).may_leave trees) [ inl h ↦ h | inr h ↦ absurd h ]))
+returns-in_default-clause-beside g c = λ db keeps. rw c.hold.ensures (subst (λ (h : Held _). ConnectionKeepsBeside over_files h db) (sym c.connection_of.ensures) keeps)
 
 pub returns-in_default-clause-opened : goal.returns-in_default-clause-opened
-returns-in_default-clause-opened g c = (rw c.hold.ensures (c.connection_of.ensures.undone, (c.args.file, refl, refl)), tt)
+returns-in_default-clause-opened g c = (rw c.hold.ensures (c.connection_of.ensures, (c.args.file, refl, refl)), tt)
 
 pub returns-in-Ok-clause-opened : goal.returns-in-Ok-clause-opened
 returns-in-Ok-clause-opened g c =

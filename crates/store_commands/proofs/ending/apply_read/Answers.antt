@@ -1,44 +1,30 @@
-use Rattle.std.proofs.Common.{ap, not, subst, ◌∙◌}
+use Rattle.std.proofs.Common.{subst}
 use Rattle.std.specs.Prelude.{string_bytes}
 use Rattle.sqlite.specs.Held.{state}
-use Rattle.sqlite.proofs.StateLemmas.{survives_then}
 use Rattle.dict_index.specs.Edition.{ReadEdition, edition_of}
 use Rattle.dict_catalogue.specs.Commands.{install}
 use Rattle.dict_catalogue.specs.Steps.{step}
-use Rattle.store_commands.specs.Answers.{Answers}
-use Rattle.store_commands.specs.Filing.{rested}
-use Rattle.store_commands.proofs.DraftLemmas.{none_by}
-use Rattle.store_commands.proofs.FinishLemmas.{undone_by, undone_later}
+use Rattle.dict_catalogue.specs.Views.{summary_shown}
+use Rattle.store_commands.specs.Answers.{Answers, summary_after}
+use Rattle.store_commands.proofs.DraftLemmas.{both_none, each_some, either_way}
+use Rattle.store_commands.proofs.FinishLemmas.{settled_by}
 use Rattle.store_commands.proofs.WriteLemmas.{clean_before}
 use Rattle.store_commands.proofs.ending.apply_read.Goals as goal
 
 pub returns-clause-value : goal.returns-clause-value
-returns-clause-value g c = λ clean M rests is reading h.
-    let it = c.in-Some.ensures.finished in
+returns-clause-value g c = λ clean M rests is.
     let came = c.args.whole.now.came.items in
     let text = c.args.whole.now.filing.text.items in
-    subst (λ (r : ReadEdition). Answers (rested (state g.S.Store c.apply_files.new.conn)) M c.args.id.now (step M c.args.id.now (install (string_bytes c.args.whole.now.name) (edition_of r))) c.in-Some.outcome)
-    (c.one_meaning.ensures.one_reading came text it.0 reading it.1 h) (it.2.applied.value clean M (λ live. rests.holds) is)
-
-pub returns-clause-ended : goal.returns-clause-ended
-returns-clause-ended g c = λ clean. c.in-Some.ensures.finished.2.applied.ended clean
+    each_some c.apply_files.result _ _
+    (λ outcome it reading h.
+    subst (λ (r : ReadEdition). Answers (state g.S.Store c.apply_files.new.conn) M c.args.id.now (step M c.args.id.now (install (string_bytes c.args.whole.now.name) (edition_of r))) outcome)
+    (c.one_meaning.ensures.one_reading came text it.0 reading it.1 h) (it.2.applied.value clean M rests is)) c.apply_files.ensures.finished
 
 pub returns-clause-settled : goal.returns-clause-settled
-returns-clause-settled g c = λ clean live. c.is_autocommit-2.ensures.settled (c.is_autocommit-2.ensures.value ∙ ap not (c.in-Some.ensures.finished.2.applied.ended clean)) live
-
-pub returns-in_default-clause-undone : goal.returns-in_default-clause-undone
-returns-in_default-clause-undone g c = λ clean.
-    let old = c.args.conn.now in
-    let mid = c.apply_files.new.conn in
-    let new = c.roll_back.new.conn in
-    let early = clean_before (state g.S.Store mid) (state g.S.Store new) c.roll_back.ensures.survives clean in
-    undone_later g.S.Store old mid new (none_by c.apply_files.result c.in_default.not-Some (c.apply_files.ensures.left early)) (undone_by g.S.Store mid new (c.roll_back.ensures.undone clean) c.roll_back.ensures.unchanged)
-
-pub returns-in_default-clause-settled : goal.returns-in_default-clause-settled
-returns-in_default-clause-settled g c = λ clean live. c.is_autocommit.ensures.settled (c.is_autocommit.ensures.value ∙ ap not (c.roll_back.ensures.ended clean)) live
-
-pub returns-in_default-clause-survives : goal.returns-in_default-clause-survives
-returns-in_default-clause-survives g c =
-    survives_then (state g.S.Store c.args.conn.now) (state g.S.Store c.apply_files.new.conn) (state g.S.Store c.roll_back.new.conn) (λ _. ⊥) (λ _. ⊥) (λ _. ⊥) (λ _ db none. none) (λ _ db none. none)
-    (none_by c.apply_files.result c.in_default.not-Some c.apply_files.ensures.survives)
-    c.roll_back.ensures.survives
+returns-clause-settled g c = λ clean live.
+    let summary = summary_shown c.args.summary.now in
+    let old = state g.S.Store c.args.conn.now in
+    let new = state g.S.Store c.apply_files.new.conn in
+    either_way c.apply_files.result _ _ (λ outcome it. settled_by (summary_after summary outcome) new it.2.applied.holds clean live)
+    (λ it. it.0.settled live (settled_by summary old c.requires.holds (clean_before old new it.1 clean) (it.0.was_open live))) c.apply_files.ensures.finished
+    (both_none c.apply_files.result _ _ (c.apply_files.ensures.left clean) c.apply_files.ensures.survives)

@@ -10,7 +10,7 @@ use Rattle.store_commands.specs.Changes.{change_by}
 use Rattle.store_commands.specs.Finishing.{AwaitsRest}
 use Rattle.store_commands.specs.Installs.{install_read}
 use Rattle.store_commands.proofs.DraftLemmas.{read_itself}
-use Rattle.store_commands.proofs.FinishLemmas.{applied_later, holds_kept}
+use Rattle.store_commands.proofs.FinishLemmas.{applied_later, holds_later}
 use Rattle.store_commands.proofs.LoopLemmas.{each_err}
 use Rattle.store_commands.proofs.WriteLemmas.{clean_before}
 use Rattle.store_commands.proofs.ending.apply_reading.Goals as goal
@@ -28,14 +28,12 @@ apply_planned-requires-clause-planned g c = (
 pub apply_planned-requires-clause-awaits : goal.apply_planned-requires-clause-awaits
 apply_planned-requires-clause-awaits g c =
     let new = state g.S.Store c.read_change.new.conn in
-    subst (λ (name : List ℕ). HasCleanDisk new → IsTrue new.is_open → AwaitsRest (change_by c.args.id.now (install_read name c.args.reading.now) c.in-Some.change) new.committed new.now) (sym c.as_str-name.ensures.value)
+    subst (λ (name : List ℕ). HasCleanDisk new → IsTrue new.is_open → AwaitsRest (change_by c.args.id.now (install_read name c.args.reading.now) c.in-Some.change) new.now) (sym c.as_str-name.ensures.value)
     c.in-Some.ensures.awaits
 
 pub apply_planned-requires-clause-holds : goal.apply_planned-requires-clause-holds
 apply_planned-requires-clause-holds g c =
-    let old = state g.S.Store c.args.conn.now in
-    let mid = state g.S.Store c.read_change.new.conn in
-    holds_kept (summary_shown c.args.summary.now) old mid c.requires.holds (clean_before old mid c.read_change.ensures.survives) c.read_change.ensures.keeps
+    holds_later (summary_shown c.args.summary.now) (state g.S.Store c.args.conn.now) (state g.S.Store c.read_change.new.conn) c.in-Some.ensures.same c.read_change.ensures.survives c.requires.holds
 
 pub returns-clause-finished : goal.returns-clause-finished
 returns-clause-finished g c =
@@ -46,14 +44,12 @@ returns-clause-finished g c =
     let applied = rw c.as_str-name.ensures.value at c.apply_planned.ensures.applied in
     record {
       lawful = c.requires.id;
-      inside = c.in-Some.ensures.opened;
-      applied = applied_later (summary_shown c.args.summary.now) c.args.id.now (install name (edition_of c.args.reading.now)) old mid new c.apply_planned.result c.requires.id c.read_change.ensures.keeps
-          c.read_change.ensures.survives applied;
+      applied = applied_later (summary_shown c.args.summary.now) c.args.id.now (install name (edition_of c.args.reading.now)) old mid new c.apply_planned.result c.in-Some.ensures.same c.read_change.ensures.survives applied;
       failed = λ clean.
           let early = clean_before mid new applied.crash clean in
           each_err c.apply_planned.result _ _ (λ fault h real. (c.read_change.new.conn, c.in-Some.ensures.same early, c.read_change.ensures.survives, h real)) (rw c.as_str-name.ensures.value at (c.apply_planned.ensures.failed clean));
       installed = rw c.as_str-name.ensures.value at c.apply_planned.ensures.installed;
       stays = λ clean live.
-          let keeps = c.read_change.ensures.keeps (clean_before mid new applied.crash clean) in
-          subst (λ (db : Database). OnErr c.apply_planned.result (new.committed ≡ db)) (keeps.committed (applied.lives clean live)) (c.apply_planned.ensures.stays clean live);
+          let same = c.in-Some.ensures.same (clean_before mid new applied.crash clean) in
+          subst (λ (db : Database). OnErr c.apply_planned.result (new.committed ≡ db)) same.0.committed_is (c.apply_planned.ensures.stays clean live);
     }

@@ -1,159 +1,122 @@
-use Rattle.std.proofs.Common.{refl, subst, inl, inr, IsTrue}
-use Rattle.sqlite.specs.Effect.{Database, IsDatabase}
-use Rattle.sqlite.specs.State.{HasCleanDisk, IsRolledBack}
-use Rattle.sqlite.specs.Held.{Held, state}
-use Rattle.sqlite.proofs.StateLemmas.{survives_then}
+use Rattle.std.proofs.Common.{◌≡◌, rules, sym, subst, ◌∙◌, inl, inr, refl, arith}
+use Rattle.std.specs.Prelude.{IsTrue}
+use Rattle.sqlite.specs.Effect.{Database}
+use Rattle.sqlite.specs.Tree.{Trees}
+use Rattle.sqlite.specs.State.{HasCleanDisk, Survives, Fails, IsRolledBack}
+use Rattle.sqlite.specs.Held.{state}
+use Rattle.sqlite.proofs.Callers.{survives_begin}
+use Rattle.sqlite.proofs.StateLemmas.{survives_weaker}
 use Rattle.store_sql.specs.Statements.{RunInTurn, FailsInTurn}
 use Rattle.store_rows.specs.Versions.{known}
 use Rattle.store_holdings.specs.AllTables.{all_after}
-use Rattle.store_holdings.proofs.CommitLemmas.{commit_fails}
-use Rattle.store_commands.specs.Changes.{change_by}
-use Rattle.store_commands.specs.Installs.{install_read}
-use Rattle.store_commands.specs.Finishing.{finishing}
+use Rattle.store_holdings.specs.Committed.{IsCommitted, IsTreesOf}
+use Rattle.store_holdings.proofs.CommitLemmas.{leaves, done, only_left, commit_fails, keeps_begun, stays_undone}
 use Rattle.store_commands.specs.KeptRecords.{TurnsRecords}
-use Rattle.store_commands.proofs.FilingLemmas.{inside_so}
-use Rattle.store_commands.proofs.FinishLemmas.{open_before, rest_turns, rest_leaves, rest_committed, undone_keeps}
-use Rattle.store_commands.proofs.WriteLemmas.{clean_before, keeps_then}
+use Rattle.store_commands.specs.Changes.{change_by}
+use Rattle.store_commands.specs.Committed.{StaysCommitted}
+use Rattle.store_commands.specs.Finishing.{finishing}
+use Rattle.store_commands.specs.Installs.{install_read}
+use Rattle.store_commands.proofs.FinishLemmas.{rest_made}
 use Rattle.store_commands.proofs.ending.commit_read.Goals as goal
-
-pub write_read-requires-clause-usable : goal.write_read-requires-clause-usable
-write_read-requires-clause-usable g c = λ clean live.
-    let some = c.requires.usable clean live in
-    let seen = c.requires.awaits clean live some.0 some.1 in
-    (seen.0, seen.1)
 
 pub returns-in-Ok-clause-made : goal.returns-in-Ok-clause-made
 returns-in-Ok-clause-made g c clean =
     let old = c.args.conn.now in
-    let mid = c.write_read.new.tx in
-    let end = c.commit_open.new.conn in
+    let begun = c.transaction-tx.result.conn.now in
+    let mid = c.write_read.new.tx.conn.now in
+    let end = c.commit.new.tx.0 in
+    let same : end ≡ c.conn-2-1.given.0 = search rules in
     let change = change_by c.args.id.now (install_read c.args.name.now c.args.reading.now) c.args.change.now in
-    let P = λ (db : Database). TurnsRecords (all_after known change) (state g.S.Store old).committed db in
-    let made : HasCleanDisk (state g.S.Store mid) → IsTrue (state g.S.Store old).is_open × P (state g.S.Store mid).now × IsDatabase (state g.S.Store mid).now = λ clean.
-    let live = open_before g.S.Store change old mid (c.in_default.ensures.wrote.ran clean) in (
-      live,
-      rest_turns change (state g.S.Store old).committed (state g.S.Store old).now (state g.S.Store mid).now
-          (c.requires.awaits (clean_before (state g.S.Store old) (state g.S.Store mid) c.write_read.ensures.spares.survives clean) live) (c.in_default.ensures.wrote.turns clean),
-      c.in_default.ensures.sound clean,
-    ) in
-    rest_committed (state g.S.Store old) (state g.S.Store mid) (state g.S.Store end) P c.write_read.ensures.spares.survives c.commit_open.ensures.survives made clean (c.in-Ok.ensures.committed clean).1 (c.in-Ok.ensures.only clean)
+    let P = λ (db : Database). IsTrue (state g.S.Store old).is_open × TurnsRecords (all_after known change) (state g.S.Store old).now db in
+    let made = rest_made g.S.Store change old begun mid c.transaction-tx.ensures.begun c.write_read.ensures.spares.survives c.requires.awaits c.in_default.ensures.wrote c.in_default.ensures.sound in
+    let late : HasCleanDisk (state g.S.Store end) = subst (λ h. HasCleanDisk (state g.S.Store h)) (sym same) clean in
+    let shown = (c.in-Ok.ensures.committed late).1 in
+    let held : P (state g.S.Store end).committed = done g.S.Store old begun mid end P c.transaction-tx.ensures.begun c.write_read.ensures.spares.survives c.commit.ensures.survives made late shown in
+    let settled : IsCommitted (TurnsRecords (all_after known change) (state g.S.Store old).now) (state g.S.Store end) = record {
+      is_open = shown.is_open;
+      settled = shown.now_is ∙ sym shown.committed_is;
+      holds = held.1;
+      only = λ trees left.
+          let it = only_left g.S.Store old begun mid end P c.transaction-tx.ensures.begun c.write_read.ensures.spares.survives c.commit.ensures.survives made late shown (c.in-Ok.ensures.only late) trees left in
+          (it.0, it.1, it.2, it.3.1);
+    } in
+    subst (λ h. IsCommitted (TurnsRecords (all_after known change) (state g.S.Store old).now) (state g.S.Store h)) same settled
 
 pub returns-in-Ok-clause-crash : goal.returns-in-Ok-clause-crash
 returns-in-Ok-clause-crash g c =
     let old = c.args.conn.now in
-    let mid = c.write_read.new.tx in
-    let end = c.commit_open.new.conn in
+    let begun = c.transaction-tx.result.conn.now in
+    let mid = c.write_read.new.tx.conn.now in
+    let end = c.commit.new.tx.0 in
+    let same : end ≡ c.conn-2-1.given.0 = search rules in
     let change = change_by c.args.id.now (install_read c.args.name.now c.args.reading.now) c.args.change.now in
-    let P = λ (db : Database). TurnsRecords (all_after known change) (state g.S.Store old).committed db in
-    let made : HasCleanDisk (state g.S.Store mid) → IsTrue (state g.S.Store old).is_open × P (state g.S.Store mid).now × IsDatabase (state g.S.Store mid).now = λ clean.
-    let live = open_before g.S.Store change old mid (c.in_default.ensures.wrote.ran clean) in (
-      live,
-      rest_turns change (state g.S.Store old).committed (state g.S.Store old).now (state g.S.Store mid).now
-          (c.requires.awaits (clean_before (state g.S.Store old) (state g.S.Store mid) c.write_read.ensures.spares.survives clean) live) (c.in_default.ensures.wrote.turns clean),
-      c.in_default.ensures.sound clean,
-    ) in
-    rest_leaves (state g.S.Store old) (state g.S.Store mid) (state g.S.Store end) P c.write_read.ensures.spares.survives c.commit_open.ensures.survives made
+    let P = λ (db : Database). IsTrue (state g.S.Store old).is_open × TurnsRecords (all_after known change) (state g.S.Store old).now db in
+    let made = rest_made g.S.Store change old begun mid c.transaction-tx.ensures.begun c.write_read.ensures.spares.survives c.requires.awaits c.in_default.ensures.wrote c.in_default.ensures.sound in
+    let there = leaves g.S.Store old begun mid end P c.transaction-tx.ensures.begun c.write_read.ensures.spares.survives c.commit.ensures.survives made in
+    let Q = λ (trees : Trees). IsTrue (state g.S.Store old).is_open × IsTreesOf (TurnsRecords (all_after known change) (state g.S.Store old).now) trees in
+    subst (λ h. Survives (state g.S.Store old) (state g.S.Store h) Q) same (survives_weaker (state g.S.Store old) (state g.S.Store end) (IsTreesOf P) Q (λ clean trees it. (it.3.0, (it.0, it.1, it.2, it.3.1))) there)
 
-pub returns-in-Err-commit_open-clause-crash : goal.returns-in-Err-commit_open-clause-crash
-returns-in-Err-commit_open-clause-crash g c =
+pub returns-in-Err-commit-clause-crash : goal.returns-in-Err-commit-clause-crash
+returns-in-Err-commit-clause-crash g c =
     let old = c.args.conn.now in
-    let mid = c.write_read.new.tx in
-    let end = c.commit_open.new.conn in
+    let begun = c.transaction-tx.result.conn.now in
+    let mid = c.write_read.new.tx.conn.now in
+    let end = c.commit.new.tx.0 in
+    let same : end ≡ c.conn-2-1.given.0 = search rules in
     let change = change_by c.args.id.now (install_read c.args.name.now c.args.reading.now) c.args.change.now in
-    let P = λ (db : Database). TurnsRecords (all_after known change) (state g.S.Store old).committed db in
-    let made : HasCleanDisk (state g.S.Store mid) → IsTrue (state g.S.Store old).is_open × P (state g.S.Store mid).now × IsDatabase (state g.S.Store mid).now = λ clean.
-    let live = open_before g.S.Store change old mid (c.in_default.ensures.wrote.ran clean) in (
-      live,
-      rest_turns change (state g.S.Store old).committed (state g.S.Store old).now (state g.S.Store mid).now
-          (c.requires.awaits (clean_before (state g.S.Store old) (state g.S.Store mid) c.write_read.ensures.spares.survives clean) live) (c.in_default.ensures.wrote.turns clean),
-      c.in_default.ensures.sound clean,
-    ) in
-    rest_leaves (state g.S.Store old) (state g.S.Store mid) (state g.S.Store end) P c.write_read.ensures.spares.survives c.commit_open.ensures.survives made
-
-pub returns-in-Err-clause-crash : goal.returns-in-Err-clause-crash
-returns-in-Err-clause-crash g c =
-    let old = c.args.conn.now in
-    let mid = c.write_read.new.tx in
-    let end = c.roll_back.new.conn in
-    survives_then (state g.S.Store old) (state g.S.Store mid) (state g.S.Store end) (λ _. ⊥) (λ _. ⊥) _ (λ clean trees none. absurd none) (λ clean trees none. absurd none) c.write_read.ensures.spares.survives c.roll_back.ensures.survives
-
-pub returns-in-Err-clause-adds_none : goal.returns-in-Err-clause-adds_none
-returns-in-Err-clause-adds_none g c = λ no.
-    let old = c.args.conn.now in
-    let mid = c.write_read.new.tx in
-    let end = c.roll_back.new.conn in
-    survives_then (state g.S.Store old) (state g.S.Store mid) (state g.S.Store end) (λ _. ⊥) (λ _. ⊥) (λ _. ⊥) (λ clean trees none. none) (λ clean trees none. none) c.write_read.ensures.spares.survives c.roll_back.ensures.survives
-
-pub returns-in-Err-clause-keeps : goal.returns-in-Err-clause-keeps
-returns-in-Err-clause-keeps g c clean =
-    let old = c.args.conn.now in
-    let mid = c.write_read.new.tx in
-    let end = c.roll_back.new.conn in
-    keeps_then (state g.S.Store old) (state g.S.Store mid) (state g.S.Store end) (c.write_read.ensures.spares.keeps (clean_before (state g.S.Store mid) (state g.S.Store end) c.roll_back.ensures.survives clean))
-    (undone_keeps g.S.Store mid end (c.roll_back.ensures.undone clean) c.roll_back.ensures.unchanged)
-
-pub returns-in-Err-clause-lives : goal.returns-in-Err-clause-lives
-returns-in-Err-clause-lives g c = λ clean live. (returns-in-Err-clause-keeps g c clean).was_open live
-
-pub returns-in-Err-commit_open-clause-keeps : goal.returns-in-Err-commit_open-clause-keeps
-returns-in-Err-commit_open-clause-keeps g c clean =
-    let old = c.args.conn.now in
-    let mid = c.write_read.new.tx in
-    let end = c.commit_open.new.conn in
-    let early = clean_before (state g.S.Store mid) (state g.S.Store end) c.commit_open.ensures.survives clean in
-    let undone : IsRolledBack (state g.S.Store mid) (state g.S.Store end) =
-    (commit_fails (state g.S.Store mid) (state g.S.Store end) c.in-Err-commit_open.field-0 (c.in_default.ensures.inside early) (c.in-Err-commit_open.ensures.failed clean)).3 in
-    keeps_then (state g.S.Store old) (state g.S.Store mid) (state g.S.Store end) (c.write_read.ensures.spares.keeps early) (record { was_open = undone.was_open; committed = λ live. (undone.undone live).1 })
-
-pub returns-in-Err-commit_open-clause-lives : goal.returns-in-Err-commit_open-clause-lives
-returns-in-Err-commit_open-clause-lives g c = λ clean live. (returns-in-Err-commit_open-clause-keeps g c clean).was_open live
-
-pub returns-in-Ok-clause-lives : goal.returns-in-Ok-clause-lives
-returns-in-Ok-clause-lives g c = λ clean live.
-    let old = c.args.conn.now in
-    let mid = c.write_read.new.tx in
-    let end = c.commit_open.new.conn in
-    open_before g.S.Store (change_by c.args.id.now (install_read c.args.name.now c.args.reading.now) c.args.change.now) old mid
-    (c.in_default.ensures.wrote.ran (clean_before (state g.S.Store mid) (state g.S.Store end) c.commit_open.ensures.survives clean))
+    let P = λ (db : Database). IsTrue (state g.S.Store old).is_open × TurnsRecords (all_after known change) (state g.S.Store old).now db in
+    let made = rest_made g.S.Store change old begun mid c.transaction-tx.ensures.begun c.write_read.ensures.spares.survives c.requires.awaits c.in_default.ensures.wrote c.in_default.ensures.sound in
+    let there = leaves g.S.Store old begun mid end P c.transaction-tx.ensures.begun c.write_read.ensures.spares.survives c.commit.ensures.survives made in
+    let Q = λ (trees : Trees). IsTrue (state g.S.Store old).is_open × IsTreesOf (TurnsRecords (all_after known change) (state g.S.Store old).now) trees in
+    subst (λ h. Survives (state g.S.Store old) (state g.S.Store h) Q) same (survives_weaker (state g.S.Store old) (state g.S.Store end) (IsTreesOf P) Q (λ clean trees it. (it.3.0, (it.0, it.1, it.2, it.3.1))) there)
 
 pub returns-in-Err-clause-failed : goal.returns-in-Err-clause-failed
 returns-in-Err-clause-failed g c clean =
-    let old = c.args.conn.now in
-    let mid = c.write_read.new.tx in
-    let end = c.roll_back.new.conn in
-    let early = clean_before (state g.S.Store mid) (state g.S.Store end) c.roll_back.ensures.survives clean in
+    let mid = c.write_read.new.tx.conn.now in
+    let end = c.drop-tx.new.self.0 in
+    let same : end ≡ c.conn-1.given.0 = search rules in
+    let late : HasCleanDisk (state g.S.Store end) = subst (λ h. HasCleanDisk (state g.S.Store h)) (sym same) clean in
+    let early : HasCleanDisk (state g.S.Store mid) = omega (arith, c.drop-tx.ensures.survives.clean, late) in
+    let change = change_by c.args.id.now (install_read c.args.name.now c.args.reading.now) c.args.change.now in
     inl (record {
       error = c.in-Err.error;
       told = c.fault_of.ensures;
       last = mid;
-      within = subst (λ (h : Held _). FailsInTurn g.S.Store (finishing known (change_by c.args.id.now (install_read c.args.name.now c.args.reading.now) c.args.change.now)) h mid c.in-Err.error)
-          (inside_so old (c.requires.inside (clean_before (state g.S.Store old) (state g.S.Store mid) c.write_read.ensures.spares.survives early))) (c.in-Err.ensures.failed early);
-      after = c.roll_back.ensures.survives;
-      keeps = undone_keeps g.S.Store mid end (c.roll_back.ensures.undone clean) c.roll_back.ensures.unchanged;
+      within = subst (λ h. FailsInTurn g.S.Store (finishing known change) h mid c.in-Err.error) c.transaction-tx.ensures.begun (c.in-Err.ensures.failed early);
+      after = subst (λ h. Survives (state g.S.Store mid) (state g.S.Store h) (λ _. ⊥)) same c.drop-tx.ensures.survives;
+      undone = subst (λ h. IsRolledBack (state g.S.Store mid) (state g.S.Store h)) same (c.drop-tx.ensures.undone late);
     })
 
-pub returns-in-Err-commit_open-clause-failed : goal.returns-in-Err-commit_open-clause-failed
-returns-in-Err-commit_open-clause-failed g c clean =
+pub returns-in-Err-commit-clause-failed : goal.returns-in-Err-commit-clause-failed
+returns-in-Err-commit-clause-failed g c clean =
     let old = c.args.conn.now in
-    let mid = c.write_read.new.tx in
-    let end = c.commit_open.new.conn in
+    let begun = c.transaction-tx.result.conn.now in
+    let mid = c.write_read.new.tx.conn.now in
+    let end = c.commit.new.tx.0 in
+    let same : end ≡ c.conn-2-1.given.0 = search rules in
+    let late : HasCleanDisk (state g.S.Store end) = subst (λ h. HasCleanDisk (state g.S.Store h)) (sym same) clean in
+    let early : HasCleanDisk (state g.S.Store mid) = omega (arith, c.commit.ensures.survives.clean, late) in
     let change = change_by c.args.id.now (install_read c.args.name.now c.args.reading.now) c.args.change.now in
-    let P = λ (db : Database). TurnsRecords (all_after known change) (state g.S.Store old).committed db in
-    let made : HasCleanDisk (state g.S.Store mid) → IsTrue (state g.S.Store old).is_open × P (state g.S.Store mid).now × IsDatabase (state g.S.Store mid).now = λ clean.
-    let live = open_before g.S.Store change old mid (c.in_default.ensures.wrote.ran clean) in (
-      live,
-      rest_turns change (state g.S.Store old).committed (state g.S.Store old).now (state g.S.Store mid).now
-          (c.requires.awaits (clean_before (state g.S.Store old) (state g.S.Store mid) c.write_read.ensures.spares.survives clean) live) (c.in_default.ensures.wrote.turns clean),
-      c.in_default.ensures.sound clean,
-    ) in
-    let early = clean_before (state g.S.Store mid) (state g.S.Store end) c.commit_open.ensures.survives clean in
     inr (record {
       told = refl;
       last = mid;
-      ran = subst (λ (h : Held _). RunInTurn g.S.Store (finishing known change) h mid)
-          (inside_so old (c.requires.inside (clean_before (state g.S.Store old) (state g.S.Store mid) c.write_read.ensures.spares.survives early))) (c.in_default.ensures.wrote.ran early);
-      before = c.write_read.ensures.spares.survives;
-      written = (made early).1;
-      error = c.in-Err-commit_open.field-0;
-      fails = commit_fails (state g.S.Store mid) (state g.S.Store end) c.in-Err-commit_open.field-0 (c.in_default.ensures.inside early) (c.in-Err-commit_open.ensures.failed clean);
+      ran = subst (λ h. RunInTurn g.S.Store (finishing known change) h mid) c.transaction-tx.ensures.begun (c.in_default.ensures.wrote.ran early);
+      before = survives_begin g.S.Store old (state g.S.Store mid) (λ _. ⊥) (subst (λ h. Survives (state g.S.Store h) (state g.S.Store mid) (λ _. ⊥)) c.transaction-tx.ensures.begun c.write_read.ensures.spares.survives);
+      written = (rest_made g.S.Store change old begun mid c.transaction-tx.ensures.begun c.write_read.ensures.spares.survives c.requires.awaits c.in_default.ensures.wrote c.in_default.ensures.sound early).0.1;
+      error = c.in-Err-commit.field-0;
+      fails = subst (λ h. Fails (state g.S.Store mid) (state g.S.Store h) ⊥ c.in-Err-commit.field-0) same
+          (commit_fails (state g.S.Store mid) (state g.S.Store end) c.in-Err-commit.field-0 (c.in_default.ensures.inside early) (c.in-Err-commit.ensures.failed late));
     })
+
+pub returns-in-Err-commit-clause-stays : goal.returns-in-Err-commit-clause-stays
+returns-in-Err-commit-clause-stays g c clean =
+    let old = c.args.conn.now in
+    let begun = c.transaction-tx.result.conn.now in
+    let mid = c.write_read.new.tx.conn.now in
+    let end = c.commit.new.tx.0 in
+    let same : end ≡ c.conn-2-1.given.0 = search rules in
+    let late : HasCleanDisk (state g.S.Store end) = subst (λ h. HasCleanDisk (state g.S.Store h)) (sym same) clean in
+    let early : HasCleanDisk (state g.S.Store mid) = omega (arith, c.commit.ensures.survives.clean, late) in
+    subst (λ h. StaysCommitted (state g.S.Store old) (state g.S.Store h)) same (stays_undone (state g.S.Store old) (state g.S.Store mid) (state g.S.Store end)
+    (keeps_begun g.S.Store old begun (state g.S.Store mid) c.transaction-tx.ensures.begun (c.write_read.ensures.spares.keeps early))
+    (commit_fails (state g.S.Store mid) (state g.S.Store end) c.in-Err-commit.field-0 (c.in_default.ensures.inside early) (c.in-Err-commit.ensures.failed late)).3)

@@ -1,74 +1,73 @@
-use Rattle.std.proofs.Common.{inl, inr, refl, sym, ap, ◌∙◌}
+use Rattle.std.proofs.Common.{◌≡◌, false, rules, sym, subst}
+use Rattle.std.specs.Prelude.{IsTrue}
+use Rattle.sqlite.specs.Effect.{Database}
 use Rattle.sqlite.specs.Held.{state}
-use Rattle.sqlite.proofs.StateLemmas.{survives_then}
-use Rattle.store_commands.specs.declared.filing.Filing.{Filing}
-use Rattle.store_commands.proofs.FilingLemmas.{drawn_same}
-use Rattle.store_commands.proofs.FinishLemmas.{undone_keeps}
-use Rattle.store_commands.proofs.WriteLemmas.{clean_before, keeps_then}
-use Rattle.store_commands.proofs.FaultLemmas.{told_counts, told_more}
+use Rattle.sqlite.proofs.StateLemmas.{survives_weaker}
+use Rattle.dict_catalogue.specs.Views.{summary_shown}
+use Rattle.store_holdings.specs.AllTables.{with_derived}
+use Rattle.store_commands.specs.Filing.{HasFiledParts}
+use Rattle.store_commands.specs.FiledParts.{FilesUpTo}
+use Rattle.store_commands.specs.Marking.{Remains}
+use Rattle.store_commands.proofs.ApplyLemmas.{holds_now}
+use Rattle.store_commands.proofs.FilingLemmas.{filed_on}
+use Rattle.store_commands.proofs.MarkingLemmas.{committed_wider}
+use Rattle.store_commands.proofs.TakingLemmas.{remains_filed}
+use Rattle.store_commands.proofs.WriteLemmas.{clean_before}
 use Rattle.store_commands.proofs.parts.file_part.Goals as goal
 
--- ---- another number is the next one
+pub commit_parts-requires-clause-usable : goal.commit_parts-requires-clause-usable
+commit_parts-requires-clause-usable g c = λ clean live.
+    let it = c.requires.holds clean live in
+    let held = holds_now (state g.S.Store c.args.conn.now) it.0 it.1 in
+    (with_derived held.orphans held.tables, record { own = held.own; keeps = held.keeps })
 
-pub returns-then-is_other_number-clause-underway : goal.returns-then-is_other_number-clause-underway
-returns-then-is_other_number-clause-underway g c = λ clean live inside. absurd (Rattle.std.proofs.lemmas.Bool.false≢true (sym (c.roll_back.ensures.ended clean) ∙ inside))
+pub returns-clause-made : goal.returns-clause-made
+returns-clause-made g c clean =
+    let summary = summary_shown c.args.summary.now in
+    let f = c.args.filing.now in
+    let old = state g.S.Store c.args.conn.now in
+    let new = state g.S.Store c.commit_parts.new.conn in
+    let number : c.is_other_number.result ≡ false = search rules in
+    let P = λ (db : Database). IsTrue old.is_open × FilesUpTo f c.in-Ok.filed old.now db in
+    committed_wider P (Remains summary old.committed) new
+    (λ db it. remains_filed summary f c.in-Ok.filed (c.is_other_number.ensures.next number) old c.requires.holds (clean_before old new c.commit_parts.ensures.crash clean) it.0 db it.1) (c.in-Ok.ensures.made clean)
 
-pub returns-then-is_other_number-clause-keeps : goal.returns-then-is_other_number-clause-keeps
-returns-then-is_other_number-clause-keeps g c clean = undone_keeps g.S.Store c.args.conn.now c.roll_back.new.conn (c.roll_back.ensures.undone clean) c.roll_back.ensures.unchanged
+pub returns-clause-filed : goal.returns-clause-filed
+returns-clause-filed g c = λ clean live begun.
+    let f = c.args.filing.now in
+    let old = state g.S.Store c.args.conn.now in
+    let new = state g.S.Store c.commit_parts.new.conn in
+    let early = clean_before old new c.commit_parts.ensures.crash clean in
+    let done = c.in-Ok.ensures.made clean in
+    let it = c.requires.holds early done.holds.0 in
+    let held = holds_now old it.0 it.1 in
+    filed_on f c.in-Ok.filed old.now new.committed (with_derived held.orphans held.tables) (record { own = held.own; keeps = held.keeps })
+    (λ is. subst (HasFiledParts f) (sym it.1.settled) (c.requires.filed early done.holds.0 is)) done.holds.1
 
-pub returns-then-is_other_number-clause-failed : goal.returns-then-is_other_number-clause-failed
-returns-then-is_other_number-clause-failed g c clean = inl (refl, c.is_other_number.ensures.other c.if-is_other_number.true)
+pub returns-clause-crash : goal.returns-clause-crash
+returns-clause-crash g c =
+    let summary = summary_shown c.args.summary.now in
+    let f = c.args.filing.now in
+    let old = state g.S.Store c.args.conn.now in
+    let new = state g.S.Store c.commit_parts.new.conn in
+    let number : c.is_other_number.result ≡ false = search rules in
+    survives_weaker old new _ _
+    (λ clean trees it. (
+      it.3.0,
+      (it.0, it.1, it.2, remains_filed summary f it.3.1 (c.is_other_number.ensures.next number) old c.requires.holds (clean_before old new c.commit_parts.ensures.crash clean) it.3.0 it.0 it.3.2),
+    ))
+    c.commit_parts.ensures.crash
 
--- ---- a part is filed, or fails
-
-pub returns-clause-drawn : goal.returns-clause-drawn
-returns-clause-drawn g c = drawn_same c.args.filing.now c.file_next.new.filing c.file_next.ensures.rows c.requires.drawn
-
-pub returns-in-Err-clause-drawn : goal.returns-in-Err-clause-drawn
-returns-in-Err-clause-drawn g c = drawn_same c.args.filing.now c.file_next.new.filing c.file_next.ensures.rows c.requires.drawn
-
-pub returns-clause-next : goal.returns-clause-next
-returns-clause-next g c = ap (λ (f : Filing). f.number) c.file_next.ensures.rows ∙ c.is_other_number.ensures.next c.if-is_other_number.false
-
-pub returns-in-Err-clause-faulted : goal.returns-in-Err-clause-faulted
-returns-in-Err-clause-faulted g c clean told =
-    let mid = c.file_next.new.conn in
-    let new = c.roll_back-in-Err.new.conn in
-    let early = clean_before (state g.S.Store mid) (state g.S.Store new) c.roll_back-in-Err.ensures.survives clean in
-    let within = c.in-Err.ensures.failed.2 early in
-    told_more (state g.S.Store c.args.conn.now) (state g.S.Store mid) (state g.S.Store new) (told_counts g.S.Store c.in-Err.ensures.failed.0 _ mid c.in-Err.error within (c.fault_filed.ensures.disk told))
-    c.roll_back-in-Err.ensures.survives.counts
-
-pub returns-in-Err-clause-underway : goal.returns-in-Err-clause-underway
-returns-in-Err-clause-underway g c = λ clean live inside. absurd (Rattle.std.proofs.lemmas.Bool.false≢true (sym (c.roll_back-in-Err.ensures.ended clean) ∙ inside))
-
-pub returns-in-Err-clause-keeps : goal.returns-in-Err-clause-keeps
-returns-in-Err-clause-keeps g c clean =
-    let mid = c.file_next.new.conn in
-    let new = c.roll_back-in-Err.new.conn in
-    let early = clean_before (state g.S.Store mid) (state g.S.Store new) c.roll_back-in-Err.ensures.survives clean in
-    keeps_then (state g.S.Store c.args.conn.now) (state g.S.Store mid) (state g.S.Store new) (c.file_next.ensures.spares.keeps early)
-    (undone_keeps g.S.Store mid new (c.roll_back-in-Err.ensures.undone clean) c.roll_back-in-Err.ensures.unchanged)
-
-pub returns-in-Err-clause-failed : goal.returns-in-Err-clause-failed
-returns-in-Err-clause-failed g c clean =
-    let mid = c.file_next.new.conn in
-    let new = c.roll_back-in-Err.new.conn in
-    let early = clean_before (state g.S.Store mid) (state g.S.Store new) c.roll_back-in-Err.ensures.survives clean in
-    inr (
-      c.in-Err.ensures.failed.0,
-      c.in-Err.ensures.failed.1,
-      record {
-        error = c.in-Err.error;
-        told = c.fault_filed.ensures.is;
-        last = mid;
-        within = c.in-Err.ensures.failed.2 early;
-        after = c.roll_back-in-Err.ensures.survives;
-        keeps = undone_keeps g.S.Store mid new (c.roll_back-in-Err.ensures.undone clean) c.roll_back-in-Err.ensures.unchanged;
-      },
-    )
-
-pub returns-in-Err-clause-survives : goal.returns-in-Err-clause-survives
-returns-in-Err-clause-survives g c =
-    survives_then (state g.S.Store c.args.conn.now) (state g.S.Store c.file_next.new.conn) (state g.S.Store c.roll_back-in-Err.new.conn) (λ _. ⊥) (λ _. ⊥) (λ _. ⊥) (λ _ db none. none) (λ _ db none. none)
-    c.file_next.ensures.spares.survives c.roll_back-in-Err.ensures.survives
+pub returns-in-Err-clause-crash : goal.returns-in-Err-clause-crash
+returns-in-Err-clause-crash g c =
+    let summary = summary_shown c.args.summary.now in
+    let f = c.args.filing.now in
+    let old = state g.S.Store c.args.conn.now in
+    let new = state g.S.Store c.commit_parts.new.conn in
+    let number : c.is_other_number.result ≡ false = search rules in
+    survives_weaker old new _ _
+    (λ clean trees it. (
+      it.3.0,
+      (it.0, it.1, it.2, remains_filed summary f it.3.1 (c.is_other_number.ensures.next number) old c.requires.holds (clean_before old new c.commit_parts.ensures.crash clean) it.3.0 it.0 it.3.2),
+    ))
+    c.commit_parts.ensures.crash

@@ -1,44 +1,83 @@
-use Rattle.std.proofs.Common.{refl, sym, ap, subst, ◌∙◌}
+use Rattle.std.proofs.Common.{inl, inr, refl, sym, ap, subst, ◌∙◌}
 use Rattle.std.specs.Prelude.{Option, Some, IfSome}
 use Rattle.std.proofs.lemmas.Result.{IfErr-weaker}
 use Rattle.sqlite.specs.Held.{state}
+use Rattle.dict_catalogue.specs.Views.{summary_shown}
 use Rattle.dict_desk.specs.declared.fault.Fault.{Fault}
 use Rattle.store_commands.specs.Committed.{IsOfStore}
 use Rattle.store_commands.specs.declared.filing.Filing.{Filing}
+use Rattle.store_commands.proofs.WriteLemmas.{clean_before}
 use Rattle.store_desk.specs.Desk.{HasFiled}
+use Rattle.store_desk.proofs.CopyLemmas.{CommitsSame, remains_itself, remains_still}
 use Rattle.store_desk.proofs.DeskLemmas.{survives_itself}
-use Rattle.store_desk.proofs.PreparingLemmas.{part_settled}
+use Rattle.store_desk.proofs.StandingLemmas.{on_err_with}
 use Rattle.store_desk.proofs.preparing.file_next.Goals as goal
 
-pub file-requires-clause-underway : goal.file-requires-clause-underway
-file-requires-clause-underway g c = (subst (λ (f : Option Filing). HasFiled g.S.Store f c.args.conn.now) c.in-Some.is c.requires.filed).1
+pub file-requires-clause-filed : goal.file-requires-clause-filed
+file-requires-clause-filed g c = (subst (λ (f : Option Filing). HasFiled f (state g.S.Store c.args.conn.now)) c.in-Some.is c.requires.filed).1
+
+-- ---- nothing was done to the connection
+
+pub returns-in_default-clause-remains : goal.returns-in_default-clause-remains
+returns-in_default-clause-remains g c = λ clean live. remains_itself (summary_shown c.args.summary.now) (state g.S.Store c.args.conn.now).committed
+
+pub returns-in_default-clause-settled : goal.returns-in_default-clause-settled
+returns-in_default-clause-settled g c = λ clean live. (c.requires.holds clean live).1.settled
+
+pub returns-in_default-clause-crash : goal.returns-in_default-clause-crash
+returns-in_default-clause-crash g c = survives_itself (state g.S.Store c.args.conn.now) (CommitsSame g.S.Store (summary_shown c.args.summary.now) c.args.conn.now)
+
+pub returns-then-is_filed-clause-made : goal.returns-then-is_filed-clause-made
+returns-then-is_filed-clause-made g c = λ clean is. inl refl
+
+pub returns-then-is_filed-clause-remains : goal.returns-then-is_filed-clause-remains
+returns-then-is_filed-clause-remains g c = λ clean live. remains_itself (summary_shown c.args.summary.now) (state g.S.Store c.args.conn.now).committed
+
+pub returns-then-is_filed-clause-settled : goal.returns-then-is_filed-clause-settled
+returns-then-is_filed-clause-settled g c = λ clean live. (c.requires.holds clean live).1.settled
+
+pub returns-then-is_filed-clause-crash : goal.returns-then-is_filed-clause-crash
+returns-then-is_filed-clause-crash g c = survives_itself (state g.S.Store c.args.conn.now) (CommitsSame g.S.Store (summary_shown c.args.summary.now) c.args.conn.now)
+
+-- ---- a part was filed
+
+pub returns-in-Ok-clause-made : goal.returns-in-Ok-clause-made
+returns-in-Ok-clause-made g c = λ clean is. inr (c.in-Ok.ensures.made clean)
+
+pub returns-in-Ok-clause-remains : goal.returns-in-Ok-clause-remains
+returns-in-Ok-clause-remains g c = λ clean live. (c.in-Ok.ensures.made clean).holds
 
 pub returns-in-Ok-clause-settled : goal.returns-in-Ok-clause-settled
-returns-in-Ok-clause-settled g c = part_settled g.S.Store c.file.new.conn c.file.result c.file.ensures.inside c.file.ensures.settled
-
-pub returns-in-Ok-clause-inside : goal.returns-in-Ok-clause-inside
-returns-in-Ok-clause-inside g c = λ clean is. c.in-Ok.ensures.inside clean
+returns-in-Ok-clause-settled g c = λ clean live. (c.in-Ok.ensures.made clean).settled
 
 pub returns-in-Ok-clause-filed : goal.returns-in-Ok-clause-filed
-returns-in-Ok-clause-filed g c = subst (λ (f : Filing). HasFiled g.S.Store (Some f) c.file.new.conn) (sym c.goes_on.ensures) (c.file.ensures.drawn, c.file.ensures.underway)
+returns-in-Ok-clause-filed g c = (c.file.ensures.drawn, c.in-Ok.ensures.filed)
 
-pub returns-in-Err-clause-settled : goal.returns-in-Err-clause-settled
-returns-in-Err-clause-settled g c = part_settled g.S.Store c.file.new.conn c.file.result c.file.ensures.inside c.file.ensures.settled
+-- ---- it wasn't
 
 pub returns-in-Err-clause-filed : goal.returns-in-Err-clause-filed
-returns-in-Err-clause-filed g c = subst (λ (f : Option Filing). HasFiled g.S.Store f c.file.new.conn) (sym c.let_go.ensures) c.in-Err.ensures.undone
+returns-in-Err-clause-filed g c = subst (λ (f : Option Filing). HasFiled f (state g.S.Store c.file.new.conn)) (sym c.let_go.ensures) tt
+
+pub returns-in-Err-clause-made : goal.returns-in-Err-clause-made
+returns-in-Err-clause-made g c = λ clean is. absurd (c.told_of.ensures.never is)
+
+pub returns-in-Err-clause-remains : goal.returns-in-Err-clause-remains
+returns-in-Err-clause-remains g c = λ clean live. remains_still (summary_shown c.args.summary.now) (state g.S.Store c.args.conn.now) (state g.S.Store c.file.new.conn) (c.in-Err.ensures.stays clean) live
+
+pub returns-in-Err-clause-settled : goal.returns-in-Err-clause-settled
+returns-in-Err-clause-settled g c = λ clean live.
+    let old = state g.S.Store c.args.conn.now in
+    let new = state g.S.Store c.file.new.conn in
+    let stays = c.in-Err.ensures.stays clean in
+    stays.settled live (c.requires.holds (clean_before old new c.file.ensures.crash clean) (stays.was_open live)).1.settled
+
+pub returns-in-Err-clause-keeps : goal.returns-in-Err-clause-keeps
+returns-in-Err-clause-keeps g c = λ clean.
+    let stays = c.in-Err.ensures.stays clean in
+    on_err_with c.told_of.result (record { was_open = stays.was_open; committed = stays.committed })
 
 pub returns-in-Err-clause-faulted : goal.returns-in-Err-clause-faulted
 returns-in-Err-clause-faulted g c = λ clean. IfErr-weaker c.told_of.result _ _ (λ fault is told. c.in-Err.ensures.faulted clean (is ∙ ap Some told)) c.told_of.ensures.fault
 
 pub returns-in-Err-clause-kinds : goal.returns-in-Err-clause-kinds
 returns-in-Err-clause-kinds g c = IfErr-weaker c.told_of.result _ IsOfStore (λ fault is. subst (λ (why : Option Fault). IfSome why IsOfStore) is c.in-Err.ensures.kinds) c.told_of.ensures.fault
-
-pub returns-in-Err-clause-inside : goal.returns-in-Err-clause-inside
-returns-in-Err-clause-inside g c = λ clean is. absurd (c.told_of.ensures.never is)
-
-pub returns-in_default-clause-keeps : goal.returns-in_default-clause-keeps
-returns-in_default-clause-keeps g c clean = record { was_open = λ live. live; committed = λ live. refl }
-
-pub returns-in_default-clause-survives : goal.returns-in_default-clause-survives
-returns-in_default-clause-survives g c = survives_itself (state g.S.Store c.args.conn.now) (λ _. ⊥)

@@ -1,10 +1,10 @@
 use Rattle.std.proofs.Common.{sym, subst}
 use Rattle.sqlite.specs.Held.{state}
 use Rattle.dict_catalogue.specs.Views.{summary_shown}
-use Rattle.store_commands.specs.Filing.{IsUnderway}
+use Rattle.store_commands.specs.Filing.{IsFiledSoFar}
 use Rattle.store_commands.specs.declared.filing.Filing.{Filing}
-use Rattle.store_desk.proofs.DeskLemmas.{survives_itself}
-use Rattle.store_desk.proofs.FinishLemmas.{finished_of, some_with, undone_read}
+use Rattle.store_desk.proofs.DeskLemmas.{same_stays, survives_itself}
+use Rattle.store_desk.proofs.FinishLemmas.{finished_of, some_with}
 use Rattle.store_desk.proofs.coming.Coming.finish.Goals as goal
 
 pub put_index-requires : goal.put_index-requires
@@ -13,8 +13,8 @@ put_index-requires g c = c.self.invariant.1
 pub apply_read-requires-clause-known : goal.apply_read-requires-clause-known
 apply_read-requires-clause-known g c = c.self.invariant.0
 
-pub apply_read-requires-clause-underway : goal.apply_read-requires-clause-underway
-apply_read-requires-clause-underway g c = subst (λ (f : Filing). IsUnderway g.S.Store f c.args.conn.now) (sym c.self.view_is) c.requires.underway
+pub apply_read-requires-clause-filed : goal.apply_read-requires-clause-filed
+apply_read-requires-clause-filed g c = subst (λ (f : Filing). IsFiledSoFar f (state g.S.Store c.args.conn.now)) (sym c.self.view_is) c.requires.filed
 
 pub invariant_of-self : goal.invariant_of-self
 invariant_of-self g c = (c.self.invariant.0, c.put_index.ensures.index)
@@ -31,8 +31,8 @@ returns-then-put_index-clause-finished g c =
 pub returns-then-put_index-clause-settled : goal.returns-then-put_index-clause-settled
 returns-then-put_index-clause-settled g c = λ clean live. some_with c.apply_read.result (c.apply_read.ensures.settled clean live)
 
-pub returns-then-put_index-clause-undone : goal.returns-then-put_index-clause-undone
-returns-then-put_index-clause-undone g c = λ clean. undone_read g.S.Store c.args.conn.now c.apply_read.new.conn c.apply_read.result c.requires.inside (c.apply_read.ensures.undone clean) c.apply_read.ensures.survives
+pub returns-clause-stays : goal.returns-clause-stays
+returns-clause-stays g c = λ clean. same_stays (state g.S.Store c.args.conn.now)
 
 pub returns-clause-survives : goal.returns-clause-survives
 returns-clause-survives g c = survives_itself (state g.S.Store c.args.conn.now) (λ _. ⊥)

@@ -1,5 +1,5 @@
 -- As those of `apply` of a command, at the install of what was read.
-use Rattle.std.proofs.Common.{◌≡◌, true, false, sym, subst, ap, ◌∙◌, arith, rules}
+use Rattle.std.proofs.Common.{◌≡◌, true, false, sym, subst, ap, ◌∙◌, arith}
 use Rattle.std.specs.Prelude.{IsTrue, is_some, IfErr, Option, Result}
 use Rattle.sqlite.specs.Held.{state}
 use Rattle.sqlite.specs.State.{State, HasCleanDisk, Survives}
@@ -19,23 +19,22 @@ use Rattle.dict_desk.specs.declared.fault.Fault.{Fault}
 use Rattle.store_desk.specs.Applied.{AppliesOver}
 use Rattle.store_desk.specs.Causes.{FailsToApplyTo}
 use Rattle.store_desk.specs.KeptParts.{texts_after}
-use Rattle.store_desk.specs.Prepared.{LetsGo}
-use Rattle.store_desk.specs.Desk.{DeskState, Shows, LeavesOneOf, is_closed, has_failed, KeepsBeside}
+use Rattle.store_desk.specs.Desk.{DeskState, IsAtRest, Shows, LeavesOneOf, is_closed, has_failed, KeepsBeside}
 use Rattle.store_desk.specs.declared.last.LastCall.{LastCall}
 use Rattle.store_desk.proofs.ActedLemmas.{served_by}
-use Rattle.store_desk.proofs.AppliedLemmas.{committed_rested, finished_over}
 use Rattle.store_desk.proofs.BesideLemmas.{beside_by}
 use Rattle.store_desk.proofs.CauseLemmas.{fails_to_apply}
-use Rattle.store_desk.proofs.FinishLemmas.{never_shut, reply_kind, unfinished_rests, unfinished_shows}
-use Rattle.store_desk.proofs.KeeperLemmas.{closed_by, none_by, others_by, told_rests, told_applies, told_leaves, told_spares, failed_by}
+use Rattle.store_desk.proofs.DeskLemmas.{clean_behind, rests_on}
+use Rattle.store_desk.proofs.FinishLemmas.{finished_over, never_shut, none_by, reply_kind, unfinished_shows}
+use Rattle.store_desk.proofs.KeeperLemmas.{closed_by, others_by, told_rests, told_applies, told_leaves, told_spares, failed_by}
 use Rattle.store_lookup.proofs.NumberLemmas.{beside_one}
 use Rattle.store_desk.proofs.desk.Desk.finish.Goals as goal
 
 abbrev LeftBeside : State → Trees → Type 0
 LeftBeside s trees = IsTrue s.is_open × IsTreesOf (SparesTablesOfOthers s.committed) trees
 
-pub finish_coming-requires-clause-inside : goal.finish_coming-requires-clause-inside
-finish_coming-requires-clause-inside g c = search rules
+pub finish_coming-requires-clause-autocommit : goal.finish_coming-requires-clause-autocommit
+finish_coming-requires-clause-autocommit g c = c.self.invariant.0.ended
 
 pub finish_coming-requires-clause-filed : goal.finish_coming-requires-clause-filed
 finish_coming-requires-clause-filed g c =
@@ -45,7 +44,7 @@ finish_coming-requires-clause-filed g c =
 pub finish_coming-requires-clause-holds : goal.finish_coming-requires-clause-holds
 finish_coming-requires-clause-holds g c =
     let before : is_closed c.self.inside.last ≡ false = ap (λ (d : DeskState _). is_closed d.last) c.self.view_is ∙ c.requires in
-    committed_rested g.S.Store (summary_shown c.self.inside.summary) c.self.inside.conn (c.self.invariant.0.holds before)
+    c.self.invariant.0.holds before
 
 pub finish_coming-requires-clause-range : goal.finish_coming-requires-clause-range
 finish_coming-requires-clause-range g c = c.self.invariant.0.range
@@ -55,9 +54,10 @@ finish_coming-requires-clause-range g c = c.self.invariant.0.range
 pub invariant_of-self : goal.invariant_of-self
 invariant_of-self g c =
     let before : is_closed c.self.inside.last ≡ false = ap (λ (d : DeskState _). is_closed d.last) c.self.view_is ∙ c.requires in
-    let survives = none_by c.finish_coming.result c.in_default.not-Some c.finish_coming.ensures.survives in (
-      unfinished_rests g.S.Store c.self.inside.conn c.finish_coming.new.conn (summary_shown c.self.inside.summary) c.self.inside.filing c.self.inside.last before c.self.invariant.0 survives
-          (λ clean. none_by c.finish_coming.result c.in_default.not-Some (c.finish_coming.ensures.undone clean)) c.finish_coming.new.filing c.finish_coming.ensures.same,
+    let rests : IsAtRest g.S.Store c.self.inside.last (summary_shown c.self.inside.summary) c.self.inside.filing c.finish_coming.new.conn =
+    rests_on g.S.Store c.self.inside.conn c.finish_coming.new.conn (summary_shown c.self.inside.summary) c.self.inside.filing c.self.inside.last c.self.inside.last before c.self.invariant.0
+    (none_by c.finish_coming.result c.in_default.not-Some c.finish_coming.ensures.survives) (λ clean. none_by c.finish_coming.result c.in_default.not-Some (c.finish_coming.ensures.stays clean)) (λ _. c.finish_coming.ensures.ended) in (
+      subst (λ (f : Option Filing). IsAtRest g.S.Store c.self.inside.last (summary_shown c.self.inside.summary) f c.finish_coming.new.conn) (sym c.finish_coming.ensures.same) rests,
       c.self.invariant.1,
     )
 
@@ -67,9 +67,9 @@ returns-in_default-clause-last g c = ap (λ (d : DeskState _). d.last) c.self.vi
 pub returns-in_default-clause-shows : goal.returns-in_default-clause-shows
 returns-in_default-clause-shows g c = λ clean M shown.
     let before : is_closed c.self.inside.last ≡ false = ap (λ (d : DeskState _). is_closed d.last) c.self.view_is ∙ c.requires in
-    let survives = none_by c.finish_coming.result c.in_default.not-Some c.finish_coming.ensures.survives in
-    unfinished_shows g.S.Store c.self.inside.conn c.finish_coming.new.conn (summary_shown c.self.inside.summary) c.self.inside.filing c.self.inside.last before c.self.invariant.0 survives
-    (λ clean. none_by c.finish_coming.result c.in_default.not-Some (c.finish_coming.ensures.undone clean)) c.saturating_add-number.result c.saturating_add-number.ensures c.self.inside.indexes c.let_go.new.self
+    unfinished_shows g.S.Store c.self.inside.conn c.finish_coming.new.conn (summary_shown c.self.inside.summary) c.self.inside.last before
+    (clean_behind (state g.S.Store c.self.inside.conn) (state g.S.Store c.finish_coming.new.conn) (none_by c.finish_coming.result c.in_default.not-Some c.finish_coming.ensures.survives))
+    (λ clean. none_by c.finish_coming.result c.in_default.not-Some (c.finish_coming.ensures.stays clean)) c.saturating_add-number.result c.saturating_add-number.ensures c.self.inside.indexes c.let_go.new.self
     (λ q apart. beside_one c.saturating_add-number.result c.finish_coming.new.indexes c.let_go.new.self c.let_go.ensures q apart ∙ c.finish_coming.ensures.others q apart)
     c.self.inside.texts M (subst (λ (d : DeskState _). Shows g.S.Store d M) (sym c.self.view_is) shown)
 
@@ -87,13 +87,11 @@ invariant_of-self-2 g c =
     let summary = summary_shown c.self.inside.summary in
     let it = c.in-Some.ensures.finished in
     let command = install c.args.name.now (edition_of it.0) in
-    let over : AppliesOver g.S.Store summary c.args.id.now command old new c.in-Some.outcome = finished_over g.S.Store summary c.args.id.now c.args.name.now it.0 old new c.in-Some.outcome it.2 c.in-Some.ensures.settled
-    (committed_rested g.S.Store summary old (c.self.invariant.0.holds before)) c.self.invariant.0.range in
+    let over : AppliesOver g.S.Store summary c.args.id.now command old new c.in-Some.outcome = finished_over g.S.Store summary c.args.id.now c.args.name.now it.0 old new c.in-Some.outcome it.2 in
     told_rests g.S.Store old new summary c.self.inside.filing c.self.inside.last c.args.id.now command c.in-Some.outcome before c.self.invariant.0 over
     c.self.inside.indexes c.finish_coming.new.indexes c.settle.new.indexes c.self.inside.texts c.forget_by.new.texts c.self.inside.rows_taken
     (summary_shown c.take_over.new.summary) c.last_by-self-inside.result c.take_over.result c.take_over.ensures.after c.last_by-self-inside.ensures c.take_over.ensures.reply
-    c.forget_by.ensures c.self.invariant.1 c.let_go_when_ended.new.filing
-    (subst (λ (f : Option Filing). LetsGo new f c.let_go_when_ended.new.filing) c.finish_coming.ensures.same c.let_go_when_ended.ensures)
+    c.forget_by.ensures c.self.invariant.1 c.let_go-2.new.filing c.let_go-2.ensures
 
 pub returns-clause-done : goal.returns-clause-done
 returns-clause-done g c =
@@ -103,8 +101,7 @@ returns-clause-done g c =
     let summary = summary_shown c.self.inside.summary in
     let it = c.in-Some.ensures.finished in
     let command = install c.args.name.now (edition_of it.0) in
-    let over : AppliesOver g.S.Store summary c.args.id.now command old new c.in-Some.outcome = finished_over g.S.Store summary c.args.id.now c.args.name.now it.0 old new c.in-Some.outcome it.2 c.in-Some.ensures.settled
-    (committed_rested g.S.Store summary old (c.self.invariant.0.holds before)) c.self.invariant.0.range in
+    let over : AppliesOver g.S.Store summary c.args.id.now command old new c.in-Some.outcome = finished_over g.S.Store summary c.args.id.now c.args.name.now it.0 old new c.in-Some.outcome it.2 in
     let typed = install_read c.args.name.now it.0 in
     let after : DeskState _ = record { conn = new; summary = summary_shown c.take_over.new.summary; last = c.last_by-self-inside.result; indexes = c.settle.new.indexes; texts = c.forget_by.new.texts; taken = c.self.inside.rows_taken } in
     let texts = c.forget_by.ensures ∙ ap (λ (l : LastCall). texts_after l c.self.inside.texts) c.last_by-self-inside.ensures in (
@@ -120,7 +117,8 @@ returns-clause-done g c =
             clean M was
             (λ clean.
             served_by g.S.Store old new summary c.self.inside.last c.args.id.now typed before c.self.inside.indexes c.finish_coming.new.indexes c.settle.new.indexes c.self.inside.texts c.forget_by.new.texts c.self.invariant.1.made
-            c.saturating_add-number.result c.saturating_add-number.ensures it.3 M was clean first c.in-Some.outcome over c.settle.ensures.settled texts (it.2.installed clean) (it.2.stays clean));
+            c.saturating_add-number.result c.saturating_add-number.ensures
+            it.3 M was clean first (λ live. (c.self.invariant.0.holds before first live).1.settled) c.in-Some.outcome over c.settle.ensures.settled texts (it.2.installed clean) (it.2.stays clean));
         left = λ clean M shown.
             subst (λ desk. Leaves (LeavesOneOf g.S.Store desk) (LeavesOneOf g.S.Store after) (is_some (kept_under M.kept c.args.id.now)) (step M c.args.id.now command).catalogue c.take_over.result) c.self.view_is
             (told_leaves g.S.Store old new summary c.self.inside.filing c.self.inside.last c.args.id.now command c.in-Some.outcome before c.self.invariant.0 over

@@ -7,21 +7,11 @@ use Rattle.store_desk.specs.Indexed.{IsHeldCut}
 use Rattle.store_desk.specs.KeptParts.{KeepsTexts}
 use Rattle.store_desk.proofs.ServedLemmas.{each_edition}
 use Rattle.store_desk.specs.declared.last.LastCall.TheVariants.{Fine}
-use Rattle.sqlite.specs.Effect.{Database}
-use Rattle.store_holdings.specs.Holds.{HasLayout}
 use Rattle.store_desk.proofs.desk.Desk.over.Goals as goal
-use Rattle.store_rows.specs.Versions.{known, layout_of}
 
 pub invariant_of-result : goal.invariant_of-result
 invariant_of-result g c = (
-  record {
-    limit = c.requires.limit;
-    range = c.requires.range;
-    holds = λ fine clean live. let it = c.requires.holds clean live in (it.0, it.1.holds, it.2);
-    settled = λ fine clean live none. (c.requires.holds clean live).1.settled;
-    filed = λ fine clean. c.requires.autocommit;
-    own = λ fine clean live. let rests = (c.requires.holds clean live).1 in subst (λ (db : Database). HasLayout (layout_of known) db.schema) (sym rests.settled) rests.holds.own;
-  },
+  record { limit = c.requires.limit; ended = c.requires.autocommit; range = c.requires.range; holds = λ fine. c.requires.holds; filed = λ fine. tt },
   subst (KeepsTexts Fine (summary_shown c.args.summary)) (sym c.new.ensures) (record { made = tt; none = λ failed. refl }),
 )
 

@@ -1,57 +1,78 @@
-use Rattle.std.proofs.Common.{◌≡◌, ◌⊎◌, ◌||◌, false, true, sym, ap, subst, ◌∙◌}
-use Rattle.std.specs.Prelude.{IfErr}
+use Rattle.std.proofs.Common.{◌≡◌, ◌⊎◌, inl, inr, ◌||◌, false, sym, ap, subst, ◌∙◌}
+use Rattle.std.specs.Prelude.{IfErr, OnErr}
 use Rattle.sqlite.specs.Held.{state}
 use Rattle.sqlite.specs.Disk.{MoreFaults}
-use Rattle.sqlite.specs.State.{KeepsCommit}
+use Rattle.sqlite.specs.State.{HasCleanDisk, KeepsCommit}
 use Rattle.dict_catalogue.specs.Views.{summary_shown}
 use Rattle.dict_desk.specs.Faults.{has_failed_by, has_closed_by}
 use Rattle.dict_desk.specs.declared.fault.Fault.TheVariants.{Disk}
 use Rattle.store_desk.specs.Desk.{DeskState, Shows, LeavesOneOf, has_failed, is_closed, KeepsBeside}
-use Rattle.store_desk.proofs.BesideLemmas.{beside_on}
-use Rattle.store_desk.proofs.DeskLemmas.{leaves_on}
-use Rattle.store_desk.proofs.PreparedLemmas.{usable_by}
-use Rattle.store_desk.proofs.PreparingLemmas.{prepared_rests, prepared_keeps, prepared_shows, prepared_caused, behind_failed, behind_closed, more_prepared}
+use Rattle.store_desk.specs.Prepared.{HasCommittedSame}
+use Rattle.store_desk.proofs.CopyLemmas.{copied_beside, copied_caused, copied_first, copied_keeps, copied_leaves, copied_rests, copied_same, copied_shows}
+use Rattle.store_desk.proofs.PreparingLemmas.{behind_failed, behind_closed, same_prepared}
 use Rattle.store_desk.proofs.desk.Desk.prepare_part.Goals as goal
+
+pub prepare_next-outcome-requires-clause-autocommit : goal.prepare_next-outcome-requires-clause-autocommit
+prepare_next-outcome-requires-clause-autocommit g c = c.self.invariant.0.ended
+
+pub prepare_next-outcome-requires-clause-holds : goal.prepare_next-outcome-requires-clause-holds
+prepare_next-outcome-requires-clause-holds g c = c.self.invariant.0.holds (ap (λ (d : DeskState _). is_closed d.last) c.self.view_is ∙ c.requires)
 
 pub prepare_next-outcome-requires-clause-range : goal.prepare_next-outcome-requires-clause-range
 prepare_next-outcome-requires-clause-range g c = c.self.invariant.0.range
 
 pub prepare_next-outcome-requires-clause-filed : goal.prepare_next-outcome-requires-clause-filed
-prepare_next-outcome-requires-clause-filed g c =
-    let before : is_closed c.self.inside.last ≡ false = ap (λ (d : DeskState _). is_closed d.last) c.self.view_is ∙ c.requires in
-    c.self.invariant.0.filed before
-
-pub prepare_next-outcome-requires-clause-usable : goal.prepare_next-outcome-requires-clause-usable
-prepare_next-outcome-requires-clause-usable g c =
-    let before : is_closed c.self.inside.last ≡ false = ap (λ (d : DeskState _). is_closed d.last) c.self.view_is ∙ c.requires in
-    usable_by g.S.Store c.self.inside.last (summary_shown c.self.inside.summary) c.self.inside.filing c.self.inside.conn before c.self.invariant.0
-
-pub prepare_next-outcome-requires-clause-settled : goal.prepare_next-outcome-requires-clause-settled
-prepare_next-outcome-requires-clause-settled g c =
-    let before : is_closed c.self.inside.last ≡ false = ap (λ (d : DeskState _). is_closed d.last) c.self.view_is ∙ c.requires in
-    c.self.invariant.0.settled before
+prepare_next-outcome-requires-clause-filed g c = c.self.invariant.0.filed (ap (λ (d : DeskState _). is_closed d.last) c.self.view_is ∙ c.requires)
 
 pub invariant_of-self : goal.invariant_of-self
 invariant_of-self g c =
     let before : is_closed c.self.inside.last ≡ false = ap (λ (d : DeskState _). is_closed d.last) c.self.view_is ∙ c.requires in (
-      prepared_rests g.S.Store c.self.inside.conn c.prepare_next-outcome.new.conn
-          (summary_shown c.self.inside.summary) c.self.inside.filing c.self.inside.last before c.self.invariant.0 c.prepare_next-outcome.ensures.survives c.prepare_next-outcome.ensures.keeps
-          c.last_behind-self-inside.result c.prepare_next-outcome.new.filing c.prepare_next-outcome.ensures.settled c.prepare_next-outcome.ensures.filed,
-      prepared_keeps g.S.Store c.self.inside.conn c.prepare_next-outcome.new.conn
-          (summary_shown c.self.inside.summary) c.self.inside.filing c.self.inside.last before c.self.invariant.0 c.prepare_next-outcome.ensures.survives c.prepare_next-outcome.ensures.keeps
-          c.prepare_next-outcome.result c.last_behind-self-inside.result c.last_behind-self-inside.ensures c.self.inside.texts c.forget_behind.new.texts c.forget_behind.ensures c.self.invariant.1,
+      copied_rests g.S.Store c.self.inside.conn c.prepare_next-outcome.new.conn (summary_shown c.self.inside.summary) c.self.inside.filing c.self.inside.last before c.self.invariant.0
+          c.prepare_next-outcome.ensures.crash c.prepare_next-outcome.ensures.lives c.prepare_next-outcome.ensures.remains c.last_behind-self-inside.result c.prepare_next-outcome.new.filing
+          c.prepare_next-outcome.ensures.settled c.prepare_next-outcome.ensures.ended c.prepare_next-outcome.ensures.filed,
+      copied_keeps (summary_shown c.self.inside.summary) c.self.inside.last c.prepare_next-outcome.result c.last_behind-self-inside.result c.last_behind-self-inside.ensures c.self.inside.texts c.forget_behind.new.texts
+          c.forget_behind.ensures c.self.invariant.1,
     )
+
+pub returns-clause-prepared : goal.returns-clause-prepared
+returns-clause-prepared g c = λ clean is.
+    let old : DeskState _ = record { conn = c.self.inside.conn; summary = summary_shown c.self.inside.summary; last = c.self.inside.last; indexes = c.self.inside.indexes; texts = c.self.inside.texts; taken = c.self.inside.rows_taken } in
+    let new : DeskState _ = record {
+      conn = c.prepare_next-outcome.new.conn;
+      summary = summary_shown c.self.inside.summary;
+      last = c.last_behind-self-inside.result;
+      indexes = c.self.inside.indexes;
+      texts = c.forget_behind.new.texts;
+      taken = c.self.inside.rows_taken;
+    } in
+    elim (c.prepare_next-outcome.ensures.made clean is) as (λ _. (new ≡ c.args.self.now) ⊎ HasCommittedSame g.S.Store c.args.self.now new) [
+      | inl same ↦ inl (same_prepared old new.conn new.last new.texts c.prepare_next-outcome.result c.last_behind-self-inside.ensures c.forget_behind.ensures is same ∙ c.self.view_is)
+      | inr done ↦ inr (subst (λ (d : DeskState _). HasCommittedSame g.S.Store d new) c.self.view_is (record {
+        before = c.self.invariant.0.ended;
+        ended = c.prepare_next-outcome.ensures.ended;
+        same = copied_same old c.prepare_next-outcome.new.conn c.last_behind-self-inside.result c.forget_behind.new.texts c.prepare_next-outcome.result c.last_behind-self-inside.ensures c.forget_behind.ensures is;
+        done = done;
+      }))
+    ]
+
+pub returns-clause-trust : goal.returns-clause-trust
+returns-clause-trust g c = λ clean.
+    let before : is_closed c.self.inside.last ≡ false = ap (λ (d : DeskState _). is_closed d.last) c.self.view_is ∙ c.requires in
+    subst (λ (d : DeskState _). HasCleanDisk (state g.S.Store d.conn)) c.self.view_is
+    (copied_first g.S.Store c.self.inside.conn c.prepare_next-outcome.new.conn (summary_shown c.self.inside.summary) c.self.inside.filing c.self.inside.last before c.self.invariant.0
+    c.prepare_next-outcome.ensures.crash c.prepare_next-outcome.ensures.lives c.prepare_next-outcome.ensures.remains clean)
 
 pub returns-clause-shows : goal.returns-clause-shows
 returns-clause-shows g c = λ clean M shown.
     let before : is_closed c.self.inside.last ≡ false = ap (λ (d : DeskState _). is_closed d.last) c.self.view_is ∙ c.requires in
-    prepared_shows g.S.Store c.self.inside.conn c.prepare_next-outcome.new.conn
-    (summary_shown c.self.inside.summary) c.self.inside.filing c.self.inside.last before c.self.invariant.0 c.prepare_next-outcome.ensures.survives c.prepare_next-outcome.ensures.keeps
+    copied_shows g.S.Store c.self.inside.conn c.prepare_next-outcome.new.conn (summary_shown c.self.inside.summary) c.self.inside.filing c.self.inside.last before c.self.invariant.0
+    c.prepare_next-outcome.ensures.crash c.prepare_next-outcome.ensures.lives c.prepare_next-outcome.ensures.remains
     c.prepare_next-outcome.result c.last_behind-self-inside.result c.self.inside.indexes c.self.inside.texts c.forget_behind.new.texts c.forget_behind.ensures M (subst (λ (d : DeskState _). Shows g.S.Store d M) (sym c.self.view_is) shown)
 
 pub returns-clause-leaves : goal.returns-clause-leaves
 returns-clause-leaves g c = λ ms left.
-    leaves_on g.S.Store (record { conn = c.self.inside.conn; summary = summary_shown c.self.inside.summary; last = c.self.inside.last; indexes = c.self.inside.indexes; texts = c.self.inside.texts; taken = c.self.inside.rows_taken })
+    let before : is_closed c.self.inside.last ≡ false = ap (λ (d : DeskState _). is_closed d.last) c.self.view_is ∙ c.requires in
+    copied_leaves g.S.Store (record { conn = c.self.inside.conn; summary = summary_shown c.self.inside.summary; last = c.self.inside.last; indexes = c.self.inside.indexes; texts = c.self.inside.texts; taken = c.self.inside.rows_taken })
     (record {
       conn = c.prepare_next-outcome.new.conn;
       summary = summary_shown c.self.inside.summary;
@@ -60,11 +81,12 @@ returns-clause-leaves g c = λ ms left.
       texts = c.forget_behind.new.texts;
       taken = c.self.inside.rows_taken;
     })
-    c.prepare_next-outcome.ensures.survives ms (subst (λ (d : DeskState _). LeavesOneOf g.S.Store d ms) (sym c.self.view_is) left)
+    (c.self.invariant.0.holds before) c.is_whole.ensures.live c.committed_may_stay.ensures c.prepare_next-outcome.ensures.crash ms (subst (λ (d : DeskState _). LeavesOneOf g.S.Store d ms) (sym c.self.view_is) left)
 
 pub returns-clause-beside : goal.returns-clause-beside
 returns-clause-beside g c = λ db kept.
-    beside_on g.S.Store (record { conn = c.self.inside.conn; summary = summary_shown c.self.inside.summary; last = c.self.inside.last; indexes = c.self.inside.indexes; texts = c.self.inside.texts; taken = c.self.inside.rows_taken })
+    let before : is_closed c.self.inside.last ≡ false = ap (λ (d : DeskState _). is_closed d.last) c.self.view_is ∙ c.requires in
+    copied_beside g.S.Store (record { conn = c.self.inside.conn; summary = summary_shown c.self.inside.summary; last = c.self.inside.last; indexes = c.self.inside.indexes; texts = c.self.inside.texts; taken = c.self.inside.rows_taken })
     (record {
       conn = c.prepare_next-outcome.new.conn;
       summary = summary_shown c.self.inside.summary;
@@ -73,7 +95,7 @@ returns-clause-beside g c = λ db kept.
       texts = c.forget_behind.new.texts;
       taken = c.self.inside.rows_taken;
     })
-    c.prepare_next-outcome.ensures.survives db (subst (λ (d : DeskState _). KeepsBeside g.S.Store d db) (sym c.self.view_is) kept)
+    (c.self.invariant.0.holds before) c.is_whole.ensures.live c.committed_may_stay.ensures c.prepare_next-outcome.ensures.crash db (subst (λ (d : DeskState _). KeepsBeside g.S.Store d db) (sym c.self.view_is) kept)
 
 pub returns-clause-failed : goal.returns-clause-failed
 returns-clause-failed g c =
@@ -88,7 +110,7 @@ returns-clause-closes g c =
 
 pub returns-clause-caused : goal.returns-clause-caused
 returns-clause-caused g c = λ clean.
-    prepared_caused g.S.Store c.args.self.now (record {
+    copied_caused g.S.Store c.args.self.now (record {
       conn = c.prepare_next-outcome.new.conn;
       summary = summary_shown c.self.inside.summary;
       last = c.last_behind-self-inside.result;
@@ -96,21 +118,6 @@ returns-clause-caused g c = λ clean.
       texts = c.forget_behind.new.texts;
       taken = c.self.inside.rows_taken;
     }) c.prepare_next-outcome.result c.prepare_next-outcome.ensures.kinds
-    (subst (λ (d : DeskState _). KeepsCommit (state g.S.Store d.conn) (state g.S.Store c.prepare_next-outcome.new.conn)) c.self.view_is (c.prepare_next-outcome.ensures.keeps clean))
+    (subst (λ (d : DeskState _). OnErr c.prepare_next-outcome.result (KeepsCommit (state g.S.Store d.conn) (state g.S.Store c.prepare_next-outcome.new.conn))) c.self.view_is (c.prepare_next-outcome.ensures.keeps clean))
     (subst (λ (d : DeskState _). IfErr c.prepare_next-outcome.result (λ fault. fault ≡ Disk → MoreFaults (state g.S.Store d.conn).faults (state g.S.Store c.prepare_next-outcome.new.conn).faults)) c.self.view_is
     (c.prepare_next-outcome.ensures.faulted clean))
-
-pub returns-clause-prepared : goal.returns-clause-prepared
-returns-clause-prepared g c = λ clean is.
-    let old : DeskState _ = record { conn = c.self.inside.conn; summary = summary_shown c.self.inside.summary; last = c.self.inside.last; indexes = c.self.inside.indexes; texts = c.self.inside.texts; taken = c.self.inside.rows_taken } in
-    subst (λ (d : DeskState _). (c.prepare_next-outcome.new.conn.in_transaction ≡ true)
-    ⊎ (record {
-      conn = c.prepare_next-outcome.new.conn;
-      summary = summary_shown c.self.inside.summary;
-      last = c.last_behind-self-inside.result;
-      indexes = c.self.inside.indexes;
-      texts = c.forget_behind.new.texts;
-      taken = c.self.inside.rows_taken;
-    } ≡ d)) c.self.view_is
-    (more_prepared g.S.Store old c.prepare_next-outcome.new.conn c.last_behind-self-inside.result c.forget_behind.new.texts c.prepare_next-outcome.result c.last_behind-self-inside.ensures c.forget_behind.ensures is
-    (c.prepare_next-outcome.ensures.inside clean is))

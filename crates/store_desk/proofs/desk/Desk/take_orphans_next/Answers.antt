@@ -1,31 +1,30 @@
 use Rattle.std.proofs.Common.{◌≡◌, ◌||◌, false, sym, ap, subst, ◌∙◌}
-use Rattle.std.specs.Prelude.{IfErr, OnErr}
+use Rattle.std.specs.Prelude.{IfErr, OnErr, Option}
 use Rattle.sqlite.specs.Held.{state}
 use Rattle.sqlite.specs.Disk.{MoreFaults}
 use Rattle.sqlite.specs.State.{HasCleanDisk, KeepsCommit}
 use Rattle.dict_catalogue.specs.Views.{summary_shown}
 use Rattle.dict_desk.specs.Faults.{has_failed_by, has_closed_by}
 use Rattle.dict_desk.specs.declared.fault.Fault.TheVariants.{Disk}
-use Rattle.store_desk.specs.Desk.{DeskState, Shows, LeavesOneOf, has_failed, is_closed, KeepsBeside}
+use Rattle.store_commands.specs.declared.filing.Filing.{Filing}
+use Rattle.store_desk.specs.Desk.{DeskState, HasFiled, Shows, LeavesOneOf, has_failed, is_closed, KeepsBeside}
 use Rattle.store_desk.specs.Prepared.{HasCommittedSame}
-use Rattle.store_desk.proofs.CopyLemmas.{copied_beside, copied_caused, copied_first, copied_keeps, copied_leaves, copied_rests, copied_same, copied_shows, resting_by}
+use Rattle.store_desk.proofs.CopyLemmas.{copied_beside, copied_caused, copied_first, copied_keeps, copied_leaves, copied_rests, copied_same, copied_shows}
 use Rattle.store_desk.proofs.PreparingLemmas.{behind_failed, behind_closed}
 use Rattle.store_desk.proofs.desk.Desk.take_orphans_next.Goals as goal
 
 pub take_last-outcome-requires-clause-autocommit : goal.take_last-outcome-requires-clause-autocommit
-take_last-outcome-requires-clause-autocommit g c = ap (λ (d : DeskState _). d.conn.in_transaction) c.self.view_is ∙ c.requires.none
+take_last-outcome-requires-clause-autocommit g c = c.self.invariant.0.ended
 
 pub take_last-outcome-requires-clause-holds : goal.take_last-outcome-requires-clause-holds
-take_last-outcome-requires-clause-holds g c =
-    let before : is_closed c.self.inside.last ≡ false = ap (λ (d : DeskState _). is_closed d.last) c.self.view_is ∙ c.requires.open in
-    resting_by g.S.Store c.self.inside.last (summary_shown c.self.inside.summary) c.self.inside.filing c.self.inside.conn before c.self.invariant.0
-    (ap (λ (d : DeskState _). d.conn.in_transaction) c.self.view_is ∙ c.requires.none)
+take_last-outcome-requires-clause-holds g c = c.self.invariant.0.holds (ap (λ (d : DeskState _). is_closed d.last) c.self.view_is ∙ c.requires)
 
 pub invariant_of-self : goal.invariant_of-self
 invariant_of-self g c =
-    let before : is_closed c.self.inside.last ≡ false = ap (λ (d : DeskState _). is_closed d.last) c.self.view_is ∙ c.requires.open in (
+    let before : is_closed c.self.inside.last ≡ false = ap (λ (d : DeskState _). is_closed d.last) c.self.view_is ∙ c.requires in (
       copied_rests g.S.Store c.self.inside.conn c.take_last-outcome.new.conn (summary_shown c.self.inside.summary) c.self.inside.filing c.self.inside.last before c.self.invariant.0
-          c.take_last-outcome.ensures.crash c.take_last-outcome.ensures.lives c.take_last-outcome.ensures.remains c.last_behind-self-inside.result c.take_last-outcome.ensures.settled c.take_last-outcome.ensures.ended,
+          c.take_last-outcome.ensures.crash c.take_last-outcome.ensures.lives c.take_last-outcome.ensures.remains c.last_behind-self-inside.result c.let_go.new.filing
+          c.take_last-outcome.ensures.settled c.take_last-outcome.ensures.ended (subst (λ (f : Option Filing). HasFiled f (state g.S.Store c.take_last-outcome.new.conn)) (sym c.let_go.ensures) tt),
       copied_keeps (summary_shown c.self.inside.summary) c.self.inside.last c.take_last-outcome.result c.last_behind-self-inside.result c.last_behind-self-inside.ensures c.self.inside.texts c.forget_behind.new.texts
           c.forget_behind.ensures c.self.invariant.1,
     )
@@ -42,7 +41,7 @@ returns-clause-committed g c = λ clean is.
       taken = c.self.inside.rows_taken;
     } in
     subst (λ (d : DeskState _). HasCommittedSame g.S.Store d new) c.self.view_is (record {
-      before = ap (λ (d : DeskState _). d.conn.in_transaction) c.self.view_is ∙ c.requires.none;
+      before = c.self.invariant.0.ended;
       ended = c.take_last-outcome.ensures.ended;
       same = copied_same old c.take_last-outcome.new.conn c.last_behind-self-inside.result c.forget_behind.new.texts c.take_last-outcome.result c.last_behind-self-inside.ensures c.forget_behind.ensures is;
       done = c.take_last-outcome.ensures.made clean is;
@@ -50,21 +49,21 @@ returns-clause-committed g c = λ clean is.
 
 pub returns-clause-trust : goal.returns-clause-trust
 returns-clause-trust g c = λ clean.
-    let before : is_closed c.self.inside.last ≡ false = ap (λ (d : DeskState _). is_closed d.last) c.self.view_is ∙ c.requires.open in
+    let before : is_closed c.self.inside.last ≡ false = ap (λ (d : DeskState _). is_closed d.last) c.self.view_is ∙ c.requires in
     subst (λ (d : DeskState _). HasCleanDisk (state g.S.Store d.conn)) c.self.view_is
     (copied_first g.S.Store c.self.inside.conn c.take_last-outcome.new.conn (summary_shown c.self.inside.summary) c.self.inside.filing c.self.inside.last before c.self.invariant.0
     c.take_last-outcome.ensures.crash c.take_last-outcome.ensures.lives c.take_last-outcome.ensures.remains clean)
 
 pub returns-clause-shows : goal.returns-clause-shows
 returns-clause-shows g c = λ clean M shown.
-    let before : is_closed c.self.inside.last ≡ false = ap (λ (d : DeskState _). is_closed d.last) c.self.view_is ∙ c.requires.open in
+    let before : is_closed c.self.inside.last ≡ false = ap (λ (d : DeskState _). is_closed d.last) c.self.view_is ∙ c.requires in
     copied_shows g.S.Store c.self.inside.conn c.take_last-outcome.new.conn (summary_shown c.self.inside.summary) c.self.inside.filing c.self.inside.last before c.self.invariant.0
     c.take_last-outcome.ensures.crash c.take_last-outcome.ensures.lives c.take_last-outcome.ensures.remains
     c.take_last-outcome.result c.last_behind-self-inside.result c.self.inside.indexes c.self.inside.texts c.forget_behind.new.texts c.forget_behind.ensures M (subst (λ (d : DeskState _). Shows g.S.Store d M) (sym c.self.view_is) shown)
 
 pub returns-clause-leaves : goal.returns-clause-leaves
 returns-clause-leaves g c = λ ms left.
-    let before : is_closed c.self.inside.last ≡ false = ap (λ (d : DeskState _). is_closed d.last) c.self.view_is ∙ c.requires.open in
+    let before : is_closed c.self.inside.last ≡ false = ap (λ (d : DeskState _). is_closed d.last) c.self.view_is ∙ c.requires in
     copied_leaves g.S.Store (record { conn = c.self.inside.conn; summary = summary_shown c.self.inside.summary; last = c.self.inside.last; indexes = c.self.inside.indexes; texts = c.self.inside.texts; taken = c.self.inside.rows_taken })
     (record {
       conn = c.take_last-outcome.new.conn;
@@ -78,7 +77,7 @@ returns-clause-leaves g c = λ ms left.
 
 pub returns-clause-beside : goal.returns-clause-beside
 returns-clause-beside g c = λ db kept.
-    let before : is_closed c.self.inside.last ≡ false = ap (λ (d : DeskState _). is_closed d.last) c.self.view_is ∙ c.requires.open in
+    let before : is_closed c.self.inside.last ≡ false = ap (λ (d : DeskState _). is_closed d.last) c.self.view_is ∙ c.requires in
     copied_beside g.S.Store (record { conn = c.self.inside.conn; summary = summary_shown c.self.inside.summary; last = c.self.inside.last; indexes = c.self.inside.indexes; texts = c.self.inside.texts; taken = c.self.inside.rows_taken })
     (record {
       conn = c.take_last-outcome.new.conn;
@@ -97,7 +96,7 @@ returns-clause-failed g c =
 
 pub returns-clause-closes : goal.returns-clause-closes
 returns-clause-closes g c =
-    let before : is_closed c.self.inside.last ≡ false = ap (λ (d : DeskState _). is_closed d.last) c.self.view_is ∙ c.requires.open in
+    let before : is_closed c.self.inside.last ≡ false = ap (λ (d : DeskState _). is_closed d.last) c.self.view_is ∙ c.requires in
     ap is_closed c.last_behind-self-inside.ensures ∙ (behind_closed c.self.inside.last c.take_last-outcome.result before c.take_last-outcome.ensures.kinds
     ∙ ap (λ (d : DeskState _). is_closed d.last || has_closed_by c.take_last-outcome.result) c.self.view_is)
 

@@ -27,11 +27,6 @@ use Rattle.store_desk.proofs.keeper.DeskKeeper.apply.Goals as goal
 abbrev LeftBeside : State → Trees → Type 0
 LeftBeside s trees = IsTrue s.is_open × IsTreesOf (SparesTablesOfOthers s.committed) trees
 
-pub apply_over-outcome-requires-clause-settled : goal.apply_over-outcome-requires-clause-settled
-apply_over-outcome-requires-clause-settled g c =
-    let before : is_closed c.self.inside.last ≡ false = search rules in
-    c.self.invariant.0.settled before
-
 pub apply_over-outcome-requires-clause-holds : goal.apply_over-outcome-requires-clause-holds
 apply_over-outcome-requires-clause-holds g c =
     let before : is_closed c.self.inside.last ≡ false = search rules in
@@ -44,7 +39,7 @@ invariant_of-self-2 g c =
     (command_meant c.args.command.now) c.apply_over-outcome.result before c.self.invariant.0
     c.apply_over-outcome.ensures.over c.self.inside.indexes c.put_coming.new.indexes c.settle.new.indexes c.self.inside.texts c.forget_by-2.new.texts c.self.inside.rows_taken
     (summary_shown c.take_over.new.summary) c.last_by-self-inside.result c.take_over.result c.take_over.ensures.after c.last_by-self-inside.ensures c.take_over.ensures.reply
-    c.forget_by-2.ensures c.self.invariant.1 c.let_go_when_ended.new.filing c.let_go_when_ended.ensures
+    c.forget_by-2.ensures c.self.invariant.1 c.let_go.new.filing c.let_go.ensures
 
 pub returns-clause-value : goal.returns-clause-value
 returns-clause-value g c = λ clean M shown.
@@ -60,7 +55,8 @@ returns-clause-value g c = λ clean M shown.
     (λ clean.
     served_by g.S.Store c.self.inside.conn c.apply_over-outcome.new.conn
     (summary_shown c.self.inside.summary) c.self.inside.last c.args.id.now c.args.command.now before c.self.inside.indexes c.put_coming.new.indexes c.settle.new.indexes c.self.inside.texts c.forget_by-2.new.texts c.self.invariant.1.made
-    c.saturating_add-number.result c.saturating_add-number.ensures c.in-Ok.ensures.put M was clean first c.apply_over-outcome.result c.apply_over-outcome.ensures.over c.settle.ensures.settled texts
+    c.saturating_add-number.result c.saturating_add-number.ensures c.in-Ok.ensures.put M was clean first
+    (λ live. (c.self.invariant.0.holds before first live).1.settled) c.apply_over-outcome.result c.apply_over-outcome.ensures.over c.settle.ensures.settled texts
     (c.apply_over-outcome.ensures.installed clean) (c.apply_over-outcome.ensures.stays clean))
 
 pub returns-clause-leaves : goal.returns-clause-leaves

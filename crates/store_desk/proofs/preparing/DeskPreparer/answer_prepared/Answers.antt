@@ -1,19 +1,17 @@
-use Rattle.std.proofs.Common.{◌≡◌, ◌||◌, false, true, refl, sym, ap, ◌∙◌, arith}
+use Rattle.std.proofs.Common.{◌≡◌, ◌||◌, false, refl, sym, ap, subst, ◌∙◌, arith}
 use Rattle.std.specs.Prelude.{Option, Some, None, Ok}
 use Rattle.std.proofs.lemmas.Bool.{false≢true}
 use Rattle.sqlite.specs.Held.{state}
 use Rattle.sqlite.specs.State.{HasCleanDisk}
-use Rattle.dict_desk.specs.Faults.{has_closed_by, is_disk}
+use Rattle.dict_desk.specs.Faults.{has_closed_by}
 use Rattle.dict_desk.specs.declared.fault.Fault.TheVariants.{Closed as Shut}
 use Rattle.dict_desk.specs.declared.answered.Answered.{Answered}
 use Rattle.dict_desk.specs.declared.answered.Answered.TheVariants.{Done, Refused}
-use Rattle.store_desk.specs.Desk.{is_closed, has_failed}
-use Rattle.store_desk.specs.declared.last.LastCall.{LastCall}
+use Rattle.store_desk.specs.Desk.{DeskState, KeepsBeside, LeavesOneOf, Shows, is_closed, has_failed}
 use Rattle.store_desk.proofs.BesideLemmas.{beside_on}
 use Rattle.store_desk.proofs.DeskLemmas.{clean_behind, leaves_on}
-use Rattle.store_desk.proofs.FinishLemmas.{closed_failed, done_as, err_closed}
-use Rattle.store_desk.proofs.KeeperLemmas.{none_by}
-use Rattle.store_desk.proofs.PreparingLemmas.{failing_or, open_closed, or_false}
+use Rattle.store_desk.proofs.FinishLemmas.{done_as, none_by}
+use Rattle.store_desk.proofs.PreparingLemmas.{closed_failed, failing_or, open_closed, or_false}
 use Rattle.store_desk.proofs.preparing.DeskPreparer.answer_prepared.Goals as goal
 
 pub finish-requires : goal.finish-requires
@@ -97,79 +95,35 @@ returns-in-Some-finish-clause-closed g c =
 
 -- ---- it is let go of
 
-pub returns-in-Ok-clause-trust : goal.returns-in-Ok-clause-trust
-returns-in-Ok-clause-trust g c = λ clean.
-    let survives = none_by c.finish.result c.in_default-finish.not-Some c.finish.ensures.survives in
-    clean_behind (state g.S.Store c.args.self.now.conn) (state g.S.Store c.finish.new.self.conn) survives (clean_behind (state g.S.Store c.finish.new.self.conn) (state g.S.Store c.withdraw.new.self.conn) c.withdraw.ensures.survives clean)
+pub returns-clause-trust : goal.returns-clause-trust
+returns-clause-trust g c = λ clean.
+    clean_behind (state g.S.Store c.args.self.now.conn) (state g.S.Store c.finish.new.self.conn) (none_by c.finish.result c.in_default-finish.not-Some c.finish.ensures.survives)
+    (subst (λ (d : DeskState _). HasCleanDisk (state g.S.Store d.conn)) c.let_go_of_prepared.ensures clean)
 
-pub returns-in-Ok-clause-shows : goal.returns-in-Ok-clause-shows
-returns-in-Ok-clause-shows g c = λ clean M shown.
-    let mid : HasCleanDisk (state g.S.Store c.finish.new.self.conn) = clean_behind (state g.S.Store c.finish.new.self.conn) (state g.S.Store c.withdraw.new.self.conn) c.withdraw.ensures.survives clean in
-    c.withdraw.ensures.shows clean M (none_by c.finish.result c.in_default-finish.not-Some (c.finish.ensures.shows mid M shown))
+pub returns-clause-shows : goal.returns-clause-shows
+returns-clause-shows g c = λ clean M shown.
+    let mid : HasCleanDisk (state g.S.Store c.finish.new.self.conn) = subst (λ (d : DeskState _). HasCleanDisk (state g.S.Store d.conn)) c.let_go_of_prepared.ensures clean in
+    subst (λ (d : DeskState _). Shows g.S.Store d M) (sym c.let_go_of_prepared.ensures) (none_by c.finish.result c.in_default-finish.not-Some (c.finish.ensures.shows mid M shown))
 
-pub returns-in-Ok-clause-leaves : goal.returns-in-Ok-clause-leaves
-returns-in-Ok-clause-leaves g c = λ ms left.
-    let survives = none_by c.finish.result c.in_default-finish.not-Some c.finish.ensures.survives in
-    leaves_on g.S.Store c.finish.new.self c.withdraw.new.self c.withdraw.ensures.survives ms (leaves_on g.S.Store c.args.self.now c.finish.new.self survives ms left)
+pub returns-clause-leaves : goal.returns-clause-leaves
+returns-clause-leaves g c = λ ms left.
+    subst (λ (d : DeskState _). LeavesOneOf g.S.Store d ms) (sym c.let_go_of_prepared.ensures)
+    (leaves_on g.S.Store c.args.self.now c.finish.new.self (none_by c.finish.result c.in_default-finish.not-Some c.finish.ensures.survives) ms left)
 
-pub returns-in-Ok-clause-beside : goal.returns-in-Ok-clause-beside
-returns-in-Ok-clause-beside g c = λ db kept.
-    let survives = none_by c.finish.result c.in_default-finish.not-Some c.finish.ensures.survives in
-    beside_on g.S.Store c.finish.new.self c.withdraw.new.self c.withdraw.ensures.survives db (beside_on g.S.Store c.args.self.now c.finish.new.self survives db kept)
+pub returns-clause-beside : goal.returns-clause-beside
+returns-clause-beside g c = λ db kept.
+    subst (λ (d : DeskState _). KeepsBeside g.S.Store d db) (sym c.let_go_of_prepared.ensures)
+    (beside_on g.S.Store c.args.self.now c.finish.new.self (none_by c.finish.result c.in_default-finish.not-Some c.finish.ensures.survives) db kept)
 
-pub returns-in-Err-clause-trust : goal.returns-in-Err-clause-trust
-returns-in-Err-clause-trust g c = λ clean.
-    let survives = none_by c.finish.result c.in_default-finish.not-Some c.finish.ensures.survives in
-    clean_behind (state g.S.Store c.args.self.now.conn) (state g.S.Store c.finish.new.self.conn) survives (clean_behind (state g.S.Store c.finish.new.self.conn) (state g.S.Store c.withdraw.new.self.conn) c.withdraw.ensures.survives clean)
+pub returns-clause-failed : goal.returns-clause-failed
+returns-clause-failed g c =
+    ap has_failed (ap (λ (d : DeskState _). d.last) c.let_go_of_prepared.ensures ∙ none_by c.finish.result c.in_default-finish.not-Some c.finish.ensures.last) ∙ sym (or_false (has_failed c.args.self.now.last))
 
-pub returns-in-Err-clause-shows : goal.returns-in-Err-clause-shows
-returns-in-Err-clause-shows g c = λ clean M shown.
-    let mid : HasCleanDisk (state g.S.Store c.finish.new.self.conn) = clean_behind (state g.S.Store c.finish.new.self.conn) (state g.S.Store c.withdraw.new.self.conn) c.withdraw.ensures.survives clean in
-    c.withdraw.ensures.shows clean M (none_by c.finish.result c.in_default-finish.not-Some (c.finish.ensures.shows mid M shown))
+pub returns-clause-closes : goal.returns-clause-closes
+returns-clause-closes g c =
+    ap is_closed (ap (λ (d : DeskState _). d.last) c.let_go_of_prepared.ensures ∙ none_by c.finish.result c.in_default-finish.not-Some c.finish.ensures.last) ∙ sym (or_false (is_closed c.args.self.now.last))
 
-pub returns-in-Err-clause-leaves : goal.returns-in-Err-clause-leaves
-returns-in-Err-clause-leaves g c = λ ms left.
-    let survives = none_by c.finish.result c.in_default-finish.not-Some c.finish.ensures.survives in
-    leaves_on g.S.Store c.finish.new.self c.withdraw.new.self c.withdraw.ensures.survives ms (leaves_on g.S.Store c.args.self.now c.finish.new.self survives ms left)
-
-pub returns-in-Err-clause-beside : goal.returns-in-Err-clause-beside
-returns-in-Err-clause-beside g c = λ db kept.
-    let survives = none_by c.finish.result c.in_default-finish.not-Some c.finish.ensures.survives in
-    beside_on g.S.Store c.finish.new.self c.withdraw.new.self c.withdraw.ensures.survives db (beside_on g.S.Store c.args.self.now c.finish.new.self survives db kept)
-
-pub returns-in-Ok-clause-failed : goal.returns-in-Ok-clause-failed
-returns-in-Ok-clause-failed g c =
-    let same = none_by c.finish.result c.in_default-finish.not-Some c.finish.ensures.last in
-    ap has_failed (c.in-Ok.ensures.last ∙ same) ∙ sym (or_false (has_failed c.args.self.now.last))
-
-pub returns-in-Ok-clause-closes : goal.returns-in-Ok-clause-closes
-returns-in-Ok-clause-closes g c =
-    let same = none_by c.finish.result c.in_default-finish.not-Some c.finish.ensures.last in
-    ap is_closed (c.in-Ok.ensures.last ∙ same) ∙ sym (or_false (is_closed c.args.self.now.last))
-
-pub returns-in-Ok-clause-closed : goal.returns-in-Ok-clause-closed
-returns-in-Ok-clause-closed g c =
+pub returns-clause-closed : goal.returns-clause-closed
+returns-clause-closed g c =
     let fine : is_closed c.args.self.now.last ≡ false = sym c.is_closed.ensures ∙ c.if-is_closed.false in
     open_closed {T = Option Answered} c.args.self.now.last (Ok None) fine tt
-
-pub returns-in-Err-clause-kinds : goal.returns-in-Err-clause-kinds
-returns-in-Err-clause-kinds g c = c.in-Err.ensures.kinds
-
-pub returns-in-Err-clause-caused : goal.returns-in-Err-clause-caused
-returns-in-Err-clause-caused g c = λ clean.
-    let fine : is_closed c.args.self.now.last ≡ false = sym c.is_closed.ensures ∙ c.if-is_closed.false in
-    let same = none_by c.finish.result c.in_default-finish.not-Some c.finish.ensures.last in
-    absurd (false≢true (sym (ap is_closed same ∙ fine) ∙ (c.in-Err.ensures.caused clean).1))
-
-pub returns-in-Err-clause-failed : goal.returns-in-Err-clause-failed
-returns-in-Err-clause-failed g c = failing_or c.args.self.now.last c.withdraw.new.self.last c.in-Err.fault c.in-Err.ensures.failing c.in-Err.ensures.failed
-
-pub returns-in-Err-clause-closes : goal.returns-in-Err-clause-closes
-returns-in-Err-clause-closes g c =
-    let same = none_by c.finish.result c.in_default-finish.not-Some c.finish.ensures.last in
-    c.in-Err.ensures.closes ∙ ap (λ (l : LastCall). is_closed l || is_disk c.in-Err.fault) same
-
-pub returns-in-Err-clause-closed : goal.returns-in-Err-clause-closed
-returns-in-Err-clause-closed g c =
-    let same = none_by c.finish.result c.in_default-finish.not-Some c.finish.ensures.last in
-    err_closed {T = Option Answered} c.args.self.now.last c.finish.new.self.last c.in-Err.fault same c.in-Err.ensures.closed

@@ -1,22 +1,15 @@
-use Rattle.std.proofs.Common.{refl, inl, inr, sym, ◌∙◌}
+use Rattle.std.proofs.Common.{refl, inr, sym, ◌∙◌}
 use Rattle.std.specs.Prelude.{Bool}
 use Rattle.dict_desk.specs.declared.fault.Fault.TheVariants.{Closed as Shut}
 use Rattle.store_desk.specs.Desk.{is_closed}
-use Rattle.store_desk.proofs.FinishLemmas.{closed_failed}
-use Rattle.store_desk.proofs.PreparingLemmas.{failing_or, open_closed, or_false}
+use Rattle.store_desk.proofs.PreparingLemmas.{closed_failed, failing_or, open_closed, or_false}
 use Rattle.store_desk.proofs.preparing.DeskPreparer.prepare.Goals as goal
 
-pub copy_log-requires-clause-open : goal.copy_log-requires-clause-open
-copy_log-requires-clause-open g c = sym c.is_closed-closed.ensures ∙ c.if-closed.false
+pub copy_log-requires : goal.copy_log-requires
+copy_log-requires g c = sym c.is_closed-closed.ensures ∙ c.if-closed.false
 
-pub copy_log-requires-clause-none : goal.copy_log-requires-clause-none
-copy_log-requires-clause-none g c = c.may_copy.ensures c.if-may_copy.true
-
-pub take_orphans_next-requires-clause-open : goal.take_orphans_next-requires-clause-open
-take_orphans_next-requires-clause-open g c = sym c.is_closed-closed.ensures ∙ c.if-closed.false
-
-pub take_orphans_next-requires-clause-none : goal.take_orphans_next-requires-clause-none
-take_orphans_next-requires-clause-none g c = c.may_tidy.ensures c.if-may_tidy.true
+pub take_orphans_next-requires : goal.take_orphans_next-requires
+take_orphans_next-requires g c = sym c.is_closed-closed.ensures ∙ c.if-closed.false
 
 pub prepare_part-requires : goal.prepare_part-requires
 prepare_part-requires g c = sym c.is_closed-closed.ensures ∙ c.if-closed.false
@@ -34,19 +27,19 @@ pub returns-then-closed-clause-closed : goal.returns-then-closed-clause-closed
 returns-then-closed-clause-closed g c = (λ is. sym c.is_closed-closed.ensures ∙ c.if-closed.true, λ shut. refl)
 
 pub returns-then-may_copy-clause-prepared : goal.returns-then-may_copy-clause-prepared
-returns-then-may_copy-clause-prepared g c = λ clean is. inr (inr (c.copy_log.ensures.committed clean is))
+returns-then-may_copy-clause-prepared g c = λ clean is. inr (c.copy_log.ensures.committed clean is)
 
 pub returns-then-may_copy-clause-closed : goal.returns-then-may_copy-clause-closed
 returns-then-may_copy-clause-closed g c = open_closed {T = Bool} c.args.self.now.last c.copy_log.result (sym c.is_closed-closed.ensures ∙ c.if-closed.false) c.copy_log.ensures.kinds
 
 pub returns-then-may_tidy-clause-prepared : goal.returns-then-may_tidy-clause-prepared
-returns-then-may_tidy-clause-prepared g c = λ clean is. inr (inr (c.take_orphans_next.ensures.committed clean is))
+returns-then-may_tidy-clause-prepared g c = λ clean is. inr (c.take_orphans_next.ensures.committed clean is)
 
 pub returns-then-may_tidy-clause-closed : goal.returns-then-may_tidy-clause-closed
 returns-then-may_tidy-clause-closed g c = open_closed {T = Bool} c.args.self.now.last c.take_orphans_next.result (sym c.is_closed-closed.ensures ∙ c.if-closed.false) c.take_orphans_next.ensures.kinds
 
 pub returns-clause-prepared : goal.returns-clause-prepared
-returns-clause-prepared g c = λ clean is. elim (c.prepare_part.ensures.prepared clean is) [ inl inside ↦ inl inside | inr same ↦ inr (inl same) ]
+returns-clause-prepared g c = c.prepare_part.ensures.prepared
 
 pub returns-clause-closed : goal.returns-clause-closed
 returns-clause-closed g c = open_closed {T = Bool} c.args.self.now.last c.prepare_part.result (sym c.is_closed-closed.ensures ∙ c.if-closed.false) c.prepare_part.ensures.kinds
