@@ -160,16 +160,14 @@ pub fn foresee_change<K: Preparer>(
     expect_change(alloc, desk, action, name, body)
 }
 
-// Of so many octets a request for an install is foreseen: a smaller one is answered sooner than it is prepared. A larger one whose body
-// is JSON isn't, since that is read once more.
-const SOME: usize = 65_536;
+// A request of so many octets whose body is JSON isn't foreseen, since that is read once more.
+const MANY: usize = 65_536;
 
 // Whether a request of so many octets that asks for this is foreseen.
 pub fn is_foreseen(action: Action, octets: usize) -> bool {
     match action {
-        Action::Install => octets >= SOME,
-        Action::Retire | Action::Rollback => true,
-        Action::Place | Action::PutVirtual => octets < SOME,
+        Action::Install | Action::Retire | Action::Rollback => true,
+        Action::Place | Action::PutVirtual => octets < MANY,
         Action::List => false,
     }
 }

@@ -141,8 +141,8 @@ impl Service {
     /// request is answered. Nothing that is shown changes.
     ///
     /// It is told of an install by its name and its two files, of which none is read, and of another change by its command; only of one
-    /// that may act, under one lawful id that isn't kept; of no install of fewer than 65,536 octets, and of no larger request whose body
-    /// is JSON. It lets go of what it noted before.
+    /// that may act, under one lawful id that isn't kept; and of no request of 65,536 octets and more whose body is JSON. It lets go of what it
+    /// noted before.
     /// Whether it was told of one, and took note. Where memory is wanting, or the desk fails, it didn't, and the request may be answered as
     /// ever.
     pub fn foresee<K: Preparer>(&self, alloc: Global, octets: &[u8], desk: &mut K) -> bool

@@ -132,8 +132,8 @@ impl<'h> Hub<'h> {
     /// it and took note, so that it may prepare it before the event.
     ///
     /// It is no event: nothing of the hub changes, nor what the desk shows, and nothing is put. Whatever is answered here,
-    /// the event of these octets gives what it would have given. The desk is told of installs of 65,536 octets and more, and
-    /// of each other change, but where its body is JSON of so many.
+    /// the event of these octets gives what it would have given. The desk is told of each change, but where its body is JSON of
+    /// 65,536 octets and more.
     pub fn foresee<K: Preparer>(&mut self, desk: &mut K, id: u64, piece: &[u8]) -> bool
         ensures foreseen { result ≡ true → (held : Option Holding) → HasHolding self.old id held → AreForeseen K.expects AsksForChange held piece.now desk.new }
         ensures anew { result ≡ true → K.is_trusted desk.new → (M : Catalogue) → K.shows desk.old M → (held : Option Holding) → HasHolding self.old id held → AreForeseen K.expects (AsksAnewForChange M) held piece.now desk.new }
