@@ -1,4 +1,3 @@
 pub mod LineLemmas
 pub mod WordLineLemmas
 pub mod ReadingLemmas
-pub mod ChangingLemmas
