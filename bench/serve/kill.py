@@ -1,9 +1,10 @@
-"""Kills a server in the midst of installs: kill.py DICTCAT TIMES
+"""Kills a server in the midst of installs: kill.py DICTCAT TIMES [OCTETS]
 
 A file keeps one database, in which each text of an edition says which install it came by. An editor installs one edition after
 the other by HTTP, two readers ask all the while, and the server is killed by a signal at a random moment, so many times. After
 each, `audit` has to say `sound`; the server that is started anew has to show the last acknowledged install or the one that was
-under way; each reply is answered again under its id; and no answer that a reader got may have texts of two editions.
+under way; each reply is answered again under its id; and no answer that a reader got may have texts of two editions. With OCTETS each
+text has so many more, of no entry, so that an install is filed by several commits: one by 1,048,576 of them.
 """
 import json
 import pathlib
@@ -22,7 +23,8 @@ sys.path.append(str(pathlib.Path(__file__).resolve().parent.parent))
 from dictd import spelled
 
 WORDS = 200
-MAX_SECONDS = 0.12
+MORE = int(sys.argv[3]) if len(sys.argv) > 3 else 0
+MAX_SECONDS = 0.12 + MORE / 10_000_000
 
 
 def edition(count):
@@ -33,7 +35,7 @@ def edition(count):
         body = f"word{number // 2}\n  of install {count}, once more {count}\n"
         lines.append(f"word{number // 2}\t{spelled(len(text))}\t{spelled(len(body))}\n")
         text += body
-    return "".join(lines).encode(), text.encode()
+    return "".join(lines).encode(), text.encode() + b"x" * MORE
 
 
 def installs_in(answer):
