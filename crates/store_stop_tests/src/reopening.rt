@@ -33,6 +33,9 @@ const INSTALLED: &[u8] =
 
 const FOUND: &[u8] = b"150 1 definitions retrieved\r\n151 \"b\" a \"A\"\r\nc\r\n.\r\n250 ok\r\n";
 
+// In so many rounds an install of one entry is prepared, a part in each, and answered.
+const PREPARED: u64 = 64;
+
 /// A step of the run, of a reader and of an editor.
 #[derive(Clone, Copy)]
 enum Step {
@@ -56,13 +59,13 @@ static STEPS: [Step; 17] = [
     Step::Come,
     Step::Send(true, PUT),
     Step::Send(false, b"DEFINE a b"),
-    Step::Serve(3),
+    Step::Serve(PREPARED),
     Step::Poll(true, UNAVAILABLE),
     Step::Send(false, b"\r\n"),
     Step::Leave,
     Step::Come,
     Step::Send(true, PUT),
-    Step::Serve(3),
+    Step::Serve(PREPARED),
     Step::Poll(false, b"550 invalid database\r\n"),
     Step::Poll(true, INSTALLED),
     Step::Send(false, b"DEFINE a b\r\n"),
