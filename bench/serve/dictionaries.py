@@ -316,7 +316,7 @@ def changed_while_asked(server, client, path, change):
     readers.process.send_signal(signal.SIGINT)
     it = readers.end()
     assert answer[0][0] == 200, answer
-    took["list"] = max(lists)
+    took["list"] = max(lists, default=0)
     return it, took
 
 
