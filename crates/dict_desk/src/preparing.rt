@@ -19,8 +19,8 @@ use dict_catalogue::Command;
 
 /// Prepares a command that may come, so that it takes less time once it does.
 ///
-/// Nothing that is shown changes by it, nor what a stop may leave; and what was prepared changes no answer. A command that
-/// was expected need not come, and another one may.
+/// Nothing that is shown changes by it, nor which catalogues a stop may leave; and what was prepared changes no answer. A command
+/// that was expected need not come, and another one may.
 pub trait Preparer: Keeper {
     // Between two of its states it was told of this. What foresees commands tells by it what that was.
     ghost expects: { Self → Expected → Self → Type 0 };
