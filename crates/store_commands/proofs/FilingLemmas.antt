@@ -120,11 +120,11 @@ its_slice f from to =
     (all_drop (λ (p : Part). p.edition ≡ pos f.number) from (parts_of_filing f) (parts_its (pos f.number) f.index.items f.text.items))
 
 module _ (f : Filing) (to : ℕ) (old new : Database) (all : AllTables) (it : HasRecords old all) where
-  filed_by : (b : Bool) → (b ≡ true → HasFiledParts f old) → (b ≡ true → f.parts_filed ≤ to) → TurnsRecords (with_part b f to) old new
+  filed_by : (b : Bool) → (b ≡ true → HasFiledParts f old) → (b ≡ true → f.parts_filed < to) → TurnsRecords (with_part b f to) old new
       → IsPermutation (map part_row (take to (parts_of_filing f))) (rows_under (codes "dictcat_part") f.number new)
   filed_by true before goes_on turns =
       let rows : List Part = slice_range (parts_of_filing f) f.parts_filed to in
-      subst (λ l. IsPermutation (map part_row l) (rows_under (codes "dictcat_part") f.number new)) (so_far (parts_of_filing f) f.parts_filed to (goes_on refl))
+      subst (λ l. IsPermutation (map part_row l) (rows_under (codes "dictcat_part") f.number new)) (so_far (parts_of_filing f) f.parts_filed to (omega (arith, goes_on refl)))
       (stand_more f.number old new all.parts (take f.parts_filed (parts_of_filing f)) rows (its_slice f f.parts_filed to) (parts_kept old all it) (parts_kept new (with_part true f to all) (turns all it).0) (before refl))
   filed_by false before goes_on turns =
       let rows : List Part = slice_range (parts_of_filing f) 0 to in
@@ -218,9 +218,9 @@ module _ {S : Type 0} (g : Ghosts S) (f : Filing) (to : ℕ) (old new : Held S) 
   module _ (parts : List Part) (are : parts ≡ parts_of_filing f) where
     -- where it has begun
     module _ (is : f.is_begun ≡ true) where
-      pub next_wrote : f.parts_filed ≤ to → WroteStatements g (map adding_part (slice_range parts f.parts_filed to)) (with_more_parts (slice_range parts f.parts_filed to)) old new → WritesUpTo g f to old new
-      next_wrote le wrote = record {
-        goes_on = λ _. le;
+      pub next_wrote : f.parts_filed < to → WroteStatements g (map adding_part (slice_range parts f.parts_filed to)) (with_more_parts (slice_range parts f.parts_filed to)) old new → WritesUpTo g f to old new
+      next_wrote more wrote = record {
+        goes_on = λ _. more;
         wrote = subst (λ (b : Bool). WroteStatements g (filing_part b f to) (with_part b f to) old new) (sym is)
             (subst (λ (l : List Part). WroteStatements g (map adding_part (slice_range l f.parts_filed to)) (with_more_parts (slice_range l f.parts_filed to)) old new) are wrote);
       }

@@ -15,5 +15,6 @@ pub mod FaultLemmas
 pub mod FilingLemmas
 pub mod FinishLemmas
 pub mod DraftLemmas
+pub mod LeftLemmas
 pub mod MarkingLemmas
 pub mod TakingLemmas

@@ -12,7 +12,7 @@ use Rattle.sqlite.specs.declared.types.Value.TheVariants.{Int}
 use Rattle.sqlite_trees.specs.declared.store.Store.{Ghosts}
 use Rattle.store_sql.specs.Deletes.{Removes, FailsToRemove}
 use Rattle.store_sql.specs.Effects.{IsRemoved, equals_number}
-use Rattle.store_sql.specs.Statements.{Statement}
+use Rattle.store_sql.specs.Statements.{Statement, remove}
 use Rattle.store_edition_sql.specs.PartRecords.{part_row}
 use Rattle.store_edition_sql.specs.Chosen.{is_part_from}
 use Rattle.store_records.specs.Records.{Part}
@@ -28,7 +28,7 @@ use Rattle.store_commands.proofs.GoneLemmas.{all_stay, neither, tested}
 use Rattle.store_commands.proofs.LoopLemmas.{loop_wrote, loop_failed, mapped_at, mapped_grows}
 use Rattle.store_commands.proofs.RowLemmas.{keeps_removed, next_column}
 use Rattle.store_commands.proofs.TableLemmas.{parts_turned, parts_kept}
-use Rattle.store_commands.proofs.WriteLemmas.{wrote_none, wrote_as, wrote_then, wrote_taken, failed_taken, failed_before, failed_after}
+use Rattle.store_commands.proofs.WriteLemmas.{wrote_none, wrote_as, wrote_then, wrote_taken, wrote_removed, failed_one, failed_taken, failed_before, failed_after}
 
 -- ---- some parts stay
 
@@ -45,13 +45,13 @@ cut_none all = ap (λ (l : List Part). record all { parts = l }) (all_stay all.p
 
 -- ---- from a part on
 
--- a part's row, which has no rowid, is of the text of the edition, and of this part or a later one
-abbrev pub is_late : ℕ → ℤ → Row → Bool
-is_late number from row = (equals_number 0 (pos number) row && equals_number 1 (pos 1) row) && not (is_lt (value_cmp (column row 2) (Int from)))
+-- a part's row, which has no rowid, is of this file of the edition, and of this part or a later one
+abbrev pub is_late : ℕ → ℤ × ℤ → Row → Bool
+is_late number bound row = (equals_number 0 (pos number) row && equals_number 1 bound.0 row) && not (is_lt (value_cmp (column row 2) (Int bound.1)))
 
-late_is : (number : ℕ) (from : ℤ) (row : Row) → is_part_from (pos number) (pos 1) from row ≡ is_late number from (drop 1 row)
-late_is number from [] = refl
-late_is number from (v ∷ row) = refl
+late_is : (number : ℕ) (bound : ℤ × ℤ) (row : Row) → is_part_from (pos number) bound.0 bound.1 row ≡ is_late number bound (drop 1 row)
+late_is number bound [] = refl
+late_is number bound (v ∷ row) = refl
 
 and_no : (a : Bool) → (a && false) ≡ false
 and_no true = refl
@@ -62,20 +62,20 @@ never [] = refl
 never (x ∷ xs) = never xs
 
 -- what stays behind the rest is what stays behind the last parts and isn't of the edition
-none_left : {X : Type 0} (of_edition of_text : Bool) (is_behind : X → Bool) (xs : List X) → (not (list_any (λ x. (of_edition && of_text) && is_behind x) xs) && not of_edition) ≡ not of_edition
-none_left true of_text is_behind xs = and_no (not (list_any (λ x. (true && of_text) && is_behind x) xs))
-none_left false of_text is_behind xs = ap (λ b. not b && true) (never xs)
+none_left : {X : Type 0} (of_edition : Bool) (of_file is_behind : X → Bool) (xs : List X) → (not (list_any (λ x. (of_edition && of_file x) && is_behind x) xs) && not of_edition) ≡ not of_edition
+none_left true of_file is_behind xs = and_no (not (list_any (λ x. (true && of_file x) && is_behind x) xs))
+none_left false of_file is_behind xs = ap (λ b. not b && true) (never xs)
 
 module _ {S : Type 0} (g : Ghosts S) (number : ℕ) where
   -- the parts behind these statements, and the statements
-  abbrev pub behind : List ℤ → AllTables → AllTables
-  behind done = with_parts_that (λ r. not (list_any (λ from. is_late number from (part_row r)) done))
+  abbrev pub behind : List (ℤ × ℤ) → AllTables → AllTables
+  behind done = with_parts_that (λ r. not (list_any (λ bound. is_late number bound (part_row r)) done))
 
-  abbrev pub last_ones : List ℤ → List Statement
+  abbrev pub last_ones : List (ℤ × ℤ) → List Statement
   last_ones done = map (taking_from number) done
 
-  abbrev pub without_late : ℤ → AllTables → AllTables
-  without_late from = with_parts_that (λ r. not (is_late number from (part_row r)))
+  abbrev pub without_late : ℤ × ℤ → AllTables → AllTables
+  without_late bound = with_parts_that (λ r. not (is_late number bound (part_row r)))
 
   abbrev pub without_rest : AllTables → AllTables
   without_rest = with_parts_that (λ r. not (equals_number 0 (pos number) (part_row r)))
@@ -84,14 +84,19 @@ module _ {S : Type 0} (g : Ghosts S) (number : ℕ) where
   parts_none a = wrote_as g [] (λ all. all) (behind []) a a (λ db all it. subst (λ (t : AllTables). HasRecords db t) (sym (cut_none all)) it) (wrote_none g a)
 
   -- one statement
-  module _ (from : ℤ) (given : ℤ) (is : given ≡ pos number) (old new : Held S) (survives : Survives (state g old) (state g new) (λ _. ⊥)) where
-    pub late_wrote : (HasCleanDisk (state g new) → Removes (codes "dictcat_part") (is_part_from given (pos 1) from) (state g old) (state g new)) → WroteStatements g (taking_from number from ∷ []) (without_late from) old new
-    late_wrote did =
-        wrote_taken g (codes "dictcat_part") (λ (n : ℤ). is_part_from n (pos 1) from) given (pos number) is old new survives (without_late from)
-        (λ a b gone. cut_turned a b (is_part_from (pos number) (pos 1) from) (is_late number from) (late_is number from) gone) did
+  module _ (bound : ℤ × ℤ) (given file from : ℤ) (is : given ≡ pos number) (of : file ≡ bound.0) (at : from ≡ bound.1) (old new : Held S) (survives : Survives (state g old) (state g new) (λ _. ⊥)) where
+    late_test : is_part_from given file from ≡ is_part_from (pos number) bound.0 bound.1
+    late_test = λ i. is_part_from (is i) (of i) (at i)
 
-    pub late_failed : (e : Error) → (HasCleanDisk (state g new) → FailsToRemove (codes "dictcat_part") (is_part_from given (pos 1) from) (state g old) (state g new) e) → FailsToWrite g (taking_from number from ∷ []) old new e
-    late_failed e h = failed_taken g (codes "dictcat_part") (λ (n : ℤ). is_part_from n (pos 1) from) given (pos number) is old new survives e h
+    pub late_wrote : (HasCleanDisk (state g new) → Removes (codes "dictcat_part") (is_part_from given file from) (state g old) (state g new)) → WroteStatements g (taking_from number bound ∷ []) (without_late bound) old new
+    late_wrote did =
+        wrote_removed g (codes "dictcat_part") (is_part_from (pos number) bound.0 bound.1) old new survives (without_late bound)
+        (λ a b gone. cut_turned a b (is_part_from (pos number) bound.0 bound.1) (is_late number bound) (late_is number bound) gone)
+        (λ clean. subst (λ (test : Row → Bool). Removes (codes "dictcat_part") test (state g old) (state g new)) late_test (did clean))
+
+    pub late_failed : (e : Error) → (HasCleanDisk (state g new) → FailsToRemove (codes "dictcat_part") (is_part_from given file from) (state g old) (state g new) e) → FailsToWrite g (taking_from number bound ∷ []) old new e
+    late_failed e h =
+        subst (λ (test : Row → Bool). FailsToWrite g (remove (codes "dictcat_part") test ∷ []) old new e) late_test (failed_one g (remove (codes "dictcat_part") (is_part_from given file from)) old new survives e h)
 
   -- all that are left
   module _ (given : ℤ) (is : given ≡ pos number) (old new : Held S) (survives : Survives (state g old) (state g new) (λ _. ⊥)) where
@@ -104,13 +109,13 @@ module _ {S : Type 0} (g : Ghosts S) (number : ℕ) where
     rest_failed e h = failed_taken g (codes "dictcat_part") (equals_number 1) given (pos number) is old new survives e h
 
   -- one after others
-  next_late : (db : Database) (xs : List ℤ) (i : ℕ) (d : ℤ) → i < length xs → (all : AllTables) → HasRecords db (without_late (get_or xs i d) (behind (take i xs) all)) → HasRecords db (behind (take (i + 1) xs) all)
+  next_late : (db : Database) (xs : List (ℤ × ℤ)) (i : ℕ) (d : ℤ × ℤ) → i < length xs → (all : AllTables) → HasRecords db (without_late (get_or xs i d) (behind (take i xs) all)) → HasRecords db (behind (take (i + 1) xs) all)
   next_late db xs i d lt all it =
       subst (λ (t : AllTables). HasRecords db t)
-      (cut_both (λ r. not (list_any (λ from. is_late number from (part_row r)) (take i xs))) (λ r. not (is_late number (get_or xs i d) (part_row r))) (λ r. not (list_any (λ from. is_late number from (part_row r)) (take (i + 1) xs)))
-      (λ r. neither (list_any (λ from. is_late number from (part_row r)) (take i xs)) (is_late number (get_or xs i d) (part_row r)) ∙ ap not (sym (list_any_more (λ from. is_late number from (part_row r)) xs i d lt))) all) it
+      (cut_both (λ r. not (list_any (λ bound. is_late number bound (part_row r)) (take i xs))) (λ r. not (is_late number (get_or xs i d) (part_row r))) (λ r. not (list_any (λ bound. is_late number bound (part_row r)) (take (i + 1) xs)))
+      (λ r. neither (list_any (λ bound. is_late number bound (part_row r)) (take i xs)) (is_late number (get_or xs i d) (part_row r)) ∙ ap not (sym (list_any_more (λ bound. is_late number bound (part_row r)) xs i d lt))) all) it
 
-  module _ (xs : List ℤ) (i : ℕ) (d : ℤ) (lt : i < length xs) (old mid new : Held S) (so_far : WroteStatements g (last_ones (take i xs)) (behind (take i xs)) old mid) (spares : CommitsNothing g mid new) where
+  module _ (xs : List (ℤ × ℤ)) (i : ℕ) (d : ℤ × ℤ) (lt : i < length xs) (old mid new : Held S) (so_far : WroteStatements g (last_ones (take i xs)) (behind (take i xs)) old mid) (spares : CommitsNothing g mid new) where
     pub parts_wrote : WroteStatements g (taking_from number (get_or xs i d) ∷ []) (without_late (get_or xs i d)) mid new → WroteStatements g (last_ones (take (i + 1) xs)) (behind (take (i + 1) xs)) old new
     parts_wrote h =
         loop_wrote g last_ones behind xs i (taking_from number (get_or xs i d) ∷ []) (without_late (get_or xs i d)) (mapped_at (taking_from number) xs i d lt) old mid new so_far spares
@@ -122,13 +127,13 @@ module _ {S : Type 0} (g : Ghosts S) (number : ℕ) where
         (loop_failed g last_ones behind xs i (taking_from number (get_or xs i d) ∷ []) (without_late (get_or xs i d)) (mapped_at (taking_from number) xs i d lt) old mid new so_far spares (mapped_grows (taking_from number)) e h)
 
   -- the rest after all of them
-  module _ (xs : List ℤ) (given : ℤ) (is : given ≡ pos number) (old mid new : Held S) (so_far : WroteStatements g (last_ones xs) (behind xs) old mid) (survives : Survives (state g mid) (state g new) (λ _. ⊥))
+  module _ (xs : List (ℤ × ℤ)) (given : ℤ) (is : given ≡ pos number) (old mid new : Held S) (so_far : WroteStatements g (last_ones xs) (behind xs) old mid) (survives : Survives (state g mid) (state g new) (λ _. ⊥))
       (spares : CommitsNothing g mid new) where
     all_taken : (db : Database) (all : AllTables) → HasRecords db (without_rest (behind xs all)) → HasRecords db (without_parts (number ∷ []) all)
     all_taken db all it =
         subst (λ (t : AllTables). HasRecords db t)
-        (cut_both (λ r. not (list_any (λ from. is_late number from (part_row r)) xs)) (λ r. not (equals_number 0 (pos number) (part_row r))) (λ r. not (is_gone (number ∷ []) r.edition))
-        (λ r. none_left (equals_number 0 (pos number) (part_row r)) (equals_number 1 (pos 1) (part_row r)) (λ from. not (is_lt (value_cmp (column (part_row r) 2) (Int from)))) xs
+        (cut_both (λ r. not (list_any (λ bound. is_late number bound (part_row r)) xs)) (λ r. not (equals_number 0 (pos number) (part_row r))) (λ r. not (is_gone (number ∷ []) r.edition))
+        (λ r. none_left (equals_number 0 (pos number) (part_row r)) (λ bound. equals_number 1 bound.0 (part_row r)) (λ bound. not (is_lt (value_cmp (column (part_row r) 2) (Int bound.1)))) xs
         ∙ tested (codes "dictcat_part") part_row (λ (p : Part). p.edition) (λ p. refl) number r) all) it
 
     pub all_wrote : (HasCleanDisk (state g new) → Removes (codes "dictcat_part") (equals_number 1 given) (state g mid) (state g new)) → WroteStatements g (taking_parts number xs) (without_parts (number ∷ [])) old new

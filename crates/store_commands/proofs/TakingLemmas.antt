@@ -78,17 +78,17 @@ none_of_items number (item ∷ items) h = all_append (λ one. one ≢ number) (n
 
 -- ---- parts
 
--- those that are left behind some bounds of a text
-abbrev pub behind_stays : ℕ → List ℤ → Part → Bool
-behind_stays number done r = not (list_any (λ from. is_late number from (part_row r)) done)
+-- those that are left behind some bounds
+abbrev pub behind_stays : ℕ → List (ℤ × ℤ) → Part → Bool
+behind_stays number done r = not (list_any (λ bound. is_late number bound (part_row r)) done)
 
-pub behind_others : (number : ℕ) (done : List ℤ) (part : Part) → same_number (pos number) part.edition ≡ false → behind_stays number done part ≡ true
+pub behind_others : (number : ℕ) (done : List (ℤ × ℤ)) (part : Part) → same_number (pos number) part.edition ≡ false → behind_stays number done part ≡ true
 behind_others number done part other = ap not (none_late done)
   where
-    none_late : (l : List ℤ) → list_any (λ from. is_late number from (part_row part)) l ≡ false
+    none_late : (l : List (ℤ × ℤ)) → list_any (λ bound. is_late number bound (part_row part)) l ≡ false
     none_late [] = refl
-    none_late (from ∷ l) =
-        ap (λ b. ((b && equals_number 1 (pos 1) (part_row part)) && not (is_lt (value_cmp (column (part_row part) 2) (Int from)))) || list_any (λ z. is_late number z (part_row part)) l)
+    none_late (bound ∷ l) =
+        ap (λ b. ((b && equals_number 1 bound.0 (part_row part)) && not (is_lt (value_cmp (column (part_row part) 2) (Int bound.1)))) || list_any (λ z. is_late number z (part_row part)) l)
         (compared_values (pos number) part.edition ∙ other) ∙ none_late l
 
 -- those of editions have numbers of the catalogue

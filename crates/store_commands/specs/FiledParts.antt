@@ -1,5 +1,5 @@
 -- What a part of a filing does, by its commit.
-use Rattle.std.specs.Prelude.{◌≡◌, ◌≢◌, ◌⊎◌, ℕ, ◌≤◌, true, List, Option, None}
+use Rattle.std.specs.Prelude.{◌≡◌, ◌≢◌, ◌⊎◌, ℕ, ◌<◌, true, List, Option, None}
 use Rattle.sqlite.specs.Effect.{Database}
 use Rattle.sqlite.specs.Held.{Held}
 use Rattle.sqlite.specs.declared.error.Error.{Error}
@@ -14,13 +14,13 @@ use Rattle.store_commands.specs.declared.filing.Filing.{Filing}
 
 -- what a part that ends before this place, behind those that are filed, makes of what the tables kept
 pub record FilesUpTo (f : Filing) (to : ℕ) (old new : Database) : Type 0 where
-  pub goes_on : f.is_begun ≡ true → f.parts_filed ≤ to
+  pub goes_on : f.is_begun ≡ true → f.parts_filed < to
   pub turns : TurnsRecords (with_part f.is_begun f to) old new
 
 module _ {S : Type 0} (g : Ghosts S) where
   -- So it was within the transaction.
   pub record WritesUpTo (f : Filing) (to : ℕ) (old new : Held S) : Type 0 where
-    pub goes_on : f.is_begun ≡ true → f.parts_filed ≤ to
+    pub goes_on : f.is_begun ≡ true → f.parts_filed < to
     pub wrote : WroteStatements g (filing_part f.is_begun f to) (with_part f.is_begun f to) old new
 
   -- One of statements of this kind failed, where those before it had done what they say.

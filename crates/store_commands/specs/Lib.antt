@@ -7,6 +7,7 @@ pub mod Committed
 pub mod Answers
 pub mod Drafts
 pub mod Filing
+pub mod Left
 pub mod Installs
 pub mod FiledParts
 pub mod Finishing

@@ -14,8 +14,8 @@ use Rattle.store_commands.specs.Marking.{FailsToCommitRun}
 use Rattle.store_commands.specs.Writes.{WroteStatements}
 use Rattle.store_commands.specs.Statements.{taking_from, taking_parts, last_parts}
 
--- these take out parts of this number: those of its text from some of these bounds on, or all of them
-abbrev pub AreTakingOut : ℕ → List ℤ → List Statement → Type 0
+-- these take out parts of this number: those of a file from some of these bounds on, or all of them
+abbrev pub AreTakingOut : ℕ → List (ℤ × ℤ) → List Statement → Type 0
 AreTakingOut number bounds statements = ((so_many : ℕ) × (statements ≡ map (taking_from number) (take so_many bounds))) ⊎ (statements ≡ taking_parts number bounds)
 
 -- some parts stay
@@ -34,7 +34,7 @@ HasNoParts number db = rows_under (codes "dictcat_part") number db ≡ []
 
 module _ {S : Type 0} (g : Ghosts S) where
   -- Such statements ran within the transaction, and made nothing else of the records; where there is no more, no part has the number.
-  pub record TakesOut (number : ℕ) (bounds : List ℤ) (more : Bool) (old new : Held S) : Type 0 where
+  pub record TakesOut (number : ℕ) (bounds : List (ℤ × ℤ)) (more : Bool) (old new : Held S) : Type 0 where
     pub statements : List Statement
     pub are : AreTakingOut number bounds statements
     pub stays : Part → Bool

@@ -53,21 +53,23 @@ members_anew items = clearing table.Member ∷ map adding_member (all_members it
 abbrev pub summary_anew : {A : Type 0} → ℕ → ℕ → List (Item A) → List Statement
 summary_anew version installs items = mark_anew version installs ++ (items_anew items ++ members_anew items)
 
--- the rows of the edition of this number are taken out of a table; of its text the parts from one on
+-- the rows of the edition of this number are taken out of a table; of one of its files the parts from one on
 abbrev pub taking_of : List ℕ → ℕ → Statement
 taking_of name number = remove name (equals_number 1 (pos number))
 
-abbrev pub taking_from : ℕ → ℤ → Statement
-taking_from number from = remove (codes "dictcat_part") (is_part_from (pos number) (pos 1) from)
+abbrev pub taking_from : ℕ → ℤ × ℤ → Statement
+taking_from number bound = remove (codes "dictcat_part") (is_part_from (pos number) bound.0 bound.1)
 
--- its parts go some at a time: those of its text from each of these on, one after the other, and then the rest
-abbrev pub taking_parts : ℕ → List ℤ → List Statement
+-- its parts go some at a time: those of a file from each of these on, one after the other, and then the rest
+abbrev pub taking_parts : ℕ → List (ℤ × ℤ) → List Statement
 taking_parts number parts = map (taking_from number) parts ++ taking_of (codes "dictcat_part") number ∷ []
 
--- from its last part on a text goes 256 parts, which are 4 MiB, at a time
-abbrev pub last_parts : List ℤ
+-- from its last part on a text goes 256 parts, which are 4 MiB, at a time, and then so does an index
+abbrev pub last_parts : List (ℤ × ℤ)
 last_parts =
-    pos 3840 ∷ pos 3584 ∷ pos 3328 ∷ pos 3072 ∷ pos 2816 ∷ pos 2560 ∷ pos 2304 ∷ pos 2048 ∷ pos 1792 ∷ pos 1536 ∷ pos 1280 ∷ pos 1024 ∷ pos 768 ∷ pos 512 ∷ pos 256 ∷ []
+    (pos 1, pos 3840) ∷ (pos 1, pos 3584) ∷ (pos 1, pos 3328) ∷ (pos 1, pos 3072) ∷ (pos 1, pos 2816) ∷ (pos 1, pos 2560) ∷ (pos 1, pos 2304)
+    ∷ (pos 1, pos 2048) ∷ (pos 1, pos 1792) ∷ (pos 1, pos 1536) ∷ (pos 1, pos 1280) ∷ (pos 1, pos 1024) ∷ (pos 1, pos 768) ∷ (pos 1, pos 512) ∷ (pos 1, pos 256)
+    ∷ (pos 1, pos 0) ∷ (pos 0, pos 768) ∷ (pos 0, pos 512) ∷ (pos 0, pos 256) ∷ []
 
 -- the record of the edition of this number is taken out; its parts are left
 abbrev pub taking : ℕ → List Statement

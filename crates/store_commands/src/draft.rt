@@ -1,8 +1,9 @@
 // An install that may come, read before the command comes.
-ghost use Rattle.std.specs.Prelude.{◌≡◌, ◌-◌, ◌+◌, ◌≤◌, ◌≢◌, false, true, None, IfOk, IfSome, OnOk};
+ghost use Rattle.std.specs.Prelude.{◌≡◌, ◌-◌, ◌+◌, ◌≤◌, ◌≢◌, false, true, None, IfOk, IsTrue, IfSome, OnOk};
 ghost use Rattle.dict_index.specs.Meaning.{IsFault};
 ghost use Rattle.dict_reading.specs.Slices.{IsSlice};
 ghost use Rattle.store_commands.specs.Drafts.{IsDraftOf};
+ghost use Rattle.store_commands.specs.Left.{IsLess, draft_left};
 
 use crate::install::InstallFiles;
 use dict_index::EditionRefusal;
@@ -39,12 +40,14 @@ impl Draft {
     }
 
     /// Reads a slice of lines: `dict_reading::SLICE_LINES` at most; or, once all are read, writes those of 4,096 entries at most as they are
-    /// stored. Whether there may be more to do: there isn't where a test fails, or all is written. The only error is want of memory.
+    /// stored. Whether there may be more to do, of which less is left than before: there isn't where a test fails, or all is written. The
+    /// only error is want of memory.
     pub fn step(&mut self) -> Result<bool, AllocError>
         ensures files { IsDraftOf self.old.name self.old.index self.old.text self.new }
         ensures reads { OnOk result (self.new.is_refused ≡ false → IsSlice self.old.index self.old.lines (self.new.lines - self.old.lines)) }
         ensures writes { OnOk result (self.new.written ≤ self.old.written + 4096) }
         ensures done { IfOk result (λ more. more ≡ false → self.new.is_done ≡ true) }
+        ensures fewer { IfOk result (λ more. IsTrue more → IsLess (draft_left self.new) (draft_left self.old)) }
     {
         self.files.step()
     }

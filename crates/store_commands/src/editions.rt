@@ -20,17 +20,35 @@ use store_edition_sql::{delete_header, delete_parts, delete_parts_from, insert_h
 use store_records::HeaderRecord;
 use store_sql::transaction::OpenTransaction;
 
-// A statement has all rows that it takes out in memory, so a text goes 256 parts, which are 4 MiB, at a time: those from each of these
-// on, the last ones first.
-pub(crate) const LAST_PARTS: &[i64] = &[
-    3840, 3584, 3328, 3072, 2816, 2560, 2304, 2048, 1792, 1536, 1280, 1024, 768, 512, 256,
+// A statement has all rows that it takes out in memory, so a text goes 256 parts, which are 4 MiB, at a time, and then an index does. Each of
+// these is a file, 1 the text and 0 the index, and the number from which on its parts go, the last ones first.
+pub(crate) const LAST_PARTS: &[(i64, i64)] = &[
+    (1, 3840),
+    (1, 3584),
+    (1, 3328),
+    (1, 3072),
+    (1, 2816),
+    (1, 2560),
+    (1, 2304),
+    (1, 2048),
+    (1, 1792),
+    (1, 1536),
+    (1, 1280),
+    (1, 1024),
+    (1, 768),
+    (1, 512),
+    (1, 256),
+    (1, 0),
+    (0, 768),
+    (0, 512),
+    (0, 256),
 ];
 
-/// Takes out the parts of this number: those of a text from each of these on, one after the other, and then the rest.
+/// Takes out the parts of this number: those of a file from each of these on, one after the other, and then the rest.
 pub(crate) fn take_parts<S: Alter, T: OpenTransaction<S>>(
     tx: &mut T,
     number: u64,
-    parts: &[i64],
+    parts: &[(i64, i64)],
 ) -> Result<(), Error>
     requires number { FitsColumn number }
     requires usable { WhileOpen (state S.Store (T.held tx.old)) IsUsable }
@@ -40,8 +58,8 @@ pub(crate) fn take_parts<S: Alter, T: OpenTransaction<S>>(
     ensures failed { IfErr result (FailsToWrite S.Store (taking_parts number parts.now) (T.held tx.old) (T.held tx.new)) }
     ensures spares { CommitsNothing S.Store (T.held tx.old) (T.held tx.new) }
 {
-    'each: for from in parts {
-        delete_parts_from(tx, number as i64, 1, *from)?;
+    'each: for (file, from) in parts {
+        delete_parts_from(tx, number as i64, *file, *from)?;
     }
     delete_parts(tx, number as i64)?;
     Ok(())

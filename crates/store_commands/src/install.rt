@@ -6,7 +6,8 @@ ghost use Rattle.dict_index.specs.Meaning.{IsFault};
 ghost use Rattle.dict_index.specs.Refused.{IsIndexFault};
 ghost use Rattle.store_rows.specs.Stored.{stored_index, stored_line, IsStorable};
 ghost use Rattle.dict_reading.specs.Reading.{HasRead, IsAtEnd};
-ghost use Rattle.store_commands.specs.Installs.{IsReadSoFar, ReadsSlice, AreFirstLines, AreAllLines, AreKnown, HasFiles, IsShortStep, is_done, is_refused};
+ghost use Rattle.store_commands.specs.Installs.{IsReadSoFar, ReadsSlice, AreFirstLines, AreAllLines, AreKnown, HasFiles, IsShortStep, is_done, is_refused, state_of};
+ghost use Rattle.store_commands.specs.Left.{IsLess, draft_left, reading_left};
 
 use dict_index::{EditionRefusal, IndexFault, one_meaning};
 use dict_reading::{EditionReader, Reading};
@@ -66,6 +67,7 @@ fn read_slice(progress: &mut Progress, index: &[u8], text: &[u8]) -> Result<bool
     ensures slice { OnOk result (ReadsSlice index.now progress.old progress.new) }
     ensures none { IfOk result (λ some. some ≡ false → progress.new ≡ progress.old) }
     ensures all { IfOk result (λ some. some ≡ false → (reader : EditionReader) → progress.old ≡ Progress.Reader reader → IsAtEnd index.now reader) }
+    ensures fewer { IfOk result (λ some. IsTrue some → IsLess (reading_left progress.new) (reading_left progress.old)) }
 {
     let Progress::Reader(reader) = progress else {
         return Ok(false);
@@ -73,6 +75,8 @@ fn read_slice(progress: &mut Progress, index: &[u8], text: &[u8]) -> Result<bool
     if reader.is_at_end(index) {
         return Ok(false);
     }
+    // That many lines were read is a number of 64 bits, so there is an end of reading more.
+    reader.line_count();
     match reader.take(index, text) {
         Ok(_) => Ok(true),
         Err(fault) => {
@@ -88,6 +92,7 @@ fn slice_end(written: usize, all: usize) -> usize
     ensures ordered { written ≤ result }
     ensures within { result ≤ all }
     ensures few { result ≤ written + 4096 }
+    ensures more { written < all → written < result }
 {
     if all - written <= SLICE_ENTRIES {
         return all;
@@ -145,6 +150,7 @@ fn write_slice(
     ensures front { IfOk result (λ told. AreFirstLines index.now text.now written stored.old.items → AreFirstLines index.now text.now told.0 stored.new.items) }
     ensures whole { IfOk result (λ told. AreFirstLines index.now text.now written stored.old.items → told.1 ≡ false → AreAllLines index.now text.now stored.new.items) }
     ensures few { IfOk result (λ told. told.0 ≤ written + 4096) }
+    ensures more { IfOk result (λ told. IsTrue told.1 → written < told.0) }
     ensures refused { IfErr result (λ fault. IsIndexFault fault index.now text.now) }
 {
     one_meaning();
@@ -197,6 +203,7 @@ impl InstallFiles {
         ensures files { HasFiles (string_bytes self.old.name) self.old.came.items self.old.text.items self.new }
         ensures short { OnOk result (IsShortStep self.old self.new) }
         ensures done { IfOk result (λ more. more ≡ false → is_done self.new ≡ true) }
+        ensures fewer { IfOk result (λ more. IsTrue more → IsLess (draft_left (state_of self.new)) (draft_left (state_of self.old))) }
     {
         if self.is_whole {
             return Ok(false);
@@ -217,6 +224,7 @@ impl InstallFiles {
         ensures reads { OnOk result (ReadsSlice self.old.came.items self.old.progress self.new.progress) }
         ensures writes { self.new.written ≤ self.old.written + 4096 }
         ensures done { IfOk result (λ more. more ≡ false → is_done self.new ≡ true) }
+        ensures fewer { IfOk result (λ more. IsTrue more → IsLess (draft_left (state_of self.new)) (draft_left (state_of self.old))) }
     {
         let Progress::Reader(reader) = &self.progress else {
             return Ok(false);

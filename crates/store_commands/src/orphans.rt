@@ -26,6 +26,9 @@ use store_edition_sql::{delete_parts, delete_parts_from};
 use store_sql::commit::commit;
 use store_sql::transaction::OpenTransaction;
 
+// One commit takes out so many parts at least, where there are as many, and 256 more at most.
+const ENOUGH: usize = 128;
+
 // Whether the item has an edition of this number.
 fn item_has(item: &Item, number: u64) -> bool
     ensures { result ≡ false → AllByRecursion (λ one. one ≢ number) (numbers_of (item_shown item.now)) }
@@ -55,12 +58,12 @@ fn has_number(items: &[Item], number: u64) -> bool
     false
 }
 
-// Takes out the parts of the text of this number from the first of these bounds on that some are behind, as far as the store tells; or, where
-// none are, all parts of the number. Whether there may be more.
+// Takes out the parts of a file of this number from one of these bounds on after the other, until they are enough, as far as the store tells; or
+// all parts of the number. Whether there may be more.
 fn take_slice<S: Alter, T: OpenTransaction<S>>(
     tx: &mut T,
     number: u64,
-    bounds: &[i64],
+    bounds: &[(i64, i64)],
 ) -> Result<bool, Error>
     requires number { FitsColumn number }
     requires usable { WhileOpen (state S.Store (T.held tx.old)) IsUsable }
@@ -72,9 +75,11 @@ fn take_slice<S: Alter, T: OpenTransaction<S>>(
     ensures failed { IfErr result (FailsAmong S.Store (AreTakingOut number bounds.now) (T.held tx.old) (T.held tx.new)) }
     ensures spares { CommitsNothing S.Store (T.held tx.old) (T.held tx.new) }
 {
-    'each: for from in bounds {
-        let taken = delete_parts_from(tx, number as i64, 1, *from)?;
-        if taken > 0 {
+    let mut all = 0usize;
+    'each: for (file, from) in bounds {
+        let taken = delete_parts_from(tx, number as i64, *file, *from)?;
+        all = all.saturating_add(taken);
+        if all >= ENOUGH {
             return Ok(true);
         }
     }
@@ -109,8 +114,8 @@ fn commit_slice<S: Alter>(conn: &mut Connection<S>, number: u64) -> Result<bool,
 }
 
 /// Takes out some parts of this number by one commit, where no edition of the summary has it: parts of an edition that went, or of one that
-/// never came. From its last part on a text goes 256 parts, which are 4 MiB, at a time. It answers whether there may be more; else none is
-/// left. Each catalogue of this summary that was held is held still, and a stop leaves no other.
+/// never came. From its last part on a text goes 256 parts, which are 4 MiB, at a time, and then an index does. It answers whether there may
+/// be more; else none is left. Each catalogue of this summary that was held is held still, and a stop leaves no other.
 ///
 /// At an error what was committed is so still. `Memory` tells that a growth was refused, `Disk` that the disk failed. None tells that a
 /// statement was refused, that the store was shut before, that an edition has the number, or that no column holds it.

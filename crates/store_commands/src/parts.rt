@@ -14,6 +14,7 @@ ghost use Rattle.store_commands.specs.Committed.{IsOfStore, StaysCommitted};
 ghost use Rattle.store_commands.specs.Marking.{Remains, FailsToCommitRun};
 ghost use Rattle.store_commands.specs.Filing.{parts_of_files, parts_of_filing, IsDrawnUp, AreAllPartsFiled, HasSameRows, IsFiledSoFar, fault_filed, AreOfSomePart};
 ghost use Rattle.store_commands.specs.FiledParts.{FailsAmong, FailsToFile, FilesUpTo, WritesUpTo};
+ghost use Rattle.store_commands.specs.Left.{IsLess, filing_left};
 ghost use Rattle.store_commands.specs.Writes.{CommitsNothing};
 
 use crate::editions::{LAST_PARTS, take_parts};
@@ -25,8 +26,8 @@ use sqlite::{Alter, Connection, Error, ErrorCode};
 use store_sql::commit::commit;
 use store_sql::transaction::OpenTransaction;
 
-// So many parts are filed at a time: 1 MiB.
-const PARTS: usize = 64;
+// So many parts are filed at a time: 512 KiB.
+const PARTS: usize = 32;
 
 // How many are filed behind the next part, of so many, of which some are.
 fn part_end(filed: usize, all: usize) -> usize
@@ -110,6 +111,7 @@ fn commit_parts<S: Alter>(conn: &mut Connection<S>, filing: &Filing) -> Result<u
     requires rest { filing.now.is_begun ≡ true → filing.now.parts_filed < length (parts_of_filing filing.now) }
     requires usable { WhileOpen (state S.Store conn.old) IsUsable }
     ensures made { HasCleanDisk (state S.Store conn.new) → IfOk result (λ to. IsCommitted (λ db. IsTrue (state S.Store conn.old).is_open × FilesUpTo filing.now to (state S.Store conn.old).now db) (state S.Store conn.new)) }
+    ensures more { IfOk result (λ to. filing.now.is_begun ≡ true → filing.now.parts_filed < to) }
     ensures stays { HasCleanDisk (state S.Store conn.new) → OnErr result (StaysCommitted (state S.Store conn.old) (state S.Store conn.new)) }
     ensures lives { HasCleanDisk (state S.Store conn.new) → IsTrue (state S.Store conn.new).is_open → IsTrue (state S.Store conn.old).is_open }
     ensures failed { HasCleanDisk (state S.Store conn.new) → IfErr result (λ why. (statements : List Statement) × AreOfSomePart filing.now statements × FailsToCommitRun S.Store statements conn.old conn.new why) }
@@ -138,8 +140,8 @@ fn is_other_number(summary: &Summary, number: u64) -> bool
 }
 
 /// Files the next part of an edition that is to come over this summary, by one commit, under the number that the edition gets; before the first
-/// part what stands under that number, of no edition, is taken out. It answers whether there is more. Each catalogue of this summary that was held
-/// is held still, and a stop leaves no other: the parts are of no edition yet.
+/// part what stands under that number, of no edition, is taken out. It answers whether there is more: less is left than was. Each catalogue of
+/// this summary that was held is held still, and a stop leaves no other: the parts are of no edition yet.
 ///
 /// At an error what was committed is so still, and as much is filed as was. `Memory` tells that a growth was refused, `Disk` that the disk failed.
 /// None tells that it can't be filed: all of it is, another number than the filing's is the next of the summary, a statement was refused, or the
@@ -159,6 +161,7 @@ pub fn file_part<S: Alter>(
     ensures made { HasCleanDisk (state S.Store conn.new) → OnOk result (IsCommitted (Remains (summary_shown summary.now) (state S.Store conn.old).committed) (state S.Store conn.new)) }
     ensures filed { OnOk result (IsFiledSoFar filing.new (state S.Store conn.new)) }
     ensures begun { OnOk result (filing.new.is_begun ≡ true) }
+    ensures fewer { OnOk result (IsLess (filing_left filing.new) (filing_left filing.old)) }
     ensures whole { IfOk result (λ more. more ≡ false → AreAllPartsFiled filing.new) }
     ensures same { OnErr result (filing.new ≡ filing.old) }
     ensures stays { HasCleanDisk (state S.Store conn.new) → OnErr result (StaysCommitted (state S.Store conn.old) (state S.Store conn.new)) }

@@ -9,7 +9,7 @@ use Rattle.store_commands.proofs.editions.take_parts.Given as goal
 
 abbrev pub invariant-each : goal.invariant-each
 invariant-each g l =
-    let some = take l.from-index l.parts in
+    let some = take l.file-index l.parts in
     record {
       same_reference : g.T.OpenTransaction.reference l.tx ≡ g.T.OpenTransaction.reference l.fn.tx;
       wrote : WroteStatements g.S.Store (last_ones g.S.Store l.number some) (behind g.S.Store l.number some) (g.T.OpenTransaction.held l.fn.tx) (g.T.OpenTransaction.held l.tx);

@@ -1,17 +1,13 @@
-use Rattle.std.proofs.Common.{◌≡◌, refl, subst, ap, sym, codes, get_or, pos, take, ◌+◌, false, not, ◌||◌, [], ◌∷◌, ◌∙◌, inl, inr, rules}
-use Rattle.std.specs.Prelude.{IfErr, OnOk}
+use Rattle.std.proofs.Common.{refl, subst, ap, sym, codes, get_or, pos, take, ◌+◌, false, not, ◌||◌, [], ◌∷◌, ◌∙◌, inl, inr, rules}
 use Rattle.std.proofs.lemmas.Bool.{false≢true}
 use Rattle.std.proofs.lemmas.Int.{to_z-of_z}
 use Rattle.std.proofs.lemmas.List.{take_all}
-use mir.Val.{to_z, of_z, SFits}
+use mir.Val.{to_z, SFits}
 use mir.Syntax.{w64}
-use Rattle.sqlite.specs.State.{HasCleanDisk}
 use Rattle.sqlite.specs.Held.{state}
-use Rattle.store_sql.specs.Deletes.{Removes, FailsToRemove}
 use Rattle.store_sql.specs.Effects.{equals_number}
 use Rattle.store_sql.proofs.StreamLemmas.{passed_on}
 use Rattle.store_records.specs.Records.{Part}
-use Rattle.store_edition_sql.specs.Chosen.{is_part_from}
 use Rattle.store_rows.specs.After.{is_gone}
 use Rattle.store_commands.specs.Statements.{taking_from, taking_parts}
 use Rattle.store_commands.specs.FiledParts.{FailsAmong}
@@ -48,20 +44,16 @@ each-preserved g c =
     let new = (g.T.OpenTransaction.held c.delete_parts_from.new.tx) in
     let n = c.args.number in
     let all = c.args.bounds.now in
-    let i = c.each.from-index in
-    let fits : SFits w64 (get_or all i (pos 0)) = search rules in
-    let same : to_z w64 (of_z w64 (get_or all i (pos 0))) ≡ get_or all i (pos 0) = to_z-of_z w64 (get_or all i (pos 0)) fits in
-    let removed = subst (λ v. HasCleanDisk (state g.S.Store new) → OnOk c.delete_parts_from.result (Removes (codes "dictcat_part") (is_part_from (to_z w64 n) (pos 1) v) (state g.S.Store mid) (state g.S.Store new))) same
-    c.delete_parts_from.ensures.removed in
-    let failed = subst (λ v. HasCleanDisk (state g.S.Store new) → IfErr c.delete_parts_from.result (FailsToRemove (codes "dictcat_part") (is_part_from (to_z w64 n) (pos 1) v) (state g.S.Store mid) (state g.S.Store new)))
-    same c.delete_parts_from.ensures.failed in
-    let spares = spares_removed g.S.Store (codes "dictcat_part") (is_part_from (to_z w64 n) (pos 1) (get_or all i (pos 0))) mid new c.delete_parts_from.ensures.survives c.delete_parts_from.result removed failed in
-    let one = late_wrote g.S.Store n (get_or all i (pos 0)) (to_z w64 n) (handed n c.requires.number) mid new c.delete_parts_from.ensures.survives
-    (subst (λ v. HasCleanDisk (state g.S.Store new) → Removes (codes "dictcat_part") (is_part_from (to_z w64 n) (pos 1) v) (state g.S.Store mid) (state g.S.Store new)) same c.in_ok-taken.ensures.removed) in
+    let i = c.each.file-index in
+    let spares = spares_removed g.S.Store (codes "dictcat_part") _ mid new c.delete_parts_from.ensures.survives c.delete_parts_from.result c.delete_parts_from.ensures.removed c.delete_parts_from.ensures.failed in
+    let bound = get_or all i (pos 0, pos 0) in
+    let file : SFits w64 bound.0 = search rules in
+    let from : SFits w64 bound.1 = search rules in
+    let one = late_wrote g.S.Store n bound _ _ _ (handed n c.requires.number) (to_z-of_z w64 bound.0 file) (to_z-of_z w64 bound.1 from) mid new c.delete_parts_from.ensures.survives c.in_ok-taken.ensures.removed in
     record {
       same_reference = c.delete_parts_from.ensures.same_reference ∙ c.each.invariant.same_reference;
-      wrote = parts_wrote g.S.Store n all i (pos 0) c.each-test.true first mid new c.each.invariant.wrote spares one;
-      usable = usable_then g.S.Store (taking_from n (get_or all i (pos 0)) ∷ []) _ mid new c.each.invariant.usable one spares;
+      wrote = parts_wrote g.S.Store n all i (pos 0, pos 0) c.each-test.true first mid new c.each.invariant.wrote spares one;
+      usable = usable_then g.S.Store (taking_from n bound ∷ []) _ mid new c.each.invariant.usable one spares;
       spares = spares_then g.S.Store first mid new c.each.invariant.spares spares;
     }
 
@@ -70,16 +62,7 @@ returns-in_err-taken-clause-spares g c =
     let first = (g.T.OpenTransaction.held c.args.tx.now) in
     let mid = (g.T.OpenTransaction.held c.each.tx) in
     let new = (g.T.OpenTransaction.held c.delete_parts_from.new.tx) in
-    let n = c.args.number in
-    let all = c.args.bounds.now in
-    let i = c.each.from-index in
-    let fits : SFits w64 (get_or all i (pos 0)) = search rules in
-    let same : to_z w64 (of_z w64 (get_or all i (pos 0))) ≡ get_or all i (pos 0) = to_z-of_z w64 (get_or all i (pos 0)) fits in
-    let removed = subst (λ v. HasCleanDisk (state g.S.Store new) → OnOk c.delete_parts_from.result (Removes (codes "dictcat_part") (is_part_from (to_z w64 n) (pos 1) v) (state g.S.Store mid) (state g.S.Store new))) same
-    c.delete_parts_from.ensures.removed in
-    let failed = subst (λ v. HasCleanDisk (state g.S.Store new) → IfErr c.delete_parts_from.result (FailsToRemove (codes "dictcat_part") (is_part_from (to_z w64 n) (pos 1) v) (state g.S.Store mid) (state g.S.Store new)))
-    same c.delete_parts_from.ensures.failed in
-    let spares = spares_removed g.S.Store (codes "dictcat_part") (is_part_from (to_z w64 n) (pos 1) (get_or all i (pos 0))) mid new c.delete_parts_from.ensures.survives c.delete_parts_from.result removed failed in
+    let spares = spares_removed g.S.Store (codes "dictcat_part") _ mid new c.delete_parts_from.ensures.survives c.delete_parts_from.result c.delete_parts_from.ensures.removed c.delete_parts_from.ensures.failed in
     spares_then g.S.Store first mid new c.each.invariant.spares spares
 
 pub returns-in_err-taken-clause-failed : goal.returns-in_err-taken-clause-failed
@@ -89,22 +72,17 @@ returns-in_err-taken-clause-failed g c =
     let new = (g.T.OpenTransaction.held c.delete_parts_from.new.tx) in
     let n = c.args.number in
     let all = c.args.bounds.now in
-    let i = c.each.from-index in
-    let fits : SFits w64 (get_or all i (pos 0)) = search rules in
-    let same : to_z w64 (of_z w64 (get_or all i (pos 0))) ≡ get_or all i (pos 0) = to_z-of_z w64 (get_or all i (pos 0)) fits in
-    let removed = subst (λ v. HasCleanDisk (state g.S.Store new) → OnOk c.delete_parts_from.result (Removes (codes "dictcat_part") (is_part_from (to_z w64 n) (pos 1) v) (state g.S.Store mid) (state g.S.Store new))) same
-    c.delete_parts_from.ensures.removed in
-    let failed = subst (λ v. HasCleanDisk (state g.S.Store new) → IfErr c.delete_parts_from.result (FailsToRemove (codes "dictcat_part") (is_part_from (to_z w64 n) (pos 1) v) (state g.S.Store mid) (state g.S.Store new)))
-    same c.delete_parts_from.ensures.failed in
-    let spares = spares_removed g.S.Store (codes "dictcat_part") (is_part_from (to_z w64 n) (pos 1) (get_or all i (pos 0))) mid new c.delete_parts_from.ensures.survives c.delete_parts_from.result removed failed in
+    let i = c.each.file-index in
+    let spares = spares_removed g.S.Store (codes "dictcat_part") _ mid new c.delete_parts_from.ensures.survives c.delete_parts_from.result c.delete_parts_from.ensures.removed c.delete_parts_from.ensures.failed in
+    let bound = get_or all i (pos 0, pos 0) in
+    let file : SFits w64 bound.0 = search rules in
+    let from : SFits w64 bound.1 = search rules in
     let e = c.in_err-taken.field-0.0 in
     passed_on (FailsAmong g.S.Store (AreTakingOut n all) first new) e c.from_residual.result c.from_residual.ensures.1 (
       taking_parts n all,
       inr refl,
-      parts_failed g.S.Store n all i (pos 0) c.each-test.true first mid new c.each.invariant.wrote spares e
-          (late_failed g.S.Store n (get_or all i (pos 0)) (to_z w64 n) (handed n c.requires.number) mid new c.delete_parts_from.ensures.survives e
-          (subst (λ v. HasCleanDisk (state g.S.Store new) → FailsToRemove (codes "dictcat_part") (is_part_from (to_z w64 n) (pos 1) v) (state g.S.Store mid) (state g.S.Store new) e) same
-          c.in_err-taken.ensures.failed)),
+      parts_failed g.S.Store n all i (pos 0, pos 0) c.each-test.true first mid new c.each.invariant.wrote spares e
+          (late_failed g.S.Store n bound _ _ _ (handed n c.requires.number) (to_z-of_z w64 bound.0 file) (to_z-of_z w64 bound.1 from) mid new c.delete_parts_from.ensures.survives e c.in_err-taken.ensures.failed),
     )
 
 pub returns-clause-taken : goal.returns-clause-taken
@@ -115,7 +93,7 @@ returns-clause-taken g c =
     let n = c.args.number in
     let all = c.args.bounds.now in
     let spares = spares_removed g.S.Store (codes "dictcat_part") (equals_number 1 (to_z w64 n)) mid new c.delete_parts.ensures.survives c.delete_parts.result c.delete_parts.ensures.removed c.delete_parts.ensures.failed in
-    let so_far = subst (λ l. WroteStatements g.S.Store (last_ones g.S.Store n l) (behind g.S.Store n l) first mid) (take_all c.each.from-index all c.each-test.false) c.each.invariant.wrote in
+    let so_far = subst (λ l. WroteStatements g.S.Store (last_ones g.S.Store n l) (behind g.S.Store n l) first mid) (take_all c.each.file-index all c.each-test.false) c.each.invariant.wrote in
     record {
       statements = taking_parts n all;
       are = inr refl;
@@ -131,54 +109,40 @@ returns-clause-spares g c =
     let mid = (g.T.OpenTransaction.held c.each.tx) in
     let new = (g.T.OpenTransaction.held c.delete_parts.new.tx) in
     let n = c.args.number in
-    let all = c.args.bounds.now in
     let spares = spares_removed g.S.Store (codes "dictcat_part") (equals_number 1 (to_z w64 n)) mid new c.delete_parts.ensures.survives c.delete_parts.result c.delete_parts.ensures.removed c.delete_parts.ensures.failed in
     spares_then g.S.Store first mid new c.each.invariant.spares spares
 
 pub returns-clause-lives : goal.returns-clause-lives
 returns-clause-lives g c clean = ((returns-clause-spares g c).keeps clean).was_open (c.in_ok-delete_parts.ensures.removed clean).1.is_open
 
-pub returns-then-taken-gt0-clause-taken : goal.returns-then-taken-gt0-clause-taken
-returns-then-taken-gt0-clause-taken g c =
+pub returns-then-all-ge-ENOUGH-clause-taken : goal.returns-then-all-ge-ENOUGH-clause-taken
+returns-then-all-ge-ENOUGH-clause-taken g c =
     let first = (g.T.OpenTransaction.held c.args.tx.now) in
     let mid = (g.T.OpenTransaction.held c.each.tx) in
     let new = (g.T.OpenTransaction.held c.delete_parts_from.new.tx) in
     let n = c.args.number in
     let all = c.args.bounds.now in
-    let i = c.each.from-index in
-    let fits : SFits w64 (get_or all i (pos 0)) = search rules in
-    let same : to_z w64 (of_z w64 (get_or all i (pos 0))) ≡ get_or all i (pos 0) = to_z-of_z w64 (get_or all i (pos 0)) fits in
-    let removed = subst (λ v. HasCleanDisk (state g.S.Store new) → OnOk c.delete_parts_from.result (Removes (codes "dictcat_part") (is_part_from (to_z w64 n) (pos 1) v) (state g.S.Store mid) (state g.S.Store new))) same
-    c.delete_parts_from.ensures.removed in
-    let failed = subst (λ v. HasCleanDisk (state g.S.Store new) → IfErr c.delete_parts_from.result (FailsToRemove (codes "dictcat_part") (is_part_from (to_z w64 n) (pos 1) v) (state g.S.Store mid) (state g.S.Store new)))
-    same c.delete_parts_from.ensures.failed in
-    let spares = spares_removed g.S.Store (codes "dictcat_part") (is_part_from (to_z w64 n) (pos 1) (get_or all i (pos 0))) mid new c.delete_parts_from.ensures.survives c.delete_parts_from.result removed failed in
-    let one = late_wrote g.S.Store n (get_or all i (pos 0)) (to_z w64 n) (handed n c.requires.number) mid new c.delete_parts_from.ensures.survives
-    (subst (λ v. HasCleanDisk (state g.S.Store new) → Removes (codes "dictcat_part") (is_part_from (to_z w64 n) (pos 1) v) (state g.S.Store mid) (state g.S.Store new)) same c.in_ok-taken.ensures.removed) in
+    let i = c.each.file-index in
+    let spares = spares_removed g.S.Store (codes "dictcat_part") _ mid new c.delete_parts_from.ensures.survives c.delete_parts_from.result c.delete_parts_from.ensures.removed c.delete_parts_from.ensures.failed in
+    let bound = get_or all i (pos 0, pos 0) in
+    let file : SFits w64 bound.0 = search rules in
+    let from : SFits w64 bound.1 = search rules in
+    let one = late_wrote g.S.Store n bound _ _ _ (handed n c.requires.number) (to_z-of_z w64 bound.0 file) (to_z-of_z w64 bound.1 from) mid new c.delete_parts_from.ensures.survives c.in_ok-taken.ensures.removed in
     record {
       statements = last_ones g.S.Store n (take (i + 1) all);
       are = inl (i + 1, refl);
       stays = behind_stays n (take (i + 1) all);
-      wrote = parts_wrote g.S.Store n all i (pos 0) c.each-test.true first mid new c.each.invariant.wrote spares one;
+      wrote = parts_wrote g.S.Store n all i (pos 0, pos 0) c.each-test.true first mid new c.each.invariant.wrote spares one;
       others = behind_others n (take (i + 1) all);
       its = λ none part it. absurd (false≢true (sym none));
     }
 
-pub returns-then-taken-gt0-clause-spares : goal.returns-then-taken-gt0-clause-spares
-returns-then-taken-gt0-clause-spares g c =
+pub returns-then-all-ge-ENOUGH-clause-spares : goal.returns-then-all-ge-ENOUGH-clause-spares
+returns-then-all-ge-ENOUGH-clause-spares g c =
     let first = (g.T.OpenTransaction.held c.args.tx.now) in
     let mid = (g.T.OpenTransaction.held c.each.tx) in
     let new = (g.T.OpenTransaction.held c.delete_parts_from.new.tx) in
-    let n = c.args.number in
-    let all = c.args.bounds.now in
-    let i = c.each.from-index in
-    let fits : SFits w64 (get_or all i (pos 0)) = search rules in
-    let same : to_z w64 (of_z w64 (get_or all i (pos 0))) ≡ get_or all i (pos 0) = to_z-of_z w64 (get_or all i (pos 0)) fits in
-    let removed = subst (λ v. HasCleanDisk (state g.S.Store new) → OnOk c.delete_parts_from.result (Removes (codes "dictcat_part") (is_part_from (to_z w64 n) (pos 1) v) (state g.S.Store mid) (state g.S.Store new))) same
-    c.delete_parts_from.ensures.removed in
-    let failed = subst (λ v. HasCleanDisk (state g.S.Store new) → IfErr c.delete_parts_from.result (FailsToRemove (codes "dictcat_part") (is_part_from (to_z w64 n) (pos 1) v) (state g.S.Store mid) (state g.S.Store new)))
-    same c.delete_parts_from.ensures.failed in
-    let spares = spares_removed g.S.Store (codes "dictcat_part") (is_part_from (to_z w64 n) (pos 1) (get_or all i (pos 0))) mid new c.delete_parts_from.ensures.survives c.delete_parts_from.result removed failed in
+    let spares = spares_removed g.S.Store (codes "dictcat_part") _ mid new c.delete_parts_from.ensures.survives c.delete_parts_from.result c.delete_parts_from.ensures.removed c.delete_parts_from.ensures.failed in
     spares_then g.S.Store first mid new c.each.invariant.spares spares
 
 pub returns-in_err-delete_parts-clause-spares : goal.returns-in_err-delete_parts-clause-spares
@@ -187,7 +151,6 @@ returns-in_err-delete_parts-clause-spares g c =
     let mid = (g.T.OpenTransaction.held c.each.tx) in
     let new = (g.T.OpenTransaction.held c.delete_parts.new.tx) in
     let n = c.args.number in
-    let all = c.args.bounds.now in
     let spares = spares_removed g.S.Store (codes "dictcat_part") (equals_number 1 (to_z w64 n)) mid new c.delete_parts.ensures.survives c.delete_parts.result c.delete_parts.ensures.removed c.delete_parts.ensures.failed in
     spares_then g.S.Store first mid new c.each.invariant.spares spares
 
@@ -199,7 +162,7 @@ returns-in_err-delete_parts-clause-failed g c =
     let n = c.args.number in
     let all = c.args.bounds.now in
     let spares = spares_removed g.S.Store (codes "dictcat_part") (equals_number 1 (to_z w64 n)) mid new c.delete_parts.ensures.survives c.delete_parts.result c.delete_parts.ensures.removed c.delete_parts.ensures.failed in
-    let so_far = subst (λ l. WroteStatements g.S.Store (last_ones g.S.Store n l) (behind g.S.Store n l) first mid) (take_all c.each.from-index all c.each-test.false) c.each.invariant.wrote in
+    let so_far = subst (λ l. WroteStatements g.S.Store (last_ones g.S.Store n l) (behind g.S.Store n l) first mid) (take_all c.each.file-index all c.each-test.false) c.each.invariant.wrote in
     let e = c.in_err-delete_parts.field-0.0 in
     passed_on (FailsAmong g.S.Store (AreTakingOut n all) first new) e c.from_residual-in_err-delete_parts.result c.from_residual-in_err-delete_parts.ensures.1
     (taking_parts n all, inr refl, all_failed g.S.Store n all (to_z w64 n) (handed n c.requires.number) first mid new so_far c.delete_parts.ensures.survives spares e c.in_err-delete_parts.ensures.failed)

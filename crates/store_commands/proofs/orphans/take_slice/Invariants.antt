@@ -9,7 +9,7 @@ use Rattle.store_commands.proofs.orphans.take_slice.Given as goal
 
 abbrev pub invariant-each : goal.invariant-each
 invariant-each g l =
-    let some = take l.from-index l.bounds in
+    let some = take l.file-index l.bounds in
     record {
       same_reference : g.T.OpenTransaction.reference l.tx ≡ g.T.OpenTransaction.reference l.fn.tx;
       wrote : WroteStatements g.S.Store (last_ones g.S.Store l.number some) (behind g.S.Store l.number some) (g.T.OpenTransaction.held l.fn.tx) (g.T.OpenTransaction.held l.tx);

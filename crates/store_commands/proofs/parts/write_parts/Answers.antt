@@ -11,26 +11,27 @@ use Rattle.store_commands.proofs.parts.write_parts.Goals as goal
 
 pub returns-then-filing-clause-wrote : goal.returns-then-filing-clause-wrote
 returns-then-filing-clause-wrote g c =
+    let long : c.part_count-all.result ≡ length (parts_of_filing c.args.filing.now) = c.part_count-all.ensures ∙ ap length c.files-files.ensures.parts in
     next_wrote g.S.Store c.args.filing.now c.part_end-to.result (g.T.OpenTransaction.held c.args.tx.now) (g.T.OpenTransaction.held c.add_parts.new.tx) (parts_of_files c.files-files.result) c.files-files.ensures.parts c.if-filing.true
-    c.part_end-to.ensures.within.0 c.in_ok-add_parts.ensures.wrote
+    (c.part_end-to.ensures.more (omega (arith, c.requires.rest c.if-filing.true, long))) c.in_ok-add_parts.ensures.wrote
 
 pub returns-then-filing-clause-lives : goal.returns-then-filing-clause-lives
 returns-then-filing-clause-lives g c clean =
     let long : c.part_count-all.result ≡ length (parts_of_filing c.args.filing.now) = c.part_count-all.ensures ∙ ap length c.files-files.ensures.parts in
     (wrote_well g.S.Store c.args.filing.now c.part_end-to.result (g.T.OpenTransaction.held c.args.tx.now) (g.T.OpenTransaction.held c.add_parts.new.tx) c.part_count-all.result long c.part_end-to.ensures.within.1
-    (λ is. c.part_end-to.ensures.more (omega (arith, c.requires.rest is, long))) (returns-then-filing-clause-wrote g c) clean).0
+    (returns-then-filing-clause-wrote g c).goes_on (returns-then-filing-clause-wrote g c) clean).0
 
 pub returns-then-filing-clause-sound : goal.returns-then-filing-clause-sound
 returns-then-filing-clause-sound g c clean =
     let long : c.part_count-all.result ≡ length (parts_of_filing c.args.filing.now) = c.part_count-all.ensures ∙ ap length c.files-files.ensures.parts in
     (wrote_well g.S.Store c.args.filing.now c.part_end-to.result (g.T.OpenTransaction.held c.args.tx.now) (g.T.OpenTransaction.held c.add_parts.new.tx) c.part_count-all.result long c.part_end-to.ensures.within.1
-    (λ is. c.part_end-to.ensures.more (omega (arith, c.requires.rest is, long))) (returns-then-filing-clause-wrote g c) clean).1
+    (returns-then-filing-clause-wrote g c).goes_on (returns-then-filing-clause-wrote g c) clean).1
 
 pub returns-then-filing-clause-inside : goal.returns-then-filing-clause-inside
 returns-then-filing-clause-inside g c clean =
     let long : c.part_count-all.result ≡ length (parts_of_filing c.args.filing.now) = c.part_count-all.ensures ∙ ap length c.files-files.ensures.parts in
     (wrote_well g.S.Store c.args.filing.now c.part_end-to.result (g.T.OpenTransaction.held c.args.tx.now) (g.T.OpenTransaction.held c.add_parts.new.tx) c.part_count-all.result long c.part_end-to.ensures.within.1
-    (λ is. c.part_end-to.ensures.more (omega (arith, c.requires.rest is, long))) (returns-then-filing-clause-wrote g c) clean).2
+    (returns-then-filing-clause-wrote g c).goes_on (returns-then-filing-clause-wrote g c) clean).2
 
 pub returns-in_err-add_parts-clause-failed : goal.returns-in_err-add_parts-clause-failed
 returns-in_err-add_parts-clause-failed g c =
