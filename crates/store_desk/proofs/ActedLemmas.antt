@@ -37,6 +37,7 @@ use Rattle.store_desk.specs.Indexed.{HasPutIfSome, HasSettled, index_coming}
 use Rattle.store_desk.specs.KeptParts.{texts_after}
 use Rattle.store_desk.specs.declared.last.LastCall.{LastCall}
 use Rattle.store_desk.specs.declared.last.LastCall.TheVariants.{Fine}
+use Rattle.store_desk.specs.Left.{Counts}
 use Rattle.store_desk.proofs.DeskLemmas.{parts_after}
 use Rattle.store_desk.proofs.IndexedLemmas.{all_is, all_stay, all_then, each_both, each_low, each_numbered, next_number, stays_is, Is}
 use Rattle.store_desk.proofs.KeeperLemmas.{catalogue_by}
@@ -66,12 +67,12 @@ record_at (PutVirtual name title members) installs n db is there = tt
 record_at (Place name at) installs n db is there = tt
 
 module _ {S : Type 0} (g : Ghosts S) (old new : Held S) (summary : Holdings (List ℕ)) (before : LastCall) (id : List ℕ) (typed : Typed) (open_before : is_closed before ≡ false)
-    (indexes mid settled : List (ℕ × List Indexed)) (kept texts : List (PartNumbers × List ℕ)) {taken : ℕ} (made : AreOfInstalls summary.installs kept)
+    (indexes mid settled : List (ℕ × List Indexed)) (kept texts : List (PartNumbers × List ℕ)) {taken : Counts} (later : Counts) (made : AreOfInstalls summary.installs kept)
     (number : ℕ) (next : number ≡ min (summary.installs + 1) (2 ^ 64 - 1)) (put : HasPutIfSome number (index_coming typed) indexes mid) (M : Catalogue)
-    (shown : Shows g (record { conn = old; summary = summary; last = before; indexes = indexes; texts = kept; taken = taken }) M) (clean : HasCleanDisk (state g new)) (first : HasCleanDisk (state g old))
+    (shown : Shows g (record { conn = old; summary = summary; last = before; indexes = indexes; texts = kept; counts = taken }) M) (clean : HasCleanDisk (state g new)) (first : HasCleanDisk (state g old))
     (seen : IsTrue (state g old).is_open → (state g old).now ≡ (state g old).committed) where
   abbrev was : DeskState S
-  was = record { conn = old; summary = summary; last = before; indexes = indexes; texts = kept; taken = taken }
+  was = record { conn = old; summary = summary; last = before; indexes = indexes; texts = kept; counts = taken }
 
   installs_is : summary.installs ≡ M.installs
   installs_is = ap (λ (s : Holdings (List ℕ)). s.installs) shown.summary
@@ -86,7 +87,7 @@ module _ {S : Type 0} (g : Ghosts S) (old new : Held S) (summary : Holdings (Lis
   made_next = subst (λ (n : ℕ). AreOfInstalls n kept) installs_is made
 
   abbrev then_by : Holdings (List ℕ) → LastCall → DeskState S
-  then_by after last = record { conn = new; summary = after; last = last; indexes = settled; texts = texts; taken = taken }
+  then_by after last = record { conn = new; summary = after; last = last; indexes = settled; texts = texts; counts = later }
 
   -- it failed, or was refused
   failed_served : (fault : Fault) → (IsTrue (state g new).is_open → IsTrue (state g old).is_open) → (IsTrue (state g new).is_open → (state g new).committed ≡ (state g old).committed)
@@ -102,8 +103,8 @@ module _ {S : Type 0} (g : Ghosts S) (old new : Held S) (summary : Holdings (Lis
         → ((q : ℕ) → q ≢ number → entries_under q settled ≡ entries_under q mid) → texts ≡ kept
         → ServesEditions g (then_by summary Fine) M
     repeated_served holds stay goes is =
-        subst (λ (t : List (PartNumbers × List ℕ)). ServesEditions g (record { conn = new; summary = summary; last = Fine; indexes = settled; texts = t; taken = taken }) M) (sym is)
-        (all_then g was new typed mid settled M shown.well_formed put_next made_next summary open_before over_lives M holds
+        subst (λ (t : List (PartNumbers × List ℕ)). ServesEditions g (record { conn = new; summary = summary; last = Fine; indexes = settled; texts = t; counts = later }) M) (sym is)
+        (all_then g was new typed mid settled M shown.well_formed put_next made_next summary later open_before over_lives M holds
         (each_both (ServesEdition g was) (λ (stored : Stored Edition). stored.number ≤ M.installs) (Is g was new typed mid settled M shown.well_formed put_next)
         (λ stored a b. stays_is g was new typed mid settled M shown.well_formed put_next stored a b) M.items (shown.served first) (each_low M shown.well_formed))
         (texts_stay M summary (sym shown.summary) M.installs (state g old).committed (state g new).committed
@@ -122,8 +123,8 @@ module _ {S : Type 0} (g : Ghosts S) (old new : Held S) (summary : Holdings (Lis
     done_served after reply free told sums holds there stay goes is =
         let did : outcome.catalogue ≡ with_effect M id (command_meant typed) = acted M id (command_meant typed) (kept_shown reply) free told in
         let installs : after.installs ≡ installs_after (command_meant typed) M.installs = ap (λ (h : Holdings (List ℕ)). h.installs) (sym sums) ∙ ap (λ (c : Catalogue). c.installs) did in
-        subst (λ (t : List (PartNumbers × List ℕ)). ServesEditions g (record { conn = new; summary = summary_shown after; last = Fine; indexes = settled; texts = t; taken = taken }) outcome.catalogue) (sym is)
-        (all_then g was new typed mid settled M shown.well_formed put_next made_next (summary_shown after) open_before over_lives outcome.catalogue holds
+        subst (λ (t : List (PartNumbers × List ℕ)). ServesEditions g (record { conn = new; summary = summary_shown after; last = Fine; indexes = settled; texts = t; counts = later }) outcome.catalogue) (sym is)
+        (all_then g was new typed mid settled M shown.well_formed put_next made_next (summary_shown after) later open_before over_lives outcome.catalogue holds
         (subst (λ (c : Catalogue). AllByRecursion (λ item. AllByRecursion (Is g was new typed mid settled M shown.well_formed put_next) (editions_of item)) c.items) (sym did)
         (all_is g was new typed mid settled M shown.well_formed put_next id (record_at typed M.installs after.installs (state g new).committed installs there) (shown.served first)))
         (texts_stay outcome.catalogue (summary_shown after) sums M.installs (state g old).committed (state g new).committed
@@ -137,7 +138,7 @@ module _ {S : Type 0} (g : Ghosts S) (old new : Held S) (summary : Holdings (Lis
   rests_before : IsTrue (state g old).is_open → Rests known (state g old) M
   rests_before live = record { is_open = live; settled = seen live; holds = shown.holds open_before first live }
 
-  pub served_by : (result : Result Applied Fault) → AppliesOver g summary id (command_meant typed) old new result → HasSettled number result mid settled → texts ≡ texts_after (last_by result) kept
+  pub served_by : (result : Result Applied Fault) {filed : Bool} → AppliesOver g filed summary id (command_meant typed) old new result → HasSettled number result mid settled → texts ≡ texts_after (last_by result) kept
       → (IsTrue (state g new).is_open → HasInstalled typed result (state g new).committed)
       → (IsTrue (state g new).is_open → OnErr result ((state g new).committed ≡ (state g old).committed)) → ServesEditions g (then_by (summary_after summary result) (last_by result)) (catalogue_by M (step M id (command_meant typed)) result)
   served_by (Ok (Repeated reply)) over goes is installed stays =

@@ -66,14 +66,14 @@ module _ {S : Type 0} (g : Ghosts S) (summary : Holdings (List ℕ)) (id : List 
         → (HasCleanDisk (state g new) → OnOk result (KeepsTextRows summary.installs (numbers_after summary result) (state g old).now (state g new).now))
         → (HasCleanDisk (state g new) → IfErr result (λ fault. is_failure fault ≡ false → (state g new).now ≡ (state g old).now))
         → (HasCleanDisk (state g new) → OnOk result (SparesTablesOfOthers (state g old).now (state g new).now)) → Survives (state g old) (state g new) (IsTreesOf (SparesTablesOfOthers (state g old).now))
-        → summary.installs ≤ (summary_after summary result).installs → IfErr result IsOfApply → IsInRange (summary_after summary result) → new.in_transaction ≡ false → AppliesOver g summary id command old new result
+        → summary.installs ≤ (summary_after summary result).installs → IfErr result IsOfApply → IsInRange (summary_after summary result) → new.in_transaction ≡ false → AppliesOver g false summary id command old new result
     applied_over value spares shut failed above refused others beside grows kinds range ended = record {
       value = value;
       spares = spares;
       crash = crash;
       shut = shut;
       lives = lives;
-      failed = λ clean. err_weaker (λ fault. is_failure fault ≡ true → FailsToApply g summary id command old new fault) (λ fault. is_failure fault ≡ true → FailsToApplyOver g summary id command old new fault) result
+      failed = λ clean. err_weaker (λ fault. is_failure fault ≡ true → FailsToApply g summary id command old new fault) (λ fault. is_failure fault ≡ true → FailsToApplyOver g false summary id command old new fault) result
           (λ fault h failure. inl (h failure)) (failed clean);
       above = λ clean live. as_committed (λ (a b : Database). OnOk result (KeepsTextRows summary.installs (numbers_after summary result) a b)) clean live (above clean);
       refused = λ clean live. as_committed (λ (a b : Database). IfErr result (λ fault. is_failure fault ≡ false → b ≡ a)) clean live (refused clean);

@@ -1,5 +1,5 @@
 -- Why a call of a desk failed.
-use Rattle.std.proofs.Common.{◌≡◌, ◌⊎◌, inl, inr, ℕ, true, false, List, sym, ap, subst, ◌∙◌, arith}
+use Rattle.std.proofs.Common.{◌≡◌, ◌⊎◌, inl, inr, ℕ, Bool, true, false, List, sym, ap, subst, ◌∙◌, arith}
 use Rattle.std.specs.Prelude.{Option, None, IsSome, is_some, Result, Ok, Err, IfErr}
 use Rattle.std.proofs.lemmas.Bool.{false≢true}
 use Rattle.sqlite.specs.State.{HasCleanDisk, IsUnchanged, Fails, Survives}
@@ -21,19 +21,19 @@ use Rattle.store_lookup.specs.Searches as search
 use Rattle.store_lookup.specs.Searches.{IsOfStore}
 use Rattle.store_lookup.proofs.HeldLemmas.{held_readable}
 use Rattle.store_commands.specs.Answers.{IsOfApply}
-use Rattle.store_commands.specs.declared.filing.Filing.{Filing}
 use Rattle.store_commands.proofs.ApplyLemmas.{holds_now}
 use Rattle.store_commands.specs.declared.applied.Applied.{Applied}
 use Rattle.store_commands.specs.declared.applied.Applied.TheVariants.{Repeated, Done}
 use Rattle.store_desk.specs.Desk.{DeskState, IsAtRest, is_closed, reply_of}
 use Rattle.store_desk.specs.Causes.{GivesWay, FailsToApplyOver, FailsToApplyTo}
 use Rattle.store_desk.specs.declared.last.LastCall.{LastCall}
+use Rattle.store_desk.specs.Left.{ComingState}
 
 no_limit : (limit : Option ℕ) → limit ≡ None → IsSome limit → ⊥
 no_limit limit is some = false≢true (sym (ap is_some is) ∙ some)
 
 -- a lookup, or a reading of a kept reply
-module _ {S : Type 0} (g : Ghosts S) (first last : DeskState S) (old : Held S) (from : old ≡ first.conn) (summary : Holdings (List ℕ)) (filing : Option Filing) (before : LastCall) (open_before : is_closed before ≡ false)
+module _ {S : Type 0} (g : Ghosts S) (first last : DeskState S) (old : Held S) (from : old ≡ first.conn) (summary : Holdings (List ℕ)) (filing : Option ComingState) (before : LastCall) (open_before : is_closed before ≡ false)
     (rest : IsAtRest g before summary filing old) (survives : Survives (state g old) (state g last.conn) (λ _. ⊥)) where
   -- what an open desk shows is a catalogue's, and it has no limit on steps
   read_holds : HasCleanDisk (state g last.conn) → IsUnchanged (state g old) (state g last.conn) → (M : Catalogue) × Holds known (state g old).now M
@@ -92,29 +92,34 @@ module _ {S : Type 0} (g : Ghosts S) (first last : DeskState S) (old : Held S) (
   reply_gives_way (Ok value) kind failed clean = tt
   reply_gives_way (Err fault) kind failed clean = given fault (fails_for (IsUnreadCatalogue (state g old)) (reply_read clean) fault kind (failed clean))
 
--- a command
-module _ {S : Type 0} (g : Ghosts S) (old : DeskState S) (id : List ℕ) (command : Command Edition) (new : DeskState S) where
-  fails_as : (fault : Fault) → IsOfApply fault → (is_failure fault ≡ true → FailsToApplyOver g old.summary id command old.conn new.conn fault) → is_failure fault ≡ true
+-- a command; where parts of an edition are filed for it, the desk says so
+module _ {S : Type 0} (g : Ghosts S) (old : DeskState S) (id : List ℕ) (command : Command Edition) (new : DeskState S) (filed : Bool) (told_filed : filed ≡ true → old.counts.filed ≡ true) where
+  as_told : (fault : Fault) → FailsToApplyOver g filed old.summary id command old.conn new.conn fault → FailsToApplyOver g old.counts.filed old.summary id command old.conn new.conn fault
+  as_told fault (inl h) = inl h
+  as_told fault (inr h) = inr (told_filed h.0, h.1)
+
+  fails_as : (fault : Fault) → IsOfApply fault → (is_failure fault ≡ true → FailsToApplyOver g filed old.summary id command old.conn new.conn fault) → is_failure fault ≡ true
       → FailsToApplyTo g old (record { id = id; command = command }) new fault
   fails_as (Refused refusal) kind h failure = absurd (false≢true failure)
-  fails_as Memory kind h failure = inr (h failure)
-  fails_as Disk kind h failure = h failure
+  fails_as Memory kind h failure = inr (as_told Memory (h failure))
+  fails_as Disk kind h failure = as_told Disk (h failure)
   fails_as Closed kind h failure = absurd kind
   fails_as NotACatalogue kind h failure = absurd kind
   fails_as Damaged kind h failure = absurd kind
   fails_as NewerSchema kind h failure = absurd kind
 
-  fails_by : (result : Result Applied Fault) → IfErr result IsOfApply → IfErr result (λ fault. is_failure fault ≡ true → FailsToApplyOver g old.summary id command old.conn new.conn fault)
+  fails_by : (result : Result Applied Fault) → IfErr result IsOfApply → IfErr result (λ fault. is_failure fault ≡ true → FailsToApplyOver g filed old.summary id command old.conn new.conn fault)
       → IfErr (reply_of result) (λ fault. is_failure fault ≡ true → FailsToApplyTo g old (record { id = id; command = command }) new fault)
   fails_by (Ok (Repeated kept)) kind h = tt
   fails_by (Ok (Done kept summary)) kind h = tt
   fails_by (Err fault) kind h = fails_as fault kind h
 
-  pub fails_to_apply : (result : Result Applied Fault) (told : Result Kept Fault) → told ≡ reply_of result → IfErr result IsOfApply
-      → IfErr result (λ fault. is_failure fault ≡ true → FailsToApplyOver g old.summary id command old.conn new.conn fault)
-      → IfErr told (λ fault. is_failure fault ≡ true → FailsToApplyTo g old (record { id = id; command = command }) new fault)
-  fails_to_apply result told is kind h =
-      subst (λ (r : Result Kept Fault). IfErr r (λ fault. is_failure fault ≡ true → FailsToApplyTo g old (record { id = id; command = command }) new fault)) (sym is) (fails_by result kind h)
+  pub fails_to_apply : (first : DeskState S) → old ≡ first → (result : Result Applied Fault) (told : Result Kept Fault) → told ≡ reply_of result → IfErr result IsOfApply
+      → IfErr result (λ fault. is_failure fault ≡ true → FailsToApplyOver g filed old.summary id command old.conn new.conn fault)
+      → IfErr told (λ fault. is_failure fault ≡ true → FailsToApplyTo g first (record { id = id; command = command }) new fault)
+  fails_to_apply first from result told is kind h =
+      subst (λ (desk : DeskState S). IfErr told (λ fault. is_failure fault ≡ true → FailsToApplyTo g desk (record { id = id; command = command }) new fault)) from
+      (subst (λ (r : Result Kept Fault). IfErr r (λ fault. is_failure fault ≡ true → FailsToApplyTo g old (record { id = id; command = command }) new fault)) (sym is) (fails_by result kind h))
 
 -- a lookup that asks no store
 pub memory_gives_way : {S T : Type 0} (g : Ghosts S) (old new : DeskState S) → new.conn ≡ old.conn → (result : Result T Fault) → IfErr result (λ fault. fault ≡ Memory) → IfErr result (GivesWay g old new)

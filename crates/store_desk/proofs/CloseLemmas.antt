@@ -21,13 +21,14 @@ use Rattle.store_search.specs.Entries.{Indexed}
 use Rattle.store_desk.specs.Closed.{AreInAlone, HoldTreesAlone, StoreLeaves}
 use Rattle.store_desk.specs.Desk.{Shows, is_closed}
 use Rattle.store_desk.specs.declared.last.LastCall.{LastCall}
+use Rattle.store_desk.specs.Left.{Counts}
 use Rattle.std.proofs.Common.{ℕ}
 use Rattle.store_holdings.proofs.OneLemmas.{held_known}
 use Rattle.store_lookup.specs.KeptTexts.{PartNumbers}
 
 -- what is shown is committed
-pub committed_holds : {S : Type 0} (g : store.Ghosts S) (conn : Held S) (summary : Holdings (List ℕ)) (last : LastCall) (indexes : List (ℕ × List Indexed)) (texts : List (PartNumbers × List ℕ)) {taken : ℕ} → IsLive (state g conn)
-    → is_closed last ≡ false → HasCleanDisk (state g conn) → IsTrue (state g conn).is_open → (M : Catalogue) → Shows g (record { conn = conn; summary = summary; last = last; indexes = indexes; texts = texts; taken = taken }) M
+pub committed_holds : {S : Type 0} (g : store.Ghosts S) (conn : Held S) (summary : Holdings (List ℕ)) (last : LastCall) (indexes : List (ℕ × List Indexed)) (texts : List (PartNumbers × List ℕ)) {taken : Counts} → IsLive (state g conn)
+    → is_closed last ≡ false → HasCleanDisk (state g conn) → IsTrue (state g conn).is_open → (M : Catalogue) → Shows g (record { conn = conn; summary = summary; last = last; indexes = indexes; texts = texts; counts = taken }) M
     → IsLeft M (state g conn).committed.trees
 committed_holds g conn summary last indexes texts whole fine clean live M shown = ((state g conn).committed, refl, (whole live).1, held_known (state g conn).committed M (shown.holds fine clean live))
 

@@ -27,7 +27,6 @@ use Rattle.store_holdings.specs.Committed.{IsTreesOf}
 use Rattle.store_commands.specs.Committed.{IsOfStore, StaysCommitted}
 use Rattle.store_commands.specs.KeptRecords.{SparesTablesOfOthers}
 use Rattle.store_commands.specs.Marking.{Remains}
-use Rattle.store_commands.specs.declared.filing.Filing.{Filing}
 use Rattle.store_commands.proofs.AboveLemmas.{above_same}
 use Rattle.store_commands.proofs.WriteLemmas.{others_none}
 use Rattle.store_desk.specs.Causes.{FailsToPrepare}
@@ -35,6 +34,7 @@ use Rattle.store_desk.specs.Desk.{DeskState, HasFiled, IsAtRest, ServesEdition, 
 use Rattle.store_desk.specs.KeptParts.{KeepsTexts, texts_behind}
 use Rattle.store_desk.specs.Prepared.{last_behind}
 use Rattle.store_desk.specs.declared.last.LastCall.{LastCall}
+use Rattle.store_desk.specs.Left.{ComingState, Counts}
 use Rattle.store_desk.proofs.BesideLemmas.{beside_by}
 use Rattle.store_desk.proofs.PreparingLemmas.{parts_behind}
 use Rattle.store_desk.proofs.IndexedLemmas.{each_both, each_low}
@@ -66,13 +66,13 @@ each_where A P items h =
 abbrev pub CommitsSame : {S : Type 0} → Ghosts S → Holdings (List ℕ) → Held S → Trees → Type 0
 CommitsSame g summary h trees = IsTrue (state g h).is_open × IsTreesOf (Remains summary (state g h).committed) trees
 
-module _ {S : Type 0} (g : Ghosts S) (old new : Held S) (summary : Holdings (List ℕ)) (filing : Option Filing) (before : LastCall) (fine : is_closed before ≡ false) (rest : IsAtRest g before summary filing old)
+module _ {S : Type 0} (g : Ghosts S) (old new : Held S) (summary : Holdings (List ℕ)) (filing : Option ComingState) (before : LastCall) (fine : is_closed before ≡ false) (rest : IsAtRest g before summary filing old)
     (crash : Survives (state g old) (state g new) (CommitsSame g summary old)) (lives : HasCleanDisk (state g new) → IsTrue (state g new).is_open → IsTrue (state g old).is_open)
     (remains : HasCleanDisk (state g new) → IsTrue (state g new).is_open → Remains summary (state g old).committed (state g new).committed) where
   pub copied_first : HasCleanDisk (state g new) → HasCleanDisk (state g old)
   copied_first clean = omega (arith, crash.clean)
 
-  pub copied_rests : (after : LastCall) (left : Option Filing) → (HasCleanDisk (state g new) → IsTrue (state g new).is_open → (state g new).now ≡ (state g new).committed) → new.in_transaction ≡ false
+  pub copied_rests : (after : LastCall) (left : Option ComingState) → (HasCleanDisk (state g new) → IsTrue (state g new).is_open → (state g new).now ≡ (state g new).committed) → new.in_transaction ≡ false
       → HasFiled left (state g new) → IsAtRest g after summary left new
   copied_rests after left settled ended filed = record {
     limit = crash.limit ∙ rest.limit;
@@ -84,10 +84,10 @@ module _ {S : Type 0} (g : Ghosts S) (old new : Held S) (summary : Holdings (Lis
     filed = λ _. filed;
   }
 
-  pub copied_shows : {T : Type 0} {taken : ℕ} (result : Result T Fault) (after : LastCall) (indexes : List (ℕ × List Indexed)) (kept texts : List (PartNumbers × List ℕ)) → texts ≡ texts_behind result kept → (M : Catalogue)
-      → Shows g (record { conn = old; summary = summary; last = before; indexes = indexes; texts = kept; taken = taken }) M
-      → Shows g (record { conn = new; summary = summary; last = after; indexes = indexes; texts = texts; taken = taken }) M
-  copied_shows {taken = taken} result after indexes kept texts is M shown = record {
+  pub copied_shows : {T : Type 0} {taken later : Counts} (result : Result T Fault) (after : LastCall) (indexes : List (ℕ × List Indexed)) (kept texts : List (PartNumbers × List ℕ)) → texts ≡ texts_behind result kept → (M : Catalogue)
+      → Shows g (record { conn = old; summary = summary; last = before; indexes = indexes; texts = kept; counts = taken }) M
+      → Shows g (record { conn = new; summary = summary; last = after; indexes = indexes; texts = texts; counts = later }) M
+  copied_shows {taken = taken} {later = later} result after indexes kept texts is M shown = record {
     summary = shown.summary;
     well_formed = shown.well_formed;
     holds = λ open' clean live. (remains clean live).holds M (shown.holds fine (copied_first clean) (lives clean live)) (sym shown.summary);
@@ -97,8 +97,8 @@ module _ {S : Type 0} (g : Ghosts S) (old new : Held S) (summary : Holdings (Lis
         let Low : Stored Edition → Type 0 = λ stored. stored.number ≤ M.installs in
         let stay = each_where (IsTrue (state g new).is_open) TextStays M.items
         (λ live. texts_stay M summary (sym shown.summary) summary.installs (state g old).committed (state g new).committed (remains clean live).texts) in
-        each_both (ServesEdition g (record { conn = old; summary = summary; last = before; indexes = indexes; texts = kept; taken = taken })) (λ stored. WhileOpen stored × Low stored)
-        (ServesEdition g (record { conn = new; summary = summary; last = after; indexes = indexes; texts = texts; taken = taken }))
+        each_both (ServesEdition g (record { conn = old; summary = summary; last = before; indexes = indexes; texts = kept; counts = taken })) (λ stored. WhileOpen stored × Low stored)
+        (ServesEdition g (record { conn = new; summary = summary; last = after; indexes = indexes; texts = texts; counts = later }))
         (λ stored one both. record {
           index = one.index;
           stands = one.stands;
@@ -118,12 +118,12 @@ pub copied_keeps : {T : Type 0} (summary : Holdings (List ℕ)) (before : LastCa
 copied_keeps summary before (Ok value) after by kept texts is keeps = subst (KeepsTexts after summary) (sym is) (subst (λ (l : LastCall). KeepsTexts l summary kept) (sym by) keeps)
 copied_keeps summary before (Err fault) after by kept texts is keeps = subst (KeepsTexts after summary) (sym is) (record { made = tt; none = λ failed. refl })
 
--- of the desk the connection alone is another
-pub copied_same : {S : Type 0} (old : DeskState S) (conn : Held S) (last : LastCall) (texts : List (PartNumbers × List ℕ)) (result : Result Bool Fault) → last ≡ last_behind old.last result → texts ≡ texts_behind result old.texts
-    → result ≡ Ok true
-    → record { conn = conn; summary = old.summary; last = last; indexes = old.indexes; texts = texts; taken = old.taken } ≡ record old { conn = conn }
-copied_same old conn last texts (Ok more) by is ok = λ i. record { conn = conn; summary = old.summary; last = by i; indexes = old.indexes; texts = is i; taken = old.taken }
-copied_same old conn last texts (Err fault) by is ok = absurd (let e = ok in cc)
+-- of the desk the connection alone is another, and what is counted
+pub copied_same : {S : Type 0} (old : DeskState S) (conn : Held S) (last : LastCall) (texts : List (PartNumbers × List ℕ)) (later : Counts) (result : Result Bool Fault) → last ≡ last_behind old.last result
+    → texts ≡ texts_behind result old.texts → result ≡ Ok true
+    → record { conn = conn; summary = old.summary; last = last; indexes = old.indexes; texts = texts; counts = later } ≡ record old { conn = conn; counts = later }
+copied_same old conn last texts later (Ok more) by is ok = λ i. record { conn = conn; summary = old.summary; last = by i; indexes = old.indexes; texts = is i; counts = later }
+copied_same old conn last texts later (Err fault) by is ok = absurd (let e = ok in cc)
 
 -- why it failed
 pub copied_caused : {S T : Type 0} (g : Ghosts S) (old new : DeskState S) (result : Result T Fault) → IfErr result IsOfStore → OnErr result (KeepsCommit (state g old.conn) (state g new.conn))

@@ -25,11 +25,11 @@ use Rattle.store_lookup.specs.KeptTexts.{PartNumbers}
 use Rattle.store_commands.specs.Committed.{StaysCommitted}
 use Rattle.store_commands.specs.Filing.{HasFiledParts}
 use Rattle.store_commands.proofs.ApplyLemmas.{rests_still}
-use Rattle.store_commands.specs.declared.filing.Filing.{Filing}
 use Rattle.store_desk.specs.Desk.{DeskState, HasFiled, IsAtRest, ServesEdition, Shows, LeavesOneOf, is_closed}
 use Rattle.store_desk.specs.KeptParts.{KeepsTexts, texts_after}
 use Rattle.store_desk.specs.declared.last.LastCall.{LastCall}
 use Rattle.store_desk.specs.declared.last.LastCall.TheVariants.{Fine, Failed, Closed}
+use Rattle.store_desk.specs.Left.{ComingState, Counts}
 use Rattle.store_desk.proofs.ServedLemmas.{served_still}
 use Rattle.store_search.specs.Entries.{Indexed}
 use Rattle.store_rows.specs.Versions.{known}
@@ -79,11 +79,11 @@ survives_itself s P = record { clean = omega arith; shield = λ h. h; counts = o
 -- ---- what is prepared
 
 -- as much of it is filed as was, where what was committed is so still
-filed_still : (filing : Option Filing) (old new : State) → (HasCleanDisk new → HasCleanDisk old) → (HasCleanDisk new → StaysCommitted old new) → HasFiled filing old → HasFiled filing new
+filed_still : (filing : Option ComingState) (old new : State) → (HasCleanDisk new → HasCleanDisk old) → (HasCleanDisk new → StaysCommitted old new) → HasFiled filing old → HasFiled filing new
 filed_still None old new first stays filed = tt
 filed_still (Some f) old new first stays filed = (
   filed.0,
-  λ clean live begun. subst (HasFiledParts f) (sym ((stays clean).committed live)) (filed.1 (first clean) ((stays clean).was_open live) begun),
+  λ clean live begun. subst (HasFiledParts f.filing) (sym ((stays clean).committed live)) (filed.1 (first clean) ((stays clean).was_open live) begun),
 )
 
 -- nothing more may be left by a stop
@@ -103,9 +103,20 @@ parts_after Fine number text texts are = are
 parts_after Failed number text texts are = tt
 parts_after Closed number text texts are = tt
 
+-- ---- what is counted
+
+-- what is shown doesn't look at it
+pub shows_counted : {S : Type 0} (g : Ghosts S) (desk : DeskState S) (counts : Counts) (M : Catalogue) → Shows g desk M → Shows g (record desk { counts = counts }) M
+shows_counted g desk counts M shown = record {
+  summary = shown.summary;
+  well_formed = shown.well_formed;
+  holds = shown.holds;
+  served = λ clean. served_still g desk (record desk { counts = counts }) (λ q. refl) (λ fine. fine) (λ live. live) (λ live. refl) (λ stored one. one.kept) M (shown.served clean);
+}
+
 -- ---- a desk behind a call that commits nothing
 
-module _ {S : Type 0} (g : Ghosts S) (old new : Held S) (summary : Holdings (List ℕ)) (filing : Option Filing) (before after : LastCall) (open_before : is_closed before ≡ false) (rest : IsAtRest g before summary filing old)
+module _ {S : Type 0} (g : Ghosts S) (old new : Held S) (summary : Holdings (List ℕ)) (filing : Option ComingState) (before after : LastCall) (open_before : is_closed before ≡ false) (rest : IsAtRest g before summary filing old)
     (survives : Survives (state g old) (state g new) (λ _. ⊥)) (stays : HasCleanDisk (state g new) → StaysCommitted (state g old) (state g new)) where
   clean_first : HasCleanDisk (state g new) → HasCleanDisk (state g old)
   clean_first clean = omega (arith, survives.clean)
@@ -124,24 +135,24 @@ module _ {S : Type 0} (g : Ghosts S) (old new : Held S) (summary : Holdings (Lis
       → IsAtRest g after summary filing new × KeepsTexts after summary texts
   desk_on mode kept texts is made = (rests_on mode, subst (KeepsTexts after summary) (sym is) (texts_keep after summary kept made))
 
-  module _ (indexes : List (ℕ × List Indexed)) (kept : List (PartNumbers × List ℕ)) {taken : ℕ} (M : Catalogue)
-      (shown : Shows g (record { conn = old; summary = summary; last = before; indexes = indexes; texts = kept; taken = taken }) M) where
+  module _ (indexes : List (ℕ × List Indexed)) (kept : List (PartNumbers × List ℕ)) {taken : Counts} (M : Catalogue)
+      (shown : Shows g (record { conn = old; summary = summary; last = before; indexes = indexes; texts = kept; counts = taken }) M) where
     -- what is shown, with these texts
-    pub shows_with : {later : ℕ} (texts : List (PartNumbers × List ℕ))
-        → (HasCleanDisk (state g new) → (stored : Stored Edition) (one : ServesEdition g (record { conn = old; summary = summary; last = before; indexes = indexes; texts = kept; taken = taken }) stored)
+    pub shows_with : {later : Counts} (texts : List (PartNumbers × List ℕ))
+        → (HasCleanDisk (state g new) → (stored : Stored Edition) (one : ServesEdition g (record { conn = old; summary = summary; last = before; indexes = indexes; texts = kept; counts = taken }) stored)
         → ArePartsOf stored.number one.text texts)
-        → Shows g (record { conn = new; summary = summary; last = after; indexes = indexes; texts = texts; taken = later }) M
+        → Shows g (record { conn = new; summary = summary; last = after; indexes = indexes; texts = texts; counts = later }) M
     shows_with {later = later} texts cut = record {
       summary = shown.summary;
       well_formed = shown.well_formed;
       holds = λ fine clean live. subst (λ (db : Database). Holds known db M) (sym ((stays clean).committed live)) (shown.holds open_before (clean_first clean) ((stays clean).was_open live));
-      served = λ clean. served_still g (record { conn = old; summary = summary; last = before; indexes = indexes; texts = kept; taken = taken })
-          (record { conn = new; summary = summary; last = after; indexes = indexes; texts = texts; taken = later })
+      served = λ clean. served_still g (record { conn = old; summary = summary; last = before; indexes = indexes; texts = kept; counts = taken })
+          (record { conn = new; summary = summary; last = after; indexes = indexes; texts = texts; counts = later })
           (λ q. refl) (λ _. open_before) (stays clean).was_open (stays clean).committed (cut clean) M (shown.served (clean_first clean));
     }
 
-    pub shows_on : {later : ℕ} (texts : List (PartNumbers × List ℕ)) → texts ≡ texts_after after kept
-        → Shows g (record { conn = new; summary = summary; last = after; indexes = indexes; texts = texts; taken = later }) M
+    pub shows_on : {later : Counts} (texts : List (PartNumbers × List ℕ)) → texts ≡ texts_after after kept
+        → Shows g (record { conn = new; summary = summary; last = after; indexes = indexes; texts = texts; counts = later }) M
     shows_on texts is = shows_with texts (λ clean stored one. subst (ArePartsOf stored.number one.text) (sym is) (parts_after after stored.number one.text kept one.kept))
 
     pub held : HasCleanDisk (state g new) → IsTrue (state g old).is_open → Holds known (state g old).committed M

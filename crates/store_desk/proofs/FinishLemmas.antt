@@ -36,6 +36,7 @@ use Rattle.store_desk.specs.Causes.{FailsToApplyOver, IsAppliedTo}
 use Rattle.store_desk.specs.Desk.{DeskState, ServesEdition, ServesEditions, Shows, is_closed, reply_of}
 use Rattle.store_desk.specs.Indexed.{HasPutIfSome}
 use Rattle.store_desk.specs.declared.last.LastCall.{LastCall}
+use Rattle.store_desk.specs.Left.{Counts}
 use Rattle.store_desk.proofs.IndexedLemmas.{each_both, each_low, next_number}
 
 -- what holds where none was told
@@ -64,7 +65,7 @@ finished_of g summary id name index text whole old new number before after is pu
 
 -- as `store_commands` tells it of a command
 pub finished_over : {S : Type 0} (g : Ghosts S) (summary : Holdings (List ℕ)) (id name : List ℕ) (reading : ReadEdition) (old new : Held S) (result : Result Applied Fault) → IsFinished g summary id name reading old new result
-    → AppliesOver g summary id (install name (edition_of reading)) old new result
+    → AppliesOver g true summary id (install name (edition_of reading)) old new result
 finished_over g summary id name reading old new result it = record {
   value = it.applied.value;
   spares = it.applied.spares;
@@ -72,7 +73,7 @@ finished_over g summary id name reading old new result it = record {
   shut = it.applied.shut;
   lives = it.applied.lives;
   failed = λ clean. IfErr-weaker result (λ fault. is_failure fault ≡ true → FailsBehindFiled g summary id (install name (edition_of reading)) old new fault)
-      (λ fault. is_failure fault ≡ true → FailsToApplyOver g summary id (install name (edition_of reading)) old new fault) (λ fault h failure. inr (h failure)) (it.failed clean);
+      (λ fault. is_failure fault ≡ true → FailsToApplyOver g true summary id (install name (edition_of reading)) old new fault) (λ fault h failure. inr (refl, h failure)) (it.failed clean);
   above = λ clean live. it.applied.above clean;
   refused = λ clean live. it.applied.refused clean;
   others = λ clean live. it.applied.others clean;
@@ -105,17 +106,17 @@ served_below g old new M well number next same fine was_open committed parts ser
     }
 
 -- Nothing was committed, and an index was put under the next number, or let go of.
-pub unfinished_shows : {S : Type 0} (g : Ghosts S) (old new : Held S) (summary : Holdings (List ℕ)) (last : LastCall) {taken : ℕ} → is_closed last ≡ false → (HasCleanDisk (state g new) → HasCleanDisk (state g old))
+pub unfinished_shows : {S : Type 0} (g : Ghosts S) (old new : Held S) (summary : Holdings (List ℕ)) (last : LastCall) {taken later : Counts} → is_closed last ≡ false → (HasCleanDisk (state g new) → HasCleanDisk (state g old))
     → (HasCleanDisk (state g new) → StaysCommitted (state g old) (state g new)) → (number : ℕ) → number ≡ min (summary.installs + 1) (2 ^ 64 - 1)
     → (indexes after : List (ℕ × List Indexed)) → ((q : ℕ) → q ≢ number → entries_under q after ≡ entries_under q indexes) → (texts : List (PartNumbers × List ℕ)) (M : Catalogue)
-    → Shows g (record { conn = old; summary = summary; last = last; indexes = indexes; texts = texts; taken = taken }) M
-    → Shows g (record { conn = new; summary = summary; last = last; indexes = after; texts = texts; taken = taken }) M
-unfinished_shows g old new summary last {taken = taken} fine first stays number next indexes after same texts M shown = record {
+    → Shows g (record { conn = old; summary = summary; last = last; indexes = indexes; texts = texts; counts = taken }) M
+    → Shows g (record { conn = new; summary = summary; last = last; indexes = after; texts = texts; counts = later }) M
+unfinished_shows g old new summary last {taken = taken} {later = later} fine first stays number next indexes after same texts M shown = record {
   summary = shown.summary;
   well_formed = shown.well_formed;
   holds = λ open' clean live. subst (λ (db : Database). Holds known db M) (sym ((stays clean).committed live)) (shown.holds fine (first clean) ((stays clean).was_open live));
-  served = λ clean. served_below g (record { conn = old; summary = summary; last = last; indexes = indexes; texts = texts; taken = taken })
-      (record { conn = new; summary = summary; last = last; indexes = after; texts = texts; taken = taken }) M shown.well_formed
+  served = λ clean. served_below g (record { conn = old; summary = summary; last = last; indexes = indexes; texts = texts; counts = taken })
+      (record { conn = new; summary = summary; last = last; indexes = after; texts = texts; counts = later }) M shown.well_formed
       number (next_number M shown.well_formed number (next ∙ ap (λ (s : Holdings (List ℕ)). min (s.installs + 1) (2 ^ 64 - 1)) shown.summary)) same (λ _. fine) (stays clean).was_open (stays clean).committed
       (λ stored one. one.kept) (shown.served (first clean));
 }

@@ -32,6 +32,7 @@ use Rattle.store_rows.proofs.OrderLemmas.{all_with}
 use Rattle.store_search.specs.Entries.{Indexed, entry_of}
 use Rattle.store_desk.specs.Desk.{DeskState, ServesEdition, ServesEditions, is_closed}
 use Rattle.store_desk.specs.Indexed.{HasPutIfSome, index_coming}
+use Rattle.store_desk.specs.Left.{Counts}
 use Rattle.store_desk.specs.declared.last.LastCall.TheVariants.{Fine}
 use Rattle.store_desk.proofs.TextLemmas.{text_carried, text_short}
 
@@ -156,10 +157,10 @@ module _ {S : Type 0} (g : Ghosts S) (before : DeskState S) (new : Held S) (comm
       (each_both (ServesEdition g before) (λ (stored : Stored Edition). stored.number ≤ M.installs) Stays (λ stored a b. (a, b)) M.items served (each_low M well))
 
   -- how it stands then
-  module _ (made : AreOfInstalls M.installs before.texts) (summary : Holdings (List ℕ)) (fine : is_closed before.last ≡ false) (was_open : IsTrue (state g new).is_open → IsTrue (state g before.conn).is_open)
+  module _ (made : AreOfInstalls M.installs before.texts) (summary : Holdings (List ℕ)) (later : Counts) (fine : is_closed before.last ≡ false) (was_open : IsTrue (state g new).is_open → IsTrue (state g before.conn).is_open)
       (M' : Catalogue) (holds : Holds known (state g new).committed M') where
     abbrev desk_then : DeskState S
-    desk_then = record { conn = new; summary = summary; last = Fine; indexes = after; texts = before.texts; taken = before.taken }
+    desk_then = record { conn = new; summary = summary; last = Fine; indexes = after; texts = before.texts; counts = later }
 
     -- where it was there, its text stays
     abbrev TextStays : Stored Edition → Type 0

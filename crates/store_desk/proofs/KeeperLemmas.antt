@@ -26,7 +26,6 @@ use Rattle.store_commands.specs.Answers.{Answers, has_written, summary_after, Is
 use Rattle.store_commands.specs.KeptRecords.{SparesTablesOfOthers}
 use Rattle.store_commands.proofs.WriteLemmas.{others_none}
 use Rattle.sqlite.specs.Effect.{Database}
-use Rattle.store_commands.specs.declared.filing.Filing.{Filing}
 use Rattle.store_commands.specs.declared.applied.Applied.{Applied}
 use Rattle.store_commands.specs.declared.applied.Applied.TheVariants.{Repeated, Done}
 use Rattle.store_desk.specs.Applied.{AppliesOver}
@@ -34,6 +33,7 @@ use Rattle.store_desk.specs.Desk.{DeskState, IsAtRest, Shows, ServesEditions, Le
 use Rattle.store_desk.specs.KeptParts.{KeepsTexts, texts_after}
 use Rattle.store_desk.proofs.TextLemmas.{more_installs}
 use Rattle.store_desk.specs.declared.last.LastCall.{LastCall}
+use Rattle.store_desk.specs.Left.{ComingState, Counts}
 use Rattle.store_desk.proofs.DeskLemmas.{texts_keep}
 use Rattle.store_rows.specs.Versions.{known}
 use Rattle.store_holdings.proofs.OneLemmas.{left_known}
@@ -65,9 +65,9 @@ others_by (Ok applied) a b spares same = spares
 others_by (Err fault) a b spares same = subst (SparesTablesOfOthers a) (sym same) (others_none a)
 
 -- what a command answers over a store that is open
-module _ {S : Type 0} (g : Ghosts S) (new : Held S) (M : Catalogue) (id : List ℕ) (outcome : Outcome) (indexes : List (ℕ × List Indexed)) (texts : List (PartNumbers × List ℕ)) (taken : ℕ) where
+module _ {S : Type 0} (g : Ghosts S) (new : Held S) (M : Catalogue) (id : List ℕ) (outcome : Outcome) (indexes : List (ℕ × List Indexed)) (texts : List (PartNumbers × List ℕ)) (taken : Counts) where
   abbrev desk_by : Holdings (List ℕ) → LastCall → DeskState S
-  desk_by summary last = record { conn = new; summary = summary; last = last; indexes = indexes; texts = texts; taken = taken }
+  desk_by summary last = record { conn = new; summary = summary; last = last; indexes = indexes; texts = texts; counts = taken }
 
   shown_by : (summary : Holdings (List ℕ)) (last : LastCall) (N : Catalogue) → summary ≡ summary_of N → IsWellFormed N → (IsTrue (state g new).is_open → Rests known (state g new) N)
       → (HasCleanDisk (state g new) → ServesEditions g (desk_by summary last) N) → Shows g (desk_by summary last) N
@@ -96,7 +96,7 @@ unlawful_step : (M : Catalogue) (id : List ℕ) (command : Command Edition) → 
 unlawful_step M id command unlawful = rw unlawful refl
 
 -- and over one that is shut
-pub applies_shut : {S : Type 0} (g : Ghosts S) (new : Held S) (M : Catalogue) (id : List ℕ) (command : Command Edition) (indexes : List (ℕ × List Indexed)) (texts : List (PartNumbers × List ℕ)) (taken : ℕ) (summary : Holdings (List ℕ))
+pub applies_shut : {S : Type 0} (g : Ghosts S) (new : Held S) (M : Catalogue) (id : List ℕ) (command : Command Edition) (indexes : List (ℕ × List Indexed)) (texts : List (PartNumbers × List ℕ)) (taken : Counts) (summary : Holdings (List ℕ))
     (result : Result Applied Fault) → IsOfShut id result
     → (HasCleanDisk (state g new) → ServesEditions g (desk_by g new M id (step M id command) indexes texts taken (summary_after summary result) (last_by result)) (catalogue_by M (step M id command) result))
     → ((last : LastCall) → (HasCleanDisk (state g new) → ServesEditions g (desk_by g new M id (step M id command) indexes texts taken summary last) M) → Shows g (desk_by g new M id (step M id command) indexes texts taken summary last) M)
@@ -175,17 +175,17 @@ closed_by (Err NewerSchema) = refl
 
 -- ---- a desk
 
-module _ {S : Type 0} (g : Ghosts S) (old new : Held S) (summary : Holdings (List ℕ)) (filing : Option Filing) (before : LastCall) (id : List ℕ) (command : Command Edition) (result : Result Applied Fault)
-    (open_before : is_closed before ≡ false) (rest : IsAtRest g before summary filing old) (over : AppliesOver g summary id command old new result) (indexes mid settled : List (ℕ × List Indexed))
-    (kept texts : List (PartNumbers × List ℕ)) (taken : ℕ) where
+module _ {S : Type 0} (g : Ghosts S) (old new : Held S) (summary : Holdings (List ℕ)) (filing : Option ComingState) (before : LastCall) (id : List ℕ) (command : Command Edition) (result : Result Applied Fault)
+    (open_before : is_closed before ≡ false) (rest : IsAtRest g before summary filing old) {filed : Bool} (over : AppliesOver g filed summary id command old new result) (indexes mid settled : List (ℕ × List Indexed))
+    (kept texts : List (PartNumbers × List ℕ)) (taken later : Counts) where
   clean_first : HasCleanDisk (state g new) → HasCleanDisk (state g old)
   clean_first clean = omega (arith, over.crash.clean)
 
   abbrev desk_before : DeskState S
-  desk_before = record { conn = old; summary = summary; last = before; indexes = indexes; texts = kept; taken = taken }
+  desk_before = record { conn = old; summary = summary; last = before; indexes = indexes; texts = kept; counts = taken }
 
   abbrev desk_after : DeskState S
-  desk_after = record { conn = new; summary = summary_after summary result; last = last_by result; indexes = settled; texts = texts; taken = taken }
+  desk_after = record { conn = new; summary = summary_after summary result; last = last_by result; indexes = settled; texts = texts; counts = later }
 
   no_more : Survives (state g old) (state g new) (λ _. ⊥) → (ms : List (Option Catalogue)) → LeavesOneOf g desk_before ms → LeavesOneOf g desk_after ms
   no_more survives ms left clean trees may = left (clean_first clean) trees (elim (survives.crash clean trees may) as (λ _. (state g old).may_leave trees) [ inl h ↦ h | inr h ↦ absurd h ])
@@ -212,8 +212,8 @@ module _ {S : Type 0} (g : Ghosts S) (old new : Held S) (summary : Holdings (Lis
   pub applies : HasCleanDisk (state g new) → (M : Catalogue) → Shows g desk_before M → (HasCleanDisk (state g new) → ServesEditions g desk_after (catalogue_by M (step M id command) result))
       → Applies (Shows g desk_after) M (step M id command) (reply_of result)
   applies clean M shown served = by_open (Applies (Shows g desk_after) M (step M id command) (reply_of result)) (state g old).is_open
-      (λ live. applies_open g new M id (step M id command) settled texts taken summary result shown.summary shown.well_formed (over.value clean M (rests_before M shown clean live) (sym shown.summary)) served)
-      (λ closed. applies_shut g new M id command settled texts taken summary result (over.shut clean closed) served
+      (λ live. applies_open g new M id (step M id command) settled texts later summary result shown.summary shown.well_formed (over.value clean M (rests_before M shown clean live) (sym shown.summary)) served)
+      (λ closed. applies_shut g new M id command settled texts later summary result (over.shut clean closed) served
       (λ last served. record { summary = shown.summary; well_formed = shown.well_formed; holds = λ fine clean live. (shut_after clean closed M live).holds; served = served }))
 
   pub spared : has_written result ≡ false → LeavesNoMore (LeavesOneOf g desk_before) (LeavesOneOf g desk_after)
@@ -235,17 +235,17 @@ module _ {S : Type 0} (g : Ghosts S) (old new : Held S) (summary : Holdings (Lis
 
   -- the desk after the call, by what its fields became
   module _ (after : Holdings (List ℕ)) (last : LastCall) (told : Result Kept Fault) (after_is : after ≡ summary_after summary result) (last_is : last ≡ last_by result) (told_is : told ≡ reply_of result) where
-    desk_is : desk_after ≡ record { conn = new; summary = after; last = last; indexes = settled; texts = texts; taken = taken }
-    desk_is = ap {B = DeskState S} (λ (s : Holdings (List ℕ)). record { conn = new; summary = s; last = last_by result; indexes = settled; texts = texts; taken = taken }) (sym after_is) ∙ ap {B = DeskState S}
-        (λ (l : LastCall). record { conn = new; summary = after; last = l; indexes = settled; texts = texts; taken = taken }) (sym last_is)
+    desk_is : desk_after ≡ record { conn = new; summary = after; last = last; indexes = settled; texts = texts; counts = later }
+    desk_is = ap {B = DeskState S} (λ (s : Holdings (List ℕ)). record { conn = new; summary = s; last = last_by result; indexes = settled; texts = texts; counts = later }) (sym after_is) ∙ ap {B = DeskState S}
+        (λ (l : LastCall). record { conn = new; summary = after; last = l; indexes = settled; texts = texts; counts = later }) (sym last_is)
 
     abbrev desk_told : DeskState S
-    desk_told = record { conn = new; summary = after; last = last; indexes = settled; texts = texts; taken = taken }
+    desk_told = record { conn = new; summary = after; last = last; indexes = settled; texts = texts; counts = later }
 
     -- what is true of it
-    pub told_rests : texts ≡ texts_after last kept → KeepsTexts before summary kept → (left : Option Filing) → left ≡ None → IsAtRest g last after left new × KeepsTexts last after texts
+    pub told_rests : texts ≡ texts_after last kept → KeepsTexts before summary kept → (left : Option ComingState) → left ≡ None → IsAtRest g last after left new × KeepsTexts last after texts
     told_rests is keeps left none =
-        let rests : IsAtRest g (last_by result) (summary_after summary result) left new = subst (λ (f : Option Filing). IsAtRest g (last_by result) (summary_after summary result) f new) (sym none) rests_after in
+        let rests : IsAtRest g (last_by result) (summary_after summary result) left new = subst (λ (f : Option ComingState). IsAtRest g (last_by result) (summary_after summary result) f new) (sym none) rests_after in
         let more : summary.installs ≤ after.installs = subst (λ (s : Holdings (List ℕ)). summary.installs ≤ s.installs) (sym after_is) over.grows in (
           subst (λ (s : Holdings (List ℕ)). IsAtRest g last s left new) (sym after_is) (subst (λ (l : LastCall). IsAtRest g l (summary_after summary result) left new) (sym last_is) rests),
           subst (KeepsTexts last after) (sym is) (texts_keep last after kept (more_installs summary.installs after.installs more kept keeps.made)),

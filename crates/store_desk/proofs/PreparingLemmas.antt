@@ -1,6 +1,6 @@
 -- What a desk is behind what is prepared, and behind what was prepared is undone.
 use Rattle.std.proofs.Common.{◌≡◌, ◌⊎◌, inl, inr, ℕ, ◌||◌, Bool, true, false, List, refl, sym, ap, subst, ◌∙◌}
-use Rattle.std.specs.Prelude.{◌↔◌, IfSome, Option, Some, None, Result, Ok, Err, OnOk, IfErr}
+use Rattle.std.specs.Prelude.{◌↔◌, IfSome, is_some, Option, Some, None, Result, Ok, Err, OnOk, IfErr}
 use Rattle.std.proofs.lemmas.Bool.{false≢true}
 use Rattle.sqlite.specs.State.{State}
 use Rattle.sqlite.specs.Held.{Held, state}
@@ -15,7 +15,6 @@ use Rattle.store_lookup.specs.KeptTexts.{PartNumbers}
 use Rattle.store_search.specs.Entries.{Indexed}
 use Rattle.store_commands.specs.Committed.{IsOfStore}
 use Rattle.store_commands.specs.Filing.{HasNoneFiled, IsDrawnUp}
-use Rattle.store_commands.specs.declared.filing.Filing.{Filing}
 use Rattle.store_lookup.specs.Indexes.{entries_under}
 use Rattle.store_desk.specs.Causes.{FailsToPrepare}
 use Rattle.store_desk.specs.Desk.{DeskState, HasFiled, IsAtRest, Shows, has_failed, is_closed}
@@ -23,7 +22,8 @@ use Rattle.store_desk.specs.KeptParts.{texts_after, texts_behind}
 use Rattle.store_desk.specs.Prepared.{last_behind}
 use Rattle.store_desk.specs.declared.last.LastCall.{LastCall}
 use Rattle.store_desk.specs.declared.last.LastCall.TheVariants.{Fine, Failed, Closed}
-use Rattle.store_desk.proofs.DeskLemmas.{parts_after}
+use Rattle.store_desk.specs.Left.{ComingState, Counts}
+use Rattle.store_desk.proofs.DeskLemmas.{parts_after, shows_counted}
 use Rattle.store_desk.proofs.ServedLemmas.{served_still}
 
 pub or_true : (b : Bool) → (b || true) ≡ true
@@ -42,38 +42,47 @@ parts_behind (Err fault) number text texts are = tt
 module _ {S : Type 0} (g : Ghosts S) where
   -- ---- a call that failed, or prepared something, and changed nothing else
 
-  pub rests_as : (summary : Holdings (List ℕ)) (filing : Option Filing) (before after : LastCall) (h : Held S) → is_closed before ≡ false → IsAtRest g before summary filing h
-      → (left : Option Filing) → HasFiled left (state g h) → IsAtRest g after summary left h
+  pub rests_as : (summary : Holdings (List ℕ)) (filing : Option ComingState) (before after : LastCall) (h : Held S) → is_closed before ≡ false → IsAtRest g before summary filing h
+      → (left : Option ComingState) → HasFiled left (state g h) → IsAtRest g after summary left h
   rests_as summary filing before after h fine rest left filed = record { limit = rest.limit; ended = rest.ended; range = rest.range; holds = λ _. rest.holds fine; filed = λ _. filed }
 
-  pub shows_as : {taken later : ℕ} (summary : Holdings (List ℕ)) (before after : LastCall) (h : Held S) → is_closed before ≡ false → (old new : List (ℕ × List Indexed)) → ((q : ℕ) → entries_under q new ≡ entries_under q old)
+  pub shows_as : {taken later : Counts} (summary : Holdings (List ℕ)) (before after : LastCall) (h : Held S) → is_closed before ≡ false → (old new : List (ℕ × List Indexed)) → ((q : ℕ) → entries_under q new ≡ entries_under q old)
       → (kept texts : List (PartNumbers × List ℕ)) → texts ≡ texts_after after kept
-      → (M : Catalogue) → Shows g (record { conn = h; summary = summary; last = before; indexes = old; texts = kept; taken = taken }) M
-      → Shows g (record { conn = h; summary = summary; last = after; indexes = new; texts = texts; taken = later }) M
+      → (M : Catalogue) → Shows g (record { conn = h; summary = summary; last = before; indexes = old; texts = kept; counts = taken }) M
+      → Shows g (record { conn = h; summary = summary; last = after; indexes = new; texts = texts; counts = later }) M
   shows_as {taken = taken} {later = later} summary before after h fine old new same kept texts is M shown = record {
     summary = shown.summary;
     well_formed = shown.well_formed;
     holds = λ _ clean live. shown.holds fine clean live;
-    served = λ clean. served_still g (record { conn = h; summary = summary; last = before; indexes = old; texts = kept; taken = taken })
-        (record { conn = h; summary = summary; last = after; indexes = new; texts = texts; taken = later }) same (λ _. fine) (λ live. live) (λ live. refl)
+    served = λ clean. served_still g (record { conn = h; summary = summary; last = before; indexes = old; texts = kept; counts = taken })
+        (record { conn = h; summary = summary; last = after; indexes = new; texts = texts; counts = later }) same (λ _. fine) (λ live. live) (λ live. refl)
         (λ stored one. subst (ArePartsOf stored.number one.text) (sym is) (parts_after after stored.number one.text kept one.kept)) M (shown.served clean);
   }
 
+  -- what is counted tells nothing of what is shown
+  pub shows_but_counts : (old new : DeskState S) → new ≡ record old { counts = new.counts } → (M : Catalogue) → Shows g old M → Shows g new M
+  shows_but_counts old new same M shown = subst (λ (d : DeskState S). Shows g d M) (sym same) (shows_counted g old new.counts M shown)
+
 -- nothing is filed yet of what was planned
-planned_filed : (found : Option Filing) (s : State) → IfSome found (λ f. IsDrawnUp f × HasNoneFiled f) → HasFiled found s
+planned_filed : (found : Option ComingState) (s : State) → IfSome found (λ coming. IsDrawnUp coming.filing × HasNoneFiled coming.filing) → HasFiled found s
 planned_filed None s planned = tt
 planned_filed (Some f) s planned = (planned.0, λ clean live begun. absurd (false≢true (sym planned.1.begun ∙ begun)))
 
+-- nothing is filed
+pub none_filed : (filing : Option ComingState) (s : State) → is_some filing ≡ false → HasFiled filing s
+none_filed None s none = tt
+none_filed (Some coming) s none = absurd (false≢true (sym none))
+
 -- a draft was read, or what it says is planned
-pub read_filed : (before after : Option Filing) (s : State) → (after ≡ before) ⊎ IfSome after (λ f. IsDrawnUp f × HasNoneFiled f) → HasFiled before s → HasFiled after s
-read_filed before after s (inl same) filed = subst (λ (f : Option Filing). HasFiled f s) (sym same) filed
+pub read_filed : (before after : Option ComingState) (s : State) → (after ≡ before) ⊎ IfSome after (λ coming. IsDrawnUp coming.filing × HasNoneFiled coming.filing) → HasFiled before s → HasFiled after s
+read_filed before after s (inl same) filed = subst (λ (f : Option ComingState). HasFiled f s) (sym same) filed
 read_filed before after s (inr planned) filed = planned_filed after s planned
 
--- nothing was done to the connection, and there is more: all that is seen of the desk is as it was
-pub same_prepared : {S : Type 0} (old : DeskState S) (conn : Held S) (last : LastCall) (texts : List (PartNumbers × List ℕ)) (result : Result Bool Fault) → last ≡ last_behind old.last result → texts ≡ texts_behind result old.texts
-    → result ≡ Ok true → conn ≡ old.conn → record { conn = conn; summary = old.summary; last = last; indexes = old.indexes; texts = texts; taken = old.taken } ≡ old
-same_prepared old conn last texts (Ok more) by is ok same = λ i. record { conn = same i; summary = old.summary; last = by i; indexes = old.indexes; texts = is i; taken = old.taken }
-same_prepared old conn last texts (Err fault) by is ok same = absurd (let e = ok in cc)
+-- nothing was done to the connection, and there is more: all that is seen of the desk is as it was, but for what is counted
+pub same_prepared : {S : Type 0} (old : DeskState S) (conn : Held S) (last : LastCall) (texts : List (PartNumbers × List ℕ)) (later : Counts) (result : Result Bool Fault) → last ≡ last_behind old.last result
+    → texts ≡ texts_behind result old.texts → result ≡ Ok true → conn ≡ old.conn → record { conn = conn; summary = old.summary; last = last; indexes = old.indexes; texts = texts; counts = later } ≡ record old { counts = later }
+same_prepared old conn last texts later (Ok more) by is ok same = λ i. record { conn = same i; summary = old.summary; last = by i; indexes = old.indexes; texts = is i; counts = later }
+same_prepared old conn last texts later (Err fault) by is ok same = absurd (let e = ok in cc)
 
 -- memory alone was refused
 pub no_disk : {T : Type 0} (P : Type 0) (result : Result T Fault) → IfErr result (λ fault. fault ≡ Memory) → IfErr result (λ fault. fault ≡ Disk → P)
@@ -121,23 +130,23 @@ closed_failed Closed e = refl
 
 -- ---- what is prepared is let go of
 
-module _ {S T : Type 0} (old new : DeskState S) (same : new ≡ old) where
-  pub forgotten_failed : (result : Result T Fault) → IfErr result (λ fault. (fault ≡ Shut) × (is_closed old.last ≡ true)) → has_failed new.last ≡ (has_failed old.last || has_failed_by result)
+module _ {S T : Type 0} (old new : DeskState S) (same : new ≡ record old { counts = new.counts }) where
+  pub forgotten_failed : (result : Result T Fault) → IfErr result (λ fault. (fault ≡ Shut) × (is_closed old.last ≡ true) × (new ≡ old)) → has_failed new.last ≡ (has_failed old.last || has_failed_by result)
   forgotten_failed (Ok value) told = ap (λ (d : DeskState S). has_failed d.last) same ∙ sym (or_false (has_failed old.last))
   forgotten_failed (Err fault) told = failing_or old.last new.last fault (ap is_failure told.0) (ap (λ (d : DeskState S). has_failed d.last) same ∙ closed_failed old.last told.1)
 
-  pub forgotten_closes : (result : Result T Fault) → IfErr result (λ fault. (fault ≡ Shut) × (is_closed old.last ≡ true)) → is_closed new.last ≡ (is_closed old.last || has_closed_by result)
+  pub forgotten_closes : (result : Result T Fault) → IfErr result (λ fault. (fault ≡ Shut) × (is_closed old.last ≡ true) × (new ≡ old)) → is_closed new.last ≡ (is_closed old.last || has_closed_by result)
   forgotten_closes (Ok value) told = ap (λ (d : DeskState S). is_closed d.last) same ∙ sym (or_false (is_closed old.last))
   forgotten_closes (Err fault) told = ap (λ (d : DeskState S). is_closed d.last) same ∙ (sym (or_false (is_closed old.last)) ∙ ap (λ (f : Fault). is_closed old.last || is_disk f) (sym told.0))
 
-  pub forgotten_closed : (result : Result T Fault) → OnOk result (is_closed old.last ≡ false) → IfErr result (λ fault. (fault ≡ Shut) × (is_closed old.last ≡ true)) → (result ≡ Err Shut) ↔ (is_closed old.last ≡ true)
+  pub forgotten_closed : (result : Result T Fault) → OnOk result (is_closed old.last ≡ false) → IfErr result (λ fault. (fault ≡ Shut) × (is_closed old.last ≡ true) × (new ≡ old)) → (result ≡ Err Shut) ↔ (is_closed old.last ≡ true)
   forgotten_closed (Ok value) fine told = (λ is. absurd (let e = is in cc), λ shut. absurd (false≢true (sym fine ∙ shut)))
   forgotten_closed (Err fault) fine told = (λ is. told.1, λ shut. ap Err told.0)
 
-  pub forgotten_caused : (g : Ghosts S) (result : Result T Fault) → IfErr result (λ fault. (fault ≡ Shut) × (is_closed old.last ≡ true)) → IfErr result (FailsToPrepare g old new)
+  pub forgotten_caused : (g : Ghosts S) (result : Result T Fault) → IfErr result (λ fault. (fault ≡ Shut) × (is_closed old.last ≡ true) × (new ≡ old)) → IfErr result (FailsToPrepare g old new)
   forgotten_caused g (Ok value) told = tt
-  forgotten_caused g (Err fault) told = subst (FailsToPrepare g old new) (sym told.0) (told.1, same)
+  forgotten_caused g (Err fault) told = subst (FailsToPrepare g old new) (sym told.0) (told.1, told.2)
 
-  pub forgotten_kind : (result : Result T Fault) → IfErr result (λ fault. (fault ≡ Shut) × (is_closed old.last ≡ true)) → IfErr result IsOfLookup
+  pub forgotten_kind : (result : Result T Fault) → IfErr result (λ fault. (fault ≡ Shut) × (is_closed old.last ≡ true) × (new ≡ old)) → IfErr result IsOfLookup
   forgotten_kind (Ok value) told = tt
   forgotten_kind (Err fault) told = subst IsOfLookup (sym told.0) tt

@@ -1,5 +1,5 @@
 -- Why a call of a desk fails, and what a command does to it.
-use Rattle.std.specs.Prelude.{◌≡◌, ◌⊎◌, ℕ, true, false, IsTrue, List, Option, is_some, Result, IfErr}
+use Rattle.std.specs.Prelude.{◌≡◌, ◌⊎◌, ℕ, Bool, true, false, IsTrue, List, Option, is_some, Result, IfErr}
 use Rattle.sqlite.specs.Disk.{MoreFaults}
 use Rattle.sqlite.specs.Effect.{Database}
 use Rattle.sqlite.specs.State.{State, HasCleanDisk, KeepsCommit, Fails, Survives}
@@ -51,17 +51,18 @@ module _ {S : Type 0} (g : Ghosts S) where
   FailsToPrepare old new Damaged = ⊥
   FailsToPrepare old new NewerSchema = ⊥
 
-  -- A command fails over a connection: its reply was not looked up, or its change was not made; or, where an edition was filed for it, the rest
-  -- of the change was not made.
-  abbrev pub FailsToApplyOver : Holdings (List ℕ) → List ℕ → Command Edition → Held S → Held S → Fault → Type 0
-  FailsToApplyOver summary id command old new fault = FailsToApply g summary id command old new fault ⊎ FailsBehindFiled g summary id command old new fault
+  -- A command fails over a connection: its reply was not looked up, or its change was not made; or, where parts of an edition are filed (`filed`), the
+  -- rest of the change was not made.
+  abbrev pub FailsToApplyOver : Bool → Holdings (List ℕ) → List ℕ → Command Edition → Held S → Held S → Fault → Type 0
+  FailsToApplyOver filed summary id command old new fault =
+      FailsToApply g summary id command old new fault ⊎ ((filed ≡ true) × FailsBehindFiled g summary id command old new fault)
 
   -- A command that is not refused failed so; or it installs an edition, and memory was refused to the index of this, before the store was
   -- asked; or the desk was closed, and is as it was.
   abbrev pub FailsToApplyTo : DeskState S → CommandRequest → DeskState S → Fault → Type 0
   FailsToApplyTo old request new (Refused refusal) = ⊥
-  FailsToApplyTo old request new Memory = ((is_install (verb_of request.command) ≡ true) × (new.conn ≡ old.conn)) ⊎ FailsToApplyOver old.summary request.id request.command old.conn new.conn Memory
-  FailsToApplyTo old request new Disk = FailsToApplyOver old.summary request.id request.command old.conn new.conn Disk
+  FailsToApplyTo old request new Memory = ((is_install (verb_of request.command) ≡ true) × (new.conn ≡ old.conn)) ⊎ FailsToApplyOver old.counts.filed old.summary request.id request.command old.conn new.conn Memory
+  FailsToApplyTo old request new Disk = FailsToApplyOver old.counts.filed old.summary request.id request.command old.conn new.conn Disk
   FailsToApplyTo old request new Closed = (is_closed old.last ≡ true) × (new ≡ old)
   FailsToApplyTo old request new NotACatalogue = ⊥
   FailsToApplyTo old request new Damaged = ⊥

@@ -25,7 +25,7 @@ use Rattle.store_search.specs.Entries.{Indexed}
 use Rattle.store_commands.specs.Changes.{IsInRange}
 use Rattle.store_commands.specs.Answers.{HoldsBy}
 use Rattle.store_commands.specs.Filing.{IsDrawnUp, IsFiledSoFar}
-use Rattle.store_commands.specs.declared.filing.Filing.{Filing}
+use Rattle.store_desk.specs.Left.{ComingState, Counts}
 use Rattle.store_commands.specs.declared.applied.Applied.{Applied}
 use Rattle.store_commands.specs.declared.applied.Applied.TheVariants.{Repeated, Done}
 use Rattle.dict_catalogue.specs.declared.reply.Kept.{Kept}
@@ -34,14 +34,14 @@ use Rattle.store_desk.specs.declared.last.LastCall.TheVariants.{Fine, Failed, Cl
 use Rattle.store_rows.specs.Versions.{known}
 
 -- the connection, the summary in memory, and how the last call by `&mut` ended; the indexes of editions by their numbers, and the parts
--- of texts that are kept; and how many entries and rows lookups have taken
+-- of texts that are kept; and what is counted
 pub record DeskState (S : Type 0) : Type 0 where
   pub conn : Held S
   pub summary : Holdings (List ℕ)
   pub last : LastCall
   pub indexes : List (ℕ × List Indexed)
   pub texts : List (PartNumbers × List ℕ)
-  pub taken : ℕ
+  pub counts : Counts
 
 abbrev pub is_closed : LastCall → Bool
 is_closed Fine = false
@@ -73,15 +73,15 @@ abbrev pub HasBeside : Database → Trees → Type 0
 HasBeside db trees = ∥ IsTreesOf (SparesOthers db) trees ∥₁
 
 -- What is prepared of a change that may come: so many parts of an edition are filed; or nothing is.
-abbrev pub HasFiled : Option Filing → State → Type 0
+abbrev pub HasFiled : Option ComingState → State → Type 0
 HasFiled None s = Unit {0}
-HasFiled (Some filing) s = IsDrawnUp filing × IsFiledSoFar filing s
+HasFiled (Some coming) s = IsDrawnUp coming.filing × IsFiledSoFar coming.filing s
 
 module _ {S : Type 0} (g : Ghosts S) where
   -- What is true of every desk between two calls: its connection has no limit on steps, and no transaction is open; the numbers in its
   -- summary are those of installs; and where it isn't closed, and while the store is open and the disk gives what was written, what is seen
   -- is committed, and holds a catalogue of this summary; and of what is prepared of a change that may come, so much is committed beside it.
-  pub record IsAtRest (last : LastCall) (summary : Holdings (List ℕ)) (filing : Option Filing) (h : Held S) : Type 0 where
+  pub record IsAtRest (last : LastCall) (summary : Holdings (List ℕ)) (filing : Option ComingState) (h : Held S) : Type 0 where
     pub limit : h.step_limit ≡ None
     pub ended : h.in_transaction ≡ false
     pub range : IsInRange summary

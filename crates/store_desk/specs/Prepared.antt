@@ -15,9 +15,9 @@ last_behind last (Err fault) = last_by {T = Unit {0}} (Err fault)
 
 module _ {S : Type 0} (g : Ghosts S) where
   -- The log was copied, parts of no edition were taken out, or some of an edition that comes were filed, by a commit behind which all that was
-  -- held is held; of the desk the connection alone is another. No transaction was open, nor is one.
+  -- held is held; of the desk the connection alone is another, and what is counted. No transaction was open, nor is one.
   pub record HasCommittedSame (old new : DeskState S) : Type 0 where
     pub before : old.conn.in_transaction ≡ false
     pub ended : new.conn.in_transaction ≡ false
-    pub same : new ≡ record old { conn = new.conn }
+    pub same : new ≡ record old { conn = new.conn; counts = new.counts }
     pub done : IsCommitted (Remains old.summary (state g old.conn).committed) (state g new.conn)

@@ -15,9 +15,11 @@ ghost use Rattle.store_commands.specs.Changes.{IsInRange};
 ghost use Rattle.store_commands.specs.Filing.{IsDrawnUp, IsFiledSoFar, AreAllPartsFiled, HasSameRows};
 ghost use Rattle.store_commands.specs.Finishing.{IsFinished};
 ghost use Rattle.store_commands.specs.Installs.{IsInstallOf, IsReadInstall};
+ghost use Rattle.store_commands.specs.Left.{IsLess};
 ghost use Rattle.store_commands.specs.Marking.{Remains};
 ghost use Rattle.store_desk.specs.Coming.{IsIndexOfInstall};
 ghost use Rattle.store_desk.specs.Indexed.{HasPutIfSome};
+ghost use Rattle.store_desk.specs.Left.{coming_left};
 
 use crate::making::{IndexPart, make_part, take_whole};
 use dict_catalogue::Summary;
@@ -47,13 +49,13 @@ impl Drop for Coming {
 
 impl Model for Coming {
     ghost use Rattle.store_commands.specs.Installs.{IsReadInstall};
-    ghost use Rattle.store_commands.specs.declared.filing.Filing.{Filing};
+    ghost use Rattle.store_desk.specs.Left.{ComingState, index_left};
 
-    ghost Value = { Filing };
+    ghost Value = { ComingState };
 
     ghost use Rattle.store_desk.specs.Coming.{IsIndexOfInstall};
 
-    ghost view = { λ coming. coming.install.filing };
+    ghost view = { λ coming. record { filing = coming.install.filing; index = index_left coming.index } };
 
     ghost invariant = { λ coming. IsReadInstall coming.install × IsIndexOfInstall coming.install coming.index };
 }
@@ -62,7 +64,7 @@ impl Coming {
     /// An install, of whose index nothing is made.
     pub(crate) fn of(alloc: Global, install: ReadInstall) -> Coming
         requires { IsReadInstall install }
-        ensures { result ≡ install.filing }
+        ensures { result.filing ≡ install.filing }
     {
         Coming {
             install,
@@ -78,13 +80,14 @@ impl Coming {
     ) -> Result<bool, Option<Fault>>
         requires autocommit { conn.old.in_transaction ≡ false }
         requires holds { HoldsBy (summary_shown summary.now) (state S.Store conn.old) }
-        requires filed { IsFiledSoFar self.old (state S.Store conn.old) }
-        ensures rows { HasSameRows self.old self.new }
-        ensures drawn { IsDrawnUp self.new }
-        ensures next { OnOk result (self.new.number ≡ (summary_shown summary.now).installs + 1) }
+        requires filed { IsFiledSoFar self.old.filing (state S.Store conn.old) }
+        ensures rows { HasSameRows self.old.filing self.new.filing }
+        ensures drawn { IsDrawnUp self.new.filing }
+        ensures next { OnOk result (self.new.filing.number ≡ (summary_shown summary.now).installs + 1) }
         ensures made { HasCleanDisk (state S.Store conn.new) → OnOk result (IsCommitted (Remains (summary_shown summary.now) (state S.Store conn.old).committed) (state S.Store conn.new)) }
-        ensures filed { OnOk result (IsFiledSoFar self.new (state S.Store conn.new)) }
-        ensures whole { IfOk result (λ more. more ≡ false → AreAllPartsFiled self.new) }
+        ensures filed { OnOk result (IsFiledSoFar self.new.filing (state S.Store conn.new)) }
+        ensures fewer { OnOk result (IsLess (coming_left (Some self.new)) (coming_left (Some self.old))) }
+        ensures whole { IfOk result (λ more. more ≡ false → AreAllPartsFiled self.new.filing) }
         ensures stays { HasCleanDisk (state S.Store conn.new) → OnErr result (StaysCommitted (state S.Store conn.old) (state S.Store conn.new)) }
         ensures lives { HasCleanDisk (state S.Store conn.new) → IsTrue (state S.Store conn.new).is_open → IsTrue (state S.Store conn.old).is_open }
         ensures faulted { HasCleanDisk (state S.Store conn.new) → IfErr result (λ why. why ≡ Some Fault.Disk → MoreFaults (state S.Store conn.old).faults (state S.Store conn.new).faults) }
@@ -96,7 +99,9 @@ impl Coming {
     }
 
     /// Whether all of its parts are filed.
-    pub(crate) fn is_filed(&self) -> bool {
+    pub(crate) fn is_filed(&self) -> bool
+        ensures { IsTrue result → AreAllPartsFiled self.now.filing }
+    {
         self.install.filing.is_whole()
     }
 
@@ -107,12 +112,13 @@ impl Coming {
 
     /// Makes the next part of the index. Whether there was one.
     pub(crate) fn make(&mut self) -> bool
-        ensures { self.new ≡ self.old }
+        ensures same { self.new.filing ≡ self.old.filing }
+        ensures fewer { IsTrue result → IsLess self.new.index self.old.index }
     {
         make_part(&self.install, &mut self.index)
     }
 
-    /// Finishes the install of what was prepared, where it is of this name and these files, and its index is whole: that is put under the
+    /// Finishes the install of what was prepared, where it is of this name and these files, all of it is filed, and its index is whole: that is put under the
     /// number that the edition gets. None, and nothing is written: it isn't so; or `apply_read` tells that it can't be finished.
     pub(crate) fn finish<S: Alter>(
         &mut self,
@@ -124,10 +130,11 @@ impl Coming {
         request: &AskedInstall<'_>,
     ) -> Option<Result<Applied, Fault>>
         requires autocommit { conn.old.in_transaction ≡ false }
-        requires filed { IsFiledSoFar self.old (state S.Store conn.old) }
+        requires filed { IsFiledSoFar self.old.filing (state S.Store conn.old) }
         requires holds { HoldsBy (summary_shown summary.now) (state S.Store conn.old) }
         requires range { IsInRange (summary_shown summary.now) }
-        ensures same { self.new ≡ self.old }
+        ensures same { self.new.filing ≡ self.old.filing }
+        ensures begun { IfSome result (λ _. self.old.filing.is_begun ≡ true) }
         ensures finished { IfSome result (λ outcome. (reading : ReadEdition) × IsReadEdition request.now.index.now request.now.text.now reading
             × IsFinished S.Store (summary_shown summary.now) request.now.id.now request.now.name.now reading conn.old conn.new outcome × HasPutIfSome number (Some (map entry_of reading.lines)) indexes.old indexes.new) }
         ensures settled { HasCleanDisk (state S.Store conn.new) → IsTrue (state S.Store conn.new).is_open → IfSome result (λ _. (state S.Store conn.new).now ≡ (state S.Store conn.new).committed) }
@@ -136,6 +143,9 @@ impl Coming {
         ensures ended { conn.new.in_transaction ≡ false }
         ensures survives { IfNone result (Survives (state S.Store conn.old) (state S.Store conn.new) (λ _. ⊥)) }
     {
+        if !self.is_filed() {
+            return None;
+        }
         if put_index(&self.install, &mut self.index, indexes, number, request) {
             return apply_read(alloc, conn, summary, request.id, &self.install);
         }

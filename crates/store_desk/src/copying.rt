@@ -13,6 +13,7 @@ ghost use Rattle.store_commands.specs.Marking.{Remains};
 ghost use Rattle.dict_desk.specs.Faults.{has_closed_by, has_failed_by};
 ghost use Rattle.store_desk.specs.Causes.{FailsToPrepare};
 ghost use Rattle.store_desk.specs.Desk.{KeepsBeside, LeavesOneOf, Shows, has_failed, is_closed};
+ghost use Rattle.store_commands.specs.Left.{IsLess};
 ghost use Rattle.store_desk.specs.Prepared.{HasCommittedSame};
 
 use crate::adopting::is_whole;
@@ -78,10 +79,11 @@ impl<S: Alter + Drop> Desk<S> {
         self.is_log_long && self.draft.is_none() && self.filing.is_none()
     }
 
-    // Has the log copied. Whether it was: then there may be more to prepare. Nothing is filed, or it is let go of.
+    // Has the log copied, where it may be long. Whether it was: then there may be more to prepare. Nothing is filed, or it is let go of.
     pub(crate) fn copy_log(&mut self) -> Result<bool, Fault>
         requires { is_closed self.old.last ≡ false }
         ensures committed { HasCleanDisk (state S.Store self.new.conn) → result ≡ Ok true → HasCommittedSame S.Store self.old self.new }
+        ensures fewer { result ≡ Ok true → IsLess self.new.counts.left self.old.counts.left }
         ensures trust { HasCleanDisk (state S.Store self.new.conn) → HasCleanDisk (state S.Store self.old.conn) }
         ensures shows { HasCleanDisk (state S.Store self.new.conn) → (M : Catalogue) → Shows S.Store self.old M → Shows S.Store self.new M }
         ensures leaves { (ms : List (Option Catalogue)) → LeavesOneOf S.Store self.old ms → LeavesOneOf S.Store self.new ms }
@@ -91,6 +93,9 @@ impl<S: Alter + Drop> Desk<S> {
         ensures failed { has_failed self.new.last ≡ (has_failed self.old.last || has_failed_by result) }
         ensures closes { is_closed self.new.last ≡ (is_closed self.old.last || has_closed_by result) }
     {
+        if !self.is_log_long {
+            return Ok(false);
+        }
         let_go(&mut self.filing, &mut self.orphans);
         is_whole(&self.conn);
         committed_may_stay(&self.conn);

@@ -23,6 +23,7 @@ use crate::adopting::is_whole;
 use crate::coming::Coming;
 use crate::last::LastCall;
 use crate::laws::committed_may_stay;
+use crate::orphans::Orphans;
 use dict_catalogue::Summary;
 use dict_desk::Fault;
 use sqlite::{Alter, Connection};
@@ -51,10 +52,10 @@ pub struct Desk<S: Alter + Drop> {
     pub(crate) draft: Option<Draft>,
     // What is prepared of it, once it is read: parts of it are filed.
     pub(crate) filing: Option<Coming>,
-    // Whether an install may have left a long log. Nothing rests on it.
+    // Whether an install may have left a long log. No answer rests on it.
     pub(crate) is_log_long: bool,
-    // The numbers under which there may be parts of no edition. Nothing rests on it.
-    pub(crate) orphans: Vec<u64>,
+    // The numbers under which there may be parts of no edition. No answer rests on it.
+    pub(crate) orphans: Orphans,
 }
 
 // It is written out, so that what owns one doesn't prove again how each part is dropped.
@@ -81,13 +82,14 @@ impl<S: Alter + Drop> Model for Desk<S> {
     ghost use Rattle.std.specs.Coded.{codes};
     ghost use Rattle.sqlite.specs.Held.{held_code};
     ghost use Rattle.store_desk.specs.Desk.{DeskState, IsAtRest};
+    ghost use Rattle.store_desk.specs.Left.{counted};
     ghost use Rattle.store_desk.specs.KeptParts.{KeepsTexts};
 
     ghost Value = { DeskState S };
 
     ghost coded = { Prim.hlevel (codes, held_code S.code) };
 
-    ghost view = { λ d. record { conn = d.conn; summary = summary_shown d.summary; last = d.last; indexes = d.indexes; texts = d.texts; taken = d.rows_taken } };
+    ghost view = { λ d. record { conn = d.conn; summary = summary_shown d.summary; last = d.last; indexes = d.indexes; texts = d.texts; counts = counted d.rows_taken d.is_log_long d.orphans d.draft d.filing } };
 
     ghost invariant = { λ d. IsAtRest S.Store d.last (summary_shown d.summary) d.filing d.conn × KeepsTexts d.last (summary_shown d.summary) d.texts };
 }
@@ -106,7 +108,7 @@ impl<S: Alter + Drop> Desk<S> {
         requires limit { conn.step_limit ≡ None }
         requires range { IsInRange (summary_shown summary) }
         requires holds { HoldsBy (summary_shown summary) (state S.Store conn) }
-        ensures is { result ≡ record { conn = conn; summary = summary_shown summary; last = LastCall.Fine; indexes = indexes; texts = []; taken = 0 } }
+        ensures is { result ≡ record { conn = conn; summary = summary_shown summary; last = LastCall.Fine; indexes = indexes; texts = []; counts = record { taken = 0; left = result.counts.left; filed = false } } }
         ensures shows { (M : Catalogue) → summary_shown summary ≡ summary_of M → IsWellFormed M → (HasCleanDisk (state S.Store conn) → Rests known (state S.Store conn) M) → (HasCleanDisk (state S.Store conn) → AreHeldCut (state S.Store conn).committed M indexes) → Shows S.Store result M }
     {
         Desk {
@@ -120,7 +122,7 @@ impl<S: Alter + Drop> Desk<S> {
             draft: None,
             filing: None,
             is_log_long: false,
-            orphans,
+            orphans: Orphans::of(orphans),
         }
     }
 
@@ -177,7 +179,7 @@ impl<S: Alter + Drop> Desk<S> {
     /// the greatest number of its type, where it stays. No answer rests on it: it tells what lookups cost, and each lookup says how many
     /// more there are behind it at least.
     pub fn rows_taken(&self) -> u64
-        ensures { result ≡ self.now.taken }
+        ensures { result ≡ self.now.counts.taken }
     {
         self.rows_taken
     }

@@ -1,5 +1,5 @@
 // The install of what was prepared.
-ghost use Rattle.std.specs.Prelude.{◌≡◌, ◌≢◌, ℕ, false, map, Err, Some, IsTrue, IfErr, IfSome, IfNone};
+ghost use Rattle.std.specs.Prelude.{◌≡◌, ◌≢◌, ℕ, false, true, map, Err, Some, IsTrue, IfErr, IfSome, IfNone};
 ghost use Rattle.sqlite.specs.State.{HasCleanDisk, Survives};
 ghost use Rattle.sqlite.specs.Held.{state};
 ghost use Rattle.dict_index.specs.Edition.{ReadEdition, edition_of};
@@ -17,6 +17,7 @@ ghost use Rattle.store_lookup.specs.Indexes.{entries_under};
 ghost use Rattle.store_search.specs.Entries.{entry_of};
 ghost use Rattle.store_desk.specs.Desk.{HasFiled, Shows, is_closed, has_failed};
 ghost use Rattle.store_desk.specs.Indexed.{HasPutIfSome};
+ghost use Rattle.store_desk.specs.Left.{has_filed};
 
 use crate::adopting::is_whole;
 use crate::coming::{AskedInstall, Coming};
@@ -50,7 +51,8 @@ fn finish_coming<S: Alter>(
     requires filed { HasFiled filing.old (state S.Store conn.old) }
     requires holds { HoldsBy (summary_shown summary.now) (state S.Store conn.old) }
     requires range { IsInRange (summary_shown summary.now) }
-    ensures same { filing.new ≡ filing.old }
+    ensures same { HasFiled filing.old (state S.Store conn.new) → HasFiled filing.new (state S.Store conn.new) }
+    ensures begun { IfSome result (λ _. has_filed filing.old ≡ true) }
     ensures finished { IfSome result (λ outcome. (reading : ReadEdition) × IsReadEdition request.now.index.now request.now.text.now reading
         × IsFinished S.Store (summary_shown summary.now) request.now.id.now request.now.name.now reading conn.old conn.new outcome × HasPutIfSome number (Some (map entry_of reading.lines)) indexes.old indexes.new) }
     ensures settled { HasCleanDisk (state S.Store conn.new) → IsTrue (state S.Store conn.new).is_open → IfSome result (λ _. (state S.Store conn.new).now ≡ (state S.Store conn.new).committed) }

@@ -36,7 +36,7 @@ fn apply_over<S: Alter>(
     requires autocommit { conn.old.in_transaction ≡ false }
     requires holds { HoldsBy (summary_shown summary.now) (state S.Store conn.old) }
     requires range { IsInRange (summary_shown summary.now) }
-    ensures over { AppliesOver S.Store (summary_shown summary.now) id.now (command_meant command.now) conn.old conn.new result }
+    ensures over { AppliesOver S.Store false (summary_shown summary.now) id.now (command_meant command.now) conn.old conn.new result }
     ensures installed { HasCleanDisk (state S.Store conn.new) → IsTrue (state S.Store conn.new).is_open → HasInstalled command.now result (state S.Store conn.new).committed }
     ensures stays { HasCleanDisk (state S.Store conn.new) → IsTrue (state S.Store conn.new).is_open → OnErr result ((state S.Store conn.new).committed ≡ (state S.Store conn.old).committed) }
 {

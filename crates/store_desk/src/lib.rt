@@ -14,6 +14,7 @@ mod last;
 mod laws;
 mod lookups;
 mod making;
+mod orphans;
 mod preparing;
 mod promise;
 mod reopening;

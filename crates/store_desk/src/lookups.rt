@@ -27,7 +27,7 @@ impl<S: Alter + Drop> Lookup for Desk<S> {
 
     ghost is_trusted = { λ s. HasCleanDisk (state S.Store s.conn) };
 
-    ghost looks_at = { λ old new few. LooksAt old.taken new.taken few };
+    ghost looks_at = { λ old new few. LooksAt old.counts.taken new.counts.taken few };
 
     ghost is_closed = { λ s. is_closed s.last };
 

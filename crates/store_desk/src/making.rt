@@ -1,11 +1,13 @@
 // The index in memory of an edition that may come, made in slices.
-ghost use Rattle.std.specs.Prelude.{◌≡◌, ◌<◌, IfSome, OnOk, length, map, take};
+ghost use Rattle.std.specs.Prelude.{◌≡◌, ◌<◌, IfSome, IsTrue, OnOk, length, map, take};
 ghost use Rattle.dict_index.specs.Edition.{ReadEdition};
 ghost use Rattle.dict_index.specs.Meaning.{IsReadEdition};
 ghost use Rattle.store_search.specs.Entries.{entry_of};
 ghost use Rattle.store_commands.specs.Installs.{IsReadInstall};
 ghost use Rattle.store_commands.specs.declared.reads.ReadInstall.{ReadInstall};
+ghost use Rattle.store_commands.specs.Left.{IsLess};
 ghost use Rattle.store_desk.specs.Coming.{IsIndexOfInstall};
+ghost use Rattle.store_desk.specs.Left.{index_left};
 
 use dict_index::one_meaning;
 use dict_reading::Reading;
@@ -29,7 +31,8 @@ pub(crate) enum IndexPart {
 fn take_entries(reading: &Reading<'_>, builder: &mut IndexBuilder) -> Result<(), AllocError>
     requires front { builder.old ≡ map entry_of (take (length builder.old) reading.now.lines) }
     requires some { length builder.old < length reading.now.lines }
-    ensures { OnOk result (builder.new ≡ map entry_of (take (length builder.new) reading.now.lines)) }
+    ensures front { OnOk result (builder.new ≡ map entry_of (take (length builder.new) reading.now.lines)) }
+    ensures fewer { OnOk result (IsLess (index_left (IndexPart.Entries builder.new)) (index_left (IndexPart.Entries builder.old))) }
 {
     let from = builder.len();
     let to = reading.len().min(from.saturating_add(SLICE_ENTRIES));
@@ -46,7 +49,8 @@ fn take_entries(reading: &Reading<'_>, builder: &mut IndexBuilder) -> Result<(),
 fn take_slice(install: &ReadInstall, builder: IndexBuilder) -> IndexPart
     requires known { IsReadInstall install.now }
     requires index { IsIndexOfInstall install.now (IndexPart.Entries builder) }
-    ensures { IsIndexOfInstall install.now result }
+    ensures index { IsIndexOfInstall install.now result }
+    ensures fewer { IsLess (index_left result) (index_left (IndexPart.Entries builder)) }
 {
     one_meaning();
     let Some(reading) = install.reading() else {
@@ -69,7 +73,8 @@ fn take_slice(install: &ReadInstall, builder: IndexBuilder) -> IndexPart
 
 // The index of which all entries are taken, behind the next part of it; and whether there was one.
 fn step_parts(making: IndexMaking) -> (IndexPart, bool)
-    ensures { (install : ReadInstall) → IsIndexOfInstall install (IndexPart.Parts making) → IsIndexOfInstall install result.0 }
+    ensures index { (install : ReadInstall) → IsIndexOfInstall install (IndexPart.Parts making) → IsIndexOfInstall install result.0 }
+    ensures fewer { IsTrue result.1 → IsLess (index_left result.0) (index_left (IndexPart.Parts making)) }
 {
     let mut making = making;
     match making.step() {
@@ -85,7 +90,8 @@ fn step_parts(making: IndexMaking) -> (IndexPart, bool)
 fn made_on(install: &ReadInstall, index: IndexPart) -> (IndexPart, bool)
     requires known { IsReadInstall install.now }
     requires index { IsIndexOfInstall install.now index }
-    ensures { IsIndexOfInstall install.now result.0 }
+    ensures index { IsIndexOfInstall install.now result.0 }
+    ensures fewer { IsTrue result.1 → IsLess (index_left result.0) (index_left index) }
 {
     match index {
         IndexPart::Entries(builder) => (take_slice(install, builder), true),
@@ -98,7 +104,8 @@ fn made_on(install: &ReadInstall, index: IndexPart) -> (IndexPart, bool)
 pub(crate) fn make_part(install: &ReadInstall, index: &mut IndexPart) -> bool
     requires known { IsReadInstall install.now }
     requires index { IsIndexOfInstall install.now index.old }
-    ensures { IsIndexOfInstall install.now index.new }
+    ensures index { IsIndexOfInstall install.now index.new }
+    ensures fewer { IsTrue result → IsLess (index_left index.new) (index_left index.old) }
 {
     let before = mem::replace(index, IndexPart::Lost);
     let made = made_on(install, before);

@@ -1,5 +1,5 @@
 // What a desk prepares of a change that may come.
-ghost use Rattle.std.specs.Prelude.{◌≡◌, ◌≢◌, ◌⊎◌, ◌||◌, true, false, IsTrue, IfErr, IfSome, List, Ok, OnErr, Option, Some};
+ghost use Rattle.std.specs.Prelude.{◌≡◌, ◌≢◌, ◌⊎◌, ◌||◌, true, false, IsTrue, IfErr, IfSome, List, None, Ok, OnErr, Option, Some};
 ghost use Rattle.sqlite.specs.Disk.{MoreFaults};
 ghost use Rattle.sqlite.specs.Effect.{Database};
 ghost use Rattle.sqlite.specs.State.{HasCleanDisk, KeepsCommit, Survives};
@@ -15,6 +15,8 @@ ghost use Rattle.store_holdings.specs.Committed.{IsCommitted, IsTreesOf};
 ghost use Rattle.dict_desk.specs.Faults.{has_closed_by, has_failed_by};
 ghost use Rattle.store_desk.specs.Causes.{FailsToPrepare};
 ghost use Rattle.store_desk.specs.Desk.{HasFiled, KeepsBeside, LeavesOneOf, Shows, has_failed, is_closed};
+ghost use Rattle.store_commands.specs.Left.{IsLess};
+ghost use Rattle.store_desk.specs.Left.{coming_left, install_left, reading_left};
 ghost use Rattle.store_desk.specs.Prepared.{HasCommittedSame, last_behind};
 
 use crate::adopting::is_whole;
@@ -23,6 +25,7 @@ use crate::desk::Desk;
 use crate::kept::{forget_behind, forget_by};
 use crate::last::LastCall;
 use crate::laws::committed_may_stay;
+use crate::orphans::Orphans;
 use crate::withdrawing::let_go;
 use dict_catalogue::{Command, Summary};
 use dict_desk::{Answered, Fault, Preparer};
@@ -49,12 +52,14 @@ fn file_next<S: Alter>(
     conn: &mut Connection<S>,
     summary: &Summary,
     filing: &mut Option<Coming>,
-    orphans: &mut Vec<u64>,
+    orphans: &mut Orphans,
 ) -> Result<bool, Fault>
     requires autocommit { conn.old.in_transaction ≡ false }
     requires holds { HoldsBy (summary_shown summary.now) (state S.Store conn.old) }
     requires filed { HasFiled filing.old (state S.Store conn.old) }
     ensures filed { HasFiled filing.new (state S.Store conn.new) }
+    ensures fewer { result ≡ Ok true → IsLess (coming_left filing.new) (coming_left filing.old) }
+    ensures orphans { result ≡ Ok true → orphans.new ≡ orphans.old }
     ensures made { HasCleanDisk (state S.Store conn.new) → result ≡ Ok true → (conn.new ≡ conn.old) ⊎ IsCommitted (Remains (summary_shown summary.now) (state S.Store conn.old).committed) (state S.Store conn.new) }
     ensures remains { HasCleanDisk (state S.Store conn.new) → IsTrue (state S.Store conn.new).is_open → Remains (summary_shown summary.now) (state S.Store conn.old).committed (state S.Store conn.new).committed }
     ensures settled { HasCleanDisk (state S.Store conn.new) → IsTrue (state S.Store conn.new).is_open → (state S.Store conn.new).now ≡ (state S.Store conn.new).committed }
@@ -83,7 +88,8 @@ fn file_next<S: Alter>(
 // What is to be filed of a draft of which all is read, planned over this summary. It is none where a test fails. The draft is used up.
 fn plan_next(alloc: Global, summary: &Summary, draft: &mut Option<Draft>) -> Option<Coming>
     requires { IsInRange (summary_shown summary.now) }
-    ensures { IfSome result (λ f. IsDrawnUp f × HasNoneFiled f) }
+    ensures coming { IfSome result (λ coming. IsDrawnUp coming.filing × HasNoneFiled coming.filing) }
+    ensures used { draft.new ≡ None }
 {
     let Some(whole) = draft.take() else {
         return None;
@@ -108,7 +114,10 @@ enum DraftStep {
 }
 
 // Reads a bounded part of a draft.
-fn step_draft(draft: &mut Option<Draft>) -> DraftStep {
+fn step_draft(draft: &mut Option<Draft>) -> DraftStep
+    ensures more { result ≡ DraftStep.More → IsLess (reading_left draft.new) (reading_left draft.old) }
+    ensures whole { result ≡ DraftStep.Whole → IsLess (reading_left None) (reading_left draft.old) }
+{
     let Some(reading) = draft else {
         return DraftStep::Stays;
     };
@@ -137,7 +146,8 @@ fn read_next(
     filing: &mut Option<Coming>,
 ) -> Result<bool, Fault>
     requires range { IsInRange (summary_shown summary.now) }
-    ensures filed { (filing.new ≡ filing.old) ⊎ IfSome filing.new (λ f. IsDrawnUp f × HasNoneFiled f) }
+    ensures filed { (filing.new ≡ filing.old) ⊎ IfSome filing.new (λ coming. IsDrawnUp coming.filing × HasNoneFiled coming.filing) }
+    ensures fewer { result ≡ Ok true → IsLess (install_left draft.new filing.new) (install_left draft.old filing.old) }
     ensures kinds { IfErr result (λ fault. fault ≡ Fault.Memory) }
 {
     match step_draft(draft) {
@@ -158,13 +168,15 @@ fn prepare_next<S: Alter>(
     summary: &Summary,
     draft: &mut Option<Draft>,
     filing: &mut Option<Coming>,
-    orphans: &mut Vec<u64>,
+    orphans: &mut Orphans,
 ) -> Result<bool, Fault>
     requires range { IsInRange (summary_shown summary.now) }
     requires autocommit { conn.old.in_transaction ≡ false }
     requires holds { HoldsBy (summary_shown summary.now) (state S.Store conn.old) }
     requires filed { HasFiled filing.old (state S.Store conn.old) }
     ensures filed { HasFiled filing.new (state S.Store conn.new) }
+    ensures fewer { result ≡ Ok true → IsLess (install_left draft.new filing.new) (install_left draft.old filing.old) }
+    ensures orphans { result ≡ Ok true → orphans.new ≡ orphans.old }
     ensures made { HasCleanDisk (state S.Store conn.new) → result ≡ Ok true → (conn.new ≡ conn.old) ⊎ IsCommitted (Remains (summary_shown summary.now) (state S.Store conn.old).committed) (state S.Store conn.new) }
     ensures remains { HasCleanDisk (state S.Store conn.new) → IsTrue (state S.Store conn.new).is_open → Remains (summary_shown summary.now) (state S.Store conn.old).committed (state S.Store conn.new).committed }
     ensures settled { HasCleanDisk (state S.Store conn.new) → IsTrue (state S.Store conn.new).is_open → (state S.Store conn.new).now ≡ (state S.Store conn.new).committed }
@@ -197,7 +209,8 @@ impl<S: Alter + Drop> Desk<S> {
     // Prepares a bounded part of what was noted: reads it, or files it. Whether there is more.
     pub(crate) fn prepare_part(&mut self) -> Result<bool, Fault>
         requires { is_closed self.old.last ≡ false }
-        ensures prepared { HasCleanDisk (state S.Store self.new.conn) → result ≡ Ok true → (self.new ≡ self.old) ⊎ HasCommittedSame S.Store self.old self.new }
+        ensures prepared { HasCleanDisk (state S.Store self.new.conn) → result ≡ Ok true → (self.new ≡ record self.old { counts = self.new.counts }) ⊎ HasCommittedSame S.Store self.old self.new }
+        ensures fewer { result ≡ Ok true → IsLess self.new.counts.left self.old.counts.left }
         ensures trust { HasCleanDisk (state S.Store self.new.conn) → HasCleanDisk (state S.Store self.old.conn) }
         ensures shows { HasCleanDisk (state S.Store self.new.conn) → (M : Catalogue) → Shows S.Store self.old M → Shows S.Store self.new M }
         ensures leaves { (ms : List (Option Catalogue)) → LeavesOneOf S.Store self.old ms → LeavesOneOf S.Store self.new ms }
@@ -228,12 +241,13 @@ impl<S: Alter + Drop> Desk<S> {
 /// connection out, comes first. Before an install is filed, and before every other command, what earlier ones left is tidied up: parts of no edition are
 /// taken out.
 impl<S: Alter + Drop> Preparer for Desk<S> {
-    // No transaction is open, and all that is seen of the desk is as it was; or it failed, and its connection is.
-    ghost expects = { λ old _ desk. (desk.conn.in_transaction ≡ false) × ((desk ≡ old) ⊎ ((has_failed desk.last ≡ true) × (desk.conn ≡ old.conn))) };
+    // No transaction is open, and all that is seen of the desk is as it was, but for what is left to prepare; or it failed, and its connection is.
+    ghost expects = { λ old _ desk. (desk.conn.in_transaction ≡ false) × ((desk ≡ record old { counts = desk.counts }) ⊎ ((has_failed desk.last ≡ true) × (desk.conn ≡ old.conn))) };
 
-    // Where there is more to prepare, all that is seen of the desk is as it was; or what an install left in the log was copied, parts of no edition
-    // were taken out, or some of the edition that comes were filed, by a commit that changes nothing that is held.
-    ghost prepares = { λ old result desk. HasCleanDisk (state S.Store desk.conn) → result ≡ Ok true → (desk ≡ old) ⊎ HasCommittedSame S.Store old desk };
+    // Where there is more to prepare, less is left than was; and all else that is seen of the desk is as it was, or what an install left in the
+    // log was copied, parts of no edition were taken out, or some of the edition that comes were filed, by a commit that changes nothing that is held.
+    ghost prepares = { λ old result desk. (result ≡ Ok true → IsLess desk.counts.left old.counts.left)
+        × (HasCleanDisk (state S.Store desk.conn) → result ≡ Ok true → (desk ≡ record old { counts = desk.counts }) ⊎ HasCommittedSame S.Store old desk) };
 
     ghost fails_to_prepare = { FailsToPrepare S.Store };
 

@@ -13,14 +13,16 @@ ghost use Rattle.store_commands.specs.Marking.{Remains};
 ghost use Rattle.dict_desk.specs.Faults.{has_closed_by, has_failed_by};
 ghost use Rattle.store_desk.specs.Causes.{FailsToPrepare};
 ghost use Rattle.store_desk.specs.Desk.{KeepsBeside, LeavesOneOf, Shows, has_failed, is_closed};
+ghost use Rattle.store_commands.specs.Left.{IsLess};
+ghost use Rattle.store_desk.specs.Left.{orphans_left};
 ghost use Rattle.store_desk.specs.Prepared.{HasCommittedSame};
 
 use crate::adopting::is_whole;
 use crate::desk::Desk;
 use crate::kept::forget_behind;
 use crate::laws::committed_may_stay;
+use crate::orphans::Orphans;
 use crate::preparing::{last_behind, told_of};
-use crate::withdrawing::let_go;
 use dict_catalogue::{Item, Summary, edition_numbers};
 use dict_desk::Fault;
 use sqlite::{Alter, Connection};
@@ -30,16 +32,16 @@ use store_commands::{Applied, take_orphans};
 // Notes the numbers of the editions that were there before and are not after; none is noted any more that an edition has then.
 fn note_numbers(
     alloc: Global,
-    orphans: &mut Vec<u64>,
+    orphans: &mut Orphans,
     before: &[Item],
     after: &[Item],
 ) -> Result<(), AllocError> {
     let gone = edition_numbers(alloc, before)?;
     let there = edition_numbers(alloc, after)?;
-    orphans.retain(|number| !there.contains(number));
+    orphans.forget(&there);
     for number in &gone {
         if !there.contains(number) {
-            orphans.push(*number)?;
+            orphans.note(*number);
         }
     }
     Ok(())
@@ -49,7 +51,7 @@ fn note_numbers(
 // for the next opening to find.
 pub(crate) fn note_gone(
     alloc: Global,
-    orphans: &mut Vec<u64>,
+    orphans: &mut Orphans,
     before: &[Item],
     outcome: &Result<Applied, Fault>,
 ) {
@@ -61,22 +63,16 @@ pub(crate) fn note_gone(
     }
 }
 
-// Takes the last number off, if it is done with.
-fn drop_last(orphans: &mut Vec<u64>, is_done: bool) {
-    if is_done {
-        orphans.pop();
-    }
-}
-
 // Takes out some parts of no edition, those of the last of these numbers, as `take_orphans` does. Whether something was committed: the fault,
 // where one came. A number of which nothing is left is taken off, and one for which it is refused.
 fn take_last<S: Alter>(
     conn: &mut Connection<S>,
     summary: &Summary,
-    orphans: &mut Vec<u64>,
+    orphans: &mut Orphans,
 ) -> Result<bool, Fault>
     requires autocommit { conn.old.in_transaction ≡ false }
     requires holds { HoldsBy (summary_shown summary.now) (state S.Store conn.old) }
+    ensures fewer { result ≡ Ok true → IsLess (orphans_left orphans.new) (orphans_left orphans.old) }
     ensures made { HasCleanDisk (state S.Store conn.new) → result ≡ Ok true → IsCommitted (Remains (summary_shown summary.now) (state S.Store conn.old).committed) (state S.Store conn.new) }
     ensures remains { HasCleanDisk (state S.Store conn.new) → IsTrue (state S.Store conn.new).is_open → Remains (summary_shown summary.now) (state S.Store conn.old).committed (state S.Store conn.new).committed }
     ensures settled { HasCleanDisk (state S.Store conn.new) → IsTrue (state S.Store conn.new).is_open → (state S.Store conn.new).now ≡ (state S.Store conn.new).committed }
@@ -87,17 +83,18 @@ fn take_last<S: Alter>(
     ensures ended { conn.new.in_transaction ≡ false }
     ensures crash { Survives (state S.Store conn.old) (state S.Store conn.new) (λ trees. IsTrue (state S.Store conn.old).is_open × IsTreesOf (Remains (summary_shown summary.now) (state S.Store conn.old).committed) trees) }
 {
-    let Some(last) = orphans.last() else {
+    let Some(number) = orphans.last() else {
         return Ok(false);
     };
-    let number = *last;
     match take_orphans(conn, summary, number) {
         Ok(more) => {
-            drop_last(orphans, !more);
+            orphans.pass(more);
             Ok(true)
         }
         Err(why) => {
-            drop_last(orphans, why.is_none());
+            if why.is_none() {
+                orphans.pass(false);
+            }
             told_of(why)
         }
     }
@@ -109,10 +106,11 @@ impl<S: Alter + Drop> Desk<S> {
         !self.orphans.is_empty() && self.filing.is_none()
     }
 
-    // Takes out some parts of no edition. Whether something was committed: then there may be more to prepare. Nothing is filed, or it is let go of.
+    // Takes out some parts of no edition, unless parts are filed. Whether something was committed: then there may be more to prepare.
     pub(crate) fn take_orphans_next(&mut self) -> Result<bool, Fault>
         requires { is_closed self.old.last ≡ false }
         ensures committed { HasCleanDisk (state S.Store self.new.conn) → result ≡ Ok true → HasCommittedSame S.Store self.old self.new }
+        ensures fewer { result ≡ Ok true → IsLess self.new.counts.left self.old.counts.left }
         ensures trust { HasCleanDisk (state S.Store self.new.conn) → HasCleanDisk (state S.Store self.old.conn) }
         ensures shows { HasCleanDisk (state S.Store self.new.conn) → (M : Catalogue) → Shows S.Store self.old M → Shows S.Store self.new M }
         ensures leaves { (ms : List (Option Catalogue)) → LeavesOneOf S.Store self.old ms → LeavesOneOf S.Store self.new ms }
@@ -122,7 +120,9 @@ impl<S: Alter + Drop> Desk<S> {
         ensures failed { has_failed self.new.last ≡ (has_failed self.old.last || has_failed_by result) }
         ensures closes { is_closed self.new.last ≡ (is_closed self.old.last || has_closed_by result) }
     {
-        let_go(&mut self.filing, &mut self.orphans);
+        if self.filing.is_some() {
+            return Ok(false);
+        }
         is_whole(&self.conn);
         committed_may_stay(&self.conn);
         let outcome = take_last(&mut self.conn, &self.summary, &mut self.orphans);

@@ -5,26 +5,27 @@ ghost use Rattle.store_desk.specs.Desk.{is_closed};
 use crate::coming::Coming;
 use crate::desk::Desk;
 use crate::last::LastCall;
+use crate::orphans::Orphans;
 use dict_desk::Fault;
 use sqlite::Alter;
 
-// Notes the number of what is filed: parts of it are left, of no edition. Where memory is refused for it, it is left out, for the next opening to
-// find.
-fn note_filed(orphans: &mut Vec<u64>, filing: &Option<Coming>) {
+// Notes the number of what is filed: parts of it are left, of no edition.
+fn note_filed(orphans: &mut Orphans, filing: &Option<Coming>)
+    ensures { filing.now ≡ None → orphans.new ≡ orphans.old }
+{
     let Some(coming) = filing else {
         return;
     };
     let Some(number) = coming.number_filed() else {
         return;
     };
-    if !orphans.contains(&number) {
-        let _ = orphans.push(number);
-    }
+    orphans.note(number);
 }
 
 // Lets go of what is filed. Its parts are left, of no edition, and its number is noted.
-pub(crate) fn let_go(filing: &mut Option<Coming>, orphans: &mut Vec<u64>)
-    ensures { filing.new ≡ None }
+pub(crate) fn let_go(filing: &mut Option<Coming>, orphans: &mut Orphans)
+    ensures gone { filing.new ≡ None }
+    ensures same { filing.old ≡ None → orphans.new ≡ orphans.old }
 {
     note_filed(orphans, filing);
     drop(filing.take());
@@ -33,7 +34,7 @@ pub(crate) fn let_go(filing: &mut Option<Coming>, orphans: &mut Vec<u64>)
 impl<S: Alter + Drop> Desk<S> {
     // Lets go of what is prepared: what is read, and what is filed.
     pub(crate) fn let_go_of_prepared(&mut self)
-        ensures { self.new ≡ self.old }
+        ensures { self.new ≡ record self.old { counts = self.new.counts } }
     {
         drop(self.draft.take());
         let_go(&mut self.filing, &mut self.orphans);
@@ -41,10 +42,10 @@ impl<S: Alter + Drop> Desk<S> {
 
     // Lets go of what is prepared. `Closed`: the desk was so before. Nothing is written.
     pub(crate) fn withdraw(&mut self) -> Result<(), Fault>
-        ensures same { self.new ≡ self.old }
+        ensures same { self.new ≡ record self.old { counts = self.new.counts } }
         ensures ended { self.new.conn.in_transaction ≡ false }
         ensures open { OnOk result (is_closed self.old.last ≡ false) }
-        ensures closed { IfErr result (λ fault. (fault ≡ Fault.Closed) × (is_closed self.old.last ≡ true)) }
+        ensures closed { IfErr result (λ fault. (fault ≡ Fault.Closed) × (is_closed self.old.last ≡ true) × (self.new ≡ self.old)) }
     {
         if self.last == LastCall::Closed {
             return Err(Fault::Closed);

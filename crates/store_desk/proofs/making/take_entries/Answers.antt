@@ -10,5 +10,5 @@ loop-place-init c = subst (λ (n : ℕ). c.args.builder.now ≡ map entry_of (ta
 pub loop-place-preserved : goal.loop-place-preserved
 loop-place-preserved c = entry_next c.args.reading.now.lines c.loop-place.place (line_read c.in-Some.line) c.loop-place.builder c.push.new.self (sym c.in-Some.ensures) c.loop-place.invariant c.in_ok-push.ensures.pushed
 
-pub returns : goal.returns
-returns c = front_of c.args.reading.now.lines c.loop-place.place c.loop-place.builder (omega arith) c.loop-place.invariant
+pub returns-clause-front : goal.returns-clause-front
+returns-clause-front c = front_of c.args.reading.now.lines c.loop-place.place c.loop-place.builder (omega arith) c.loop-place.invariant

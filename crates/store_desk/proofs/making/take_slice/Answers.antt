@@ -12,12 +12,12 @@ making-requires c =
 pub take_entries-requires-clause-front : goal.take_entries-requires-clause-front
 take_entries-requires-clause-front c = c.requires.index c.in-Some.reading c.in-Some.ensures
 
-pub returns-then-len : goal.returns-then-len
-returns-then-len c = λ other said.
+pub returns-then-len-clause-index : goal.returns-then-len-clause-index
+returns-then-len-clause-index c = λ other said.
     c.making.ensures.same
     ∙ whole_of_any c.args.install.now.came.items c.args.install.now.filing.text.items c.in-Some.reading c.in-Some.ensures c.one_meaning.ensures.one_reading c.args.builder (omega arith)
     (c.requires.index c.in-Some.reading c.in-Some.ensures) other said
 
-pub returns-in-Ok : goal.returns-in-Ok
-returns-in-Ok c =
-    front_of_any c.args.install.now.came.items c.args.install.now.filing.text.items c.in-Some.reading c.in-Some.ensures c.one_meaning.ensures.one_reading c.take_entries.new.builder c.in-Ok.ensures
+pub returns-in-Ok-clause-index : goal.returns-in-Ok-clause-index
+returns-in-Ok-clause-index c =
+    front_of_any c.args.install.now.came.items c.args.install.now.filing.text.items c.in-Some.reading c.in-Some.ensures c.one_meaning.ensures.one_reading c.take_entries.new.builder c.in-Ok.ensures.front

@@ -1,8 +1,10 @@
 use Rattle.std.proofs.Common.{inl, refl}
 use Rattle.sqlite.specs.Held.{state}
 use Rattle.dict_catalogue.specs.Views.{summary_shown}
+use Rattle.store_desk.specs.Left.{coming_left, reading_left}
 use Rattle.store_desk.proofs.CopyLemmas.{CommitsSame, remains_itself}
 use Rattle.store_desk.proofs.DeskLemmas.{survives_itself}
+use Rattle.store_desk.proofs.LeftLemmas.{less_behind}
 use Rattle.store_desk.proofs.PreparingLemmas.{memory_kind, no_disk, read_filed}
 use Rattle.store_desk.proofs.StandingLemmas.{on_err_with}
 use Rattle.store_desk.proofs.preparing.prepare_next.Goals as goal
@@ -30,3 +32,6 @@ returns-then-is_some-clause-kinds g c = memory_kind c.read_next.result c.read_ne
 
 pub returns-then-is_some-clause-crash : goal.returns-then-is_some-clause-crash
 returns-then-is_some-clause-crash g c = survives_itself (state g.S.Store c.args.conn.now) (CommitsSame g.S.Store (summary_shown c.args.summary.now) c.args.conn.now)
+
+pub returns-clause-fewer : goal.returns-clause-fewer
+returns-clause-fewer g c = λ is. less_behind (reading_left c.args.draft.now) (coming_left c.file_next.new.filing) (coming_left c.args.filing.now) (c.file_next.ensures.fewer is)

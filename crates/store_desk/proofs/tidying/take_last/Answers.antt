@@ -19,26 +19,32 @@ returns-in-Ok-clause-remains g c = λ clean live. (c.in-Ok.ensures.made clean).h
 pub returns-in-Ok-clause-settled : goal.returns-in-Ok-clause-settled
 returns-in-Ok-clause-settled g c = λ clean live. (c.in-Ok.ensures.made clean).settled
 
-pub returns-in-Err-clause-made : goal.returns-in-Err-clause-made
-returns-in-Err-clause-made g c = λ clean is. absurd (c.told_of.ensures.never is)
+pub returns-after-is_none-clause-made : goal.returns-after-is_none-clause-made
+returns-after-is_none-clause-made g c = λ clean is. absurd (c.told_of.ensures.never is)
 
-pub returns-in-Err-clause-remains : goal.returns-in-Err-clause-remains
-returns-in-Err-clause-remains g c = λ clean live. remains_still (summary_shown c.args.summary.now) (state g.S.Store c.args.conn.now) (state g.S.Store c.take_orphans.new.conn) (c.in-Err.ensures.stays clean) live
+pub returns-after-is_none-clause-remains : goal.returns-after-is_none-clause-remains
+returns-after-is_none-clause-remains g c = λ clean live. remains_still (summary_shown c.args.summary.now) (state g.S.Store c.args.conn.now) (state g.S.Store c.take_orphans.new.conn) (c.in-Err.ensures.stays clean) live
 
-pub returns-in-Err-clause-settled : goal.returns-in-Err-clause-settled
-returns-in-Err-clause-settled g c = λ clean live.
+pub returns-after-is_none-clause-settled : goal.returns-after-is_none-clause-settled
+returns-after-is_none-clause-settled g c = λ clean live.
     let old = state g.S.Store c.args.conn.now in
     let new = state g.S.Store c.take_orphans.new.conn in
     let stays = c.in-Err.ensures.stays clean in
     stays.settled live (c.requires.holds (clean_before old new c.take_orphans.ensures.crash clean) (stays.was_open live)).1.settled
 
-pub returns-in-Err-clause-keeps : goal.returns-in-Err-clause-keeps
-returns-in-Err-clause-keeps g c = λ clean.
+pub returns-after-is_none-clause-keeps : goal.returns-after-is_none-clause-keeps
+returns-after-is_none-clause-keeps g c = λ clean.
     let stays = c.in-Err.ensures.stays clean in
     on_err_with c.told_of.result (record { was_open = stays.was_open; committed = stays.committed })
 
-pub returns-in-Err-clause-faulted : goal.returns-in-Err-clause-faulted
-returns-in-Err-clause-faulted g c = λ clean. IfErr-weaker c.told_of.result _ _ (λ fault is told. c.in-Err.ensures.faulted clean (is ∙ ap Some told)) c.told_of.ensures.fault
+pub returns-after-is_none-clause-faulted : goal.returns-after-is_none-clause-faulted
+returns-after-is_none-clause-faulted g c = λ clean. IfErr-weaker c.told_of.result _ _ (λ fault is told. c.in-Err.ensures.faulted clean (is ∙ ap Some told)) c.told_of.ensures.fault
 
-pub returns-in-Err-clause-kinds : goal.returns-in-Err-clause-kinds
-returns-in-Err-clause-kinds g c = IfErr-weaker c.told_of.result _ IsOfStore (λ fault is. subst (λ (why : Option Fault). IfSome why IsOfStore) is c.in-Err.ensures.kinds) c.told_of.ensures.fault
+pub returns-after-is_none-clause-kinds : goal.returns-after-is_none-clause-kinds
+returns-after-is_none-clause-kinds g c = IfErr-weaker c.told_of.result _ IsOfStore (λ fault is. subst (λ (why : Option Fault). IfSome why IsOfStore) is c.in-Err.ensures.kinds) c.told_of.ensures.fault
+
+pub returns-in-Ok-clause-fewer : goal.returns-in-Ok-clause-fewer
+returns-in-Ok-clause-fewer g c = λ is. c.pass.ensures
+
+pub returns-after-is_none-clause-fewer : goal.returns-after-is_none-clause-fewer
+returns-after-is_none-clause-fewer g c = λ is. absurd (c.told_of.ensures.never is)

@@ -7,4 +7,4 @@ pub make_part-requires-clause-index : goal.make_part-requires-clause-index
 make_part-requires-clause-index c = c.self.invariant.1
 
 pub invariant_of-self : goal.invariant_of-self
-invariant_of-self c = (c.self.invariant.0, c.make_part.ensures)
+invariant_of-self c = (c.self.invariant.0, c.make_part.ensures.index)

@@ -8,7 +8,7 @@ use Rattle.store_opening.specs.Reading.{HasFailedToRead}
 use Rattle.store_desk.specs.Desk.{DeskState, Shows, is_closed}
 use Rattle.store_desk.specs.Opened.{IsNotHeld, TellsOfDatabase}
 use Rattle.store_desk.proofs.AppliedLemmas.{err_clean}
-use Rattle.store_desk.proofs.DeskLemmas.{desk_on, shows_on}
+use Rattle.store_desk.proofs.DeskLemmas.{desk_on, shows_counted, shows_on}
 use Rattle.store_desk.proofs.desk.Desk.audit.Goals as goal
 
 pub read_committed-outcome-requires-clause-holds : goal.read_committed-outcome-requires-clause-holds
@@ -36,7 +36,8 @@ returns-clause-shows g c = λ clean M shown.
     let before : is_closed c.self.inside.last ≡ false = ap (λ (d : DeskState _). is_closed d.last) (c.self.view_is ∙ c.withdraw.ensures.same) ∙ c.in_ok-withdraw.ensures.open in
     shows_on g.S.Store c.self.inside.conn c.read_committed-outcome.new.conn
     (summary_shown c.self.inside.summary) c.self.inside.filing c.self.inside.last c.last_by-self-inside.result before c.self.invariant.0 c.read_committed-outcome.ensures.survives c.read_committed-outcome.ensures.stays
-    c.self.inside.indexes c.self.inside.texts M (subst (λ (d : DeskState _). Shows g.S.Store d M) (sym (c.self.view_is ∙ c.withdraw.ensures.same)) shown) c.forget_by.new.texts c.forget_by.ensures
+    c.self.inside.indexes c.self.inside.texts M
+    (subst (λ (d : DeskState _). Shows g.S.Store d M) (sym (c.self.view_is ∙ c.withdraw.ensures.same)) (shows_counted g.S.Store c.args.self.now c.withdraw.new.self.counts M shown)) c.forget_by.new.texts c.forget_by.ensures
 
 pub returns-clause-spares : goal.returns-clause-spares
 returns-clause-spares g c =

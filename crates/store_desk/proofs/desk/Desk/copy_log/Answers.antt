@@ -6,9 +6,9 @@ use Rattle.sqlite.specs.State.{HasCleanDisk, KeepsCommit}
 use Rattle.dict_catalogue.specs.Views.{summary_shown}
 use Rattle.dict_desk.specs.Faults.{has_failed_by, has_closed_by}
 use Rattle.dict_desk.specs.declared.fault.Fault.TheVariants.{Disk}
-use Rattle.store_commands.specs.declared.filing.Filing.{Filing}
 use Rattle.store_desk.specs.Desk.{DeskState, HasFiled, Shows, LeavesOneOf, has_failed, is_closed, KeepsBeside}
 use Rattle.store_desk.specs.Prepared.{HasCommittedSame}
+use Rattle.store_desk.specs.Left.{ComingState, counted}
 use Rattle.store_desk.proofs.CopyLemmas.{copied_beside, copied_caused, copied_first, copied_keeps, copied_leaves, copied_rests, copied_same, copied_shows}
 use Rattle.store_desk.proofs.PreparingLemmas.{behind_failed, behind_closed}
 use Rattle.store_desk.proofs.desk.Desk.copy_log.Goals as goal
@@ -24,26 +24,33 @@ invariant_of-self g c =
     let before : is_closed c.self.inside.last ≡ false = ap (λ (d : DeskState _). is_closed d.last) c.self.view_is ∙ c.requires in (
       copied_rests g.S.Store c.self.inside.conn c.copy_over-outcome.new.conn (summary_shown c.self.inside.summary) c.self.inside.filing c.self.inside.last before c.self.invariant.0
           c.copy_over-outcome.ensures.crash c.copy_over-outcome.ensures.lives c.copy_over-outcome.ensures.remains c.last_behind-self-inside.result c.let_go.new.filing
-          c.copy_over-outcome.ensures.settled c.copy_over-outcome.ensures.ended (subst (λ (f : Option Filing). HasFiled f (state g.S.Store c.copy_over-outcome.new.conn)) (sym c.let_go.ensures) tt),
+          c.copy_over-outcome.ensures.settled c.copy_over-outcome.ensures.ended (subst (λ (f : Option ComingState). HasFiled f (state g.S.Store c.copy_over-outcome.new.conn)) (sym c.let_go.ensures.gone) tt),
       copied_keeps (summary_shown c.self.inside.summary) c.self.inside.last c.copy_over-outcome.result c.last_behind-self-inside.result c.last_behind-self-inside.ensures c.self.inside.texts c.forget_behind.new.texts
           c.forget_behind.ensures c.self.invariant.1,
     )
 
 pub returns-clause-committed : goal.returns-clause-committed
 returns-clause-committed g c = λ clean is.
-    let old : DeskState _ = record { conn = c.self.inside.conn; summary = summary_shown c.self.inside.summary; last = c.self.inside.last; indexes = c.self.inside.indexes; texts = c.self.inside.texts; taken = c.self.inside.rows_taken } in
+    let old : DeskState _ = record {
+      conn = c.self.inside.conn;
+      summary = summary_shown c.self.inside.summary;
+      last = c.self.inside.last;
+      indexes = c.self.inside.indexes;
+      texts = c.self.inside.texts;
+      counts = counted c.self.inside.rows_taken c.self.inside.is_log_long c.self.inside.orphans c.self.inside.draft c.self.inside.filing;
+    } in
     let new : DeskState _ = record {
       conn = c.copy_over-outcome.new.conn;
       summary = summary_shown c.self.inside.summary;
       last = c.last_behind-self-inside.result;
       indexes = c.self.inside.indexes;
       texts = c.forget_behind.new.texts;
-      taken = c.self.inside.rows_taken;
+      counts = counted c.self.inside.rows_taken false c.let_go.new.orphans c.self.inside.draft c.let_go.new.filing;
     } in
     subst (λ (d : DeskState _). HasCommittedSame g.S.Store d new) c.self.view_is (record {
       before = c.self.invariant.0.ended;
       ended = c.copy_over-outcome.ensures.ended;
-      same = copied_same old c.copy_over-outcome.new.conn c.last_behind-self-inside.result c.forget_behind.new.texts c.copy_over-outcome.result c.last_behind-self-inside.ensures c.forget_behind.ensures is;
+      same = copied_same old c.copy_over-outcome.new.conn c.last_behind-self-inside.result c.forget_behind.new.texts new.counts c.copy_over-outcome.result c.last_behind-self-inside.ensures c.forget_behind.ensures is;
       done = c.copy_over-outcome.ensures.made clean is;
     })
 
@@ -64,28 +71,42 @@ returns-clause-shows g c = λ clean M shown.
 pub returns-clause-leaves : goal.returns-clause-leaves
 returns-clause-leaves g c = λ ms left.
     let before : is_closed c.self.inside.last ≡ false = ap (λ (d : DeskState _). is_closed d.last) c.self.view_is ∙ c.requires in
-    copied_leaves g.S.Store (record { conn = c.self.inside.conn; summary = summary_shown c.self.inside.summary; last = c.self.inside.last; indexes = c.self.inside.indexes; texts = c.self.inside.texts; taken = c.self.inside.rows_taken })
+    copied_leaves g.S.Store (record {
+      conn = c.self.inside.conn;
+      summary = summary_shown c.self.inside.summary;
+      last = c.self.inside.last;
+      indexes = c.self.inside.indexes;
+      texts = c.self.inside.texts;
+      counts = counted c.self.inside.rows_taken c.self.inside.is_log_long c.self.inside.orphans c.self.inside.draft c.self.inside.filing;
+    })
     (record {
       conn = c.copy_over-outcome.new.conn;
       summary = summary_shown c.self.inside.summary;
       last = c.last_behind-self-inside.result;
       indexes = c.self.inside.indexes;
       texts = c.forget_behind.new.texts;
-      taken = c.self.inside.rows_taken;
+      counts = counted c.self.inside.rows_taken false c.let_go.new.orphans c.self.inside.draft c.let_go.new.filing;
     })
     (c.self.invariant.0.holds before) c.is_whole.ensures.live c.committed_may_stay.ensures c.copy_over-outcome.ensures.crash ms (subst (λ (d : DeskState _). LeavesOneOf g.S.Store d ms) (sym c.self.view_is) left)
 
 pub returns-clause-beside : goal.returns-clause-beside
 returns-clause-beside g c = λ db kept.
     let before : is_closed c.self.inside.last ≡ false = ap (λ (d : DeskState _). is_closed d.last) c.self.view_is ∙ c.requires in
-    copied_beside g.S.Store (record { conn = c.self.inside.conn; summary = summary_shown c.self.inside.summary; last = c.self.inside.last; indexes = c.self.inside.indexes; texts = c.self.inside.texts; taken = c.self.inside.rows_taken })
+    copied_beside g.S.Store (record {
+      conn = c.self.inside.conn;
+      summary = summary_shown c.self.inside.summary;
+      last = c.self.inside.last;
+      indexes = c.self.inside.indexes;
+      texts = c.self.inside.texts;
+      counts = counted c.self.inside.rows_taken c.self.inside.is_log_long c.self.inside.orphans c.self.inside.draft c.self.inside.filing;
+    })
     (record {
       conn = c.copy_over-outcome.new.conn;
       summary = summary_shown c.self.inside.summary;
       last = c.last_behind-self-inside.result;
       indexes = c.self.inside.indexes;
       texts = c.forget_behind.new.texts;
-      taken = c.self.inside.rows_taken;
+      counts = counted c.self.inside.rows_taken false c.let_go.new.orphans c.self.inside.draft c.let_go.new.filing;
     })
     (c.self.invariant.0.holds before) c.is_whole.ensures.live c.committed_may_stay.ensures c.copy_over-outcome.ensures.crash db (subst (λ (d : DeskState _). KeepsBeside g.S.Store d db) (sym c.self.view_is) kept)
 
@@ -108,7 +129,7 @@ returns-clause-caused g c = λ clean.
       last = c.last_behind-self-inside.result;
       indexes = c.self.inside.indexes;
       texts = c.forget_behind.new.texts;
-      taken = c.self.inside.rows_taken;
+      counts = counted c.self.inside.rows_taken false c.let_go.new.orphans c.self.inside.draft c.let_go.new.filing;
     }) c.copy_over-outcome.result c.copy_over-outcome.ensures.kinds
     (subst (λ (d : DeskState _). OnErr c.copy_over-outcome.result (KeepsCommit (state g.S.Store d.conn) (state g.S.Store c.copy_over-outcome.new.conn))) c.self.view_is (c.copy_over-outcome.ensures.keeps clean))
     (subst (λ (d : DeskState _). IfErr c.copy_over-outcome.result (λ fault. fault ≡ Disk → MoreFaults (state g.S.Store d.conn).faults (state g.S.Store c.copy_over-outcome.new.conn).faults)) c.self.view_is

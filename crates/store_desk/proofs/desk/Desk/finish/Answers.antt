@@ -1,6 +1,6 @@
 -- As those of `apply` of a command, at the install of what was read.
 use Rattle.std.proofs.Common.{◌≡◌, true, false, sym, subst, ap, ◌∙◌, arith}
-use Rattle.std.specs.Prelude.{IsTrue, is_some, IfErr, Option, Result}
+use Rattle.std.specs.Prelude.{IsTrue, is_some, IfErr, Result}
 use Rattle.sqlite.specs.Held.{state}
 use Rattle.sqlite.specs.State.{State, HasCleanDisk, Survives}
 use Rattle.sqlite.specs.Tree.{Trees}
@@ -12,15 +12,14 @@ use Rattle.dict_catalogue.specs.declared.reply.Kept.{Kept}
 use Rattle.store_holdings.specs.Committed.{IsTreesOf}
 use Rattle.store_commands.specs.Installs.{install_read}
 use Rattle.store_commands.specs.KeptRecords.{SparesTablesOfOthers}
-use Rattle.store_commands.specs.declared.filing.Filing.{Filing}
 use Rattle.dict_desk.specs.Applying.{Leaves}
-use Rattle.dict_desk.specs.Faults.{IsOfCommand, has_closed_by, has_failed_by, is_failure}
+use Rattle.dict_desk.specs.Faults.{IsOfCommand, has_closed_by, has_failed_by}
 use Rattle.dict_desk.specs.declared.fault.Fault.{Fault}
 use Rattle.store_desk.specs.Applied.{AppliesOver}
-use Rattle.store_desk.specs.Causes.{FailsToApplyTo}
 use Rattle.store_desk.specs.KeptParts.{texts_after}
 use Rattle.store_desk.specs.Desk.{DeskState, IsAtRest, Shows, LeavesOneOf, is_closed, has_failed, KeepsBeside}
 use Rattle.store_desk.specs.declared.last.LastCall.{LastCall}
+use Rattle.store_desk.specs.Left.{counted}
 use Rattle.store_desk.proofs.ActedLemmas.{served_by}
 use Rattle.store_desk.proofs.BesideLemmas.{beside_by}
 use Rattle.store_desk.proofs.CauseLemmas.{fails_to_apply}
@@ -57,7 +56,7 @@ invariant_of-self g c =
     let rests : IsAtRest g.S.Store c.self.inside.last (summary_shown c.self.inside.summary) c.self.inside.filing c.finish_coming.new.conn =
     rests_on g.S.Store c.self.inside.conn c.finish_coming.new.conn (summary_shown c.self.inside.summary) c.self.inside.filing c.self.inside.last c.self.inside.last before c.self.invariant.0
     (none_by c.finish_coming.result c.in_default.not-Some c.finish_coming.ensures.survives) (λ clean. none_by c.finish_coming.result c.in_default.not-Some (c.finish_coming.ensures.stays clean)) (λ _. c.finish_coming.ensures.ended) in (
-      subst (λ (f : Option Filing). IsAtRest g.S.Store c.self.inside.last (summary_shown c.self.inside.summary) f c.finish_coming.new.conn) (sym c.finish_coming.ensures.same) rests,
+      record { limit = rests.limit; ended = rests.ended; range = rests.range; holds = rests.holds; filed = λ open'. c.finish_coming.ensures.same (rests.filed open') },
       c.self.invariant.1,
     )
 
@@ -87,11 +86,11 @@ invariant_of-self-2 g c =
     let summary = summary_shown c.self.inside.summary in
     let it = c.in-Some.ensures.finished in
     let command = install c.args.name.now (edition_of it.0) in
-    let over : AppliesOver g.S.Store summary c.args.id.now command old new c.in-Some.outcome = finished_over g.S.Store summary c.args.id.now c.args.name.now it.0 old new c.in-Some.outcome it.2 in
+    let over : AppliesOver g.S.Store true summary c.args.id.now command old new c.in-Some.outcome = finished_over g.S.Store summary c.args.id.now c.args.name.now it.0 old new c.in-Some.outcome it.2 in
     told_rests g.S.Store old new summary c.self.inside.filing c.self.inside.last c.args.id.now command c.in-Some.outcome before c.self.invariant.0 over
-    c.self.inside.indexes c.finish_coming.new.indexes c.settle.new.indexes c.self.inside.texts c.forget_by.new.texts c.self.inside.rows_taken
+    c.self.inside.indexes c.finish_coming.new.indexes c.settle.new.indexes c.self.inside.texts c.forget_by.new.texts c.args.self.now.counts c.args.self.now.counts
     (summary_shown c.take_over.new.summary) c.last_by-self-inside.result c.take_over.result c.take_over.ensures.after c.last_by-self-inside.ensures c.take_over.ensures.reply
-    c.forget_by.ensures c.self.invariant.1 c.let_go-2.new.filing c.let_go-2.ensures
+    c.forget_by.ensures c.self.invariant.1 c.let_go-2.new.filing c.let_go-2.ensures.gone
 
 pub returns-clause-done : goal.returns-clause-done
 returns-clause-done g c =
@@ -101,9 +100,9 @@ returns-clause-done g c =
     let summary = summary_shown c.self.inside.summary in
     let it = c.in-Some.ensures.finished in
     let command = install c.args.name.now (edition_of it.0) in
-    let over : AppliesOver g.S.Store summary c.args.id.now command old new c.in-Some.outcome = finished_over g.S.Store summary c.args.id.now c.args.name.now it.0 old new c.in-Some.outcome it.2 in
+    let over : AppliesOver g.S.Store true summary c.args.id.now command old new c.in-Some.outcome = finished_over g.S.Store summary c.args.id.now c.args.name.now it.0 old new c.in-Some.outcome it.2 in
     let typed = install_read c.args.name.now it.0 in
-    let after : DeskState _ = record { conn = new; summary = summary_shown c.take_over.new.summary; last = c.last_by-self-inside.result; indexes = c.settle.new.indexes; texts = c.forget_by.new.texts; taken = c.self.inside.rows_taken } in
+    let after : DeskState _ = record { conn = new; summary = summary_shown c.take_over.new.summary; last = c.last_by-self-inside.result; indexes = c.settle.new.indexes; texts = c.forget_by.new.texts; counts = c.args.self.now.counts } in
     let texts = c.forget_by.ensures ∙ ap (λ (l : LastCall). texts_after l c.self.inside.texts) c.last_by-self-inside.ensures in (
       it.0,
       it.1,
@@ -112,33 +111,38 @@ returns-clause-done g c =
             let first : HasCleanDisk (state g.S.Store old) = omega (arith, over.crash.clean, clean) in
             let was = subst (λ desk. Shows g.S.Store desk M) (sym c.self.view_is) shown in
             told_applies g.S.Store old new summary c.self.inside.filing c.self.inside.last c.args.id.now command c.in-Some.outcome before c.self.invariant.0 over
-            c.self.inside.indexes c.finish_coming.new.indexes c.settle.new.indexes c.self.inside.texts c.forget_by.new.texts c.self.inside.rows_taken
+            c.self.inside.indexes c.finish_coming.new.indexes c.settle.new.indexes c.self.inside.texts c.forget_by.new.texts _ _
             (summary_shown c.take_over.new.summary) c.last_by-self-inside.result c.take_over.result c.take_over.ensures.after c.last_by-self-inside.ensures c.take_over.ensures.reply
             clean M was
             (λ clean.
-            served_by g.S.Store old new summary c.self.inside.last c.args.id.now typed before c.self.inside.indexes c.finish_coming.new.indexes c.settle.new.indexes c.self.inside.texts c.forget_by.new.texts c.self.invariant.1.made
+            served_by g.S.Store old new summary c.self.inside.last c.args.id.now typed before c.self.inside.indexes c.finish_coming.new.indexes c.settle.new.indexes c.self.inside.texts c.forget_by.new.texts _ c.self.invariant.1.made
             c.saturating_add-number.result c.saturating_add-number.ensures
             it.3 M was clean first (λ live. (c.self.invariant.0.holds before first live).1.settled) c.in-Some.outcome over c.settle.ensures.settled texts (it.2.installed clean) (it.2.stays clean));
         left = λ clean M shown.
             subst (λ desk. Leaves (LeavesOneOf g.S.Store desk) (LeavesOneOf g.S.Store after) (is_some (kept_under M.kept c.args.id.now)) (step M c.args.id.now command).catalogue c.take_over.result) c.self.view_is
             (told_leaves g.S.Store old new summary c.self.inside.filing c.self.inside.last c.args.id.now command c.in-Some.outcome before c.self.invariant.0 over
-            c.self.inside.indexes c.finish_coming.new.indexes c.settle.new.indexes c.self.inside.texts c.forget_by.new.texts c.self.inside.rows_taken
+            c.self.inside.indexes c.finish_coming.new.indexes c.settle.new.indexes c.self.inside.texts c.forget_by.new.texts _ c.args.self.now.counts
             (summary_shown c.take_over.new.summary) c.last_by-self-inside.result c.take_over.result c.take_over.ensures.after c.last_by-self-inside.ensures c.take_over.ensures.reply
             clean M (subst (λ desk. Shows g.S.Store desk M) (sym c.self.view_is) shown));
         spared = λ ms left.
             told_spares g.S.Store old new summary c.self.inside.filing c.self.inside.last c.args.id.now command c.in-Some.outcome before c.self.invariant.0 over
-            c.self.inside.indexes c.finish_coming.new.indexes c.settle.new.indexes c.self.inside.texts c.forget_by.new.texts c.self.inside.rows_taken
+            c.self.inside.indexes c.finish_coming.new.indexes c.settle.new.indexes c.self.inside.texts c.forget_by.new.texts c.args.self.now.counts c.args.self.now.counts
             (summary_shown c.take_over.new.summary) c.last_by-self-inside.result c.take_over.result c.take_over.ensures.after c.last_by-self-inside.ensures c.take_over.ensures.reply
             ms (subst (λ desk. LeavesOneOf g.S.Store desk ms) (sym c.self.view_is) left);
         failed = λ clean.
-            subst (λ desk. IfErr c.take_over.result (λ fault. is_failure fault ≡ true → FailsToApplyTo g.S.Store desk (record { id = c.args.id.now; command = command }) after fault)) c.self.view_is
-            (fails_to_apply g.S.Store (record { conn = old; summary = summary; last = c.self.inside.last; indexes = c.self.inside.indexes; texts = c.self.inside.texts; taken = c.self.inside.rows_taken }) c.args.id.now command after
-            c.in-Some.outcome c.take_over.result c.take_over.ensures.reply over.kinds (over.failed clean));
+            fails_to_apply g.S.Store (record {
+              conn = old;
+              summary = summary;
+              last = c.self.inside.last;
+              indexes = c.self.inside.indexes;
+              texts = c.self.inside.texts;
+              counts = counted c.self.inside.rows_taken c.self.inside.is_log_long c.self.inside.orphans c.self.inside.draft c.self.inside.filing;
+            }) c.args.id.now command _ true (λ _. c.in-Some.ensures.begun) c.args.self.now c.self.view_is c.in-Some.outcome c.take_over.result c.take_over.ensures.reply over.kinds (over.failed clean);
         others = λ clean live. subst (λ (d : DeskState _). SparesTablesOfOthers (state g.S.Store d.conn).committed (state g.S.Store new).committed) c.self.view_is
             (others_by c.in-Some.outcome (state g.S.Store old).committed (state g.S.Store new).committed (over.others clean live) (it.2.stays clean live));
         beside = subst (λ (d : DeskState _). Survives (state g.S.Store d.conn) (state g.S.Store new) (LeftBeside (state g.S.Store d.conn))) c.self.view_is over.beside;
         keeps = λ db kept.
-            beside_by g.S.Store (record { conn = old; summary = summary; last = c.self.inside.last; indexes = c.self.inside.indexes; texts = c.self.inside.texts; taken = c.self.inside.rows_taken })
+            beside_by g.S.Store (record { conn = old; summary = summary; last = c.self.inside.last; indexes = c.self.inside.indexes; texts = c.self.inside.texts; counts = c.args.self.now.counts })
             after (c.self.invariant.0.holds before) c.is_whole.ensures.live
             c.committed_may_stay.ensures over.beside db (subst (λ (d : DeskState _). KeepsBeside g.S.Store d db) (sym c.self.view_is) kept);
       },

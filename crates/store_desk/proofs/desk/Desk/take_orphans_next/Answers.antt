@@ -1,16 +1,18 @@
-use Rattle.std.proofs.Common.{◌≡◌, ◌||◌, false, sym, ap, subst, ◌∙◌}
-use Rattle.std.specs.Prelude.{IfErr, OnErr, Option}
+use Rattle.std.proofs.Common.{◌≡◌, ◌||◌, false, inr, ◌∷◌, ◌++◌, refl, sym, ap, subst, ◌∙◌}
+use Rattle.std.specs.Prelude.{IfErr, OnErr}
 use Rattle.sqlite.specs.Held.{state}
 use Rattle.sqlite.specs.Disk.{MoreFaults}
 use Rattle.sqlite.specs.State.{HasCleanDisk, KeepsCommit}
 use Rattle.dict_catalogue.specs.Views.{summary_shown}
 use Rattle.dict_desk.specs.Faults.{has_failed_by, has_closed_by}
 use Rattle.dict_desk.specs.declared.fault.Fault.TheVariants.{Disk}
-use Rattle.store_commands.specs.declared.filing.Filing.{Filing}
-use Rattle.store_desk.specs.Desk.{DeskState, HasFiled, Shows, LeavesOneOf, has_failed, is_closed, KeepsBeside}
+use Rattle.store_desk.specs.Desk.{DeskState, Shows, LeavesOneOf, has_failed, is_closed, KeepsBeside}
 use Rattle.store_desk.specs.Prepared.{HasCommittedSame}
+use Rattle.store_commands.specs.Left.{IsLess}
+use Rattle.store_desk.specs.Left.{counted, install_left, log_left, orphans_left}
 use Rattle.store_desk.proofs.CopyLemmas.{copied_beside, copied_caused, copied_first, copied_keeps, copied_leaves, copied_rests, copied_same, copied_shows}
-use Rattle.store_desk.proofs.PreparingLemmas.{behind_failed, behind_closed}
+use Rattle.store_desk.proofs.LeftLemmas.{less_front}
+use Rattle.store_desk.proofs.PreparingLemmas.{behind_failed, behind_closed, none_filed}
 use Rattle.store_desk.proofs.desk.Desk.take_orphans_next.Goals as goal
 
 pub take_last-outcome-requires-clause-autocommit : goal.take_last-outcome-requires-clause-autocommit
@@ -23,29 +25,44 @@ pub invariant_of-self : goal.invariant_of-self
 invariant_of-self g c =
     let before : is_closed c.self.inside.last ≡ false = ap (λ (d : DeskState _). is_closed d.last) c.self.view_is ∙ c.requires in (
       copied_rests g.S.Store c.self.inside.conn c.take_last-outcome.new.conn (summary_shown c.self.inside.summary) c.self.inside.filing c.self.inside.last before c.self.invariant.0
-          c.take_last-outcome.ensures.crash c.take_last-outcome.ensures.lives c.take_last-outcome.ensures.remains c.last_behind-self-inside.result c.let_go.new.filing
-          c.take_last-outcome.ensures.settled c.take_last-outcome.ensures.ended (subst (λ (f : Option Filing). HasFiled f (state g.S.Store c.take_last-outcome.new.conn)) (sym c.let_go.ensures) tt),
+          c.take_last-outcome.ensures.crash c.take_last-outcome.ensures.lives c.take_last-outcome.ensures.remains c.last_behind-self-inside.result c.self.inside.filing
+          c.take_last-outcome.ensures.settled c.take_last-outcome.ensures.ended (none_filed c.self.inside.filing (state g.S.Store c.take_last-outcome.new.conn) (sym c.is_some.ensures ∙ c.if-is_some.false)),
       copied_keeps (summary_shown c.self.inside.summary) c.self.inside.last c.take_last-outcome.result c.last_behind-self-inside.result c.last_behind-self-inside.ensures c.self.inside.texts c.forget_behind.new.texts
           c.forget_behind.ensures c.self.invariant.1,
     )
 
 pub returns-clause-committed : goal.returns-clause-committed
 returns-clause-committed g c = λ clean is.
-    let old : DeskState _ = record { conn = c.self.inside.conn; summary = summary_shown c.self.inside.summary; last = c.self.inside.last; indexes = c.self.inside.indexes; texts = c.self.inside.texts; taken = c.self.inside.rows_taken } in
+    let old : DeskState _ = record {
+      conn = c.self.inside.conn;
+      summary = summary_shown c.self.inside.summary;
+      last = c.self.inside.last;
+      indexes = c.self.inside.indexes;
+      texts = c.self.inside.texts;
+      counts = counted c.self.inside.rows_taken c.self.inside.is_log_long c.self.inside.orphans c.self.inside.draft c.self.inside.filing;
+    } in
     let new : DeskState _ = record {
       conn = c.take_last-outcome.new.conn;
       summary = summary_shown c.self.inside.summary;
       last = c.last_behind-self-inside.result;
       indexes = c.self.inside.indexes;
       texts = c.forget_behind.new.texts;
-      taken = c.self.inside.rows_taken;
+      counts = counted c.self.inside.rows_taken c.self.inside.is_log_long c.take_last-outcome.new.orphans c.self.inside.draft c.self.inside.filing;
     } in
     subst (λ (d : DeskState _). HasCommittedSame g.S.Store d new) c.self.view_is (record {
       before = c.self.invariant.0.ended;
       ended = c.take_last-outcome.ensures.ended;
-      same = copied_same old c.take_last-outcome.new.conn c.last_behind-self-inside.result c.forget_behind.new.texts c.take_last-outcome.result c.last_behind-self-inside.ensures c.forget_behind.ensures is;
+      same = copied_same old c.take_last-outcome.new.conn c.last_behind-self-inside.result c.forget_behind.new.texts new.counts c.take_last-outcome.result c.last_behind-self-inside.ensures c.forget_behind.ensures is;
       done = c.take_last-outcome.ensures.made clean is;
     })
+
+pub returns-clause-fewer : goal.returns-clause-fewer
+returns-clause-fewer g c = λ is.
+    let install = install_left c.self.inside.draft c.self.inside.filing in
+    let later = orphans_left c.take_last-outcome.new.orphans in
+    let long = log_left c.self.inside.is_log_long in
+    subst (λ (d : DeskState _). IsLess (long ∷ (later ++ install)) d.counts.left) c.self.view_is
+    (inr (refl, less_front later (orphans_left c.self.inside.orphans) install install (c.take_last-outcome.ensures.fewer is)))
 
 pub returns-clause-trust : goal.returns-clause-trust
 returns-clause-trust g c = λ clean.
@@ -64,28 +81,42 @@ returns-clause-shows g c = λ clean M shown.
 pub returns-clause-leaves : goal.returns-clause-leaves
 returns-clause-leaves g c = λ ms left.
     let before : is_closed c.self.inside.last ≡ false = ap (λ (d : DeskState _). is_closed d.last) c.self.view_is ∙ c.requires in
-    copied_leaves g.S.Store (record { conn = c.self.inside.conn; summary = summary_shown c.self.inside.summary; last = c.self.inside.last; indexes = c.self.inside.indexes; texts = c.self.inside.texts; taken = c.self.inside.rows_taken })
+    copied_leaves g.S.Store (record {
+      conn = c.self.inside.conn;
+      summary = summary_shown c.self.inside.summary;
+      last = c.self.inside.last;
+      indexes = c.self.inside.indexes;
+      texts = c.self.inside.texts;
+      counts = counted c.self.inside.rows_taken c.self.inside.is_log_long c.self.inside.orphans c.self.inside.draft c.self.inside.filing;
+    })
     (record {
       conn = c.take_last-outcome.new.conn;
       summary = summary_shown c.self.inside.summary;
       last = c.last_behind-self-inside.result;
       indexes = c.self.inside.indexes;
       texts = c.forget_behind.new.texts;
-      taken = c.self.inside.rows_taken;
+      counts = counted c.self.inside.rows_taken c.self.inside.is_log_long c.take_last-outcome.new.orphans c.self.inside.draft c.self.inside.filing;
     })
     (c.self.invariant.0.holds before) c.is_whole.ensures.live c.committed_may_stay.ensures c.take_last-outcome.ensures.crash ms (subst (λ (d : DeskState _). LeavesOneOf g.S.Store d ms) (sym c.self.view_is) left)
 
 pub returns-clause-beside : goal.returns-clause-beside
 returns-clause-beside g c = λ db kept.
     let before : is_closed c.self.inside.last ≡ false = ap (λ (d : DeskState _). is_closed d.last) c.self.view_is ∙ c.requires in
-    copied_beside g.S.Store (record { conn = c.self.inside.conn; summary = summary_shown c.self.inside.summary; last = c.self.inside.last; indexes = c.self.inside.indexes; texts = c.self.inside.texts; taken = c.self.inside.rows_taken })
+    copied_beside g.S.Store (record {
+      conn = c.self.inside.conn;
+      summary = summary_shown c.self.inside.summary;
+      last = c.self.inside.last;
+      indexes = c.self.inside.indexes;
+      texts = c.self.inside.texts;
+      counts = counted c.self.inside.rows_taken c.self.inside.is_log_long c.self.inside.orphans c.self.inside.draft c.self.inside.filing;
+    })
     (record {
       conn = c.take_last-outcome.new.conn;
       summary = summary_shown c.self.inside.summary;
       last = c.last_behind-self-inside.result;
       indexes = c.self.inside.indexes;
       texts = c.forget_behind.new.texts;
-      taken = c.self.inside.rows_taken;
+      counts = counted c.self.inside.rows_taken c.self.inside.is_log_long c.take_last-outcome.new.orphans c.self.inside.draft c.self.inside.filing;
     })
     (c.self.invariant.0.holds before) c.is_whole.ensures.live c.committed_may_stay.ensures c.take_last-outcome.ensures.crash db (subst (λ (d : DeskState _). KeepsBeside g.S.Store d db) (sym c.self.view_is) kept)
 
@@ -108,7 +139,7 @@ returns-clause-caused g c = λ clean.
       last = c.last_behind-self-inside.result;
       indexes = c.self.inside.indexes;
       texts = c.forget_behind.new.texts;
-      taken = c.self.inside.rows_taken;
+      counts = counted c.self.inside.rows_taken c.self.inside.is_log_long c.take_last-outcome.new.orphans c.self.inside.draft c.self.inside.filing;
     }) c.take_last-outcome.result c.take_last-outcome.ensures.kinds
     (subst (λ (d : DeskState _). OnErr c.take_last-outcome.result (KeepsCommit (state g.S.Store d.conn) (state g.S.Store c.take_last-outcome.new.conn))) c.self.view_is (c.take_last-outcome.ensures.keeps clean))
     (subst (λ (d : DeskState _). IfErr c.take_last-outcome.result (λ fault. fault ≡ Disk → MoreFaults (state g.S.Store d.conn).faults (state g.S.Store c.take_last-outcome.new.conn).faults)) c.self.view_is

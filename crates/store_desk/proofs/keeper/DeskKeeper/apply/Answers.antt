@@ -1,5 +1,6 @@
 use Rattle.std.proofs.Common.{◌≡◌, inl, true, false, sym, subst, ap, ◌∙◌, arith, rules}
-use Rattle.std.specs.Prelude.{IsTrue, is_some, IfErr}
+use Rattle.std.specs.Prelude.{IsTrue, is_some}
+use Rattle.std.proofs.lemmas.Bool.{false≢true}
 use Rattle.sqlite.specs.Held.{state}
 use Rattle.sqlite.specs.State.{State, HasCleanDisk, Survives}
 use Rattle.sqlite.specs.Tree.{Trees}
@@ -8,13 +9,13 @@ use Rattle.store_commands.specs.KeptRecords.{SparesTablesOfOthers}
 use Rattle.store_commands.proofs.WriteLemmas.{others_none}
 use Rattle.dict_catalogue.specs.Steps.{kept_under, step}
 use Rattle.dict_catalogue.specs.Views.{summary_shown, command_meant}
-use Rattle.dict_desk.specs.Faults.{has_failed_by, is_failure}
+use Rattle.dict_desk.specs.Faults.{has_failed_by}
 use Rattle.dict_desk.specs.Applying.{Leaves}
-use Rattle.store_desk.specs.Causes.{FailsToApplyTo}
 use Rattle.store_desk.specs.KeptParts.{KeepsTexts, texts_after}
 use Rattle.store_desk.specs.Desk.{DeskState, Shows, LeavesOneOf, is_closed, has_failed, KeepsBeside}
 use Rattle.store_desk.specs.declared.last.LastCall.{LastCall}
 use Rattle.store_desk.specs.declared.last.LastCall.TheVariants.{Failed}
+use Rattle.store_desk.specs.Left.{counted}
 use Rattle.store_desk.proofs.ActedLemmas.{served_by}
 use Rattle.store_desk.proofs.BesideLemmas.{beside_by}
 use Rattle.store_desk.proofs.CauseLemmas.{fails_to_apply}
@@ -37,9 +38,9 @@ invariant_of-self-2 g c =
     let before : is_closed c.self.inside.last ≡ false = search rules in
     told_rests g.S.Store c.self.inside.conn c.apply_over-outcome.new.conn (summary_shown c.self.inside.summary) c.self.inside.filing c.self.inside.last c.args.id.now
     (command_meant c.args.command.now) c.apply_over-outcome.result before c.self.invariant.0
-    c.apply_over-outcome.ensures.over c.self.inside.indexes c.put_coming.new.indexes c.settle.new.indexes c.self.inside.texts c.forget_by-2.new.texts c.self.inside.rows_taken
+    c.apply_over-outcome.ensures.over c.self.inside.indexes c.put_coming.new.indexes c.settle.new.indexes c.self.inside.texts c.forget_by-2.new.texts c.args.self.now.counts c.args.self.now.counts
     (summary_shown c.take_over.new.summary) c.last_by-self-inside.result c.take_over.result c.take_over.ensures.after c.last_by-self-inside.ensures c.take_over.ensures.reply
-    c.forget_by-2.ensures c.self.invariant.1 c.let_go.new.filing c.let_go.ensures
+    c.forget_by-2.ensures c.self.invariant.1 c.let_go.new.filing c.let_go.ensures.gone
 
 pub returns-clause-value : goal.returns-clause-value
 returns-clause-value g c = λ clean M shown.
@@ -49,12 +50,12 @@ returns-clause-value g c = λ clean M shown.
     let texts = c.forget_by-2.ensures ∙ ap (λ (l : LastCall). texts_after l c.self.inside.texts) c.last_by-self-inside.ensures in
     told_applies g.S.Store c.self.inside.conn c.apply_over-outcome.new.conn (summary_shown c.self.inside.summary) c.self.inside.filing c.self.inside.last c.args.id.now
     (command_meant c.args.command.now) c.apply_over-outcome.result before c.self.invariant.0
-    c.apply_over-outcome.ensures.over c.self.inside.indexes c.put_coming.new.indexes c.settle.new.indexes c.self.inside.texts c.forget_by-2.new.texts c.self.inside.rows_taken
+    c.apply_over-outcome.ensures.over c.self.inside.indexes c.put_coming.new.indexes c.settle.new.indexes c.self.inside.texts c.forget_by-2.new.texts _ _
     (summary_shown c.take_over.new.summary) c.last_by-self-inside.result c.take_over.result c.take_over.ensures.after c.last_by-self-inside.ensures c.take_over.ensures.reply
     clean M was
     (λ clean.
     served_by g.S.Store c.self.inside.conn c.apply_over-outcome.new.conn
-    (summary_shown c.self.inside.summary) c.self.inside.last c.args.id.now c.args.command.now before c.self.inside.indexes c.put_coming.new.indexes c.settle.new.indexes c.self.inside.texts c.forget_by-2.new.texts c.self.invariant.1.made
+    (summary_shown c.self.inside.summary) c.self.inside.last c.args.id.now c.args.command.now before c.self.inside.indexes c.put_coming.new.indexes c.settle.new.indexes c.self.inside.texts c.forget_by-2.new.texts _ c.self.invariant.1.made
     c.saturating_add-number.result c.saturating_add-number.ensures c.in-Ok.ensures.put M was clean first
     (λ live. (c.self.invariant.0.holds before first live).1.settled) c.apply_over-outcome.result c.apply_over-outcome.ensures.over c.settle.ensures.settled texts
     (c.apply_over-outcome.ensures.installed clean) (c.apply_over-outcome.ensures.stays clean))
@@ -63,10 +64,10 @@ pub returns-clause-leaves : goal.returns-clause-leaves
 returns-clause-leaves g c = λ clean M shown.
     let before : is_closed c.self.inside.last ≡ false = search rules in
     subst (λ desk. Leaves (LeavesOneOf g.S.Store desk) (LeavesOneOf g.S.Store
-    (record { conn = c.apply_over-outcome.new.conn; summary = summary_shown c.take_over.new.summary; last = c.last_by-self-inside.result; indexes = c.settle.new.indexes; texts = c.forget_by-2.new.texts; taken = c.self.inside.rows_taken }))
+    (record { conn = c.apply_over-outcome.new.conn; summary = summary_shown c.take_over.new.summary; last = c.last_by-self-inside.result; indexes = c.settle.new.indexes; texts = c.forget_by-2.new.texts; counts = c.args.self.now.counts }))
     (is_some (kept_under M.kept c.args.id.now)) (step M c.args.id.now (command_meant c.args.command.now)).catalogue c.take_over.result) c.self.view_is (told_leaves g.S.Store c.self.inside.conn c.apply_over-outcome.new.conn
     (summary_shown c.self.inside.summary) c.self.inside.filing c.self.inside.last c.args.id.now (command_meant c.args.command.now) c.apply_over-outcome.result before c.self.invariant.0
-    c.apply_over-outcome.ensures.over c.self.inside.indexes c.put_coming.new.indexes c.settle.new.indexes c.self.inside.texts c.forget_by-2.new.texts c.self.inside.rows_taken
+    c.apply_over-outcome.ensures.over c.self.inside.indexes c.put_coming.new.indexes c.settle.new.indexes c.self.inside.texts c.forget_by-2.new.texts _ c.args.self.now.counts
     (summary_shown c.take_over.new.summary) c.last_by-self-inside.result c.take_over.result c.take_over.ensures.after c.last_by-self-inside.ensures c.take_over.ensures.reply
     clean M (subst (λ desk. Shows g.S.Store desk M) (sym c.self.view_is) shown))
 
@@ -75,15 +76,15 @@ returns-clause-spares g c = λ ms left.
     let before : is_closed c.self.inside.last ≡ false = search rules in
     told_spares g.S.Store c.self.inside.conn c.apply_over-outcome.new.conn (summary_shown c.self.inside.summary) c.self.inside.filing c.self.inside.last c.args.id.now
     (command_meant c.args.command.now) c.apply_over-outcome.result before c.self.invariant.0
-    c.apply_over-outcome.ensures.over c.self.inside.indexes c.put_coming.new.indexes c.settle.new.indexes c.self.inside.texts c.forget_by-2.new.texts c.self.inside.rows_taken
+    c.apply_over-outcome.ensures.over c.self.inside.indexes c.put_coming.new.indexes c.settle.new.indexes c.self.inside.texts c.forget_by-2.new.texts c.args.self.now.counts c.args.self.now.counts
     (summary_shown c.take_over.new.summary) c.last_by-self-inside.result c.take_over.result c.take_over.ensures.after c.last_by-self-inside.ensures c.take_over.ensures.reply
     ms (subst (λ desk. LeavesOneOf g.S.Store desk ms) (sym c.self.view_is) left)
 
 pub returns-clause-beside : goal.returns-clause-beside
 returns-clause-beside g c = λ db kept.
     let before : is_closed c.self.inside.last ≡ false = search rules in
-    beside_by g.S.Store (record { conn = c.self.inside.conn; summary = summary_shown c.self.inside.summary; last = c.self.inside.last; indexes = c.self.inside.indexes; texts = c.self.inside.texts; taken = c.self.inside.rows_taken })
-    (record { conn = c.apply_over-outcome.new.conn; summary = summary_shown c.take_over.new.summary; last = c.last_by-self-inside.result; indexes = c.settle.new.indexes; texts = c.forget_by-2.new.texts; taken = c.self.inside.rows_taken })
+    beside_by g.S.Store (record { conn = c.self.inside.conn; summary = summary_shown c.self.inside.summary; last = c.self.inside.last; indexes = c.self.inside.indexes; texts = c.self.inside.texts; counts = c.args.self.now.counts })
+    (record { conn = c.apply_over-outcome.new.conn; summary = summary_shown c.take_over.new.summary; last = c.last_by-self-inside.result; indexes = c.settle.new.indexes; texts = c.forget_by-2.new.texts; counts = c.args.self.now.counts })
     (c.self.invariant.0.holds before) c.is_whole.ensures.live c.committed_may_stay.ensures c.apply_over-outcome.ensures.over.beside db (subst (λ (d : DeskState _). KeepsBeside g.S.Store d db) (sym c.self.view_is) kept)
 
 pub returns-clause-failed : goal.returns-clause-failed
@@ -91,32 +92,15 @@ returns-clause-failed g c = ap has_failed c.last_by-self-inside.ensures ∙ fail
 
 pub returns-clause-caused : goal.returns-clause-caused
 returns-clause-caused g c = λ clean.
-    subst (λ desk. IfErr c.take_over.result (λ fault. is_failure fault ≡ true → FailsToApplyTo g.S.Store desk (record { id = c.args.id.now; command = command_meant c.args.command.now })
-    (record {
-      conn = c.apply_over-outcome.new.conn;
-      summary = summary_shown c.take_over.new.summary;
-      last = c.last_by-self-inside.result;
-      indexes = c.settle.new.indexes;
-      texts = c.forget_by-2.new.texts;
-      taken = c.self.inside.rows_taken;
-    }) fault)) c.self.view_is
-    (fails_to_apply g.S.Store (record {
+    fails_to_apply g.S.Store (record {
       conn = c.self.inside.conn;
       summary = summary_shown c.self.inside.summary;
       last = c.self.inside.last;
       indexes = c.self.inside.indexes;
       texts = c.self.inside.texts;
-      taken = c.self.inside.rows_taken;
-    }) c.args.id.now
-    (command_meant c.args.command.now) (record {
-      conn = c.apply_over-outcome.new.conn;
-      summary = summary_shown c.take_over.new.summary;
-      last = c.last_by-self-inside.result;
-      indexes = c.settle.new.indexes;
-      texts = c.forget_by-2.new.texts;
-      taken = c.self.inside.rows_taken;
-    })
-    c.apply_over-outcome.result c.take_over.result c.take_over.ensures.reply c.apply_over-outcome.ensures.over.kinds (c.apply_over-outcome.ensures.over.failed clean))
+      counts = counted c.self.inside.rows_taken c.self.inside.is_log_long c.self.inside.orphans c.self.inside.draft c.self.inside.filing;
+    }) c.args.id.now (command_meant c.args.command.now) _ false (λ filed. absurd (false≢true filed)) c.args.self.now c.self.view_is
+    c.apply_over-outcome.result c.take_over.result c.take_over.ensures.reply c.apply_over-outcome.ensures.over.kinds (c.apply_over-outcome.ensures.over.failed clean)
 
 pub returns-clause-applied : goal.returns-clause-applied
 returns-clause-applied g c = record {

@@ -5,6 +5,7 @@ use Rattle.dict_catalogue.specs.Steps.{kept_under}
 use Rattle.dict_catalogue.specs.Views.{summary_shown, kept_shown}
 use Rattle.store_commands.specs.KeptRecords.{HoldsReplies}
 use Rattle.store_desk.specs.Desk.{DeskState, Shows, LeavesOneOf, is_closed, KeepsBeside}
+use Rattle.store_desk.specs.Left.{counted}
 use Rattle.store_desk.proofs.CauseLemmas.{reply_gives_way}
 use Rattle.store_desk.proofs.BesideLemmas.{beside_on}
 use Rattle.store_desk.proofs.DeskLemmas.{clean_behind, desk_on, leaves_on, replies_stay, shows_on}
@@ -46,20 +47,55 @@ returns-clause-shows g c = λ clean M shown.
 
 pub returns-clause-leaves : goal.returns-clause-leaves
 returns-clause-leaves g c = λ ms left.
-    leaves_on g.S.Store (record { conn = c.self.inside.conn; summary = summary_shown c.self.inside.summary; last = c.self.inside.last; indexes = c.self.inside.indexes; texts = c.self.inside.texts; taken = c.self.inside.rows_taken })
-    (record { conn = c.kept_reply-outcome.new.conn; summary = summary_shown c.self.inside.summary; last = c.last_by-self-inside.result; indexes = c.self.inside.indexes; texts = c.forget_by.new.texts; taken = c.self.inside.rows_taken })
+    leaves_on g.S.Store (record {
+      conn = c.self.inside.conn;
+      summary = summary_shown c.self.inside.summary;
+      last = c.self.inside.last;
+      indexes = c.self.inside.indexes;
+      texts = c.self.inside.texts;
+      counts = counted c.self.inside.rows_taken c.self.inside.is_log_long c.self.inside.orphans c.self.inside.draft c.self.inside.filing;
+    })
+    (record {
+      conn = c.kept_reply-outcome.new.conn;
+      summary = summary_shown c.self.inside.summary;
+      last = c.last_by-self-inside.result;
+      indexes = c.self.inside.indexes;
+      texts = c.forget_by.new.texts;
+      counts = counted c.self.inside.rows_taken c.self.inside.is_log_long c.self.inside.orphans c.self.inside.draft c.self.inside.filing;
+    })
     c.kept_reply-outcome.ensures.survives ms (subst (λ (d : DeskState _). LeavesOneOf g.S.Store d ms) (sym c.self.view_is) left)
 
 pub returns-clause-beside : goal.returns-clause-beside
 returns-clause-beside g c = λ db kept.
-    beside_on g.S.Store (record { conn = c.self.inside.conn; summary = summary_shown c.self.inside.summary; last = c.self.inside.last; indexes = c.self.inside.indexes; texts = c.self.inside.texts; taken = c.self.inside.rows_taken })
-    (record { conn = c.kept_reply-outcome.new.conn; summary = summary_shown c.self.inside.summary; last = c.last_by-self-inside.result; indexes = c.self.inside.indexes; texts = c.forget_by.new.texts; taken = c.self.inside.rows_taken })
+    beside_on g.S.Store (record {
+      conn = c.self.inside.conn;
+      summary = summary_shown c.self.inside.summary;
+      last = c.self.inside.last;
+      indexes = c.self.inside.indexes;
+      texts = c.self.inside.texts;
+      counts = counted c.self.inside.rows_taken c.self.inside.is_log_long c.self.inside.orphans c.self.inside.draft c.self.inside.filing;
+    })
+    (record {
+      conn = c.kept_reply-outcome.new.conn;
+      summary = summary_shown c.self.inside.summary;
+      last = c.last_by-self-inside.result;
+      indexes = c.self.inside.indexes;
+      texts = c.forget_by.new.texts;
+      counts = counted c.self.inside.rows_taken c.self.inside.is_log_long c.self.inside.orphans c.self.inside.draft c.self.inside.filing;
+    })
     c.kept_reply-outcome.ensures.survives db (subst (λ (d : DeskState _). KeepsBeside g.S.Store d db) (sym c.self.view_is) kept)
 
 pub returns-clause-caused : goal.returns-clause-caused
 returns-clause-caused g c =
     let before : is_closed c.self.inside.last ≡ false = search rules in
     reply_gives_way g.S.Store c.args.self.now
-    (record { conn = c.kept_reply-outcome.new.conn; summary = summary_shown c.self.inside.summary; last = c.last_by-self-inside.result; indexes = c.self.inside.indexes; texts = c.forget_by.new.texts; taken = c.self.inside.rows_taken })
+    (record {
+      conn = c.kept_reply-outcome.new.conn;
+      summary = summary_shown c.self.inside.summary;
+      last = c.last_by-self-inside.result;
+      indexes = c.self.inside.indexes;
+      texts = c.forget_by.new.texts;
+      counts = counted c.self.inside.rows_taken c.self.inside.is_log_long c.self.inside.orphans c.self.inside.draft c.self.inside.filing;
+    })
     c.self.inside.conn (ap (λ (d : DeskState _). d.conn) c.self.view_is) (summary_shown c.self.inside.summary) c.self.inside.filing c.self.inside.last before c.self.invariant.0 c.kept_reply-outcome.ensures.survives
     c.kept_reply-outcome.result c.kept_reply-outcome.ensures.kinds c.kept_reply-outcome.ensures.failed

@@ -11,6 +11,7 @@ use Rattle.dict_desk.specs.declared.lookup.What.TheVariants.{Entries}
 use Rattle.store_search.specs.Entries.{Indexed}
 use Rattle.store_lookup.proofs.HeldLemmas.{held_tables}
 use Rattle.store_desk.specs.Desk.{DeskState, Shows, LeavesOneOf, is_closed, KeepsBeside}
+use Rattle.store_desk.specs.Left.{counted}
 use Rattle.store_desk.proofs.CauseLemmas.{found_gives_way}
 use Rattle.store_desk.proofs.BesideLemmas.{beside_on}
 use Rattle.store_desk.proofs.DeskLemmas.{clean_behind, found_stays, leaves_on, desk_on, shows_with, parts_after}
@@ -35,7 +36,14 @@ pub returns-clause-shows : goal.returns-clause-shows
 returns-clause-shows g c = λ clean M shown.
     let before : is_closed c.self.inside.last ≡ false = search rules in
     subst (λ (indexes : List (ℕ × List Indexed)). Shows g.S.Store
-    (record { conn = c.find_under-outcome.new.conn; summary = summary_shown c.self.inside.summary; last = c.last_by-self-inside.result; indexes = indexes; texts = c.forget_by.new.texts; taken = c.find_under-outcome.new.rows_taken })
+    (record {
+      conn = c.find_under-outcome.new.conn;
+      summary = summary_shown c.self.inside.summary;
+      last = c.last_by-self-inside.result;
+      indexes = indexes;
+      texts = c.forget_by.new.texts;
+      counts = counted c.find_under-outcome.new.rows_taken c.self.inside.is_log_long c.self.inside.orphans c.self.inside.draft c.self.inside.filing;
+    })
     M) (sym c.find_under-outcome.ensures.indexes)
     (shows_with g.S.Store c.self.inside.conn c.find_under-outcome.new.conn
     (summary_shown c.self.inside.summary) c.self.inside.filing c.self.inside.last c.last_by-self-inside.result before c.self.invariant.0 c.find_under-outcome.ensures.survives
@@ -51,27 +59,41 @@ returns-clause-shows g c = λ clean M shown.
 
 pub returns-clause-leaves : goal.returns-clause-leaves
 returns-clause-leaves g c = λ ms left.
-    leaves_on g.S.Store (record { conn = c.self.inside.conn; summary = summary_shown c.self.inside.summary; last = c.self.inside.last; indexes = c.self.inside.indexes; texts = c.self.inside.texts; taken = c.self.inside.rows_taken })
+    leaves_on g.S.Store (record {
+      conn = c.self.inside.conn;
+      summary = summary_shown c.self.inside.summary;
+      last = c.self.inside.last;
+      indexes = c.self.inside.indexes;
+      texts = c.self.inside.texts;
+      counts = counted c.self.inside.rows_taken c.self.inside.is_log_long c.self.inside.orphans c.self.inside.draft c.self.inside.filing;
+    })
     (record {
       conn = c.find_under-outcome.new.conn;
       summary = summary_shown c.self.inside.summary;
       last = c.last_by-self-inside.result;
       indexes = c.find_under-outcome.new.indexes;
       texts = c.forget_by.new.texts;
-      taken = c.find_under-outcome.new.rows_taken;
+      counts = counted c.find_under-outcome.new.rows_taken c.self.inside.is_log_long c.self.inside.orphans c.self.inside.draft c.self.inside.filing;
     })
     c.find_under-outcome.ensures.survives ms (subst (λ (d : DeskState _). LeavesOneOf g.S.Store d ms) (sym c.self.view_is) left)
 
 pub returns-clause-beside : goal.returns-clause-beside
 returns-clause-beside g c = λ db kept.
-    beside_on g.S.Store (record { conn = c.self.inside.conn; summary = summary_shown c.self.inside.summary; last = c.self.inside.last; indexes = c.self.inside.indexes; texts = c.self.inside.texts; taken = c.self.inside.rows_taken })
+    beside_on g.S.Store (record {
+      conn = c.self.inside.conn;
+      summary = summary_shown c.self.inside.summary;
+      last = c.self.inside.last;
+      indexes = c.self.inside.indexes;
+      texts = c.self.inside.texts;
+      counts = counted c.self.inside.rows_taken c.self.inside.is_log_long c.self.inside.orphans c.self.inside.draft c.self.inside.filing;
+    })
     (record {
       conn = c.find_under-outcome.new.conn;
       summary = summary_shown c.self.inside.summary;
       last = c.last_by-self-inside.result;
       indexes = c.find_under-outcome.new.indexes;
       texts = c.forget_by.new.texts;
-      taken = c.find_under-outcome.new.rows_taken;
+      counts = counted c.find_under-outcome.new.rows_taken c.self.inside.is_log_long c.self.inside.orphans c.self.inside.draft c.self.inside.filing;
     })
     c.find_under-outcome.ensures.survives db (subst (λ (d : DeskState _). KeepsBeside g.S.Store d db) (sym c.self.view_is) kept)
 
@@ -81,7 +103,14 @@ returns-clause-value g c = λ clean M edition shown has.
     let honest = clean_behind (state g.S.Store c.self.inside.conn) (state g.S.Store c.find_under-outcome.new.conn) c.find_under-outcome.ensures.survives clean in
     let ready = subst (λ (d : DeskState _). Shows g.S.Store d M) (sym c.self.view_is) shown in
     let one = served_one g.S.Store
-    (record { conn = c.self.inside.conn; summary = summary_shown c.self.inside.summary; last = c.self.inside.last; indexes = c.self.inside.indexes; texts = c.self.inside.texts; taken = c.self.inside.rows_taken }) M
+    (record {
+      conn = c.self.inside.conn;
+      summary = summary_shown c.self.inside.summary;
+      last = c.self.inside.last;
+      indexes = c.self.inside.indexes;
+      texts = c.self.inside.texts;
+      counts = counted c.self.inside.rows_taken c.self.inside.is_log_long c.self.inside.orphans c.self.inside.draft c.self.inside.filing;
+    }) M
     c.args.number edition has (ready.served honest) in
     c.find_under-outcome.ensures.value clean one.index edition one.text one.stands one.cuts one.kept
     (λ live. seen g.S.Store c.self.inside.last (summary_shown c.self.inside.summary) c.self.inside.filing c.self.inside.conn before c.self.invariant.0 honest live
@@ -92,9 +121,16 @@ returns-clause-looks g c = λ clean M edition shown has all.
     let honest = clean_behind (state g.S.Store c.self.inside.conn) (state g.S.Store c.find_under-outcome.new.conn) c.find_under-outcome.ensures.survives clean in
     let ready = subst (λ (d : DeskState _). Shows g.S.Store d M) (sym c.self.view_is) shown in
     let one = served_one g.S.Store
-    (record { conn = c.self.inside.conn; summary = summary_shown c.self.inside.summary; last = c.self.inside.last; indexes = c.self.inside.indexes; texts = c.self.inside.texts; taken = c.self.inside.rows_taken }) M
+    (record {
+      conn = c.self.inside.conn;
+      summary = summary_shown c.self.inside.summary;
+      last = c.self.inside.last;
+      indexes = c.self.inside.indexes;
+      texts = c.self.inside.texts;
+      counts = counted c.self.inside.rows_taken c.self.inside.is_log_long c.self.inside.orphans c.self.inside.draft c.self.inside.filing;
+    }) M
     c.args.number edition has (ready.served honest) in
-    subst (λ (taken : ℕ). LooksAt taken c.find_under-outcome.new.rows_taken (count_of Entries c.args.strategy c.args.query.now edition)) (ap (λ (d : DeskState _). d.taken) c.self.view_is)
+    subst (λ (taken : ℕ). LooksAt taken c.find_under-outcome.new.rows_taken (count_of Entries c.args.strategy c.args.query.now edition)) (ap (λ (d : DeskState _). d.counts.taken) c.self.view_is)
     (c.find_under-outcome.ensures.looks one.index edition one.stands (one.text, one.cuts) all)
 
 pub returns-clause-caused : goal.returns-clause-caused
@@ -107,7 +143,7 @@ returns-clause-caused g c =
       last = c.last_by-self-inside.result;
       indexes = c.find_under-outcome.new.indexes;
       texts = c.forget_by.new.texts;
-      taken = c.find_under-outcome.new.rows_taken;
+      counts = counted c.find_under-outcome.new.rows_taken c.self.inside.is_log_long c.self.inside.orphans c.self.inside.draft c.self.inside.filing;
     })
     c.self.inside.conn (ap (λ (d : DeskState _). d.conn) c.self.view_is) (summary_shown c.self.inside.summary) c.self.inside.filing c.self.inside.last before c.self.invariant.0 c.find_under-outcome.ensures.survives
     c.args.number c.find_under-outcome.result c.find_under-outcome.ensures.kinds c.find_under-outcome.ensures.failed

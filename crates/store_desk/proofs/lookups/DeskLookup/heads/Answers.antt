@@ -13,6 +13,7 @@ use Rattle.store_desk.proofs.DeskLemmas.{texts_keep}
 use Rattle.store_desk.proofs.PreparingLemmas.{rests_as, shows_as}
 use Rattle.store_desk.proofs.ServedLemmas.{served_one}
 use Rattle.store_desk.specs.KeptParts.{KeepsTexts}
+use Rattle.store_desk.specs.Left.{counted}
 use Rattle.store_desk.proofs.lookups.DeskLookup.heads.Goals as goal
 
 pub invariant_of-self : goal.invariant_of-self
@@ -45,7 +46,7 @@ returns-clause-caused g c = λ clean.
       last = c.last_by-self-inside.result;
       indexes = c.heads_under-outcome.new.indexes;
       texts = c.forget_by.new.texts;
-      taken = c.heads_under-outcome.new.rows_taken;
+      counts = counted c.heads_under-outcome.new.rows_taken c.self.inside.is_log_long c.self.inside.orphans c.self.inside.draft c.self.inside.filing;
     })
     (ap (λ (d : DeskState _). d.conn) c.self.view_is) c.heads_under-outcome.result c.heads_under-outcome.ensures.kinds
 
@@ -58,7 +59,7 @@ returns-clause-value g c = λ clean M edition shown has.
       last = c.self.inside.last;
       indexes = c.self.inside.indexes;
       texts = c.self.inside.texts;
-      taken = c.self.inside.rows_taken;
+      counts = counted c.self.inside.rows_taken c.self.inside.is_log_long c.self.inside.orphans c.self.inside.draft c.self.inside.filing;
     }) M c.args.number
     edition has (ready.served clean) in
     c.heads_under-outcome.ensures.value one.index edition one.stands (one.text, one.cuts)
@@ -72,9 +73,9 @@ returns-clause-looks g c = λ clean M edition shown has all.
       last = c.self.inside.last;
       indexes = c.self.inside.indexes;
       texts = c.self.inside.texts;
-      taken = c.self.inside.rows_taken;
+      counts = counted c.self.inside.rows_taken c.self.inside.is_log_long c.self.inside.orphans c.self.inside.draft c.self.inside.filing;
     }) M c.args.number
     edition has (ready.served clean) in
-    subst (λ (taken : ℕ). LooksAt taken c.heads_under-outcome.new.rows_taken (count_of Entries c.args.strategy c.args.query.now edition)) (ap (λ (d : DeskState _). d.taken) c.self.view_is)
+    subst (λ (taken : ℕ). LooksAt taken c.heads_under-outcome.new.rows_taken (count_of Entries c.args.strategy c.args.query.now edition)) (ap (λ (d : DeskState _). d.counts.taken) c.self.view_is)
     (subst (λ (r : Result End Fault). OnOk r (LooksAt c.self.inside.rows_taken c.heads_under-outcome.new.rows_taken (count_of Entries c.args.strategy c.args.query.now edition))) all
     (c.heads_under-outcome.ensures.looks one.index edition one.stands (one.text, one.cuts)))

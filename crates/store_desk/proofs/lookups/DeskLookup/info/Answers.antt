@@ -10,6 +10,7 @@ use Rattle.store_rows.specs.Versions.{known}
 use Rattle.store_lookup.specs.Searches.{number_in_column}
 use Rattle.store_lookup.proofs.HeldLemmas.{held_one, held_tables}
 use Rattle.store_desk.specs.Desk.{DeskState, Shows, LeavesOneOf, is_closed, KeepsBeside}
+use Rattle.store_desk.specs.Left.{counted}
 use Rattle.store_desk.proofs.CauseLemmas.{lookup_gives_way}
 use Rattle.store_desk.proofs.BesideLemmas.{beside_on}
 use Rattle.store_desk.proofs.DeskLemmas.{clean_behind, lookup_stays, leaves_on, desk_on, handed_by, shows_on}
@@ -43,14 +44,42 @@ returns-clause-shows g c = λ clean M shown.
 
 pub returns-clause-leaves : goal.returns-clause-leaves
 returns-clause-leaves g c = λ ms left.
-    leaves_on g.S.Store (record { conn = c.self.inside.conn; summary = summary_shown c.self.inside.summary; last = c.self.inside.last; indexes = c.self.inside.indexes; texts = c.self.inside.texts; taken = c.self.inside.rows_taken })
-    (record { conn = c.info-outcome.new.conn; summary = summary_shown c.self.inside.summary; last = c.last_by-self-inside.result; indexes = c.self.inside.indexes; texts = c.forget_by.new.texts; taken = c.info-outcome.new.rows_taken })
+    leaves_on g.S.Store (record {
+      conn = c.self.inside.conn;
+      summary = summary_shown c.self.inside.summary;
+      last = c.self.inside.last;
+      indexes = c.self.inside.indexes;
+      texts = c.self.inside.texts;
+      counts = counted c.self.inside.rows_taken c.self.inside.is_log_long c.self.inside.orphans c.self.inside.draft c.self.inside.filing;
+    })
+    (record {
+      conn = c.info-outcome.new.conn;
+      summary = summary_shown c.self.inside.summary;
+      last = c.last_by-self-inside.result;
+      indexes = c.self.inside.indexes;
+      texts = c.forget_by.new.texts;
+      counts = counted c.info-outcome.new.rows_taken c.self.inside.is_log_long c.self.inside.orphans c.self.inside.draft c.self.inside.filing;
+    })
     c.info-outcome.ensures.survives ms (subst (λ (d : DeskState _). LeavesOneOf g.S.Store d ms) (sym c.self.view_is) left)
 
 pub returns-clause-beside : goal.returns-clause-beside
 returns-clause-beside g c = λ db kept.
-    beside_on g.S.Store (record { conn = c.self.inside.conn; summary = summary_shown c.self.inside.summary; last = c.self.inside.last; indexes = c.self.inside.indexes; texts = c.self.inside.texts; taken = c.self.inside.rows_taken })
-    (record { conn = c.info-outcome.new.conn; summary = summary_shown c.self.inside.summary; last = c.last_by-self-inside.result; indexes = c.self.inside.indexes; texts = c.forget_by.new.texts; taken = c.info-outcome.new.rows_taken })
+    beside_on g.S.Store (record {
+      conn = c.self.inside.conn;
+      summary = summary_shown c.self.inside.summary;
+      last = c.self.inside.last;
+      indexes = c.self.inside.indexes;
+      texts = c.self.inside.texts;
+      counts = counted c.self.inside.rows_taken c.self.inside.is_log_long c.self.inside.orphans c.self.inside.draft c.self.inside.filing;
+    })
+    (record {
+      conn = c.info-outcome.new.conn;
+      summary = summary_shown c.self.inside.summary;
+      last = c.last_by-self-inside.result;
+      indexes = c.self.inside.indexes;
+      texts = c.forget_by.new.texts;
+      counts = counted c.info-outcome.new.rows_taken c.self.inside.is_log_long c.self.inside.orphans c.self.inside.draft c.self.inside.filing;
+    })
     c.info-outcome.ensures.survives db (subst (λ (d : DeskState _). KeepsBeside g.S.Store d db) (sym c.self.view_is) kept)
 
 pub returns-clause-value : goal.returns-clause-value
@@ -76,7 +105,7 @@ returns-clause-looks g c = λ clean M edition shown has all.
     let before : is_closed c.self.inside.last ≡ false = search rules in
     let honest = clean_behind (state g.S.Store c.self.inside.conn) (state g.S.Store c.info-outcome.new.conn) c.info-outcome.ensures.survives clean in
     let ready = subst (λ (d : DeskState _). Shows g.S.Store d M) (sym c.self.view_is) shown in
-    subst (λ (taken : ℕ). LooksAt taken c.info-outcome.new.rows_taken 1) (ap (λ (d : DeskState _). d.taken) c.self.view_is)
+    subst (λ (taken : ℕ). LooksAt taken c.info-outcome.new.rows_taken 1) (ap (λ (d : DeskState _). d.counts.taken) c.self.view_is)
     (one_taken c.self.inside.rows_taken c.info-outcome.new.rows_taken c.info-outcome.result (state g.S.Store c.self.inside.conn).is_open
     (λ live.
     let holds = seen g.S.Store c.self.inside.last (summary_shown c.self.inside.summary) c.self.inside.filing c.self.inside.conn before c.self.invariant.0 honest live (λ (db : Database). Holds known db M) (ready.holds before honest live) in
@@ -88,6 +117,13 @@ pub returns-clause-caused : goal.returns-clause-caused
 returns-clause-caused g c =
     let before : is_closed c.self.inside.last ≡ false = search rules in
     lookup_gives_way g.S.Store c.args.self.now
-    (record { conn = c.info-outcome.new.conn; summary = summary_shown c.self.inside.summary; last = c.last_by-self-inside.result; indexes = c.self.inside.indexes; texts = c.forget_by.new.texts; taken = c.info-outcome.new.rows_taken })
+    (record {
+      conn = c.info-outcome.new.conn;
+      summary = summary_shown c.self.inside.summary;
+      last = c.last_by-self-inside.result;
+      indexes = c.self.inside.indexes;
+      texts = c.forget_by.new.texts;
+      counts = counted c.info-outcome.new.rows_taken c.self.inside.is_log_long c.self.inside.orphans c.self.inside.draft c.self.inside.filing;
+    })
     c.self.inside.conn (ap (λ (d : DeskState _). d.conn) c.self.view_is) (summary_shown c.self.inside.summary) c.self.inside.filing c.self.inside.last before c.self.invariant.0 c.info-outcome.ensures.survives
     c.args.number c.info-outcome.result c.info-outcome.ensures.kinds c.info-outcome.ensures.failed

@@ -7,11 +7,11 @@ use Rattle.dict_desk.specs.Faults.{has_closed_by}
 use Rattle.dict_desk.specs.declared.fault.Fault.TheVariants.{Closed as Shut}
 use Rattle.dict_desk.specs.declared.answered.Answered.{Answered}
 use Rattle.dict_desk.specs.declared.answered.Answered.TheVariants.{Done, Refused}
-use Rattle.store_desk.specs.Desk.{DeskState, KeepsBeside, LeavesOneOf, Shows, is_closed, has_failed}
+use Rattle.store_desk.specs.Desk.{DeskState, KeepsBeside, LeavesOneOf, is_closed, has_failed}
 use Rattle.store_desk.proofs.BesideLemmas.{beside_on}
 use Rattle.store_desk.proofs.DeskLemmas.{clean_behind, leaves_on}
 use Rattle.store_desk.proofs.FinishLemmas.{done_as, none_by}
-use Rattle.store_desk.proofs.PreparingLemmas.{closed_failed, failing_or, open_closed, or_false}
+use Rattle.store_desk.proofs.PreparingLemmas.{closed_failed, failing_or, open_closed, or_false, shows_but_counts}
 use Rattle.store_desk.proofs.preparing.DeskPreparer.answer_prepared.Goals as goal
 
 pub finish-requires : goal.finish-requires
@@ -103,7 +103,7 @@ returns-clause-trust g c = λ clean.
 pub returns-clause-shows : goal.returns-clause-shows
 returns-clause-shows g c = λ clean M shown.
     let mid : HasCleanDisk (state g.S.Store c.finish.new.self.conn) = subst (λ (d : DeskState _). HasCleanDisk (state g.S.Store d.conn)) c.let_go_of_prepared.ensures clean in
-    subst (λ (d : DeskState _). Shows g.S.Store d M) (sym c.let_go_of_prepared.ensures) (none_by c.finish.result c.in_default-finish.not-Some (c.finish.ensures.shows mid M shown))
+    shows_but_counts g.S.Store c.finish.new.self c.let_go_of_prepared.new.self c.let_go_of_prepared.ensures M (none_by c.finish.result c.in_default-finish.not-Some (c.finish.ensures.shows mid M shown))
 
 pub returns-clause-leaves : goal.returns-clause-leaves
 returns-clause-leaves g c = λ ms left.

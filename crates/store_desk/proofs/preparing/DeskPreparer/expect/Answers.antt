@@ -1,13 +1,13 @@
 use Rattle.std.proofs.Common.{inl, sym, subst}
-use Rattle.store_desk.specs.Desk.{DeskState, KeepsBeside, LeavesOneOf, Shows}
-use Rattle.store_desk.proofs.PreparingLemmas.{forgotten_caused, forgotten_failed, forgotten_closes, forgotten_closed, forgotten_kind}
+use Rattle.store_desk.specs.Desk.{DeskState, KeepsBeside, LeavesOneOf}
+use Rattle.store_desk.proofs.PreparingLemmas.{forgotten_caused, forgotten_failed, forgotten_closes, forgotten_closed, forgotten_kind, shows_but_counts}
 use Rattle.store_desk.proofs.preparing.DeskPreparer.expect.Goals as goal
 
 pub returns-clause-told : goal.returns-clause-told
 returns-clause-told g c = (c.withdraw.ensures.ended, inl c.withdraw.ensures.same)
 
 pub returns-clause-shows : goal.returns-clause-shows
-returns-clause-shows g c = λ clean M shown. subst (λ (d : DeskState _). Shows g.S.Store d M) (sym c.withdraw.ensures.same) shown
+returns-clause-shows g c = λ clean M shown. shows_but_counts g.S.Store c.args.self.now c.withdraw.new.self c.withdraw.ensures.same M shown
 
 pub returns-clause-leaves : goal.returns-clause-leaves
 returns-clause-leaves g c = λ ms left. subst (λ (d : DeskState _). LeavesOneOf g.S.Store d ms) (sym c.withdraw.ensures.same) left

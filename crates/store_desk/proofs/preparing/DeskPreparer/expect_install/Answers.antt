@@ -4,9 +4,10 @@ use Rattle.dict_catalogue.specs.Views.{summary_shown}
 use Rattle.dict_desk.specs.declared.fault.Fault.TheVariants.{Memory}
 use Rattle.store_desk.specs.Desk.{DeskState, Shows, is_closed}
 use Rattle.store_desk.specs.KeptParts.{KeepsTexts}
+use Rattle.store_desk.specs.Left.{counted}
 use Rattle.store_desk.specs.declared.last.LastCall.TheVariants.{Failed}
-use Rattle.store_desk.proofs.DeskLemmas.{texts_keep}
-use Rattle.store_desk.proofs.PreparingLemmas.{open_closed, rests_as, shows_as}
+use Rattle.store_desk.proofs.DeskLemmas.{shows_counted, texts_keep}
+use Rattle.store_desk.proofs.PreparingLemmas.{open_closed, rests_as, shows_as, shows_but_counts}
 use Rattle.store_desk.proofs.preparing.DeskPreparer.expect_install.Goals as goal
 
 pub invariant_of-self-in-Err : goal.invariant_of-self-in-Err
@@ -20,10 +21,22 @@ pub returns-in-Err-clause-shows : goal.returns-in-Err-clause-shows
 returns-in-Err-clause-shows g c = λ clean M shown.
     let before : is_closed c.self.inside.last ≡ false = ap (λ (d : DeskState _). is_closed d.last) (c.self.view_is ∙ c.withdraw.ensures.same) ∙ c.in_ok-withdraw.ensures.open in
     shows_as g.S.Store (summary_shown c.self.inside.summary) c.self.inside.last Failed c.self.inside.conn before c.self.inside.indexes c.self.inside.indexes (λ q. refl) c.self.inside.texts c.forget_by.new.texts c.forget_by.ensures M
-    (subst (λ (d : DeskState _). Shows g.S.Store d M) (sym (c.self.view_is ∙ c.withdraw.ensures.same)) shown)
+    (subst (λ (d : DeskState _). Shows g.S.Store d M) (sym c.self.view_is) (shows_but_counts g.S.Store c.args.self.now c.withdraw.new.self c.withdraw.ensures.same M shown))
 
 pub returns-in-Err-clause-closes : goal.returns-in-Err-clause-closes
 returns-in-Err-clause-closes g c = sym (ap (λ b. b || false) c.in_ok-withdraw.ensures.open)
 
 pub returns-in-Err-clause-closed : goal.returns-in-Err-clause-closed
 returns-in-Err-clause-closed g c = open_closed {T = Unit {0}} c.args.self.now.last (Err Memory) c.in_ok-withdraw.ensures.open tt
+
+pub returns-in-Ok-clause-shows : goal.returns-in-Ok-clause-shows
+returns-in-Ok-clause-shows g c = λ clean M shown.
+    let mid : DeskState _ = record {
+      conn = c.self.inside.conn;
+      summary = summary_shown c.self.inside.summary;
+      last = c.self.inside.last;
+      indexes = c.self.inside.indexes;
+      texts = c.self.inside.texts;
+      counts = counted c.self.inside.rows_taken c.self.inside.is_log_long c.self.inside.orphans c.self.inside.draft c.self.inside.filing;
+    } in
+    shows_counted g.S.Store mid _ M (subst (λ (d : DeskState _). Shows g.S.Store d M) (sym c.self.view_is) (shows_but_counts g.S.Store c.args.self.now c.withdraw.new.self c.withdraw.ensures.same M shown))

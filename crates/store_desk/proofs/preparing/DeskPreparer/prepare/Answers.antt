@@ -27,19 +27,19 @@ pub returns-then-closed-clause-closed : goal.returns-then-closed-clause-closed
 returns-then-closed-clause-closed g c = (λ is. sym c.is_closed-closed.ensures ∙ c.if-closed.true, λ shut. refl)
 
 pub returns-then-may_copy-clause-prepared : goal.returns-then-may_copy-clause-prepared
-returns-then-may_copy-clause-prepared g c = λ clean is. inr (c.copy_log.ensures.committed clean is)
+returns-then-may_copy-clause-prepared g c = (c.copy_log.ensures.fewer, λ clean is. inr (c.copy_log.ensures.committed clean is))
 
 pub returns-then-may_copy-clause-closed : goal.returns-then-may_copy-clause-closed
 returns-then-may_copy-clause-closed g c = open_closed {T = Bool} c.args.self.now.last c.copy_log.result (sym c.is_closed-closed.ensures ∙ c.if-closed.false) c.copy_log.ensures.kinds
 
 pub returns-then-may_tidy-clause-prepared : goal.returns-then-may_tidy-clause-prepared
-returns-then-may_tidy-clause-prepared g c = λ clean is. inr (c.take_orphans_next.ensures.committed clean is)
+returns-then-may_tidy-clause-prepared g c = (c.take_orphans_next.ensures.fewer, λ clean is. inr (c.take_orphans_next.ensures.committed clean is))
 
 pub returns-then-may_tidy-clause-closed : goal.returns-then-may_tidy-clause-closed
 returns-then-may_tidy-clause-closed g c = open_closed {T = Bool} c.args.self.now.last c.take_orphans_next.result (sym c.is_closed-closed.ensures ∙ c.if-closed.false) c.take_orphans_next.ensures.kinds
 
 pub returns-clause-prepared : goal.returns-clause-prepared
-returns-clause-prepared g c = c.prepare_part.ensures.prepared
+returns-clause-prepared g c = (c.prepare_part.ensures.fewer, c.prepare_part.ensures.prepared)
 
 pub returns-clause-closed : goal.returns-clause-closed
 returns-clause-closed g c = open_closed {T = Bool} c.args.self.now.last c.prepare_part.result (sym c.is_closed-closed.ensures ∙ c.if-closed.false) c.prepare_part.ensures.kinds
