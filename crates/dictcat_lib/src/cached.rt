@@ -28,6 +28,9 @@ const FEWEST_PAGES: usize = 2_000;
 // And at most: 79 MB, into which the file of the largest edition goes. A cache is taken whole.
 const MOST_PAGES: usize = 19_200;
 
+// So many pages of changes stand in the log, 1 MiB, before it is copied into the file, which takes some milliseconds: a reader waits for it.
+const LOG_PAGES: usize = 256;
+
 // How many pages a cache has, for a file of so many octets: as many as the file, within the bounds. Page n has the place n modulo that
 // number, and an opening goes through all pages again and again: two pages with one place drive each other out each time. Where more
 // than half of a file's pages would do so, it has the fewest.
@@ -42,10 +45,11 @@ fn cache_pages(octets: u64) -> usize
     pages.clamp(FEWEST_PAGES, MOST_PAGES)
 }
 
-// How the files at this path are opened: with a cache of the size that the file has now, and a random number for the log; none where
+// How the files at this path are opened: with a cache of the size that the file has now, a short log, and a random number for it; none where
 // the system gives none.
 pub(crate) fn options(rt: &HostRuntime, path: &str) -> Option<Options>
-    ensures { IfSome result (λ it. (2000 ≤ it.cache_pages) × (it.cache_pages ≤ 19200)) }
+    ensures cache { IfSome result (λ it. (2000 ≤ it.cache_pages) × (it.cache_pages ≤ 19200)) }
+    ensures log { IfSome result (λ it. it.checkpoint_frames ≡ 256) }
 {
     let state = RandomState::new(rt).ok()?;
     let octets = match fs::metadata(rt, path) {
@@ -54,6 +58,7 @@ pub(crate) fn options(rt: &HostRuntime, path: &str) -> Option<Options>
     };
     Some(Options {
         cache_pages: cache_pages(octets),
+        checkpoint_frames: LOG_PAGES,
         ..Options::new(state.hash_one(&0u8))
     })
 }
