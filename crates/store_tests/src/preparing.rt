@@ -25,7 +25,7 @@ static BEGUN: [(&str, Asked); 3] = [
     ("c", Asked::Install("gem", Source::More)),
 ];
 
-// The edition that comes, with so long a text that it is prepared by more than one part: a part takes 1,048,576 octets.
+// The edition that comes, with so long a text that it is filed by more than one part: a part takes 524,288 octets.
 const LONG_INDEX: &[u8] = b"00-database-short\tA\tE\nopal\tE\tC\n";
 
 // Files with this index are no edition.
