@@ -1,4 +1,5 @@
 pub mod CommonLemmas
+pub mod ComparedLemmas
 pub mod ListLemmas
 pub mod KeptLemmas
 pub mod MergingLemmas

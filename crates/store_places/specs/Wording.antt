@@ -5,7 +5,7 @@ use Rattle.std.specs.declared.cmp.Ordering.{Ordering}
 use Rattle.dict_match.specs.Words.{words_between_blanks}
 use Rattle.store_places.specs.Grouped.{GoesOnGrouping}
 use Rattle.store_places.specs.Pieces.{Placed, pair_cmp, occurrences_from, AreOccurrences, ArePlaced}
-use Rattle.store_places.specs.Sorting.{ArePlacesOf}
+use Rattle.store_places.specs.Sorting.{MakesOrderOf}
 use Rattle.store_places.specs.declared.wording.GroupedWords.{GroupedWords}
 use Rattle.store_places.specs.declared.wording.SortedWords.{SortedWords}
 use Rattle.store_places.specs.declared.wording.TakenWords.{TakenWords}
@@ -28,11 +28,11 @@ pub record AreWordsTaken (keys : List (List ℕ)) (taken : TakenWords) : Type 0 
   pub same : length taken.found ≡ length taken.places.items
   pub are : zip taken.found taken.places.items ≡ occurrences_from words_between_blanks 0 (take taken.place keys)
 
--- those of all keys, and their indexes in some order
+-- those of all keys, and what is made of the order of their indexes
 pub record AreWordsSorted (keys : List (List ℕ)) (sorted : SortedWords) : Type 0 where
   pub same : length sorted.found ≡ length sorted.places.items
   pub are : zip sorted.found sorted.places.items ≡ occurrences_from words_between_blanks 0 keys
-  pub indexes : ArePlacesOf sorted.found sorted.sorting.places
+  pub indexes : MakesOrderOf sorted.found sorted.sorting
 
 -- all of them in order, of which the first are grouped
 pub record AreWordsGrouped (keys : List (List ℕ)) (grouped : GroupedWords) : Type 0 where

@@ -1,16 +1,23 @@
 //! The runs of three octets of keys, which are listed in slices.
 ghost use Rattle.std.specs.Prelude.{◌≡◌, IfOk, IfSome, length};
-ghost use Rattle.store_places.specs.Listing.{AreListed, AreRunsTaken, AreSorted, AreGroupedOf};
+ghost use Rattle.std.specs.List.Sorted.{IsPermutation, IsSorted};
+ghost use Rattle.store_derived.specs.KeptGrams.{kept_grams};
+ghost use Rattle.store_places.specs.Listing.{AreListed, AreRunsTaken, AreSorted, AreRunsCompared, AreGroupedOf};
+ghost use Rattle.store_places.specs.Pieces.{occurrences_from};
+ghost use Rattle.store_places.specs.PlacedPieces.{grams_placed, gram_cmp};
 
 use crate::merging::{Compares, Merging};
 use crate::pieces::{Pieces, pieces_of, put};
-use crate::placed::{PlacedGram, add_grams, compare_grams, each_once};
+use crate::placed::{PlacedGram, add_grams, are_in_order, compare_grams, each_once, put_in_order};
 use std::alloc::{AllocError, Global};
 use std::cmp::Ordering;
 use store_derived::{PlaceLists, Texts};
 
 /// The runs of so many keys are taken in a slice.
 const KEYS: u32 = 32_768;
+
+/// So many runs are compared with the one before them in a slice.
+const NEIGHBOURS: usize = 131_072;
 
 /// So many runs are grouped in a slice.
 const RUNS: usize = 131_072;
@@ -20,6 +27,13 @@ const RUNS: usize = 131_072;
 pub struct TakenRuns {
     pub runs: Vec<PlacedGram>,
     pub place: u32,
+}
+
+/// The runs of all keys in the order that the sorting gave them. So many first ones were compared, and are in order.
+#[derive(Drop)]
+pub struct ComparedRuns {
+    pub runs: Vec<PlacedGram>,
+    pub compared: usize,
 }
 
 /// The runs of three octets in order, each once, of which those before a place are grouped.
@@ -36,6 +50,7 @@ pub struct GroupedRuns {
 pub enum Listing {
     Taken(TakenRuns),
     Sorted(Merging<PlacedGram>),
+    Compared(ComparedRuns),
     Grouped(GroupedRuns),
     Made(Pieces),
 }
@@ -75,7 +90,8 @@ pub fn list_more(
             place: 0,
         })),
         Some(Listing::Taken(taken)) => take_more(alloc, keys, count, taken),
-        Some(Listing::Sorted(merging)) => sort_more(alloc, keys, merging),
+        Some(Listing::Sorted(merging)) => sort_more(keys, merging),
+        Some(Listing::Compared(compared)) => compare_more(alloc, keys, compared),
         Some(Listing::Grouped(grouped)) => group_more(alloc, keys, grouped),
         Some(Listing::Made(pieces)) => Ok(Listing::Made(pieces)),
     }
@@ -103,12 +119,8 @@ fn take_more(
     Ok(Listing::Taken(TakenRuns { runs, place: to }))
 }
 
-/// Sorts the next of the runs; once all are, each is left once.
-fn sort_more(
-    alloc: Global,
-    keys: &Texts,
-    merging: Merging<PlacedGram>,
-) -> Result<Listing, AllocError>
+/// Sorts the next of the runs; once all are, they are to be compared.
+fn sort_more(keys: &Texts, merging: Merging<PlacedGram>) -> Result<Listing, AllocError>
     requires { AreSorted keys.now merging }
     ensures { IfOk result (AreListed keys.now) }
 {
@@ -116,7 +128,36 @@ fn sort_more(
     if merging.step(&ByRank)? {
         return Ok(Listing::Sorted(merging));
     }
-    let placed = each_once(keys, merging.end()?);
+    Ok(Listing::Compared(ComparedRuns {
+        runs: merging.end()?,
+        compared: 0,
+    }))
+}
+
+/// Compares the next of the runs; where one isn't in order, which no proof rules out, all are brought into order at once.
+fn compare_more(alloc: Global, keys: &Texts, begun: ComparedRuns) -> Result<Listing, AllocError>
+    requires { AreRunsCompared keys.now begun }
+    ensures { IfOk result (AreListed keys.now) }
+{
+    let ComparedRuns { mut runs, compared } = begun;
+    let to = runs.len().min(compared.saturating_add(NEIGHBOURS));
+    if !are_in_order(runs.as_slice(), compared, to) {
+        put_in_order(&mut runs);
+        return begin_grouping(alloc, keys, runs);
+    }
+    if to == runs.len() {
+        return begin_grouping(alloc, keys, runs);
+    }
+    Ok(Listing::Compared(ComparedRuns { runs, compared: to }))
+}
+
+/// Each of the runs is left once, and they are to be grouped.
+fn begin_grouping(alloc: Global, keys: &Texts, runs: Vec<PlacedGram>) -> Result<Listing, AllocError>
+    requires each { IsPermutation (occurrences_from kept_grams 0 keys.now) (grams_placed runs.items) }
+    requires rising { IsSorted gram_cmp runs.items }
+    ensures { IfOk result (AreListed keys.now) }
+{
+    let placed = each_once(keys, runs);
     let lists = PlaceLists::with_capacity(alloc, placed.len())?;
     Ok(Listing::Grouped(GroupedRuns {
         placed,

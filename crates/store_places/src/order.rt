@@ -1,6 +1,7 @@
 //! Places in the order of their texts, and those whose text lies between two others.
-ghost use Rattle.std.specs.Prelude.{◌≡◌, ◌<◌, ◌≤◌, ℕ, false, length, map, filter, reverse, IfOk, IsPermutation, slice_index_or};
+ghost use Rattle.std.specs.Prelude.{◌≡◌, ◌<◌, ◌≤◌, ℕ, true, false, length, map, filter, reverse, take, IfOk, IsPermutation, slice_index_or};
 ghost use Rattle.std.specs.List.{range_with_len};
+ghost use Rattle.std.specs.List.Sorted.{IsSorted};
 ghost use Rattle.std.specs.Ordering.{is_le};
 ghost use Rattle.store_derived.specs.Derived.{octets_cmp};
 ghost use Rattle.store_places.specs.Places.{key_at, places_where};
@@ -64,6 +65,19 @@ fn compare(texts: &Texts, a: u32, b: u32) -> Ordering
     let one = texts.get(a as usize);
     let other = texts.get(b as usize);
     one.cmp(other).then(a.cmp(&b))
+}
+
+/// Whether the places between two of them are in that order, each behind the one before it.
+pub(crate) fn are_in_order(texts: &Texts, places: &[u32], from: usize, to: usize) -> bool
+    requires { to ≤ length places.now }
+    ensures { result ≡ true → IsSorted (place_cmp texts.now) (take from places.now) → IsSorted (place_cmp texts.now) (take to places.now) }
+{
+    for at in from..to {
+        if at > 0 && compare(texts, places[at], places[at - 1]).is_lt() {
+            return false;
+        }
+    }
+    true
 }
 
 /// The texts, each with its octets in reverse order.

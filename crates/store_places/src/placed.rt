@@ -1,6 +1,6 @@
 //! All words of keys, and their runs of three octets that an index holds, each with the place of its key.
-ghost use Rattle.std.specs.Prelude.{◌≡◌, ◌+◌, ◌-◌, ◌<◌, ◌++◌, IfOk, OnOk, length, map};
-ghost use Rattle.std.specs.List.Sorted.{IsPermutation};
+ghost use Rattle.std.specs.Prelude.{◌≡◌, ◌≤◌, ◌+◌, ◌-◌, ◌<◌, ◌++◌, IfOk, OnOk, true, length, map, take};
+ghost use Rattle.std.specs.List.Sorted.{IsPermutation, IsSorted};
 ghost use Rattle.dict_match.specs.Words.{words_between_blanks};
 ghost use Rattle.store_derived.specs.KeptGrams.{kept_grams};
 ghost use Rattle.store_places.specs.Pieces.{placed_at, occurrences_from, AreOccurrences};
@@ -112,14 +112,34 @@ pub(crate) fn sorted_grams(
     Ok(runs)
 }
 
-/// Runs of three octets in order, each once.
+/// Whether the runs between two of them are in order, each behind the one before it.
+pub(crate) fn are_in_order(runs: &[PlacedGram], from: usize, to: usize) -> bool
+    requires { to ≤ length runs.now }
+    ensures { result ≡ true → IsSorted gram_cmp (take from runs.now) → IsSorted gram_cmp (take to runs.now) }
+{
+    for at in from..to {
+        if at > 0 && compare_grams(&runs[at], &runs[at - 1]).is_lt() {
+            return false;
+        }
+    }
+    true
+}
+
+/// Brings runs of three octets into order.
+pub(crate) fn put_in_order(runs: &mut Vec<PlacedGram>)
+    ensures same { IsPermutation runs.old.items runs.new.items }
+    ensures rising { IsSorted gram_cmp runs.new.items }
+{
+    runs.sort_unstable_by(|one, other| compare_grams(one, other));
+}
+
+/// Runs of three octets that are in order, each once.
 pub(crate) fn each_once(keys: &Texts, runs: Vec<PlacedGram>) -> Vec<PlacedGram>
-    requires { IsPermutation (occurrences_from kept_grams 0 keys.now) (grams_placed runs.items) }
+    requires each { IsPermutation (occurrences_from kept_grams 0 keys.now) (grams_placed runs.items) }
+    requires rising { IsSorted gram_cmp runs.items }
     ensures { AreOccurrences kept_grams keys.now (grams_placed result.items) }
 {
     let mut placed = runs;
-    // It looks at each run once where they are in order.
-    placed.sort_unstable_by(|one, other| compare_grams(one, other));
     placed.dedup();
     placed
 }

@@ -1,14 +1,16 @@
 //! Places that are brought into the order of their texts in slices.
 ghost use Rattle.std.specs.Prelude.{◌≡◌, IfOk, IfSome, length, map, reverse, take};
-ghost use Rattle.store_places.specs.Orders.{IsOrderOf};
-ghost use Rattle.store_places.specs.Sorting.{ArePlacesOf, MakesOrderOf};
+ghost use Rattle.store_places.specs.Sorting.{ArePlacesOf, AreComparedOf, MakesOrderOf};
 
 use crate::heads::all_heads;
 use crate::merging::{Compares, Merging};
-use crate::order::{compare_heads, first_places, put_in_order, reversed};
+use crate::order::{are_in_order, compare_heads, first_places, put_in_order, reversed};
 use std::alloc::{AllocError, Global};
 use std::cmp::Ordering;
 use store_derived::Texts;
+
+/// So many places are compared with the one before them in a slice.
+const NEIGHBOURS: usize = 32_768;
 
 /// So many texts are turned in a slice.
 const TEXTS: usize = 65_536;
@@ -56,23 +58,21 @@ impl Sorting {
         };
         self.places.step(&order)
     }
+}
 
-    /// The places in the order of the texts. The only error is refused memory.
-    pub(crate) fn end(self, texts: &Texts) -> Result<Vec<u32>, AllocError>
-        requires { ArePlacesOf texts.now self.places }
-        ensures { IfOk result (λ places. IsOrderOf texts.now places.items) }
-    {
-        let Sorting { heads, places } = self;
-        let mut places = places.end()?;
-        put_in_order(texts, heads.as_slice(), &mut places);
-        Ok(places)
-    }
+/// All places in the order that the sorting gave them. So many first ones were compared by their texts, and are in order.
+#[derive(Drop)]
+pub struct ComparedPlaces {
+    pub heads: Vec<u64>,
+    pub places: Vec<u32>,
+    pub compared: usize,
 }
 
 /// What is made of the order of places.
 #[derive(Drop)]
 pub enum Places {
     Sorted(Sorting),
+    Compared(ComparedPlaces),
     Made(Vec<u32>),
 }
 
@@ -97,12 +97,23 @@ pub fn place_more(
 {
     match begun {
         None => Ok(Places::Sorted(Sorting::of(alloc, texts, count)?)),
-        Some(Places::Sorted(sorting)) => sort_more(texts, sorting),
-        Some(Places::Made(places)) => Ok(Places::Made(places)),
+        Some(places) => place_next(texts, places),
     }
 }
 
-/// Sorts the next of them.
+/// Makes the next slice of an order that is begun.
+pub(crate) fn place_next(texts: &Texts, begun: Places) -> Result<Places, AllocError>
+    requires { MakesOrderOf texts.now begun }
+    ensures { IfOk result (MakesOrderOf texts.now) }
+{
+    match begun {
+        Places::Sorted(sorting) => sort_more(texts, sorting),
+        Places::Compared(compared) => Ok(compare_more(texts, compared)),
+        Places::Made(places) => Ok(Places::Made(places)),
+    }
+}
+
+/// Sorts the next of them; once all are, they are to be compared.
 fn sort_more(texts: &Texts, sorting: Sorting) -> Result<Places, AllocError>
     requires { ArePlacesOf texts.now sorting.places }
     ensures { IfOk result (MakesOrderOf texts.now) }
@@ -111,7 +122,37 @@ fn sort_more(texts: &Texts, sorting: Sorting) -> Result<Places, AllocError>
     if sorting.step(texts)? {
         return Ok(Places::Sorted(sorting));
     }
-    Ok(Places::Made(sorting.end(texts)?))
+    let Sorting { heads, places } = sorting;
+    Ok(Places::Compared(ComparedPlaces {
+        heads,
+        places: places.end()?,
+        compared: 0,
+    }))
+}
+
+/// Compares the next of them; where one isn't in order, which no proof rules out, all are brought into order at once.
+fn compare_more(texts: &Texts, begun: ComparedPlaces) -> Places
+    requires { AreComparedOf texts.now begun }
+    ensures { MakesOrderOf texts.now result }
+{
+    let ComparedPlaces {
+        heads,
+        mut places,
+        compared,
+    } = begun;
+    let to = places.len().min(compared.saturating_add(NEIGHBOURS));
+    if !are_in_order(texts, places.as_slice(), compared, to) {
+        put_in_order(texts, heads.as_slice(), &mut places);
+        return Places::Made(places);
+    }
+    if to == places.len() {
+        return Places::Made(places);
+    }
+    Places::Compared(ComparedPlaces {
+        heads,
+        places,
+        compared: to,
+    })
 }
 
 /// Puts the next of the texts behind those that are put with their octets in reverse order. The only error is refused memory.

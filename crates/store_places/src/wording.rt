@@ -8,7 +8,7 @@ ghost use Rattle.store_places.specs.Pieces.{placed_at, occurrences_from, AreOccu
 ghost use Rattle.store_places.specs.Wording.{AreWorded, AreWordsTaken, AreWordsSorted, AreWordsGrouped, words_with_places, row_cmp};
 
 use crate::pieces::{Pieces, pieces_of, put, words_of};
-use crate::sorting::Sorting;
+use crate::sorting::{Places, Sorting, place_next};
 use dict_match::words;
 use std::alloc::{AllocError, Global};
 use store_derived::{PlaceLists, Texts};
@@ -30,12 +30,12 @@ pub struct TakenWords {
     pub place: u32,
 }
 
-/// Those of all keys, which are being sorted.
+/// Those of all keys, and what is made of their order.
 #[derive(Drop)]
 pub struct SortedWords {
     pub found: Texts,
     pub places: Vec<u32>,
-    pub sorting: Sorting,
+    pub sorting: Places,
 }
 
 /// The same in order, each once for each key, of which those before a place are grouped.
@@ -158,11 +158,11 @@ fn begin_sorting(
     Ok(Wording::Sorted(SortedWords {
         found,
         places,
-        sorting,
+        sorting: Places::Sorted(sorting),
     }))
 }
 
-/// Sorts the next of the words; once all are, each is left once for each key.
+/// Sorts the next of the words; once all are in order, they are to be grouped.
 fn sort_more(alloc: Global, keys: &Texts, sorted: SortedWords) -> Result<Wording, AllocError>
     requires { AreWordsSorted keys.now sorted }
     ensures { IfOk result (AreWorded keys.now) }
@@ -170,16 +170,32 @@ fn sort_more(alloc: Global, keys: &Texts, sorted: SortedWords) -> Result<Wording
     let SortedWords {
         found,
         places,
-        mut sorting,
+        sorting,
     } = sorted;
-    if sorting.step(&found)? {
-        return Ok(Wording::Sorted(SortedWords {
+    match place_next(&found, sorting)? {
+        Places::Made(order) => begin_grouping(alloc, keys, found, places, order),
+        sorting => Ok(Wording::Sorted(SortedWords {
             found,
             places,
             sorting,
-        }));
+        })),
     }
-    let order = each_once(keys, &found, places.as_slice(), sorting.end(&found)?);
+}
+
+/// Each of the words is left once for each key, and they are to be grouped.
+fn begin_grouping(
+    alloc: Global,
+    keys: &Texts,
+    found: Texts,
+    places: Vec<u32>,
+    order: Vec<u32>,
+) -> Result<Wording, AllocError>
+    requires same { length found ≡ length places.items }
+    requires all { zip found places.items ≡ occurrences_from words_between_blanks 0 keys.now }
+    requires order { IsOrderOf found order.items }
+    ensures { IfOk result (AreWorded keys.now) }
+{
+    let order = each_once(keys, &found, places.as_slice(), order);
     let lists = PlaceLists::with_capacity(alloc, order.len())?;
     Ok(Wording::Grouped(GroupedWords {
         found,

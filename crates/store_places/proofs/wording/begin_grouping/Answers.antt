@@ -4,22 +4,19 @@ use Rattle.dict_match.specs.Words.{words_between_blanks}
 use Rattle.store_places.specs.Pieces.{AreOccurrences}
 use Rattle.store_places.specs.Wording.{words_with_places}
 use Rattle.store_places.proofs.PieceLemmas.{goes_none}
-use Rattle.store_places.proofs.wording.sort_more.Goals as goal
-
-pub returns-then-branch : goal.returns-then-branch
-returns-then-branch c = record { same = c.requires.same; are = c.requires.are; indexes = c.step.ensures }
+use Rattle.store_places.proofs.wording.begin_grouping.Goals as goal
 
 pub each_once-order-requires : goal.each_once-order-requires
 each_once-order-requires c =
     let value = c.as_slice.ensures.value in
     record {
       same = c.requires.same ∙ ap length (sym value);
-      all = ap (zip c.args.sorted.found) value ∙ c.requires.are;
-      order = c.in_ok-end.ensures;
+      all = ap (zip c.args.found) value ∙ c.requires.all;
+      order = c.requires.order;
     }
 
 pub returns : goal.returns
 returns c = record {
-  all = subst (λ l. AreOccurrences words_between_blanks c.args.keys.now (words_with_places c.args.sorted.found l c.each_once-order.result.items)) c.as_slice.ensures.value c.each_once-order.ensures;
+  all = subst (λ l. AreOccurrences words_between_blanks c.args.keys.now (words_with_places c.args.found l c.each_once-order.result.items)) c.as_slice.ensures.value c.each_once-order.ensures;
   first = goes_none _ _ _ c.new.ensures c.in_ok-lists.ensures;
 }
