@@ -1,6 +1,7 @@
 -- The record and the parts of an edition that are added.
-use Rattle.std.proofs.Common.{◌≡◌, ℕ, ◌+◌, ◌-◌, ◌<◌, ◌≤◌, pos, List, [], ◌∷◌, ◌++◌, length, take, drop, get_or, codes, arith, refl, sym, ap, subst, ◌∙◌, append-nil}
-use Rattle.std.specs.Prelude.{slice_range, Option, Some, None}
+use Rattle.std.proofs.Common.{◌≡◌, ℕ, ◌+◌, ◌-◌, ◌<◌, ◌≤◌, pos, List, [], ◌∷◌, ◌++◌, length, take, drop, get_or, map, codes, arith, refl, sym, ap, subst, ◌∙◌, append-nil}
+use Rattle.std.specs.Prelude.{slice_range, Option, Some, None, unwrap_or}
+use Rattle.std.proofs.lemmas.Option.{none-some}
 use Rattle.std.proofs.lemmas.List.{take_all, take_more, length-take-le, length-drop, get_or-drop, get_or-take}
 use Rattle.sqlite.specs.Effect.{Database}
 use Rattle.sqlite.specs.State.{HasCleanDisk, Survives}
@@ -10,18 +11,19 @@ use Rattle.sqlite_trees.specs.declared.store.Store.{Ghosts}
 use Rattle.store_sql.specs.Inserts.{Inserts, FailsToInsert}
 use Rattle.store_edition_sql.specs.HeaderRecords.{header_row}
 use Rattle.store_records.specs.Records.{EditionRecord, HeaderRecord, header_of}
-use Rattle.store_rows.specs.After.{Installed, installed_entries}
+use Rattle.store_rows.specs.After.{Installed, TableChange, installed_editions}
 use Rattle.store_rows.specs.Written.{edition_record}
 use Rattle.store_rows.specs.Stored.{stored_index}
+use Rattle.store_rows.specs.Versions.{known}
 use Rattle.store_holdings.specs.Files.{parts_under, installed_parts}
-use Rattle.store_holdings.specs.AllTables.{AllTables}
+use Rattle.store_holdings.specs.AllTables.{AllTables, all_after}
 use Rattle.store_commands.specs.KeptRecords.{HasRecords}
-use Rattle.store_commands.specs.Changes.{with_more_editions, with_more_parts, without_parts, with_installed}
-use Rattle.store_commands.specs.Statements.{adding_edition, installing}
+use Rattle.store_commands.specs.Changes.{with_more_editions, with_more_parts, with_files, finished, installed_header}
+use Rattle.store_commands.specs.Statements.{adding_edition, adding_part, filing_of}
 use Rattle.store_commands.specs.Writes.{WroteStatements, FailsToWrite}
-use Rattle.store_commands.proofs.LoopLemmas.{Grows}
+use Rattle.store_commands.proofs.LoopLemmas.{Grows, adding_none, parts_none}
 use Rattle.store_commands.proofs.TableLemmas.{edition_row, editions_added, other_entries}
-use Rattle.store_commands.proofs.WriteLemmas.{wrote_none, wrote_as, wrote_added, failed_one}
+use Rattle.store_commands.proofs.WriteLemmas.{wrote_added, failed_one}
 use Rattle.store_sql.specs.Statements.{add}
 
 -- ---- its record
@@ -35,6 +37,28 @@ module _ {S : Type 0} (g : Ghosts S) (given : HeaderRecord) (wanted : EditionRec
   pub failed_header : (e : Error) → (HasCleanDisk (state g new) → FailsToInsert (codes "edition") (header_row given) (state g old) (state g new) e) → FailsToWrite g (adding_edition wanted ∷ []) old new e
   failed_header e h =
       failed_one g (add (codes "edition") (edition_row wanted)) old new survives e (λ clean. subst (λ (k : HeaderRecord). FailsToInsert (codes "edition") (header_row k) (state g old) (state g new) e) is (h clean))
+
+-- the record of the edition that is installed, if there is one
+module _ {S : Type 0} (g : Ghosts S) (given : HeaderRecord) where
+  pub wrote_installed : (edition : Option Installed) → installed_header edition ≡ Some given → (old new : Held S) → Survives (state g old) (state g new) (λ _. ⊥)
+      → (HasCleanDisk (state g new) → Inserts (codes "edition") (header_row given) (state g old) (state g new)) → WroteStatements g (map adding_edition (installed_editions edition)) (with_more_editions (installed_editions edition)) old new
+  wrote_installed None is old after survives did = absurd (none-some given is)
+  wrote_installed (Some new) is old after survives did =
+      wrote_header g given (edition_record new.owner new.number new.reading) (sym (ap (λ o. unwrap_or o given) is)) old after survives did
+
+  pub failed_installed : (edition : Option Installed) → installed_header edition ≡ Some given → (old new : Held S) → Survives (state g old) (state g new) (λ _. ⊥) → (e : Error)
+      → (HasCleanDisk (state g new) → FailsToInsert (codes "edition") (header_row given) (state g old) (state g new) e) → FailsToWrite g (map adding_edition (installed_editions edition)) old new e
+  failed_installed None is old after survives e did = absurd (none-some given is)
+  failed_installed (Some new) is old after survives e did =
+      failed_header g given (edition_record new.owner new.number new.reading) (sym (ap (λ o. unwrap_or o given) is)) old after survives e did
+
+editions_none : (all : AllTables) → with_more_editions [] all ≡ all
+editions_none all = ap (λ (l : List EditionRecord). record all { editions = l }) (append-nil all.editions)
+
+pub wrote_no_record : {S : Type 0} (g : Ghosts S) (edition : Option Installed) → installed_header edition ≡ None → (a : Held S) → WroteStatements g (map adding_edition (installed_editions edition))
+    (with_more_editions (installed_editions edition)) a a
+wrote_no_record g None is a = adding_none g adding_edition with_more_editions editions_none a
+wrote_no_record g (Some new) is a = absurd (none-some _ (sym is))
 
 -- ---- its parts
 
@@ -65,19 +89,9 @@ whole_range xs n is =
 pub parts_installed : (new : Installed) (index text : List ℕ) → index ≡ stored_index new.reading.lines → text ≡ new.reading.text → parts_under (pos new.number) index text ≡ installed_parts (Some new)
 parts_installed new index text one two = λ i. parts_under (pos new.number) (one i) (two i)
 
-pub installed_turned : (new : Installed) (db : Database) (all : AllTables) → HasRecords db
-    (with_more_editions (edition_record new.owner new.number new.reading ∷ []) (with_more_parts (installed_parts (Some new)) (without_parts (new.number ∷ []) all))) → HasRecords db (with_installed (Some new) all)
-installed_turned new db all it =
-    other_entries db (with_more_editions (edition_record new.owner new.number new.reading ∷ []) (with_more_parts (installed_parts (Some new)) (without_parts (new.number ∷ []) all))) it
-    (all.entries ++ installed_entries (Some new))
+pub wrote_no_files : {S : Type 0} (g : Ghosts S) (edition : Option Installed) → edition ≡ None → (a : Held S) → WroteStatements g (filing_of edition) (with_files edition) a a
+wrote_no_files g edition is a = subst (λ e. WroteStatements g (filing_of e) (with_files e) a a) (sym is) (adding_none g adding_part with_more_parts parts_none a)
 
--- no edition is installed
-none_installed : (db : Database) (all : AllTables) → HasRecords db all → HasRecords db (with_installed None all)
-none_installed db all it = subst (λ (t : AllTables). HasRecords db t) (λ i. record all {
-  editions = sym (append-nil all.editions) i;
-  entries = sym (append-nil all.entries) i;
-  parts = sym (append-nil all.parts) i;
-}) it
-
-pub wrote_no_edition : {S : Type 0} (g : Ghosts S) (edition : Option Installed) → edition ≡ None → (a : Held S) → WroteStatements g (installing edition) (with_installed edition) a a
-wrote_no_edition g edition is a = subst (λ e. WroteStatements g (installing e) (with_installed e) a a) (sym is) (wrote_as g [] (λ all. all) (with_installed None) a a none_installed (wrote_none g a))
+-- the parts and then the rest make of the records what the whole makes: the entries alone differ, which no table keeps
+pub whole_turned : (change : TableChange) (db : Database) (all : AllTables) → HasRecords db (finished change (with_files change.edition all)) → HasRecords db (all_after known change all)
+whole_turned change db all it = other_entries db (finished change (with_files change.edition all)) it (all_after known change all).entries

@@ -32,15 +32,14 @@ use Rattle.store_holdings.specs.Holds.{Keeps}
 use Rattle.store_commands.specs.KeptRecords.{HasRecords, TurnsRecords}
 use Rattle.store_commands.specs.Filing.{parts_of_filing, AreAllPartsFiled, IsOfEdition, HasFiledParts, filing_part, AreOfSomePart, with_part}
 use Rattle.store_commands.specs.FiledParts.{FilesUpTo, WritesUpTo, FailsAmong}
-use Rattle.store_commands.specs.Changes.{with_more_parts, without_parts}
-use Rattle.store_commands.specs.Statements.{adding_part, taking_parts, last_parts}
-use Rattle.store_commands.specs.Writes.{WroteStatements, FailsToWrite, CommitsNothing}
-use Rattle.store_commands.specs.Finishing.{finished, AwaitsRest}
+use Rattle.store_commands.specs.Changes.{finished, with_more_parts, with_parts_anew}
+use Rattle.store_commands.specs.Statements.{adding_part, parts_anew}
+use Rattle.store_commands.specs.Writes.{WroteStatements, FailsToWrite}
+use Rattle.store_commands.specs.Finishing.{AwaitsRest}
 use Rattle.store_commands.specs.declared.filing.Filing.{Filing}
 use Rattle.store_commands.proofs.RowLemmas.{filter_map, next_column, compared_values}
 use Rattle.store_commands.proofs.TableLemmas.{parts_kept, other_entries, other_parts}
 use Rattle.store_commands.proofs.TextLemmas.{parts_its, left_out, none_found, gone_itself}
-use Rattle.store_commands.proofs.WriteLemmas.{wrote_then, failed_before, failed_after}
 
 -- ---- lists
 
@@ -234,29 +233,19 @@ module _ {S : Type 0} (g : Ghosts S) (f : Filing) (to : ℕ) (old new : Held S) 
       )
 
     -- where it begins
-    module _ (is : f.is_begun ≡ false) where
-      module _ (mid : Held S) (taken : WroteStatements g (taking_parts f.number last_parts) (without_parts (f.number ∷ [])) old mid) (spares : CommitsNothing g mid new) where
-        pub first_wrote : WroteStatements g (map adding_part (slice_range parts 0 to)) (with_more_parts (slice_range parts 0 to)) mid new → WritesUpTo g f to old new
-        first_wrote wrote = record {
-          goes_on = λ yes. absurd (false≢true (sym is ∙ yes));
-          wrote = subst (λ (b : Bool). WroteStatements g (filing_part b f to) (with_part b f to) old new) (sym is)
-              (subst (λ (l : List Part). WroteStatements g (taking_parts f.number last_parts ++ map adding_part (slice_range l 0 to)) (λ all. with_more_parts (slice_range l 0 to) (without_parts (f.number ∷ []) all)) old new) are
-              (wrote_then g (taking_parts f.number last_parts) (map adding_part (slice_range parts 0 to)) (without_parts (f.number ∷ [])) (with_more_parts (slice_range parts 0 to)) old mid new taken wrote spares));
-        }
+    module _ (number : ℕ) (same : number ≡ f.number) (is : f.is_begun ≡ false) where
+      begins_as : (P : ℕ → List Part → Type 0) → P number (slice_range parts 0 to) → P f.number (slice_range (parts_of_filing f) 0 to)
+      begins_as P h = subst (λ n. P n (slice_range (parts_of_filing f) 0 to)) same (subst (λ (l : List Part). P number (slice_range l 0 to)) are h)
 
-        pub first_failed : (e : Error) → FailsToWrite g (map adding_part (slice_range parts 0 to)) mid new e → FailsAmong g (AreOfSomePart f) old new e
-        first_failed e failed = (
-          filing_part f.is_begun f to,
-          (to, refl),
-          subst (λ (b : Bool). FailsToWrite g (filing_part b f to) old new e) (sym is)
-              (subst (λ (l : List Part). FailsToWrite g (taking_parts f.number last_parts ++ map adding_part (slice_range l 0 to)) old new e) are
-              (failed_after g (taking_parts f.number last_parts) (map adding_part (slice_range parts 0 to)) (without_parts (f.number ∷ [])) old mid new e taken spares failed)),
-        )
+      pub first_wrote : WroteStatements g (parts_anew number (slice_range parts 0 to)) (with_parts_anew number (slice_range parts 0 to)) old new → WritesUpTo g f to old new
+      first_wrote wrote = record {
+        goes_on = λ yes. absurd (false≢true (sym is ∙ yes));
+        wrote = subst (λ (b : Bool). WroteStatements g (filing_part b f to) (with_part b f to) old new) (sym is) (begins_as (λ n l. WroteStatements g (parts_anew n l) (with_parts_anew n l) old new) wrote);
+      }
 
-      pub taking_failed : (e : Error) → FailsToWrite g (taking_parts f.number last_parts) old new e → FailsAmong g (AreOfSomePart f) old new e
-      taking_failed e failed = (
+      pub first_failed : (e : Error) → FailsToWrite g (parts_anew number (slice_range parts 0 to)) old new e → FailsAmong g (AreOfSomePart f) old new e
+      first_failed e failed = (
         filing_part f.is_begun f to,
         (to, refl),
-        subst (λ (b : Bool). FailsToWrite g (filing_part b f to) old new e) (sym is)
-            (failed_before g (taking_parts f.number last_parts) (map adding_part (slice_range (parts_of_filing f) 0 to)) old new e failed),
+        subst (λ (b : Bool). FailsToWrite g (filing_part b f to) old new e) (sym is) (begins_as (λ n l. FailsToWrite g (parts_anew n l) old new e) failed),
       )

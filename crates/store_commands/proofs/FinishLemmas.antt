@@ -29,12 +29,13 @@ use Rattle.store_holdings.specs.Holds.{Holds, Rests, IsLeftAs}
 use Rattle.store_holdings.specs.Writing.{FailsToEnd}
 use Rattle.store_holdings.specs.Committed.{IsCommitted, IsTreesOf}
 use Rattle.store_commands.specs.KeptRecords.{IsUsable, SparesTablesOfOthers, KeepsTextRows, TurnsRecords}
-use Rattle.store_commands.specs.Changes.{change_by, IsInRange}
+use Rattle.store_commands.specs.Changes.{change_by, finished, IsInRange}
+use Rattle.store_commands.specs.Statements.{finishing}
 use Rattle.store_commands.specs.Decided.{LiesWithin}
 use Rattle.store_commands.specs.Committed.{IsOfStore, StaysCommitted}
 use Rattle.store_commands.specs.Answers.{HoldsBy, HoldsAfter, Answers, numbers_after, IsOfApply}
 use Rattle.store_commands.specs.Filing.{IsOfEdition, IsFiledSoFar, AreAllPartsFiled}
-use Rattle.store_commands.specs.Finishing.{finishing, finished, AwaitsRest, IsAppliedOver, FailsToFinish}
+use Rattle.store_commands.specs.Finishing.{AwaitsRest, IsAppliedOver, FailsToFinish}
 use Rattle.store_commands.specs.Writes.{WroteStatements}
 use Rattle.store_commands.specs.declared.filing.Filing.{Filing}
 use Rattle.store_commands.specs.declared.applied.Applied.{Applied}

@@ -1,6 +1,7 @@
 -- What one statement has written, and what two calls have, one after the other.
 use Rattle.std.proofs.Common.{◌≡◌, ◌++◌, ℕ, ℤ, Bool, List, [], ◌∷◌, inl, refl, arith, ◌∙◌, subst}
 use Rattle.std.specs.Prelude.{Result, Ok, Err, IfErr, OnOk}
+use Rattle.std.proofs.lemmas.Result.{on_ok_weaker, IfErr-weaker}
 use Rattle.sqlite.specs.Effect.{Database}
 use Rattle.sqlite.specs.Order.{Row}
 use Rattle.sqlite.specs.Schema.{Schema}
@@ -164,3 +165,25 @@ module _ {S : Type 0} (g : Ghosts S) where
   pub failed_after : (front back : List Statement) (f : AllTables → AllTables) (old mid new : Held S) (e : Error) → WroteStatements g front f old mid → CommitsNothing g mid new → FailsToWrite g back mid new e
       → FailsToWrite g (front ++ back) old new e
   failed_after front back f old mid new e one spares h = λ clean. fails_after g front back old mid new e (one.ran (clean_before (state g mid) (state g new) spares.survives clean)) (h clean)
+
+  -- ---- a call, and the run behind it
+
+  -- These statements were to be run, and the call that ran them, or calls one after the other, ended so.
+  pub record Ends {X : Type 0} (statements : List Statement) (f : AllTables → AllTables) (old new : Held S) (result : Result X Error) : Type 0 where
+    pub wrote : OnOk result (WroteStatements g statements f old new)
+    pub failed : IfErr result (FailsToWrite g statements old new)
+    pub spares : CommitsNothing g old new
+
+  -- it failed, and more would have come
+  pub cut : (front back : List Statement) (old new : Held S) (e : Error) → FailsToWrite g front old new e → CommitsNothing g old new → Ends {X = Unit {0}} (front ++ back) (λ all. all) old new (Err e)
+  cut front back old new e failed spares = record { wrote = tt; failed = failed_before front back old new e failed; spares = spares }
+
+  -- another came before it, and did what it says
+  module _ {X : Type 0} {front back : List Statement} {f h : AllTables → AllTables} {old mid new : Held S} {result : Result X Error} (one : WroteStatements g front f old mid) (first : CommitsNothing g old mid)
+      (rest : Ends back h mid new result) where
+    pub behind : Ends (front ++ back) (λ all. h (f all)) old new result
+    behind = record {
+      wrote = on_ok_weaker result (λ two. wrote_then front back f h old mid new one two rest.spares) rest.wrote;
+      failed = IfErr-weaker result (FailsToWrite g back mid new) (FailsToWrite g (front ++ back) old new) (λ e failed. failed_after front back f old mid new e one rest.spares failed) rest.failed;
+      spares = spares_then old mid new first rest.spares;
+    }

@@ -1,5 +1,5 @@
 -- What each part of a command's change makes of the records.
-use Rattle.std.specs.Prelude.{ℕ, ◌≤◌, not, List, [], ◌∷◌, ◌++◌, filter, Option, Some, None, IfSome}
+use Rattle.std.specs.Prelude.{ℕ, ◌≤◌, not, List, [], ◌∷◌, ◌++◌, filter, Option, Some, None, IfSome, option_map}
 use Rattle.std.specs.List.{AllByRecursion}
 use Rattle.dict_catalogue.specs.Items.{Item, numbers_of, edition_numbers}
 use Rattle.dict_catalogue.specs.Steps.{KeptFor}
@@ -8,12 +8,12 @@ use Rattle.dict_catalogue.specs.Views.{item_shown, summary_shown, kept_shown}
 use Rattle.dict_catalogue.specs.declared.commands.Command.{Command}
 use Rattle.dict_catalogue.specs.declared.commands.Command.TheVariants.{Install, Rollback, Retire, PutVirtual, Place}
 use Rattle.dict_catalogue.specs.declared.planning.PlannedChange.{PlannedChange as Planned}
-use Rattle.store_records.specs.Records.{ItemRecord, Member, EditionRecord, Part}
+use Rattle.store_records.specs.Records.{ItemRecord, Member, EditionRecord, HeaderRecord, Part, header_of}
 use Rattle.store_holdings.specs.Files.{installed_parts}
 use Rattle.store_holdings.specs.AllTables.{AllTables, beside_installed}
 use Rattle.store_rows.specs.Stored.{stored_index}
-use Rattle.store_rows.specs.Written.{numbered, mark_record, item_record, kept_record}
-use Rattle.store_rows.specs.After.{Installed, TableChange, all_members, is_gone, installed_editions, installed_entries}
+use Rattle.store_rows.specs.Written.{numbered, mark_record, item_record, edition_record, kept_record}
+use Rattle.store_rows.specs.After.{Installed, TableChange, all_members, is_gone, installed_editions}
 use Rattle.store_rows.specs.Versions.{known}
 use Rattle.store_commands.specs.KeptRecords.{FitsColumn, AreStorable}
 
@@ -45,13 +45,13 @@ without_parts gone all = record all { parts = filter (λ row. not (is_gone gone 
 abbrev pub without_editions : List ℕ → AllTables → AllTables
 without_editions gone all = record all { editions = filter (λ row. not (is_gone gone row.number)) all.editions; entries = filter (λ row. not (is_gone gone row.edition)) all.entries }
 
--- with the edition that is installed, where there is one, in place of parts that stood under its number
-abbrev pub with_installed : Option Installed → AllTables → AllTables
-with_installed edition all = record all {
-  editions = all.editions ++ installed_editions edition;
-  entries = all.entries ++ installed_entries edition;
-  parts = beside_installed edition all.parts ++ installed_parts edition;
-}
+-- with these parts in place of those under a number
+abbrev pub with_parts_anew : ℕ → List Part → AllTables → AllTables
+with_parts_anew number parts all = with_more_parts parts (without_parts (number ∷ []) all)
+
+-- with the parts of the edition that is installed, where there is one, in place of those under its number
+abbrev pub with_files : Option Installed → AllTables → AllTables
+with_files edition all = record all { parts = beside_installed edition all.parts ++ installed_parts edition }
 
 -- the mark, the items and the members written anew
 abbrev pub with_mark : ℕ → AllTables → AllTables
@@ -66,6 +66,17 @@ with_members items all = record all { members = all_members items }
 -- with one reply more
 abbrev pub with_reply : KeptFor → AllTables → AllTables
 with_reply kept all = record all { kept = all.kept ++ kept_record kept ∷ [] }
+
+-- what the statements behind those of the parts make of the records
+abbrev pub finished : TableChange → AllTables → AllTables
+finished change all =
+    with_reply change.kept
+    (with_more_editions (installed_editions change.edition)
+    (without_editions change.gone (with_members change.summary.items (with_items change.summary.items (with_mark change.summary.installs all)))))
+
+-- the record of the edition that is installed, without its text
+abbrev pub installed_header : Option Installed → Option HeaderRecord
+installed_header edition = option_map (λ new. header_of (edition_record new.owner new.number new.reading)) edition
 
 -- the edition that a command installs, under this number
 abbrev pub installed_by : ℕ → Command → Option Installed
@@ -83,14 +94,17 @@ index_by (Retire name) = []
 index_by (PutVirtual name title members) = []
 index_by (Place name at) = []
 
--- what is written where a command was planned so
-abbrev pub change_by : List ℕ → Command → Planned → TableChange
-change_by id command planned = record {
+-- what is written where a command was planned so, and this edition is installed
+abbrev pub change_with : List ℕ → Option Installed → Planned → TableChange
+change_with id edition planned = record {
   summary = summary_shown planned.summary;
   gone = planned.gone.items;
-  edition = installed_by planned.summary.installs command;
+  edition = edition;
   kept = record { id = id; reply = kept_shown planned.kept };
 }
+
+abbrev pub change_by : List ℕ → Command → Planned → TableChange
+change_by id command planned = change_with id (installed_by planned.summary.installs command) planned
 
 -- the numbers of what was planned can be held by the tables
 pub record IsWritable (planned : Planned) : Type 0 where

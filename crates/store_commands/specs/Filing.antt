@@ -1,5 +1,5 @@
 -- The files of an edition that a command is to install, their parts filed some at a time, by a commit each, under the number that comes.
-use Rattle.std.specs.Prelude.{◌≡◌, ℕ, ◌≤◌, pos, Bool, true, false, IsTrue, List, [], ◌∷◌, ◌++◌, map, slice_range, Option, Some, None, codes, take, length, IsPermutation}
+use Rattle.std.specs.Prelude.{◌≡◌, ℕ, ◌≤◌, pos, Bool, true, false, IsTrue, List, map, slice_range, Option, Some, None, codes, take, length, IsPermutation}
 use Rattle.sqlite.specs.Effect.{Database}
 use Rattle.sqlite.specs.State.{State, HasCleanDisk}
 use Rattle.sqlite.specs.declared.error.Error.{Error}
@@ -16,8 +16,8 @@ use Rattle.store_holdings.specs.Files.{parts_under}
 use Rattle.store_holdings.specs.Texts.{rows_under}
 use Rattle.store_holdings.specs.AllTables.{AllTables}
 use Rattle.store_commands.specs.KeptRecords.{FitsColumn}
-use Rattle.store_commands.specs.Changes.{with_more_parts, without_parts}
-use Rattle.store_commands.specs.Statements.{adding_part, taking_parts, last_parts}
+use Rattle.store_commands.specs.Changes.{with_more_parts, with_parts_anew}
+use Rattle.store_commands.specs.Statements.{adding_part, parts_anew}
 use Rattle.store_commands.specs.declared.files.EditionFiles.{EditionFiles}
 use Rattle.store_commands.specs.declared.filing.Filing.{Filing}
 
@@ -80,7 +80,7 @@ fault_filed _ = None
 -- what parts stand under its number are taken out, and then its first ones are added.
 abbrev pub filing_part : Bool → Filing → ℕ → List Statement
 filing_part true f to = map adding_part (slice_range (parts_of_filing f) f.parts_filed to)
-filing_part false f to = taking_parts f.number last_parts ++ map adding_part (slice_range (parts_of_filing f) 0 to)
+filing_part false f to = parts_anew f.number (slice_range (parts_of_filing f) 0 to)
 
 abbrev pub AreOfSomePart : Filing → List Statement → Type 0
 AreOfSomePart f statements = (to : ℕ) × (statements ≡ filing_part f.is_begun f to)
@@ -88,4 +88,4 @@ AreOfSomePart f statements = (to : ℕ) × (statements ≡ filing_part f.is_begu
 -- what they make of the records
 abbrev pub with_part : Bool → Filing → ℕ → AllTables → AllTables
 with_part true f to all = with_more_parts (slice_range (parts_of_filing f) f.parts_filed to) all
-with_part false f to all = with_more_parts (slice_range (parts_of_filing f) 0 to) (without_parts (f.number ∷ []) all)
+with_part false f to all = with_parts_anew f.number (slice_range (parts_of_filing f) 0 to) all

@@ -1,10 +1,9 @@
 -- The rest of a command whose edition was filed.
-use Rattle.std.specs.Prelude.{◌≡◌, ◌≤◌, ℕ, List, ◌++◌, map, flat_map, true, false, IsTrue, IfErr, OnOk, OnErr, Result}
+use Rattle.std.specs.Prelude.{◌≡◌, ◌≤◌, ℕ, List, true, false, IsTrue, IfErr, OnOk, OnErr, Result}
 use Rattle.sqlite.specs.Effect.{Database}
 use Rattle.sqlite.specs.State.{State, HasCleanDisk, IsUnchanged, Survives}
 use Rattle.sqlite.specs.Held.{Held, state}
 use Rattle.sqlite_trees.specs.declared.store.Store.{Ghosts}
-use Rattle.store_sql.specs.Statements.{Statement}
 use Rattle.dict_index.specs.Edition.{Edition, ReadEdition, edition_of}
 use Rattle.dict_text.specs.Names.{is_request_id}
 use Rattle.dict_catalogue.specs.Commands.{Command, install}
@@ -13,31 +12,18 @@ use Rattle.dict_catalogue.specs.Steps.{Catalogue, summary_of, step}
 use Rattle.dict_desk.specs.Faults.{is_failure}
 use Rattle.dict_desk.specs.declared.fault.Fault.{Fault}
 use Rattle.store_rows.specs.Versions.{known}
-use Rattle.store_rows.specs.After.{TableChange, installed_editions}
+use Rattle.store_rows.specs.After.{TableChange}
 use Rattle.store_holdings.specs.AllTables.{AllTables, all_after}
 use Rattle.store_holdings.specs.Holds.{Rests, IsLeftAs}
 use Rattle.store_holdings.specs.Writing.{FailsToEnd}
 use Rattle.store_commands.specs.KeptRecords.{HasRecords, SparesTablesOfOthers, KeepsTextRows}
-use Rattle.store_commands.specs.Changes.{IsInRange, with_mark, with_items, with_members, with_more_editions, without_editions, with_reply}
-use Rattle.store_commands.specs.Statements.{summary_anew, taking, adding_edition, replying}
+use Rattle.store_commands.specs.Changes.{IsInRange, finished}
+use Rattle.store_commands.specs.Statements.{finishing}
 use Rattle.store_holdings.specs.Committed.{IsTreesOf}
 use Rattle.store_commands.specs.Answers.{Answers, HoldsBy, has_written, summary_after, numbers_after, IsOfApply, IsOfShut, IsPlanned, HoldsAfter}
 use Rattle.store_commands.specs.declared.applied.Applied.{Applied}
 use Rattle.store_commands.specs.Installs.{install_read}
 use Rattle.store_commands.specs.Installed.{HasInstalled}
-
--- behind what was filed: the summary anew, the editions that go, the record of the edition, and the reply
-abbrev pub finishing : ℕ → TableChange → List Statement
-finishing version change =
-    summary_anew version change.summary.installs change.summary.items
-    ++ (flat_map taking change.gone ++ (map adding_edition (installed_editions change.edition) ++ replying change.kept))
-
--- what they make of the records
-abbrev pub finished : TableChange → AllTables → AllTables
-finished change all =
-    with_reply change.kept
-    (with_more_editions (installed_editions change.edition)
-    (without_editions change.gone (with_members change.summary.items (with_items change.summary.items (with_mark change.summary.installs all)))))
 
 -- Whatever records the database keeps, the rest of the change makes of them what the whole makes, and nothing else.
 abbrev pub AwaitsRest : TableChange → Database → Type 0

@@ -1,15 +1,16 @@
 -- How much is left to do, in counts: each of them is of a kind, and what is done first stands at the head.
-use Rattle.std.specs.Prelude.{◌≡◌, ◌⊎◌, ◌<◌, ◌-◌, ◌^◌, ℕ, Bool, true, false, List, [], ◌∷◌}
+use Rattle.std.specs.Prelude.{◌≡◌, ◌⊎◌, ◌<◌, ◌-◌, ◌^◌, ℕ, Bool, true, false, List, [], ◌∷◌, length}
 use Rattle.store_commands.specs.Drafts.{DraftState}
 use Rattle.store_commands.specs.Installs.{is_refused, lines_read}
 use Rattle.store_commands.specs.declared.filing.Filing.{Filing}
 use Rattle.store_commands.specs.declared.install.Progress.{Progress}
 
--- Of two lists as long the one is less: at the first place where they differ. There is no list below which one after the other lies for ever.
+-- Of two lists of the same length the one is less: at the first place where they differ. So there is no list below which one after the other lies for
+-- ever.
 abbrev pub IsLess : List ℕ → List ℕ → Type 0
 IsLess [] others = ⊥
 IsLess (n ∷ ns) [] = ⊥
-IsLess (n ∷ ns) (other ∷ others) = (n < other) ⊎ ((n ≡ other) × IsLess ns others)
+IsLess (n ∷ ns) (other ∷ others) = ((n < other) × (length ns ≡ length others)) ⊎ ((n ≡ other) × IsLess ns others)
 
 -- what the step of a draft that is refused has to do, and that of another one
 abbrev pub kind_left : Bool → ℕ

@@ -64,34 +64,38 @@ taking_from number bound = remove (codes "dictcat_part") (is_part_from (pos numb
 abbrev pub taking_parts : ℕ → List (ℤ × ℤ) → List Statement
 taking_parts number parts = map (taking_from number) parts ++ taking_of (codes "dictcat_part") number ∷ []
 
--- from its last part on a text goes 256 parts, which are 4 MiB, at a time, and then so does an index
+-- from its last part on a text goes 128 parts, which are 2 MiB, at a time, and then so does an index
 abbrev pub last_parts : List (ℤ × ℤ)
 last_parts =
-    (pos 1, pos 3840) ∷ (pos 1, pos 3584) ∷ (pos 1, pos 3328) ∷ (pos 1, pos 3072) ∷ (pos 1, pos 2816) ∷ (pos 1, pos 2560) ∷ (pos 1, pos 2304)
-    ∷ (pos 1, pos 2048) ∷ (pos 1, pos 1792) ∷ (pos 1, pos 1536) ∷ (pos 1, pos 1280) ∷ (pos 1, pos 1024) ∷ (pos 1, pos 768) ∷ (pos 1, pos 512) ∷ (pos 1, pos 256)
-    ∷ (pos 1, pos 0) ∷ (pos 0, pos 768) ∷ (pos 0, pos 512) ∷ (pos 0, pos 256) ∷ []
+    (pos 1, pos 3968) ∷ (pos 1, pos 3840) ∷ (pos 1, pos 3712) ∷ (pos 1, pos 3584) ∷ (pos 1, pos 3456) ∷ (pos 1, pos 3328) ∷ (pos 1, pos 3200) ∷ (pos 1, pos 3072)
+    ∷ (pos 1, pos 2944) ∷ (pos 1, pos 2816) ∷ (pos 1, pos 2688) ∷ (pos 1, pos 2560) ∷ (pos 1, pos 2432) ∷ (pos 1, pos 2304) ∷ (pos 1, pos 2176) ∷ (pos 1, pos 2048)
+    ∷ (pos 1, pos 1920) ∷ (pos 1, pos 1792) ∷ (pos 1, pos 1664) ∷ (pos 1, pos 1536) ∷ (pos 1, pos 1408) ∷ (pos 1, pos 1280) ∷ (pos 1, pos 1152) ∷ (pos 1, pos 1024)
+    ∷ (pos 1, pos 896) ∷ (pos 1, pos 768) ∷ (pos 1, pos 640) ∷ (pos 1, pos 512) ∷ (pos 1, pos 384) ∷ (pos 1, pos 256) ∷ (pos 1, pos 128) ∷ (pos 1, pos 0)
+    ∷ (pos 0, pos 896) ∷ (pos 0, pos 768) ∷ (pos 0, pos 640) ∷ (pos 0, pos 512) ∷ (pos 0, pos 384) ∷ (pos 0, pos 256) ∷ (pos 0, pos 128) ∷ []
 
 -- the record of the edition of this number is taken out; its parts are left
 abbrev pub taking : ℕ → List Statement
 taking number = taking_of (codes "edition") number ∷ []
 
--- what parts stand under the number of the edition that is installed are taken out, if there is one
-abbrev pub clearing_parts : Option Installed → List Statement
-clearing_parts None = []
-clearing_parts (Some new) = taking_parts new.number last_parts
+-- in place of what parts stand under a number these are added
+abbrev pub parts_anew : ℕ → List Part → List Statement
+parts_anew number parts = taking_parts number last_parts ++ map adding_part parts
 
--- then its parts are added, those of its index and then those of its text, and then its own record
-abbrev pub installing : Option Installed → List Statement
-installing edition = clearing_parts edition ++ (map adding_part (installed_parts edition) ++ map adding_edition (installed_editions edition))
-
--- the editions that go are taken out, and then the one that is installed is added
-abbrev pub exchanging : List ℕ → Option Installed → List Statement
-exchanging gone edition = flat_map taking gone ++ installing edition
+-- so are the parts of the edition that is installed, if there is one: those of its index, and then those of its text
+abbrev pub filing_of : Option Installed → List Statement
+filing_of None = []
+filing_of (Some new) = parts_anew new.number (installed_parts (Some new))
 
 -- the reply is kept
 abbrev pub replying : KeptFor → List Statement
 replying kept = adding_kept (kept_record kept) ∷ []
 
+-- behind what was filed: the summary anew, the editions that go, the record of the edition, and the reply
+abbrev pub finishing : ℕ → TableChange → List Statement
+finishing version change =
+    summary_anew version change.summary.installs change.summary.items
+    ++ (flat_map taking change.gone ++ (map adding_edition (installed_editions change.edition) ++ replying change.kept))
+
 -- all of them
 abbrev pub statements_of : ℕ → TableChange → List Statement
-statements_of version change = summary_anew version change.summary.installs change.summary.items ++ (exchanging change.gone change.edition ++ replying change.kept)
+statements_of version change = filing_of change.edition ++ finishing version change

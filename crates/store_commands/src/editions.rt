@@ -1,47 +1,67 @@
 // The editions that go, and the one that is installed.
-ghost use Rattle.std.specs.Prelude.{◌≡◌, [], ◌∷◌, IfErr, OnOk, Some, flat_map};
+ghost use Rattle.std.specs.Prelude.{◌≡◌, ◌≤◌, [], ◌∷◌, IfErr, OnOk, Option, flat_map, length, map, option_copied, option_map, slice_range};
 ghost use Rattle.sqlite.specs.Held.{state};
 ghost use Rattle.store_sql.specs.Effects.{WhileOpen};
 ghost use Rattle.store_records.specs.Records.{header_of};
 ghost use Rattle.store_records.specs.Typed.{lent_header};
 ghost use Rattle.dict_index.specs.Edition.{ReadEdition};
-ghost use Rattle.store_rows.specs.Stored.{stored_index};
+ghost use Rattle.store_rows.specs.After.{Installed, installed_editions};
 ghost use Rattle.store_rows.specs.Written.{edition_record};
 ghost use Rattle.store_commands.specs.KeptRecords.{IsUsable, FitsColumn, AreStorable};
-ghost use Rattle.store_commands.specs.Statements.{taking, taking_parts, adding_edition, installing};
-ghost use Rattle.store_commands.specs.Changes.{without_parts, without_editions, with_more_editions, with_installed, installed_by, index_by};
+ghost use Rattle.store_commands.specs.Statements.{taking, taking_parts, parts_anew, filing_of, adding_edition};
+ghost use Rattle.store_commands.specs.Changes.{without_parts, with_parts_anew, without_editions, with_more_editions, with_files, installed_header, installed_by, index_by};
+ghost use Rattle.store_commands.specs.Filing.{parts_of_files};
 ghost use Rattle.store_commands.specs.Writes.{WroteStatements, FailsToWrite, CommitsNothing};
 
 use crate::files::{EditionFiles, add_parts};
 use dict_catalogue::Command;
-use dict_index::Edition;
 use sqlite::{Alter, Error};
 use store_edition_sql::{delete_header, delete_parts, delete_parts_from, insert_header};
 use store_records::HeaderRecord;
 use store_sql::transaction::OpenTransaction;
 
-// A statement has all rows that it takes out in memory, so a text goes 256 parts, which are 4 MiB, at a time, and then an index does. Each of
+// A statement has all rows that it takes out in memory, so a text goes 128 parts, which are 2 MiB, at a time, and then an index does. Each of
 // these is a file, 1 the text and 0 the index, and the number from which on its parts go, the last ones first.
 pub(crate) const LAST_PARTS: &[(i64, i64)] = &[
+    (1, 3968),
     (1, 3840),
+    (1, 3712),
     (1, 3584),
+    (1, 3456),
     (1, 3328),
+    (1, 3200),
     (1, 3072),
+    (1, 2944),
     (1, 2816),
+    (1, 2688),
     (1, 2560),
+    (1, 2432),
     (1, 2304),
+    (1, 2176),
     (1, 2048),
+    (1, 1920),
     (1, 1792),
+    (1, 1664),
     (1, 1536),
+    (1, 1408),
     (1, 1280),
+    (1, 1152),
     (1, 1024),
+    (1, 896),
     (1, 768),
+    (1, 640),
     (1, 512),
+    (1, 384),
     (1, 256),
+    (1, 128),
     (1, 0),
+    (0, 896),
     (0, 768),
+    (0, 640),
     (0, 512),
+    (0, 384),
     (0, 256),
+    (0, 128),
 ];
 
 /// Takes out the parts of this number: those of a file from each of these on, one after the other, and then the rest.
@@ -98,8 +118,8 @@ pub(crate) fn take_editions<S: Alter, T: OpenTransaction<S>>(
     Ok(())
 }
 
-// The header of an edition of this owner, with its number.
-fn header_row<'a>(
+/// The record of an edition of this owner under its number, without its text.
+pub(crate) fn header_row<'a>(
     owner: &'a str,
     number: u64,
     title: &'a str,
@@ -116,57 +136,65 @@ fn header_row<'a>(
     }
 }
 
-/// Adds the record of an edition of this title and info, which has no text.
-pub(crate) fn add_record<S: Alter, T: OpenTransaction<S>>(
-    tx: &mut T,
-    owner: &str,
+/// The record of the edition that the command installs, if it installs one, under its number.
+pub(crate) fn installed_header<'a>(
     number: u64,
-    title: &str,
-    info: &str,
-) -> Result<(), Error>
-    requires number { FitsColumn number }
-    requires usable { WhileOpen (state S.Store (T.held tx.old)) IsUsable }
-    ensures same_reference { T.reference tx.new ≡ T.reference tx.old }
-    ensures wrote { OnOk result ((reading : ReadEdition) → reading.title ≡ title.now → reading.info ≡ info.now → WroteStatements S.Store (adding_edition (edition_record owner.now number reading) ∷ []) (with_more_editions (edition_record owner.now number reading ∷ [])) (T.held tx.old) (T.held tx.new)) }
-    ensures usable { OnOk result (WhileOpen (state S.Store (T.held tx.new)) IsUsable) }
-    ensures failed { IfErr result (λ e. (reading : ReadEdition) → reading.title ≡ title.now → reading.info ≡ info.now → FailsToWrite S.Store (adding_edition (edition_record owner.now number reading) ∷ []) (T.held tx.old) (T.held tx.new) e) }
-    ensures spares { CommitsNothing S.Store (T.held tx.old) (T.held tx.new) }
+    command: &Command<'a>,
+) -> Option<HeaderRecord<&'a str>>
+    requires { FitsColumn number }
+    ensures { installed_header (installed_by number command.now) ≡ option_map lent_header result }
 {
-    let row = header_row(owner, number, title, info);
-    insert_header(tx, &row)?;
-    Ok(())
+    match command {
+        Command::Install { name, edition } => {
+            Some(header_row(name, number, edition.title(), edition.info()))
+        }
+        Command::Rollback { .. }
+        | Command::Retire { .. }
+        | Command::PutVirtual { .. }
+        | Command::Place { .. } => None,
+    }
 }
 
-// Adds an edition of this owner under its number, behind the parts of its index, which is these octets, and of its text. What parts stood
-// under the number, of no edition, are taken out first.
-fn add_edition<S: Alter, T: OpenTransaction<S>>(
+/// Adds the record of the edition that is installed, if there is one.
+pub(crate) fn add_header<S: Alter, T: OpenTransaction<S>>(
     tx: &mut T,
-    owner: &str,
-    number: u64,
-    edition: &Edition,
-    index: &[u8],
+    header: Option<&HeaderRecord<&str>>,
 ) -> Result<(), Error>
-    requires number { FitsColumn number }
-    requires index { index.now ≡ stored_index edition.now.lines }
     requires usable { WhileOpen (state S.Store (T.held tx.old)) IsUsable }
     ensures same_reference { T.reference tx.new ≡ T.reference tx.old }
-    ensures wrote { OnOk result (WroteStatements S.Store (installing (Some (record { owner = owner.now; number = number; reading = edition.now }))) (with_installed (Some (record { owner = owner.now; number = number; reading = edition.now }))) (T.held tx.old) (T.held tx.new)) }
+    ensures wrote { (edition : Option Installed) → installed_header edition ≡ option_map lent_header (option_copied header.entry) → OnOk result (WroteStatements S.Store (map adding_edition (installed_editions edition)) (with_more_editions (installed_editions edition)) (T.held tx.old) (T.held tx.new)) }
     ensures usable { OnOk result (WhileOpen (state S.Store (T.held tx.new)) IsUsable) }
-    ensures failed { IfErr result (FailsToWrite S.Store (installing (Some (record { owner = owner.now; number = number; reading = edition.now }))) (T.held tx.old) (T.held tx.new)) }
+    ensures failed { (edition : Option Installed) → installed_header edition ≡ option_map lent_header (option_copied header.entry) → IfErr result (FailsToWrite S.Store (map adding_edition (installed_editions edition)) (T.held tx.old) (T.held tx.new)) }
     ensures spares { CommitsNothing S.Store (T.held tx.old) (T.held tx.new) }
 {
-    let files = EditionFiles {
-        number,
-        index,
-        text: edition.text(),
+    let Some(row) = header else {
+        return Ok(());
     };
-    take_parts(tx, number, LAST_PARTS)?;
-    add_parts(tx, &files, 0, files.part_count())?;
-    add_record(tx, owner, number, edition.title(), edition.info())?;
+    insert_header(tx, row)?;
     Ok(())
 }
 
-/// Adds the edition that the command installs, if it installs one, under its number, where its index is these octets.
+/// Adds the first parts of the files of an edition, so many, in place of what parts stand under its number.
+pub(crate) fn add_files<S: Alter, T: OpenTransaction<S>>(
+    tx: &mut T,
+    files: &EditionFiles<'_>,
+    to: usize,
+) -> Result<(), Error>
+    requires number { FitsColumn files.now.number }
+    requires within { to ≤ length (parts_of_files files.now) }
+    requires usable { WhileOpen (state S.Store (T.held tx.old)) IsUsable }
+    ensures same_reference { T.reference tx.new ≡ T.reference tx.old }
+    ensures wrote { OnOk result (WroteStatements S.Store (parts_anew files.now.number (slice_range (parts_of_files files.now) 0 to)) (with_parts_anew files.now.number (slice_range (parts_of_files files.now) 0 to)) (T.held tx.old) (T.held tx.new)) }
+    ensures usable { OnOk result (WhileOpen (state S.Store (T.held tx.new)) IsUsable) }
+    ensures failed { IfErr result (FailsToWrite S.Store (parts_anew files.now.number (slice_range (parts_of_files files.now) 0 to)) (T.held tx.old) (T.held tx.new)) }
+    ensures spares { CommitsNothing S.Store (T.held tx.old) (T.held tx.new) }
+{
+    take_parts(tx, files.number, LAST_PARTS)?;
+    add_parts(tx, files, 0, to)?;
+    Ok(())
+}
+
+/// Adds all parts of the edition that the command installs, if it installs one, under its number, where its index is these octets.
 pub(crate) fn add_installed<S: Alter, T: OpenTransaction<S>>(
     tx: &mut T,
     number: u64,
@@ -177,13 +205,20 @@ pub(crate) fn add_installed<S: Alter, T: OpenTransaction<S>>(
     requires index { index.now ≡ index_by command.now }
     requires usable { WhileOpen (state S.Store (T.held tx.old)) IsUsable }
     ensures same_reference { T.reference tx.new ≡ T.reference tx.old }
-    ensures wrote { OnOk result (WroteStatements S.Store (installing (installed_by number command.now)) (with_installed (installed_by number command.now)) (T.held tx.old) (T.held tx.new)) }
+    ensures wrote { OnOk result (WroteStatements S.Store (filing_of (installed_by number command.now)) (with_files (installed_by number command.now)) (T.held tx.old) (T.held tx.new)) }
     ensures usable { OnOk result (WhileOpen (state S.Store (T.held tx.new)) IsUsable) }
-    ensures failed { IfErr result (FailsToWrite S.Store (installing (installed_by number command.now)) (T.held tx.old) (T.held tx.new)) }
+    ensures failed { IfErr result (FailsToWrite S.Store (filing_of (installed_by number command.now)) (T.held tx.old) (T.held tx.new)) }
     ensures spares { CommitsNothing S.Store (T.held tx.old) (T.held tx.new) }
 {
     match command {
-        Command::Install { name, edition } => add_edition(tx, name, number, edition, index),
+        Command::Install { edition, .. } => {
+            let files = EditionFiles {
+                number,
+                index,
+                text: edition.text(),
+            };
+            add_files(tx, &files, files.part_count())
+        }
         Command::Rollback { .. }
         | Command::Retire { .. }
         | Command::PutVirtual { .. }

@@ -17,7 +17,8 @@ ghost use Rattle.store_holdings.specs.AllTables.{all_after};
 ghost use Rattle.store_holdings.specs.Holds.{Rests};
 ghost use Rattle.store_holdings.specs.Writing.{FailsToEnd};
 ghost use Rattle.store_commands.specs.KeptRecords.{IsUsable, TurnsRecords};
-ghost use Rattle.store_commands.specs.Changes.{change_by, installed_by, IsInRange, IsWritable};
+ghost use Rattle.store_commands.specs.Changes.{change_by, finished, installed_by, IsInRange, IsWritable};
+ghost use Rattle.store_commands.specs.Statements.{finishing};
 ghost use Rattle.store_holdings.specs.Committed.{IsCommitted, IsTreesOf};
 ghost use Rattle.store_commands.specs.Committed.{IsOfStore, StaysCommitted};
 ghost use Rattle.store_commands.specs.Answers.{HoldsBy, Answers};
@@ -25,15 +26,15 @@ ghost use Rattle.store_commands.specs.Installs.{IsReadInstall, install_read};
 ghost use Rattle.store_commands.specs.Installed.{HasInstalled};
 ghost use Rattle.store_commands.specs.Writes.{WroteStatements, FailsToWrite, CommitsNothing};
 ghost use Rattle.store_commands.specs.Filing.{IsOfEdition, IsFiledSoFar};
-ghost use Rattle.store_commands.specs.Finishing.{finishing, finished, AwaitsRest, IsFinished, IsAppliedOver, FailsToFinish};
+ghost use Rattle.store_commands.specs.Finishing.{AwaitsRest, IsFinished, IsAppliedOver, FailsToFinish};
 
 use crate::applied::Applied;
-use crate::editions::{add_record, take_editions};
+use crate::editions::header_row;
 use crate::filing::Filing;
 use crate::reads::ReadInstall;
 use crate::replies::kept_reply;
 use crate::titled::decide_install;
-use crate::writing::{add_reply, write_summary};
+use crate::writing::write_rest;
 use dict_catalogue::{PlannedChange, Summary};
 use dict_desk::Fault;
 use dict_index::one_meaning;
@@ -110,17 +111,13 @@ fn write_read<S: Alter, T: OpenTransaction<S>>(
     ensures failed { IfErr result (FailsToWrite S.Store (finishing known (change_by id.now (install_read name.now reading.now) change.now)) (T.held tx.old) (T.held tx.new)) }
     ensures spares { CommitsNothing S.Store (T.held tx.old) (T.held tx.new) }
 {
-    write_summary(tx, &change.summary)?;
-    take_editions(tx, &change.gone)?;
-    add_record(
-        tx,
+    let header = header_row(
         name,
         change.summary.installs,
         reading.title(),
         reading.info(),
-    )?;
-    add_reply(tx, id, &change.kept)?;
-    Ok(())
+    );
+    write_rest(tx, id, change, Some(&header))
 }
 
 // Makes the rest of a planned install by one commit.

@@ -26,8 +26,8 @@ use store_edition_sql::{delete_parts, delete_parts_from};
 use store_sql::commit::commit;
 use store_sql::transaction::OpenTransaction;
 
-// One commit takes out so many parts at least, where there are as many, and 256 more at most.
-const ENOUGH: usize = 128;
+// One commit takes out so many parts at least, where there are as many, and 128 more at most.
+const ENOUGH: usize = 64;
 
 // Whether the item has an edition of this number.
 fn item_has(item: &Item, number: u64) -> bool
@@ -114,8 +114,9 @@ fn commit_slice<S: Alter>(conn: &mut Connection<S>, number: u64) -> Result<bool,
 }
 
 /// Takes out some parts of this number by one commit, where no edition of the summary has it: parts of an edition that went, or of one that
-/// never came. From its last part on a text goes 256 parts, which are 4 MiB, at a time, and then an index does. It answers whether there may
-/// be more; else none is left. Each catalogue of this summary that was held is held still, and a stop leaves no other.
+/// never came. From its last part on a text goes some 128 parts, which are 2 MiB, at a time, and then an index does: a commit takes 64 to 191,
+/// where there are as many. It answers whether there may be more; else none is left. Each catalogue of this summary that was held is held
+/// still, and a stop leaves no other.
 ///
 /// At an error what was committed is so still. `Memory` tells that a growth was refused, `Disk` that the disk failed. None tells that a
 /// statement was refused, that the store was shut before, that an edition has the number, or that no column holds it.

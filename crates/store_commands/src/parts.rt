@@ -17,7 +17,7 @@ ghost use Rattle.store_commands.specs.FiledParts.{FailsAmong, FailsToFile, Files
 ghost use Rattle.store_commands.specs.Left.{IsLess, filing_left};
 ghost use Rattle.store_commands.specs.Writes.{CommitsNothing};
 
-use crate::editions::{LAST_PARTS, take_parts};
+use crate::editions::add_files;
 use crate::files::{EditionFiles, add_parts};
 use crate::filing::Filing;
 use dict_catalogue::Summary;
@@ -98,9 +98,8 @@ fn write_parts<S: Alter, T: OpenTransaction<S>>(tx: &mut T, filing: &Filing) -> 
         add_parts(tx, &files, filing.parts_filed, to)?;
         return Ok(to);
     }
-    take_parts(tx, filing.number, LAST_PARTS)?;
     let to = part_end(0, all);
-    add_parts(tx, &files, 0, to)?;
+    add_files(tx, &files, to)?;
     Ok(to)
 }
 

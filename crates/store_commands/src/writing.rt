@@ -1,5 +1,5 @@
 // All that one command writes, inside an open transaction.
-ghost use Rattle.std.specs.Prelude.{◌≡◌, true, OnOk, IfSome, map, IfErr};
+ghost use Rattle.std.specs.Prelude.{◌≡◌, true, OnOk, Option, IfSome, map, option_copied, option_map, IfErr};
 ghost use Rattle.std.specs.List.{AllByRecursion};
 ghost use Rattle.sqlite.specs.Effect.{IsDatabase};
 ghost use Rattle.sqlite.specs.State.{HasCleanDisk};
@@ -7,17 +7,20 @@ ghost use Rattle.sqlite.specs.Held.{state};
 ghost use Rattle.store_sql.specs.Effects.{WhileOpen};
 ghost use Rattle.dict_catalogue.specs.Items.{numbers_of};
 ghost use Rattle.dict_catalogue.specs.Views.{item_shown, kept_shown};
+ghost use Rattle.store_records.specs.Typed.{lent_header};
+ghost use Rattle.store_rows.specs.After.{Installed};
 ghost use Rattle.store_rows.specs.Versions.{known};
 ghost use Rattle.store_holdings.specs.AllTables.{all_after};
 ghost use Rattle.store_commands.specs.KeptRecords.{IsUsable, FitsColumn, AreStorable};
-ghost use Rattle.store_commands.specs.Statements.{summary_anew, exchanging, replying, statements_of};
-ghost use Rattle.store_commands.specs.Changes.{with_mark, with_items, with_members, with_reply, without_editions, with_installed, installed_by, index_by, change_by, IsWritable};
+ghost use Rattle.store_commands.specs.Statements.{summary_anew, replying, finishing, statements_of};
+ghost use Rattle.store_commands.specs.Changes.{with_mark, with_items, with_members, with_reply, finished, installed_header, index_by, change_with, change_by, IsWritable};
 ghost use Rattle.store_commands.specs.Writes.{WroteStatements, FailsToWrite, CommitsNothing};
 
-use crate::editions::{add_installed, take_editions};
+use crate::editions::{add_header, add_installed, installed_header, take_editions};
 use crate::small::{write_items, write_mark, write_members};
 use dict_catalogue::{Command, Kept, PlannedChange, Summary};
 use sqlite::{Alter, Error};
+use store_records::HeaderRecord;
 use store_rows::kept_row;
 use store_sql::insert::insert_kept;
 use store_sql::transaction::OpenTransaction;
@@ -45,30 +48,6 @@ pub(crate) fn write_summary<S: Alter, T: OpenTransaction<S>>(
     write_members(tx, &summary.items)
 }
 
-// Takes out the editions that go, and adds the one that the command installs, where its index is these octets.
-fn write_editions<S: Alter, T: OpenTransaction<S>>(
-    tx: &mut T,
-    gone: &[u64],
-    installs: u64,
-    command: &Command,
-    index: &[u8],
-) -> Result<(), Error>
-    requires gone { AreStorable gone.now }
-    requires installs { FitsColumn installs }
-    requires index { index.now ≡ index_by command.now }
-    requires usable { WhileOpen (state S.Store (T.held tx.old)) IsUsable }
-    ensures same_reference { T.reference tx.new ≡ T.reference tx.old }
-    ensures wrote { OnOk result (WroteStatements S.Store (exchanging gone.now (installed_by installs command.now)) (λ all. with_installed (installed_by installs command.now) (without_editions gone.now all)) (T.held tx.old) (T.held tx.new)) }
-    ensures usable { OnOk result (WhileOpen (state S.Store (T.held tx.new)) IsUsable) }
-    ensures failed { IfErr result (FailsToWrite S.Store (exchanging gone.now (installed_by installs command.now)) (T.held tx.old) (T.held tx.new)) }
-    ensures spares { CommitsNothing S.Store (T.held tx.old) (T.held tx.new) }
-{
-    if let Err(error) = take_editions(tx, gone) {
-        return Err(error);
-    }
-    add_installed(tx, installs, command, index)
-}
-
 /// Adds the reply that is kept for an id. It comes last, so it tells that the database is sound.
 pub(crate) fn add_reply<S: Alter, T: OpenTransaction<S>>(
     tx: &mut T,
@@ -90,6 +69,35 @@ pub(crate) fn add_reply<S: Alter, T: OpenTransaction<S>>(
     Ok(())
 }
 
+/// Writes what a planned command does behind the parts of its edition, whose record this is, if it installs one: the summary, the editions
+/// that go, the record, and the reply for the id of its request.
+pub(crate) fn write_rest<S: Alter, T: OpenTransaction<S>>(
+    tx: &mut T,
+    id: &str,
+    change: &PlannedChange,
+    header: Option<&HeaderRecord<&str>>,
+) -> Result<(), Error>
+    requires writable { IsWritable change.now }
+    requires usable { WhileOpen (state S.Store (T.held tx.old)) IsUsable }
+    ensures same_reference { T.reference tx.new ≡ T.reference tx.old }
+    ensures wrote { (edition : Option Installed) → installed_header edition ≡ option_map lent_header (option_copied header.entry) → OnOk result (WroteStatements S.Store (finishing known (change_with id.now edition change.now)) (finished (change_with id.now edition change.now)) (T.held tx.old) (T.held tx.new)) }
+    ensures sound { HasCleanDisk (state S.Store (T.held tx.new)) → OnOk result (IsDatabase (state S.Store (T.held tx.new)).now) }
+    ensures inside { HasCleanDisk (state S.Store (T.held tx.new)) → OnOk result ((state S.Store (T.held tx.new)).in_transaction ≡ true) }
+    ensures failed { (edition : Option Installed) → installed_header edition ≡ option_map lent_header (option_copied header.entry) → IfErr result (FailsToWrite S.Store (finishing known (change_with id.now edition change.now)) (T.held tx.old) (T.held tx.new)) }
+    ensures spares { CommitsNothing S.Store (T.held tx.old) (T.held tx.new) }
+{
+    if let Err(error) = write_summary(tx, &change.summary) {
+        return Err(error);
+    }
+    if let Err(error) = take_editions(tx, &change.gone) {
+        return Err(error);
+    }
+    if let Err(error) = add_header(tx, header) {
+        return Err(error);
+    }
+    add_reply(tx, id, &change.kept)
+}
+
 /// Writes all that a planned command does, where the index of the edition that it installs is these octets, and its reply for the
 /// id of its request.
 pub(crate) fn write_all<S: Alter, T: OpenTransaction<S>>(
@@ -109,11 +117,9 @@ pub(crate) fn write_all<S: Alter, T: OpenTransaction<S>>(
     ensures failed { IfErr result (FailsToWrite S.Store (statements_of known (change_by id.now command.now change.now)) (T.held tx.old) (T.held tx.new)) }
     ensures spares { CommitsNothing S.Store (T.held tx.old) (T.held tx.new) }
 {
-    if let Err(error) = write_summary(tx, &change.summary) {
+    if let Err(error) = add_installed(tx, change.summary.installs, command, index) {
         return Err(error);
     }
-    if let Err(error) = write_editions(tx, &change.gone, change.summary.installs, command, index) {
-        return Err(error);
-    }
-    add_reply(tx, id, &change.kept)
+    let header = installed_header(change.summary.installs, command);
+    write_rest(tx, id, change, header.as_ref())
 }

@@ -14,7 +14,7 @@ use Rattle.store_holdings.proofs.CommitLemmas.{leaves, done, only_left, commit_f
 use Rattle.store_commands.specs.KeptRecords.{TurnsRecords}
 use Rattle.store_commands.specs.Changes.{change_by}
 use Rattle.store_commands.specs.Committed.{StaysCommitted}
-use Rattle.store_commands.specs.Finishing.{finishing}
+use Rattle.store_commands.specs.Statements.{finishing}
 use Rattle.store_commands.specs.Installs.{install_read}
 use Rattle.store_commands.proofs.FinishLemmas.{rest_made}
 use Rattle.store_commands.proofs.ending.commit_read.Goals as goal

@@ -3,8 +3,7 @@ use Rattle.std.proofs.lemmas.Bool.{false≢true}
 use Rattle.store_sql.proofs.StreamLemmas.{passed_on}
 use Rattle.store_commands.specs.Filing.{parts_of_filing, parts_of_files, AreOfSomePart}
 use Rattle.store_commands.specs.FiledParts.{FailsAmong}
-use Rattle.store_commands.proofs.FilingLemmas.{next_wrote, next_failed, first_wrote, first_failed, taking_failed, wrote_well}
-use Rattle.store_commands.proofs.WriteLemmas.{spares_then}
+use Rattle.store_commands.proofs.FilingLemmas.{next_wrote, next_failed, first_wrote, first_failed, wrote_well}
 use Rattle.store_commands.proofs.parts.write_parts.Goals as goal
 
 -- ---- it has begun
@@ -43,39 +42,34 @@ returns-in_err-add_parts-clause-failed g c =
 
 -- ---- it begins
 
-pub returns-in_err-take_parts-clause-failed : goal.returns-in_err-take_parts-clause-failed
-returns-in_err-take_parts-clause-failed g c =
+pub returns-in_err-add_files-clause-failed : goal.returns-in_err-add_files-clause-failed
+returns-in_err-add_files-clause-failed g c =
     let first = (g.T.OpenTransaction.held c.args.tx.now) in
-    let new = (g.T.OpenTransaction.held c.take_parts.new.tx) in
-    let e = c.in_err-take_parts.field-0.0 in
-    passed_on (FailsAmong g.S.Store (AreOfSomePart c.args.filing.now) first new) e c.from_residual-in_err-take_parts.result c.from_residual-in_err-take_parts.ensures.1
-    (taking_failed g.S.Store c.args.filing.now 0 first new (parts_of_files c.files-files.result) c.files-files.ensures.parts c.if-filing.false e c.in_err-take_parts.ensures.failed)
-
-pub returns-in_err-add_parts-2-clause-failed : goal.returns-in_err-add_parts-2-clause-failed
-returns-in_err-add_parts-2-clause-failed g c =
-    let first = (g.T.OpenTransaction.held c.args.tx.now) in
-    let mid = (g.T.OpenTransaction.held c.take_parts.new.tx) in
-    let new = (g.T.OpenTransaction.held c.add_parts-2.new.tx) in
-    let e = c.in_err-add_parts-2.field-0.0 in
-    passed_on (FailsAmong g.S.Store (AreOfSomePart c.args.filing.now) first new) e c.from_residual-in_err-add_parts-2.result c.from_residual-in_err-add_parts-2.ensures.1
-    (first_failed g.S.Store c.args.filing.now c.part_end-to-2.result first new (parts_of_files c.files-files.result) c.files-files.ensures.parts c.if-filing.false mid c.in_ok-take_parts.ensures.wrote c.add_parts-2.ensures.spares e
-    c.in_err-add_parts-2.ensures.failed)
-
-pub returns-in_err-add_parts-2-clause-spares : goal.returns-in_err-add_parts-2-clause-spares
-returns-in_err-add_parts-2-clause-spares g c =
-    spares_then g.S.Store (g.T.OpenTransaction.held c.args.tx.now) (g.T.OpenTransaction.held c.take_parts.new.tx) (g.T.OpenTransaction.held c.add_parts-2.new.tx) c.take_parts.ensures.spares c.add_parts-2.ensures.spares
+    let new = (g.T.OpenTransaction.held c.add_files.new.tx) in
+    let e = c.in_err-add_files.field-0.0 in
+    passed_on (FailsAmong g.S.Store (AreOfSomePart c.args.filing.now) first new) e c.from_residual-in_err-add_files.result c.from_residual-in_err-add_files.ensures.1
+    (first_failed g.S.Store c.args.filing.now c.part_end-to-2.result first new (parts_of_files c.files-files.result) c.files-files.ensures.parts c.files-files.result.number c.files-files.ensures.number c.if-filing.false e
+    c.in_err-add_files.ensures.failed)
 
 pub returns-clause-wrote : goal.returns-clause-wrote
 returns-clause-wrote g c =
-    first_wrote g.S.Store c.args.filing.now c.part_end-to-2.result (g.T.OpenTransaction.held c.args.tx.now) (g.T.OpenTransaction.held c.add_parts-2.new.tx) (parts_of_files c.files-files.result) c.files-files.ensures.parts
-    c.if-filing.false (g.T.OpenTransaction.held c.take_parts.new.tx) c.in_ok-take_parts.ensures.wrote c.add_parts-2.ensures.spares c.in_ok-add_parts-2.ensures.wrote
+    first_wrote g.S.Store c.args.filing.now c.part_end-to-2.result (g.T.OpenTransaction.held c.args.tx.now) (g.T.OpenTransaction.held c.add_files.new.tx) (parts_of_files c.files-files.result) c.files-files.ensures.parts
+    c.files-files.result.number c.files-files.ensures.number c.if-filing.false c.in_ok-add_files.ensures.wrote
+
+pub returns-clause-lives : goal.returns-clause-lives
+returns-clause-lives g c clean =
+    let long : c.part_count-all.result ≡ length (parts_of_filing c.args.filing.now) = c.part_count-all.ensures ∙ ap length c.files-files.ensures.parts in
+    (wrote_well g.S.Store c.args.filing.now c.part_end-to-2.result (g.T.OpenTransaction.held c.args.tx.now) (g.T.OpenTransaction.held c.add_files.new.tx) c.part_count-all.result long c.part_end-to-2.ensures.within.1
+    (λ is. absurd (false≢true (sym c.if-filing.false ∙ is))) (returns-clause-wrote g c) clean).0
 
 pub returns-clause-sound : goal.returns-clause-sound
 returns-clause-sound g c clean =
     let long : c.part_count-all.result ≡ length (parts_of_filing c.args.filing.now) = c.part_count-all.ensures ∙ ap length c.files-files.ensures.parts in
-    (wrote_well g.S.Store c.args.filing.now c.part_end-to-2.result (g.T.OpenTransaction.held c.args.tx.now) (g.T.OpenTransaction.held c.add_parts-2.new.tx) c.part_count-all.result long c.part_end-to-2.ensures.within.1
+    (wrote_well g.S.Store c.args.filing.now c.part_end-to-2.result (g.T.OpenTransaction.held c.args.tx.now) (g.T.OpenTransaction.held c.add_files.new.tx) c.part_count-all.result long c.part_end-to-2.ensures.within.1
     (λ is. absurd (false≢true (sym c.if-filing.false ∙ is))) (returns-clause-wrote g c) clean).1
 
-pub returns-clause-spares : goal.returns-clause-spares
-returns-clause-spares g c =
-    spares_then g.S.Store (g.T.OpenTransaction.held c.args.tx.now) (g.T.OpenTransaction.held c.take_parts.new.tx) (g.T.OpenTransaction.held c.add_parts-2.new.tx) c.take_parts.ensures.spares c.add_parts-2.ensures.spares
+pub returns-clause-inside : goal.returns-clause-inside
+returns-clause-inside g c clean =
+    let long : c.part_count-all.result ≡ length (parts_of_filing c.args.filing.now) = c.part_count-all.ensures ∙ ap length c.files-files.ensures.parts in
+    (wrote_well g.S.Store c.args.filing.now c.part_end-to-2.result (g.T.OpenTransaction.held c.args.tx.now) (g.T.OpenTransaction.held c.add_files.new.tx) c.part_count-all.result long c.part_end-to-2.ensures.within.1
+    (λ is. absurd (false≢true (sym c.if-filing.false ∙ is))) (returns-clause-wrote g c) clean).2
