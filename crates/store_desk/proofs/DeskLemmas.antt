@@ -155,9 +155,6 @@ module _ {S : Type 0} (g : Ghosts S) (old new : Held S) (summary : Holdings (Lis
         → Shows g (record { conn = new; summary = summary; last = after; indexes = indexes; texts = texts; counts = later }) M
     shows_on texts is = shows_with texts (λ clean stored one. subst (ArePartsOf stored.number one.text) (sym is) (parts_after after stored.number one.text kept one.kept))
 
-    pub held : HasCleanDisk (state g new) → IsTrue (state g old).is_open → Holds known (state g old).committed M
-    held clean live = shown.holds open_before (clean_first clean) live
-
 -- what was handed out over a store that may be shut
 pub handed_by : {K : Type 0} (takes stops : K → List Row → K → Type 0) (first last : K) (rows : List Row) (result : Result End Fault) (live : Bool) → (live ≡ true → Hands takes stops first last rows result)
     → (live ≡ false → IsErr result × (last ≡ first)) → takes first [] first

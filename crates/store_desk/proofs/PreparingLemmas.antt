@@ -22,7 +22,7 @@ use Rattle.store_desk.specs.KeptParts.{texts_after, texts_behind}
 use Rattle.store_desk.specs.Prepared.{last_behind}
 use Rattle.store_desk.specs.declared.last.LastCall.{LastCall}
 use Rattle.store_desk.specs.declared.last.LastCall.TheVariants.{Fine, Failed, Closed}
-use Rattle.store_desk.specs.Left.{ComingState, Counts}
+use Rattle.store_desk.specs.Left.{ComingState, Counts, recounted}
 use Rattle.store_desk.proofs.DeskLemmas.{parts_after, shows_counted}
 use Rattle.store_desk.proofs.ServedLemmas.{served_still}
 
@@ -60,8 +60,8 @@ module _ {S : Type 0} (g : Ghosts S) where
   }
 
   -- what is counted tells nothing of what is shown
-  pub shows_but_counts : (old new : DeskState S) → new ≡ record old { counts = new.counts } → (M : Catalogue) → Shows g old M → Shows g new M
-  shows_but_counts old new same M shown = subst (λ (d : DeskState S). Shows g d M) (sym same) (shows_counted g old new.counts M shown)
+  pub shows_but_counts : (old new : DeskState S) → new ≡ record old { counts = recounted old.counts new.counts } → (M : Catalogue) → Shows g old M → Shows g new M
+  shows_but_counts old new same M shown = subst (λ (d : DeskState S). Shows g d M) (sym same) (shows_counted g old (recounted old.counts new.counts) M shown)
 
 -- nothing is filed yet of what was planned
 planned_filed : (found : Option ComingState) (s : State) → IfSome found (λ coming. IsDrawnUp coming.filing × HasNoneFiled coming.filing) → HasFiled found s
@@ -130,7 +130,7 @@ closed_failed Closed e = refl
 
 -- ---- what is prepared is let go of
 
-module _ {S T : Type 0} (old new : DeskState S) (same : new ≡ record old { counts = new.counts }) where
+module _ {S T : Type 0} (old new : DeskState S) (same : new ≡ record old { counts = recounted old.counts new.counts }) where
   pub forgotten_failed : (result : Result T Fault) → IfErr result (λ fault. (fault ≡ Shut) × (is_closed old.last ≡ true) × (new ≡ old)) → has_failed new.last ≡ (has_failed old.last || has_failed_by result)
   forgotten_failed (Ok value) told = ap (λ (d : DeskState S). has_failed d.last) same ∙ sym (or_false (has_failed old.last))
   forgotten_failed (Err fault) told = failing_or old.last new.last fault (ap is_failure told.0) (ap (λ (d : DeskState S). has_failed d.last) same ∙ closed_failed old.last told.1)

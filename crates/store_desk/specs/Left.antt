@@ -1,8 +1,9 @@
 -- How much of a change that may come is left to prepare, in counts: each of them is of a kind, and what is done first stands at the head.
-use Rattle.std.specs.Prelude.{ℕ, ◌-◌, ◌^◌, Bool, true, false, List, [], ◌∷◌, ◌++◌, length, Option, Some, None}
+use Rattle.std.specs.Prelude.{◌≡◌, ℕ, ◌-◌, ◌^◌, Bool, true, false, List, [], ◌∷◌, ◌++◌, length, Option, Some, None}
 use Rattle.store_commands.specs.Drafts.{DraftState}
 use Rattle.store_commands.specs.Left.{draft_left, filing_left}
 use Rattle.store_commands.specs.declared.filing.Filing.{Filing}
+use Rattle.store_lookup.specs.Taken.{LooksAt}
 use Rattle.store_desk.specs.declared.making.IndexPart.{IndexPart}
 use Rattle.store_desk.specs.declared.making.IndexPart.TheVariants.{Entries, Parts, Lost}
 
@@ -12,20 +13,24 @@ pub record OrphansState : Type 0 where
   pub numbers : ℕ
   pub slices : ℕ
 
--- what contracts see of an install of whose edition all is read: what is filed, and how much is left of its index
+-- what contracts see of an install of whose edition all is read: what is filed, and how much is left of its index: what is to be done next, and how
+-- often at most
 pub record ComingState : Type 0 where
   pub filing : Filing
-  pub index : List ℕ
+  pub index : ℕ × ℕ
 
 abbrev pub orphans_left : OrphansState → List ℕ
 orphans_left orphans = orphans.numbers ∷ orphans.slices ∷ []
 
 -- Of an index in memory: entries that aren't taken, counted down from what a number of 64 bits can count; or, once all are, the steps that are
 -- left at most.
-abbrev pub index_left : IndexPart → List ℕ
-index_left (Entries builder) = 2 ∷ (2 ^ 64 - length builder) ∷ []
-index_left (Parts making) = 1 ∷ making.left ∷ []
-index_left Lost = 0 ∷ 0 ∷ []
+abbrev pub index_left : IndexPart → ℕ × ℕ
+index_left (Entries builder) = (2, 2 ^ 64 - length builder)
+index_left (Parts making) = (1, making.left)
+index_left Lost = (0, 0)
+
+abbrev pub both_left : ℕ × ℕ → List ℕ
+both_left index = index.0 ∷ index.1 ∷ []
 
 -- of what is read
 abbrev pub reading_left : Option DraftState → List ℕ
@@ -35,7 +40,7 @@ reading_left (Some draft) = draft_left draft
 -- of what is filed, and then of its index
 abbrev pub coming_left : Option ComingState → List ℕ
 coming_left None = 0 ∷ 0 ∷ 0 ∷ 0 ∷ []
-coming_left (Some coming) = filing_left coming.filing ++ coming.index
+coming_left (Some coming) = filing_left coming.filing ++ both_left coming.index
 
 -- what is read is filed then
 abbrev pub install_left : Option DraftState → Option ComingState → List ℕ
@@ -61,5 +66,14 @@ pub record Counts : Type 0 where
   pub left : List ℕ
   pub filed : Bool
 
+-- what is counted where nothing is looked up: what lookups have taken is as it was
+abbrev pub recounted : Counts → Counts → Counts
+recounted old new = record old { left = new.left; filed = new.filed }
+
 abbrev pub counted : ℕ → Bool → OrphansState → Option DraftState → Option ComingState → Counts
 counted taken is_log_long orphans draft coming = record { taken = taken; left = left_to_prepare is_log_long orphans draft coming; filed = has_filed coming }
+
+-- a lookup took so many entries and rows at least; what is left to prepare, and whether parts are filed, is as it was
+pub record CountsLook (old new : Counts) (few : ℕ) : Type 0 where
+  pub taken : LooksAt old.taken new.taken few
+  pub same : new ≡ record old { taken = new.taken }

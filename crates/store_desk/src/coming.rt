@@ -19,7 +19,7 @@ ghost use Rattle.store_commands.specs.Left.{IsLess};
 ghost use Rattle.store_commands.specs.Marking.{Remains};
 ghost use Rattle.store_desk.specs.Coming.{IsIndexOfInstall};
 ghost use Rattle.store_desk.specs.Indexed.{HasPutIfSome};
-ghost use Rattle.store_desk.specs.Left.{coming_left};
+ghost use Rattle.store_desk.specs.Left.{both_left, coming_left};
 
 use crate::making::{IndexPart, make_part, take_whole};
 use dict_catalogue::Summary;
@@ -113,7 +113,7 @@ impl Coming {
     /// Makes the next part of the index. Whether there was one.
     pub(crate) fn make(&mut self) -> bool
         ensures same { self.new.filing ≡ self.old.filing }
-        ensures fewer { IsTrue result → IsLess self.new.index self.old.index }
+        ensures fewer { IsTrue result → IsLess (both_left self.new.index) (both_left self.old.index) }
     {
         make_part(&self.install, &mut self.index)
     }

@@ -15,7 +15,7 @@ impl<S: Alter + Drop> Lookup for Desk<S> {
     ghost use Rattle.store_desk.specs.Desk.{Shows, LeavesOneOf, KeepsBeside, is_closed, has_failed};
     ghost use Rattle.store_desk.specs.Causes.{GivesWay};
     ghost use Rattle.store_desk.specs.DeskLaws.{open_unless_failed};
-    ghost use Rattle.store_lookup.specs.Taken.{LooksAt};
+    ghost use Rattle.store_desk.specs.Left.{CountsLook};
 
     ghost shows = { λ s M. Shows S.Store s M };
 
@@ -27,7 +27,7 @@ impl<S: Alter + Drop> Lookup for Desk<S> {
 
     ghost is_trusted = { λ s. HasCleanDisk (state S.Store s.conn) };
 
-    ghost looks_at = { λ old new few. LooksAt old.counts.taken new.counts.taken few };
+    ghost looks_at = { λ old new few. CountsLook old.counts new.counts few };
 
     ghost is_closed = { λ s. is_closed s.last };
 

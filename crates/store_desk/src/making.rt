@@ -7,7 +7,7 @@ ghost use Rattle.store_commands.specs.Installs.{IsReadInstall};
 ghost use Rattle.store_commands.specs.declared.reads.ReadInstall.{ReadInstall};
 ghost use Rattle.store_commands.specs.Left.{IsLess};
 ghost use Rattle.store_desk.specs.Coming.{IsIndexOfInstall};
-ghost use Rattle.store_desk.specs.Left.{index_left};
+ghost use Rattle.store_desk.specs.Left.{both_left, index_left};
 
 use dict_index::one_meaning;
 use dict_reading::Reading;
@@ -32,7 +32,7 @@ fn take_entries(reading: &Reading<'_>, builder: &mut IndexBuilder) -> Result<(),
     requires front { builder.old ≡ map entry_of (take (length builder.old) reading.now.lines) }
     requires some { length builder.old < length reading.now.lines }
     ensures front { OnOk result (builder.new ≡ map entry_of (take (length builder.new) reading.now.lines)) }
-    ensures fewer { OnOk result (IsLess (index_left (IndexPart.Entries builder.new)) (index_left (IndexPart.Entries builder.old))) }
+    ensures fewer { OnOk result (IsLess (both_left (index_left (IndexPart.Entries builder.new))) (both_left (index_left (IndexPart.Entries builder.old)))) }
 {
     let from = builder.len();
     let to = reading.len().min(from.saturating_add(SLICE_ENTRIES));
@@ -50,7 +50,7 @@ fn take_slice(install: &ReadInstall, builder: IndexBuilder) -> IndexPart
     requires known { IsReadInstall install.now }
     requires index { IsIndexOfInstall install.now (IndexPart.Entries builder) }
     ensures index { IsIndexOfInstall install.now result }
-    ensures fewer { IsLess (index_left result) (index_left (IndexPart.Entries builder)) }
+    ensures fewer { IsLess (both_left (index_left result)) (both_left (index_left (IndexPart.Entries builder))) }
 {
     one_meaning();
     let Some(reading) = install.reading() else {
@@ -74,7 +74,7 @@ fn take_slice(install: &ReadInstall, builder: IndexBuilder) -> IndexPart
 // The index of which all entries are taken, behind the next part of it; and whether there was one.
 fn step_parts(making: IndexMaking) -> (IndexPart, bool)
     ensures index { (install : ReadInstall) → IsIndexOfInstall install (IndexPart.Parts making) → IsIndexOfInstall install result.0 }
-    ensures fewer { IsTrue result.1 → IsLess (index_left result.0) (index_left (IndexPart.Parts making)) }
+    ensures fewer { IsTrue result.1 → IsLess (both_left (index_left result.0)) (both_left (index_left (IndexPart.Parts making))) }
 {
     let mut making = making;
     match making.step() {
@@ -91,7 +91,7 @@ fn made_on(install: &ReadInstall, index: IndexPart) -> (IndexPart, bool)
     requires known { IsReadInstall install.now }
     requires index { IsIndexOfInstall install.now index }
     ensures index { IsIndexOfInstall install.now result.0 }
-    ensures fewer { IsTrue result.1 → IsLess (index_left result.0) (index_left index) }
+    ensures fewer { IsTrue result.1 → IsLess (both_left (index_left result.0)) (both_left (index_left index)) }
 {
     match index {
         IndexPart::Entries(builder) => (take_slice(install, builder), true),
@@ -105,7 +105,7 @@ pub(crate) fn make_part(install: &ReadInstall, index: &mut IndexPart) -> bool
     requires known { IsReadInstall install.now }
     requires index { IsIndexOfInstall install.now index.old }
     ensures index { IsIndexOfInstall install.now index.new }
-    ensures fewer { IsTrue result → IsLess (index_left index.new) (index_left index.old) }
+    ensures fewer { IsTrue result → IsLess (both_left (index_left index.new)) (both_left (index_left index.old)) }
 {
     let before = mem::replace(index, IndexPart::Lost);
     let made = made_on(install, before);

@@ -5,8 +5,8 @@ ghost use Rattle.store_desk.specs.Left.{orphans_left};
 
 use std::marker::Model;
 
-// The parts of a number go by so many slices at most: 16 of a text, and 4 of an index. What may be left behind them the next opening finds.
-const SLICES: u32 = 20;
+// The parts of a number go by so many slices at most: 32 of a text, and 8 of an index. What may be left behind them the next opening finds.
+const SLICES: u32 = 40;
 
 /// Numbers under which there may be parts of no edition. They are done with one by one, the last one first. No answer rests on them.
 pub(crate) struct Orphans {

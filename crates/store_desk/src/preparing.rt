@@ -16,7 +16,7 @@ ghost use Rattle.dict_desk.specs.Faults.{has_closed_by, has_failed_by};
 ghost use Rattle.store_desk.specs.Causes.{FailsToPrepare};
 ghost use Rattle.store_desk.specs.Desk.{HasFiled, KeepsBeside, LeavesOneOf, Shows, has_failed, is_closed};
 ghost use Rattle.store_commands.specs.Left.{IsLess};
-ghost use Rattle.store_desk.specs.Left.{coming_left, install_left, reading_left};
+ghost use Rattle.store_desk.specs.Left.{coming_left, install_left, reading_left, recounted};
 ghost use Rattle.store_desk.specs.Prepared.{HasCommittedSame, last_behind};
 
 use crate::adopting::is_whole;
@@ -209,7 +209,7 @@ impl<S: Alter + Drop> Desk<S> {
     // Prepares a bounded part of what was noted: reads it, or files it. Whether there is more.
     pub(crate) fn prepare_part(&mut self) -> Result<bool, Fault>
         requires { is_closed self.old.last ≡ false }
-        ensures prepared { HasCleanDisk (state S.Store self.new.conn) → result ≡ Ok true → (self.new ≡ record self.old { counts = self.new.counts }) ⊎ HasCommittedSame S.Store self.old self.new }
+        ensures prepared { HasCleanDisk (state S.Store self.new.conn) → result ≡ Ok true → (self.new ≡ record self.old { counts = recounted self.old.counts self.new.counts }) ⊎ HasCommittedSame S.Store self.old self.new }
         ensures fewer { result ≡ Ok true → IsLess self.new.counts.left self.old.counts.left }
         ensures trust { HasCleanDisk (state S.Store self.new.conn) → HasCleanDisk (state S.Store self.old.conn) }
         ensures shows { HasCleanDisk (state S.Store self.new.conn) → (M : Catalogue) → Shows S.Store self.old M → Shows S.Store self.new M }
@@ -242,12 +242,12 @@ impl<S: Alter + Drop> Desk<S> {
 /// taken out.
 impl<S: Alter + Drop> Preparer for Desk<S> {
     // No transaction is open, and all that is seen of the desk is as it was, but for what is left to prepare; or it failed, and its connection is.
-    ghost expects = { λ old _ desk. (desk.conn.in_transaction ≡ false) × ((desk ≡ record old { counts = desk.counts }) ⊎ ((has_failed desk.last ≡ true) × (desk.conn ≡ old.conn))) };
+    ghost expects = { λ old _ desk. (desk.conn.in_transaction ≡ false) × ((desk ≡ record old { counts = recounted old.counts desk.counts }) ⊎ ((has_failed desk.last ≡ true) × (desk.conn ≡ old.conn))) };
 
     // Where there is more to prepare, less is left than was; and all else that is seen of the desk is as it was, or what an install left in the
     // log was copied, parts of no edition were taken out, or some of the edition that comes were filed, by a commit that changes nothing that is held.
     ghost prepares = { λ old result desk. (result ≡ Ok true → IsLess desk.counts.left old.counts.left)
-        × (HasCleanDisk (state S.Store desk.conn) → result ≡ Ok true → (desk ≡ record old { counts = desk.counts }) ⊎ HasCommittedSame S.Store old desk) };
+        × (HasCleanDisk (state S.Store desk.conn) → result ≡ Ok true → (desk ≡ record old { counts = recounted old.counts desk.counts }) ⊎ HasCommittedSame S.Store old desk) };
 
     ghost fails_to_prepare = { FailsToPrepare S.Store };
 

@@ -1,10 +1,10 @@
-use Rattle.std.proofs.Common.{◌++◌, sym, subst}
+use Rattle.std.proofs.Common.{◌++◌, refl, sym, subst}
 use Rattle.std.specs.Prelude.{OnOk, Some}
 use Rattle.std.proofs.lemmas.Result.{on_ok_weaker}
 use Rattle.sqlite.specs.Held.{state}
 use Rattle.store_commands.specs.Filing.{HasSameRows, IsFiledSoFar}
 use Rattle.store_commands.specs.Left.{IsLess, filing_left}
-use Rattle.store_desk.specs.Left.{ComingState, coming_left, index_left}
+use Rattle.store_desk.specs.Left.{ComingState, both_left, coming_left, index_left}
 use Rattle.store_desk.proofs.LeftLemmas.{less_front}
 use Rattle.store_desk.proofs.MakingLemmas.{index_same, install_same}
 use Rattle.store_desk.proofs.coming.Coming.file.Goals as goal
@@ -26,7 +26,7 @@ returns-clause-rows g c = subst (λ (f : ComingState). HasSameRows f.filing c.fi
 
 pub returns-clause-fewer : goal.returns-clause-fewer
 returns-clause-fewer g c =
-    let index = index_left c.self.inside.index in
+    let index = both_left (index_left c.self.inside.index) in
     let later = filing_left c.file_part.new.filing ++ index in
     subst (λ (old : ComingState). OnOk c.file_part.result (IsLess later (coming_left (Some old)))) c.self.view_is
-    (on_ok_weaker c.file_part.result (less_front (filing_left c.file_part.new.filing) (filing_left c.self.inside.install.filing) index index) c.file_part.ensures.fewer)
+    (on_ok_weaker c.file_part.result (less_front (filing_left c.file_part.new.filing) (filing_left c.self.inside.install.filing) index index refl) c.file_part.ensures.fewer)

@@ -5,6 +5,7 @@ use Rattle.sqlite.specs.State.{HasCleanDisk, Survives}
 use Rattle.dict_catalogue.specs.Views.{summary_shown}
 use Rattle.dict_desk.specs.declared.fault.Fault.TheVariants.{Disk}
 use Rattle.store_opening.specs.Reading.{HasFailedToRead}
+use Rattle.store_desk.specs.Left.{recounted}
 use Rattle.store_desk.specs.Desk.{DeskState, Shows, is_closed}
 use Rattle.store_desk.specs.Opened.{IsNotHeld, TellsOfDatabase}
 use Rattle.store_desk.proofs.AppliedLemmas.{err_clean}
@@ -37,7 +38,7 @@ returns-clause-shows g c = λ clean M shown.
     shows_on g.S.Store c.self.inside.conn c.read_committed-outcome.new.conn
     (summary_shown c.self.inside.summary) c.self.inside.filing c.self.inside.last c.last_by-self-inside.result before c.self.invariant.0 c.read_committed-outcome.ensures.survives c.read_committed-outcome.ensures.stays
     c.self.inside.indexes c.self.inside.texts M
-    (subst (λ (d : DeskState _). Shows g.S.Store d M) (sym (c.self.view_is ∙ c.withdraw.ensures.same)) (shows_counted g.S.Store c.args.self.now c.withdraw.new.self.counts M shown)) c.forget_by.new.texts c.forget_by.ensures
+    (subst (λ (d : DeskState _). Shows g.S.Store d M) (sym (c.self.view_is ∙ c.withdraw.ensures.same)) (shows_counted g.S.Store c.args.self.now (recounted c.args.self.now.counts c.withdraw.new.self.counts) M shown)) c.forget_by.new.texts c.forget_by.ensures
 
 pub returns-clause-spares : goal.returns-clause-spares
 returns-clause-spares g c =

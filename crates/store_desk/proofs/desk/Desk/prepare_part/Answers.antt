@@ -9,7 +9,7 @@ use Rattle.dict_desk.specs.declared.fault.Fault.TheVariants.{Disk}
 use Rattle.store_desk.specs.Desk.{DeskState, Shows, LeavesOneOf, has_failed, is_closed, KeepsBeside}
 use Rattle.store_desk.specs.Prepared.{HasCommittedSame}
 use Rattle.store_commands.specs.Left.{IsLess}
-use Rattle.store_desk.specs.Left.{OrphansState, counted, install_left, log_left, orphans_left}
+use Rattle.store_desk.specs.Left.{OrphansState, counted, install_left, log_left, orphans_left, recounted}
 use Rattle.store_desk.proofs.CopyLemmas.{copied_beside, copied_caused, copied_first, copied_keeps, copied_leaves, copied_rests, copied_same, copied_shows}
 use Rattle.store_desk.proofs.LeftLemmas.{less_behind}
 use Rattle.store_desk.proofs.PreparingLemmas.{behind_failed, behind_closed, same_prepared}
@@ -55,9 +55,9 @@ returns-clause-prepared g c = λ clean is.
       texts = c.forget_behind.new.texts;
       counts = counted c.self.inside.rows_taken c.self.inside.is_log_long c.prepare_next-outcome.new.orphans c.prepare_next-outcome.new.draft c.prepare_next-outcome.new.filing;
     } in
-    elim (c.prepare_next-outcome.ensures.made clean is) as (λ _. (new ≡ record c.args.self.now { counts = new.counts }) ⊎ HasCommittedSame g.S.Store c.args.self.now new) [
+    elim (c.prepare_next-outcome.ensures.made clean is) as (λ _. (new ≡ record c.args.self.now { counts = recounted c.args.self.now.counts new.counts }) ⊎ HasCommittedSame g.S.Store c.args.self.now new) [
       | inl same ↦ inl (same_prepared old new.conn new.last new.texts new.counts c.prepare_next-outcome.result c.last_behind-self-inside.ensures c.forget_behind.ensures is same
-          ∙ ap (λ (d : DeskState _). record d { counts = new.counts }) c.self.view_is)
+          ∙ ap (λ (d : DeskState _). record d { counts = recounted d.counts new.counts }) c.self.view_is)
       | inr done ↦ inr (subst (λ (d : DeskState _). HasCommittedSame g.S.Store d new) c.self.view_is (record {
         before = c.self.invariant.0.ended;
         ended = c.prepare_next-outcome.ensures.ended;

@@ -62,7 +62,7 @@ returns-clause-fewer g c = λ is.
     let later = orphans_left c.take_last-outcome.new.orphans in
     let long = log_left c.self.inside.is_log_long in
     subst (λ (d : DeskState _). IsLess (long ∷ (later ++ install)) d.counts.left) c.self.view_is
-    (inr (refl, less_front later (orphans_left c.self.inside.orphans) install install (c.take_last-outcome.ensures.fewer is)))
+    (inr (refl, less_front later (orphans_left c.self.inside.orphans) install install refl (c.take_last-outcome.ensures.fewer is)))
 
 pub returns-clause-trust : goal.returns-clause-trust
 returns-clause-trust g c = λ clean.

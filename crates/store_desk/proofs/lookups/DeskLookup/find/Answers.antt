@@ -1,17 +1,16 @@
-use Rattle.std.proofs.Common.{◌≡◌, ℕ, List, false, sym, ap, subst, rules}
+use Rattle.std.proofs.Common.{◌≡◌, ℕ, List, false, sym, ap, subst, refl, rules}
 use Rattle.sqlite.specs.Effect.{Database}
 use Rattle.sqlite.specs.Held.{state}
 use Rattle.dict_catalogue.specs.Views.{summary_shown}
 use Rattle.store_holdings.specs.Texts.{HoldsText}
 use Rattle.store_lookup.specs.Searches.{number_in_column}
-use Rattle.store_lookup.specs.Taken.{LooksAt}
 use Rattle.store_lookup.specs.Texts.{ArePartsOf}
 use Rattle.dict_desk.specs.Shown.{count_of}
 use Rattle.dict_desk.specs.declared.lookup.What.TheVariants.{Entries}
 use Rattle.store_search.specs.Entries.{Indexed}
 use Rattle.store_lookup.proofs.HeldLemmas.{held_tables}
 use Rattle.store_desk.specs.Desk.{DeskState, Shows, LeavesOneOf, is_closed, KeepsBeside}
-use Rattle.store_desk.specs.Left.{counted}
+use Rattle.store_desk.specs.Left.{CountsLook, counted}
 use Rattle.store_desk.proofs.CauseLemmas.{found_gives_way}
 use Rattle.store_desk.proofs.BesideLemmas.{beside_on}
 use Rattle.store_desk.proofs.DeskLemmas.{clean_behind, found_stays, leaves_on, desk_on, shows_with, parts_after}
@@ -130,8 +129,11 @@ returns-clause-looks g c = λ clean M edition shown has all.
       counts = counted c.self.inside.rows_taken c.self.inside.is_log_long c.self.inside.orphans c.self.inside.draft c.self.inside.filing;
     }) M
     c.args.number edition has (ready.served honest) in
-    subst (λ (taken : ℕ). LooksAt taken c.find_under-outcome.new.rows_taken (count_of Entries c.args.strategy c.args.query.now edition)) (ap (λ (d : DeskState _). d.counts.taken) c.self.view_is)
-    (c.find_under-outcome.ensures.looks one.index edition one.stands (one.text, one.cuts) all)
+    let now = counted c.find_under-outcome.new.rows_taken c.self.inside.is_log_long c.self.inside.orphans c.self.inside.draft c.self.inside.filing in
+    subst (λ (d : DeskState _). CountsLook d.counts now (count_of Entries c.args.strategy c.args.query.now edition)) c.self.view_is (record {
+      taken = c.find_under-outcome.ensures.looks one.index edition one.stands (one.text, one.cuts) all;
+      same = refl;
+    })
 
 pub returns-clause-caused : goal.returns-clause-caused
 returns-clause-caused g c =

@@ -1,4 +1,4 @@
-use Rattle.std.proofs.Common.{◌≡◌, ℕ, false, sym, ap, subst, rules}
+use Rattle.std.proofs.Common.{◌≡◌, false, sym, ap, subst, refl, rules}
 use Rattle.std.specs.Prelude.{Result, OnOk}
 use Rattle.dict_catalogue.specs.Views.{summary_shown}
 use Rattle.dict_desk.specs.Shown.{count_of}
@@ -13,7 +13,7 @@ use Rattle.store_desk.proofs.DeskLemmas.{texts_keep}
 use Rattle.store_desk.proofs.PreparingLemmas.{rests_as, shows_as}
 use Rattle.store_desk.proofs.ServedLemmas.{served_one}
 use Rattle.store_desk.specs.KeptParts.{KeepsTexts}
-use Rattle.store_desk.specs.Left.{counted}
+use Rattle.store_desk.specs.Left.{CountsLook, counted}
 use Rattle.store_desk.proofs.lookups.DeskLookup.heads.Goals as goal
 
 pub invariant_of-self : goal.invariant_of-self
@@ -76,6 +76,9 @@ returns-clause-looks g c = λ clean M edition shown has all.
       counts = counted c.self.inside.rows_taken c.self.inside.is_log_long c.self.inside.orphans c.self.inside.draft c.self.inside.filing;
     }) M c.args.number
     edition has (ready.served clean) in
-    subst (λ (taken : ℕ). LooksAt taken c.heads_under-outcome.new.rows_taken (count_of Entries c.args.strategy c.args.query.now edition)) (ap (λ (d : DeskState _). d.counts.taken) c.self.view_is)
-    (subst (λ (r : Result End Fault). OnOk r (LooksAt c.self.inside.rows_taken c.heads_under-outcome.new.rows_taken (count_of Entries c.args.strategy c.args.query.now edition))) all
-    (c.heads_under-outcome.ensures.looks one.index edition one.stands (one.text, one.cuts)))
+    let now = counted c.heads_under-outcome.new.rows_taken c.self.inside.is_log_long c.self.inside.orphans c.self.inside.draft c.self.inside.filing in
+    subst (λ (d : DeskState _). CountsLook d.counts now (count_of Entries c.args.strategy c.args.query.now edition)) c.self.view_is (record {
+      taken = subst (λ (r : Result End Fault). OnOk r (LooksAt c.self.inside.rows_taken c.heads_under-outcome.new.rows_taken (count_of Entries c.args.strategy c.args.query.now edition))) all
+          (c.heads_under-outcome.ensures.looks one.index edition one.stands (one.text, one.cuts));
+      same = refl;
+    })

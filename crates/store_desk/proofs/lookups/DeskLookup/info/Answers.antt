@@ -10,7 +10,7 @@ use Rattle.store_rows.specs.Versions.{known}
 use Rattle.store_lookup.specs.Searches.{number_in_column}
 use Rattle.store_lookup.proofs.HeldLemmas.{held_one, held_tables}
 use Rattle.store_desk.specs.Desk.{DeskState, Shows, LeavesOneOf, is_closed, KeepsBeside}
-use Rattle.store_desk.specs.Left.{counted}
+use Rattle.store_desk.specs.Left.{CountsLook, counted}
 use Rattle.store_desk.proofs.CauseLemmas.{lookup_gives_way}
 use Rattle.store_desk.proofs.BesideLemmas.{beside_on}
 use Rattle.store_desk.proofs.DeskLemmas.{clean_behind, lookup_stays, leaves_on, desk_on, handed_by, shows_on}
@@ -105,13 +105,16 @@ returns-clause-looks g c = λ clean M edition shown has all.
     let before : is_closed c.self.inside.last ≡ false = search rules in
     let honest = clean_behind (state g.S.Store c.self.inside.conn) (state g.S.Store c.info-outcome.new.conn) c.info-outcome.ensures.survives clean in
     let ready = subst (λ (d : DeskState _). Shows g.S.Store d M) (sym c.self.view_is) shown in
-    subst (λ (taken : ℕ). LooksAt taken c.info-outcome.new.rows_taken 1) (ap (λ (d : DeskState _). d.counts.taken) c.self.view_is)
-    (one_taken c.self.inside.rows_taken c.info-outcome.new.rows_taken c.info-outcome.result (state g.S.Store c.self.inside.conn).is_open
-    (λ live.
-    let holds = seen g.S.Store c.self.inside.last (summary_shown c.self.inside.summary) c.self.inside.filing c.self.inside.conn before c.self.invariant.0 honest live (λ (db : Database). Holds known db M) (ready.holds before honest live) in
-    let one = held_one (state g.S.Store c.self.inside.conn).now M c.args.number edition holds has in
-    c.info-outcome.ensures.taken clean one.0 one.1)
-    (λ dead. (c.info-outcome.ensures.shut clean dead).0) all)
+    let now = counted c.info-outcome.new.rows_taken c.self.inside.is_log_long c.self.inside.orphans c.self.inside.draft c.self.inside.filing in
+    subst (λ (d : DeskState _). CountsLook d.counts now 1) c.self.view_is (record {
+      taken = one_taken c.self.inside.rows_taken c.info-outcome.new.rows_taken c.info-outcome.result (state g.S.Store c.self.inside.conn).is_open
+          (λ live.
+          let holds = seen g.S.Store c.self.inside.last (summary_shown c.self.inside.summary) c.self.inside.filing c.self.inside.conn before c.self.invariant.0 honest live (λ (db : Database). Holds known db M) (ready.holds before honest live) in
+          let one = held_one (state g.S.Store c.self.inside.conn).now M c.args.number edition holds has in
+          c.info-outcome.ensures.taken clean one.0 one.1)
+          (λ dead. (c.info-outcome.ensures.shut clean dead).0) all;
+      same = refl;
+    })
 
 pub returns-clause-caused : goal.returns-clause-caused
 returns-clause-caused g c =
