@@ -1,6 +1,5 @@
 // A desk over a database that holds a catalogue.
-ghost use Rattle.std.specs.Prelude.{◌≡◌, ◌<◌, ◌↔◌, ◌||◌, ℕ, List, false, true, Some, None, [], ◌∷◌, IsTrue, IfOk, IfErr, OnOk, OnErr, Err};
-ghost use Rattle.sqlite.specs.Effect.{Database};
+ghost use Rattle.std.specs.Prelude.{◌≡◌, ◌<◌, ◌↔◌, ◌||◌, ℕ, List, false, true, None, IsTrue, IfOk, IfErr, OnOk, OnErr, Err};
 ghost use Rattle.sqlite.specs.State.{HasCleanDisk, IsLive, Survives};
 ghost use Rattle.sqlite.specs.Held.{state};
 ghost use Rattle.dict_catalogue.specs.Steps.{Catalogue, summary_of};
@@ -12,15 +11,14 @@ ghost use Rattle.store_migration.specs.Migrated.{MayMigrate};
 ghost use Rattle.store_commands.specs.Changes.{IsInRange};
 ghost use Rattle.dict_desk.specs.Faults.{has_closed_by, has_failed_by, is_disk};
 ghost use Rattle.store_opening.specs.Reading.{IsOfOpening, HasFailedToRead};
-ghost use Rattle.store_desk.specs.Desk.{KeepsBeside, Shows, LeavesOneOf, is_closed, has_failed};
+ghost use Rattle.store_desk.specs.Desk.{Shows, is_closed, has_failed};
 ghost use Rattle.store_desk.specs.Opened.{TellsOfDatabase, IsNotHeld, IsNotLeft, HoldsItsTrees};
 ghost use Rattle.store_opening.specs.Indexed.{IsHeldIndexed};
 ghost use Rattle.store_desk.specs.Indexed.{AreHeldCut};
 ghost use Rattle.store_search.specs.Entries.{Indexed};
 ghost use Rattle.store_rows.specs.Versions.{known, IsVersion};
 ghost use Rattle.store_migration.specs.Spared.{SparesOthers};
-ghost use Rattle.store_desk.specs.Adopted.{FailsToOpen, MayCommitBeside};
-ghost use Rattle.store_desk.specs.Over.{ConnectionKeepsBeside};
+ghost use Rattle.store_desk.specs.Adopted.{FailsToOpen, MayCommitBeside, IsAdopted, IsNotAdopted};
 ghost use Rattle.store_holdings.specs.Faults.{IsOfStore};
 
 use crate::desk::Desk;
@@ -207,27 +205,14 @@ impl<S: Alter + Drop> Desk<S> {
     /// opening tells which are there. The connection's limit on steps is taken away.
     pub fn adopt(alloc: Global, conn: Connection<S>) -> Result<Desk<S>, (Connection<S>, Fault)>
         requires { conn.in_transaction ≡ false }
-        ensures rests { IfOk result (λ desk. HasCleanDisk (state S.Store desk.conn) → (M : Catalogue) × Rests known (state S.Store desk.conn) M × Shows S.Store desk M) }
+        ensures adopted { IfOk result (IsAdopted S.Store conn) }
         ensures held { IfOk result (λ desk. HasCleanDisk (state S.Store desk.conn) → (M : Catalogue) → IsHeld (state S.Store conn).committed M → Shows S.Store desk M) }
         ensures left { IfOk result (λ desk. HasCleanDisk (state S.Store desk.conn) → (M : Catalogue) → IsLeft M (state S.Store conn).committed.trees → Shows S.Store desk M) }
-        ensures only { IfOk result (λ desk. (M : Catalogue) → Shows S.Store desk M → LeavesOneOf S.Store desk (Some M ∷ [])) }
-        ensures open { IfOk result (λ desk. (desk.last ≡ LastCall.Fine) × (desk.conn.in_transaction ≡ false)) }
-        ensures same { IfOk result (λ desk. HasCleanDisk (state S.Store desk.conn) → (M : Catalogue) → IsHeld (state S.Store conn).committed M ↔ Holds known (state S.Store desk.conn).committed M) }
-        ensures others { IfOk result (λ desk. HasCleanDisk (state S.Store desk.conn) → SparesOthers (state S.Store conn).committed (state S.Store desk.conn).committed) }
-        ensures beside { IfOk result (λ desk. Survives (state S.Store (record conn { step_limit = None })) (state S.Store desk.conn) (MayCommitBeside (state S.Store conn))) }
-        ensures keeps { IfOk result (λ desk. (db : Database) → ConnectionKeepsBeside S.Store conn db → KeepsBeside S.Store desk db) }
-        ensures unwritten { IfOk result (λ desk. HasCleanDisk (state S.Store desk.conn) → (M : Catalogue) → Holds known (state S.Store conn).committed M → (state S.Store desk.conn).committed ≡ (state S.Store conn).committed) }
-        ensures migrated { IfOk result (λ desk. Survives (state S.Store (record conn { step_limit = None })) (state S.Store desk.conn) (MayMigrate (state S.Store conn))) }
-        ensures beside_left { IfErr result (λ left. Survives (state S.Store (record conn { step_limit = None })) (state S.Store left.0) (MayCommitBeside (state S.Store conn))) }
+        ensures ended { IfOk result (λ desk. desk.conn.in_transaction ≡ false) }
+        ensures rejected { IfErr result (λ left. IsNotAdopted S.Store conn left.0 left.1) }
         ensures handed { IfErr result (λ left. left.0.in_transaction ≡ false) }
-        ensures kinds { IfErr result (λ left. IsOfOpening left.1) }
-        ensures told { IfErr result (λ left. HasCleanDisk (state S.Store left.0) → TellsOfDatabase (state S.Store conn).now left.1) }
-        ensures not_held { IfErr result (λ left. HasCleanDisk (state S.Store left.0) → IsNotHeld (state S.Store conn).now left.1) }
         ensures not_left { IfErr result (λ left. HasCleanDisk (state S.Store left.0) → IsTrue (state S.Store conn).is_open → IsNotLeft (state S.Store conn).now.trees left.1) }
         ensures failed { IfErr result (λ left. HasCleanDisk (state S.Store left.0) → left.1 ≡ Fault.Disk → FailsToOpen S.Store (record conn { step_limit = None }) left.0) }
-        ensures stays { IfErr result (λ left. HasCleanDisk (state S.Store left.0) → IsTrue (state S.Store left.0).is_open → ((state S.Store left.0).now ≡ (state S.Store conn).now) × ((state S.Store left.0).committed ≡ (state S.Store conn).committed)) }
-        ensures adds_none { IfErr result (λ left. is_disk left.1 ≡ false → Survives (state S.Store (record conn { step_limit = None })) (state S.Store left.0) (λ _. ⊥)) }
-        ensures crash { IfErr result (λ left. Survives (state S.Store (record conn { step_limit = None })) (state S.Store left.0) (MayMigrate (state S.Store conn))) }
     {
         let mut conn = conn;
         is_whole(&conn);

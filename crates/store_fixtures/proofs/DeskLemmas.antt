@@ -1,6 +1,6 @@
--- Two facts of one result, and one text more that is run.
+-- One text more that is run.
 use Rattle.std.proofs.Common.{◌≡◌, inl, inr, ℕ, zero, suc, ◌+◌, ◌<◌, List, [], ◌∷◌, ◌++◌, length, take, get_or, refl, sym, subst, arith}
-use Rattle.std.specs.Prelude.{Result, Ok, Err, IfOk, IfErr}
+use Rattle.std.specs.Prelude.{Result, Ok, Err}
 use Rattle.std.specs.Borrow.{Bor}
 use Rattle.std.proofs.lemmas.List.{take_more}
 use Rattle.sqlite.specs.Batch.{ExecutesAll}
@@ -8,14 +8,6 @@ use Rattle.sqlite.specs.Held.{Held}
 use Rattle.sqlite.specs.declared.error.Error.{Error}
 use Rattle.sqlite_trees.specs.declared.store.Store.{Ghosts}
 use Rattle.store_fixtures.specs.Batched.{ExecutedInTurn}
-
-pub both : {X Y : Type 0} (r : Result X Y) (P Q : X → Type 0) → IfOk r P → IfOk r Q → IfOk r (λ x. P x × Q x)
-both (Ok x) P Q p q = (p, q)
-both (Err y) P Q p q = tt
-
-pub both_left : {X Y : Type 0} (r : Result X Y) (P Q : Y → Type 0) → IfErr r P → IfErr r Q → IfErr r (λ y. P y × Q y)
-both_left (Ok x) P Q p q = tt
-both_left (Err y) P Q p q = (p, q)
 
 -- each text was run whole, in this order
 abbrev pub AllExecuted : {S : Type 0} → Ghosts S → List (Bor (List ℕ)) → Held S → Held S → Type 0

@@ -20,21 +20,6 @@ use sqlite::{Alter, Connection, Error};
 use std::alloc::Global;
 use store_desk::Desk;
 
-// A desk over a database that is found.
-fn found_desk<S: Alter + Drop>(
-    alloc: Global,
-    conn: Connection<S>,
-) -> Result<Desk<S>, (Connection<S>, Fault)>
-    requires { conn.in_transaction ≡ false }
-    ensures adopted { IfOk result (IsAdopted S.Store conn) }
-    ensures held { IfOk result (λ desk. HasCleanDisk (state S.Store desk.conn) → (M : Catalogue) → IsHeld (state S.Store conn).committed M → Shows S.Store desk M) }
-    ensures left { IfOk result (λ desk. HasCleanDisk (state S.Store desk.conn) → (M : Catalogue) → IsLeft M (state S.Store conn).committed.trees → Shows S.Store desk M) }
-    ensures rejected { IfErr result (λ left. IsNotAdopted S.Store conn left.0 left.1) }
-    ensures handed { IfErr result (λ left. left.0.in_transaction ≡ false) }
-{
-    Desk::adopt(alloc, conn)
-}
-
 /// A desk over a database that is made, or over one that is found. Where a transaction is open, the connection is handed back as it is.
 pub fn desk_over<S: Alter + Drop>(
     alloc: Global,
@@ -59,7 +44,7 @@ pub fn desk_over<S: Alter + Drop>(
     if is_new {
         Desk::create(alloc, conn)
     } else {
-        found_desk(alloc, conn)
+        Desk::adopt(alloc, conn)
     }
 }
 

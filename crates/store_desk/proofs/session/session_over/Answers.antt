@@ -5,10 +5,10 @@ use Rattle.store_desk.proofs.session.session_over.Goals as goal
 pub returns-clause-ran : goal.returns-clause-ran
 returns-clause-ran g c = λ clean.
     let opened = c.run-end.ensures.desk.trust clean in
-    let is = c.in-Ok.ensures.rests opened in
+    let is = c.in-Ok.ensures.adopted.shows opened in
     record {
       catalogue = is.0;
-      held = (c.in-Ok.ensures.same opened is.0).1 is.1.holds;
+      held = (c.in-Ok.ensures.adopted.same opened is.0).1 is.1.holds;
       over = λ M held. let shown = c.in-Ok.ensures.held opened M held in record { ended = c.run-end.ensures.answers clean M shown; shown = c.run-end.ensures.desk.shows clean M shown };
       left = λ M left. let shown = c.in-Ok.ensures.left opened M left in record { ended = c.run-end.ensures.answers clean M shown; shown = c.run-end.ensures.desk.shows clean M shown };
     }
@@ -17,26 +17,13 @@ pub returns-clause-memory : goal.returns-clause-memory
 returns-clause-memory g c = λ is. let both = c.run-end.ensures.memory is in (ap g.R.Source.stream both.0, ap g.K.Sink.stream both.1)
 
 pub returns-clause-leaves : goal.returns-clause-leaves
-returns-clause-leaves g c = λ ms before. c.run-end.ensures.desk.leaves ms (leaves_after g.S.Store c.args.connection c.in-Ok.desk.conn c.is_whole.ensures.live (g.met.S.Store.stays c.args.connection.store) c.in-Ok.ensures.migrated ms before)
+returns-clause-leaves g c = λ ms before. c.run-end.ensures.desk.leaves ms (leaves_after g.S.Store c.args.connection c.in-Ok.desk.conn c.is_whole.ensures.live (g.met.S.Store.stays c.args.connection.store) c.in-Ok.ensures.adopted.migrated ms before)
 
 pub returns-clause-beside : goal.returns-clause-beside
-returns-clause-beside g c = λ db keeps. c.run-end.ensures.desk.beside db (c.in-Ok.ensures.keeps db keeps)
-
-pub returns-in-Err-clause-unopened : goal.returns-in-Err-clause-unopened
-returns-in-Err-clause-unopened g c =
-    record {
-      kind = c.in-Err.ensures.kinds;
-      told = c.in-Err.ensures.told;
-      not_held = c.in-Err.ensures.not_held;
-      same = c.in-Err.ensures.stays;
-      adds_none = c.in-Err.ensures.adds_none;
-      crash = c.in-Err.ensures.crash;
-      beside =
-          c.in-Err.ensures.beside_left;
-    }
+returns-clause-beside g c = λ db keeps. c.run-end.ensures.desk.beside db (c.in-Ok.ensures.adopted.keeps db keeps)
 
 pub returns-in-Err-clause-leaves_unopened : goal.returns-in-Err-clause-leaves_unopened
-returns-in-Err-clause-leaves_unopened g c = λ ms before. leaves_after g.S.Store c.args.connection c.in-Err.left.0 c.is_whole.ensures.live (g.met.S.Store.stays c.args.connection.store) c.in-Err.ensures.crash ms before
+returns-in-Err-clause-leaves_unopened g c = λ ms before. leaves_after g.S.Store c.args.connection c.in-Err.left.0 c.is_whole.ensures.live (g.met.S.Store.stays c.args.connection.store) c.in-Err.ensures.rejected.crash ms before
 
 pub returns-in-Err-clause-beside_unopened : goal.returns-in-Err-clause-beside_unopened
-returns-in-Err-clause-beside_unopened g c = λ db keeps. beside_after g.S.Store c.args.connection c.in-Err.left.0 c.is_whole.ensures.live (g.met.S.Store.stays c.args.connection.store) db keeps c.in-Err.ensures.beside_left
+returns-in-Err-clause-beside_unopened g c = λ db keeps. beside_after g.S.Store c.args.connection c.in-Err.left.0 c.is_whole.ensures.live (g.met.S.Store.stays c.args.connection.store) db keeps c.in-Err.ensures.rejected.beside

@@ -5,13 +5,13 @@ use Rattle.store_stop_tests.proofs.FaultLemmas.{opening_of_file}
 use Rattle.store_stop_tests.proofs.disks.adopt.Goals as goal
 
 pub returns-in-Ok-clause-answers : goal.returns-in-Ok-clause-answers
-returns-in-Ok-clause-answers g c = ap is_closed c.in-Ok.ensures.open.0
+returns-in-Ok-clause-answers g c = ap is_closed c.in-Ok.ensures.adopted.fine
 
 pub returns-in-Ok-clause-opened : goal.returns-in-Ok-clause-opened
 returns-in-Ok-clause-opened g c = record {
   opened = tt;
-  alone = λ clean. let it = c.in-Ok.ensures.rests clean in (it.0, it.2, c.in-Ok.ensures.only it.0 it.2);
+  alone = λ clean. let it = c.in-Ok.ensures.adopted.shows clean in (it.0, it.2, c.in-Ok.ensures.adopted.only it.0 it.2);
 }
 
 pub returns-clause-opened : goal.returns-clause-opened
-returns-clause-opened g c = (tt, subst IsOfFile (sym c.from.ensures) (opening_of_file c.in-Err.fault c.in-Err.ensures.kinds))
+returns-clause-opened g c = (tt, subst IsOfFile (sym c.from.ensures) (opening_of_file c.in-Err.fault c.in-Err.ensures.rejected.kind))

@@ -1,13 +1,14 @@
-use Rattle.std.proofs.Common.{◌≡◌, refl, subst, sym}
-use Rattle.std.specs.Prelude.{IsTrue, Some, None}
+use Rattle.std.proofs.Common.{◌≡◌, ◌↔◌, refl, subst, sym}
+use Rattle.std.specs.Prelude.{IsTrue, Some}
 use Rattle.sqlite.specs.State.{HasCleanDisk, Survives}
 use Rattle.sqlite.specs.Held.{state}
-use Rattle.store_holdings.specs.Holds.{Holds, IsHeld}
+use Rattle.dict_catalogue.specs.Steps.{Catalogue}
+use Rattle.store_holdings.specs.Holds.{Holds, IsHeld, Rests}
 use Rattle.store_migration.specs.Migrated.{MayMigrate}
 use Rattle.store_desk.specs.Desk.{DeskState, Shows}
-use Rattle.store_desk.specs.Opened.{IsNotHeld}
+use Rattle.store_desk.specs.Opened.{IsNotHeld, TellsOfDatabase}
 use Rattle.store_migration.specs.Spared.{SparesOthers}
-use Rattle.store_desk.specs.Adopted.{FailsToOpen, MayCommitBeside}
+use Rattle.store_desk.specs.Adopted.{FailsToOpen, IsAdopted, MayCommitBeside}
 use Rattle.store_desk.proofs.DeskLemmas.{alone, left_alone}
 use Rattle.store_desk.proofs.OverLemmas.{beside_after}
 use Rattle.store_desk.proofs.desk.Desk.adopt.Goals as goal
@@ -22,56 +23,43 @@ returns-in-Ok-clause-left g c = λ clean M left.
     let it = c.in-Ok.ensures.every there M (subst (λ conn. IsHeld (state g.S.Store conn).committed M) (sym c.set_step_limit.ensures) held) in
     c.over.ensures.shows M (sym it.1) it.0.holds.stands.well_formed (λ _. it.0) (λ _. it.2)
 
-pub returns-in-Ok-clause-only : goal.returns-in-Ok-clause-only
-returns-in-Ok-clause-only g c = λ M shown clean trees may.
-    let there = subst (λ (d : DeskState _). HasCleanDisk (state g.S.Store d.conn)) c.over.ensures.is clean in
-    let rests = (c.in-Ok.ensures.rests there).1 in
-    let sound = (c.is_whole-in-Ok.ensures.live rests.is_open).1 in
-    let held = (subst (λ (d : DeskState _). Shows g.S.Store d M) c.over.ensures.is shown).holds refl there rests.is_open in
-    let left = subst (λ (d : DeskState _). (state g.S.Store d.conn).may_leave trees) c.over.ensures.is may in
-    (Some M, alone M, left_alone g.S.Store c.read_renewed.new.conn M (g.met.S.Store.settled c.read_renewed.new.conn.store) rests.is_open sound held trees left)
+pub returns-in-Ok-clause-adopted : goal.returns-in-Ok-clause-adopted
+returns-in-Ok-clause-adopted g c =
+    let limited = c.set_step_limit.ensures in
+    let now = c.read_renewed.new.conn in
+    let beside = subst (λ conn. Survives (state g.S.Store conn) (state g.S.Store now) (MayCommitBeside (state g.S.Store conn))) limited c.read_renewed.ensures.beside in
+    let shows : HasCleanDisk (state g.S.Store now) → (M : Catalogue) × Rests known (state g.S.Store now) M × Shows g.S.Store c.over.result M = λ clean.
+    let it = c.in-Ok.ensures.rests clean in
+    (it.0, it.1, c.over.ensures.shows it.0 (sym it.2) it.1.holds.stands.well_formed (λ _. it.1) (λ _. it.3)) in
+    let is = c.over.ensures.is in
+    subst (IsAdopted g.S.Store c.args.conn) (sym is) (record {
+      fine = refl;
+      shows = λ clean. let it = shows clean in (it.0, it.1, subst (λ (d : DeskState _). Shows g.S.Store d it.0) is it.2);
+      only = λ M shown clean trees may.
+          let rests = (c.in-Ok.ensures.rests clean).1 in
+          let sound = (c.is_whole-in-Ok.ensures.live rests.is_open).1 in
+          (Some M, alone M, left_alone g.S.Store now M (g.met.S.Store.settled now.store) rests.is_open sound (shown.holds refl clean rests.is_open) trees may);
+      same = λ clean M. subst (λ conn. IsHeld (state g.S.Store conn).committed M ↔ Holds known (state g.S.Store now).committed M) limited (c.in-Ok.ensures.same clean M);
+      unwritten = λ clean M held. subst (λ conn. Holds known (state g.S.Store conn).committed M → (state g.S.Store now).committed ≡ (state g.S.Store conn).committed) limited (c.in-Ok.ensures.unwritten clean M) held;
+      migrated = subst (λ conn. Survives (state g.S.Store conn) (state g.S.Store now) (MayMigrate (state g.S.Store conn))) limited c.read_renewed.ensures.crash;
+      others = λ clean. subst (λ conn. SparesOthers (state g.S.Store conn).committed (state g.S.Store now).committed) limited (c.in-Ok.ensures.others clean);
+      beside = beside;
+      keeps = λ db keeps. beside_after g.S.Store c.args.conn now c.is_whole.ensures.live (g.met.S.Store.stays c.args.conn.store) db keeps beside;
+    })
 
-pub returns-in-Ok-clause-same : goal.returns-in-Ok-clause-same
-returns-in-Ok-clause-same g c = λ clean M.
-    let there = subst (λ (d : DeskState _). HasCleanDisk (state g.S.Store d.conn)) c.over.ensures.is clean in
-    let both = c.in-Ok.ensures.same there M in (
-      (λ held. subst (λ (d : DeskState _). Holds known (state g.S.Store d.conn).committed M) (sym c.over.ensures.is) (both.0 (subst (λ conn. IsHeld (state g.S.Store conn).committed M) (sym c.set_step_limit.ensures) held))),
-      (λ held. subst (λ conn. IsHeld (state g.S.Store conn).committed M) c.set_step_limit.ensures (both.1 (subst (λ (d : DeskState _). Holds known (state g.S.Store d.conn).committed M) c.over.ensures.is held))),
-    )
-
-pub returns-in-Ok-clause-unwritten : goal.returns-in-Ok-clause-unwritten
-returns-in-Ok-clause-unwritten g c = λ clean M held.
-    let there = subst (λ (d : DeskState _). HasCleanDisk (state g.S.Store d.conn)) c.over.ensures.is clean in
-    let same = c.in-Ok.ensures.unwritten there M (subst (λ conn. Holds known (state g.S.Store conn).committed M) (sym c.set_step_limit.ensures) held) in
-    let as_was = subst (λ conn. (state g.S.Store c.read_renewed.new.conn).committed ≡ (state g.S.Store conn).committed) c.set_step_limit.ensures same in
-    subst (λ (d : DeskState _). (state g.S.Store d.conn).committed ≡ (state g.S.Store c.args.conn).committed) (sym c.over.ensures.is) as_was
-
-pub returns-in-Ok-clause-migrated : goal.returns-in-Ok-clause-migrated
-returns-in-Ok-clause-migrated g c =
-    let as_was = subst (λ conn. Survives (state g.S.Store conn) (state g.S.Store c.read_renewed.new.conn) (MayMigrate (state g.S.Store conn))) c.set_step_limit.ensures c.read_renewed.ensures.crash in
-    subst (λ (d : DeskState _). Survives (state g.S.Store (record c.args.conn { step_limit = None })) (state g.S.Store d.conn) (MayMigrate (state g.S.Store c.args.conn))) (sym c.over.ensures.is) as_was
-
-pub returns-in-Ok-clause-others : goal.returns-in-Ok-clause-others
-returns-in-Ok-clause-others g c = λ clean.
-    let there = subst (λ (d : DeskState _). HasCleanDisk (state g.S.Store d.conn)) c.over.ensures.is clean in
-    let as_was = subst (λ conn. SparesOthers (state g.S.Store conn).committed (state g.S.Store c.read_renewed.new.conn).committed) c.set_step_limit.ensures (c.in-Ok.ensures.others there) in
-    subst (λ (d : DeskState _). SparesOthers (state g.S.Store c.args.conn).committed (state g.S.Store d.conn).committed) (sym c.over.ensures.is) as_was
-
-pub returns-in-Ok-clause-beside : goal.returns-in-Ok-clause-beside
-returns-in-Ok-clause-beside g c =
-    let as_was = subst (λ conn. Survives (state g.S.Store conn) (state g.S.Store c.read_renewed.new.conn) (MayCommitBeside (state g.S.Store conn))) c.set_step_limit.ensures c.read_renewed.ensures.beside in
-    subst (λ (d : DeskState _). Survives (state g.S.Store (record c.args.conn { step_limit = None })) (state g.S.Store d.conn) (MayCommitBeside (state g.S.Store c.args.conn))) (sym c.over.ensures.is) as_was
-
-pub returns-in-Ok-clause-keeps : goal.returns-in-Ok-clause-keeps
-returns-in-Ok-clause-keeps g c db keeps = beside_after g.S.Store c.args.conn c.over.result.conn c.is_whole.ensures.live (g.met.S.Store.stays c.args.conn.store) db keeps (returns-in-Ok-clause-beside g c)
-
-pub returns-in-Err-clause-beside_left : goal.returns-in-Err-clause-beside_left
-returns-in-Err-clause-beside_left g c =
-    subst (λ conn. Survives (state g.S.Store conn) (state g.S.Store c.read_renewed.new.conn) (MayCommitBeside (state g.S.Store conn))) c.set_step_limit.ensures c.read_renewed.ensures.beside
-
-pub returns-in-Err-clause-crash : goal.returns-in-Err-clause-crash
-returns-in-Err-clause-crash g c =
-    subst (λ conn. Survives (state g.S.Store conn) (state g.S.Store c.read_renewed.new.conn) (MayMigrate (state g.S.Store conn))) c.set_step_limit.ensures c.read_renewed.ensures.crash
+pub returns-in-Err-clause-rejected : goal.returns-in-Err-clause-rejected
+returns-in-Err-clause-rejected g c =
+    let limited = c.set_step_limit.ensures in
+    let now = c.read_renewed.new.conn in
+    record {
+      kind = c.in-Err.ensures.kinds;
+      told = λ clean. subst (λ conn. TellsOfDatabase (state g.S.Store conn).now c.in-Err.fault) limited (c.in-Err.ensures.told clean);
+      not_held = λ clean. subst (λ conn. IsNotHeld (state g.S.Store conn).now c.in-Err.fault) limited (c.in-Err.ensures.not_held clean);
+      same = λ clean live. subst (λ conn. ((state g.S.Store now).now ≡ (state g.S.Store conn).now) × ((state g.S.Store now).committed ≡ (state g.S.Store conn).committed)) limited (c.in-Err.ensures.stays clean live);
+      adds_none = λ other. subst (λ conn. Survives (state g.S.Store conn) (state g.S.Store now) (λ _. ⊥)) limited (c.in-Err.ensures.adds_none other);
+      crash = subst (λ conn. Survives (state g.S.Store conn) (state g.S.Store now) (MayMigrate (state g.S.Store conn))) limited c.read_renewed.ensures.crash;
+      beside = subst (λ conn. Survives (state g.S.Store conn) (state g.S.Store now) (MayCommitBeside (state g.S.Store conn))) limited c.read_renewed.ensures.beside;
+    }
 
 pub returns-in-Err-clause-not_left : goal.returns-in-Err-clause-not_left
 returns-in-Err-clause-not_left g c = λ clean live M left.
@@ -82,8 +70,3 @@ returns-in-Err-clause-not_left g c = λ clean live M left.
 pub returns-in-Err-clause-failed : goal.returns-in-Err-clause-failed
 returns-in-Err-clause-failed g c = λ clean is.
     subst (λ conn. FailsToOpen g.S.Store conn c.read_renewed.new.conn) c.set_step_limit.ensures (c.in-Err.ensures.failed clean is)
-
-pub returns-in-Err-clause-stays : goal.returns-in-Err-clause-stays
-returns-in-Err-clause-stays g c = λ clean live.
-    subst (λ conn. ((state g.S.Store c.read_renewed.new.conn).now ≡ (state g.S.Store conn).now) × ((state g.S.Store c.read_renewed.new.conn).committed ≡ (state g.S.Store conn).committed)) c.set_step_limit.ensures
-    (c.in-Err.ensures.stays clean live)
