@@ -62,7 +62,13 @@ pub record AsksAnewForChange (before : Catalogue) (octets : List ℕ) (asked : E
   pub asks : AsksForChange octets asked
   pub anew : kept_under before.kept asks.asks.id ≡ None
 
--- the last that a keeper was told of is what is asked for
+-- what led from one keeper to the next is that it was told of what is asked for, and nothing else
+pub record IsToldOver {K : Type 0} (expects : K → Expected → K → Type 0) (Asks : Expected → Type 0) (before keeper : K) : Type 0 where
+  pub asked : Expected
+  pub asks : Asks asked
+  pub told : expects before asked keeper
+
+-- the last that a keeper was told of is what is asked for; what it was before is left open, since it was asked for a kept reply in between
 pub record HasForeseen {K : Type 0} (expects : K → Expected → K → Type 0) (Asks : Expected → Type 0) (keeper : K) : Type 0 where
   pub asked : Expected
   pub asks : Asks asked

@@ -6,7 +6,7 @@ ghost use Rattle.dict_catalogue.specs.Views.{command_meant};
 ghost use Rattle.dict_desk.specs.Expected.{of_command};
 ghost use Rattle.http_request.specs.Fields.{AreValues};
 ghost use Rattle.http_service.specs.declared.actions.Action.TheVariants as actions;
-ghost use Rattle.http_service.specs.Foreseeing.{HasForeseen, AsksAnewBy, AsksBy, SaysChange, SaysInstall};
+ghost use Rattle.http_service.specs.Foreseeing.{HasForeseen, IsToldOver, AsksAnewBy, AsksBy, SaysChange, SaysInstall};
 
 use crate::actions::{Action, one_id};
 use crate::bodies::{read_json, read_place, read_virtual};
@@ -38,7 +38,7 @@ fn may_act<K: Keeper>(desk: &mut K, id: &str) -> bool
 
 // Tells the desk of an install by its files, where a body has them. Whether it took note.
 fn expect_files<K: Preparer>(desk: &mut K, name: &str, body: &[u8]) -> bool
-    ensures foreseen { result ≡ true → HasForeseen K.expects (SaysInstall name.now body.now) desk.new }
+    ensures foreseen { result ≡ true → IsToldOver K.expects (SaysInstall name.now body.now) desk.old desk.new }
     ensures trust { K.is_trusted desk.new → K.is_trusted desk.old }
     ensures beside { (beside : K.Beside) → K.keeps_beside desk.old beside → K.keeps_beside desk.new beside }
     ensures closed { K.is_closed desk.old ≡ true → K.is_closed desk.new ≡ true }
@@ -53,7 +53,7 @@ fn expect_files<K: Preparer>(desk: &mut K, name: &str, body: &[u8]) -> bool
 
 // Tells the desk of a command. Whether it took note.
 fn expect_command<K: Preparer>(desk: &mut K, command: &Command) -> bool
-    ensures foreseen { result ≡ true → HasForeseen K.expects (λ asked. asked ≡ of_command (command_meant command.now)) desk.new }
+    ensures foreseen { result ≡ true → IsToldOver K.expects (λ asked. asked ≡ of_command (command_meant command.now)) desk.old desk.new }
     ensures trust { K.is_trusted desk.new → K.is_trusted desk.old }
     ensures beside { (beside : K.Beside) → K.keeps_beside desk.old beside → K.keeps_beside desk.new beside }
     ensures closed { K.is_closed desk.old ≡ true → K.is_closed desk.new ≡ true }
@@ -65,7 +65,7 @@ fn expect_command<K: Preparer>(desk: &mut K, command: &Command) -> bool
 
 // Tells the desk that an item is put at the place that a body says. Whether it took note.
 fn expect_place<K: Preparer>(alloc: Global, desk: &mut K, name: &str, body: &[u8]) -> bool
-    ensures foreseen { result ≡ true → HasForeseen K.expects (SaysChange actions.Place name.now body.now) desk.new }
+    ensures foreseen { result ≡ true → IsToldOver K.expects (SaysChange actions.Place name.now body.now) desk.old desk.new }
     ensures trust { K.is_trusted desk.new → K.is_trusted desk.old }
     ensures beside { (beside : K.Beside) → K.keeps_beside desk.old beside → K.keeps_beside desk.new beside }
     ensures closed { K.is_closed desk.old ≡ true → K.is_closed desk.new ≡ true }
@@ -86,7 +86,7 @@ fn expect_place<K: Preparer>(alloc: Global, desk: &mut K, name: &str, body: &[u8
 
 // Tells the desk that the virtual item that a body says is put. Whether it took note.
 fn expect_virtual<K: Preparer>(alloc: Global, desk: &mut K, name: &str, body: &[u8]) -> bool
-    ensures foreseen { result ≡ true → HasForeseen K.expects (SaysChange actions.PutVirtual name.now body.now) desk.new }
+    ensures foreseen { result ≡ true → IsToldOver K.expects (SaysChange actions.PutVirtual name.now body.now) desk.old desk.new }
     ensures trust { K.is_trusted desk.new → K.is_trusted desk.old }
     ensures beside { (beside : K.Beside) → K.keeps_beside desk.old beside → K.keeps_beside desk.new beside }
     ensures closed { K.is_closed desk.old ≡ true → K.is_closed desk.new ≡ true }
@@ -117,7 +117,7 @@ fn expect_change<K: Preparer>(
     name: &str,
     body: &[u8],
 ) -> bool
-    ensures foreseen { result ≡ true → HasForeseen K.expects (SaysChange action name.now body.now) desk.new }
+    ensures foreseen { result ≡ true → IsToldOver K.expects (SaysChange action name.now body.now) desk.old desk.new }
     ensures trust { K.is_trusted desk.new → K.is_trusted desk.old }
     ensures beside { (beside : K.Beside) → K.keeps_beside desk.old beside → K.keeps_beside desk.new beside }
     ensures closed { K.is_closed desk.old ≡ true → K.is_closed desk.new ≡ true }

@@ -32,8 +32,8 @@ AreLeft false before after = after < before
 module _ {K : Type 0} (expects : K → Expected → K → Type 0) (prepares : K → Result Bool Fault → K → Type 0) where
   -- Octets are held back in a turn over this desk, which left that one. Where another connection's command comes first (`behind`), they
   -- make one whole, and the desk was asked nothing. Else, where it was told of them before (`told`), all that it was asked is to prepare a
-  -- part, and there is more to prepare; and where it wasn't, this was asked of it as it was told of what they make whole, behind which
-  -- nothing else was
+  -- part, and there is more to prepare; and where it wasn't, this was asked of a desk that was told of what they make whole, behind which
+  -- nothing else was. Of what came before it was told nothing is said: it was asked for the reply that may be kept
   abbrev pub HoldsBackBy : Bool → Bool → Hub → K → K → ℕ → List ℕ → Type 0
   HoldsBackBy true told hub old new id octets = (new ≡ old) × AreCommand hub id octets
   HoldsBackBy false true hub old new id octets = prepares old (Ok true) new

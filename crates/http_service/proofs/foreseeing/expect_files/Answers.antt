@@ -6,6 +6,5 @@ pub returns-in-Some-clause-foreseen : goal.returns-in-Some-clause-foreseen
 returns-in-Some-clause-foreseen g c = λ taken. record {
   asked = of_files c.args.name.now c.in-Some.index.now c.in-Some.text.now;
   asks = (c.in-Some.index.now, c.in-Some.text.now, c.in-Some.ensures, refl);
-  before = c.args.desk.now;
   told = c.expect_install.ensures.told;
 }

@@ -11,4 +11,4 @@ returns-in-Ok-Some-read_virtual-clause-foreseen g c = λ taken.
     let title = c.in-Ok-Some-read_virtual.form.title.now in
     let is = subst (λ ms. IsVirtualValue (view c.in-Ok-Some.value) title (names_shown ms)) (sym c.as_slice.ensures.value) form in
     let told = c.expect_command.ensures.foreseen taken in
-    record { asked = told.asked; asks = (title, names_shown c.as_slice.result.now, (view c.in-Ok-Some.value, json, is), told.asks); before = told.before; told = told.told }
+    record { asked = told.asked; asks = (title, names_shown c.as_slice.result.now, (view c.in-Ok-Some.value, json, is), told.asks); told = told.told }

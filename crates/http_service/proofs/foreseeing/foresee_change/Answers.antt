@@ -6,7 +6,7 @@ returns-clause-foreseen g c = λ taken values are.
     record {
       asked = told.asked;
       asks = record { id = c.in-Some.id.now; one = c.in-Some.ensures values are; lawful = c.may_act.ensures.lawful c.if-not-may_act.false; says = told.asks };
-      before = told.before;
+      before = c.may_act.new.desk;
       told = told.told;
     }
 
@@ -20,6 +20,6 @@ returns-clause-anew g c = λ taken trusted M shown values are.
         asks = record { id = c.in-Some.id.now; one = c.in-Some.ensures values are; lawful = c.may_act.ensures.lawful c.if-not-may_act.false; says = told.asks };
         anew = c.may_act.ensures.anew c.if-not-may_act.false noted M shown;
       };
-      before = told.before;
+      before = c.may_act.new.desk;
       told = told.told;
     }
