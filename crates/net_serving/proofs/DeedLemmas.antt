@@ -1,9 +1,10 @@
 -- What was done to files, one thing after the other.
 use Rattle.std.proofs.Common.{◌≡◌, ℕ, zero, suc, ◌<◌, List, [], ◌∷◌, ◌++◌, refl, sym, ap, subst, ◌∙◌, inl, inr, arith}
-use Rattle.std.specs.Prelude.{Option, Some, None, MatchOption, ⊤}
+use Rattle.std.specs.Prelude.{Option, Some, None, Result}
 use Rattle.std.proofs.lemmas.List.{append_assoc, append-nil}
 use Rattle.net_serving.specs.Deeds.{Deed, Does, Opens, Reopens}
-use Rattle.net_serving.specs.Done.{AreDone, HasDone, HasReopened, HasTurned, WasDone, closing}
+use Rattle.app_words.specs.declared.fault.ProgramFault.{ProgramFault}
+use Rattle.net_serving.specs.Done.{AreDone, HasDone, HasReopened, HasTurned, IsClosedBehind, WasDone, closing}
 use Rattle.net_serving.specs.Serving.{Stretch}
 
 pub does_none : {K : Type 0} (old : Option (List (Deed K))) → Does old old []
@@ -64,7 +65,7 @@ module _ {K : Type 0} (path : List ℕ) where
     )
 
 -- the file was opened, served in stretches, and closed
-pub was_done : {K : Type 0} (Shut : K → Type 0) (path : List ℕ) (desk : K) (stretches : List (Stretch K)) (last : Option K) (old opened served new : Option (List (Deed K)))
-    → Does old opened (Opens path (Some desk) ∷ []) → HasDone path desk stretches last opened served → Does served new (closing last) → MatchOption last ⊤ Shut → WasDone Shut old new path desk stretches
-was_done Shut path desk stretches last old opened served new opens done closes shut =
+pub was_done : {K A : Type 0} (Behind Shut : K → Type 0) (result : Result A ProgramFault) (path : List ℕ) (desk : K) (stretches : List (Stretch K)) (last : Option K) (old opened served new : Option (List (Deed K)))
+    → Does old opened (Opens path (Some desk) ∷ []) → HasDone path desk stretches last opened served → Does served new (closing last) → IsClosedBehind Behind Shut result last → WasDone Behind Shut old new path desk stretches result
+was_done Behind Shut result path desk stretches last old opened served new opens done closes shut =
     (last, done.0, done.1, does_both old served new (Opens path (Some desk) ∷ done.0) (closing last) (does_both old opened served (Opens path (Some desk) ∷ []) done.0 opens done.2) closes, shut)

@@ -1,5 +1,5 @@
 -- What was done to the file whose catalogue was served.
-use Rattle.std.specs.Prelude.{◌≡◌, ◌⊎◌, ◌++◌, ℕ, Bool, List, [], ◌∷◌, Option, Some, None, MatchOption, Result, Ok, Err, ⊤}
+use Rattle.std.specs.Prelude.{◌≡◌, ◌⊎◌, ◌++◌, ℕ, Bool, List, [], ◌∷◌, Option, Some, None, Result, Ok, Err}
 use Rattle.dict_desk.specs.declared.fault.Fault.{Fault}
 use Rattle.dict_catalogue.specs.Steps.{Catalogue}
 use Rattle.dict_desk.specs.Expected.{Expected}
@@ -8,7 +8,7 @@ use Rattle.net_driver.specs.declared.driver.Driver.{Driver}
 use Rattle.app_words.specs.Writing.{IsUntouched}
 use Rattle.app_words.specs.declared.fault.ProgramFault.{ProgramFault}
 use Rattle.net_serving.specs.Deeds.{Deed, Opens, Reopens, Closes, Does}
-use Rattle.net_serving.specs.Serving.{HasServed, IsNew, IsNone, Stretch}
+use Rattle.net_serving.specs.Serving.{HasServed, IsNew, IsNone, IsOpenBehind, Stretch}
 
 -- over the last stretch: its desk is open still; or it was closed; or it was closed, and the file wasn't opened again
 abbrev pub IsLastStretch : {K : Type 0} → List ℕ → K → Option K → List (Deed K) → Type 0
@@ -41,11 +41,17 @@ abbrev pub closing : {K : Type 0} → Option K → List (Deed K)
 closing None = []
 closing (Some desk) = Closes desk ∷ []
 
+-- Where all rounds were made, a desk is open in the end, the one behind them all, and it was closed; at a fault none is.
+abbrev pub IsClosedBehind : {K A : Type 0} → (K → Type 0) → (K → Type 0) → Result A ProgramFault → Option K → Type 0
+IsClosedBehind Behind Shut (Ok value) (Some last) = Behind last × Shut last
+IsClosedBehind Behind Shut (Ok value) None = ⊥
+IsClosedBehind Behind Shut (Err fault) last = last ≡ None
+
 -- The file was opened once, as this desk; the stretches went on from it, and what is open in the end was closed
-abbrev pub WasDone : {K : Type 0} → (K → Type 0) → Option (List (Deed K)) → Option (List (Deed K)) → List ℕ → K → List (Stretch K) → Type 0
-WasDone {K} Shut old new path desk stretches =
+abbrev pub WasDone : {K A : Type 0} → (K → Type 0) → (K → Type 0) → Option (List (Deed K)) → Option (List (Deed K)) → List ℕ → K → List (Stretch K) → Result A ProgramFault → Type 0
+WasDone {K} Behind Shut old new path desk stretches result =
     (last : Option K) × (deeds : List (Deed K)) × AreDone path desk stretches last deeds × Does old new (Opens path (Some desk) ∷ (deeds ++ closing last))
-    × MatchOption last ⊤ Shut
+    × IsClosedBehind Behind Shut result last
 
 module _ {K Beside : Type 0} (Shows : K → Catalogue → Type 0) (LeavesOneOf : K → List (Option Catalogue) → Type 0) (KeepsBeside : K → Beside → Type 0) (IsTrusted : K → Type 0) (IsOpened : Option K → K → Type 0)
     (has_failed is_closed : K → Bool) (expects : K → Expected → K → Type 0) (prepares : K → Result Bool Fault → K → Type 0)
@@ -58,5 +64,5 @@ module _ {K Beside : Type 0} (Shows : K → Catalogue → Type 0) (LeavesOneOf :
       ((fault : ProgramFault) × (result ≡ Err fault) × IsNone (IsUnopened path) fault × IsUntouched writer × Does old new (Opens path None ∷ []) × (kept ≡ None))
       ⊎ ((desk : K) × IsNew Shows LeavesOneOf IsTrusted (IsOpened None) desk
       × (((fault : ProgramFault) × (result ≡ Err fault) × Begins dict http (Err fault) writer × Does old new (Opens path (Some desk) ∷ Closes desk ∷ []) × Shut desk × (kept ≡ None))
-      ⊎ ((served : HasServed Shows LeavesOneOf KeepsBeside IsTrusted IsOpened has_failed is_closed expects prepares desk dict http rounds result Shut (IsUnreopened path) writer) × WasDone Shut old new path desk served.stretches
+      ⊎ ((served : HasServed Shows LeavesOneOf KeepsBeside IsTrusted IsOpened has_failed is_closed expects prepares desk dict http rounds result Shut (IsUnreopened path) writer) × WasDone (λ last. IsOpenBehind Shows LeavesOneOf KeepsBeside IsTrusted IsOpened is_closed desk served.stretches last 0) Shut old new path desk served.stretches result
       × (kept ≡ Some served.last) × Begins dict http (Ok served.first) writer)))

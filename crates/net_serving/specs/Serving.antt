@@ -105,11 +105,21 @@ HasShut Shut [] = ⊥
 HasShut Shut (one ∷ []) = Shut one.left
 HasShut Shut (one ∷ other ∷ others) = HasShut Shut (other ∷ others)
 
--- all rounds were made; or the driver couldn't wait for its sockets, and the last desk was closed; or the store of that had failed, and
+-- All rounds were made: which desk was closed then `IsClosedBehind` tells. Or the driver couldn't wait for its sockets, and the last desk was closed; or the store of that had failed, and
 -- the file isn't opened again
 abbrev pub EndsServing : {K A : Type 0} → (K → Bool) → (K → Type 0) → (K → ProgramFault → Type 0) → List (Stretch K) → Driver → Result A ProgramFault → Type 0
 EndsServing is_closed Shut Unreopened stretches driver (Ok _) = ⊤
 EndsServing is_closed Shut Unreopened stretches driver (Err fault) = (CannotWait driver fault × HasShut Shut stretches) ⊎ HasGivenOut is_closed Unreopened stretches fault
+
+module _ {K Beside : Type 0} (Shows : K → Catalogue → Type 0) (LeavesOneOf : K → List (Option Catalogue) → Type 0) (KeepsBeside : K → Beside → Type 0) (IsTrusted : K → Type 0) (IsOpened : Option K → K → Type 0)
+    (is_closed : K → Bool) where
+  -- The desk that is open behind stretches, the first over this desk, with so many rounds left: that of the last one, as this left it; or the store of that
+  -- had failed, and the file was opened again after it. Where there is no stretch, it is the first one.
+  abbrev pub IsOpenBehind : K → List (Stretch K) → K → ℕ → Type 0
+  IsOpenBehind desk [] next left = next ≡ desk
+  IsOpenBehind desk (one ∷ []) next left =
+      (next ≡ one.left) ⊎ ((is_closed one.left ≡ true) × Follows Shows LeavesOneOf KeepsBeside IsTrusted one.left next × IsOpened (Some one.left) next × AreLeft one.ended left)
+  IsOpenBehind desk (one ∷ other ∷ others) next left = IsOpenBehind desk (other ∷ others) next left
 
 -- By what a desk shows, what a stop may leave of it, what is beside the catalogue, that what it stands on has returned what was written, that it was opened, whether
 -- its last call failed and its store has, and what it was told of and prepared.

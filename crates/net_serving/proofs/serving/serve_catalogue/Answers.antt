@@ -1,9 +1,9 @@
 use Rattle.std.proofs.Common.{◌≡◌, ◌≤◌, inl, inr, refl, subst, arith}
-use Rattle.std.specs.Prelude.{None, Some}
+use Rattle.std.specs.Prelude.{None, Some, Ok, Err}
 use Rattle.net_driver.specs.Serving.{rounds_of}
 use Rattle.std.proofs.lemmas.Result.{err_from_is_err_and}
 use Rattle.net_serving.specs.Deeds.{WasShut}
-use Rattle.net_serving.specs.Serving.{IsFirst}
+use Rattle.net_serving.specs.Serving.{IsFirst, IsOpenBehind}
 use Rattle.net_serving.proofs.DeedLemmas.{does_both, does_none, was_done}
 use Rattle.net_serving.proofs.StretchLemmas.{was_opened}
 use Rattle.net_serving.proofs.serving.serve_catalogue.Goals as goal
@@ -58,10 +58,11 @@ returns-in_err-desk-2 g c =
           made = made;
           ends = served.3;
         },
-        was_done (WasShut g.K.Lookup.shows g.K.Lookup.leaves_one_of g.K.Lookup.is_trusted g.D.DeskOpener.is_safe g.D.DeskOpener.holds_alone g.D.DeskOpener.still_leaves g.D.DeskOpener.still_keeps g.D.DeskOpener.is_uncopied
+        was_done {A = Unit {0}} (λ last. IsOpenBehind g.K.Lookup.shows g.K.Lookup.leaves_one_of g.K.Lookup.keeps_beside g.K.Lookup.is_trusted g.D.DeskOpener.is_opened g.K.Lookup.is_closed c.in_ok-desk.desk served.0 last 0)
+            (WasShut g.K.Lookup.shows g.K.Lookup.leaves_one_of g.K.Lookup.is_trusted g.D.DeskOpener.is_safe g.D.DeskOpener.holds_alone g.D.DeskOpener.still_leaves g.D.DeskOpener.still_keeps g.D.DeskOpener.is_uncopied
             c.serve_rounds-served.new.desks)
-            c.args.path.now c.in_ok-desk.desk served.0 None (g.D.DeskOpener.history c.args.desks.now) (g.D.DeskOpener.history c.open.new.self) (g.D.DeskOpener.history c.serve_rounds-served.new.desks)
-            (g.D.DeskOpener.history c.serve_rounds-served.new.desks) c.in_ok-desk.ensures.history served.4 (does_none _) tt,
+            (Err error.0) c.args.path.now c.in_ok-desk.desk served.0 None (g.D.DeskOpener.history c.args.desks.now) (g.D.DeskOpener.history c.open.new.self) (g.D.DeskOpener.history c.serve_rounds-served.new.desks)
+            (g.D.DeskOpener.history c.serve_rounds-served.new.desks) c.in_ok-desk.ensures.history served.4 (does_none _) refl,
         refl,
         told,
       ),
@@ -97,10 +98,11 @@ returns g c =
           made = made;
           ends = tt;
         },
-        was_done (WasShut g.K.Lookup.shows g.K.Lookup.leaves_one_of g.K.Lookup.is_trusted g.D.DeskOpener.is_safe g.D.DeskOpener.holds_alone g.D.DeskOpener.still_leaves g.D.DeskOpener.still_keeps g.D.DeskOpener.is_uncopied
-            c.close-2.new.self) c.args.path.now
+        was_done {A = Unit {0}} (λ last. IsOpenBehind g.K.Lookup.shows g.K.Lookup.leaves_one_of g.K.Lookup.keeps_beside g.K.Lookup.is_trusted g.D.DeskOpener.is_opened g.K.Lookup.is_closed c.in_ok-desk.desk served.0 last 0)
+            (WasShut g.K.Lookup.shows g.K.Lookup.leaves_one_of g.K.Lookup.is_trusted g.D.DeskOpener.is_safe g.D.DeskOpener.holds_alone g.D.DeskOpener.still_leaves g.D.DeskOpener.still_keeps g.D.DeskOpener.is_uncopied
+            c.close-2.new.self) (Ok tt) c.args.path.now
             c.in_ok-desk.desk served.0 (Some c.in_ok-desk-2.desk) (g.D.DeskOpener.history c.args.desks.now) (g.D.DeskOpener.history c.open.new.self)
-            (g.D.DeskOpener.history c.serve_rounds-served.new.desks) (g.D.DeskOpener.history c.close-2.new.self) c.in_ok-desk.ensures.history served.4 c.close-2.ensures.history (c.close-2.result, c.close-2.ensures.shut),
+            (g.D.DeskOpener.history c.serve_rounds-served.new.desks) (g.D.DeskOpener.history c.close-2.new.self) c.in_ok-desk.ensures.history served.4 c.close-2.ensures.history (served.5, (c.close-2.result, c.close-2.ensures.shut)),
         refl,
         told,
       ),
