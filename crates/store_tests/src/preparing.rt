@@ -535,12 +535,13 @@ fn the_log_is_copied_before_the_next_command(rt: HostRuntime) -> Result<(), Fail
 }
 
 // What was filed of an install that doesn't come is taken out, before the next one is filed or the next command comes: of a front of its text
-// by one commit, of the whole by two. Where an install that wasn't prepared takes its number, nothing of it is left.
+// by two commits, of the whole by three. Where an install that wasn't prepared takes its number, nothing of it is left.
 static LET_GO: [&[&[Act]]; 4] = [
     &[&[
         EXPECT,
         SOME,
         Act::Expect(Asked::Retire("ore")),
+        Act::Part(true),
         Act::Part(true),
         Act::Part(false),
         Act::All(false),
@@ -550,6 +551,7 @@ static LET_GO: [&[&[Act]]; 4] = [
         EXPECT,
         WHOLE,
         Act::Expect(Asked::Retire("ore")),
+        Act::Part(true),
         Act::Part(true),
         Act::Part(true),
         Act::Part(false),
@@ -570,6 +572,7 @@ static LET_GO: [&[&[Act]]; 4] = [
         &[EXPECT, SOME],
         &[
             EXPECT,
+            Act::Part(true),
             Act::Part(true),
             Act::All(false),
             WHOLE,
