@@ -40,6 +40,10 @@ class Editors:
         if not found or int(found["port"]) > 65535:
             raise AddressFault(f"{address!r} isn't HOST:PORT or https://[USER@]HOST:PORT")
         self.host, self.port = found["host"].strip("[]"), int(found["port"])
+        try:
+            self.host.encode("idna")
+        except UnicodeError:
+            raise AddressFault(f"{self.host!r} is no name of a host") from None
         user = found["user"] and urllib.parse.unquote(found["user"])
         is_safe = found["scheme"] == "https"
         if not is_safe and (user or password_file or ca):
@@ -113,7 +117,7 @@ def told(fault):
         return "it closed the connection without an answer"
     if isinstance(fault, TimeoutError):
         return "no TLS in time: is it a server's own address, which speaks HTTP?" if "handshake" in str(fault) else "no answer in time"
-    return str(fault) or type(fault).__name__
+    return " ".join(str(fault).split()) or type(fault).__name__
 
 
 def said(status, body):
