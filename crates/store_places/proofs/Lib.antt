@@ -1,12 +1,4 @@
-pub mod CommonLemmas
 pub mod ComparedLemmas
 pub mod ListLemmas
-pub mod KeptLemmas
 pub mod MergingLemmas
-pub mod PieceLemmas
 pub mod PlaceLemmas
-pub mod PlacedLemmas
-pub mod RankLemmas
-pub mod RarestLemmas
-pub mod SelectionLemmas
-pub mod WordLemmas

@@ -15,8 +15,7 @@ use Rattle.std.proofs.lemmas.List.Sorted.{ranks_by, sorted_far}
 use Rattle.std.proofs.lemmas.Map.Text.{is_eq-slice_cmp}
 use Rattle.store_derived.specs.Derived.{octets_cmp}
 use Rattle.store_places.specs.Places.{key_at, places_where}
-use Rattle.store_places.specs.Orders.{place_cmp}
-use Rattle.store_places.specs.Selected.{is_between}
+use Rattle.store_places.specs.Orders.{place_cmp, is_between}
 use Rattle.store_places.proofs.ListLemmas.{the_run}
 
 pub place_total : (keys : List (List ℕ)) → IsTotalOrder (place_cmp keys)

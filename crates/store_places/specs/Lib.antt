@@ -1,11 +1,4 @@
 pub mod Places
-pub mod Common
-pub mod Selected
 pub mod Orders
-pub mod Pieces
-pub mod PlacedPieces
-pub mod Grouped
 pub mod Merging
 pub mod Sorting
-pub mod Listing
-pub mod Wording

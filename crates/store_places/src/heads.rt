@@ -54,9 +54,9 @@ pub(crate) fn all_heads(alloc: Global, texts: &Texts) -> Result<Vec<u64>, AllocE
     Ok(heads)
 }
 
-/// The heads of some of the texts, which rise: of the first one, and of each sixteenth behind it. The only error is refused
-/// memory.
-pub(crate) fn sampled_heads(alloc: Global, texts: &Texts) -> Result<Vec<u64>, AllocError> {
+/// The heads of some of the texts, which rise: of the first one, and of each sixteenth behind it. No proof rests on them. The
+/// only error is refused memory.
+pub fn sampled_heads(alloc: Global, texts: &Texts) -> Result<Vec<u64>, AllocError> {
     let count = texts.len().div_ceil(STEP);
     let mut heads = Vec::with_capacity(alloc, count)?;
     for at in 0..count {
@@ -65,8 +65,8 @@ pub(crate) fn sampled_heads(alloc: Global, texts: &Texts) -> Result<Vec<u64>, Al
     Ok(heads)
 }
 
-/// Two places of texts that rise, between which a text most often is, by the heads of some of them.
-pub(crate) fn likely_places(heads: &[u64], text: &[u8]) -> (usize, usize) {
+/// Two places of texts that rise, between which a text most often is, by the heads of some of them. No proof rests on that.
+pub fn likely_places(heads: &[u64], text: &[u8]) -> (usize, usize) {
     let (first, last) = likely(heads, text);
     (
         first.saturating_sub(1).saturating_mul(STEP),

@@ -13,7 +13,8 @@ const RUN: usize = 16_384;
 const SLICE: usize = 65_536;
 
 /// What tells the order of two elements. No proof rests on it.
-pub(crate) trait Compares<T> {
+pub trait Compares<T> {
+    /// How the one compares with the other.
     fn compare(&self, one: &T, other: &T) -> Ordering;
 }
 
@@ -52,7 +53,7 @@ fn put_part<T: Copy>(
 
 impl<T: Copy> Merging<T> {
     /// Nothing is sorted yet. The only error is refused memory.
-    pub(crate) fn of(alloc: Global, items: Vec<T>) -> Result<Merging<T>, AllocError>
+    pub fn of(alloc: Global, items: Vec<T>) -> Result<Merging<T>, AllocError>
         ensures same { IfOk result (λ m. elements m ≡ items.items) }
         ensures within { IfOk result AreWithin }
     {
@@ -70,7 +71,7 @@ impl<T: Copy> Merging<T> {
     }
 
     /// Sorts the next run, or merges the next slice. Whether there is more to sort. The only error is refused memory.
-    pub(crate) fn step<C: Compares<T>>(&mut self, order: &C) -> Result<bool, AllocError>
+    pub fn step<C: Compares<T>>(&mut self, order: &C) -> Result<bool, AllocError>
         requires { AreWithin self.old }
         ensures same { IsPermutation (elements self.old) (elements self.new) }
         ensures within { AreWithin self.new }
@@ -87,7 +88,7 @@ impl<T: Copy> Merging<T> {
     }
 
     /// The elements, in the order that they have now. The only error is refused memory.
-    pub(crate) fn end(self) -> Result<Vec<T>, AllocError>
+    pub fn end(self) -> Result<Vec<T>, AllocError>
         requires { AreWithin self }
         ensures { IfOk result (λ items. items.items ≡ elements self) }
     {

@@ -5,8 +5,7 @@ ghost use Rattle.std.specs.List.Sorted.{IsSorted};
 ghost use Rattle.std.specs.Ordering.{is_le};
 ghost use Rattle.store_derived.specs.Derived.{octets_cmp};
 ghost use Rattle.store_places.specs.Places.{key_at, places_where};
-ghost use Rattle.store_places.specs.Orders.{place_cmp, IsOrderOf};
-ghost use Rattle.store_places.specs.Selected.{is_between};
+ghost use Rattle.store_places.specs.Orders.{place_cmp, is_between, IsOrderOf};
 
 use crate::heads::{all_heads, count_before};
 use std::alloc::{AllocError, Global};

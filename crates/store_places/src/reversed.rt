@@ -3,8 +3,7 @@ ghost use Rattle.std.specs.Prelude.{◌≡◌, ◌<◌, ◌≤◌, ℕ, false, l
 ghost use Rattle.std.specs.Ordering.{is_lt, is_le};
 ghost use Rattle.store_derived.specs.Derived.{octets_cmp};
 ghost use Rattle.store_places.specs.Places.{key_at, places_where};
-ghost use Rattle.store_places.specs.Orders.{IsOrderOf};
-ghost use Rattle.store_places.specs.Selected.{is_between};
+ghost use Rattle.store_places.specs.Orders.{is_between, IsOrderOf};
 
 use std::alloc::{AllocError, Global};
 use std::cmp::Ordering;

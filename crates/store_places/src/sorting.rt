@@ -37,7 +37,7 @@ pub struct Sorting {
 
 impl Sorting {
     /// Nothing is sorted yet. The only error is refused memory.
-    pub(crate) fn of(alloc: Global, texts: &Texts, count: u32) -> Result<Sorting, AllocError>
+    pub fn of(alloc: Global, texts: &Texts, count: u32) -> Result<Sorting, AllocError>
         requires { count ≡ length texts.now }
         ensures { IfOk result (λ sorting. ArePlacesOf texts.now sorting.places) }
     {
@@ -101,8 +101,8 @@ pub fn place_more(
     }
 }
 
-/// Makes the next slice of an order that is begun.
-pub(crate) fn place_next(texts: &Texts, begun: Places) -> Result<Places, AllocError>
+/// Makes the next slice of an order that is begun; one that is made stays so. The only error is refused memory.
+pub fn place_next(texts: &Texts, begun: Places) -> Result<Places, AllocError>
     requires { MakesOrderOf texts.now begun }
     ensures { IfOk result (MakesOrderOf texts.now) }
 {

@@ -17,10 +17,10 @@ use Rattle.dict_desk.specs.Shown.{row_of, found_rows, headword_rows}
 use Rattle.store_search.specs.Entries.{Indexed, entry_of, no_entry, entry_at, entries_at, key_in, keys_of, indexed_shown, row_in, headword_row}
 use Rattle.store_places.specs.Places.{key_at, places_where}
 use Rattle.store_search.specs.Selected.{AreSelected}
-use Rattle.store_places.specs.Selected.{is_selected}
+use Rattle.store_pieces.specs.Selected.{is_selected}
 use Rattle.store_search.specs.Found.{found_entries, found_headwords, count_selected}
-use Rattle.store_places.proofs.PieceLemmas.{where_is, where_rises}
-use Rattle.store_places.proofs.SelectionLemmas.{covered, selects_decided}
+use Rattle.store_pieces.proofs.PieceLemmas.{where_is, where_rises}
+use Rattle.store_pieces.proofs.SelectionLemmas.{covered, selects_decided}
 
 -- ---- lists
 

@@ -5,7 +5,7 @@ use Rattle.std.specs.Result.{IfOk}
 use Rattle.std.specs.Str.{bytes_eq}
 use Rattle.std.proofs.lemmas.List.Elements.{filter_agree}
 use Rattle.store_places.specs.Places.{key_at, places_where}
-use Rattle.store_places.specs.Selected.{is_between}
+use Rattle.store_places.specs.Orders.{is_between}
 use Rattle.store_places.proofs.PlaceLemmas.{exact_between}
 
 pub then_too : {A E : Type 0} (P Q : A → Type 0) (r : Result A E) → ((x : A) → P x → Q x) → IfOk r P → IfOk r Q

@@ -6,7 +6,7 @@ use Rattle.store_derived.specs.Search.{rows_for}
 use Rattle.dict_desk.specs.Found.{distinct}
 use Rattle.store_search.specs.Entries.{Indexed, keys_of, indexed_shown}
 use Rattle.store_places.specs.Places.{places_where}
-use Rattle.store_places.specs.Selected.{is_selected}
+use Rattle.store_pieces.specs.Selected.{is_selected}
 
 -- the entries found, in their order, and their places
 abbrev pub found_entries : Strategy → List ℕ → List Indexed → List Indexed

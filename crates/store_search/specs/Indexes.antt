@@ -4,10 +4,10 @@ use Rattle.dict_match.specs.Words.{words_between_blanks}
 use Rattle.store_search.specs.Entries.{Indexed, keys_of}
 use Rattle.store_places.specs.Orders.{IsOrderOf}
 use Rattle.store_derived.specs.KeptGrams.{kept_grams}
-use Rattle.store_places.specs.Pieces.{ArePlaced}
+use Rattle.store_pieces.specs.Pieces.{ArePlaced}
 use Rattle.std.specs.List.{All}
 use Rattle.std.specs.Str.{IsUtf8}
-use Rattle.store_places.specs.declared.pieces.Pieces.{Pieces}
+use Rattle.store_pieces.specs.declared.pieces.Pieces.{Pieces}
 
 pub record IsIndexed (entries : List Indexed) (by_key by_reversed : List ℕ) (words trigrams : Pieces) : Type 0 where
   pub few : length entries < 4294967296

@@ -1,12 +1,12 @@
 -- What an index holds that is made in part.
 use Rattle.std.specs.Prelude.{◌≡◌, List, ℕ, ◌<◌, Option, IfSome, length, map, reverse, take}
 use Rattle.store_search.specs.Entries.{Indexed, keys_of}
-use Rattle.store_places.specs.Listing.{AreListed}
+use Rattle.store_pieces.specs.Listing.{AreListed}
 use Rattle.store_places.specs.Sorting.{MakesOrderOf}
-use Rattle.store_places.specs.Wording.{AreWorded}
-use Rattle.store_places.specs.declared.listing.Listing.{Listing}
+use Rattle.store_pieces.specs.Wording.{AreWorded}
+use Rattle.store_pieces.specs.declared.listing.Listing.{Listing}
 use Rattle.store_places.specs.declared.sorting.Places.{Places}
-use Rattle.store_places.specs.declared.wording.Wording.{Wording}
+use Rattle.store_pieces.specs.declared.wording.Wording.{Wording}
 
 -- the entries, and how many steps are left at most
 pub record Begun : Type 0 where

@@ -9,7 +9,7 @@ ghost use Rattle.store_places.specs.Places.{key_at, places_where};
 ghost use Rattle.store_search.specs.Indexes.{IsIndexed};
 ghost use Rattle.store_places.specs.Orders.{IsOrderOf};
 ghost use Rattle.store_search.specs.Selected.{AreSelected};
-ghost use Rattle.store_places.specs.Selected.{is_selected, has_gram, has_word, finds_all};
+ghost use Rattle.store_pieces.specs.Selected.{is_selected, has_gram, has_word, finds_all};
 ghost use Rattle.store_search.specs.Found.{found_places, found_entries, found_headwords, count_selected};
 
 use crate::entries::Entries;
@@ -19,9 +19,9 @@ use dict_match::Strategy;
 use std::alloc::{AllocError, Global};
 use std::marker::Model;
 use store_derived::{Selection, is_kept, select};
+use store_pieces::{Pieces, common_places, keep_hits, keep_with_gram};
 use store_places::{
-    Pieces, common_places, first_places, keep_hits, keep_with_gram, places_between,
-    places_between_reversed, reversed_texts, sorted_places,
+    first_places, places_between, places_between_reversed, reversed_texts, sorted_places,
 };
 
 /// So many places are tested without a look for those that have a rarer run of three octets.

@@ -6,7 +6,7 @@ ghost use Rattle.store_derived.specs.Search.{Rows, SelectsKey};
 ghost use Rattle.dict_desk.specs.Shown.{found_rows, headword_rows, count_of};
 ghost use Rattle.dict_desk.specs.declared.lookup.What.TheVariants.{Entries, Headwords};
 ghost use Rattle.store_search.specs.Entries.{entry_of, row_in, headword_row};
-ghost use Rattle.store_places.specs.Selected.{is_selected};
+ghost use Rattle.store_pieces.specs.Selected.{is_selected};
 ghost use Rattle.store_search.specs.Found.{found_entries, found_headwords};
 
 /// What is found among the entries that the lines of an edition make is what the edition's database answers.

@@ -7,10 +7,10 @@ ghost use Rattle.store_derived.specs.KeptGrams.{kept_grams};
 ghost use Rattle.dict_match.specs.Words.{words_between_blanks};
 ghost use Rattle.store_search.specs.Entries.{entry_of, keys_of};
 ghost use Rattle.store_places.specs.Orders.{IsOrderOf};
-ghost use Rattle.store_places.specs.Listing.{AreListed};
-ghost use Rattle.store_places.specs.Pieces.{ArePlaced};
+ghost use Rattle.store_pieces.specs.Listing.{AreListed};
+ghost use Rattle.store_pieces.specs.Pieces.{ArePlaced};
 ghost use Rattle.store_places.specs.Sorting.{MakesOrderOf};
-ghost use Rattle.store_places.specs.Wording.{AreWorded};
+ghost use Rattle.store_pieces.specs.Wording.{AreWorded};
 
 use crate::entries::Entries;
 use crate::index::{Index, Orders, PieceLists, index_with, reversed_places};
@@ -20,10 +20,10 @@ use std::alloc::{AllocError, Global};
 use std::marker::Model;
 use std::mem::{self, drop};
 use store_derived::Texts;
-use store_places::{
-    Listing, Pieces, Places, Wording, are_made, grams_of, heads_of, is_listed, is_worded,
-    list_more, place_more, sorted_places, turn_more, word_more, words_of,
+use store_pieces::{
+    Listing, Pieces, Wording, grams_of, is_listed, is_worded, list_more, word_more, words_of,
 };
+use store_places::{Places, are_made, heads_of, place_more, sorted_places, turn_more};
 
 /// So many steps are made at most: far more than the largest edition takes.
 const STEPS: u32 = 65_536;

@@ -2,7 +2,7 @@ use Rattle.std.proofs.Common.{◌∙◌, map, reverse, subst, length}
 use Rattle.std.specs.List.Sorted.{IsPermutation}
 use Rattle.std.proofs.lemmas.List.Sorted.{IsNonDecreasingBy-from_sort}
 use Rattle.store_places.specs.Places.{key_at}
-use Rattle.store_places.specs.Selected.{is_between}
+use Rattle.store_places.specs.Orders.{is_between}
 use Rattle.store_places.proofs.ListLemmas.{in_order}
 use Rattle.store_places.proofs.PlaceLemmas.{where_reversed}
 use Rattle.store_places.proofs.reversed.places_between_reversed.Goals as goal

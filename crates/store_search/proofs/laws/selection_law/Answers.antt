@@ -1,4 +1,4 @@
-use Rattle.store_places.proofs.SelectionLemmas.{selects}
+use Rattle.store_pieces.proofs.SelectionLemmas.{selects}
 use Rattle.store_search.proofs.laws.selection_law.Goals as goal
 
 pub returns : goal.returns

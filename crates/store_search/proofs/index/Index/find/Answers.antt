@@ -5,7 +5,7 @@ use Rattle.dict_match.specs.Matching.{is_hit}
 use Rattle.store_derived.specs.Search.{rows_for}
 use Rattle.store_search.specs.Entries.{entries_at, keys_of}
 use Rattle.store_places.specs.Places.{places_where}
-use Rattle.store_places.specs.Selected.{is_selected}
+use Rattle.store_pieces.specs.Selected.{is_selected}
 use Rattle.store_search.specs.Found.{found_entries}
 use Rattle.store_search.proofs.EditionLemmas.{entries_there, count_there, fewer_found}
 use Rattle.store_search.proofs.index.Index.find.Goals as goal

@@ -3,8 +3,8 @@ use Rattle.dict_match.specs.Matching.{is_hit}
 use Rattle.store_derived.specs.Search.{rows_for}
 use Rattle.store_search.specs.Entries.{keys_of}
 use Rattle.store_places.specs.Places.{key_at, places_where}
-use Rattle.store_places.specs.Selected.{is_selected}
-use Rattle.store_places.proofs.SelectionLemmas.{untested, tested}
+use Rattle.store_pieces.specs.Selected.{is_selected}
+use Rattle.store_pieces.proofs.SelectionLemmas.{untested, tested}
 use Rattle.store_search.proofs.index.Index.places_to_test.Goals as goal
 
 pub with_rarest-requires-clause-selected : goal.with_rarest-requires-clause-selected

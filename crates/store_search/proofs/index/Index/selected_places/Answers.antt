@@ -2,7 +2,7 @@ use Rattle.std.proofs.Common.{ap, sym, ◌∙◌}
 use Rattle.store_derived.specs.Search.{rows_selected}
 use Rattle.store_search.specs.Entries.{keys_of}
 use Rattle.store_places.specs.Places.{places_where}
-use Rattle.store_places.specs.Selected.{is_selected}
+use Rattle.store_pieces.specs.Selected.{is_selected}
 use Rattle.store_search.proofs.IndexLemmas.{none_where}
 use Rattle.store_search.proofs.index.Index.selected_places.Goals as goal
 

@@ -1,10 +1,10 @@
 use Rattle.std.proofs.Common.{◌≡◌, true, filter, ap, sym, ◌∙◌}
 use Rattle.store_search.specs.Entries.{keys_of}
 use Rattle.store_places.specs.Places.{key_at, places_where}
-use Rattle.store_places.specs.Selected.{has_piece, has_gram}
+use Rattle.store_pieces.specs.Selected.{has_piece, has_gram}
 use Rattle.store_derived.specs.KeptGrams.{is_kept_gram, kept_grams}
 use Rattle.store_search.proofs.IndexLemmas.{then_too}
-use Rattle.store_places.proofs.KeptLemmas.{kept_where, where_both}
+use Rattle.store_pieces.proofs.KeptLemmas.{kept_where, where_both}
 use Rattle.store_search.proofs.index.Index.with_gram.Goals as goal
 
 pub returns-then-is_kept : goal.returns-then-is_kept

@@ -1,10 +1,10 @@
 use Rattle.std.proofs.Common.{◌≡◌, ◌&&◌, true, ap, ◌∙◌, rules}
 use Rattle.store_search.specs.Entries.{keys_of}
 use Rattle.store_places.specs.Places.{places_where}
-use Rattle.store_places.specs.Selected.{has_piece, has_gram}
+use Rattle.store_pieces.specs.Selected.{has_piece, has_gram}
 use Rattle.store_derived.specs.KeptGrams.{is_kept_gram, kept_grams}
 use Rattle.store_search.proofs.IndexLemmas.{then_too, both_where}
-use Rattle.store_places.proofs.KeptLemmas.{kept_where}
+use Rattle.store_pieces.proofs.KeptLemmas.{kept_where}
 use Rattle.store_search.proofs.index.Index.with_grams.Goals as goal
 
 pub returns-then-not-is_kept : goal.returns-then-not-is_kept

@@ -5,11 +5,11 @@ use Rattle.store_derived.specs.Search.{rows_for}
 use Rattle.store_search.specs.Entries.{keys_of}
 use Rattle.store_places.specs.Places.{key_at, places_where}
 use Rattle.store_derived.specs.KeptGrams.{kept_grams}
-use Rattle.store_places.specs.Pieces.{ArePlaced}
-use Rattle.store_places.specs.Selected.{is_selected}
-use Rattle.store_places.proofs.SelectionLemmas.{tested}
+use Rattle.store_pieces.specs.Pieces.{ArePlaced}
+use Rattle.store_pieces.specs.Selected.{is_selected}
+use Rattle.store_pieces.proofs.SelectionLemmas.{tested}
 use Rattle.store_search.proofs.IndexLemmas.{then_too}
-use Rattle.store_places.proofs.RarestLemmas.{tested_both}
+use Rattle.store_pieces.proofs.RarestLemmas.{tested_both}
 use Rattle.store_search.proofs.index.Index.with_rarest.Goals as goal
 
 pub returns-then-len-le-FEW : goal.returns-then-len-le-FEW

@@ -1,8 +1,8 @@
 use Rattle.std.proofs.Common.{filter, ap, ◌∙◌}
 use Rattle.store_search.specs.Entries.{keys_of}
 use Rattle.store_places.specs.Places.{key_at}
-use Rattle.store_places.specs.Selected.{has_gram}
-use Rattle.store_places.proofs.KeptLemmas.{where_both}
+use Rattle.store_pieces.specs.Selected.{has_gram}
+use Rattle.store_pieces.proofs.KeptLemmas.{where_both}
 use Rattle.store_search.proofs.index.Index.with_tested.Goals as goal
 
 pub returns : goal.returns

@@ -2,7 +2,7 @@ use Rattle.std.proofs.Common.{◌≡◌, ap, ◌∙◌}
 use Rattle.dict_match.specs.Words.{words_between_blanks}
 use Rattle.store_search.specs.Entries.{keys_of}
 use Rattle.store_places.specs.Places.{places_where}
-use Rattle.store_places.specs.Selected.{has_word}
+use Rattle.store_pieces.specs.Selected.{has_word}
 use Rattle.store_search.proofs.IndexLemmas.{then_too}
 use Rattle.store_search.proofs.index.Index.with_word.Goals as goal
 

@@ -1,6 +1,0 @@
-use Rattle.std.specs.List.Sorted.{IsStrictlyIncreasing}
-use Rattle.store_places.proofs.CommonLemmas.{GoesOn}
-use Rattle.store_places.proofs.common.common_places.Given as goal
-
-abbrev pub invariant-loop-place : goal.invariant-loop-place
-invariant-loop-place l = IsStrictlyIncreasing l.fewer → IsStrictlyIncreasing l.more → GoesOn l.fewer l.more l.place-index l.rest l.both.items

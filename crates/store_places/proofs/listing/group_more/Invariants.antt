@@ -1,6 +1,0 @@
-use Rattle.store_places.specs.Grouped.{GoesOnGrouping}
-use Rattle.store_places.specs.PlacedPieces.{grams_placed}
-use Rattle.store_places.proofs.listing.group_more.Given as goal
-
-abbrev pub invariant-loop-k : goal.invariant-loop-k
-invariant-loop-k l = GoesOnGrouping (grams_placed l.placed.items) l.k l.texts l.lists

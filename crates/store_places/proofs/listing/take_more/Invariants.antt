@@ -1,9 +1,0 @@
-use Rattle.std.proofs.Common.{◌≡◌, take}
-use Rattle.store_derived.specs.KeptGrams.{kept_grams}
-use Rattle.store_places.specs.Pieces.{occurrences_from}
-use Rattle.store_places.specs.PlacedPieces.{grams_placed}
-use Rattle.store_places.proofs.listing.take_more.Given as goal
-
--- the list has what stands in the keys so far
-abbrev pub invariant-loop-at : goal.invariant-loop-at
-invariant-loop-at l = grams_placed l.runs.items ≡ occurrences_from kept_grams 0 (take l.at l.keys)

@@ -1,6 +1,0 @@
-use Rattle.store_places.specs.PlacedPieces.{grams_placed}
-use Rattle.store_places.specs.Grouped.{GoesOnGrouping}
-use Rattle.store_places.proofs.pieces.group_grams.Given as goal
-
-abbrev pub invariant-loop-one : goal.invariant-loop-one
-invariant-loop-one l = GoesOnGrouping (grams_placed l.placed) l.one-index l.texts l.lists

@@ -1,6 +1,0 @@
-use Rattle.store_places.specs.PlacedPieces.{words_placed}
-use Rattle.store_places.specs.Grouped.{GoesOnGrouping}
-use Rattle.store_places.proofs.pieces.group_words.Given as goal
-
-abbrev pub invariant-loop-one : goal.invariant-loop-one
-invariant-loop-one l = GoesOnGrouping (words_placed l.placed) l.one-index l.texts l.lists
