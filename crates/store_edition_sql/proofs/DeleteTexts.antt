@@ -20,11 +20,11 @@ use Rattle.sqlite_syntax.specs.declared.statement.Parsed.{Parsed}
 use Rattle.sqlite_ast.specs.declared.Expr.{Expr}
 use Rattle.sqlite_ast.specs.declared.Binary.TheVariants as binary
 use Rattle.store_tables.specs.Tables.{needed}
-use Rattle.store_sql.specs.Effects.{Has, HasApartRowids, IsRemoved, equals_number, rows_of, shown}
+use Rattle.store_sql.specs.Effects.{Has, HasApartRowids, IsRemoved, count_in, equals_number, rows_of, shown}
 use Rattle.store_sql.specs.Refusals.{RefusesToRemove}
 use Rattle.store_sql.proofs.CompareLemmas.{and_true, equals_is}
 use Rattle.store_sql.proofs.DeleteLemmas.{column_expr, parameter_expr, equals_expr, tests_equals}
-use Rattle.store_sql.proofs.DeleteTexts.{Takes, remove_fails, ReadsDelete, removes_rows}
+use Rattle.store_sql.proofs.DeleteTexts.{Takes, remove_fails, ReadsDelete, removes_rows, counts_rows}
 use Rattle.store_sql.proofs.ListLemmas.{passes}
 use Rattle.store_sql.proofs.ReadLemmas.{context_of}
 use Rattle.store_sql.proofs.TextLemmas.{parsed_or}
@@ -65,6 +65,11 @@ pub removes_parts : (old new : State) (n : ℤ) (count : ℕ) → Has part old.n
     → IsRemoved (codes "dictcat_part") (equals_number 1 n) old.now new.now
 removes_parts old new n count =
     removes_rows part_delete_text read_delete part (Some (equals_expr (codes "edition"))) test_edition 99997 reads_delete (λ tree. refl) (Int n ∷ []) (equals_number 1 n) (λ tree row. part_goes tree n row) old new count
+
+pub counts_parts : (old new : State) (n : ℤ) (count : ℕ) → Has part old.now → HasApartRowids (rows_of (codes "dictcat_part") old.now) → Executes part_delete_text (Int n ∷ []) old new (Ok count)
+    → count ≡ count_in (codes "dictcat_part") (equals_number 1 n) old.now
+counts_parts old new n count =
+    counts_rows part_delete_text read_delete part (Some (equals_expr (codes "edition"))) test_edition 99997 reads_delete (λ tree. refl) (Int n ∷ []) (equals_number 1 n) (λ tree row. part_goes tree n row) old new count
 
 pub parts_stay : (old new : State) (n : ℤ) (e : Error) → Has part old.now → HasApartRowids (rows_of (codes "dictcat_part") old.now) → ExecutesInside 0 part_delete_text (Int n ∷ []) old new (Err e)
     → (RefusesToRemove (codes "dictcat_part") (equals_number 1 n) old e × IsUnchanged old new) ⊎ Fails old new ⊥ e
@@ -162,6 +167,11 @@ pub removes_from : (old new : State) (n f m : ℤ) (count : ℕ) → Has part ol
     → IsRemoved (codes "dictcat_part") (is_part_from n f m) old.now new.now
 removes_from old new n f m count =
     removes_rows delete_from_text read_from part (Some from_number_on) test_from 99989 reads_from (λ tree. refl) (Int n ∷ Int f ∷ Int m ∷ []) (is_part_from n f m) (λ tree row. from_goes tree n f m row) old new count
+
+pub counts_from : (old new : State) (n f m : ℤ) (count : ℕ) → Has part old.now → HasApartRowids (rows_of (codes "dictcat_part") old.now) → Executes delete_from_text (Int n ∷ Int f ∷ Int m ∷ []) old new (Ok count)
+    → count ≡ count_in (codes "dictcat_part") (is_part_from n f m) old.now
+counts_from old new n f m count =
+    counts_rows delete_from_text read_from part (Some from_number_on) test_from 99989 reads_from (λ tree. refl) (Int n ∷ Int f ∷ Int m ∷ []) (is_part_from n f m) (λ tree row. from_goes tree n f m row) old new count
 
 pub from_stay : (old new : State) (n f m : ℤ) (e : Error) → Has part old.now → HasApartRowids (rows_of (codes "dictcat_part") old.now) → ExecutesInside 0 delete_from_text (Int n ∷ Int f ∷ Int m ∷ []) old new (Err e)
     → (RefusesToRemove (codes "dictcat_part") (is_part_from n f m) old e × IsUnchanged old new) ⊎ Fails old new ⊥ e

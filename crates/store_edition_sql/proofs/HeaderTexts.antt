@@ -20,16 +20,16 @@ use Rattle.sqlite_trees.specs.Sound.{fits_kind, is_free_name, begins, same_name}
 use Rattle.sqlite_value.specs.Order.{value_cmp}
 use Rattle.sqlite_resolve.specs.Lowering.{max_budget}
 use Rattle.sqlite_syntax.specs.declared.statement.Parsed.{Parsed}
-use Rattle.store_records.specs.Records.{HeaderRecord}
+use Rattle.store_tables.specs.Records.{HeaderRecord}
 use Rattle.store_tables.specs.Tables.{needed}
 use Rattle.store_sql.specs.Creates.{IsFree, IsMade}
-use Rattle.store_sql.specs.Effects.{Has, HasApartRowids, IsAdded, IsRemoved, equals_number, rows_of, shown}
+use Rattle.store_sql.specs.Effects.{Has, HasApartRowids, IsAdded, IsRemoved, count_in, equals_number, rows_of, shown}
 use Rattle.store_sql.specs.Refusals.{RefusesToMake, RefusesToAdd, RefusesToRemove, IsTooBig}
 use Rattle.store_sql.proofs.AddFaults.{cause}
 use Rattle.store_sql.proofs.CompareLemmas.{and_true, equals_is}
 use Rattle.store_sql.proofs.CreateLemmas.{ReadsCreate, makes, Stands, make_fails}
 use Rattle.store_sql.proofs.DeleteLemmas.{column_expr, parameter_expr, equals_expr, tests_equals}
-use Rattle.store_sql.proofs.DeleteTexts.{Takes, remove_fails, ReadsDelete, removes_rows}
+use Rattle.store_sql.proofs.DeleteTexts.{Takes, remove_fails, ReadsDelete, removes_rows, counts_rows}
 use Rattle.store_sql.proofs.FaultLemmas.{faults_inside}
 use Rattle.store_sql.proofs.InsertLemmas.{adds_given, cast_int, cast_null}
 use Rattle.store_sql.proofs.ListLemmas.{passes}
@@ -128,6 +128,11 @@ pub removes_headers : (old new : State) (n : ℤ) (count : ℕ) → Has header o
     → IsRemoved (codes "edition") (equals_number 1 n) old.now new.now
 removes_headers old new n count =
     removes_rows header_delete_text read_delete header (Some (equals_expr (codes "number"))) test_number 99997 reads_delete (λ tree. refl) (Int n ∷ []) (equals_number 1 n) (λ tree row. header_goes tree n row) old new count
+
+pub counts_headers : (old new : State) (n : ℤ) (count : ℕ) → Has header old.now → HasApartRowids (rows_of (codes "edition") old.now) → Executes header_delete_text (Int n ∷ []) old new (Ok count)
+    → count ≡ count_in (codes "edition") (equals_number 1 n) old.now
+counts_headers old new n count =
+    counts_rows header_delete_text read_delete header (Some (equals_expr (codes "number"))) test_number 99997 reads_delete (λ tree. refl) (Int n ∷ []) (equals_number 1 n) (λ tree row. header_goes tree n row) old new count
 
 pub headers_stay : (old new : State) (n : ℤ) (e : Error) → Has header old.now → HasApartRowids (rows_of (codes "edition") old.now) → ExecutesInside 0 header_delete_text (Int n ∷ []) old new (Err e)
     → (RefusesToRemove (codes "edition") (equals_number 1 n) old e × IsUnchanged old new) ⊎ Fails old new ⊥ e

@@ -15,7 +15,7 @@ use Rattle.sqlite_tied.specs.Compute.{everything}
 use Rattle.sqlite_trees.specs.Sound.{fits_kind, is_free_name, begins, same_name}
 use Rattle.sqlite_value.specs.Order.{value_cmp}
 use Rattle.sqlite_syntax.specs.declared.statement.Parsed.{Parsed}
-use Rattle.store_records.specs.Records.{Part}
+use Rattle.store_tables.specs.Records.{Part}
 use Rattle.store_sql.specs.Creates.{IsFree, IsMade}
 use Rattle.store_sql.specs.Effects.{Has, IsAdded}
 use Rattle.store_sql.specs.Refusals.{RefusesToMake, RefusesToAdd, IsTooBig}

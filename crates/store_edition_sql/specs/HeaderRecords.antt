@@ -2,8 +2,8 @@
 use Rattle.std.specs.Prelude.{List, [], ◌∷◌}
 use Rattle.sqlite.specs.declared.types.Value.TheVariants.{Int, Text as Words}
 use Rattle.sqlite.specs.Order.{Row}
-use Rattle.store_records.specs.Records.{HeaderRecord}
-use Rattle.store_records.specs.Typed.{owned_header}
+use Rattle.store_tables.specs.Records.{HeaderRecord}
+use Rattle.store_tables.specs.Typed.{owned_header}
 use Rattle.store_sql.specs.Columns.{Content, Name, Number}
 use Rattle.store_edition_sql.specs.declared.header_records.StoredHeader.{StoredHeader}
 

@@ -4,7 +4,7 @@ use Rattle.std.specs.Prelude.{ℕ, List, [], ◌∷◌, Vec}
 use Rattle.std.specs.declared.alloc.Global.{Global}
 use Rattle.sqlite.specs.declared.types.Value.TheVariants.{Int, Blob as Bytes}
 use Rattle.sqlite.specs.Order.{Row}
-use Rattle.store_records.specs.Records.{Part}
+use Rattle.store_tables.specs.Records.{Part}
 use Rattle.store_sql.specs.Columns.{Content, Number, Octets}
 use Rattle.store_edition_sql.specs.declared.part_records.Part.{Part as TypedPart}
 use Rattle.store_edition_sql.specs.declared.part_records.StoredPart.{StoredPart}

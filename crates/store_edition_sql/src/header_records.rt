@@ -7,8 +7,8 @@ ghost use Rattle.store_edition_sql.specs.HeaderRecords.{header_columns, stored_h
 
 use sqlite::types::FromSql;
 use sqlite::{Error, ErrorCode, Row};
-use store_records::HeaderRecord;
 use store_sql::records::{ReadError, Record};
+use store_tables::HeaderRecord;
 
 /// A header beside the rowid of the row that it stands in.
 #[derive(Debug, PartialEq, Eq, Drop)]

@@ -1,19 +1,19 @@
 //! The table of headers made, and its rows put in and taken out, inside an open transaction.
 
-ghost use Rattle.std.specs.Prelude.{◌≡◌, codes, IfErr, OnOk};
+ghost use Rattle.std.specs.Prelude.{◌≡◌, codes, IfErr, IfOk, OnOk};
 ghost use Rattle.sqlite.specs.State.{HasCleanDisk, Survives};
 ghost use Rattle.sqlite.specs.Held.{state};
-ghost use Rattle.store_records.specs.Typed.{lent_header};
+ghost use Rattle.store_tables.specs.Typed.{lent_header};
 ghost use Rattle.store_sql.specs.Creates.{IsFree, Makes, FailsToMake};
 ghost use Rattle.store_sql.specs.Deletes.{HasToRemove, Removes, FailsToRemove};
-ghost use Rattle.store_sql.specs.Effects.{Has, WhileOpen, equals_number};
+ghost use Rattle.store_sql.specs.Effects.{Has, WhileOpen, count_in, equals_number};
 ghost use Rattle.store_sql.specs.Inserts.{Inserts, FailsToInsert};
 ghost use Rattle.store_edition_sql.specs.HeaderRecords.{header_row};
 ghost use Rattle.store_edition_sql.specs.HeaderTable.{header};
 
 use sqlite::{Alter, Error, params};
-use store_records::HeaderRecord;
 use store_sql::transaction::OpenTransaction;
+use store_tables::HeaderRecord;
 
 /// Makes the table of headers; it needs no index. It answers the count that `sqlite` reports.
 pub fn create_header_table<S: Alter, T: OpenTransaction<S>>(tx: &mut T) -> Result<usize, Error>
@@ -47,7 +47,7 @@ pub fn insert_header<S: Alter, T: OpenTransaction<S>>(
     )
 }
 
-/// Takes out the header of this number. It answers the count of rows that `sqlite` reports.
+/// Takes out the header of this number. It answers how many rows these were.
 pub fn delete_header<S: Alter, T: OpenTransaction<S>>(
     tx: &mut T,
     number: i64,
@@ -55,6 +55,7 @@ pub fn delete_header<S: Alter, T: OpenTransaction<S>>(
     requires { WhileOpen (state S.Store (T.held tx.old)) (HasToRemove header) }
     ensures same_reference { T.reference tx.new ≡ T.reference tx.old }
     ensures removed { HasCleanDisk (state S.Store (T.held tx.new)) → OnOk result (Removes (codes "edition") (equals_number 1 number) (state S.Store (T.held tx.old)) (state S.Store (T.held tx.new))) }
+    ensures counted { HasCleanDisk (state S.Store (T.held tx.new)) → IfOk result (λ count. count ≡ count_in (codes "edition") (equals_number 1 number) (state S.Store (T.held tx.old)).now) }
     ensures failed { HasCleanDisk (state S.Store (T.held tx.new)) → IfErr result (FailsToRemove (codes "edition") (equals_number 1 number) (state S.Store (T.held tx.old)) (state S.Store (T.held tx.new))) }
     ensures survives { Survives (state S.Store (T.held tx.old)) (state S.Store (T.held tx.new)) (λ _. ⊥) }
 {

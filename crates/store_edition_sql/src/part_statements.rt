@@ -1,11 +1,11 @@
 //! The table of parts made, and its rows put in and taken out, inside an open transaction.
 
-ghost use Rattle.std.specs.Prelude.{◌≡◌, codes, IfErr, OnOk};
+ghost use Rattle.std.specs.Prelude.{◌≡◌, codes, IfErr, IfOk, OnOk};
 ghost use Rattle.sqlite.specs.State.{HasCleanDisk, Survives};
 ghost use Rattle.sqlite.specs.Held.{state};
 ghost use Rattle.store_sql.specs.Creates.{IsFree, Makes, FailsToMake};
 ghost use Rattle.store_sql.specs.Deletes.{HasToRemove, Removes, FailsToRemove};
-ghost use Rattle.store_sql.specs.Effects.{Has, WhileOpen, equals_number};
+ghost use Rattle.store_sql.specs.Effects.{Has, WhileOpen, count_in, equals_number};
 ghost use Rattle.store_sql.specs.Inserts.{Inserts, FailsToInsert};
 ghost use Rattle.store_edition_sql.specs.Chosen.{is_part_from};
 ghost use Rattle.store_edition_sql.specs.PartRecords.{lent_part, part_row};
@@ -49,7 +49,7 @@ pub fn insert_part<S: Alter, T: OpenTransaction<S>>(
     )
 }
 
-/// Takes out all parts of this edition. It answers the count of rows that `sqlite` reports.
+/// Takes out all parts of this edition. It answers how many these were.
 pub fn delete_parts<S: Alter, T: OpenTransaction<S>>(
     tx: &mut T,
     edition: i64,
@@ -57,6 +57,7 @@ pub fn delete_parts<S: Alter, T: OpenTransaction<S>>(
     requires { WhileOpen (state S.Store (T.held tx.old)) (HasToRemove part) }
     ensures same_reference { T.reference tx.new ≡ T.reference tx.old }
     ensures removed { HasCleanDisk (state S.Store (T.held tx.new)) → OnOk result (Removes (codes "dictcat_part") (equals_number 1 edition) (state S.Store (T.held tx.old)) (state S.Store (T.held tx.new))) }
+    ensures counted { HasCleanDisk (state S.Store (T.held tx.new)) → IfOk result (λ count. count ≡ count_in (codes "dictcat_part") (equals_number 1 edition) (state S.Store (T.held tx.old)).now) }
     ensures failed { HasCleanDisk (state S.Store (T.held tx.new)) → IfErr result (FailsToRemove (codes "dictcat_part") (equals_number 1 edition) (state S.Store (T.held tx.old)) (state S.Store (T.held tx.new))) }
     ensures survives { Survives (state S.Store (T.held tx.old)) (state S.Store (T.held tx.new)) (λ _. ⊥) }
 {
@@ -66,7 +67,7 @@ pub fn delete_parts<S: Alter, T: OpenTransaction<S>>(
     )
 }
 
-/// Takes out the parts of this file of the edition from this number on. It answers the count of rows that `sqlite` reports.
+/// Takes out the parts of this file of the edition from this number on. It answers how many these were.
 pub fn delete_parts_from<S: Alter, T: OpenTransaction<S>>(
     tx: &mut T,
     edition: i64,
@@ -76,6 +77,7 @@ pub fn delete_parts_from<S: Alter, T: OpenTransaction<S>>(
     requires { WhileOpen (state S.Store (T.held tx.old)) (HasToRemove part) }
     ensures same_reference { T.reference tx.new ≡ T.reference tx.old }
     ensures removed { HasCleanDisk (state S.Store (T.held tx.new)) → OnOk result (Removes (codes "dictcat_part") (is_part_from edition file number) (state S.Store (T.held tx.old)) (state S.Store (T.held tx.new))) }
+    ensures counted { HasCleanDisk (state S.Store (T.held tx.new)) → IfOk result (λ count. count ≡ count_in (codes "dictcat_part") (is_part_from edition file number) (state S.Store (T.held tx.old)).now) }
     ensures failed { HasCleanDisk (state S.Store (T.held tx.new)) → IfErr result (FailsToRemove (codes "dictcat_part") (is_part_from edition file number) (state S.Store (T.held tx.old)) (state S.Store (T.held tx.new))) }
     ensures survives { Survives (state S.Store (T.held tx.old)) (state S.Store (T.held tx.new)) (λ _. ⊥) }
 {

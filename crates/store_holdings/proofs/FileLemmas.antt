@@ -5,7 +5,7 @@ use Rattle.std.specs.List.{AllByRecursion}
 use Rattle.std.proofs.lemmas.Bool.{false≢true}
 use Rattle.std.proofs.lemmas.List.Elements.{filter-append}
 use Rattle.dict_text.proofs.AllLemmas.{all_append}
-use Rattle.store_records.specs.Records.{EntryRecord, EditionRecord, Part}
+use Rattle.store_tables.specs.Records.{EntryRecord, EditionRecord, Part}
 use Rattle.dict_index.specs.Edition.{Edition as AnEdition}
 use Rattle.dict_index.specs.Line.{Line}
 use Rattle.dict_catalogue.specs.Commands.{Command}

@@ -1,7 +1,7 @@
 -- The parts of the two files of an edition, by their places.
 use Rattle.std.proofs.Common.{◌≡◌, ℕ, zero, suc, ◌+◌, ◌-◌, ◌/◌, ◌%◌, min, ◌<◌, ◌≤◌, ℤ, pos, List, [], ◌∷◌, length, get_or, arith, sym, ap, subst, ◌∙◌}
 use Rattle.std.proofs.lemmas.List.{length-append, get_or_append_left, get_or-append-add}
-use Rattle.store_records.specs.Records.{Part}
+use Rattle.store_tables.specs.Records.{Part}
 use Rattle.store_rows.specs.Parts.{parts_of, part_count}
 use Rattle.store_rows.specs.Written.{numbered}
 use Rattle.store_rows.proofs.PartLemmas.{parts_length}

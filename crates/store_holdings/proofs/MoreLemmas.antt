@@ -4,7 +4,7 @@ use Rattle.std.specs.Prelude.{flat_map}
 use Rattle.std.specs.List.{AllByRecursion}
 use Rattle.std.proofs.lemmas.Grind.{flat_map-append}
 use Rattle.std.proofs.lemmas.List.Elements.{filter-append}
-use Rattle.store_records.specs.Records.{EntryRecord, EditionRecord}
+use Rattle.store_tables.specs.Records.{EntryRecord, EditionRecord}
 use Rattle.store_rows.specs.Tables.{Tables, same_number, entries_of}
 use Rattle.store_rows.specs.Taken.{with_edition}
 use Rattle.store_rows.specs.Whole.{with_entries}

@@ -8,7 +8,7 @@ use Rattle.std.proofs.lemmas.List.Elements.{filter-append}
 use Rattle.std.proofs.lemmas.List.Sorted.{IsPermutation-sym, IsPermutation-trans, IsPermutation-map, IsPermutation-append_left, IsPermutation-append_right, IsPermutation-filter_both}
 use Rattle.dict_text.proofs.AllLemmas.{all_append, all_filter, all_flat_map, all_map, all_weaker}
 use Rattle.sqlite.specs.Effect.{Database}
-use Rattle.store_records.specs.Records.{EditionRecord, Part}
+use Rattle.store_tables.specs.Records.{EditionRecord, Part}
 use Rattle.dict_index.specs.Edition.{Edition as AnEdition}
 use Rattle.dict_catalogue.specs.Commands.{Command}
 use Rattle.dict_catalogue.specs.Items.{Stored, Item, name_of, numbers_of, editions_of, edition_numbers}

@@ -13,7 +13,7 @@ use Rattle.sqlite.specs.Order.{Row, column}
 use Rattle.sqlite.specs.declared.types.Value.TheVariants.{Null, Int}
 use Rattle.dict_text.proofs.AllLemmas.{all_map, all_flat_map}
 use Rattle.dict_text.specs.Names.{is_from, is_small_letter, is_capital_letter, is_digit, is_name_octet, is_request_octet, has_size, first_passes, is_name, is_request_id}
-use Rattle.store_records.specs.Records as spec
+use Rattle.store_tables.specs.Records as spec
 use Rattle.store_sql.specs.Columns.{Content, Number, NumberOrNull, Name, NameOrNull, Octets, HasColumns, IsNumber, kept_columns}
 use Rattle.store_sql.specs.Effects.{rows_of}
 use Rattle.store_sql.specs.Encodings.{number_or_null, mark_row, item_row, member_row, edition_row, entry_row, kept_row}

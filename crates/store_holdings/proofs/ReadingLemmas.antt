@@ -1,7 +1,7 @@
 -- What a database keeps by the readings of a layout.
 use Rattle.std.proofs.Common.{◌≡◌, List, [], ◌∷◌, ◌++◌, map, codes, refl, ap, subst}
 use Rattle.sqlite.specs.Effect.{Database}
-use Rattle.store_records.specs.Records.{Part, header_of}
+use Rattle.store_tables.specs.Records.{Part, header_of}
 use Rattle.store_sql.specs.Encodings.{mark_row, item_row, member_row, edition_row, kept_row}
 use Rattle.store_edition_sql.specs.HeaderRecords.{header_row}
 use Rattle.store_edition_sql.specs.PartRecords.{part_row}

@@ -4,7 +4,7 @@ use Rattle.std.specs.Prelude.{◌≤ℤ◌, bytes_eq, cond, filter, IsTrue}
 use Rattle.std.specs.List.{AllByRecursion, list_any}
 use Rattle.std.proofs.lemmas.Bool.{false≢true}
 use Rattle.dict_text.proofs.AllLemmas.{all_weaker, all_map, all_flat_map}
-use Rattle.store_records.specs.Records as spec
+use Rattle.store_tables.specs.Records as spec
 use Rattle.dict_index.specs.Edition.{Edition}
 use Rattle.dict_catalogue.specs.Items.{Stored, Item, name_of, members_of, editions_of, is_named, is_known, numbers_of, edition_numbers}
 use Rattle.dict_catalogue.specs.Steps.{Catalogue}

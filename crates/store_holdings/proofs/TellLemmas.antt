@@ -6,7 +6,7 @@ use Rattle.std.proofs.lemmas.List.Elements.{filter-append}
 use Rattle.std.specs.List.Sorted.{IsPermutation}
 use Rattle.std.proofs.lemmas.List.Sorted.{IsPermutation-refl}
 use Rattle.dict_text.proofs.AllLemmas.{all_weaker, all_map}
-use Rattle.store_records.specs.Records.{EditionRecord, EntryRecord, HeaderRecord, Part, header_of}
+use Rattle.store_tables.specs.Records.{EditionRecord, EntryRecord, HeaderRecord, Part, header_of}
 use Rattle.dict_index.specs.Edition.{Edition as AnEdition, entry_in}
 use Rattle.dict_index.specs.Line.{Line}
 use Rattle.dict_index.specs.WellFormed.{IsWellFormedEdition, IsWellFormedEntry}

@@ -1,7 +1,7 @@
 -- The same records under the mark of another version.
 use Rattle.std.proofs.Common.{ℕ, pos, List, map, ap}
 use Rattle.dict_text.proofs.AllLemmas.{all_weaker}
-use Rattle.store_records.specs.Records as spec
+use Rattle.store_tables.specs.Records as spec
 use Rattle.dict_index.specs.Edition.{Edition}
 use Rattle.dict_catalogue.specs.Items.{Stored, Item, name_of, editions_of}
 use Rattle.dict_catalogue.specs.Steps.{Catalogue}

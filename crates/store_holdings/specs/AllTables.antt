@@ -1,7 +1,7 @@
 -- The records of all tables, the parts of files among them.
 use Rattle.std.specs.Prelude.{◌≡◌, ℕ, pos, ℤ, false, not, List, [], ◌∷◌, ◌++◌, map, filter, Option, Some, None}
 use Rattle.std.specs.List.{AllByRecursion}
-use Rattle.store_records.specs.Records.{Mark, ItemRecord, Member, EditionRecord, EntryRecord, Part, KeptRecord}
+use Rattle.store_tables.specs.Records.{Mark, ItemRecord, Member, EditionRecord, EntryRecord, Part, KeptRecord}
 use Rattle.store_rows.specs.Tables.{Tables, same_number}
 use Rattle.store_rows.specs.Written.{numbered, mark_record, item_record, kept_record}
 use Rattle.store_rows.specs.After.{Installed, TableChange, is_gone, installed_editions, installed_entries, all_members}

@@ -1,6 +1,6 @@
 -- The two files of an edition, its index and its text, and the parts that they are kept in: a function of the records.
 use Rattle.std.specs.Prelude.{ℕ, ℤ, pos, negsuc, List, [], ◌++◌, map, flat_map, Option, Some, None}
-use Rattle.store_records.specs.Records.{EditionRecord, EntryRecord, Part}
+use Rattle.store_tables.specs.Records.{EditionRecord, EntryRecord, Part}
 use Rattle.dict_index.specs.Line.{Line}
 use Rattle.store_rows.specs.Parts.{parts_of}
 use Rattle.store_rows.specs.Stored.{stored_index}

@@ -6,7 +6,7 @@ use Rattle.sqlite.specs.Order.{Row}
 use Rattle.sqlite.specs.Tree.{Trees}
 use Rattle.sqlite.specs.State.{State}
 use Rattle.sqlite.specs.Schema.{Schema}
-use Rattle.store_records.specs.Records.{Part}
+use Rattle.store_tables.specs.Records.{Part}
 use Rattle.store_tables.specs.Found.{HasOwn}
 use Rattle.store_tables.specs.Names.{has_prefixed}
 use Rattle.store_tables.specs.Room.{HasRoom, LeavesRoom}

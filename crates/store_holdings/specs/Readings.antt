@@ -5,7 +5,7 @@ use Rattle.sqlite.specs.declared.types.Value.TheVariants.{Text as Letters}
 use Rattle.sqlite.specs.Order.{Row}
 use Rattle.sqlite.specs.Effect.{Database}
 use Rattle.sqlite.specs.Table.{Table}
-use Rattle.store_records.specs.Records.{EntryRecord, ShowsHeadword, header_of}
+use Rattle.store_tables.specs.Records.{EntryRecord, ShowsHeadword, header_of}
 use Rattle.store_tables.specs.Tables.{mark, item, member, edition, entry, kept}
 use Rattle.store_tables.specs.Keyed as keyed
 use Rattle.store_sql.specs.Effects.{HasApartRowids, rows_of}

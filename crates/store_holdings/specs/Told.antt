@@ -1,6 +1,6 @@
 -- What the tables keep of records whose editions are kept in files.
 use Rattle.std.specs.Prelude.{List, ◌++◌, map, IsPermutation}
-use Rattle.store_records.specs.Records.{Part, header_of}
+use Rattle.store_tables.specs.Records.{Part, header_of}
 use Rattle.store_rows.specs.Tables.{Tables}
 use Rattle.store_holdings.specs.Files.{all_parts}
 

@@ -1,6 +1,6 @@
 -- The parts of the files of a small catalogue, worked by hand.
 use Rattle.std.specs.Prelude.{pos, List, [], ◌∷◌, codes}
-use Rattle.store_records.specs.Records.{Part}
+use Rattle.store_tables.specs.Records.{Part}
 
 -- of `ore` and of `gem`
 abbrev pub worked_parts : List Part

@@ -2,7 +2,7 @@
 ghost use Rattle.std.specs.Prelude.{◌≡◌, ◌++◌, ℕ, ℤ, pos, true, List, filter, flat_map, IsPermutation};
 ghost use Rattle.std.specs.List.{AllByRecursion};
 ghost use Rattle.sqlite.specs.Effect.{Database};
-ghost use Rattle.store_records.specs.Records.{EditionRecord, EntryRecord, Part};
+ghost use Rattle.store_tables.specs.Records.{EditionRecord, EntryRecord, Part};
 ghost use Rattle.dict_index.specs.Edition.{Edition as AnEdition};
 ghost use Rattle.dict_index.specs.WellFormed.{IsWellFormedEdition};
 ghost use Rattle.dict_catalogue.specs.Commands.{Command};

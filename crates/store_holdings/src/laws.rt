@@ -2,11 +2,11 @@
 ghost use Rattle.std.specs.Prelude.{◌≡◌, ◌≤ℤ◌, [], ◌∷◌, ℤ, List, codes, map, String};
 ghost use Rattle.std.specs.declared.alloc.Global.{Global};
 ghost use Rattle.sqlite.specs.Effect.{Database};
-ghost use Rattle.store_records.specs.declared.records.StoredRow.{StoredRow};
-ghost use Rattle.store_records.specs.declared.records.ItemRecord.{ItemRecord};
-ghost use Rattle.store_records.specs.declared.records.Member.{Member};
-ghost use Rattle.store_records.specs.declared.records.EntryRecord.{EntryRecord};
-ghost use Rattle.store_records.specs.declared.records.KeptRecord.{KeptRecord};
+ghost use Rattle.store_tables.specs.declared.records.StoredRow.{StoredRow};
+ghost use Rattle.store_tables.specs.declared.records.ItemRecord.{ItemRecord};
+ghost use Rattle.store_tables.specs.declared.records.Member.{Member};
+ghost use Rattle.store_tables.specs.declared.records.EntryRecord.{EntryRecord};
+ghost use Rattle.store_tables.specs.declared.records.KeptRecord.{KeptRecord};
 ghost use Rattle.store_sql.specs.Effects.{equals_number};
 ghost use Rattle.store_sql.specs.Encodings.{stored_item, stored_member, stored_entry, stored_kept};
 ghost use Rattle.store_sql.specs.Reads.{IsListing, IsSelection};

@@ -10,7 +10,7 @@ use Rattle.sqlite.specs.Table.{Table}
 use Rattle.sqlite.specs.declared.types.Value.{Value}
 use Rattle.sqlite.specs.declared.types.Value.TheVariants.{Int, Blob}
 use Rattle.dict_text.proofs.AllLemmas.{all_filter, all_flat_map_parts}
-use Rattle.store_records.specs.Records.{EditionRecord, Part, header_of}
+use Rattle.store_tables.specs.Records.{EditionRecord, Part, header_of}
 use Rattle.store_tables.specs.Found.{HasOwn}
 use Rattle.store_sql.specs.Columns.{HasColumns}
 use Rattle.store_sql.specs.Effects.{Has, rows_of, equals_number, same_value}

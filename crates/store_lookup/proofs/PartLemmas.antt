@@ -15,7 +15,7 @@ use Rattle.sqlite.specs.Effect.{Database}
 use Rattle.sqlite.specs.State.{State}
 use Rattle.sqlite.specs.declared.types.Value.TheVariants.{Int}
 use Rattle.dict_text.proofs.AllLemmas.{all_filter}
-use Rattle.store_records.specs.Records.{Part}
+use Rattle.store_tables.specs.Records.{Part}
 use Rattle.store_sql.specs.Columns.{HasColumns}
 use Rattle.store_sql.specs.Effects.{rows_of, equals_number, same_value}
 use Rattle.store_sql.specs.Reads.{IsSelection, FailsToList}

@@ -12,7 +12,7 @@ use Rattle.sqlite.specs.Effect.{Database}
 use Rattle.sqlite.specs.declared.types.Value.{Value}
 use Rattle.sqlite.specs.declared.types.Value.TheVariants.{Text as Letters}
 use Rattle.dict_text.proofs.AllLemmas.{all_map}
-use Rattle.store_records.specs.Records.{header_of}
+use Rattle.store_tables.specs.Records.{header_of}
 use Rattle.store_sql.specs.Columns.{HasColumns}
 use Rattle.store_edition_sql.specs.Infos.{headers_with, informed, info_columns}
 use Rattle.store_edition_sql.specs.HeaderRecords.{header_row, header_columns}

@@ -4,7 +4,7 @@ use Rattle.std.specs.List.{AllByRecursion}
 use Rattle.sqlite.specs.declared.error.Error.{Error}
 use Rattle.sqlite.specs.Effect.{Database}
 use Rattle.sqlite.specs.State.{State, IsUnchanged, Fails}
-use Rattle.store_records.specs.Records.{header_of}
+use Rattle.store_tables.specs.Records.{header_of}
 use Rattle.store_sql.specs.Effects.{Has, equals_number, rows_of}
 use Rattle.store_sql.specs.Columns.{HasColumns}
 use Rattle.store_edition_sql.specs.HeaderTable.{header}

@@ -12,7 +12,7 @@ pub use Rattle.sqlite.specs.Schema.{Schema}
 pub use Rattle.sqlite.specs.State.{State, HasCleanDisk, KeepsCommit, Survives}
 pub use Rattle.sqlite.specs.Table.{Table}
 pub use Rattle.sqlite.specs.Order.{Row}
-pub use Rattle.store_records.specs.Records.{HeaderRecord, EntryRecord, EditionRecord, Mark, Part, header_of}
+pub use Rattle.store_tables.specs.Records.{HeaderRecord, EntryRecord, EditionRecord, Mark, Part, header_of}
 pub use Rattle.store_tables.specs.Definitions.{IsDefinition}
 pub use Rattle.store_tables.specs.Found.{HasOwn}
 pub use Rattle.store_tables.specs.Tables.{mark, item, member, kept, edition, table_of}

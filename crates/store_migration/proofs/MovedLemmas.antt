@@ -5,7 +5,7 @@ use Rattle.std.proofs.lemmas.List.Sorted.{IsPermutation-map, IsPermutation-trans
 use Rattle.sqlite_schema.specs.Names.{same_name}
 use Rattle.dict_catalogue.specs.Items.{edition_numbers}
 use Rattle.dict_catalogue.specs.Steps.{Catalogue}
-use Rattle.store_records.specs.Records as spec
+use Rattle.store_tables.specs.Records as spec
 use Rattle.store_tables.specs.declared.tables.StoreTable.TheVariants as store
 use Rattle.store_sql.specs.Deletes.{HasToRemove}
 use Rattle.store_edition_sql.specs.HeaderRecords.{header_row}

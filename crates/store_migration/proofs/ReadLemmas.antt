@@ -6,15 +6,15 @@ use Rattle.std.specs.List.Sorted.{IsPermutation}
 use Rattle.std.specs.Ordering.{is_lt}
 use Rattle.std.specs.declared.alloc.Global.{Global}
 use Rattle.std.proofs.lemmas.List.Sorted.{IsPermutation-map, IsPermutation-sym, length_permutation}
-use Rattle.store_records.specs.Keyed.{owned_old_entry, owned_keyed_entry, plain_entry}
-use Rattle.store_records.specs.Records.{ShowsHeadword}
-use Rattle.store_records.specs.Typed.{owned_edition, owned_entry, owned_header}
-use Rattle.store_records.specs.declared.headers.HeaderRecord.{HeaderRecord as TypedHeader}
-use Rattle.store_records.specs.declared.keyed.KeyedEntry.{KeyedEntry as TypedShown}
-use Rattle.store_records.specs.declared.keyed.OldEntry.{OldEntry as TypedOld}
-use Rattle.store_records.specs.declared.records.EditionRecord.{EditionRecord as TypedEdition}
-use Rattle.store_records.specs.declared.records.EntryRecord.{EntryRecord as TypedEntry}
-use Rattle.store_records.specs.declared.records.StoredRow.{StoredRow}
+use Rattle.store_tables.specs.KeyedRecords.{owned_old_entry, owned_keyed_entry, plain_entry}
+use Rattle.store_tables.specs.Records.{ShowsHeadword}
+use Rattle.store_tables.specs.Typed.{owned_edition, owned_entry, owned_header}
+use Rattle.store_tables.specs.declared.headers.HeaderRecord.{HeaderRecord as TypedHeader}
+use Rattle.store_tables.specs.declared.keyed_records.KeyedEntry.{KeyedEntry as TypedShown}
+use Rattle.store_tables.specs.declared.keyed_records.OldEntry.{OldEntry as TypedOld}
+use Rattle.store_tables.specs.declared.records.EditionRecord.{EditionRecord as TypedEdition}
+use Rattle.store_tables.specs.declared.records.EntryRecord.{EntryRecord as TypedEntry}
+use Rattle.store_tables.specs.declared.records.StoredRow.{StoredRow}
 use Rattle.store_edition_sql.specs.HeaderRecords.{header_row}
 use Rattle.store_sql.specs.Encodings.{stored_edition, stored_entry}
 use Rattle.store_sql.specs.Keyed.{stored_keyed_entry, stored_old_entry}

@@ -2,7 +2,7 @@
 use Rattle.std.specs.Prelude.{◌≡◌, ◌⊎◌, ◌++◌, ℕ, ℤ, true, List, ◌∷◌, map, codes, IsPermutation, Option, Some, None}
 use Rattle.sqlite.specs.Effect.{Database}
 use Rattle.sqlite.specs.Order.{Row}
-use Rattle.store_records.specs.Records.{EditionRecord, EntryRecord, HeaderRecord}
+use Rattle.store_tables.specs.Records.{EditionRecord, EntryRecord, HeaderRecord}
 use Rattle.store_sql.specs.Added.{AreAdded}
 use Rattle.store_sql.specs.Columns.{edition_columns}
 use Rattle.store_sql.specs.Creates.{IsMade}

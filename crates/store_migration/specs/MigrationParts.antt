@@ -6,7 +6,7 @@ use Rattle.sqlite.specs.Order.{Row}
 use Rattle.sqlite.specs.State.{State}
 use Rattle.sqlite.specs.declared.error.Error.TheVariants.{SqliteFailure}
 use Rattle.sqlite.specs.declared.error.ErrorCode.TheVariants.{OutOfMemory}
-use Rattle.store_records.specs.Records.{EditionRecord, EntryRecord}
+use Rattle.store_tables.specs.Records.{EditionRecord, EntryRecord}
 use Rattle.store_edition_sql.specs.HeaderTable.{header}
 use Rattle.store_edition_sql.specs.PartTable.{part}
 use Rattle.store_sql.specs.Columns.{Content}

@@ -2,7 +2,7 @@
 use Rattle.std.specs.Prelude.{ℕ, ℤ, true, IsTrue, List, codes, map, Option, Some, None}
 use Rattle.sqlite.specs.Effect.{Database}
 use Rattle.sqlite.specs.State.{State}
-use Rattle.store_records.specs.Records.{HeaderRecord}
+use Rattle.store_tables.specs.Records.{HeaderRecord}
 use Rattle.store_sql.specs.Added.{AreAdded}
 use Rattle.store_sql.specs.Creates.{IsMade}
 use Rattle.store_sql.specs.Effects.{IsAdded, IsRemoved}

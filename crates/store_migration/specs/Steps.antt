@@ -3,7 +3,7 @@ use Rattle.std.specs.Prelude.{◌≡◌, ◌≤ℤ◌, ◌<◌, ◌^◌, ℕ, po
 use Rattle.sqlite.specs.Does.{lacks_sequence}
 use Rattle.sqlite.specs.Effect.{Database, IsDatabase}
 use Rattle.sqlite.specs.Order.{Row}
-use Rattle.store_records.specs.Records.{EditionRecord, EntryRecord, HeaderRecord, header_of}
+use Rattle.store_tables.specs.Records.{EditionRecord, EntryRecord, HeaderRecord, header_of}
 use Rattle.store_sql.specs.Added.{AreAdded}
 use Rattle.store_sql.specs.Effects.{Has, equals_number, rows_of}
 use Rattle.store_sql.specs.Encodings.{edition_row}

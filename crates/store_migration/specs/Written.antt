@@ -1,7 +1,7 @@
 -- What is written of the records of an edition.
 use Rattle.std.specs.Prelude.{List}
-use Rattle.store_records.specs.Keyed.{KeyedEntry}
-use Rattle.store_records.specs.Records.{EntryRecord, Part}
+use Rattle.store_tables.specs.KeyedRecords.{KeyedEntry}
+use Rattle.store_tables.specs.Records.{EntryRecord, Part}
 use Rattle.dict_index.specs.Line.{Line}
 use Rattle.store_rows.specs.Stored.{saying}
 use Rattle.store_holdings.specs.Files.{natural, parts_under}

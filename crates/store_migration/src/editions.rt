@@ -1,8 +1,8 @@
 // The editions of an older version, one after the other: the files of each are put in as parts, and its header is kept.
 ghost use Rattle.std.specs.Prelude.{◌≡◌, ◌≢◌, ◌∷◌, [], length, map, true, IfOk, IfErr, OnOk};
 ghost use Rattle.sqlite.specs.State.{HasCleanDisk, IsUnchanged, KeepsCommit, Survives};
-ghost use Rattle.store_records.specs.Records.{header_of};
-ghost use Rattle.store_records.specs.Typed.{owned_edition, owned_header};
+ghost use Rattle.store_tables.specs.Records.{header_of};
+ghost use Rattle.store_tables.specs.Typed.{owned_edition, owned_header};
 ghost use Rattle.store_tables.specs.Tables.{edition as edition_table};
 ghost use Rattle.store_sql.specs.Effects.{Has, WhileOpen, seen};
 ghost use Rattle.store_migration.specs.Failing.{MigrationFailsInside};
@@ -15,8 +15,8 @@ use crate::older::Older;
 use sqlite::{Alter, Transaction};
 use std::alloc::Global;
 use store_older_sql::editions_inside;
-use store_records::{EditionRecord, HeaderRecord, StoredRow};
 use store_sql::records::ReadError;
+use store_tables::{EditionRecord, HeaderRecord, StoredRow};
 
 // The only one of these rows. `NoRecord` tells that there is none, or more.
 fn only_one(

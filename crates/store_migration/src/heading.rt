@@ -1,7 +1,7 @@
 // The table of editions is made again, without texts, and the headers are put in.
 ghost use Rattle.std.specs.Prelude.{◌≡◌, codes, map, true, IfErr, OnOk};
 ghost use Rattle.sqlite.specs.State.{HasCleanDisk, KeepsCommit, Survives};
-ghost use Rattle.store_records.specs.Typed.{owned_header};
+ghost use Rattle.store_tables.specs.Typed.{owned_header};
 ghost use Rattle.store_edition_sql.specs.HeaderRecords.{header_row};
 ghost use Rattle.store_edition_sql.specs.HeaderTable.{header as header_table};
 ghost use Rattle.store_sql.specs.Added.{AreAdded};
@@ -14,7 +14,7 @@ ghost use Rattle.store_migration.specs.Steps.{MayBeHeaded};
 
 use sqlite::{Alter, Error, Transaction};
 use store_edition_sql::{create_header_table, insert_header};
-use store_records::HeaderRecord;
+use store_tables::HeaderRecord;
 
 // Puts these headers in, one after the other.
 fn put_headers<S: Alter>(

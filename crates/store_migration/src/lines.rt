@@ -1,8 +1,8 @@
 // The lines of an index, written of the entries of an older version.
 ghost use Rattle.std.specs.Prelude.{◌≡◌, ◌++◌, ◌∷◌, [], map, IfOk, IfErr, OnOk, MatchBool};
-ghost use Rattle.store_records.specs.Keyed.{owned_old_entry, owned_keyed_entry, plain_entry};
-ghost use Rattle.store_records.specs.Records.{EntryRecord as TheEntry};
-ghost use Rattle.store_records.specs.Typed.{owned_entry};
+ghost use Rattle.store_tables.specs.KeyedRecords.{owned_old_entry, owned_keyed_entry, plain_entry};
+ghost use Rattle.store_tables.specs.Records.{EntryRecord as TheEntry};
+ghost use Rattle.store_tables.specs.Typed.{owned_entry};
 ghost use Rattle.dict_index.specs.Cuts.{HasNo};
 ghost use Rattle.store_rows.specs.Stored.{IsColumn, stored_line};
 ghost use Rattle.store_holdings.specs.Files.{index_octets};
@@ -11,9 +11,9 @@ ghost use Rattle.store_migration.specs.Steps.{HasLine, HasSixDigits};
 ghost use Rattle.store_migration.specs.Written.{line_to_write, said_of, shown_entry};
 
 use std::alloc::Global;
-use store_records::{EntryRecord, KeyedEntry, OldEntry, StoredRow};
 use store_rows::write_line;
 use store_sql::records::ReadError;
+use store_tables::{EntryRecord, KeyedEntry, OldEntry, StoredRow};
 
 /// The first number that has no six digits in base 64.
 const MOST: i64 = 68_719_476_736;

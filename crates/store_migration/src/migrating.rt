@@ -8,7 +8,7 @@ ghost use Rattle.dict_catalogue.specs.Items.{edition_numbers as numbers_in};
 ghost use Rattle.dict_catalogue.specs.Steps.{Catalogue, summary_of};
 ghost use Rattle.dict_catalogue.specs.Views.{summary_shown};
 ghost use Rattle.dict_desk.specs.Faults.{is_disk};
-ghost use Rattle.store_records.specs.Typed.{owned_header};
+ghost use Rattle.store_tables.specs.Typed.{owned_header};
 ghost use Rattle.store_rows.specs.Versions.{layout_of, known};
 ghost use Rattle.store_sql.specs.Effects.{WhileOpen, seen};
 ghost use Rattle.store_holdings.specs.Holds.{Holds, IsLeftAs, Rests};
@@ -34,9 +34,9 @@ use sqlite::{Alter, Connection, Transaction};
 use std::alloc::Global;
 use store_edition_sql::create_part_table;
 use store_holdings::fault_of_read;
-use store_records::HeaderRecord;
 use store_sql::commit::commit;
 use store_sql::records::ReadError;
+use store_tables::HeaderRecord;
 
 /// The greatest number that a column holds.
 const MAX_NUMBER: u64 = 9_223_372_036_854_775_807;

@@ -12,12 +12,11 @@ ghost use Rattle.store_sql.specs.Reads.{Selects, FailsToRead, FailsToList};
 
 use sqlite::{Alter, Error, Row, params};
 use std::alloc::Global;
-use store_records::{EditionRecord, StoredRow};
 use store_sql::drop::drop_table;
 use store_sql::read::records_of;
 use store_sql::records::ReadError;
 use store_sql::transaction::OpenTransaction;
-use store_tables::StoreTable;
+use store_tables::{EditionRecord, StoreTable, StoredRow};
 
 fn edition_rows<S: Alter, T: OpenTransaction<S>>(tx: &mut T, number: i64) -> Result<Vec<Row>, Error>
     requires { WhileOpen (state S.Store (T.held tx.old)) (Has edition_table) }

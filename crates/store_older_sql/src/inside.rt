@@ -11,10 +11,10 @@ ghost use Rattle.store_sql.specs.Reads.{Selects, FailsToRead, FailsToList};
 
 use sqlite::{Alter, Error, Row, params};
 use std::alloc::Global;
-use store_records::{EntryRecord, StoredRow};
 use store_sql::read::records_of;
 use store_sql::records::ReadError;
 use store_sql::transaction::OpenTransaction;
+use store_tables::{EntryRecord, StoredRow};
 
 fn entry_rows<S: Alter, T: OpenTransaction<S>>(tx: &mut T, edition: i64) -> Result<Vec<Row>, Error>
     requires { WhileOpen (state S.Store (T.held tx.old)) (Has entry) }

@@ -9,8 +9,8 @@ use Rattle.std.proofs.lemmas.List.{map-append, length-append, length-map}
 use Rattle.std.proofs.lemmas.List.Sorted.{IsPermutation-map, IsPermutation-sym, IsPermutation-trans}
 use Rattle.sqlite.specs.Effect.{Database}
 use Rattle.dict_text.proofs.AllLemmas.{all_filter, all_weaker}
-use Rattle.store_records.specs.Records as spec
-use Rattle.store_records.specs.Records.{header_of}
+use Rattle.store_tables.specs.Records as spec
+use Rattle.store_tables.specs.Records.{header_of}
 use Rattle.dict_index.specs.Line.{Line}
 use Rattle.store_sql.specs.Effects.{rows_of}
 use Rattle.store_sql.specs.Encodings.{mark_row, item_row, member_row, kept_row, stored_kept}

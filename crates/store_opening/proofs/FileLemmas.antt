@@ -5,7 +5,7 @@ use Rattle.sqlite_trees.proofs.ListLemmas.{IsPermutation-filter}
 use Rattle.sqlite.specs.Effect.{Database}
 use Rattle.sqlite.specs.Order.{Row, column}
 use Rattle.sqlite.specs.declared.types.Value.TheVariants.{Int}
-use Rattle.store_records.specs.Records.{EditionRecord, HeaderRecord, Part, header_of}
+use Rattle.store_tables.specs.Records.{EditionRecord, HeaderRecord, Part, header_of}
 use Rattle.dict_index.specs.Line.{Line}
 use Rattle.store_sql.specs.Effects.{rows_of, same_value}
 use Rattle.store_edition_sql.specs.Chosen.{is_of_file}

@@ -9,7 +9,7 @@ use Rattle.std.proofs.lemmas.List.Elements.{filter-append}
 use Rattle.sqlite.specs.Effect.{Database}
 use Rattle.sqlite.specs.Order.{Row, column, value_cmp}
 use Rattle.sqlite.specs.declared.types.Value.TheVariants.{Int}
-use Rattle.store_records.specs.Records as spec
+use Rattle.store_tables.specs.Records as spec
 use Rattle.store_sql.specs.Encodings.{stored_mark, stored_item, stored_kept}
 use Rattle.store_sql.specs.Reads.{IsListing, by_columns}
 use Rattle.store_sql.specs.Streams.{IsFront}

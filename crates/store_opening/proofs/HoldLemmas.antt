@@ -3,7 +3,7 @@ use Rattle.std.proofs.Common.{◌≡◌, ℕ, List}
 use Rattle.sqlite.specs.Effect.{Database}
 use Rattle.dict_catalogue.specs.Steps.{Catalogue, summary_of}
 use Rattle.dict_catalogue.specs.Tests.{Holdings}
-use Rattle.store_records.specs.Records.{Part}
+use Rattle.store_tables.specs.Records.{Part}
 use Rattle.store_rows.specs.Stands.{Stands}
 use Rattle.store_rows.specs.Taken.{HasTaken}
 use Rattle.store_rows.proofs.StrayLemmas.{numbers_taken}

@@ -10,10 +10,10 @@ use Rattle.sqlite.specs.Effect.{Database}
 use Rattle.sqlite.specs.Order.{Row, column}
 use Rattle.std.specs.List.Sorted.{IsPermutation}
 use Rattle.sqlite.specs.declared.types.Value.TheVariants.{Int}
-use Rattle.store_records.specs.Records as spec
-use Rattle.store_records.specs.Typed.{owned_mark}
-use Rattle.store_records.specs.declared.records as typed
-use Rattle.store_records.specs.declared.records.StoredRow.{StoredRow}
+use Rattle.store_tables.specs.Records as spec
+use Rattle.store_tables.specs.Typed.{owned_mark}
+use Rattle.store_tables.specs.declared.records as typed
+use Rattle.store_tables.specs.declared.records.StoredRow.{StoredRow}
 use Rattle.store_sql.specs.Columns.{HasColumns, mark_columns}
 use Rattle.store_sql.specs.Effects.{rows_of}
 use Rattle.store_sql.specs.Encodings.{mark_row, stored_mark}

@@ -5,8 +5,8 @@ use Rattle.std.specs.List.{AllByRecursion, Contains}
 use Rattle.sqlite.specs.Effect.{Database}
 use Rattle.sqlite.specs.Order.{Row}
 use Rattle.dict_text.proofs.AllLemmas.{all_filter, all_weaker}
-use Rattle.store_records.specs.Records as spec
-use Rattle.store_records.specs.Records.{header_of}
+use Rattle.store_tables.specs.Records as spec
+use Rattle.store_tables.specs.Records.{header_of}
 use Rattle.dict_index.specs.Line.{Line}
 use Rattle.store_sql.specs.Columns.{Content, HasColumns, edition_columns}
 use Rattle.store_sql.specs.Effects.{rows_of, equals_number}

@@ -11,7 +11,7 @@ use Rattle.sqlite_trees.proofs.ListLemmas.{IsPermutation-filter}
 use Rattle.sqlite.specs.Effect.{Database}
 use Rattle.sqlite.specs.Order.{Row}
 use Rattle.dict_text.proofs.AllLemmas.{all_map, all_weaker}
-use Rattle.store_records.specs.Records.{Part}
+use Rattle.store_tables.specs.Records.{Part}
 use Rattle.store_sql.specs.Effects.{rows_of}
 use Rattle.store_sql.proofs.ListingLemmas.{all_pass}
 use Rattle.store_edition_sql.specs.PartRecords.{part_row, stored_part, owned_part}

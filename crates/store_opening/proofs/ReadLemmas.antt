@@ -11,8 +11,8 @@ use Rattle.dict_text.proofs.AllLemmas.{all_at}
 use Rattle.std.proofs.lemmas.List.Sorted.{IsPermutation-refl, IsPermutation-map, IsPermutation-sym}
 use Rattle.sqlite.specs.Effect.{Database}
 use Rattle.sqlite.specs.Order.{Row, column}
-use Rattle.store_records.specs.Records as spec
-use Rattle.store_records.specs.Records.{header_of}
+use Rattle.store_tables.specs.Records as spec
+use Rattle.store_tables.specs.Records.{header_of}
 use Rattle.store_sql.specs.Effects.{rows_of, equals_number}
 use Rattle.store_sql.specs.Encodings.{edition_row, stored_edition}
 use Rattle.store_edition_sql.specs.HeaderRecords.{header_row, stored_header}

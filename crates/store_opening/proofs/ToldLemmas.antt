@@ -8,9 +8,9 @@ use Rattle.std.specs.List.Sorted.{IsPermutation}
 use Rattle.sqlite.specs.Effect.{Database}
 use Rattle.sqlite.specs.Order.{Row}
 use Rattle.dict_text.proofs.AllLemmas.{all_append_parts, all_filter}
-use Rattle.store_records.specs.Records as spec
-use Rattle.store_records.specs.Records.{header_of}
-use Rattle.store_records.specs.Typed.{owned_edition, owned_header}
+use Rattle.store_tables.specs.Records as spec
+use Rattle.store_tables.specs.Records.{header_of}
+use Rattle.store_tables.specs.Typed.{owned_edition, owned_header}
 use Rattle.dict_index.specs.Edition.{Edition}
 use Rattle.dict_index.specs.Line.{Line}
 use Rattle.store_sql.specs.Effects.{rows_of, equals_number}

@@ -19,11 +19,11 @@ use Rattle.sqlite_value.proofs.OrderLemmas.{value_cmp-Text, then-Equal}
 use Rattle.dict_text.proofs.AllLemmas.{all_append, all_weaker, all_flat_map, all_map}
 use Rattle.store_tables.specs.Tables.{table_of}
 use Rattle.store_tables.specs.declared.tables.StoreTable.{StoreTable}
-use Rattle.store_records.specs.Records as spec
-use Rattle.store_records.specs.Records.{header_of}
-use Rattle.store_records.specs.Typed.{owned_member, owned_kept}
-use Rattle.store_records.specs.declared.records as typed
-use Rattle.store_records.specs.declared.records.StoredRow.{StoredRow as Beside}
+use Rattle.store_tables.specs.Records as spec
+use Rattle.store_tables.specs.Records.{header_of}
+use Rattle.store_tables.specs.Typed.{owned_member, owned_kept}
+use Rattle.store_tables.specs.declared.records as typed
+use Rattle.store_tables.specs.declared.records.StoredRow.{StoredRow as Beside}
 use Rattle.std.specs.declared.alloc.Global.{Global}
 use Rattle.store_sql.specs.Columns.{Content, HasColumns, kept_columns}
 use Rattle.store_sql.specs.Effects.{HasApartRowids, rows_of, same_value, equals_number}

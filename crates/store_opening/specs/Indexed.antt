@@ -2,7 +2,7 @@
 use Rattle.std.specs.Prelude.{◌≡◌, ℕ, pos, nat_eq, List, map, Some, if◌then◌else◌}
 use Rattle.std.specs.List.{AllByRecursion}
 use Rattle.sqlite.specs.Effect.{Database}
-use Rattle.store_records.specs.Records.{EntryRecord}
+use Rattle.store_tables.specs.Records.{EntryRecord}
 use Rattle.dict_index.specs.Edition.{Edition}
 use Rattle.dict_catalogue.specs.Items.{Stored, name_of, editions_of}
 use Rattle.dict_catalogue.specs.Steps.{Catalogue}

@@ -5,10 +5,10 @@ use Rattle.std.specs.declared.alloc.Global.{Global}
 use Rattle.sqlite.specs.Effect.{Database}
 use Rattle.sqlite.specs.Order.{Row}
 use Rattle.sqlite.specs.declared.types.Value.TheVariants.{Int}
-use Rattle.store_records.specs.Records.{Mark, Member, EntryRecord, EditionRecord, Part, header_of}
-use Rattle.store_records.specs.Typed.{owned_edition, owned_header}
-use Rattle.store_records.specs.declared.records as typed
-use Rattle.store_records.specs.declared.records.StoredRow.{StoredRow}
+use Rattle.store_tables.specs.Records.{Mark, Member, EntryRecord, EditionRecord, Part, header_of}
+use Rattle.store_tables.specs.Typed.{owned_edition, owned_header}
+use Rattle.store_tables.specs.declared.records as typed
+use Rattle.store_tables.specs.declared.records.StoredRow.{StoredRow}
 use Rattle.store_tables.specs.Found.{HasOwn}
 use Rattle.store_sql.specs.Columns.{Content, edition_columns}
 use Rattle.store_sql.specs.Effects.{HasApartRowids, rows_of, equals_number}

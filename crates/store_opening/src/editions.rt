@@ -2,7 +2,7 @@
 ghost use Rattle.std.specs.Prelude.{◌≡◌, ◌++◌, ℕ, pos, List, [], map, IfErr, OnOk};
 ghost use Rattle.sqlite.specs.State.{HasCleanDisk};
 ghost use Rattle.sqlite.specs.Held.{state};
-ghost use Rattle.store_records.specs.Records.{EntryRecord};
+ghost use Rattle.store_tables.specs.Records.{EntryRecord};
 ghost use Rattle.store_sql.specs.Effects.{WhileOpen};
 ghost use Rattle.store_rows.specs.Tables.{Tables, entries_of};
 ghost use Rattle.store_rows.specs.Taken.{HasTaken};

@@ -10,9 +10,9 @@ ghost use Rattle.store_opening.specs.Marks.{HasMarkTable};
 
 use sqlite::{Alter, Connection, Error, Row};
 use std::alloc::Global;
-use store_records::{Mark, StoredRow};
 use store_sql::read::records_of;
 use store_sql::records::ReadError;
+use store_tables::{Mark, StoredRow};
 
 fn mark_rows<S: Alter>(conn: &mut Connection<S>) -> Result<Vec<Row>, Error>
     requires { WhileOpen (state S.Store conn.old) (λ db. HasMarkTable db.schema) }

@@ -2,7 +2,7 @@
 ghost use Rattle.std.specs.Prelude.{◌≡◌, ◌<◌, ◌≤◌, ◌↔◌, ℕ, ℤ, pos, false, IsTrue, map, codes, [], ◌∷◌, IfOk, IfErr, IfSome, IfNone, OnOk, Err};
 ghost use Rattle.sqlite.specs.State.{HasCleanDisk, Survives};
 ghost use Rattle.sqlite.specs.Held.{state};
-ghost use Rattle.store_records.specs.Typed.{owned_mark};
+ghost use Rattle.store_tables.specs.Typed.{owned_mark};
 ghost use Rattle.store_sql.specs.Encodings.{stored_mark};
 ghost use Rattle.store_sql.specs.Reads.{IsListing};
 ghost use Rattle.dict_catalogue.specs.Steps.{Catalogue, summary_of};
@@ -24,10 +24,10 @@ use sqlite::{Alter, Connection};
 use std::alloc::Global;
 use store_holdings::fault_of;
 use store_lookup::Indexes;
-use store_records::{Mark, StoredRow};
 use store_rows::{KNOWN_VERSION, number_in};
 use store_scans::ReadingFault;
 use store_sql::records::ReadError;
+use store_tables::{Mark, StoredRow};
 
 /// The summary of the catalogue that the tables hold, indexes of its editions, and the numbers of orphans, where these are the records of the mark, which is of this version. Editions are read first: what
 /// is read before them leaves less room for their texts.

@@ -20,13 +20,13 @@ use dict_catalogue::Summary;
 use sqlite::{Alter, Connection};
 use std::alloc::Global;
 use store_lookup::Indexes;
-use store_records::{Mark, StoredRow};
 use store_rows::Reader;
 use store_scans::{
     EditionIndex, IndexingReader, ReadingFault, fault_of_read, fault_of_rows, read_replies,
     test_ids,
 };
 use store_sql::read::{items, members};
+use store_tables::{Mark, StoredRow};
 
 /// Begins with the mark, which is of this version, the items and the members.
 fn begin<S: Alter>(

@@ -9,9 +9,8 @@ ghost use Rattle.store_opening.specs.Opens.{HasVersionTables, HasReadableRows, H
 
 use sqlite::{Alter, Connection};
 use std::alloc::Global;
-use store_records::{ItemRecord, KeptRecord, Mark, Member, StoredRow};
 use store_scans::{ReadingFault, test_rowids};
-use store_tables::StoreTable;
+use store_tables::{ItemRecord, KeptRecord, Mark, Member, StoreTable, StoredRow};
 
 /// Tests that no two rows of a small table have one rowid.
 fn test_small<S: Alter>(

@@ -3,8 +3,8 @@ ghost use Rattle.std.specs.Prelude.{◌≡◌, [], ◌∷◌, codes, IfOk, IfErr
 ghost use Rattle.sqlite.specs.State.{HasCleanDisk};
 ghost use Rattle.sqlite.specs.Held.{state};
 ghost use Rattle.store_tables.specs.Tables.{edition as edition_table};
-ghost use Rattle.store_records.specs.Records.{header_of};
-ghost use Rattle.store_records.specs.Typed.{owned_edition, owned_header};
+ghost use Rattle.store_tables.specs.Records.{header_of};
+ghost use Rattle.store_tables.specs.Typed.{owned_edition, owned_header};
 ghost use Rattle.store_edition_sql.specs.HeaderRecords.{header_columns, stored_header};
 ghost use Rattle.store_edition_sql.specs.HeaderTable.{header as header_table};
 ghost use Rattle.store_edition_sql.specs.PartTable.{part};
@@ -21,9 +21,9 @@ use crate::layout::TableLayout;
 use sqlite::{Alter, Connection};
 use std::alloc::Global;
 use store_edition_sql::{StoredHeader, headers_numbered};
-use store_records::{EditionRecord, HeaderRecord, StoredRow};
 use store_scans::{ReadingFault, TEXT_FILE, fault_of_read, read_file};
 use store_sql::read::editions_numbered;
+use store_tables::{EditionRecord, HeaderRecord, StoredRow};
 
 /// The one edition of this number.
 fn edition_numbered<S: Alter>(

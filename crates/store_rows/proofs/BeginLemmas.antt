@@ -3,7 +3,7 @@ use Rattle.std.proofs.Common.{◌≡◌, ℕ, true, false, ◌&&◌, inl, List, 
 use Rattle.std.specs.Prelude.{map, IsTrue}
 use Rattle.std.specs.List.{AllByRecursion, list_all}
 use Rattle.std.proofs.lemmas.Bool.{false≢true}
-use Rattle.store_records.specs.Records as spec
+use Rattle.store_tables.specs.Records as spec
 use Rattle.dict_index.specs.Edition.{Edition}
 use Rattle.dict_catalogue.specs.Items.{Item, regular, virtual, is_known}
 use Rattle.dict_catalogue.specs.Steps.{Catalogue}

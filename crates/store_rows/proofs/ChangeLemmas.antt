@@ -6,7 +6,7 @@ use Rattle.std.proofs.lemmas.Bool.{false≢true, not-true}
 use Rattle.std.proofs.lemmas.List.{map-append}
 use Rattle.std.proofs.lemmas.List.Elements.{filter-append}
 use Rattle.dict_text.proofs.AllLemmas.{all_weaker, all_append, all_filter, all_flat_map_parts}
-use Rattle.store_records.specs.Records as spec
+use Rattle.store_tables.specs.Records as spec
 use Rattle.dict_index.specs.Edition.{Edition, edition_of}
 use Rattle.dict_text.specs.Names.{is_request_id}
 use Rattle.dict_catalogue.specs.Items.{Stored, Item, name_of, editions_of, numbers_of, edition_numbers, is_known, names_virtual}

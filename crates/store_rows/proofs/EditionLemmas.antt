@@ -4,7 +4,7 @@ use Rattle.std.specs.Prelude.{pos, cond, bytes_eq, ◌==◌, option_map}
 use Rattle.std.specs.List.{AllByRecursion}
 use Rattle.std.proofs.lemmas.Bool.{false≢true, and_parts}
 use Rattle.std.proofs.lemmas.Grind.{flat_map-append}
-use Rattle.store_records.specs.Records as spec
+use Rattle.store_tables.specs.Records as spec
 use Rattle.dict_index.specs.Edition.{ReadEdition, edition_of}
 use Rattle.dict_catalogue.specs.Items.{Stored, Item, regular, virtual, name_of, members_of, numbers_of, edition_numbers}
 use Rattle.dict_catalogue.specs.WellFormed.{how_many, IsEachNumberOnce}

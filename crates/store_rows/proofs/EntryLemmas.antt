@@ -3,7 +3,7 @@ use Rattle.std.proofs.Common.{◌≡◌, ℕ, ◌+◌, ◌≤◌, ◌<◌, Bool,
 use Rattle.std.specs.Prelude.{pos, map, ◌==◌, IsTrue}
 use Rattle.std.specs.List.{AllByRecursion}
 use Rattle.std.proofs.lemmas.List.{length-append, length-map, map-append}
-use Rattle.store_records.specs.Records as spec
+use Rattle.store_tables.specs.Records as spec
 use Rattle.dict_index.specs.Limits.{most_entries}
 use Rattle.dict_index.specs.Line.{Line}
 use Rattle.dict_index.specs.Edition.{Edition, ReadEdition, edition_of, entry_in}

@@ -3,7 +3,7 @@ use Rattle.std.proofs.Common.{◌≡◌, ℕ, ◌+◌, ◌≤◌, Bool, true, fa
 use Rattle.std.specs.Prelude.{ℤ, pos, map, not, IsTrue, ◌==◌}
 use Rattle.std.specs.List.{AllByRecursion, list_any, list_all}
 use Rattle.std.proofs.lemmas.Bool.{false≢true, and_parts, and_from}
-use Rattle.store_records.specs.Records as spec
+use Rattle.store_tables.specs.Records as spec
 use Rattle.dict_index.specs.Edition.{Edition}
 use Rattle.dict_index.specs.WellFormed.{IsWellFormedEdition}
 use Rattle.dict_catalogue.specs.Items.{Stored, Item, regular, virtual, name_of, members_of, numbers_of, edition_numbers, is_known, item_as}

@@ -4,7 +4,7 @@ use Rattle.std.specs.Prelude.{ℤ, pos, map, bytes_eq, ◌==◌, IsTrue}
 use Rattle.std.specs.List.{AllByRecursion, list_any}
 use Rattle.std.proofs.lemmas.Bool.{false≢true, and_parts, and_from}
 use Rattle.std.proofs.lemmas.List.Folds.{list_any-append}
-use Rattle.store_records.specs.Records as spec
+use Rattle.store_tables.specs.Records as spec
 use Rattle.dict_index.specs.Edition.{Edition}
 use Rattle.dict_index.specs.WellFormed.{IsWellFormedEdition}
 use Rattle.dict_catalogue.specs.Items.{Stored, Item, regular, virtual, name_of, numbers_of, edition_numbers}

@@ -2,10 +2,10 @@
 use Rattle.std.proofs.Common.{◌≡◌, ℕ, suc, pos, ◌+◌, ◌<◌, true, false, List, [], ◌∷◌, ◌++◌, length, take, drop, get_or, ap, sym, ◌∙◌, append-nil}
 use Rattle.std.specs.Prelude.{string_bytes, bytes_eq, String}
 use Rattle.std.specs.declared.alloc.Global.{Global}
-use Rattle.store_records.specs.Records as spec
-use Rattle.store_records.specs.Typed.{owned_member}
-use Rattle.store_records.specs.declared.records.Member.{Member}
-use Rattle.store_records.specs.declared.records.StoredRow.{StoredRow as Row}
+use Rattle.store_tables.specs.Records as spec
+use Rattle.store_tables.specs.Typed.{owned_member}
+use Rattle.store_tables.specs.declared.records.Member.{Member}
+use Rattle.store_tables.specs.declared.records.StoredRow.{StoredRow as Row}
 use Rattle.store_rows.specs.Tables.{members_of_owner}
 use Rattle.store_rows.specs.Written.{numbered, member_record}
 use Rattle.store_rows.specs.Given.{members_given, OnDamage}

@@ -3,10 +3,10 @@ use Rattle.std.proofs.Common.{◌≡◌, ℕ, suc, pos, ◌+◌, ◌<◌, List, 
 use Rattle.std.specs.Prelude.{option_map, String}
 use Rattle.std.specs.declared.alloc.Global.{Global}
 use Rattle.std.proofs.lemmas.List.{length-map}
-use Rattle.store_records.specs.Records as spec
-use Rattle.store_records.specs.Typed.{owned_item}
-use Rattle.store_records.specs.declared.records.ItemRecord.{ItemRecord as ItemRow}
-use Rattle.store_records.specs.declared.records.StoredRow.{StoredRow as Row}
+use Rattle.store_tables.specs.Records as spec
+use Rattle.store_tables.specs.Typed.{owned_item}
+use Rattle.store_tables.specs.declared.records.ItemRecord.{ItemRecord as ItemRow}
+use Rattle.store_tables.specs.declared.records.StoredRow.{StoredRow as Row}
 use Rattle.dict_index.specs.Edition.{Edition}
 use Rattle.dict_text.proofs.AllLemmas.{all_push}
 use Rattle.dict_catalogue.specs.Items.{Stored, Item, regular, virtual}

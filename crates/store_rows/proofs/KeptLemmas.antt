@@ -3,7 +3,7 @@ use Rattle.std.proofs.Common.{◌≡◌, ℕ, suc, ◌+◌, ◌≤◌, ◌<◌, 
 use Rattle.std.specs.Prelude.{map, cond}
 use Rattle.std.specs.List.{AllByRecursion}
 use Rattle.std.proofs.lemmas.List.{length-append, length-map, map-append}
-use Rattle.store_records.specs.Records as spec
+use Rattle.store_tables.specs.Records as spec
 use Rattle.dict_text.proofs.AllLemmas.{all_push}
 use Rattle.dict_catalogue.specs.Steps.{KeptFor}
 use Rattle.dict_catalogue.specs.WellFormed.{is_install, IsLawfulReply, IsNumberedFrom}

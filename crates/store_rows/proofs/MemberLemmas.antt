@@ -5,7 +5,7 @@ use Rattle.std.specs.List.{AllByRecursion}
 use Rattle.std.proofs.lemmas.Bool.{false≢true, and_parts, not-true}
 use Rattle.std.proofs.lemmas.List.Elements.{filter-append}
 use Rattle.dict_text.proofs.AllLemmas.{all_weaker, all_flat_map}
-use Rattle.store_records.specs.Records as spec
+use Rattle.store_tables.specs.Records as spec
 use Rattle.dict_catalogue.specs.Items.{Stored, Item, regular, virtual, name_of, members_of, is_named, is_known, item_as, stored_as}
 use Rattle.dict_catalogue.proofs.ListLemmas.{none_passes}
 use Rattle.dict_catalogue.proofs.ItemLemmas.{same_text, text_itself}

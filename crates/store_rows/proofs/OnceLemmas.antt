@@ -3,7 +3,7 @@ use Rattle.std.proofs.Common.{◌≡◌, ℕ, ◌+◌, ◌*◌, false, List, [],
 use Rattle.std.proofs.lemmas.Bool.{false≢true}
 use Rattle.std.specs.Prelude.{pos, map, option_map}
 use Rattle.std.specs.List.{AllByRecursion}
-use Rattle.store_records.specs.Records.{Mark, ItemRecord, Member, EditionRecord, EntryRecord, KeptRecord}
+use Rattle.store_tables.specs.Records.{Mark, ItemRecord, Member, EditionRecord, EntryRecord, KeptRecord}
 use Rattle.dict_index.specs.Line.{Line}
 use Rattle.dict_index.specs.Edition.{Edition, ReadEdition, edition_of}
 use Rattle.dict_catalogue.specs.Items.{Stored, Item, regular, virtual, editions_of}

@@ -3,10 +3,10 @@ use Rattle.std.proofs.Common.{◌≡◌, ℕ, ◌+◌, ◌≤◌, true, List, []
 use Rattle.std.specs.Prelude.{pos, option_map, is_some, String}
 use Rattle.std.specs.declared.alloc.Global.{Global}
 use Rattle.dict_text.specs.Names.{is_name, is_request_id}
-use Rattle.store_records.specs.Records as spec
-use Rattle.store_records.specs.Typed.{owned_mark}
-use Rattle.store_records.specs.declared.records.Mark.{Mark}
-use Rattle.store_records.specs.declared.records.StoredRow.{StoredRow as Row}
+use Rattle.store_tables.specs.Records as spec
+use Rattle.store_tables.specs.Typed.{owned_mark}
+use Rattle.store_tables.specs.declared.records.Mark.{Mark}
+use Rattle.store_tables.specs.declared.records.StoredRow.{StoredRow as Row}
 use Rattle.dict_index.specs.Line.{Line}
 use Rattle.dict_index.specs.WellFormed.{IsEntryHeadword, IsEntryShown, IsEditionText}
 use Rattle.dict_catalogue.specs.WellFormed.{tells_edition}

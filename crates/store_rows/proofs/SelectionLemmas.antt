@@ -5,7 +5,7 @@ use Rattle.std.specs.List.{AllByRecursion}
 use Rattle.std.proofs.lemmas.Bool.{false≢true}
 use Rattle.std.proofs.lemmas.List.Folds.{list_any-append}
 use Rattle.std.proofs.lemmas.List.Sorted.{IsPermutation-filter_both, IsPermutation-append, IsPermutation-trans}
-use Rattle.store_records.specs.Records as spec
+use Rattle.store_tables.specs.Records as spec
 use Rattle.store_rows.specs.Tables.{same_number, editions_numbered, entries_of}
 use Rattle.store_rows.specs.Order.{is_of, editions_of_numbers, entries_of_numbers}
 use Rattle.store_rows.proofs.TakenLemmas.{same_number_is}

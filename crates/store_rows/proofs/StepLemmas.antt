@@ -5,7 +5,7 @@ use Rattle.std.specs.List.{AllByRecursion, list_any}
 use Rattle.std.proofs.lemmas.Bool.{false≢true, and_parts}
 use Rattle.std.proofs.lemmas.Grind.{flat_map-append}
 use Rattle.dict_text.specs.Names.{is_title}
-use Rattle.store_records.specs.Records as spec
+use Rattle.store_tables.specs.Records as spec
 use Rattle.dict_index.specs.Edition.{Edition}
 use Rattle.dict_index.specs.WellFormed.{IsEditionText}
 use Rattle.dict_catalogue.specs.Items.{Item, regular, virtual, numbers_of, edition_numbers, is_known}

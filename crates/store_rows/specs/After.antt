@@ -1,7 +1,7 @@
 -- Which records the tables hold after a command, from those before.
 use Rattle.std.specs.Prelude.{◌≡◌, ℕ, pos, ◌+◌, ◌<◌, ◌^◌, length, ℤ, Bool, not, List, [], ◌∷◌, ◌++◌, filter, flat_map, Option, Some, None}
 use Rattle.std.specs.List.{AllByRecursion, list_any}
-use Rattle.store_records.specs.Records.{Member, EditionRecord, EntryRecord}
+use Rattle.store_tables.specs.Records.{Member, EditionRecord, EntryRecord}
 use Rattle.dict_index.specs.Edition.{Edition, ReadEdition, edition_of}
 use Rattle.dict_catalogue.specs.Items.{Item, name_of, members_of}
 use Rattle.dict_catalogue.specs.Commands.{Command, install, rollback, retire, put_virtual, place}

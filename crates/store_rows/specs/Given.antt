@@ -2,14 +2,14 @@
 use Rattle.std.specs.Prelude.{◌≡◌, ℕ, List, [], Option, map, String}
 use Rattle.std.specs.List.{AllByRecursion}
 use Rattle.std.specs.declared.alloc.Global.{Global}
-use Rattle.store_records.specs.Records as spec
-use Rattle.store_records.specs.Typed.{owned_mark, owned_item, owned_member, owned_entry, owned_kept}
-use Rattle.store_records.specs.declared.records.Mark.{Mark}
-use Rattle.store_records.specs.declared.records.ItemRecord.{ItemRecord as ItemRow}
-use Rattle.store_records.specs.declared.records.Member.{Member}
-use Rattle.store_records.specs.declared.records.EntryRecord.{EntryRecord}
-use Rattle.store_records.specs.declared.records.KeptRecord.{KeptRecord}
-use Rattle.store_records.specs.declared.records.StoredRow.{StoredRow as Row}
+use Rattle.store_tables.specs.Records as spec
+use Rattle.store_tables.specs.Typed.{owned_mark, owned_item, owned_member, owned_entry, owned_kept}
+use Rattle.store_tables.specs.declared.records.Mark.{Mark}
+use Rattle.store_tables.specs.declared.records.ItemRecord.{ItemRecord as ItemRow}
+use Rattle.store_tables.specs.declared.records.Member.{Member}
+use Rattle.store_tables.specs.declared.records.EntryRecord.{EntryRecord}
+use Rattle.store_tables.specs.declared.records.KeptRecord.{KeptRecord}
+use Rattle.store_tables.specs.declared.records.StoredRow.{StoredRow as Row}
 use Rattle.dict_index.specs.Line.{Line}
 use Rattle.dict_index.specs.Edition.{Edition, entry_in}
 use Rattle.dict_index.specs.WellFormed.{IsWellFormedEntry}

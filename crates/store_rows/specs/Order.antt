@@ -1,7 +1,7 @@
 -- The same records in another order, and records in the order of their keys.
 use Rattle.std.specs.Prelude.{◌≡◌, ◌≤ℤ◌, ℤ, Bool, List, [], ◌∷◌, filter, IsPermutation}
 use Rattle.std.specs.List.{AllByRecursion, list_any}
-use Rattle.store_records.specs.Records.{EditionRecord, EntryRecord}
+use Rattle.store_tables.specs.Records.{EditionRecord, EntryRecord}
 use Rattle.store_rows.specs.Tables.{Tables, same_number}
 
 -- each element has the relation to each later one

@@ -1,7 +1,7 @@
 -- Which catalogue the tables stand for.
 use Rattle.std.specs.Prelude.{◌≡◌, ℕ, pos, ◌+◌, ◌≤◌, ◌<◌, ◌^◌, ℤ, Bool, IsTrue, List, [], ◌∷◌, length, map}
 use Rattle.std.specs.List.{AllByRecursion, list_any}
-use Rattle.store_records.specs.Records.{Member}
+use Rattle.store_tables.specs.Records.{Member}
 use Rattle.dict_index.specs.Line.{Line}
 use Rattle.dict_index.specs.Edition.{Edition, ReadEdition, edition_of}
 use Rattle.dict_catalogue.specs.Items.{Stored, Item, name_of, members_of, editions_of, is_known, edition_numbers}

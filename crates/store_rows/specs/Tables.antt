@@ -1,6 +1,6 @@
 -- The records of the six tables of schema 1.
 use Rattle.std.specs.Prelude.{ℕ, pos, negsuc, ℤ, Bool, false, ◌==◌, List, filter, bytes_eq}
-use Rattle.store_records.specs.Records.{Mark, ItemRecord, Member, EditionRecord, EntryRecord, KeptRecord}
+use Rattle.store_tables.specs.Records.{Mark, ItemRecord, Member, EditionRecord, EntryRecord, KeptRecord}
 
 pub record Tables : Type 0 where
   pub marks : List Mark

@@ -1,7 +1,7 @@
 -- Records that are taken together.
 use Rattle.std.specs.Prelude.{List, ◌++◌}
 use Rattle.std.specs.List.{AllByRecursion}
-use Rattle.store_records.specs.Records as spec
+use Rattle.store_tables.specs.Records as spec
 use Rattle.store_rows.specs.Tables.{Tables}
 use Rattle.store_rows.specs.Taken.{IsOfLast}
 

@@ -1,6 +1,6 @@
 -- Which records the parts of a catalogue are written as.
 use Rattle.std.specs.Prelude.{ℕ, pos, ◌+◌, List, [], ◌∷◌, codes, Some, None, option_map}
-use Rattle.store_records.specs.Records.{Mark, ItemRecord, Member, EditionRecord, EntryRecord, KeptRecord}
+use Rattle.store_tables.specs.Records.{Mark, ItemRecord, Member, EditionRecord, EntryRecord, KeptRecord}
 use Rattle.dict_index.specs.Line.{Line}
 use Rattle.dict_index.specs.Edition.{ReadEdition}
 use Rattle.dict_catalogue.specs.Items.{Item, regular, virtual}

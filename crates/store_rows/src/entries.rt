@@ -1,14 +1,14 @@
 // The record of an entry.
 ghost use Rattle.std.specs.Prelude.{◌<◌, length, OnOk, IfErr};
-ghost use Rattle.store_records.specs.Records.{shown_as};
-ghost use Rattle.store_records.specs.Typed.{owned_entry};
+ghost use Rattle.store_tables.specs.Records.{shown_as};
+ghost use Rattle.store_tables.specs.Typed.{owned_entry};
 ghost use Rattle.store_rows.specs.Given.{OnDamage, IsEntry, IsNoEntry, IsLawfulLine, line_with};
 
 use crate::fault::RowsFault;
 use crate::items::{is_number, number_of};
 use dict_index::{cut_out, entry_key, is_edition_text, is_shown};
 use std::alloc::Global;
-use store_records::EntryRecord;
+use store_tables::EntryRecord;
 
 /// Whether a line's interval lies within the text, and its headword, what is shown and its body are lawful. Else it is `Damaged`.
 pub(crate) fn test_line(

@@ -1,6 +1,6 @@
 // The items that the records of two tables tell, with no title of an edition yet.
 ghost use Rattle.std.specs.Prelude.{◌≡◌, ◌≢◌, ◌≤◌, ◌↔◌, ◌++◌, ◌∷◌, [], ℕ, pos, List, Option, IfOk, IfErr, IfSome, IfNone, OnOk, IsTrue, map, option_map, string_bytes, length};
-ghost use Rattle.store_records.specs.Typed.{owned_item};
+ghost use Rattle.store_tables.specs.Typed.{owned_item};
 ghost use Rattle.dict_catalogue.specs.Items.{members_of};
 ghost use Rattle.dict_catalogue.specs.Views.{item_shown, stored_shown, texts_shown};
 ghost use Rattle.store_rows.specs.Tables.{members_of_owner};
@@ -10,7 +10,7 @@ ghost use Rattle.store_rows.specs.Given.{items_given, members_given, OnDamage, I
 use crate::fault::RowsFault;
 use dict_catalogue::{Item, StoredTitle};
 use std::alloc::Global;
-use store_records::{ItemRecord as ItemRow, Member, StoredRow};
+use store_tables::{ItemRecord as ItemRow, Member, StoredRow};
 
 /// The number that stands in a column, where it isn't below 0.
 pub fn number_in(found: &i64) -> Option<u64>

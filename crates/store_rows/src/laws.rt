@@ -1,7 +1,7 @@
 // What holds of all tables.
 ghost use Rattle.std.specs.Prelude.{◌≡◌, ◌≤ℤ◌, ◌++◌, ◌∷◌, [], ℕ, ℤ, Bool, List, None, false, IsTrue, IsPermutation};
 ghost use Rattle.std.specs.List.{AllByRecursion};
-ghost use Rattle.store_records.specs.Records.{EditionRecord, EntryRecord};
+ghost use Rattle.store_tables.specs.Records.{EditionRecord, EntryRecord};
 ghost use Rattle.dict_index.specs.Edition.{Edition as AnEdition};
 ghost use Rattle.dict_text.specs.Names.{is_request_id};
 ghost use Rattle.dict_catalogue.specs.Commands.{Command};

@@ -3,14 +3,14 @@ ghost use Rattle.std.specs.Prelude.{◌≡◌, ◌≢◌, ◌≤◌, ℕ, [], �
 ghost use Rattle.std.specs.List.{list_all};
 ghost use Rattle.dict_catalogue.specs.Items.{is_known};
 ghost use Rattle.dict_catalogue.specs.Views.{item_shown};
-ghost use Rattle.store_records.specs.Typed.{owned_mark};
+ghost use Rattle.store_tables.specs.Typed.{owned_mark};
 ghost use Rattle.store_rows.specs.Written.{mark_record};
 ghost use Rattle.store_rows.specs.Given.{marks_given, members_given, OnDamage};
 
 use crate::fault::RowsFault;
 use crate::items::{is_number, number_of};
 use dict_catalogue::{Item, is_known};
-use store_records::{Mark, Member, StoredRow};
+use store_tables::{Mark, Member, StoredRow};
 
 /// The count of installs that a mark of this schema tells.
 fn installs_in(version: u64, mark: &Mark<String>) -> Result<u64, RowsFault>

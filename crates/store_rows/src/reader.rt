@@ -1,8 +1,8 @@
 // A reader of the records of the tables, one after another.
 ghost use Rattle.std.specs.Prelude.{◌≡◌, ◌≤◌, ◌<◌, ◌+◌, ◌⊎◌, ℕ, pos, IfOk, IfErr, OnOk, OnErr, IfSome, IsSome, map};
 ghost use Rattle.dict_index.specs.Limits.{most_entries};
-ghost use Rattle.store_records.specs.Records.{shown_as};
-ghost use Rattle.store_records.specs.Typed.{owned_edition, owned_entry, owned_kept};
+ghost use Rattle.store_tables.specs.Records.{shown_as};
+ghost use Rattle.store_tables.specs.Typed.{owned_edition, owned_entry, owned_kept};
 ghost use Rattle.store_rows.specs.Tables.{Tables};
 ghost use Rattle.std.specs.List.{AllByRecursion};
 ghost use Rattle.store_rows.specs.Given.{marks_given, items_given, members_given, OnDamage, IsEntry, IsNoEntry, IsLawfulLine, line_with};
@@ -21,7 +21,7 @@ use dict_catalogue::{Item, MAX_ACCEPTED, Summary, edition_numbers};
 use dict_index::{MAX_LINES, is_edition_text};
 use dict_text::is_title;
 use std::alloc::Global;
-use store_records::{
+use store_tables::{
     EditionRecord, EntryRecord, ItemRecord as ItemRow, KeptRecord, Mark, Member, StoredRow,
 };
 

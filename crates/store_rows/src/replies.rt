@@ -2,7 +2,7 @@
 ghost use Rattle.std.specs.Prelude.{◌≡◌, ◌≢◌, IfOk, IfSome, IfNone, OnErr};
 ghost use Rattle.dict_catalogue.specs.WellFormed.{is_install, tells_edition};
 ghost use Rattle.dict_catalogue.specs.declared.reply.Verb.{Verb as AVerb};
-ghost use Rattle.store_records.specs.Typed.{owned_kept};
+ghost use Rattle.store_tables.specs.Typed.{owned_kept};
 ghost use Rattle.store_rows.specs.Written.{verb_name};
 ghost use Rattle.store_rows.specs.Given.{IsReply, IsNoReply};
 
@@ -10,7 +10,7 @@ use crate::fault::RowsFault;
 use crate::items::{is_number, number_if};
 use dict_catalogue::Verb;
 use dict_text::{is_name, is_request_id};
-use store_records::KeptRecord;
+use store_tables::KeptRecord;
 
 /// What a command did, by the word for it, where it is one.
 pub fn verb_in(word: &str) -> Option<Verb>

@@ -1,13 +1,13 @@
 // The records that the parts of a catalogue are written as.
 ghost use Rattle.std.specs.Prelude.{◌≡◌, ◌≤◌, IfSome};
 ghost use Rattle.std.specs.List.{AllByRecursion};
-ghost use Rattle.store_records.specs.Typed.{lent_mark, lent_item, lent_member, lent_kept};
+ghost use Rattle.store_tables.specs.Typed.{lent_mark, lent_item, lent_member, lent_kept};
 ghost use Rattle.dict_catalogue.specs.Items.{numbers_of};
 ghost use Rattle.dict_catalogue.specs.Views.{item_shown, kept_shown};
 ghost use Rattle.store_rows.specs.Written.{mark_record, item_record, member_record, kept_record, verb_name};
 
 use dict_catalogue::{Item, Kept as Reply, Verb};
-use store_records::{ItemRecord as ItemRow, KeptRecord, Mark, Member};
+use store_tables::{ItemRecord as ItemRow, KeptRecord, Mark, Member};
 
 /// The version of the tables that is written, and the greatest that is opened.
 pub const KNOWN_VERSION: u64 = 6;

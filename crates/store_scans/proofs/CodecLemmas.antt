@@ -9,10 +9,10 @@ use Rattle.sqlite_trees.proofs.ListLemmas.{IsPermutation-filter}
 use Rattle.sqlite.specs.Effect.{Database}
 use Rattle.sqlite.specs.Order.{Row}
 use Rattle.dict_text.proofs.AllLemmas.{all_filter}
-use Rattle.store_records.specs.Records as spec
-use Rattle.store_records.specs.Typed.{owned_mark, owned_item, owned_member, owned_edition, owned_header, owned_kept}
-use Rattle.store_records.specs.declared.records as typed
-use Rattle.store_records.specs.declared.records.StoredRow.{StoredRow}
+use Rattle.store_tables.specs.Records as spec
+use Rattle.store_tables.specs.Typed.{owned_mark, owned_item, owned_member, owned_edition, owned_header, owned_kept}
+use Rattle.store_tables.specs.declared.records as typed
+use Rattle.store_tables.specs.declared.records.StoredRow.{StoredRow}
 use Rattle.store_sql.specs.Effects.{rows_of}
 use Rattle.store_sql.specs.Encodings.{mark_row, item_row, member_row, edition_row, kept_row, stored_mark, stored_item, stored_member, stored_edition, stored_kept}
 use Rattle.store_sql.specs.Reads.{by_columns}

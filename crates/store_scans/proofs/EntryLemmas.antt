@@ -4,8 +4,8 @@ use Rattle.std.specs.List.{AllByRecursion, Contains}
 use Rattle.sqlite.specs.Effect.{Database, IsDatabase}
 use Rattle.sqlite.specs.Order.{Row}
 use Rattle.dict_text.proofs.AllLemmas.{all_filter}
-use Rattle.store_records.specs.Records.{EntryRecord, ShowsHeadword}
-use Rattle.store_records.specs.Typed.{owned_entry}
+use Rattle.store_tables.specs.Records.{EntryRecord, ShowsHeadword}
+use Rattle.store_tables.specs.Typed.{owned_entry}
 use Rattle.store_tables.specs.Keyed.{entry_with_keys as keyed_entry, old_entry}
 use Rattle.store_sql.specs.Columns.{Content, HasColumns, entry_columns}
 use Rattle.store_sql.specs.Effects.{Has, rows_of, equals_number}

@@ -5,7 +5,7 @@ use Rattle.std.specs.List.{AllByRecursion}
 use Rattle.std.proofs.lemmas.List.{map-append, length-append}
 use Rattle.std.proofs.lemmas.List.Elements.{filter-append}
 use Rattle.dict_text.proofs.AllLemmas.{all_append}
-use Rattle.store_records.specs.Records.{EntryRecord}
+use Rattle.store_tables.specs.Records.{EntryRecord}
 use Rattle.dict_index.specs.Line.{Line}
 use Rattle.store_rows.specs.Stored.{IsStorable, stored_index, stored_line}
 use Rattle.store_rows.specs.Tables.{Tables, same_number, entries_of}

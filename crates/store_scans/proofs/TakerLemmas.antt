@@ -6,8 +6,8 @@ use Rattle.std.specs.Prelude.{string_bytes}
 use Rattle.sqlite.specs.Order.{Row, column}
 use Rattle.sqlite.specs.declared.types.Value.TheVariants.{Int}
 use Rattle.dict_text.proofs.AllLemmas.{all_append_parts}
-use Rattle.store_records.specs.Records as spec
-use Rattle.store_records.specs.Typed.{owned_kept}
+use Rattle.store_tables.specs.Records as spec
+use Rattle.store_tables.specs.Typed.{owned_kept}
 use Rattle.dict_catalogue.specs.WellFormed.{IsEachOnce}
 use Rattle.store_rows.specs.Tables.{Tables}
 use Rattle.store_rows.specs.Given.{OnDamage, kept_given}

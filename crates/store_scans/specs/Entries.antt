@@ -3,7 +3,7 @@ use Rattle.std.specs.Prelude.{◌≡◌, ◌⊎◌, ℕ, ℤ, pos, List, [], ◌
 use Rattle.std.specs.List.{AllByRecursion, Contains}
 use Rattle.sqlite.specs.Order.{Row}
 use Rattle.sqlite.specs.Effect.{Database}
-use Rattle.store_records.specs.Records.{EditionRecord, EntryRecord}
+use Rattle.store_tables.specs.Records.{EditionRecord, EntryRecord}
 use Rattle.dict_index.specs.Line.{Line}
 use Rattle.store_sql.specs.Columns.{HasColumns}
 use Rattle.store_sql.specs.Effects.{rows_of, equals_number}

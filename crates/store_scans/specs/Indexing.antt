@@ -1,6 +1,6 @@
 -- What an index has of the entries of the tables.
 use Rattle.dict_match.specs.Key.{key_of}
-use Rattle.store_records.specs.Records.{EntryRecord}
+use Rattle.store_tables.specs.Records.{EntryRecord}
 use Rattle.store_search.specs.Entries.{Indexed}
 use Rattle.store_holdings.specs.Files.{natural}
 

@@ -2,11 +2,11 @@
 use Rattle.std.specs.Prelude.{◌≡◌, ℕ, List, ◌++◌, map, String, Vec}
 use Rattle.std.specs.declared.alloc.Global.{Global}
 use Rattle.dict_index.specs.Line.{Line}
-use Rattle.store_records.specs.Records.{EntryRecord}
-use Rattle.store_records.specs.Keyed.{KeyedEntry, owned_keyed_entry, owned_old_entry, plain_entry}
-use Rattle.store_records.specs.declared.keyed as typed
-use Rattle.store_records.specs.declared.records as plain_typed
-use Rattle.store_records.specs.declared.records.StoredRow.{StoredRow}
+use Rattle.store_tables.specs.Records.{EntryRecord}
+use Rattle.store_tables.specs.KeyedRecords.{KeyedEntry, owned_keyed_entry, owned_old_entry, plain_entry}
+use Rattle.store_tables.specs.declared.keyed_records as typed
+use Rattle.store_tables.specs.declared.records as plain_typed
+use Rattle.store_tables.specs.declared.records.StoredRow.{StoredRow}
 use Rattle.store_rows.specs.Given.{entries_given}
 use Rattle.store_search.specs.Entries.{entry_of}
 use Rattle.store_scans.specs.Entries.{AreTaken, AreNotTaken, AreLinesTaken}

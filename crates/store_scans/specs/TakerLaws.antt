@@ -4,7 +4,7 @@ use Rattle.sqlite.specs.Order.{Row}
 use Rattle.store_rows.specs.Parts.{parts_of}
 use Rattle.store_rows.specs.Apart.{HasTakenIds, HasTakenRowids}
 use Rattle.store_rows.specs.Taken.{HasTaken}
-use Rattle.store_records.specs.Records as spec
+use Rattle.store_tables.specs.Records as spec
 use Rattle.store_rows.specs.declared.reader.Reader.{Reader}
 use Rattle.store_rows.specs.declared.apart.IdReader.{IdReader}
 use Rattle.store_rows.specs.declared.apart.RowidReader.{RowidReader}

@@ -8,8 +8,8 @@ use Rattle.store_sql.specs.Encodings.{stored_kept}
 use Rattle.store_scans.specs.Cursors.{IsScannedToEnd, IsFrontOfScan}
 use Rattle.store_scans.specs.Cursors.Cursor.{InStore}
 use Rattle.store_sql.specs.Streams.Scan.{KeptById}
-use Rattle.store_records.specs.declared.records as typed
-use Rattle.store_records.specs.declared.records.StoredRow.{StoredRow}
+use Rattle.store_tables.specs.declared.records as typed
+use Rattle.store_tables.specs.declared.records.StoredRow.{StoredRow}
 use Rattle.dict_catalogue.specs.WellFormed.{IsEachOnce}
 use Rattle.store_rows.specs.Tables.{Tables}
 use Rattle.store_rows.specs.Given.{kept_given}

@@ -26,11 +26,10 @@ use sqlite::{Alter, Connection};
 use std::alloc::Global;
 use store_edition_sql::{StoredHeader, StoredPart};
 use store_older_sql::{read_old_by_rowid, read_shown_by_rowid};
-use store_records::{EntryRecord, KeyedEntry, OldEntry, StoredRow};
 use store_rows::{RowidReader, RowsFault, number_in};
 use store_sql::records::{EditionNumber, Record};
 use store_sql::stream::read_by_rowid;
-use store_tables::StoreTable;
+use store_tables::{EntryRecord, KeyedEntry, OldEntry, StoreTable, StoredRow};
 
 /// A table of the entries of editions, as schema 1 has it, as schemas 2 and 3 do, and as the fourth does.
 #[derive(Clone, Copy, Debug, PartialEq, Eq)]

@@ -21,10 +21,10 @@ use sqlite::{Alter, Connection};
 use std::alloc::Global;
 use std::mem::replace;
 use store_edition_sql::{StoredHeader, StoredPart, read_headers_by_rowid, read_parts_by_rowid};
-use store_records::StoredRow;
 use store_rows::RowidReader;
 use store_sql::records::EditionNumber;
 use store_sql::stream::read_edition_numbers;
+use store_tables::StoredRow;
 
 /// Tests that no two editions have one rowid, and that each has one of these numbers. Their texts aren't read.
 ///

@@ -5,7 +5,7 @@ ghost use Rattle.sqlite.specs.Held.{state};
 ghost use Rattle.store_tables.specs.Tables.{entry};
 ghost use Rattle.store_tables.specs.Keyed.{entry_with_keys as keyed_entry, old_entry};
 ghost use Rattle.store_edition_sql.specs.PartTable.{part};
-ghost use Rattle.store_records.specs.Records.{EntryRecord as AnEntry};
+ghost use Rattle.store_tables.specs.Records.{EntryRecord as AnEntry};
 ghost use Rattle.store_sql.specs.Effects.{Has, WhileOpen};
 ghost use Rattle.store_rows.specs.Versions.{Plain, Keyed, Shown, Parted};
 ghost use Rattle.store_scans.specs.Reading.{Same, OnlyReads, IsExcusedReading};
@@ -20,8 +20,8 @@ use crate::scan::take_all;
 use sqlite::{Alter, Connection};
 use std::alloc::Global;
 use store_older_sql::{read_old_rows_of, read_shown_rows_of};
-use store_records::{EntryRecord, KeyedEntry, OldEntry, StoredRow};
 use store_sql::stream::read_entries_of;
+use store_tables::{EntryRecord, KeyedEntry, OldEntry, StoredRow};
 
 /// Takes the entries of the edition that was taken last, which has this number, from tables without keys, and adds them to the index.
 pub fn read_plain_entries<S: Alter>(

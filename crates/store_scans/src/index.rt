@@ -3,7 +3,7 @@ ghost use Rattle.std.specs.Prelude.{◌≡◌, ◌++◌, ℕ, pos, List, map, If
 ghost use Rattle.std.specs.List.{AllByRecursion};
 ghost use Rattle.dict_index.specs.Line.{Line};
 ghost use Rattle.store_rows.specs.Stored.{IsStorable, stored_index};
-ghost use Rattle.store_records.specs.Records.{EntryRecord as AnEntry};
+ghost use Rattle.store_tables.specs.Records.{EntryRecord as AnEntry};
 ghost use Rattle.store_scans.specs.Entries.{AreNextTaken, IsStoredIndexOf, IsWrongIndex};
 ghost use Rattle.store_scans.specs.IndexingReader.{AreLinesAdded};
 ghost use Rattle.store_scans.specs.Indexing.{indexed_of};

@@ -1,8 +1,8 @@
 // The index of an edition, as its entries are taken.
 ghost use Rattle.std.specs.Prelude.{◌≡◌, ◌++◌, ◌∷◌, [], IfErr, OnOk};
 ghost use Rattle.dict_match.specs.Key.{key_of};
-ghost use Rattle.store_records.specs.Records.{shown_as};
-ghost use Rattle.store_records.specs.Typed.{owned_entry};
+ghost use Rattle.store_tables.specs.Records.{shown_as};
+ghost use Rattle.store_tables.specs.Typed.{owned_entry};
 ghost use Rattle.store_rows.specs.Views.{columns_line};
 ghost use Rattle.store_search.specs.Entries.{entry_of};
 ghost use Rattle.store_holdings.specs.Files.{natural};
@@ -11,9 +11,9 @@ ghost use Rattle.store_scans.specs.Indexing.{indexed_of};
 use dict_index::MAX_LINES;
 use std::alloc::Global;
 use std::marker::Model;
-use store_records::EntryRecord;
 use store_rows::{RowsFault, StoredColumns};
 use store_search::{IndexBuilder, IndexMaking};
+use store_tables::EntryRecord;
 
 /// The index of those entries of an edition that were taken so far. It has no more of them than an index of a dictionary has lines.
 #[derive(Drop)]

@@ -1,8 +1,8 @@
 // The entries of an edition, as they are taken.
 ghost use Rattle.std.specs.Prelude.{◌≡◌, ◌∷◌, [], IfErr, OnOk, string_bytes};
-ghost use Rattle.store_records.specs.Keyed.{owned_keyed_entry, owned_old_entry, plain_entry};
-ghost use Rattle.store_records.specs.Records.{shown_as};
-ghost use Rattle.store_records.specs.Typed.{owned_entry};
+ghost use Rattle.store_tables.specs.KeyedRecords.{owned_keyed_entry, owned_old_entry, plain_entry};
+ghost use Rattle.store_tables.specs.Records.{shown_as};
+ghost use Rattle.store_tables.specs.Typed.{owned_entry};
 ghost use Rattle.store_rows.specs.Views.{columns_line};
 ghost use Rattle.store_scans.specs.Entries.{AreNotTaken, AreNoLines};
 ghost use Rattle.store_scans.specs.IndexingReader.{entry_without_keys, takes_plain, refuses_plain, takes_old, refuses_old, takes_shown, refuses_shown};
@@ -11,8 +11,8 @@ ghost use Rattle.store_scans.specs.TakerLaws.{no_plain, no_old, no_shown};
 use crate::indexing::EditionIndex;
 use crate::scan::Taker;
 use std::alloc::Global;
-use store_records::{EntryRecord, KeyedEntry, OldEntry, StoredRow};
 use store_rows::{Reader, RowsFault, StoredColumns};
+use store_tables::{EntryRecord, KeyedEntry, OldEntry, StoredRow};
 
 /// A reader of the records of the tables, beside the index of the entries that it has taken.
 #[derive(Drop)]

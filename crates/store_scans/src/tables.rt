@@ -16,11 +16,10 @@ use crate::fault::{ReadingFault, fault_of_store};
 use crate::scan::take_all;
 use sqlite::{Alter, Connection};
 use std::alloc::Global;
-use store_records::{KeptRecord, StoredRow};
 use store_rows::{IdReader, Reader, RowidReader};
 use store_sql::records::Record;
 use store_sql::stream::{read_by_rowid, read_kept_by_id, read_kept_replies};
-use store_tables::StoreTable;
+use store_tables::{KeptRecord, StoreTable, StoredRow};
 
 /// Takes the kept replies, in the order of their numbers.
 pub fn read_replies<S: Alter>(

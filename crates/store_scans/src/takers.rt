@@ -4,9 +4,9 @@ ghost use Rattle.store_scans.specs.TakerLaws.{no_rowids, no_replies, no_ids};
 
 use crate::scan::Taker;
 use std::alloc::Global;
-use store_records::{KeptRecord, StoredRow};
 use store_rows::{IdReader, Reader, RowidReader, RowsFault};
 use store_sql::records::Record;
+use store_tables::{KeptRecord, StoredRow};
 
 /// The rowids of a table, which come in their order, are to be apart.
 impl<R: Record + Drop> Taker<R> for RowidReader {

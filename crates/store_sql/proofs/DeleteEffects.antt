@@ -1,7 +1,8 @@
 -- What a DELETE does to the rows of a table.
-use Rattle.std.proofs.Common.{◌≡◌, ◌≢◌, ◌==◌, ℕ, ℤ, List, [], ◌∷◌, map, filter, find, Bool, true, false, not, Option, Some, None, Ok, option_and_then, option_map, inl, inr, refl, sym, ap, subst, ◌∙◌}
+use Rattle.std.proofs.Common.{◌≡◌, ◌≢◌, ◌==◌, ℕ, ℤ, List, [], ◌∷◌, map, filter, find, length, Bool, true, false, not, Option, Some, None, Ok, unwrap_or, option_and_then, option_map, inl, inr, refl, sym, ap, subst, ◌∙◌}
 use Rattle.std.proofs.lemmas.Bool.{cases_Bool}
-use Rattle.std.proofs.lemmas.List.Sorted.{IsPermutation-map}
+use Rattle.std.proofs.lemmas.List.{length-map}
+use Rattle.std.proofs.lemmas.List.Sorted.{IsPermutation-map, length_permutation}
 use Rattle.std.specs.List.{AllByRecursion, IsDistinct, flat_map, filter_map}
 use Rattle.std.specs.List.Sorted.{IsPermutation}
 use Rattle.sqlite.specs.declared.types.Value.TheVariants.{Null, Int}
@@ -30,7 +31,7 @@ use Rattle.sqlite_schema.specs.declared.schema.Reference.{Reference}
 use Rattle.sqlite_schema.specs.declared.program.Program.{Program}
 use Rattle.sqlite_value.specs.declared.keys.Order.{Order}
 use Rattle.store_tables.specs.Found.{HasTable, is_in}
-use Rattle.store_sql.specs.Effects.{HasApartRowids, IsRemoved, SameOthers, rows_of, table_in, shown, same_value}
+use Rattle.store_sql.specs.Effects.{HasApartRowids, IsRemoved, SameOthers, count_in, rows_of, table_in, shown, same_value}
 use Rattle.store_sql.proofs.InsertLemmas.{went, same_value as same_ok, same_some}
 use Rattle.store_sql.proofs.DeleteLemmas.{doomed}
 use Rattle.store_sql.proofs.ListLemmas.{lists, passes}
@@ -82,11 +83,11 @@ apart_below table rows h = record {
   apart = subst (IsDistinct same_value) (firsts_shown table rows) h.apart;
 }
 
-filter_shown : (table : Table) (p q : Row → Bool) → ((r : Row) → p r ≡ q (shown table r)) → (rows : List Row) → map (shown table) (filter (λ r. not (p r)) rows) ≡ filter (λ r. not (q r)) (map (shown table) rows)
+filter_shown : (table : Table) (p q : Row → Bool) → ((r : Row) → p r ≡ q (shown table r)) → (rows : List Row) → map (shown table) (filter p rows) ≡ filter q (map (shown table) rows)
 filter_shown table p q same [] = refl
 filter_shown table p q same (r ∷ rows) = elim (cases_Bool (q (shown table r))) [
-  | inl gone ↦ rw (same r, gone) (filter_shown table p q same rows)
-  | inr left ↦ rw (same r, left) (ap (λ rest. shown table r ∷ rest) (filter_shown table p q same rows))
+  | inl stays ↦ rw (same r, stays) (ap (λ rest. shown table r ∷ rest) (filter_shown table p q same rows))
+  | inr goes ↦ rw (same r, goes) (filter_shown table p q same rows)
 ]
 
 module _ (old new : State) (at : ℕ) (table : Table) (has : HasTable old.now.schema at table) (tests : List Term) (text : List ℕ) (params : Row) (count : ℕ) where
@@ -108,22 +109,27 @@ module _ (old new : State) (at : ℕ) (table : Table) (has : HasTable old.now.sc
   abbrev pub task : Task
   task = record { limit = old.step_limit; keys = Enforced; schema = old.now.schema; table = table; params = params }
 
-  -- what was taken out is one step
-  pub took : (it : Written) → Deletes task program db (Ok it) → (rows : List Row) × (next : Trees) × Answers old.now program params rows × Applies old.now.schema Enforced db (edit rows) next × (it.trees ≡ next)
+  -- what was taken out is one step, and as many rows as were chosen
+  pub took : (it : Written) → Deletes task program db (Ok it)
+      → (rows : List Row) × (next : Trees) × Answers old.now program params rows × Applies old.now.schema Enforced db (edit rows) next × (it.trees ≡ next) × (length it.rows ≡ length rows)
   took it h =
       let given = went h in
       let written = went given.2 in
       let trees : it.trees ≡ written.0 = ap (λ (it : Written). it.trees) (same_ok written.2) in
       let step = one_step old.now.schema Enforced db written.0 (edit given.0) (no_works given.0) written.1 in
-      (given.0, written.0, given.1, step, trees)
+      let long = ap (λ (it : Written). length it.rows) (same_ok written.2) ∙ length-map (ids_of given.0) _ ∙ length-map given.0 _ in
+      (given.0, written.0, given.1, step, trees, long)
 
-  deleted : Writes old new None (Delete at program) text params count → (rows : List Row) × (next : Trees) × Answers old.now program params rows × Applies old.now.schema Enforced db (edit rows) next × (new.now ≡ with next)
+  deleted : Writes old new None (Delete at program) text params count
+      → (rows : List Row) × (next : Trees) × Answers old.now program params rows × Applies old.now.schema Enforced db (edit rows) next × (new.now ≡ with next) × (count ≡ length rows)
   deleted w =
       let is = has.is in
       let done = went (rw is at w.changed) in
-      let now = ap (λ (p : Tally × Database). p.1) (same_ok (went (went done.2).2).2) in
+      let told = same_ok (went (went done.2).2).2 in
+      let now = ap (λ (p : Tally × Database). p.1) told in
+      let rows = ap (λ (p : Tally × Database). unwrap_or p.0.rows 0) told in
       let gone = took done.0 done.1 in
-      (gone.0, gone.1, gone.2, gone.3, now ∙ ap (λ t. record { schema = old.now.schema; trees = t }) gone.4)
+      (gone.0, gone.1, gone.2, gone.3, now ∙ ap (λ t. record { schema = old.now.schema; trees = t }) gone.4, w.counted ∙ rows ∙ gone.5)
 
   rows_in : (trees : Trees) → rows_of table.name (with trees) ≡ map (shown table) (trees table.tree)
   rows_in trees = let named = has.named in let is = has.is in rw (named, is) refl
@@ -135,10 +141,12 @@ module _ (old new : State) (at : ℕ) (table : Table) (has : HasTable old.now.sc
   same_others next all other is_other = subst (λ (o : Table). AllByRecursion (λ t. t.tree ≢ o.tree → next t.tree ≡ db t.tree) old.now.schema.tables) (same_some (sym table_is ∙ is_other)) all
 
   module _ (apart : HasApartRowids (rows_of table.name old.now)) (test : Row → Bool) (tested : (r : Row) → passes params tests r ≡ test (shown table r)) where
+    chosen_rows : (rows : List Row) → Answers old.now program params rows → IsPermutation (map (λ r. column r 0 ∷ []) (filter (passes params tests) (db table.tree))) rows
+    chosen_rows rows answers = lists table.tree tests (col 1 0 ∷ []) [] params (λ r. column r 0 ∷ []) (λ _. []) (λ r. refl) (λ r. refl) db rows (answers.answer Null)
+
     pub left_rows : (rows : List Row) → Answers old.now program params rows → without_all (db table.tree) (ids_of rows) ≡ filter (λ r. not (passes params tests r)) (db table.tree)
     left_rows rows answers =
-        let chosen = lists table.tree tests (col 1 0 ∷ []) [] params (λ r. column r 0 ∷ []) (λ _. []) (λ r. refl) (λ r. refl) db rows (answers.answer Null) in
-        let ids = IsPermutation-map (λ r. id_in (rowid r)) _ _ chosen in
+        let ids = IsPermutation-map (λ r. id_in (rowid r)) _ _ (chosen_rows rows answers) in
         removed (passes params tests) (db table.tree) (ids_of rows) (apart_below table (db table.tree) (subst HasApartRowids (rows_in db) apart)) (subst (λ l. IsPermutation l (ids_of rows)) (ids_shown _) ids)
 
     pub removes : Writes old new None (Delete at program) text params count → IsRemoved table.name test old.now new.now
@@ -148,9 +156,18 @@ module _ (old new : State) (at : ℕ) (table : Table) (has : HasTable old.now.sc
         let left : next table.tree ≡ filter (λ r. not (passes params tests r)) (db table.tree) = done.3.rows ∙ left_rows done.0 done.2 in
         let made : IsRemoved table.name test old.now (with next) = record {
           schema = refl;
-          rows = rows_in next ∙ ap (map (shown table)) left ∙ filter_shown table (passes params tests) test tested (db table.tree) ∙ sym (ap (filter (λ r. not (test r))) (rows_in db));
+          rows = rows_in next ∙ ap (map (shown table)) left ∙ filter_shown table (λ r. not (passes params tests r)) (λ r. not (test r)) (λ r. ap not (tested r)) (db table.tree) ∙ sym (ap (filter (λ r. not (test r))) (rows_in db));
           others = same_others next done.3.tables;
           unread = subst (SparesFrozen old.now) done.4 w.frozen;
           sound = subst IsDatabase done.4 w.sound;
         } in
         subst (IsRemoved table.name test old.now) (sym done.4) made
+
+    -- it answers how many rows passed the test
+    pub counts : Writes old new None (Delete at program) text params count → count ≡ count_in table.name test old.now
+    counts w =
+        let done = deleted w in
+        let rows = db table.tree in
+        let shown_ones = filter_shown table (passes params tests) test tested rows in
+        done.5 ∙ length_permutation _ _ (chosen_rows done.0 done.2) ∙ length-map (filter (passes params tests) rows) _ ∙ sym (length-map (filter (passes params tests) rows) (shown table)) ∙ ap length shown_ones
+        ∙ sym (ap (λ all. length (filter test all)) (rows_in db))

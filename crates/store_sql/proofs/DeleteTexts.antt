@@ -17,14 +17,14 @@ use Rattle.sqlite_syntax.specs.declared.statement.Parsed.{Parsed}
 use Rattle.store_tables.specs.Tables.{table_of}
 use Rattle.store_tables.proofs.TableLemmas.{name_is}
 use Rattle.store_tables.specs.Found.{HasTable}
-use Rattle.store_sql.specs.Effects.{Has, HasApartRowids, IsRemoved, rows_of, shown}
-use Rattle.sqlite.specs.State.{State, Executes, ExecutesInside, Fails, IsUnchanged}
+use Rattle.store_sql.specs.Effects.{Has, HasApartRowids, IsRemoved, count_in, rows_of, shown}
+use Rattle.sqlite.specs.State.{State, Executes, ExecutesInside, Fails, IsUnchanged, Writes}
 use Rattle.sqlite.specs.Listing.{understood}
 use Rattle.sqlite.specs.Command.{Command}
 use Rattle.sqlite.specs.Command.TheVariants.{Delete}
 use Rattle.sqlite.proofs.Callers.{statement_of, runs_as}
 use Rattle.store_sql.proofs.ListLemmas.{passes}
-use Rattle.store_sql.proofs.DeleteEffects.{removes}
+use Rattle.store_sql.proofs.DeleteEffects.{removes, counts}
 use Rattle.store_sql.specs.Deletes.{clear_text}
 use Rattle.store_sql.proofs.TextLemmas.{parsed_or}
 use Rattle.store_sql.proofs.ReadLemmas.{context_of}
@@ -72,18 +72,34 @@ module _ (text : List ℕ) (p : Parsed) (table : ℕ → Table) (condition : Opt
     compiles = delete_text_is schema at (table tree) has condition filter left (r.tests schema at tree has.is) (r.accepted schema tree has.alone (lt-leb (2 ^ 31) (table tree).tree has.stored)) text p r.read (r.statement tree) r.formats
 
   module _ (named : (tree : ℕ) → (table tree).name ≡ (table 0).name) (params : Row) (test : Row → Bool) (tested : (tree : ℕ) (row : Row) → passes params filter row ≡ test (shown (table tree) row)) (old new : State) (count : ℕ) where
+    writes : (has : Has table old.now) → Executes text params old new (Ok count) → Writes old new None (command old.now.schema has.0 has.1 has.2) (statement_of text (understood old.now.schema text)) params count
+    writes has h =
+        let s = old.now.schema in
+        let compiled = compiles s has.0 has.1 has.2 in
+        runs_as text params old new s refl (command s has.0 has.1 has.2) (rw compiled refl) (rw compiled (refl, refl)) count h
+
+    apart_in : (has : Has table old.now) → HasApartRowids (rows_of (table 0).name old.now) → HasApartRowids (rows_of (table has.1).name old.now)
+    apart_in has = subst (λ n. HasApartRowids (rows_of n old.now)) (sym (named has.1))
+
     pub removes_rows : Has table old.now → HasApartRowids (rows_of (table 0).name old.now) → Executes text params old new (Ok count) → IsRemoved (table 0).name test old.now new.now
     removes_rows has apart h =
-        let at = has.0 in
         let tree = has.1 in
-        let s = old.now.schema in
-        let w = runs_as text params old new s refl (command s at tree has.2) (rw (compiles s at tree has.2) refl) (rw (compiles s at tree has.2) (refl, refl)) count h in
         subst (λ n. IsRemoved n test old.now new.now) (named tree)
-        (removes old new at (table tree) has.2 filter (statement_of text (understood s text)) params count (subst (λ n. HasApartRowids (rows_of n old.now)) (sym (named tree)) apart) test (tested tree) w)
+        (removes old new has.0 (table tree) has.2 filter (statement_of text (understood old.now.schema text)) params count (apart_in has apart) test (tested tree) (writes has h))
+
+    pub counts_rows : Has table old.now → HasApartRowids (rows_of (table 0).name old.now) → Executes text params old new (Ok count) → count ≡ count_in (table 0).name test old.now
+    counts_rows has apart h =
+        let tree = has.1 in
+        subst (λ n. count ≡ count_in n test old.now) (named tree)
+        (counts old new has.0 (table tree) has.2 filter (statement_of text (understood old.now.schema text)) params count (apart_in has apart) test (tested tree) (writes has h))
 
 pub clears_rows : (t : StoreTable) (old new : State) (count : ℕ) → Has (table_of t) old.now → HasApartRowids (rows_of (table_of t 0).name old.now) → Executes (clear_text t) [] old new (Ok count)
     → IsRemoved (table_of t 0).name (λ _. true) old.now new.now
 clears_rows t = removes_rows (clear_text t) (read_clear t) (table_of t) None [] 100000 (reads_clear t) (name_is t) [] (λ _. true) (λ tree row. refl)
+
+pub counts_cleared : (t : StoreTable) (old new : State) (count : ℕ) → Has (table_of t) old.now → HasApartRowids (rows_of (table_of t 0).name old.now) → Executes (clear_text t) [] old new (Ok count)
+    → count ≡ count_in (table_of t 0).name (λ _. true) old.now
+counts_cleared t = counts_rows (clear_text t) (read_clear t) (table_of t) None [] 100000 (reads_clear t) (name_is t) [] (λ _. true) (λ tree row. refl)
 
 -- the text is one statement, and takes these values
 pub record Takes (text : List ℕ) (p : Parsed) (table : ℕ → Table) (filter : List Term) (params : Row) : Type 0 where

@@ -16,7 +16,7 @@ use Rattle.sqlite.specs.Command.TheVariants.{Insert}
 use Rattle.sqlite.specs.Listing.{understood}
 use Rattle.sqlite.specs.State.{State, Executes, ExecutesInside, Fails, IsUnchanged}
 use Rattle.sqlite.proofs.Callers.{statement_of, runs_as}
-use Rattle.store_records.specs.Records.{Mark, ItemRecord, Member, KeptRecord}
+use Rattle.store_tables.specs.Records.{Mark, ItemRecord, Member, KeptRecord}
 use Rattle.store_sql.specs.Encodings.{number_or_null, text_or_null, mark_row, item_row, member_row, kept_row}
 use Rattle.store_sql.specs.Effects.{Has, IsAdded}
 use Rattle.store_sql.proofs.InsertLemmas.{adds_chosen, adds_given, cast_int, cast_null}

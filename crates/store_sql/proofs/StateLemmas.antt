@@ -1,5 +1,5 @@
 -- What a statement of a transaction leaves, at its success and at its failure.
-use Rattle.std.proofs.Common.{◌≡◌, ◌⊎◌, ℕ, List, Bool, true, false, ◌∙◌, Ok, Err, Result, IsTrue, OnOk, IfErr, inl, inr, refl, sym, ap, subst, arith}
+use Rattle.std.proofs.Common.{◌≡◌, ◌⊎◌, ℕ, List, Bool, true, false, ◌∙◌, Ok, Err, Result, IsTrue, OnOk, IfOk, IfErr, inl, inr, refl, sym, ap, subst, arith}
 use Rattle.std.proofs.lemmas.Bool.{cases_Bool}
 use Rattle.sqlite.specs.declared.error.Error.{Error}
 use Rattle.sqlite.specs.declared.error.Error.TheVariants.{SqliteFailure}
@@ -27,6 +27,15 @@ pub inside : {A : Type 0} (text : List ℕ) (params : Row) (old new : State) (re
 inside text params old new (Err e) does ended runs = tt
 inside text params old new (Ok count) does ended runs = elim (cases_Bool old.in_transaction) [
   | inl inside' ↦ (let ran = runs inside' in (does ran.1.was_open count ran.0, ran.1))
+  | inr outside ↦ absurd (let e = ended outside in cc)
+]
+
+counted_inside : {N : Type 0} {C : ℕ → Type 0} (text : List ℕ) (params : Row) (old new : State) (result : Result ℕ Error) → (IsTrue old.is_open → N)
+    → (old.in_transaction ≡ false → result ≡ Err (SqliteFailure code.TransactionState)) → (IsTrue old.in_transaction → ExecutesInside 0 text params old new result)
+    → ((count : ℕ) → N → Executes text params old new (Ok count) → C count) → IfOk result C
+counted_inside text params old new (Err e) needs ended runs counts = tt
+counted_inside text params old new (Ok count) needs ended runs counts = elim (cases_Bool old.in_transaction) [
+  | inl inside' ↦ (let ran = runs inside' in counts count (needs ran.1.was_open) ran.0)
   | inr outside ↦ absurd (let e = ended outside in cc)
 ]
 
@@ -111,6 +120,14 @@ fails_in Refuses TooBig other old new sql params (Err e) ended runs cause = reco
       | inl open' ↦ elim (cause open' e (runs inside')) [ inl refused ↦ inl refused | inr f ↦ inr (fails_for old new e TooBig (IsTrue old.is_open → TooBig) (λ big _. big) f) ]
       | inr shut ↦ inr (shut_inside old new sql params e shut TooBig (runs inside'))
     ]
+
+-- what a statement of a transaction answers where it succeeds, if the database has what it asks for
+pub counted : {S N : Type 0} {C : ℕ → Type 0} (g : Ghosts S) (before after : Held S) (text : List ℕ) (params : Row) (result : Result ℕ Error) → (HasCleanDisk (state g before) → IsTrue (state g before).is_open → N)
+    → ((state g before).in_transaction ≡ false → (result ≡ Err (SqliteFailure code.TransactionState)) × (after ≡ before))
+    → (HasCleanDisk (state g after) → IsTrue (state g before).in_transaction → ExecutesInside 0 text params (state g before) (state g after) result) → Survives (state g before) (state g after) (λ _. ⊥)
+    → ((count : ℕ) → N → Executes text params (state g before) (state g after) (Ok count) → C count) → HasCleanDisk (state g after) → IfOk result C
+counted g before after text params result needs ended runs alone counts clean =
+    counted_inside text params (state g before) (state g after) result (λ open'. needs (omega (arith, alone.clean, clean)) open') (λ outside. (ended outside).0) (runs clean) counts
 
 -- what a statement of a transaction does where the database has what it asks for, and why it fails
 module _ {S : Type 0} (g : Ghosts S) (before after : Held S) (text : List ℕ) (params : Row) (result : Result ℕ Error) (Refuses : Error → Type 0) (TooBig : Type 0) where

@@ -45,6 +45,10 @@ rows_of name db = unwrap_or (option_map (λ t. map (shown t) (db.trees t.tree)) 
 abbrev pub SameOthers : List ℕ → Database → Database → Type 0
 SameOthers name old new = (table : Table) → table_in name old ≡ Some table → AllByRecursion (λ t. t.tree ≢ table.tree → new.trees t.tree ≡ old.trees t.tree) old.schema.tables
 
+-- how many rows of a table pass a test
+abbrev pub count_in : List ℕ → (Row → Bool) → Database → ℕ
+count_in name test db = length (filter test (rows_of name db))
+
 abbrev pub same_value : Value → Value → Bool
 same_value a b = is_eq (value_cmp a b)
 

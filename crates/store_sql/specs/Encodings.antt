@@ -5,10 +5,10 @@ use Rattle.sqlite.specs.declared.types.Value.{Value}
 use Rattle.sqlite.specs.declared.types.Value.TheVariants.{Int, Text as Words, Blob as Bytes}
 use Rattle.sqlite.specs.Order.{Row}
 use Rattle.sqlite.specs.Values.{or_null}
-use Rattle.store_records.specs.Records.{Mark, ItemRecord, Member, EditionRecord, EntryRecord, KeptRecord}
-use Rattle.store_records.specs.Typed.{stored_row_as, owned_mark, owned_item, owned_member, owned_edition, owned_entry, owned_kept}
-use Rattle.store_records.specs.declared.records.StoredRow.{StoredRow}
-use Rattle.store_records.specs.declared.records as typed
+use Rattle.store_tables.specs.Records.{Mark, ItemRecord, Member, EditionRecord, EntryRecord, KeptRecord}
+use Rattle.store_tables.specs.Typed.{stored_row_as, owned_mark, owned_item, owned_member, owned_edition, owned_entry, owned_kept}
+use Rattle.store_tables.specs.declared.records.StoredRow.{StoredRow}
+use Rattle.store_tables.specs.declared.records as typed
 use Rattle.store_sql.specs.declared.records.EditionNumber.{EditionNumber}
 
 abbrev pub number_or_null : Option ℤ → Value

@@ -3,10 +3,10 @@ use Rattle.std.specs.Prelude.{ℕ, List, [], ◌∷◌, String, Vec}
 use Rattle.std.specs.declared.alloc.Global.{Global}
 use Rattle.sqlite.specs.declared.types.Value.TheVariants.{Int, Text as Words, Blob as Bytes}
 use Rattle.sqlite.specs.Order.{Row}
-use Rattle.store_records.specs.Keyed.{KeyedEntry, OldEntry, owned_keyed_entry, owned_old_entry}
-use Rattle.store_records.specs.Typed.{stored_row_as}
-use Rattle.store_records.specs.declared.records.StoredRow.{StoredRow}
-use Rattle.store_records.specs.declared.keyed as typed
+use Rattle.store_tables.specs.KeyedRecords.{KeyedEntry, OldEntry, owned_keyed_entry, owned_old_entry}
+use Rattle.store_tables.specs.Typed.{stored_row_as}
+use Rattle.store_tables.specs.declared.records.StoredRow.{StoredRow}
+use Rattle.store_tables.specs.declared.keyed_records as typed
 use Rattle.store_sql.specs.Columns.{Content, Number, Name, Octets}
 use Rattle.store_sql.specs.Encodings.{stored_row}
 

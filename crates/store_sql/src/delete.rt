@@ -1,10 +1,10 @@
 //! Rows that are taken out of a table, inside an open transaction.
 
-ghost use Rattle.std.specs.Prelude.{◌≡◌, true, IfErr, OnOk};
+ghost use Rattle.std.specs.Prelude.{◌≡◌, true, IfErr, IfOk, OnOk};
 ghost use Rattle.sqlite.specs.State.{HasCleanDisk, Survives};
 ghost use Rattle.sqlite.specs.Held.{state};
 ghost use Rattle.store_tables.specs.Tables.{table_of};
-ghost use Rattle.store_sql.specs.Effects.{WhileOpen};
+ghost use Rattle.store_sql.specs.Effects.{WhileOpen, count_in};
 ghost use Rattle.store_sql.specs.Deletes.{HasToRemove, Removes, FailsToRemove, clear_text};
 
 use crate::transaction::OpenTransaction;
@@ -24,7 +24,7 @@ fn text_of(table: StoreTable) -> &'static str
     }
 }
 
-/// Takes out all rows of the table. It answers the count of rows that `sqlite` reports.
+/// Takes out all rows of the table. It answers how many these were.
 pub fn clear_table<S: Alter, T: OpenTransaction<S>>(
     tx: &mut T,
     table: StoreTable,
@@ -32,6 +32,7 @@ pub fn clear_table<S: Alter, T: OpenTransaction<S>>(
     requires { WhileOpen (state S.Store (T.held tx.old)) (HasToRemove (table_of table)) }
     ensures same_reference { T.reference tx.new ≡ T.reference tx.old }
     ensures removed { HasCleanDisk (state S.Store (T.held tx.new)) → OnOk result (Removes (table_of table 0).name (λ _. true) (state S.Store (T.held tx.old)) (state S.Store (T.held tx.new))) }
+    ensures counted { HasCleanDisk (state S.Store (T.held tx.new)) → IfOk result (λ count. count ≡ count_in (table_of table 0).name (λ _. true) (state S.Store (T.held tx.old)).now) }
     ensures failed { HasCleanDisk (state S.Store (T.held tx.new)) → IfErr result (FailsToRemove (table_of table 0).name (λ _. true) (state S.Store (T.held tx.old)) (state S.Store (T.held tx.new))) }
     ensures survives { Survives (state S.Store (T.held tx.old)) (state S.Store (T.held tx.new)) (λ _. ⊥) }
 {

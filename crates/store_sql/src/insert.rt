@@ -4,14 +4,14 @@ ghost use Rattle.std.specs.Prelude.{◌≡◌, codes, IfErr, OnOk};
 ghost use Rattle.sqlite.specs.State.{HasCleanDisk, Survives};
 ghost use Rattle.sqlite.specs.Held.{state};
 ghost use Rattle.store_tables.specs.Tables.{mark, item, member, edition, kept};
-ghost use Rattle.store_records.specs.Typed.{lent_mark, lent_item, lent_member, lent_kept};
+ghost use Rattle.store_tables.specs.Typed.{lent_mark, lent_item, lent_member, lent_kept};
 ghost use Rattle.store_sql.specs.Encodings.{mark_row, item_row, member_row, kept_row};
 ghost use Rattle.store_sql.specs.Effects.{Has, WhileOpen};
 ghost use Rattle.store_sql.specs.Inserts.{Inserts, FailsToInsert};
 
 use crate::transaction::OpenTransaction;
 use sqlite::{Alter, Error, params};
-use store_records::{ItemRecord, KeptRecord, Mark, Member};
+use store_tables::{ItemRecord, KeptRecord, Mark, Member};
 
 /// Inserts the mark. It answers the count of written rows that `sqlite` reports.
 pub fn insert_mark<S: Alter, T: OpenTransaction<S>>(

@@ -2,14 +2,14 @@
 
 ghost use Rattle.std.specs.Prelude.{◌≡◌, ◌∷◌, drop, length, IfOk, IfErr, OnOk};
 ghost use Rattle.sqlite.specs.Order.{column};
-ghost use Rattle.store_records.specs.Keyed.{owned_keyed_entry, owned_old_entry};
+ghost use Rattle.store_tables.specs.KeyedRecords.{owned_keyed_entry, owned_old_entry};
 ghost use Rattle.store_sql.specs.Columns.{HasColumns};
 ghost use Rattle.store_sql.specs.Reads.{FailsToDecode};
 ghost use Rattle.store_sql.specs.Keyed.{keyed_entry_row, keyed_entry_cells, keyed_entry_columns, old_entry_row, old_entry_cells, old_entry_columns, stored_keyed_entry, stored_old_entry};
 
 use crate::records::{ReadError, Record, cell};
 use sqlite::Row;
-use store_records::{KeyedEntry, OldEntry, StoredRow};
+use store_tables::{KeyedEntry, OldEntry, StoredRow};
 
 // What stands behind the rowid, or that it is no entry.
 fn keyed_entry(row: &Row) -> Result<KeyedEntry<String, Vec<u8>>, ReadError>

@@ -12,7 +12,7 @@ ghost use Rattle.store_sql.specs.Reads.{Lists, Selects, FailsToRead, FailsToList
 use crate::records::{ReadError, Record};
 use sqlite::{Alter, Connection, Error, Row, params};
 use std::alloc::Global;
-use store_records::{EditionRecord, ItemRecord, KeptRecord, Member, StoredRow};
+use store_tables::{EditionRecord, ItemRecord, KeptRecord, Member, StoredRow};
 
 /// The record of each row, in turn. `NoRecord` tells that one of them is none, another error that memory was refused.
 pub fn records_of<R: Record + Drop>(alloc: Global, rows: &[Row]) -> Result<Vec<R>, ReadError>

@@ -12,7 +12,7 @@ ghost use Rattle.store_sql.specs.Reads.{FailsToDecode};
 use sqlite::types::FromSql;
 use sqlite::{Error, ErrorCode, Row};
 use std::alloc::{AllocError, AllocFailed};
-use store_records::{EditionRecord, EntryRecord, ItemRecord, KeptRecord, Mark, Member, StoredRow};
+use store_tables::{EditionRecord, EntryRecord, ItemRecord, KeptRecord, Mark, Member, StoredRow};
 
 /// Why records were not read.
 #[derive(Debug, Drop, thiserror::Error)]

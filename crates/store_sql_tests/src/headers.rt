@@ -18,11 +18,10 @@ use store_edition_sql::{
     StoredHeader, create_header_table, delete_header, has_header_table, headers_numbered,
     infos_numbered, insert_header, read_headers_by_rowid,
 };
-use store_records::HeaderRecord;
 use store_sql::commit::commit;
 use store_sql::records::ReadError;
 use store_sql::transaction::OpenTransaction;
-use store_tables::{StoreTable, has_table, is_name_used, lacks_counting_table};
+use store_tables::{HeaderRecord, StoreTable, has_table, is_name_used, lacks_counting_table};
 
 const FIRST: &str =
     "StoredHeader { rowid: 1, value: HeaderRecord { number: 1, owner: \"gem\", title: \"Gems\", info: \"\" } }";

@@ -8,8 +8,8 @@ use std::alloc::Global;
 use std::process::Abort;
 use std::test::Fail;
 use store_older_sql::{has_old_entry, read_old_by_rowid, read_old_rows_of};
-use store_records::{OldEntry, StoredRow};
 use store_sql::records::ReadError;
+use store_tables::{OldEntry, StoredRow};
 
 // What `.dump` of stock `sqlite3` writes of this table.
 const STORED: &str =

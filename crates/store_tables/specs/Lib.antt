@@ -5,3 +5,6 @@ pub mod Found
 pub mod Definitions
 pub mod Room
 pub mod OwnNames
+pub mod Records
+pub mod Typed
+pub mod KeyedRecords

@@ -3,8 +3,8 @@
 use super::records::{EditionRows, Rows};
 use dict_catalogue::Summary;
 use std::alloc::{AllocError, Global};
-use store_records::EditionRecord;
 use store_rows::{Reader, RowsFault};
+use store_tables::EditionRecord;
 
 /// A reader that has taken what comes first.
 pub(crate) fn begin(alloc: Global, rows: &Rows) -> Result<Reader, RowsFault> {

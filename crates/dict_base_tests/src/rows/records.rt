@@ -4,8 +4,8 @@ use super::readings::summary_of;
 use crate::checks::push;
 use dict_catalogue::{Item as CatalogueItem, Summary};
 use std::alloc::{AllocError, Global};
-use store_records::{EditionRecord, EntryRecord, ItemRecord, KeptRecord, Mark, Member, StoredRow};
 use store_rows::RowsFault;
+use store_tables::{EditionRecord, EntryRecord, ItemRecord, KeptRecord, Mark, Member, StoredRow};
 
 /// The magic, the version and the count of installs of a mark.
 #[derive(Clone, Copy)]

@@ -7,13 +7,12 @@ use sqlite::{Alter, Connection, Error, Rows};
 use std::alloc::Global;
 use std::process::Abort;
 use std::test::Fail;
-use store_records::{EntryRecord, KeptRecord, Mark, StoredRow};
 use store_sql::read::{editions_numbered, items, kept_replies_of, members};
 use store_sql::records::{EditionNumber, ReadError};
 use store_sql::stream::{
     next_record, read_by_rowid, read_edition_numbers, read_entries_of, read_kept_replies,
 };
-use store_tables::{StoreTable, has_table};
+use store_tables::{EntryRecord, KeptRecord, Mark, StoreTable, StoredRow, has_table};
 
 // What is read as a list, and what row by row.
 #[derive(Clone, Copy)]

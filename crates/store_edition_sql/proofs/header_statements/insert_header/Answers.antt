@@ -1,7 +1,7 @@
 use Rattle.std.proofs.Common.{codes, rules}
 use Rattle.sqlite.specs.Held.{state}
-use Rattle.store_records.specs.Records.{HeaderRecord}
-use Rattle.store_records.specs.Typed.{lent_header}
+use Rattle.store_tables.specs.Records.{HeaderRecord}
+use Rattle.store_tables.specs.Typed.{lent_header}
 use Rattle.store_sql.proofs.NumberLemmas.{bound_int}
 use Rattle.store_sql.proofs.StateLemmas.{stated, adds_aside}
 use Rattle.store_edition_sql.specs.HeaderRecords.{header_row}

@@ -1,11 +1,11 @@
 use Rattle.std.proofs.Common.{[], ◌∷◌, codes}
 use Rattle.sqlite.specs.Held.{state}
 use Rattle.sqlite.specs.declared.types.Value.TheVariants.{Int}
-use Rattle.store_sql.proofs.StateLemmas.{stated, removes_aside}
+use Rattle.store_sql.proofs.StateLemmas.{counted, stated, removes_aside}
 use Rattle.store_sql.proofs.NumberLemmas.{bound_int}
 use Rattle.store_sql.specs.Effects.{equals_number}
 use Rattle.store_edition_sql.specs.PartTexts.{part_delete_text}
-use Rattle.store_edition_sql.proofs.DeleteTexts.{removes_parts, parts_stay}
+use Rattle.store_edition_sql.proofs.DeleteTexts.{removes_parts, counts_parts, parts_stay}
 use Rattle.store_edition_sql.proofs.part_statements.delete_parts.Goals as goal
 
 pub returns : goal.returns
@@ -16,4 +16,7 @@ returns g c =
     let ran =
     stated g.S.Store _ _ part_delete_text (Int c.args.edition ∷ []) c.execute.result _ ⊥ (removes_aside (codes "dictcat_part") (equals_number 1 c.args.edition) old) c.requires c.execute.ensures.ended runs c.execute.ensures.survives
     (λ count it. removes_parts old new c.args.edition count it.has it.apart) (λ e it. parts_stay old new c.args.edition e it.has it.apart) in
-    record { same_reference = c.execute.ensures.same_reference; removed = λ clean. (ran clean).0; failed = λ clean. (ran clean).1; survives = c.execute.ensures.survives }
+    let count =
+    counted g.S.Store _ _ part_delete_text (Int c.args.edition ∷ []) c.execute.result c.requires c.execute.ensures.ended runs c.execute.ensures.survives
+    (λ count it. counts_parts old new c.args.edition count it.has it.apart) in
+    record { same_reference = c.execute.ensures.same_reference; removed = λ clean. (ran clean).0; counted = count; failed = λ clean. (ran clean).1; survives = c.execute.ensures.survives }

@@ -1,11 +1,11 @@
 use Rattle.std.proofs.Common.{[], ◌∷◌, codes}
 use Rattle.sqlite.specs.Held.{state}
 use Rattle.sqlite.specs.declared.types.Value.TheVariants.{Int}
-use Rattle.store_sql.proofs.StateLemmas.{stated, removes_aside}
+use Rattle.store_sql.proofs.StateLemmas.{counted, stated, removes_aside}
 use Rattle.store_sql.proofs.NumberLemmas.{bound_int}
 use Rattle.store_edition_sql.specs.Chosen.{is_part_from}
 use Rattle.store_edition_sql.specs.PartTexts.{delete_from_text}
-use Rattle.store_edition_sql.proofs.DeleteTexts.{removes_from, from_stay}
+use Rattle.store_edition_sql.proofs.DeleteTexts.{removes_from, counts_from, from_stay}
 use Rattle.store_edition_sql.proofs.part_statements.delete_parts_from.Goals as goal
 
 pub returns : goal.returns
@@ -21,4 +21,7 @@ returns g c =
     stated g.S.Store _ _ delete_from_text (Int c.args.edition ∷ Int c.args.file ∷ Int c.args.number ∷ []) c.execute.result _ ⊥ (removes_aside (codes "dictcat_part") (is_part_from c.args.edition c.args.file c.args.number) old)
     c.requires c.execute.ensures.ended runs c.execute.ensures.survives
     (λ count it. removes_from old new c.args.edition c.args.file c.args.number count it.has it.apart) (λ e it. from_stay old new c.args.edition c.args.file c.args.number e it.has it.apart) in
-    record { same_reference = c.execute.ensures.same_reference; removed = λ clean. (ran clean).0; failed = λ clean. (ran clean).1; survives = c.execute.ensures.survives }
+    let count =
+    counted g.S.Store _ _ delete_from_text (Int c.args.edition ∷ Int c.args.file ∷ Int c.args.number ∷ []) c.execute.result c.requires c.execute.ensures.ended runs c.execute.ensures.survives
+    (λ count it. counts_from old new c.args.edition c.args.file c.args.number count it.has it.apart) in
+    record { same_reference = c.execute.ensures.same_reference; removed = λ clean. (ran clean).0; counted = count; failed = λ clean. (ran clean).1; survives = c.execute.ensures.survives }

@@ -1,6 +1,6 @@
 use Rattle.std.proofs.Common.{codes, rules}
 use Rattle.sqlite.specs.Held.{state}
-use Rattle.store_records.specs.Records.{Part}
+use Rattle.store_tables.specs.Records.{Part}
 use Rattle.store_sql.proofs.NumberLemmas.{bound_int}
 use Rattle.store_sql.proofs.StateLemmas.{stated, adds_aside}
 use Rattle.store_edition_sql.specs.PartRecords.{lent_part, part_row}

@@ -3,10 +3,10 @@ use Rattle.std.specs.Prelude.{◌≤ℤ◌}
 use Rattle.std.specs.Ordering.{is_lt}
 use Rattle.std.specs.declared.alloc.Global.{Global}
 use Rattle.sqlite.specs.Order.{Row}
-use Rattle.store_records.specs.Records as spec
-use Rattle.store_records.specs.Typed.{owned_item, owned_member, owned_entry, owned_kept}
-use Rattle.store_records.specs.declared.records.StoredRow.{StoredRow}
-use Rattle.store_records.specs.declared.records as typed
+use Rattle.store_tables.specs.Records as spec
+use Rattle.store_tables.specs.Typed.{owned_item, owned_member, owned_entry, owned_kept}
+use Rattle.store_tables.specs.declared.records.StoredRow.{StoredRow}
+use Rattle.store_tables.specs.declared.records as typed
 use Rattle.store_sql.specs.Encodings.{stored_item, stored_member, stored_entry, stored_kept}
 use Rattle.store_sql.specs.Reads.{by_columns}
 use Rattle.store_holdings.proofs.ReadLemmas.{sorted_order, one_le, second_le, records_order}

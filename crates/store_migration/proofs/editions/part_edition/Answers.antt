@@ -1,5 +1,5 @@
 use Rattle.std.proofs.Common.{◌∙◌, map, codes, ap, subst, inl, inr}
-use Rattle.store_records.specs.Typed.{owned_edition}
+use Rattle.store_tables.specs.Typed.{owned_edition}
 use Rattle.store_holdings.specs.Files.{index_octets, parts_under}
 use Rattle.store_migration.specs.FailurePlaces.{InRecord, Putting}
 use Rattle.store_migration.specs.Steps.{IsEditionOf}

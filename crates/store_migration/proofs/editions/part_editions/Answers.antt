@@ -4,7 +4,7 @@ use mir.Syntax.{w64}
 use mir.Val.{SFits, to_z, of_z}
 use Rattle.sqlite.specs.declared.error.Error.TheVariants.{SqliteFailure}
 use Rattle.sqlite.specs.declared.error.ErrorCode.TheVariants.{OutOfMemory}
-use Rattle.store_records.specs.Typed.{owned_header}
+use Rattle.store_tables.specs.Typed.{owned_header}
 use Rattle.store_sql.specs.declared.records.ReadError.TheVariants.{Store}
 use Rattle.store_migration.specs.Steps.{AreParted}
 use Rattle.store_migration.proofs.KitLemmas.{HasCleanDisk, seen, keeps_then, passed_on, keeps_none, none_more, was_clean, two_survive, signed_back, HeaderRecord}

@@ -1,6 +1,6 @@
 -- the editions whose files were put in so far, and their headers
 use Rattle.std.proofs.Common.{◌≡◌, take, map, true}
-use Rattle.store_records.specs.Typed.{owned_header}
+use Rattle.store_tables.specs.Typed.{owned_header}
 use Rattle.store_migration.specs.Steps.{AreParted}
 use Rattle.store_migration.proofs.KitLemmas.{HasCleanDisk, Survives, KeepsCommit, seen}
 use Rattle.store_migration.proofs.editions.part_editions.Given as goal

@@ -6,7 +6,7 @@ use Rattle.store_sql.proofs.AddedLemmas.{none_added}
 use Rattle.store_migration.specs.FailurePlaces.{Putting}
 use Rattle.store_migration.proofs.KitLemmas.{state, HasCleanDisk, header, AreAdded, IsAdded, seen, still_has, goes_keeps, keeps_then, passed_on, keeps_none, none_more, was_clean, two_survive, Row, HeaderRecord}
 use Rattle.store_migration.proofs.FailLemmas.{fails_by, row_placed, row_more, putting}
-use Rattle.store_records.specs.Typed.{owned_header}
+use Rattle.store_tables.specs.Typed.{owned_header}
 use Rattle.store_holdings.proofs.ReadingLemmas.{map_twice}
 use Rattle.store_migration.proofs.ReadLemmas.{owned_row}
 use Rattle.store_migration.proofs.heading.put_headers.Goals as goal

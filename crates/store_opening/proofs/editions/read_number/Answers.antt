@@ -2,7 +2,7 @@ use Rattle.std.proofs.Common.{◌++◌, map, refl, ap, ◌∙◌}
 use Rattle.std.proofs.lemmas.Int.{to_z-of_z}
 use Rattle.std.proofs.lemmas.Result.{on_ok_weaker}
 use mir.Syntax.{w64}
-use Rattle.store_records.specs.Typed.{owned_edition}
+use Rattle.store_tables.specs.Typed.{owned_edition}
 use Rattle.store_sql.proofs.StreamLemmas.{passed_on}
 use Rattle.store_rows.specs.Taken.{with_edition}
 use Rattle.store_rows.specs.Versions.{layout_of}

@@ -1,5 +1,5 @@
 use Rattle.std.proofs.Common.{◌≡◌, length, get_or, arith}
-use Rattle.store_records.specs.Typed.{owned_mark}
+use Rattle.store_tables.specs.Typed.{owned_mark}
 use Rattle.store_rows.proofs.RecordLemmas.{one_mark}
 use Rattle.store_opening.proofs.MarkLemmas.{told_marked, none_marked}
 use Rattle.store_opening.proofs.opening.version_of.Goals as goal

@@ -1,6 +1,6 @@
 use Rattle.std.specs.Prelude.{OnOk, Result, Ok, Err}
-use Rattle.store_records.specs.Records.{shown_as}
-use Rattle.store_records.specs.Typed.{owned_entry}
+use Rattle.store_tables.specs.Records.{shown_as}
+use Rattle.store_tables.specs.Typed.{owned_entry}
 use Rattle.store_rows.proofs.RecordLemmas.{entry_told}
 use Rattle.store_rows.proofs.entries.test_entry.Goals as goal
 

@@ -2,7 +2,7 @@ use Rattle.std.proofs.Common.{◌≡◌, pos, length, arith, sym, ◌∙◌}
 use Rattle.std.proofs.lemmas.Grind.{common_steps}
 use Rattle.std.proofs.lemmas.Bool.{false≢true}
 use Rattle.std.proofs.lemmas.Result.{IfErr-weaker}
-use Rattle.store_records.specs.Typed.{owned_item}
+use Rattle.store_tables.specs.Typed.{owned_item}
 use Rattle.dict_catalogue.specs.Views.{texts_shown}
 use Rattle.store_rows.specs.Given.{members_given, OnDamage, IsNotRegular, IsNotVirtual, IsNoItem}
 use Rattle.store_rows.proofs.ItemLemmas.{virtual_told, regular_told, members_told}

@@ -1,5 +1,5 @@
 use Rattle.std.proofs.lemmas.Result.{err_from_is_err_and}
-use Rattle.store_records.specs.Typed.{owned_item}
+use Rattle.store_tables.specs.Typed.{owned_item}
 use Rattle.store_rows.proofs.ItemLemmas.{former_told}
 use Rattle.store_rows.proofs.items.regular_of.Goals as goal
 

@@ -1,4 +1,4 @@
-use Rattle.store_records.specs.Records as spec
+use Rattle.store_tables.specs.Records as spec
 use Rattle.store_rows.specs.Order.{is_of}
 use Rattle.store_rows.proofs.SelectionLemmas.{editions_more, entries_more, filter_whole}
 use Rattle.store_rows.proofs.laws.records_by_number.Goals as goal

@@ -1,6 +1,6 @@
 use Rattle.std.proofs.Common.{◌≡◌, ℕ, [], ◌∷◌, arith, length, get_or}
 use Rattle.std.proofs.lemmas.Result.{IfErr-weaker}
-use Rattle.store_records.specs.Typed.{owned_mark}
+use Rattle.store_tables.specs.Typed.{owned_mark}
 use Rattle.store_rows.specs.Written.{mark_record}
 use Rattle.store_rows.specs.Given.{marks_given, OnDamage}
 use Rattle.store_rows.proofs.RecordLemmas.{mark_told, one_mark}

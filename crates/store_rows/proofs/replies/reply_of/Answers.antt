@@ -2,7 +2,7 @@ use Rattle.std.proofs.Common.{rules, ◌≡◌, true}
 use Rattle.std.specs.Prelude.{is_some}
 use Rattle.dict_text.specs.Names.{is_name, is_request_id}
 use Rattle.dict_catalogue.specs.WellFormed.{tells_edition}
-use Rattle.store_records.specs.Typed.{owned_kept}
+use Rattle.store_tables.specs.Typed.{owned_kept}
 use Rattle.store_rows.specs.Written.{verb_name}
 use Rattle.store_rows.proofs.RecordLemmas.{reply_told}
 use Rattle.store_rows.proofs.replies.reply_of.Goals as goal

@@ -2,7 +2,7 @@ use Rattle.std.proofs.Common.{◌≡◌, ◌++◌, List, map, sym, subst, ◌∙
 use Rattle.std.proofs.lemmas.Int.{to_z-of_z}
 use mir.Syntax.{w64}
 use Rattle.std.proofs.lemmas.Result.{on_ok_weaker}
-use Rattle.store_records.specs.Records.{EntryRecord}
+use Rattle.store_tables.specs.Records.{EntryRecord}
 use Rattle.store_scans.specs.Entries.{AreNextTaken, IsStoredIndexOf}
 use Rattle.store_scans.specs.Indexing.{indexed_of}
 use Rattle.store_scans.proofs.LineLemmas.{index_read}

@@ -1,7 +1,7 @@
 use Rattle.std.proofs.Common.{codes, rules}
 use Rattle.sqlite.specs.Held.{state}
-use Rattle.store_records.specs.Records.{ItemRecord}
-use Rattle.store_records.specs.Typed.{lent_item}
+use Rattle.store_tables.specs.Records.{ItemRecord}
+use Rattle.store_tables.specs.Typed.{lent_item}
 use Rattle.store_sql.specs.Inserts.{insert_item}
 use Rattle.store_sql.specs.Encodings.{item_row}
 use Rattle.store_sql.proofs.NumberLemmas.{bound_int}

@@ -1,7 +1,7 @@
 use Rattle.std.proofs.Common.{codes, rules}
 use Rattle.sqlite.specs.Held.{state}
-use Rattle.store_records.specs.Records.{Member}
-use Rattle.store_records.specs.Typed.{lent_member}
+use Rattle.store_tables.specs.Records.{Member}
+use Rattle.store_tables.specs.Typed.{lent_member}
 use Rattle.store_sql.specs.Inserts.{insert_member}
 use Rattle.store_sql.specs.Encodings.{member_row}
 use Rattle.store_sql.proofs.NumberLemmas.{bound_int}

@@ -1,7 +1,7 @@
 use Rattle.std.proofs.Common.{◌≡◌, Bool, true, false, ◌&&◌, refl, sym, ◌∙◌}
 use Rattle.std.specs.Prelude.{map}
 use Rattle.std.specs.List.{list_all}
-use Rattle.store_records.specs.Records as spec
+use Rattle.store_tables.specs.Records as spec
 use Rattle.dict_catalogue.specs.Items.{is_known}
 use Rattle.dict_catalogue.specs.Views.{item_shown}
 use Rattle.store_rows.specs.Given.{marks_given, items_given, members_given}

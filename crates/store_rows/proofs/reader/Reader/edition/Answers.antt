@@ -4,7 +4,7 @@ use Rattle.std.specs.List.{list_any}
 use Rattle.std.proofs.lemmas.Bool.{false≢true}
 use Rattle.std.proofs.lemmas.Result.{err_from_is_err_and}
 use Rattle.dict_text.specs.Names.{is_title}
-use Rattle.store_records.specs.Typed.{owned_edition}
+use Rattle.store_tables.specs.Typed.{owned_edition}
 use Rattle.dict_catalogue.specs.Views.{item_shown}
 use Rattle.store_rows.specs.Titles.{awaits, item_titled}
 use Rattle.store_rows.proofs.ListLemmas.{map_found}

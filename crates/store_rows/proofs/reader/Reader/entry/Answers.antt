@@ -1,8 +1,8 @@
 use Rattle.std.proofs.Common.{refl, subst, Some}
 use Rattle.std.specs.Prelude.{OnOk}
 use Rattle.std.proofs.lemmas.Result.{IfErr-weaker}
-use Rattle.store_records.specs.Records.{shown_as}
-use Rattle.store_records.specs.Typed.{owned_entry}
+use Rattle.store_tables.specs.Records.{shown_as}
+use Rattle.store_tables.specs.Typed.{owned_entry}
 use Rattle.store_rows.specs.Given.{OnDamage}
 use Rattle.store_rows.specs.Taken.{IsInHand}
 use Rattle.store_rows.specs.declared.fault.RowsFault.{RowsFault}

@@ -1,6 +1,6 @@
 use Rattle.std.proofs.Common.{◌≡◌, ◌+◌, ◌<◌, inl, true, false, arith, refl, sym, ◌∙◌, ◌++◌, ◌∷◌, [], subst}
 use Rattle.std.proofs.lemmas.Result.{err_from_is_err_and}
-use Rattle.store_records.specs.Typed.{owned_kept}
+use Rattle.store_tables.specs.Typed.{owned_kept}
 use Rattle.store_rows.specs.Taken.{AreKept}
 use Rattle.store_rows.proofs.KeptLemmas.{kept_more, kept_taken, kept_refused}
 use Rattle.store_rows.proofs.reader.Reader.kept.Goals as goal

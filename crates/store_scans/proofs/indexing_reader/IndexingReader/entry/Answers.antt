@@ -1,6 +1,6 @@
 use Rattle.std.proofs.Common.{◌≡◌, [], ◌∷◌}
-use Rattle.store_records.specs.Records.{shown_as}
-use Rattle.store_records.specs.Typed.{owned_entry}
+use Rattle.store_tables.specs.Records.{shown_as}
+use Rattle.store_tables.specs.Typed.{owned_entry}
 use Rattle.store_rows.specs.declared.fault.RowsFault.{RowsFault}
 use Rattle.store_rows.specs.declared.fault.RowsFault.TheVariants.{Damaged}
 use Rattle.store_sql.proofs.StreamLemmas.{passed_on}

@@ -1,7 +1,7 @@
 use Rattle.std.proofs.Common.{[], ◌∷◌, subst}
 use Rattle.std.proofs.lemmas.Result.{on_ok_weaker}
-use Rattle.store_records.specs.Records.{shown_as}
-use Rattle.store_records.specs.Typed.{owned_entry}
+use Rattle.store_tables.specs.Records.{shown_as}
+use Rattle.store_tables.specs.Typed.{owned_entry}
 use Rattle.store_scans.specs.Entries.{AreNotTaken}
 use Rattle.store_scans.specs.IndexingReader.{shown_entry_in, AreTakenAndIndexed}
 use Rattle.store_scans.proofs.TakerLemmas.{if_err_then, added_next, added_refused}

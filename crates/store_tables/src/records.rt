@@ -1,7 +1,7 @@
 //! One record for each table, over the type of its texts: `&str` where a record is written, `String` where it was read.
 
 ghost use Rattle.std.specs.Prelude.{◌≡◌};
-ghost use Rattle.store_records.specs.Typed.{lent_mark, lent_item, lent_member, lent_edition, lent_entry, lent_kept, owned_mark, owned_item, owned_member, owned_edition, owned_entry, owned_kept};
+ghost use Rattle.store_tables.specs.Typed.{lent_mark, lent_item, lent_member, lent_edition, lent_entry, lent_kept, owned_mark, owned_item, owned_member, owned_edition, owned_entry, owned_kept};
 
 /// A record beside the rowid of the row that it stands in.
 #[derive(Debug, PartialEq, Eq, Drop)]

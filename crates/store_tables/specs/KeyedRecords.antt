@@ -1,9 +1,9 @@
 -- The records of entries with what is derived of their headwords: numbers, and texts and blobs as their octets.
 use Rattle.std.specs.Prelude.{ℕ, ℤ, List, String, Vec, string_bytes}
 use Rattle.std.specs.declared.alloc.Global.{Global}
-use Rattle.store_records.specs.Records.{EntryRecord}
-use Rattle.store_records.specs.declared.keyed.KeyedEntry.{KeyedEntry as TypedEntry}
-use Rattle.store_records.specs.declared.keyed.OldEntry.{OldEntry as TypedOld}
+use Rattle.store_tables.specs.Records.{EntryRecord}
+use Rattle.store_tables.specs.declared.keyed_records.KeyedEntry.{KeyedEntry as TypedEntry}
+use Rattle.store_tables.specs.declared.keyed_records.OldEntry.{OldEntry as TypedOld}
 
 -- a headword of an edition, where its body stands in the edition's text, its key, the key's octets in reverse order, and the
 -- headword that is shown

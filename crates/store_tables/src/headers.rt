@@ -1,7 +1,7 @@
 //! An edition without its text, over the type of its texts: `&str` where it is written, `String` where it was read.
 
 ghost use Rattle.std.specs.Prelude.{◌≡◌};
-ghost use Rattle.store_records.specs.Typed.{lent_header, owned_header};
+ghost use Rattle.store_tables.specs.Typed.{lent_header, owned_header};
 
 /// What is said of an edition, without its text.
 #[derive(Debug, PartialEq, Eq, Drop)]

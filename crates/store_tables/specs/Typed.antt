@@ -2,15 +2,15 @@
 use denote.Ref.{Bor}
 use Rattle.std.specs.Prelude.{ℕ, List, option_map, String, Vec, string_bytes}
 use Rattle.std.specs.declared.alloc.Global.{Global}
-use Rattle.store_records.specs.Records as spec
-use Rattle.store_records.specs.declared.records.Mark.{Mark}
-use Rattle.store_records.specs.declared.records.ItemRecord.{ItemRecord}
-use Rattle.store_records.specs.declared.records.Member.{Member}
-use Rattle.store_records.specs.declared.records.EditionRecord.{EditionRecord}
-use Rattle.store_records.specs.declared.records.EntryRecord.{EntryRecord}
-use Rattle.store_records.specs.declared.records.KeptRecord.{KeptRecord}
-use Rattle.store_records.specs.declared.records.StoredRow.{StoredRow}
-use Rattle.store_records.specs.declared.headers.HeaderRecord.{HeaderRecord}
+use Rattle.store_tables.specs.Records as spec
+use Rattle.store_tables.specs.declared.records.Mark.{Mark}
+use Rattle.store_tables.specs.declared.records.ItemRecord.{ItemRecord}
+use Rattle.store_tables.specs.declared.records.Member.{Member}
+use Rattle.store_tables.specs.declared.records.EditionRecord.{EditionRecord}
+use Rattle.store_tables.specs.declared.records.EntryRecord.{EntryRecord}
+use Rattle.store_tables.specs.declared.records.KeptRecord.{KeptRecord}
+use Rattle.store_tables.specs.declared.records.StoredRow.{StoredRow}
+use Rattle.store_tables.specs.declared.headers.HeaderRecord.{HeaderRecord}
 
 -- Each takes what the octets of a text are.
 

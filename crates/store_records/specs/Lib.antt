@@ -1,3 +1,0 @@
-pub mod Keyed
-pub mod Records
-pub mod Typed
