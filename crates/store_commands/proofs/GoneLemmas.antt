@@ -12,7 +12,7 @@ use Rattle.sqlite.specs.Order.{Row, column}
 use Rattle.sqlite.specs.declared.types.Value.{Value}
 use Rattle.sqlite.specs.declared.types.Value.TheVariants.{Int}
 use Rattle.store_sql.specs.Effects.{IsRemoved, equals_number, same_value}
-use Rattle.store_records.specs.Records.{EditionRecord, EntryRecord}
+use Rattle.store_tables.specs.Records.{EditionRecord, EntryRecord}
 use Rattle.store_rows.specs.Tables.{same_number}
 use Rattle.store_rows.specs.After.{is_gone}
 use Rattle.store_rows.proofs.SelectionLemmas.{filter_filter, filter_alike}

@@ -15,10 +15,10 @@ use Rattle.sqlite.specs.declared.types.Value.TheVariants.{Int, Text}
 use Rattle.store_sql.specs.Effects.{equals_text, rows_of}
 use Rattle.store_sql.specs.Encodings.{kept_row, number_or_null, stored_kept}
 use Rattle.store_sql.specs.Reads.{IsSelection}
-use Rattle.store_records.specs.Records.{KeptRecord}
-use Rattle.store_records.specs.Typed.{owned_kept}
-use Rattle.store_records.specs.declared.records.StoredRow.{StoredRow}
-use Rattle.store_records.specs.declared.records.KeptRecord as typed
+use Rattle.store_tables.specs.Records.{KeptRecord}
+use Rattle.store_tables.specs.Typed.{owned_kept}
+use Rattle.store_tables.specs.declared.records.StoredRow.{StoredRow}
+use Rattle.store_tables.specs.declared.records.KeptRecord as typed
 use Rattle.dict_catalogue.specs.Steps.{KeptFor, Catalogue, kept_under}
 use Rattle.dict_catalogue.specs.WellFormed.{IsEachOnce, how_many}
 use Rattle.dict_catalogue.specs.declared.reply.Verb.{Verb}

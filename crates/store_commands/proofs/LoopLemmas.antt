@@ -12,7 +12,7 @@ use Rattle.store_holdings.specs.AllTables.{AllTables}
 use Rattle.store_rows.specs.Written.{numbered}
 use Rattle.store_rows.proofs.ListLemmas.{numbered_append, numbered_push, map_next}
 use Rattle.store_commands.specs.KeptRecords.{HasRecords}
-use Rattle.store_records.specs.Records.{ItemRecord, Member, Part}
+use Rattle.store_tables.specs.Records.{ItemRecord, Member, Part}
 use Rattle.store_commands.specs.Changes.{with_more_items, with_more_members, with_more_parts}
 use Rattle.store_commands.specs.Writes.{WroteStatements, FailsToWrite, CommitsNothing}
 use Rattle.store_commands.proofs.WriteLemmas.{wrote_none, wrote_then, wrote_as, failed_before, failed_after}

@@ -1,5 +1,5 @@
 -- Parts of one number that are taken out some at a time, and then the rest.
-use Rattle.std.proofs.Common.{◌≡◌, ℕ, ◌+◌, ◌<◌, ◌&&◌, ℤ, pos, Bool, true, false, List, [], ◌∷◌, map, length, take, get_or, codes, filter, not, drop, refl, sym, ap, subst, ◌∙◌}
+use Rattle.std.proofs.Common.{◌≡◌, ℕ, ◌+◌, ◌-◌, ◌^◌, ◌<◌, ◌≤◌, min, ◌&&◌, ℤ, pos, Bool, true, false, List, [], ◌∷◌, map, length, take, get_or, codes, filter, not, drop, refl, sym, ap, subst, ◌∙◌, ◌⊎◌, inl, inr, arith}
 use Rattle.std.specs.List.{list_any}
 use Rattle.std.specs.Ordering.{is_lt}
 use Rattle.std.proofs.lemmas.List.Folds.{list_any_more}
@@ -11,17 +11,17 @@ use Rattle.sqlite.specs.declared.error.Error.{Error}
 use Rattle.sqlite.specs.declared.types.Value.TheVariants.{Int}
 use Rattle.sqlite_trees.specs.declared.store.Store.{Ghosts}
 use Rattle.store_sql.specs.Deletes.{Removes, FailsToRemove}
-use Rattle.store_sql.specs.Effects.{IsRemoved, equals_number}
+use Rattle.store_sql.specs.Effects.{IsRemoved, count_in, equals_number, rows_of}
 use Rattle.store_sql.specs.Statements.{Statement, remove}
 use Rattle.store_edition_sql.specs.PartRecords.{part_row}
-use Rattle.store_edition_sql.specs.Chosen.{is_part_from}
-use Rattle.store_records.specs.Records.{Part}
+use Rattle.store_edition_sql.specs.Chosen.{is_of_file, is_part_from}
+use Rattle.store_tables.specs.Records.{Part}
 use Rattle.store_rows.specs.After.{is_gone}
 use Rattle.store_rows.proofs.SelectionLemmas.{filter_filter}
 use Rattle.store_holdings.specs.AllTables.{AllTables}
 use Rattle.store_commands.specs.KeptRecords.{HasRecords, TurnsRecords}
 use Rattle.store_commands.specs.Changes.{without_parts}
-use Rattle.store_commands.specs.Orphans.{with_parts_that}
+use Rattle.store_commands.specs.Orphans.{parts_under, with_parts_that}
 use Rattle.store_commands.specs.Statements.{taking_of, taking_from, taking_parts}
 use Rattle.store_commands.specs.Writes.{WroteStatements, FailsToWrite, CommitsNothing}
 use Rattle.store_commands.proofs.GoneLemmas.{all_stay, neither, tested}
@@ -143,3 +143,45 @@ module _ {S : Type 0} (g : Ghosts S) (number : ℕ) where
 
     pub all_failed : (e : Error) → (HasCleanDisk (state g new) → FailsToRemove (codes "dictcat_part") (equals_number 1 given) (state g mid) (state g new) e) → FailsToWrite g (taking_parts number xs) old new e
     all_failed e h = failed_after g (last_ones xs) (taking_of (codes "dictcat_part") number ∷ []) (behind xs) old mid new e so_far spares (rest_failed given is mid new survives e h)
+
+-- ---- how many are left
+
+cases_of : (b : Bool) → (b ≡ true) ⊎ (b ≡ false)
+cases_of true = inl refl
+cases_of false = inr refl
+
+-- of those that pass a test, those that pass a narrower one go
+pub split_count : {X : Type 0} (p q : X → Bool) → ((x : X) → q x ≡ true → p x ≡ true) → (xs : List X) → length (filter p (filter (λ x. not (q x)) xs)) + length (filter q xs) ≡ length (filter p xs)
+split_count p q narrow [] = refl
+split_count p q narrow (x ∷ xs) =
+    let rest = split_count p q narrow xs in
+    elim (cases_of (q x)) [
+      | inl goes ↦ (let passes = narrow x goes in rw (goes, passes) (omega (arith, rest)))
+      | inr stays ↦ elim (cases_of (p x)) [
+        | inl passes ↦ rw (stays, passes) (omega (arith, rest))
+        | inr none ↦ rw (stays, none) rest
+      ]
+    ]
+
+first_of : (a b : Bool) → (a && b) ≡ true → a ≡ true
+first_of true b h = refl
+first_of false b h = h
+
+late_numbered : (number : ℕ) (bound : ℤ × ℤ) (row : Row) → is_part_from (pos number) bound.0 bound.1 row ≡ true → equals_number 1 (pos number) row ≡ true
+late_numbered number bound row h = first_of (equals_number 1 (pos number) row) (equals_number 2 bound.0 row) (first_of (is_of_file (pos number) bound.0 row) (not (is_lt (value_cmp (column row 3) (Int bound.1)))) h)
+
+-- as many fewer as a statement tells
+pub late_fewer : (number : ℕ) (bound : ℤ × ℤ) (given file from : ℤ) → given ≡ pos number → file ≡ bound.0 → from ≡ bound.1 → (old new : Database) (count : ℕ) → IsRemoved (codes "dictcat_part") (is_part_from given file from) old new
+    → count ≡ count_in (codes "dictcat_part") (is_part_from given file from) old → parts_under number new + count ≡ parts_under number old
+late_fewer number bound given file from is of at old new count removed counted =
+    let test : Row → Bool = is_part_from (pos number) bound.0 bound.1 in
+    let same : is_part_from given file from ≡ test = λ i. is_part_from (is i) (of i) (at i) in
+    let rows : rows_of (codes "dictcat_part") new ≡ filter (λ r. not (test r)) (rows_of (codes "dictcat_part") old) =
+    removed.rows ∙ ap (λ (t : Row → Bool). filter (λ r. not (t r)) (rows_of (codes "dictcat_part") old)) same in
+    let told : count ≡ length (filter test (rows_of (codes "dictcat_part") old)) = counted ∙ ap (λ (t : Row → Bool). length (filter t (rows_of (codes "dictcat_part") old))) same in
+    ap (λ l. length (filter (equals_number 1 (pos number)) l) + count) rows ∙ ap (λ n. length (filter (equals_number 1 (pos number)) (filter (λ r. not (test r)) (rows_of (codes "dictcat_part") old))) + n) told
+    ∙ split_count (equals_number 1 (pos number)) test (late_numbered number bound) (rows_of (codes "dictcat_part") old)
+
+-- and so over several
+pub sum_fewer : (all taken sum before mid new : ℕ) → sum ≡ min (all + taken) (2 ^ 64 - 1) → new + taken ≡ mid → mid + all ≤ before → new + sum ≤ before
+sum_fewer all taken sum before mid new is one so_far = omega (arith, is, one, so_far)

@@ -21,7 +21,7 @@ use Rattle.store_edition_sql.specs.HeaderTable.{header}
 use Rattle.store_edition_sql.specs.HeaderRecords.{header_row}
 use Rattle.store_edition_sql.specs.PartTable.{part}
 use Rattle.store_edition_sql.specs.PartRecords.{part_row}
-use Rattle.store_records.specs.Records.{Mark, ItemRecord, Member, EditionRecord, EntryRecord, Part, KeptRecord, header_of}
+use Rattle.store_tables.specs.Records.{Mark, ItemRecord, Member, EditionRecord, EntryRecord, Part, KeptRecord, header_of}
 use Rattle.store_rows.specs.Versions.{Parted}
 use Rattle.store_holdings.specs.AllTables.{AllTables}
 use Rattle.store_holdings.specs.Readings.{TableReading, table_name_of, readings, KeepsRows}

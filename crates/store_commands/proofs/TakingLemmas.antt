@@ -1,6 +1,6 @@
 -- What a database holds still where parts of no edition were taken out, or came.
 use Rattle.std.proofs.Common.{◌≡◌, ◌≢◌, ℕ, ◌+◌, ◌≤◌, ◌&&◌, ◌||◌, ℤ, pos, Bool, true, false, List, [], ◌∷◌, ◌++◌, map, filter, not, codes, refl, sym, ap, subst, ◌∙◌, arith, append_assoc, append-nil}
-use Rattle.std.specs.Prelude.{IsTrue, slice_range}
+use Rattle.std.specs.Prelude.{IsTrue, IfOk, OnOk, Result, Ok, Err, slice_range}
 use Rattle.std.specs.List.{AllByRecursion, list_any}
 use Rattle.std.specs.List.Sorted.{IsPermutation}
 use Rattle.std.proofs.lemmas.Bool.{false≢true}
@@ -18,7 +18,7 @@ use Rattle.dict_catalogue.specs.Views.{item_shown}
 use Rattle.dict_catalogue.specs.declared.summary.Item.{Item}
 use Rattle.dict_catalogue.specs.Steps.{Catalogue, summary_of}
 use Rattle.dict_catalogue.specs.Tests.{Holdings}
-use Rattle.store_records.specs.Records.{EditionRecord, Part}
+use Rattle.store_tables.specs.Records.{EditionRecord, Part}
 use Rattle.store_edition_sql.specs.PartRecords.{part_row}
 use Rattle.store_sql.specs.Effects.{equals_number}
 use Rattle.store_rows.specs.Versions.{known}
@@ -256,3 +256,9 @@ none_has number stays its db all it =
     sym (filter_map part_row (λ row. equals_number 0 (pos number) row) q (λ p. refl) rest) ∙ ap (map part_row) none in
     none_at_all (rows_under (codes "dictcat_part") number db)
     (subst (λ l. IsPermutation l (rows_under (codes "dictcat_part") number db)) nothing (stands_under (codes "dictcat_part") part_row number db rest (parts_kept db (with_parts_that stays all) it)))
+
+-- ---- what an answer tells where it succeeds
+
+pub with_ok : {E : Type 0} (result : Result Bool E) (L : Type 0) (P Q : Bool → Type 0) → OnOk result L → (L → (b : Bool) → P b → Q b) → IfOk result P → IfOk result Q
+with_ok (Ok b) L P Q on f it = f on b it
+with_ok (Err e) L P Q on f it = tt

@@ -8,7 +8,7 @@ use Rattle.dict_catalogue.specs.Views.{item_shown, summary_shown, kept_shown}
 use Rattle.dict_catalogue.specs.declared.commands.Command.{Command}
 use Rattle.dict_catalogue.specs.declared.commands.Command.TheVariants.{Install, Rollback, Retire, PutVirtual, Place}
 use Rattle.dict_catalogue.specs.declared.planning.PlannedChange.{PlannedChange as Planned}
-use Rattle.store_records.specs.Records.{ItemRecord, Member, EditionRecord, HeaderRecord, Part, header_of}
+use Rattle.store_tables.specs.Records.{ItemRecord, Member, EditionRecord, HeaderRecord, Part, header_of}
 use Rattle.store_holdings.specs.Files.{installed_parts}
 use Rattle.store_holdings.specs.AllTables.{AllTables, beside_installed}
 use Rattle.store_rows.specs.Stored.{stored_index}

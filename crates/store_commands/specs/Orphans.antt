@@ -1,10 +1,12 @@
 -- Parts of no edition, taken out by one commit.
-use Rattle.std.specs.Prelude.{◌≡◌, ◌⊎◌, ℕ, ℤ, pos, Bool, true, false, List, [], filter, map, take, Option, None, codes}
+use Rattle.std.specs.Prelude.{◌≡◌, ◌<◌, ◌⊎◌, ℕ, ℤ, pos, Bool, true, false, List, [], filter, map, take, Option, None, codes}
 use Rattle.sqlite.specs.Effect.{Database}
-use Rattle.sqlite.specs.Held.{Held}
+use Rattle.sqlite.specs.Held.{Held, state}
+use Rattle.sqlite.specs.State.{HasCleanDisk}
 use Rattle.sqlite_trees.specs.declared.store.Store.{Ghosts}
+use Rattle.store_sql.specs.Effects.{count_in, equals_number}
 use Rattle.store_sql.specs.Statements.{Statement}
-use Rattle.store_records.specs.Records.{Part}
+use Rattle.store_tables.specs.Records.{Part}
 use Rattle.dict_desk.specs.declared.fault.Fault.{Fault}
 use Rattle.store_rows.specs.Tables.{same_number}
 use Rattle.store_holdings.specs.AllTables.{AllTables}
@@ -28,18 +30,24 @@ pub record LosesParts (number : ℕ) (old new : Database) : Type 0 where
   pub others : (part : Part) → same_number (pos number) part.edition ≡ false → stays part ≡ true
   pub turns : TurnsRecords (with_parts_that stays) old new
 
+-- how many parts have this number
+abbrev pub parts_under : ℕ → Database → ℕ
+parts_under number db = count_in (codes "dictcat_part") (equals_number 1 (pos number)) db
+
 -- no part has this number
 abbrev pub HasNoParts : ℕ → Database → Type 0
 HasNoParts number db = rows_under (codes "dictcat_part") number db ≡ []
 
 module _ {S : Type 0} (g : Ghosts S) where
-  -- Such statements ran within the transaction, and made nothing else of the records; where there is no more, no part has the number.
+  -- Such statements ran within the transaction, and made nothing else of the records; where there may be more, fewer parts have the number
+  -- than before, and where there is no more, none has.
   pub record TakesOut (number : ℕ) (bounds : List (ℤ × ℤ)) (more : Bool) (old new : Held S) : Type 0 where
     pub statements : List Statement
     pub are : AreTakingOut number bounds statements
     pub stays : Part → Bool
     pub wrote : WroteStatements g statements (with_parts_that stays) old new
     pub others : (part : Part) → same_number (pos number) part.edition ≡ false → stays part ≡ true
+    pub fewer : HasCleanDisk (state g new) → more ≡ true → parts_under number (state g new).now < parts_under number (state g old).now
     pub its : more ≡ false → (part : Part) → same_number (pos number) part.edition ≡ true → stays part ≡ false
 
   -- Such statements, or their commit, failed.

@@ -9,7 +9,7 @@ use Rattle.store_sql.specs.Statements.{Statement, add, remove}
 use Rattle.store_edition_sql.specs.HeaderRecords.{header_row}
 use Rattle.store_edition_sql.specs.PartRecords.{part_row}
 use Rattle.store_edition_sql.specs.Chosen.{is_part_from}
-use Rattle.store_records.specs.Records.{Mark, ItemRecord, Member, EditionRecord, Part, KeptRecord, header_of}
+use Rattle.store_tables.specs.Records.{Mark, ItemRecord, Member, EditionRecord, Part, KeptRecord, header_of}
 use Rattle.store_holdings.specs.Files.{installed_parts}
 use Rattle.dict_catalogue.specs.Items.{Item}
 use Rattle.dict_catalogue.specs.Steps.{KeptFor}

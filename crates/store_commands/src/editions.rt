@@ -2,8 +2,8 @@
 ghost use Rattle.std.specs.Prelude.{◌≡◌, ◌≤◌, [], ◌∷◌, IfErr, OnOk, Option, flat_map, length, map, option_copied, option_map, slice_range};
 ghost use Rattle.sqlite.specs.Held.{state};
 ghost use Rattle.store_sql.specs.Effects.{WhileOpen};
-ghost use Rattle.store_records.specs.Records.{header_of};
-ghost use Rattle.store_records.specs.Typed.{lent_header};
+ghost use Rattle.store_tables.specs.Records.{header_of};
+ghost use Rattle.store_tables.specs.Typed.{lent_header};
 ghost use Rattle.dict_index.specs.Edition.{ReadEdition};
 ghost use Rattle.store_rows.specs.After.{Installed, installed_editions};
 ghost use Rattle.store_rows.specs.Written.{edition_record};
@@ -17,8 +17,8 @@ use crate::files::{EditionFiles, add_parts};
 use dict_catalogue::Command;
 use sqlite::{Alter, Error};
 use store_edition_sql::{delete_header, delete_parts, delete_parts_from, insert_header};
-use store_records::HeaderRecord;
 use store_sql::transaction::OpenTransaction;
+use store_tables::HeaderRecord;
 
 // A statement has all rows that it takes out in memory, so a text goes 128 parts, which are 2 MiB, at a time, and then an index does. Each of
 // these is a file, 1 the text and 0 the index, and the number from which on its parts go, the last ones first.

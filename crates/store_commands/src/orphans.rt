@@ -1,5 +1,5 @@
 // Parts of no edition, taken out some at a time.
-ghost use Rattle.std.specs.Prelude.{◌≡◌, ◌≢◌, true, false, IsTrue, Some, IfErr, IfOk, IfSome, OnErr, OnOk};
+ghost use Rattle.std.specs.Prelude.{◌≡◌, ◌≢◌, ◌<◌, true, false, IsTrue, Some, IfErr, IfOk, IfSome, OnErr, OnOk};
 ghost use Rattle.std.specs.List.{AllByRecursion};
 ghost use Rattle.sqlite.specs.Disk.{MoreFaults};
 ghost use Rattle.sqlite.specs.Effect.{IsDatabase};
@@ -14,7 +14,7 @@ ghost use Rattle.store_commands.specs.Committed.{IsOfStore, StaysCommitted};
 ghost use Rattle.store_commands.specs.Answers.{HoldsBy};
 ghost use Rattle.store_commands.specs.FiledParts.{FailsAmong};
 ghost use Rattle.store_commands.specs.Marking.{Remains};
-ghost use Rattle.store_commands.specs.Orphans.{AreTakingOut, LosesParts, HasNoParts, TakesOut, FailsToTakeOut, FailsToTakeOrphans};
+ghost use Rattle.store_commands.specs.Orphans.{AreTakingOut, LosesParts, HasNoParts, TakesOut, FailsToTakeOut, FailsToTakeOrphans, parts_under};
 ghost use Rattle.store_commands.specs.Writes.{CommitsNothing};
 
 use crate::editions::LAST_PARTS;
@@ -93,6 +93,7 @@ fn commit_slice<S: Alter>(conn: &mut Connection<S>, number: u64) -> Result<bool,
     requires number { FitsColumn number }
     requires usable { WhileOpen (state S.Store conn.old) IsUsable }
     ensures made { HasCleanDisk (state S.Store conn.new) → OnOk result (IsCommitted (λ db. IsTrue (state S.Store conn.old).is_open × LosesParts number (state S.Store conn.old).now db) (state S.Store conn.new)) }
+    ensures fewer { HasCleanDisk (state S.Store conn.new) → IfOk result (λ more. more ≡ true → parts_under number (state S.Store conn.new).committed < parts_under number (state S.Store conn.old).now) }
     ensures cleared { HasCleanDisk (state S.Store conn.new) → IfOk result (λ more. more ≡ false → HasNoParts number (state S.Store conn.new).committed) }
     ensures stays { HasCleanDisk (state S.Store conn.new) → OnErr result (StaysCommitted (state S.Store conn.old) (state S.Store conn.new)) }
     ensures lives { HasCleanDisk (state S.Store conn.new) → IsTrue (state S.Store conn.new).is_open → IsTrue (state S.Store conn.old).is_open }
@@ -115,7 +116,7 @@ fn commit_slice<S: Alter>(conn: &mut Connection<S>, number: u64) -> Result<bool,
 
 /// Takes out some parts of this number by one commit, where no edition of the summary has it: parts of an edition that went, or of one that
 /// never came. From its last part on a text goes some 128 parts, which are 2 MiB, at a time, and then an index does: a commit takes 64 to 191,
-/// where there are as many. It answers whether there may be more; else none is left. Each catalogue of this summary that was held is held
+/// where there are as many. It answers whether there may be more, and fewer are left then than before; else none is left. Each catalogue of this summary that was held is held
 /// still, and a stop leaves no other.
 ///
 /// At an error what was committed is so still. `Memory` tells that a growth was refused, `Disk` that the disk failed. None tells that a
@@ -128,6 +129,7 @@ pub fn take_orphans<S: Alter>(
     requires autocommit { conn.old.in_transaction ≡ false }
     requires holds { HoldsBy (summary_shown summary.now) (state S.Store conn.old) }
     ensures made { HasCleanDisk (state S.Store conn.new) → OnOk result (IsCommitted (Remains (summary_shown summary.now) (state S.Store conn.old).committed) (state S.Store conn.new)) }
+    ensures fewer { HasCleanDisk (state S.Store conn.new) → IfOk result (λ more. more ≡ true → parts_under number (state S.Store conn.new).committed < parts_under number (state S.Store conn.old).committed) }
     ensures cleared { HasCleanDisk (state S.Store conn.new) → IfOk result (λ more. more ≡ false → HasNoParts number (state S.Store conn.new).committed) }
     ensures stays { HasCleanDisk (state S.Store conn.new) → OnErr result (StaysCommitted (state S.Store conn.old) (state S.Store conn.new)) }
     ensures lives { HasCleanDisk (state S.Store conn.new) → IsTrue (state S.Store conn.new).is_open → IsTrue (state S.Store conn.old).is_open }

@@ -4,7 +4,7 @@ ghost use Rattle.sqlite.specs.State.{HasCleanDisk, IsUnchanged, Survives};
 ghost use Rattle.sqlite.specs.Held.{state};
 ghost use Rattle.store_tables.specs.Tables.{kept as kept_table};
 ghost use Rattle.store_sql.specs.Effects.{Has, WhileOpen};
-ghost use Rattle.store_records.specs.Typed.{owned_kept};
+ghost use Rattle.store_tables.specs.Typed.{owned_kept};
 ghost use Rattle.dict_catalogue.specs.Steps.{Catalogue, KeptFor, kept_under};
 ghost use Rattle.dict_catalogue.specs.Views.{kept_shown};
 ghost use Rattle.dict_catalogue.specs.declared.reply.Verb.{Verb as AVerb};
@@ -20,10 +20,10 @@ use dict_desk::Fault;
 use sqlite::{Alter, Connection};
 use std::alloc::{AllocError, Global};
 use store_holdings::fault_of_read;
-use store_records::KeptRecord as KeptRow;
 use store_rows::{number_in, verb_in};
 use store_sql::read::kept_replies_of;
 use store_sql::records::ReadError;
+use store_tables::KeptRecord as KeptRow;
 
 // The number that stands in a column, if one does.
 fn number_if(found: &Option<i64>) -> Option<Option<u64>>

@@ -7,7 +7,7 @@ ghost use Rattle.sqlite.specs.Held.{state};
 ghost use Rattle.store_sql.specs.Effects.{WhileOpen};
 ghost use Rattle.dict_catalogue.specs.Items.{numbers_of};
 ghost use Rattle.dict_catalogue.specs.Views.{item_shown, kept_shown};
-ghost use Rattle.store_records.specs.Typed.{lent_header};
+ghost use Rattle.store_tables.specs.Typed.{lent_header};
 ghost use Rattle.store_rows.specs.After.{Installed};
 ghost use Rattle.store_rows.specs.Versions.{known};
 ghost use Rattle.store_holdings.specs.AllTables.{all_after};
@@ -20,10 +20,10 @@ use crate::editions::{add_header, add_installed, installed_header, take_editions
 use crate::small::{write_items, write_mark, write_members};
 use dict_catalogue::{Command, Kept, PlannedChange, Summary};
 use sqlite::{Alter, Error};
-use store_records::HeaderRecord;
 use store_rows::kept_row;
 use store_sql::insert::insert_kept;
 use store_sql::transaction::OpenTransaction;
+use store_tables::HeaderRecord;
 
 /// Writes the mark, the items and the members of a summary anew.
 pub(crate) fn write_summary<S: Alter, T: OpenTransaction<S>>(

@@ -2,8 +2,8 @@ use Rattle.std.proofs.Common.{◌≡◌, codes, [], ◌∷◌, refl, map, Some, 
 use Rattle.std.specs.Prelude.{option_map, option_copied}
 use Rattle.sqlite.specs.Held.{state}
 use Rattle.store_edition_sql.specs.HeaderRecords.{header_row}
-use Rattle.store_records.specs.Records.{EditionRecord}
-use Rattle.store_records.specs.Typed.{lent_header}
+use Rattle.store_tables.specs.Records.{EditionRecord}
+use Rattle.store_tables.specs.Typed.{lent_header}
 use Rattle.store_sql.proofs.StreamLemmas.{passed_on}
 use Rattle.store_rows.specs.After.{installed_editions}
 use Rattle.store_commands.specs.Changes.{with_more_editions}

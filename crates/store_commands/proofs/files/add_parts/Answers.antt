@@ -2,7 +2,7 @@ use Rattle.std.proofs.Common.{◌-◌, ◌<◌, ◌≤◌, refl, subst, arith, m
 use Rattle.std.specs.Prelude.{slice_range}
 use Rattle.sqlite.specs.Held.{state}
 use Rattle.store_sql.proofs.StreamLemmas.{passed_on}
-use Rattle.store_records.specs.Records.{Part}
+use Rattle.store_tables.specs.Records.{Part}
 use Rattle.store_edition_sql.specs.PartRecords.{lent_part, part_row}
 use Rattle.store_commands.specs.Changes.{with_more_parts}
 use Rattle.store_commands.specs.Filing.{parts_of_files}

@@ -1,4 +1,4 @@
-use Rattle.std.proofs.Common.{◌≡◌, true, rules, sym, ap, subst, ◌∙◌, inl, inr, arith}
+use Rattle.std.proofs.Common.{◌≡◌, ◌<◌, true, rules, sym, ap, subst, ◌∙◌, inl, inr, arith}
 use Rattle.std.specs.Prelude.{IsTrue}
 use Rattle.sqlite.specs.Disk.{MoreFaults}
 use Rattle.sqlite.specs.Effect.{Database, IsDatabase}
@@ -6,7 +6,7 @@ use Rattle.sqlite.specs.State.{HasCleanDisk, Survives, Fails, IsRolledBack}
 use Rattle.sqlite.specs.Held.{Held, state}
 use Rattle.store_holdings.proofs.CommitLemmas.{leaves, done, only_left, commit_fails, keeps_begun, stays_undone}
 use Rattle.store_commands.specs.KeptRecords.{TurnsRecords}
-use Rattle.store_commands.specs.Orphans.{LosesParts, HasNoParts, with_parts_that}
+use Rattle.store_commands.specs.Orphans.{LosesParts, HasNoParts, parts_under, with_parts_that}
 use Rattle.store_holdings.specs.Committed.{IsCommitted, IsTreesOf}
 use Rattle.store_commands.specs.Committed.{StaysCommitted}
 use Rattle.sqlite.proofs.Callers.{survives_begin}
@@ -60,6 +60,18 @@ returns-in-Ok-commit-clause-cleared g c clean = λ none.
     let gone : HasNoParts c.args.number (state g.S.Store mid).now = none_has c.args.number stays (c.in-Ok.ensures.taken.its none) (state g.S.Store mid).now some.0 (turns some.0 some.1).0 in
     let shown = (c.in-Ok-commit.ensures.committed late).1 in
     subst (λ h. HasNoParts c.args.number (state g.S.Store h).committed) same (subst (HasNoParts c.args.number) (sym shown.committed_is) gone)
+
+pub returns-in-Ok-commit-clause-fewer : goal.returns-in-Ok-commit-clause-fewer
+returns-in-Ok-commit-clause-fewer g c clean = λ some.
+    let mid = c.take_slice.new.tx.conn.now in
+    let end = c.commit.new.tx.0 in
+    let same : end ≡ c.conn-2-1.given.0 = search rules in
+    let late : HasCleanDisk (state g.S.Store end) = subst (λ h. HasCleanDisk (state g.S.Store h)) (sym same) clean in
+    let early : HasCleanDisk (state g.S.Store mid) = omega (arith, c.commit.ensures.survives.clean, late) in
+    let shown = (c.in-Ok-commit.ensures.committed late).1 in
+    let less = subst (λ h. parts_under c.args.number (state g.S.Store mid).now < parts_under c.args.number (state g.S.Store h).now) c.transaction-tx.ensures.begun (c.in-Ok.ensures.taken.fewer early some) in
+    subst (λ h. parts_under c.args.number (state g.S.Store h).committed < parts_under c.args.number (state g.S.Store c.args.conn.now).now) same
+    (subst (λ d. parts_under c.args.number d < parts_under c.args.number (state g.S.Store c.args.conn.now).now) (sym shown.committed_is) less)
 
 pub returns-in-Ok-commit-clause-crash : goal.returns-in-Ok-commit-clause-crash
 returns-in-Ok-commit-clause-crash g c =

@@ -1,4 +1,4 @@
-use Rattle.std.proofs.Common.{◌≡◌, ◌≢◌, false, inr, rules}
+use Rattle.std.proofs.Common.{◌≡◌, ◌≢◌, ◌<◌, Bool, true, false, subst, inr, rules}
 use Rattle.std.specs.Prelude.{IsTrue}
 use Rattle.std.specs.List.{AllByRecursion}
 use Rattle.sqlite.specs.Effect.{Database}
@@ -9,13 +9,13 @@ use Rattle.dict_catalogue.specs.Views.{summary_shown}
 use Rattle.store_holdings.specs.AllTables.{with_derived}
 use Rattle.store_holdings.specs.Committed.{IsCommitted}
 use Rattle.store_commands.specs.Marking.{Remains}
-use Rattle.store_commands.specs.Orphans.{LosesParts, FailsToTakeOut, FailsToTakeOrphans}
+use Rattle.store_commands.specs.Orphans.{LosesParts, FailsToTakeOut, FailsToTakeOrphans, parts_under}
 use Rattle.store_commands.proofs.ApplyLemmas.{holds_now}
 use Rattle.store_commands.proofs.DraftLemmas.{on_ok}
 use Rattle.store_commands.proofs.LoopLemmas.{each_err}
 use Rattle.store_commands.proofs.WriteLemmas.{clean_before}
 use Rattle.store_commands.proofs.MarkingLemmas.{committed_wider}
-use Rattle.store_commands.proofs.TakingLemmas.{HasNotNumber, none_of_items, remains_without}
+use Rattle.store_commands.proofs.TakingLemmas.{HasNotNumber, none_of_items, remains_without, with_ok}
 use Rattle.store_commands.proofs.orphans.take_orphans.Goals as goal
 
 pub commit_slice-requires-clause-usable : goal.commit_slice-requires-clause-usable
@@ -37,6 +37,18 @@ returns-clause-made g c clean =
     on_ok c.commit_slice.result (IsCommitted P new) (IsCommitted (Remains summary old.committed) new)
     (committed_wider P (Remains summary old.committed) new (λ db it. remains_without summary number apart old c.requires.holds (clean_before old new c.commit_slice.ensures.crash clean) it.0 db it.1))
     (c.commit_slice.ensures.made clean)
+
+pub returns-clause-fewer : goal.returns-clause-fewer
+returns-clause-fewer g c clean =
+    let number = c.args.number in
+    let old = state g.S.Store c.args.conn.now in
+    let new = state g.S.Store c.commit_slice.new.conn in
+    let L = IsCommitted (λ db. IsTrue old.is_open × LosesParts number old.now db) new in
+    let less : Database → Bool → Type 0 = λ db more. more ≡ true → parts_under number new.committed < parts_under number db in
+    with_ok c.commit_slice.result L (less old.now) (less old.committed)
+    (c.commit_slice.ensures.made clean)
+    (λ made more fewer some. subst (λ db. parts_under number new.committed < parts_under number db) (c.requires.holds (clean_before old new c.commit_slice.ensures.crash clean) made.holds.0).1.settled (fewer some))
+    (c.commit_slice.ensures.fewer clean)
 
 pub returns-clause-failed : goal.returns-clause-failed
 returns-clause-failed g c clean =

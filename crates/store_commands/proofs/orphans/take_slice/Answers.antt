@@ -1,20 +1,21 @@
-use Rattle.std.proofs.Common.{refl, subst, ap, sym, codes, get_or, pos, take, ◌+◌, false, not, ◌||◌, [], ◌∷◌, ◌∙◌, inl, inr, rules}
+use Rattle.std.proofs.Common.{refl, subst, ap, sym, codes, get_or, pos, take, ◌≡◌, ◌+◌, ◌≤◌, arith, false, not, ◌||◌, [], ◌∷◌, ◌∙◌, inl, inr, rules}
 use Rattle.std.proofs.lemmas.Bool.{false≢true}
 use Rattle.std.proofs.lemmas.Int.{to_z-of_z}
 use Rattle.std.proofs.lemmas.List.{take_all}
 use mir.Val.{to_z, SFits}
 use mir.Syntax.{w64}
 use Rattle.sqlite.specs.Held.{state}
+use Rattle.sqlite.specs.State.{HasCleanDisk}
 use Rattle.store_sql.specs.Effects.{equals_number}
 use Rattle.store_sql.proofs.StreamLemmas.{passed_on}
-use Rattle.store_records.specs.Records.{Part}
+use Rattle.store_tables.specs.Records.{Part}
 use Rattle.store_rows.specs.After.{is_gone}
 use Rattle.store_commands.specs.Statements.{taking_from, taking_parts}
 use Rattle.store_commands.specs.FiledParts.{FailsAmong}
-use Rattle.store_commands.specs.Orphans.{AreTakingOut}
+use Rattle.store_commands.specs.Orphans.{AreTakingOut, parts_under}
 use Rattle.store_commands.specs.Writes.{WroteStatements}
 use Rattle.store_commands.proofs.GoneLemmas.{handed}
-use Rattle.store_commands.proofs.PartLemmas.{behind, last_ones, parts_none, late_wrote, late_failed, parts_wrote, parts_failed, all_wrote, all_failed}
+use Rattle.store_commands.proofs.PartLemmas.{behind, last_ones, late_fewer, sum_fewer, parts_none, late_wrote, late_failed, parts_wrote, parts_failed, all_wrote, all_failed}
 use Rattle.store_commands.proofs.TableLemmas.{parts_to_remove}
 use Rattle.store_commands.proofs.TakingLemmas.{behind_stays, behind_others}
 use Rattle.store_commands.proofs.WriteLemmas.{spares_none, spares_removed, spares_then, usable_then}
@@ -34,6 +35,7 @@ each-init g c =
       same_reference = refl;
       wrote = parts_none g.S.Store n first;
       usable = c.requires.usable;
+      fewer = λ clean. omega (arith);
       spares = spares_none g.S.Store first;
     }
 
@@ -50,10 +52,16 @@ each-preserved g c =
     let file : SFits w64 bound.0 = search rules in
     let from : SFits w64 bound.1 = search rules in
     let one = late_wrote g.S.Store n bound _ _ _ (handed n c.requires.number) (to_z-of_z w64 bound.0 file) (to_z-of_z w64 bound.1 from) mid new c.delete_parts_from.ensures.survives c.in_ok-taken.ensures.removed in
+    let less : HasCleanDisk (state g.S.Store new) → parts_under n (state g.S.Store new).now + c.in_ok-taken.taken ≡ parts_under n (state g.S.Store mid).now = λ clean.
+    late_fewer n bound _ _ _ (handed n c.requires.number) (to_z-of_z w64 bound.0 file) (to_z-of_z w64 bound.1 from) (state g.S.Store mid).now (state g.S.Store new).now _
+    (c.in_ok-taken.ensures.removed clean).0 (c.in_ok-taken.ensures.counted clean) in
+    let fewer : HasCleanDisk (state g.S.Store new) → parts_under n (state g.S.Store new).now + c.saturating_add-all.result ≤ parts_under n (state g.S.Store first).now = λ clean.
+    sum_fewer c.each.all c.in_ok-taken.taken c.saturating_add-all.result _ _ _ c.saturating_add-all.ensures (less clean) (c.each.invariant.fewer (omega (arith, c.delete_parts_from.ensures.survives.clean, clean))) in
     record {
       same_reference = c.delete_parts_from.ensures.same_reference ∙ c.each.invariant.same_reference;
       wrote = parts_wrote g.S.Store n all i (pos 0, pos 0) c.each-test.true first mid new c.each.invariant.wrote spares one;
       usable = usable_then g.S.Store (taking_from n bound ∷ []) _ mid new c.each.invariant.usable one spares;
+      fewer = fewer;
       spares = spares_then g.S.Store first mid new c.each.invariant.spares spares;
     }
 
@@ -100,6 +108,7 @@ returns-clause-taken g c =
       stays = λ (r : Part). not (is_gone (n ∷ []) r.edition);
       wrote = all_wrote g.S.Store n all (to_z w64 n) (handed n c.requires.number) first mid new so_far c.delete_parts.ensures.survives spares c.in_ok-delete_parts.ensures.removed;
       others = λ part other. ap (λ b. not (b || false)) other;
+      fewer = λ clean some. absurd (false≢true some);
       its = λ none part it. ap (λ b. not (b || false)) it;
     }
 
@@ -128,12 +137,18 @@ returns-then-all-ge-ENOUGH-clause-taken g c =
     let file : SFits w64 bound.0 = search rules in
     let from : SFits w64 bound.1 = search rules in
     let one = late_wrote g.S.Store n bound _ _ _ (handed n c.requires.number) (to_z-of_z w64 bound.0 file) (to_z-of_z w64 bound.1 from) mid new c.delete_parts_from.ensures.survives c.in_ok-taken.ensures.removed in
+    let less : HasCleanDisk (state g.S.Store new) → parts_under n (state g.S.Store new).now + c.in_ok-taken.taken ≡ parts_under n (state g.S.Store mid).now = λ clean.
+    late_fewer n bound _ _ _ (handed n c.requires.number) (to_z-of_z w64 bound.0 file) (to_z-of_z w64 bound.1 from) (state g.S.Store mid).now (state g.S.Store new).now _
+    (c.in_ok-taken.ensures.removed clean).0 (c.in_ok-taken.ensures.counted clean) in
+    let fewer : HasCleanDisk (state g.S.Store new) → parts_under n (state g.S.Store new).now + c.saturating_add-all.result ≤ parts_under n (state g.S.Store first).now = λ clean.
+    sum_fewer c.each.all c.in_ok-taken.taken c.saturating_add-all.result _ _ _ c.saturating_add-all.ensures (less clean) (c.each.invariant.fewer (omega (arith, c.delete_parts_from.ensures.survives.clean, clean))) in
     record {
       statements = last_ones g.S.Store n (take (i + 1) all);
       are = inl (i + 1, refl);
       stays = behind_stays n (take (i + 1) all);
       wrote = parts_wrote g.S.Store n all i (pos 0, pos 0) c.each-test.true first mid new c.each.invariant.wrote spares one;
       others = behind_others n (take (i + 1) all);
+      fewer = λ clean some. omega (arith, fewer clean, c.if-all-ge-ENOUGH.true);
       its = λ none part it. absurd (false≢true (sym none));
     }
 

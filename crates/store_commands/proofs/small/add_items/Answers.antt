@@ -4,7 +4,7 @@ use Rattle.sqlite.specs.Held.{state}
 use Rattle.store_sql.proofs.StreamLemmas.{passed_on}
 use Rattle.store_commands.specs.Writes.{WroteStatements, FailsToWrite}
 use Rattle.store_sql.specs.Encodings.{item_row}
-use Rattle.store_records.specs.Typed.{lent_item}
+use Rattle.store_tables.specs.Typed.{lent_item}
 use Rattle.dict_catalogue.specs.Views.{item_shown}
 use Rattle.store_rows.specs.Written.{numbered, item_record}
 use Rattle.store_commands.proofs.LoopLemmas.{adding_none, adding_wrote, adding_failed, items_none, items_last, numbered_next, numbered_grows}

@@ -5,7 +5,7 @@ use Rattle.store_sql.proofs.StreamLemmas.{passed_on}
 use Rattle.store_commands.specs.Writes.{WroteStatements, FailsToWrite}
 use Rattle.std.proofs.Common.{string_bytes}
 use Rattle.store_sql.specs.Encodings.{member_row}
-use Rattle.store_records.specs.Typed.{lent_member}
+use Rattle.store_tables.specs.Typed.{lent_member}
 use Rattle.dict_catalogue.specs.Views.{texts_shown}
 use Rattle.store_rows.specs.Written.{numbered, member_record}
 use Rattle.store_commands.proofs.LoopLemmas.{adding_none, adding_wrote, adding_failed, members_none, members_last, numbered_next, numbered_grows}

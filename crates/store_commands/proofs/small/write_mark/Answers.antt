@@ -3,8 +3,8 @@ use Rattle.sqlite.specs.Held.{state}
 use Rattle.store_sql.specs.Encodings.{mark_row}
 use Rattle.store_sql.proofs.StreamLemmas.{passed_on}
 use Rattle.store_tables.specs.declared.tables.StoreTable.TheVariants as table
-use Rattle.store_records.specs.Records.{Mark}
-use Rattle.store_records.specs.Typed.{lent_mark}
+use Rattle.store_tables.specs.Records.{Mark}
+use Rattle.store_tables.specs.Typed.{lent_mark}
 use Rattle.store_rows.specs.Versions.{known}
 use Rattle.store_rows.specs.Written.{mark_record}
 use Rattle.store_holdings.specs.AllTables.{AllTables}

@@ -2,8 +2,8 @@ use Rattle.std.proofs.Common.{codes, ◌++◌, ◌∷◌, []}
 use Rattle.sqlite.specs.Held.{state}
 use Rattle.store_sql.specs.Encodings.{kept_row}
 use Rattle.store_sql.proofs.StreamLemmas.{passed_on}
-use Rattle.store_records.specs.Records.{KeptRecord}
-use Rattle.store_records.specs.Typed.{lent_kept}
+use Rattle.store_tables.specs.Records.{KeptRecord}
+use Rattle.store_tables.specs.Typed.{lent_kept}
 use Rattle.store_rows.specs.Written.{kept_record}
 use Rattle.dict_catalogue.specs.Views.{kept_shown}
 use Rattle.store_holdings.specs.AllTables.{AllTables}

@@ -2,7 +2,7 @@ use Rattle.std.proofs.Common.{◌≡◌, sym, ap, ◌∙◌}
 use Rattle.std.specs.Prelude.{option_map, option_copied}
 use Rattle.std.proofs.lemmas.Result.{on_ok_weaker}
 use Rattle.store_holdings.specs.AllTables.{AllTables, all_after}
-use Rattle.store_records.specs.Typed.{lent_header}
+use Rattle.store_tables.specs.Typed.{lent_header}
 use Rattle.store_rows.specs.Versions.{known}
 use Rattle.store_commands.specs.Changes.{with_files, finished, installed_header, installed_by, change_by}
 use Rattle.store_commands.specs.Statements.{filing_of, finishing, statements_of}

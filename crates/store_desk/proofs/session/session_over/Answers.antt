@@ -17,7 +17,8 @@ pub returns-clause-memory : goal.returns-clause-memory
 returns-clause-memory g c = λ is. let both = c.run-end.ensures.memory is in (ap g.R.Source.stream both.0, ap g.K.Sink.stream both.1)
 
 pub returns-clause-leaves : goal.returns-clause-leaves
-returns-clause-leaves g c = λ ms before. c.run-end.ensures.desk.leaves ms (leaves_after g.S.Store c.args.connection c.in-Ok.desk.conn c.is_whole.ensures.live (g.met.S.Store.stays c.args.connection.store) c.in-Ok.ensures.adopted.migrated ms before)
+returns-clause-leaves g c = λ ms before. c.run-end.ensures.desk.leaves ms
+    (leaves_after g.S.Store c.args.connection c.in-Ok.desk.conn c.is_whole.ensures.live (g.met.S.Store.stays c.args.connection.store) c.in-Ok.ensures.adopted.migrated ms before)
 
 pub returns-clause-beside : goal.returns-clause-beside
 returns-clause-beside g c = λ db keeps. c.run-end.ensures.desk.beside db (c.in-Ok.ensures.adopted.keeps db keeps)

@@ -38,7 +38,8 @@ returns-clause-shows g c = λ clean M shown.
     shows_on g.S.Store c.self.inside.conn c.read_committed-outcome.new.conn
     (summary_shown c.self.inside.summary) c.self.inside.filing c.self.inside.last c.last_by-self-inside.result before c.self.invariant.0 c.read_committed-outcome.ensures.survives c.read_committed-outcome.ensures.stays
     c.self.inside.indexes c.self.inside.texts M
-    (subst (λ (d : DeskState _). Shows g.S.Store d M) (sym (c.self.view_is ∙ c.withdraw.ensures.same)) (shows_counted g.S.Store c.args.self.now (recounted c.args.self.now.counts c.withdraw.new.self.counts) M shown)) c.forget_by.new.texts c.forget_by.ensures
+    (subst (λ (d : DeskState _). Shows g.S.Store d M) (sym (c.self.view_is ∙ c.withdraw.ensures.same)) (shows_counted g.S.Store c.args.self.now (recounted c.args.self.now.counts c.withdraw.new.self.counts) M shown))
+    c.forget_by.new.texts c.forget_by.ensures
 
 pub returns-clause-spares : goal.returns-clause-spares
 returns-clause-spares g c =

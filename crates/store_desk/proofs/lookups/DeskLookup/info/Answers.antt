@@ -109,7 +109,8 @@ returns-clause-looks g c = λ clean M edition shown has all.
     subst (λ (d : DeskState _). CountsLook d.counts now 1) c.self.view_is (record {
       taken = one_taken c.self.inside.rows_taken c.info-outcome.new.rows_taken c.info-outcome.result (state g.S.Store c.self.inside.conn).is_open
           (λ live.
-          let holds = seen g.S.Store c.self.inside.last (summary_shown c.self.inside.summary) c.self.inside.filing c.self.inside.conn before c.self.invariant.0 honest live (λ (db : Database). Holds known db M) (ready.holds before honest live) in
+          let holds = seen g.S.Store c.self.inside.last (summary_shown c.self.inside.summary) c.self.inside.filing c.self.inside.conn before c.self.invariant.0 honest live
+          (λ (db : Database). Holds known db M) (ready.holds before honest live) in
           let one = held_one (state g.S.Store c.self.inside.conn).now M c.args.number edition holds has in
           c.info-outcome.ensures.taken clean one.0 one.1)
           (λ dead. (c.info-outcome.ensures.shut clean dead).0) all;
