@@ -1,5 +1,5 @@
 -- What a request asks for, before it is answered.
-use Rattle.std.specs.Prelude.{◌≡◌, ℕ, List, None, Some, true}
+use Rattle.std.specs.Prelude.{◌≡◌, ℕ, Bool, List, Option, None, Some, true, false}
 use Rattle.dict_text.specs.Names.{is_request_id}
 use Rattle.dict_catalogue.specs.Commands.{place, put_virtual, retire, rollback}
 use Rattle.dict_catalogue.specs.Steps.{Catalogue, kept_under}
@@ -68,9 +68,21 @@ pub record IsToldOver {K : Type 0} (expects : K → Expected → K → Type 0) (
   pub asks : Asks asked
   pub told : expects before asked keeper
 
--- the last that a keeper was told of is what is asked for; what it was before is left open, since it was asked for a kept reply in between
-pub record HasForeseen {K : Type 0} (expects : K → Expected → K → Type 0) (Asks : Expected → Type 0) (keeper : K) : Type 0 where
-  pub asked : Expected
-  pub asks : Asks asked
-  pub before : K
-  pub told : expects before asked keeper
+-- By what a keeper shows, what a stop may leave of it, what is beside the catalogue, that what it stands on has returned what was written,
+-- and whether its last call failed and it is closed.
+module _ {K Beside : Type 0} (Shows : K → Catalogue → Type 0) (LeavesOneOf : K → List (Option Catalogue) → Type 0) (KeepsBeside : K → Beside → Type 0) (IsTrusted : K → Type 0) (has_failed is_closed : K → Bool) where
+  -- what led from one keeper to the next is that it was asked for a kept reply, and there was none
+  pub record FindsNoReply (old new : K) : Type 0 where
+    pub trust : IsTrusted new → IsTrusted old
+    pub beside : (one : Beside) → KeepsBeside old one → KeepsBeside new one
+    pub shows : IsTrusted new → (M : Catalogue) → Shows old M → Shows new M
+    pub leaves : (ms : List (Option Catalogue)) → LeavesOneOf old ms → LeavesOneOf new ms
+    pub answered : has_failed new ≡ false
+    pub was_open : is_closed old ≡ false
+    pub is_open : is_closed new ≡ false
+
+  -- so it is, and right behind that it was told of this
+  pub record IsToldAnew (expects : K → Expected → K → Type 0) (old : K) (asked : Expected) (new : K) : Type 0 where
+    pub between : K
+    pub finds : FindsNoReply old between
+    pub told : expects between asked new

@@ -6,7 +6,7 @@ ghost use Rattle.dict_catalogue.specs.Views.{command_meant};
 ghost use Rattle.dict_desk.specs.Expected.{of_command};
 ghost use Rattle.http_request.specs.Fields.{AreValues};
 ghost use Rattle.http_service.specs.declared.actions.Action.TheVariants as actions;
-ghost use Rattle.http_service.specs.Foreseeing.{HasForeseen, IsToldOver, AsksAnewBy, AsksBy, SaysChange, SaysInstall};
+ghost use Rattle.http_service.specs.Foreseeing.{FindsNoReply, IsToldAnew, IsToldOver, AsksAnewBy, AsksBy, SaysChange, SaysInstall};
 
 use crate::actions::{Action, one_id};
 use crate::bodies::{read_json, read_place, read_virtual};
@@ -20,6 +20,7 @@ use std::alloc::Global;
 // Whether a command under this id may act: the id is lawful, and no reply is kept under it.
 fn may_act<K: Keeper>(desk: &mut K, id: &str) -> bool
     ensures lawful { result ≡ true → is_request_id id.now ≡ true }
+    ensures finds { result ≡ true → FindsNoReply K.shows K.leaves_one_of K.keeps_beside K.is_trusted K.has_failed K.is_closed desk.old desk.new }
     ensures anew { result ≡ true → K.is_trusted desk.new → (M : Catalogue) → K.shows desk.old M → kept_under M.kept id.now ≡ None }
     ensures trust { K.is_trusted desk.new → K.is_trusted desk.old }
     ensures beside { (beside : K.Beside) → K.keeps_beside desk.old beside → K.keeps_beside desk.new beside }
@@ -143,8 +144,8 @@ pub fn foresee_change<K: Preparer>(
     name: &str,
     body: &[u8],
 ) -> bool
-    ensures foreseen { result ≡ true → (values : List (List ℕ)) → AreValues ids.entry values → HasForeseen K.expects (AsksBy action values name.now body.now) desk.new }
-    ensures anew { result ≡ true → K.is_trusted desk.new → (M : Catalogue) → K.shows desk.old M → (values : List (List ℕ)) → AreValues ids.entry values → HasForeseen K.expects (AsksAnewBy M action values name.now body.now) desk.new }
+    ensures foreseen { result ≡ true → (values : List (List ℕ)) → AreValues ids.entry values → IsToldOver (IsToldAnew K.shows K.leaves_one_of K.keeps_beside K.is_trusted K.has_failed K.is_closed K.expects) (AsksBy action values name.now body.now) desk.old desk.new }
+    ensures anew { result ≡ true → K.is_trusted desk.new → (M : Catalogue) → K.shows desk.old M → (values : List (List ℕ)) → AreValues ids.entry values → IsToldOver (IsToldAnew K.shows K.leaves_one_of K.keeps_beside K.is_trusted K.has_failed K.is_closed K.expects) (AsksAnewBy M action values name.now body.now) desk.old desk.new }
     ensures trust { K.is_trusted desk.new → K.is_trusted desk.old }
     ensures beside { (beside : K.Beside) → K.keeps_beside desk.old beside → K.keeps_beside desk.new beside }
     ensures closed { K.is_closed desk.old ≡ true → K.is_closed desk.new ≡ true }

@@ -8,7 +8,7 @@ ghost use Rattle.http_request.specs.declared.kinds.Need.TheVariants as needs;
 ghost use Rattle.http_request.specs.declared.statuses.Status.TheVariants as statuses;
 ghost use Rattle.http_service.specs.Texts.{list_text};
 ghost use Rattle.http_service.specs.Answers.{answer_octets, plain, with_body, response_text};
-ghost use Rattle.http_service.specs.Foreseeing.{HasForeseen, AsksAnewForChange, AsksForChange, AsksForCommand};
+ghost use Rattle.http_service.specs.Foreseeing.{IsToldAnew, IsToldOver, AsksAnewForChange, AsksForChange, AsksForCommand};
 ghost use Rattle.http_service.specs.Settling.{Settles, SettlesRequest, SettlesAction};
 ghost use Rattle.http_service.specs.Responding.{IsAnswer, Responds};
 
@@ -146,8 +146,8 @@ impl Service {
     /// Whether it was told of one, and took note. Where memory is wanting, or the desk fails, it didn't, and the request may be answered as
     /// ever.
     pub fn foresee<K: Preparer>(&self, alloc: Global, octets: &[u8], desk: &mut K) -> bool
-        ensures foreseen { result ≡ true → HasForeseen K.expects (AsksForChange octets.now) desk.new }
-        ensures anew { result ≡ true → K.is_trusted desk.new → (M : Catalogue) → K.shows desk.old M → HasForeseen K.expects (AsksAnewForChange M octets.now) desk.new }
+        ensures foreseen { result ≡ true → IsToldOver (IsToldAnew K.shows K.leaves_one_of K.keeps_beside K.is_trusted K.has_failed K.is_closed K.expects) (AsksForChange octets.now) desk.old desk.new }
+        ensures anew { result ≡ true → K.is_trusted desk.new → (M : Catalogue) → K.shows desk.old M → IsToldOver (IsToldAnew K.shows K.leaves_one_of K.keeps_beside K.is_trusted K.has_failed K.is_closed K.expects) (AsksAnewForChange M octets.now) desk.old desk.new }
         ensures trust { K.is_trusted desk.new → K.is_trusted desk.old }
         ensures beside { (beside : K.Beside) → K.keeps_beside desk.old beside → K.keeps_beside desk.new beside }
         ensures closed { K.is_closed desk.old ≡ true → K.is_closed desk.new ≡ true }

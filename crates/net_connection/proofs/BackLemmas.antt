@@ -58,26 +58,26 @@ was_back old new some same back = by (is_held_back old) refl
     by false e = back_never _ (reader_back old new e some same) back
 
 -- octets that wait for another connection's command
-pub waits_still : {K : Type 0} (expects : K → Expected → K → Type 0) (prepares : K → Result Bool Fault → K → Type 0) (behind : Bool) (hub : Hub) (desk : K) (id : ℕ) (old new : Held) → behind ≡ true → is_held_back new ≡ true
+pub waits_still : {K : Type 0} (foresees : K → Expected → K → Type 0) (prepares : K → Result Bool Fault → K → Type 0) (behind : Bool) (hub : Hub) (desk : K) (id : ℕ) (old new : Held) → behind ≡ true → is_held_back new ≡ true
     → held_in new ≡ held_in old
     → new.is_foreseen ≡ old.is_foreseen → new.turns_left ≡ old.turns_left → new.waited ≡ min (old.waited + 1) (2 ^ 64 - 1) → AreCommand hub id (held_in old)
-    → HoldsStill expects prepares behind old.is_foreseen old.turns_left old.waited hub desk desk id new
-waits_still expects prepares behind hub desk id old new is back held told left counted makes =
-    subst (λ (b : Bool). HoldsStill expects prepares b old.is_foreseen old.turns_left old.waited hub desk desk id new) (sym is) (record {
+    → HoldsStill foresees prepares behind old.is_foreseen old.turns_left old.waited hub desk desk id new
+waits_still foresees prepares behind hub desk id old new is back held told left counted makes =
+    subst (λ (b : Bool). HoldsStill foresees prepares b old.is_foreseen old.turns_left old.waited hub desk desk id new) (sym is) (record {
       by = (refl, subst (λ (l : List ℕ). AreCommand hub id l) (sym held) makes);
       left_over = ap (λ (b : Bool). turns_for (b && new.is_foreseen) new.turns_left) back ∙ ap (λ (b : Bool). turns_for b new.turns_left) told ∙ ap (λ (n : ℕ). turns_for old.is_foreseen n) left;
       counted = counted;
     })
 
 -- the desk prepares what octets make whole, of which it was told before, or just now
-pub prepares_on : {K : Type 0} (expects : K → Expected → K → Type 0) (prepares : K → Result Bool Fault → K → Type 0) (behind : Bool) (hub : Hub) (old told new : K) (id : ℕ) (before between after : Held) → behind ≡ false
+pub prepares_on : {K : Type 0} (foresees : K → Expected → K → Type 0) (prepares : K → Result Bool Fault → K → Type 0) (behind : Bool) (hub : Hub) (old told new : K) (id : ℕ) (before between after : Held) → behind ≡ false
     → is_held_back after ≡ true
     → held_in after ≡ held_in between → between.waited ≡ before.waited → (before.is_foreseen ≡ true → (between ≡ before) × (told ≡ old))
-    → (before.is_foreseen ≡ false → between.is_foreseen ≡ true → (between.turns_left ≡ 1_000_000) × AreToldOf expects hub id (held_in between) told)
+    → (before.is_foreseen ≡ false → between.is_foreseen ≡ true → (between.turns_left ≡ 1_000_000) × AreToldOf foresees hub id (held_in between) old told)
     → between.is_foreseen ≡ true → after.is_foreseen ≡ true → after.turns_left < between.turns_left → after.waited ≡ min (between.waited + 1) (2 ^ 64 - 1) → prepares told (Ok true) new
-    → HoldsStill expects prepares behind before.is_foreseen before.turns_left before.waited hub old new id after
-prepares_on {K} expects prepares behind hub old told new id before between after isnt back held same was now foreseen still fewer counted prepared =
-    subst (λ (b : Bool). HoldsStill expects prepares b before.is_foreseen before.turns_left before.waited hub old new id after) (sym isnt) (record {
+    → HoldsStill foresees prepares behind before.is_foreseen before.turns_left before.waited hub old new id after
+prepares_on {K} foresees prepares behind hub old told new id before between after isnt back held same was now foreseen still fewer counted prepared =
+    subst (λ (b : Bool). HoldsStill foresees prepares b before.is_foreseen before.turns_left before.waited hub old new id after) (sym isnt) (record {
       by = by before.is_foreseen refl;
       left_over = subst (λ (n : ℕ). n < turns_for before.is_foreseen before.turns_left) (sym last) (left before.is_foreseen refl);
       counted = counted ∙ ap (λ (n : ℕ). min (n + 1) (2 ^ 64 - 1)) same;
@@ -86,42 +86,42 @@ prepares_on {K} expects prepares behind hub old told new id before between after
     last : turns_for (are_told after) after.turns_left ≡ after.turns_left
     last = ap (λ (b : Bool). turns_for (b && after.is_foreseen) after.turns_left) back ∙ ap (λ (b : Bool). turns_for b after.turns_left) still
 
-    by : (b : Bool) → before.is_foreseen ≡ b → HoldsBackBy expects prepares false before.is_foreseen hub old new id (held_in after)
-    by true is = subst (λ (b : Bool). HoldsBackBy expects prepares false b hub old new id (held_in after)) (sym is) (subst (λ (k : K). prepares k (Ok true) new) (was is).1 prepared)
-    by false is = subst (λ (b : Bool). HoldsBackBy expects prepares false b hub old new id (held_in after)) (sym is)
-        (told, subst (λ (l : List ℕ). AreToldOf expects hub id l told) (sym held) (now is foreseen).1, prepared)
+    by : (b : Bool) → before.is_foreseen ≡ b → HoldsBackBy foresees prepares false before.is_foreseen hub old new id (held_in after)
+    by true is = subst (λ (b : Bool). HoldsBackBy foresees prepares false b hub old new id (held_in after)) (sym is) (subst (λ (k : K). prepares k (Ok true) new) (was is).1 prepared)
+    by false is = subst (λ (b : Bool). HoldsBackBy foresees prepares false b hub old new id (held_in after)) (sym is)
+        (told, subst (λ (l : List ℕ). AreToldOf foresees hub id l old told) (sym held) (now is foreseen).1, prepared)
 
     left : (b : Bool) → before.is_foreseen ≡ b → after.turns_left < turns_for before.is_foreseen before.turns_left
     left true is = subst (λ (b : Bool). after.turns_left < turns_for b before.turns_left) (sym is) (subst (λ (h : Held). after.turns_left < h.turns_left) (was is).0 fewer)
     left false is = subst (λ (b : Bool). after.turns_left < turns_for b before.turns_left) (sym is) (subst (λ (n : ℕ). after.turns_left < n) (now is foreseen).0 fewer)
 
 -- the same of what was held before, where some was, and of none
-pub still_held : {K : Type 0} (expects : K → Expected → K → Type 0) (prepares : K → Result Bool Fault → K → Type 0) (behind : Bool) (hub : Hub) (old new : K) (id own : ℕ) (before was after : Held) → was ≡ before → id ≡ own
+pub still_held : {K : Type 0} (foresees : K → Expected → K → Type 0) (prepares : K → Result Bool Fault → K → Type 0) (behind : Bool) (hub : Hub) (old new : K) (id own : ℕ) (before was after : Held) → was ≡ before → id ≡ own
     → is_held_back was ≡ true
-    → HoldsStill expects prepares behind was.is_foreseen was.turns_left was.waited hub old new id after → HoldsStill expects prepares behind (are_told before) before.turns_left (turns_held before) hub old new own after
-still_held expects prepares behind hub old new id own before was after same at back holds =
-    subst (λ (i : ℕ). HoldsStill expects prepares behind (are_told before) before.turns_left (turns_held before) hub old new i after) at
-    (subst (λ (h : Held). HoldsStill expects prepares behind (are_told h) h.turns_left (turns_held h) hub old new id after) same
-    (subst (λ (b : Bool). HoldsStill expects prepares behind (b && was.is_foreseen) was.turns_left (if b then was.waited else 0) hub old new id after) (sym back) holds))
+    → HoldsStill foresees prepares behind was.is_foreseen was.turns_left was.waited hub old new id after → HoldsStill foresees prepares behind (are_told before) before.turns_left (turns_held before) hub old new own after
+still_held foresees prepares behind hub old new id own before was after same at back holds =
+    subst (λ (i : ℕ). HoldsStill foresees prepares behind (are_told before) before.turns_left (turns_held before) hub old new i after) at
+    (subst (λ (h : Held). HoldsStill foresees prepares behind (are_told h) h.turns_left (turns_held h) hub old new id after) same
+    (subst (λ (b : Bool). HoldsStill foresees prepares behind (b && was.is_foreseen) was.turns_left (if b then was.waited else 0) hub old new id after) (sym back) holds))
 
-pub begins_held : {K : Type 0} (expects : K → Expected → K → Type 0) (prepares : K → Result Bool Fault → K → Type 0) (behind : Bool) (hub : Hub) (old new : K) (id own : ℕ) (before after : Held) → id ≡ own → is_held_back before ≡ false
-    → HoldsStill expects prepares behind false 0 0 hub old new id after → HoldsStill expects prepares behind (are_told before) before.turns_left (turns_held before) hub old new own after
-begins_held expects prepares behind hub old new id own before after at none holds =
-    subst (λ (i : ℕ). HoldsStill expects prepares behind (are_told before) before.turns_left (turns_held before) hub old new i after) at
-    (subst (λ (b : Bool). HoldsStill expects prepares behind (b && before.is_foreseen) before.turns_left (if b then before.waited else 0) hub old new id after) (sym none)
+pub begins_held : {K : Type 0} (foresees : K → Expected → K → Type 0) (prepares : K → Result Bool Fault → K → Type 0) (behind : Bool) (hub : Hub) (old new : K) (id own : ℕ) (before after : Held) → id ≡ own → is_held_back before ≡ false
+    → HoldsStill foresees prepares behind false 0 0 hub old new id after → HoldsStill foresees prepares behind (are_told before) before.turns_left (turns_held before) hub old new own after
+begins_held foresees prepares behind hub old new id own before after at none holds =
+    subst (λ (i : ℕ). HoldsStill foresees prepares behind (are_told before) before.turns_left (turns_held before) hub old new i after) at
+    (subst (λ (b : Bool). HoldsStill foresees prepares behind (b && before.is_foreseen) before.turns_left (if b then before.waited else 0) hub old new id after) (sym none)
     (first holds))
   where
-    first : HoldsStill expects prepares behind false 0 0 hub old new id after → HoldsStill expects prepares behind false before.turns_left 0 hub old new id after
+    first : HoldsStill foresees prepares behind false 0 0 hub old new id after → HoldsStill foresees prepares behind false before.turns_left 0 hub old new id after
     first it = record { by = it.by; left_over = it.left_over; counted = it.counted }
 
 -- the same of octets that were just read
-pub filled_held : {K : Type 0} (expects : K → Expected → K → Type 0) (prepares : K → Result Bool Fault → K → Type 0) (behind told : Bool) (left turns : ℕ) (hub : Hub) (old new : K) (id own : ℕ) (after : Held) → told ≡ false → turns
+pub filled_held : {K : Type 0} (foresees : K → Expected → K → Type 0) (prepares : K → Result Bool Fault → K → Type 0) (behind told : Bool) (left turns : ℕ) (hub : Hub) (old new : K) (id own : ℕ) (after : Held) → told ≡ false → turns
     ≡ 0 → id ≡ own
-    → HoldsStill expects prepares behind told left turns hub old new id after → HoldsStill expects prepares behind false 0 0 hub old new own after
-filled_held expects prepares behind told left turns hub old new id own after isnt none at holds =
-    subst (λ (i : ℕ). HoldsStill expects prepares behind false 0 0 hub old new i after) at
-    (subst (λ (n : ℕ). HoldsStill expects prepares behind false 0 n hub old new id after) none
-    (anew (subst (λ (b : Bool). HoldsStill expects prepares behind b left turns hub old new id after) isnt holds)))
+    → HoldsStill foresees prepares behind told left turns hub old new id after → HoldsStill foresees prepares behind false 0 0 hub old new own after
+filled_held foresees prepares behind told left turns hub old new id own after isnt none at holds =
+    subst (λ (i : ℕ). HoldsStill foresees prepares behind false 0 0 hub old new i after) at
+    (subst (λ (n : ℕ). HoldsStill foresees prepares behind false 0 n hub old new id after) none
+    (anew (subst (λ (b : Bool). HoldsStill foresees prepares behind b left turns hub old new id after) isnt holds)))
   where
-    anew : HoldsStill expects prepares behind false left turns hub old new id after → HoldsStill expects prepares behind false 0 turns hub old new id after
+    anew : HoldsStill foresees prepares behind false left turns hub old new id after → HoldsStill foresees prepares behind false 0 turns hub old new id after
     anew it = record { by = it.by; left_over = it.left_over; counted = it.counted }

@@ -15,9 +15,9 @@ use Rattle.net_connection.specs.Stages.{is_open}
 use Rattle.net_connection.specs.declared.connection.Connection.{Connection}
 use Rattle.net_connection.specs.declared.held.Held.{Held}
 
--- behind what the hub has of the connection of this id, these octets make a change whole, and this desk was told of it last
-abbrev pub AreToldOf : {K : Type 0} → (K → Expected → K → Type 0) → Hub → ℕ → List ℕ → K → Type 0
-AreToldOf expects hub id octets desk = (held : Option Holding) → HasHolding hub id held → AreForeseen expects AsksForChange held octets desk
+-- behind what the hub has of the connection of this id, these octets make a change whole, and this desk was told of it, which left that one
+abbrev pub AreToldOf : {K : Type 0} → (K → Expected → K → Type 0) → Hub → ℕ → List ℕ → K → K → Type 0
+AreToldOf foresees hub id octets old new = (held : Option Holding) → HasHolding hub id held → AreForeseen foresees AsksForChange held octets old new
 
 -- behind that they make a command whole: a request that changes the catalogue
 abbrev pub AreCommand : Hub → ℕ → List ℕ → Type 0
@@ -29,15 +29,14 @@ abbrev pub AreLeft : Bool → ℕ → ℕ → Type 0
 AreLeft true before after = after ≡ before
 AreLeft false before after = after < before
 
-module _ {K : Type 0} (expects : K → Expected → K → Type 0) (prepares : K → Result Bool Fault → K → Type 0) where
+module _ {K : Type 0} (foresees : K → Expected → K → Type 0) (prepares : K → Result Bool Fault → K → Type 0) where
   -- Octets are held back in a turn over this desk, which left that one. Where another connection's command comes first (`behind`), they
   -- make one whole, and the desk was asked nothing. Else, where it was told of them before (`told`), all that it was asked is to prepare a
-  -- part, and there is more to prepare; and where it wasn't, this was asked of a desk that was told of what they make whole, behind which
-  -- nothing else was. Of what came before it was told nothing is said: it was asked for the reply that may be kept
+  -- part, and there is more to prepare; and where it wasn't, it was told of what they make whole, and this was asked right behind that
   abbrev pub HoldsBackBy : Bool → Bool → Hub → K → K → ℕ → List ℕ → Type 0
   HoldsBackBy true told hub old new id octets = (new ≡ old) × AreCommand hub id octets
   HoldsBackBy false true hub old new id octets = prepares old (Ok true) new
-  HoldsBackBy false false hub old new id octets = (told : K) × AreToldOf expects hub id octets told × prepares told (Ok true) new
+  HoldsBackBy false false hub old new id octets = (told : K) × AreToldOf foresees hub id octets old told × prepares told (Ok true) new
 
   -- the same of what is held, with how many turns are left for it and for how many it is held back, by what these were before
   pub record HoldsStill (behind told : Bool) (left turns : ℕ) (hub : Hub) (old new : K) (id : ℕ) (held : Held) : Type 0 where

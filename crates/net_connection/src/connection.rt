@@ -39,6 +39,7 @@ pub struct Connection<T: Transport> {
 impl<T: Transport> Connection<T> {
     ghost use Rattle.net_outlet.specs.Queues.{waiting, is_clear};
     ghost use Rattle.std.specs.Prelude.{◌+◌, ◌-◌, ◌^◌, min};
+    ghost use Rattle.http_service.specs.Foreseeing.{IsToldAnew};
     ghost use Rattle.net_connection.specs.Handing.{held_for, held_in, is_held_back};
     ghost use Rattle.net_connection.specs.Causes.{AreCausedBy, IsRefused};
     ghost use Rattle.net_connection.specs.Foreseen.{AreCommand, AreToldOf, HoldsBack, HoldsStill, IsNoCommand, KeepsOrder};
@@ -165,7 +166,7 @@ impl<T: Transport> Connection<T> {
         ensures led { HasLedOn (K.is_trusted desk.new) (K.shows desk.old) (K.leaves_one_of desk.old) (K.shows desk.new) (K.leaves_one_of desk.new) hub.old hub.new
             (λ events. Turns T.taken T.coming T.made (IsRefused O.refuses hub.old) self.old self.new result events × AreCausedBy (condition K.has_failed K.is_closed desk.new) self.old self.new events × StaysForReader self.old.held.kind hub.old desk.old desk.new events
             × KeepsOrder is_behind self.old.held.kind hub.old events) }
-        ensures prepared { HoldsBack K.expects K.prepares is_behind hub.old desk.old desk.new self.old self.new }
+        ensures prepared { HoldsBack (IsToldAnew K.shows K.leaves_one_of K.keeps_beside K.is_trusted K.has_failed K.is_closed K.expects) K.prepares is_behind hub.old desk.old desk.new self.old self.new }
         ensures trust { K.is_trusted desk.new → K.is_trusted desk.old }
         ensures beside { (beside : K.Beside) → K.keeps_beside desk.old beside → K.keeps_beside desk.new beside }
         ensures closed { K.is_closed desk.old ≡ true → K.is_closed desk.new ≡ true }
@@ -237,7 +238,7 @@ impl<T: Transport> Connection<T> {
         ensures led { HasLedOn (K.is_trusted desk.new) (K.shows desk.old) (K.leaves_one_of desk.old) (K.shows desk.new) (K.leaves_one_of desk.new) hub.old hub.new
             (λ events. ReadsOnce T.taken T.coming T.made (IsRefused O.refuses hub.old) self.old self.new result events × AreCausedBy (condition K.has_failed K.is_closed desk.new) self.old self.new events × StaysForReader self.old.held.kind hub.old desk.old desk.new events
             × KeepsOrder is_behind self.old.held.kind hub.old events) }
-        ensures prepared { is_open self.new.stage ≡ true → is_held_back self.new.held ≡ true → HoldsStill K.expects K.prepares is_behind false 0 0 hub.old desk.old desk.new self.old.id self.new.held }
+        ensures prepared { is_open self.new.stage ≡ true → is_held_back self.new.held ≡ true → HoldsStill (IsToldAnew K.shows K.leaves_one_of K.keeps_beside K.is_trusted K.has_failed K.is_closed K.expects) K.prepares is_behind false 0 0 hub.old desk.old desk.new self.old.id self.new.held }
         ensures trust { K.is_trusted desk.new → K.is_trusted desk.old }
         ensures beside { (beside : K.Beside) → K.keeps_beside desk.old beside → K.keeps_beside desk.new beside }
         ensures closed { K.is_closed desk.old ≡ true → K.is_closed desk.new ≡ true }
@@ -286,7 +287,7 @@ impl<T: Transport> Connection<T> {
             × AreCausedBy (condition K.has_failed K.is_closed desk.new) self.old self.new events × StaysForReader self.old.held.kind hub.old desk.old desk.new events
             × KeepsOrder is_behind self.old.held.kind hub.old events) }
         ensures kind { self.new.held.kind ≡ self.old.held.kind }
-        ensures back { is_open self.new.stage ≡ true → is_held_back self.new.held ≡ true → HoldsStill K.expects K.prepares is_behind self.old.held.is_foreseen self.old.held.turns_left self.old.held.waited hub.old desk.old desk.new self.old.id self.new.held }
+        ensures back { is_open self.new.stage ≡ true → is_held_back self.new.held ≡ true → HoldsStill (IsToldAnew K.shows K.leaves_one_of K.keeps_beside K.is_trusted K.has_failed K.is_closed K.expects) K.prepares is_behind self.old.held.is_foreseen self.old.held.turns_left self.old.held.waited hub.old desk.old desk.new self.old.id self.new.held }
         ensures trust { K.is_trusted desk.new → K.is_trusted desk.old }
         ensures beside { (beside : K.Beside) → K.keeps_beside desk.old beside → K.keeps_beside desk.new beside }
         ensures closed { K.is_closed desk.old ≡ true → K.is_closed desk.new ≡ true }
@@ -333,7 +334,7 @@ impl<T: Transport> Connection<T> {
         ensures kind { self.new.held.kind ≡ self.old.held.kind }
         ensures waited { self.new.held.waited ≡ self.old.held.waited }
         ensures before { self.old.held.is_foreseen ≡ true → (self.new.held ≡ self.old.held) × (desk.new ≡ desk.old) }
-        ensures told { self.old.held.is_foreseen ≡ false → self.new.held.is_foreseen ≡ true → (self.new.held.turns_left ≡ 1_000_000) × AreToldOf K.expects hub.old self.old.id (held_in self.new.held) desk.new }
+        ensures told { self.old.held.is_foreseen ≡ false → self.new.held.is_foreseen ≡ true → (self.new.held.turns_left ≡ 1_000_000) × AreToldOf (IsToldAnew K.shows K.leaves_one_of K.keeps_beside K.is_trusted K.has_failed K.is_closed K.expects) hub.old self.old.id (held_in self.new.held) desk.old desk.new }
     {
         if !self.held.is_of_editor() || self.held.is_foreseen() {
             return;

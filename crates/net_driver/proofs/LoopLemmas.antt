@@ -44,13 +44,13 @@ module _ {T S : Type 0} {G : transport.Ghosts T} (refuses : Hub → ℕ → Kind
       subst (λ (l : List Accepted). AreOfRound (l ++ fs)) (sym two.whole) (round_whole b.connections.last c.connections.last d.connections.last two.readers two.editors fs readers editors are by_id)
 
   -- what a look, two listening sockets and the turns come to
-  pub round_made : {K : Type 0} (stands : K → Condition) (expects : K → Expected → K → Type 0) (prepares : K → Result Bool Fault → K → Type 0) (taken coming : T → Option (List ℕ)) (made : T → Option (List Call)) (told : List ℕ)
+  pub round_made : {K : Type 0} (stands : K → Condition) (foresees : K → Expected → K → Type 0) (prepares : K → Result Bool Fault → K → Type 0) (taken coming : T → Option (List ℕ)) (made : T → Option (List Call)) (told : List ℕ)
       (result : Result (Unit {0}) Error) (from to : K) (a b c d e : EventLoop T S G) (moved turned : Bool) (es fs : List Accepted)
-      → is_ok result ≡ true → Looks asked 0 told result a b → AreTaken b c d es → TurnEach stands expects prepares taken coming made refuses d.hub from to d.connections e.connections turned fs
+      → is_ok result ≡ true → Looks asked 0 told result a b → AreTaken b c d es → TurnEach stands foresees prepares taken coming made refuses d.hub from to d.connections e.connections turned fs
       → KeepsAllBut d.connections.opened.items d.hub e.hub → e.sockets ≡ d.sockets
       → e.dict_listening ≡ c.dict_listening → e.http_listening ≡ d.http_listening → c.http_listening ≡ b.http_listening
-      → moved ≡ (nat_lt a.connections.last e.connections.last || (is_ready c.dict_listening || (is_ready d.http_listening || turned))) → HasRound stands expects prepares taken coming made refuses asked from to a e moved (es ++ fs)
-  round_made stands expects prepares taken coming made told result from to a b c d e moved turned es fs well looked taken_two turn others sockets_same dict http other is =
+      → moved ≡ (nat_lt a.connections.last e.connections.last || (is_ready c.dict_listening || (is_ready d.http_listening || turned))) → HasRound stands foresees prepares taken coming made refuses asked from to a e moved (es ++ fs)
+  round_made stands foresees prepares taken coming made told result from to a b c d e moved turned es fs well looked taken_two turn others sockets_same dict http other is =
       let calls_dict = taken_two.by_dict.0 in
       let calls_http = taken_two.by_http.0 in
       record {

@@ -150,20 +150,20 @@ turn_kept taken coming made from to old new moved events keeps turns = record {
 }
 
 -- and so is why octets are held back, where one hub has all of the connection that another has
-holds_by_kept : {K : Type 0} (expects : K → Expected → K → Type 0) (prepares : K → Result Bool Fault → K → Type 0) (behind told : Bool) (between hub : Hub) (from to : K) (id : ℕ) (octets : List ℕ)
+holds_by_kept : {K : Type 0} (foresees : K → Expected → K → Type 0) (prepares : K → Result Bool Fault → K → Type 0) (behind told : Bool) (between hub : Hub) (from to : K) (id : ℕ) (octets : List ℕ)
     → ((held : Option Holding) → HasHolding hub id held → HasHolding between id held)
-    → HoldsBackBy expects prepares behind told between from to id octets → HoldsBackBy expects prepares behind told hub from to id octets
-holds_by_kept expects prepares true told between hub from to id octets keeps (same, makes) = (same, (λ held has. makes held (keeps held has)))
-holds_by_kept expects prepares false true between hub from to id octets keeps by = by
-holds_by_kept expects prepares false false between hub from to id octets keeps (told, are, prepared) = (told, (λ held has. are held (keeps held has)), prepared)
+    → HoldsBackBy foresees prepares behind told between from to id octets → HoldsBackBy foresees prepares behind told hub from to id octets
+holds_by_kept foresees prepares true told between hub from to id octets keeps (same, makes) = (same, (λ held has. makes held (keeps held has)))
+holds_by_kept foresees prepares false true between hub from to id octets keeps by = by
+holds_by_kept foresees prepares false false between hub from to id octets keeps (told, are, prepared) = (told, (λ held has. are held (keeps held has)), prepared)
 
-holds_kept : {K T : Type 0} (expects : K → Expected → K → Type 0) (prepares : K → Result Bool Fault → K → Type 0) (behind : Bool) (between hub : Hub) (from to : K) (old new : Connection T)
+holds_kept : {K T : Type 0} (foresees : K → Expected → K → Type 0) (prepares : K → Result Bool Fault → K → Type 0) (behind : Bool) (between hub : Hub) (from to : K) (old new : Connection T)
     → ((held : Option Holding) → HasHolding hub old.id held → HasHolding between old.id held)
-    → HoldsBack expects prepares behind between from to old new → HoldsBack expects prepares behind hub from to old new
-holds_kept expects prepares behind between hub from to old new keeps back still is =
+    → HoldsBack foresees prepares behind between from to old new → HoldsBack foresees prepares behind hub from to old new
+holds_kept foresees prepares behind between hub from to old new keeps back still is =
     let holds = back still is in
     record {
-      by = holds_by_kept expects prepares behind (are_told old.held) between hub from to old.id (held_in new.held) keeps holds.by;
+      by = holds_by_kept foresees prepares behind (are_told old.held) between hub from to old.id (held_in new.held) keeps holds.by;
       left_over = holds.left_over;
       counted = holds.counted;
     }
@@ -208,7 +208,7 @@ first_more old now i after first later in_now is more =
     more ∙ ap (λ f. first_since f (after ∷ [])) is ∙ sym (since_more (first_of old) (take i now) after) ∙ ap (λ l. first_since (first_of old) l) (sym (take_more_set now i after in_now))
 
 -- the connections before this place had their turns, and the others are as they were; the command of one comes first
-pub record TurnUpTo {K T : Type 0} (stands : K → Condition) (expects : K → Expected → K → Type 0) (prepares : K → Result Bool Fault → K → Type 0) (taken coming : T → Option (List ℕ)) (made : T → Option (List Call))
+pub record TurnUpTo {K T : Type 0} (stands : K → Condition) (foresees : K → Expected → K → Type 0) (prepares : K → Result Bool Fault → K → Type 0) (taken coming : T → Option (List ℕ)) (made : T → Option (List Call))
     (refuses : Hub → ℕ → Kind → Option HubFault → Type 0) (hub : Hub) (from to : K) (old now : List (Connection T)) (i : ℕ) (first : Option ℕ) (moved : Bool) (events : List Accepted) : Type 0 where
   pub len : length now ≡ length old
   pub moves : List Bool
@@ -224,7 +224,7 @@ pub record TurnUpTo {K T : Type 0} (stands : K → Condition) (expects : K → E
       → Turns taken coming made (IsRefused refuses hub) (get_or old k d) (get_or now k d) (get_or moves k false) (events_of (get_or old k d).id events)
   pub caused : (k : ℕ) (d : Connection T) → k < i → k < length old → AreCausedBy (stands (get_or left k from)) (get_or old k d) (get_or now k d) (events_of (get_or old k d).id events)
   pub stays : (k : ℕ) (d : Connection T) → k < i → k < length old → StaysForReader (get_or old k d).held.kind hub (get_or (from ∷ left) k from) (get_or left k from) (events_of (get_or old k d).id events)
-  pub prepared : (k : ℕ) (d : Connection T) → k < i → k < length old → HoldsBack expects prepares (is_other (first_at old now k) (get_or old k d).id) hub (get_or (from ∷ left) k from) (get_or left k from) (get_or old k d) (get_or now k d)
+  pub prepared : (k : ℕ) (d : Connection T) → k < i → k < length old → HoldsBack foresees prepares (is_other (first_at old now k) (get_or old k d).id) hub (get_or (from ∷ left) k from) (get_or left k from) (get_or old k d) (get_or now k d)
   pub orders : (k : ℕ) (d : Connection T) → k < i → k < length old → KeepsOrder (is_other (first_at old now k) (get_or old k d).id) (get_or old k d).held.kind hub (events_of (get_or old k d).id events)
   pub rest : (k : ℕ) (d : Connection T) → i ≤ k → k < length old → get_or now k d ≡ get_or old k d
   pub below : AreBelowFrom old i events
@@ -232,10 +232,10 @@ pub record TurnUpTo {K T : Type 0} (stands : K → Condition) (expects : K → E
   pub are_turns : AreOfTurns events
   pub by_id : ComeById events
 
-pub turn_none : {K T : Type 0} (stands : K → Condition) (expects : K → Expected → K → Type 0) (prepares : K → Result Bool Fault → K → Type 0) (taken coming : T → Option (List ℕ)) (made : T → Option (List Call))
+pub turn_none : {K T : Type 0} (stands : K → Condition) (foresees : K → Expected → K → Type 0) (prepares : K → Result Bool Fault → K → Type 0) (taken coming : T → Option (List ℕ)) (made : T → Option (List Call))
     (refuses : Hub → ℕ → Kind → Option HubFault → Type 0) (hub : Hub) (from : K) (all : List (Connection T)) (first : Option ℕ) → first ≡ first_of all
-    → TurnUpTo stands expects prepares taken coming made refuses hub from from all all 0 first false []
-turn_none stands expects prepares taken coming made refuses hub from all first is = record {
+    → TurnUpTo stands foresees prepares taken coming made refuses hub from from all all 0 first false []
+turn_none stands foresees prepares taken coming made refuses hub from all first is = record {
   is_now = is ∙ sym (since_none _ (first_of all));
   len = refl;
   moves = [];
@@ -266,14 +266,14 @@ front_desk : {K : Type 0} (left : List K) (to : K) (k : ℕ) (d : K) → k < len
 front_desk left to k d under = get_or_append_left left (to ∷ []) d k under
 
 -- one more connection had its turn
-pub turn_more : {K T : Type 0} (stands : K → Condition) (expects : K → Expected → K → Type 0) (prepares : K → Result Bool Fault → K → Type 0) (taken coming : T → Option (List ℕ)) (made : T → Option (List Call))
+pub turn_more : {K T : Type 0} (stands : K → Condition) (foresees : K → Expected → K → Type 0) (prepares : K → Result Bool Fault → K → Type 0) (taken coming : T → Option (List ℕ)) (made : T → Option (List Call))
     (refuses : Hub → ℕ → Kind → Option HubFault → Type 0) (hub between : Hub) (from mid to : K) (old now : List (Connection T)) (i : ℕ) (one after : Connection T) (first later : Option ℕ) (before here both : Bool)
     (es fs : List Accepted)
     → AllPairs (λ a b. a.id < b.id) old → i < length old → get_or now i one ≡ one → later ≡ first_since first (after ∷ []) → both ≡ before || here → KeepsFrom old i hub between
     → Turns taken coming made (IsRefused refuses between) one after here fs → AreCausedBy (stands to) one after fs → StaysForReader one.held.kind between mid to fs → KeepsOrder (is_other first one.id) one.held.kind between fs
-    → HoldsBack expects prepares (is_other first one.id) between mid to one after → ((stands mid).closed ≡ true → (stands to).closed ≡ true)
-    → TurnUpTo stands expects prepares taken coming made refuses hub from mid old now i first before es → TurnUpTo stands expects prepares taken coming made refuses hub from to old (set now i after) (i + 1) later both (es ++ fs)
-turn_more {K} {T} stands expects prepares taken coming made refuses hub between from mid to old now i one after first later before here both es fs rising within is holds moved keeps over cause same_desk ordered back shuts all =
+    → HoldsBack foresees prepares (is_other first one.id) between mid to one after → ((stands mid).closed ≡ true → (stands to).closed ≡ true)
+    → TurnUpTo stands foresees prepares taken coming made refuses hub from mid old now i first before es → TurnUpTo stands foresees prepares taken coming made refuses hub from to old (set now i after) (i + 1) later both (es ++ fs)
+turn_more {K} {T} stands foresees prepares taken coming made refuses hub between from mid to old now i one after first later before here both es fs rising within is holds moved keeps over cause same_desk ordered back shuts all =
     let len = all.len in
     let count = all.count in
     let in_now : i < length now = omega arith in
@@ -282,7 +282,7 @@ turn_more {K} {T} stands expects prepares taken coming made refuses hub between 
     let own = keeps_own old i one.id hub between rising within own_id keeps in
     let turns : Turns taken coming made (IsRefused refuses hub) one after here fs
     = turn_kept taken coming made (IsRefused refuses between) (IsRefused refuses hub) one after here fs (λ (at, same, why). (at, (λ held has. same held (own held has)), why)) over in
-    let backs : HoldsBack expects prepares (is_other first one.id) hub mid to one after = holds_kept expects prepares (is_other first one.id) between hub mid to one after own back in
+    let backs : HoldsBack foresees prepares (is_other first one.id) hub mid to one after = holds_kept foresees prepares (is_other first one.id) between hub mid to one after own back in
     let orders : KeepsOrder (is_other first one.id) one.held.kind hub fs = λ behind editor. no_commands_over hub between one.id own fs turns.own (ordered behind editor) in
     let same_still = stays_over one.held.kind one.id hub between mid to fs turns.own own same_desk in
     let desks = all.desks in
@@ -388,10 +388,10 @@ turn_more {K} {T} stands expects prepares taken coming made refuses hub between 
     }
 
 -- each had its turn
-pub turn_whole : {K T : Type 0} (stands : K → Condition) (expects : K → Expected → K → Type 0) (prepares : K → Result Bool Fault → K → Type 0) (taken coming : T → Option (List ℕ)) (made : T → Option (List Call))
+pub turn_whole : {K T : Type 0} (stands : K → Condition) (foresees : K → Expected → K → Type 0) (prepares : K → Result Bool Fault → K → Type 0) (taken coming : T → Option (List ℕ)) (made : T → Option (List Call))
     (refuses : Hub → ℕ → Kind → Option HubFault → Type 0) (hub : Hub) (from to : K) (old now : List (Connection T)) (i : ℕ) (first : Option ℕ) (moved : Bool) (events : List Accepted) → length old ≤ i
-    → TurnUpTo stands expects prepares taken coming made refuses hub from to old now i first moved events → TurnAll stands expects prepares taken coming made refuses hub from to old now moved events
-turn_whole stands expects prepares taken coming made refuses hub from to old now i first moved events whole all =
+    → TurnUpTo stands foresees prepares taken coming made refuses hub from to old now i first moved events → TurnAll stands foresees prepares taken coming made refuses hub from to old now moved events
+turn_whole stands foresees prepares taken coming made refuses hub from to old now i first moved events whole all =
     let at : i ≡ length old = let in_all = all.within in omega (arith, whole, in_all) in
     record {
       len = all.len;
@@ -412,9 +412,9 @@ turn_whole stands expects prepares taken coming made refuses hub from to old now
       by_id = all.by_id;
     }
 
-pub turn_ids : {K T : Type 0} {stands : K → Condition} {expects : K → Expected → K → Type 0} {prepares : K → Result Bool Fault → K → Type 0} {moved : Bool} {taken coming : T → Option (List ℕ)} {made : T → Option (List Call)}
+pub turn_ids : {K T : Type 0} {stands : K → Condition} {foresees : K → Expected → K → Type 0} {prepares : K → Result Bool Fault → K → Type 0} {moved : Bool} {taken coming : T → Option (List ℕ)} {made : T → Option (List Call)}
     {refuses : Hub → ℕ → Kind → Option HubFault → Type 0} {hub : Hub} {from to : K} (old new : List (Connection T)) (events : List Accepted)
-    → TurnAll stands expects prepares taken coming made refuses hub from to old new moved events → HaveSameIds old new
+    → TurnAll stands foresees prepares taken coming made refuses hub from to old new moved events → HaveSameIds old new
 turn_ids old new events all = record { len = all.len; same = λ k d within. (all.turns k d within).id }
 
 pub depart_ids : {T : Type 0} {moved : Bool} {taken coming : T → Option (List ℕ)} {made : T → Option (List Call)} (old new : List (Connection T)) → DepartAll taken coming made old new moved → HaveSameIds old new
@@ -489,9 +489,9 @@ moves_opened a b one events opened departing last above own flows =
     }
 
 -- each had its turn
-pub moves_turned : {K T : Type 0} {G : Ghosts T} {stands : K → Condition} {expects : K → Expected → K → Type 0} {prepares : K → Result Bool Fault → K → Type 0} {taken coming : T → Option (List ℕ)} {made : T → Option (List Call)}
+pub moves_turned : {K T : Type 0} {G : Ghosts T} {stands : K → Condition} {foresees : K → Expected → K → Type 0} {prepares : K → Result Bool Fault → K → Type 0} {taken coming : T → Option (List ℕ)} {made : T → Option (List Call)}
     {refuses : Hub → ℕ → Kind → Option HubFault → Type 0} {hub : Hub} {from to : K} (a b : Connections T G) (moved : Bool) (events : List Accepted)
-    → TurnEach stands expects prepares taken coming made refuses hub from to a b moved events → Moves a b events
+    → TurnEach stands foresees prepares taken coming made refuses hub from to a b moved events → Moves a b events
 moves_turned {taken = taken} {coming = coming} {made = made} a b moved events each =
     let last = each.last in
     let ids = turn_ids a.opened.items each.turned events each.turns in

@@ -20,7 +20,7 @@ use Rattle.net_driver.specs.Turning.{KeepsAllBut, MarkAll}
 use Rattle.net_driver.specs.declared.connections.Connections.{Connections}
 use Rattle.net_driver.specs.declared.event_loop.EventLoop.{EventLoop}
 
-module _ {K T S : Type 0} {G : transport.Ghosts T} (stands : K → Condition) (expects : K → Expected → K → Type 0) (prepares : K → Result Bool Fault → K → Type 0) (taken coming : T → Option (List ℕ)) (made : T → Option (List Call))
+module _ {K T S : Type 0} {G : transport.Ghosts T} (stands : K → Condition) (foresees : K → Expected → K → Type 0) (prepares : K → Result Bool Fault → K → Type 0) (taken coming : T → Option (List ℕ)) (made : T → Option (List Call))
     (refuses : Hub → ℕ → Kind → Option HubFault → Type 0) (asked : S → Option (List (Asking T))) where
   -- The sockets are looked at without a wait, and those connections are marked of which the look told. Then the connections that wait at
   -- the socket for readers are taken, and then those at that for editors, by at most 16 calls each;
@@ -45,7 +45,7 @@ module _ {K T S : Type 0} {G : transport.Ghosts T} (stands : K → Condition) (e
     pub http : Accepts refuses Http (listening_told (tells told 0) old.http_listening) new.http_listening hub_with_readers hub_with_editors with_readers with_editors by_http editors
     pub turned : Bool
     pub turns : List Accepted
-    pub turn : TurnEach stands expects prepares taken coming made refuses hub_with_editors from to with_editors new.connections turned turns
+    pub turn : TurnEach stands foresees prepares taken coming made refuses hub_with_editors from to with_editors new.connections turned turns
     pub others : KeepsAllBut with_editors.opened.items hub_with_editors new.hub
     pub whole : events ≡ readers ++ (editors ++ turns)
     pub calls : Asks (asked old.sockets) (asked new.sockets) (looks 0 told true ∷ (by_dict ++ by_http))

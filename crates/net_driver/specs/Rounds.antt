@@ -70,14 +70,14 @@ connections_fitting most (one ∷ others) = if nat_le (room_of (one ∷ others))
 -- they began, from this desk to that. Those that are open then are the open ones; those that are held and no longer open, of which the last 128
 -- are kept, and of these the last that have room for 33,554,432 octets together, stand behind those that were so before; and no other is held.
 -- Something happened where it did in a turn of the one sort or the other
-pub record TurnEach {K T : Type 0} {G : Ghosts T} (stands : K → Condition) (expects : K → Expected → K → Type 0) (prepares : K → Result Bool Fault → K → Type 0) (taken coming : T → Option (List ℕ)) (made : T → Option (List Call))
+pub record TurnEach {K T : Type 0} {G : Ghosts T} (stands : K → Condition) (foresees : K → Expected → K → Type 0) (prepares : K → Result Bool Fault → K → Type 0) (taken coming : T → Option (List ℕ)) (made : T → Option (List Call))
     (refuses : Hub → ℕ → Kind → Option HubFault → Type 0) (hub : Hub) (from to : K) (old new : Connections T G) (moved : Bool) (events : List Accepted) : Type 0 where
   pub departed : List (Connection T)
   pub by_departing : Bool
   pub departs : DepartAll taken coming made old.departing.items departed by_departing
   pub turned : List (Connection T)
   pub by_open : Bool
-  pub turns : TurnAll stands expects prepares taken coming made refuses hub from to old.opened.items turned by_open events
+  pub turns : TurnAll stands foresees prepares taken coming made refuses hub from to old.opened.items turned by_open events
   pub opened : new.opened.items ≡ filter (λ one. is_open one.stage) turned
   pub departing : new.departing.items ≡ connections_fitting 33554432 (latest 128 (filter (λ one. is_held one.stage) departed ++ filter (λ one. is_departing one.stage) turned))
   pub last : new.last ≡ old.last

@@ -6,6 +6,7 @@ use Rattle.std.specs.declared.io.Error.{Error}
 use Rattle.dict_catalogue.specs.Steps.{Catalogue}
 use Rattle.dict_desk.specs.Expected.{Expected}
 use Rattle.dict_session.specs.Desks.{condition}
+use Rattle.http_service.specs.Foreseeing.{IsToldAnew}
 use Rattle.net_hub.specs.declared.fault.HubFault.{HubFault}
 use Rattle.net_hub.specs.declared.hub.Hub.{Hub}
 use Rattle.net_hub.specs.declared.kind.Kind.{Kind}
@@ -58,7 +59,7 @@ module _ {K T S Beside : Type 0} {G : transport.Ghosts T} (Shows : K → Catalog
   pub record IsRound (one : Round K T S G) : Type 0 where
     pub led : HasLedOn (IsTrusted one.left) (Shows one.desk) (LeavesOneOf one.desk) (Shows one.left) (LeavesOneOf one.left) one.before.hub one.made.hub
         (λ events. Moves one.before.connections one.made.connections events × AreOfRound events
-        × GoesRound (condition has_failed is_closed) expects prepares taken coming made refuses asked told one.result one.desk one.left one.before one.made events)
+        × GoesRound (condition has_failed is_closed) (IsToldAnew Shows LeavesOneOf KeepsBeside IsTrusted has_failed is_closed expects) prepares taken coming made refuses asked told one.result one.desk one.left one.before one.made events)
     pub trust : IsTrusted one.left → IsTrusted one.desk
     pub beside : (beside : Beside) → KeepsBeside one.desk beside → KeepsBeside one.left beside
     pub rounds : IsRoundCounted one.result one.before.rounds one.made.rounds

@@ -82,7 +82,7 @@ pub record DepartAll {T : Type 0} (taken coming : T → Option (List ℕ)) (made
 -- one; a closed desk stays closed. What failed, that a reader's turn for which nothing is looked up left the desk as it was, and why octets
 -- are held back, is told of the desks of its turn. Each event is of one of these connections, in the order of their ids. Something happened
 -- where it did in one of the turns
-pub record TurnAll {K T : Type 0} (stands : K → Condition) (expects : K → Expected → K → Type 0) (prepares : K → Result Bool Fault → K → Type 0) (taken coming : T → Option (List ℕ)) (made : T → Option (List Call))
+pub record TurnAll {K T : Type 0} (stands : K → Condition) (foresees : K → Expected → K → Type 0) (prepares : K → Result Bool Fault → K → Type 0) (taken coming : T → Option (List ℕ)) (made : T → Option (List Call))
     (refuses : Hub → ℕ → Kind → Option HubFault → Type 0) (hub : Hub) (from to : K) (old new : List (Connection T)) (moved : Bool) (events : List Accepted) : Type 0 where
   pub len : length new ≡ length old
   pub moves : List Bool
@@ -98,7 +98,7 @@ pub record TurnAll {K T : Type 0} (stands : K → Condition) (expects : K → Ex
   pub stays : (k : ℕ) (d : Connection T) → k < length old
       → StaysForReader (slice_index_or old k d).held.kind hub (slice_index_or (from ∷ left) k from) (slice_index_or left k from) (events_of (slice_index_or old k d).id events)
   pub prepared : (k : ℕ) (d : Connection T) → k < length old
-      → HoldsBack expects prepares (is_other (first_at old new k) (slice_index_or old k d).id) hub (slice_index_or (from ∷ left) k from) (slice_index_or left k from) (slice_index_or old k d) (slice_index_or new k d)
+      → HoldsBack foresees prepares (is_other (first_at old new k) (slice_index_or old k d).id) hub (slice_index_or (from ∷ left) k from) (slice_index_or left k from) (slice_index_or old k d) (slice_index_or new k d)
   pub orders : (k : ℕ) (d : Connection T) → k < length old
       → KeepsOrder (is_other (first_at old new k) (slice_index_or old k d).id) (slice_index_or old k d).held.kind hub (events_of (slice_index_or old k d).id events)
   pub has_moved : moved ≡ any moves

@@ -182,12 +182,12 @@ set_each host ids lines p id was line rising even in_p at_p is same other held a
     by false e = set_others host ids lines p id line at_p other held (λ own. let so = eq-eqb other id own in cc (so, e)) at
 
 -- what is foreseen of the one at a place is foreseen of its id
-pub foreseen_there : {K : Type 0} (expects : K → Expected → K → Type 0) (Asks : List ℕ → Expected → Type 0) (host ids : List ℕ) (lines : List Exchange) (p id : ℕ) (was : Exchange) (piece : List ℕ) (desk : K)
+pub foreseen_there : {K : Type 0} (foresees : K → Expected → K → Type 0) (Asks : List ℕ → Expected → Type 0) (host ids : List ℕ) (lines : List Exchange) (p id : ℕ) (was : Exchange) (piece : List ℕ) (old new : K)
     → AllPairs (λ a b. a < b) ids → p < length ids → get_or ids p 0 ≡ id → was ≡ get_or lines p was
-    → ((held : Holding) → HoldsExchange host id was held → IsForeseen expects Asks held piece desk)
-    → (held : Option Holding) → StandsAt host ids lines id held → AreForeseen expects Asks held piece desk
-foreseen_there expects Asks host ids lines p id was piece desk rising in_p at_p is there None absent = absent p in_p at_p
-foreseen_there expects Asks host ids lines p id was piece desk rising in_p at_p is there (Some held) at =
+    → ((held : Holding) → HoldsExchange host id was held → IsForeseen foresees Asks held piece old new)
+    → (held : Option Holding) → StandsAt host ids lines id held → AreForeseen foresees Asks held piece old new
+foreseen_there foresees Asks host ids lines p id was piece old new rising in_p at_p is there None absent = absent p in_p at_p
+foreseen_there foresees Asks host ids lines p id was piece old new rising in_p at_p is there (Some held) at =
     there held (subst (λ one. HoldsExchange host id one held) (sym is) (holds_there host ids lines id held p rising in_p at_p at was))
 
 -- so is whether octets make a command whole

@@ -3,7 +3,7 @@ ghost use Rattle.std.specs.Prelude.{◌≡◌, ◌++◌, ◌≤◌, ℕ, false, 
 ghost use Rattle.dict_catalogue.specs.Steps.{Catalogue};
 ghost use Rattle.dict_session.specs.Desks.{condition};
 ghost use Rattle.net_hub.specs.Holding.{Holding, just_opened, left_by};
-ghost use Rattle.http_service.specs.Foreseeing.{AsksAnewForChange, AsksForChange};
+ghost use Rattle.http_service.specs.Foreseeing.{IsToldAnew, AsksAnewForChange, AsksForChange};
 ghost use Rattle.net_hub.specs.Foreseen.{IsForeseen, MakesCommand};
 ghost use Rattle.net_hub.specs.Given.{Greets, Gets, GetsThrough, LookNothingUp};
 ghost use Rattle.net_hub.specs.declared.kind.Kind.TheVariants.{Http};
@@ -109,8 +109,8 @@ impl<'h> Exchange<'h> {
         desk: &mut K,
     ) -> bool
         ensures holds { (host : List ℕ) (id : ℕ) (held : Holding) → HoldsExchange host id self.old held → HoldsExchange host id self.new held }
-        ensures foreseen { result ≡ true → (host : List ℕ) (id : ℕ) (held : Holding) → HoldsExchange host id self.old held → IsForeseen K.expects AsksForChange held piece.now desk.new }
-        ensures anew { result ≡ true → K.is_trusted desk.new → (M : Catalogue) → K.shows desk.old M → (host : List ℕ) (id : ℕ) (held : Holding) → HoldsExchange host id self.old held → IsForeseen K.expects (AsksAnewForChange M) held piece.now desk.new }
+        ensures foreseen { result ≡ true → (host : List ℕ) (id : ℕ) (held : Holding) → HoldsExchange host id self.old held → IsForeseen (IsToldAnew K.shows K.leaves_one_of K.keeps_beside K.is_trusted K.has_failed K.is_closed K.expects) AsksForChange held piece.now desk.old desk.new }
+        ensures anew { result ≡ true → K.is_trusted desk.new → (M : Catalogue) → K.shows desk.old M → (host : List ℕ) (id : ℕ) (held : Holding) → HoldsExchange host id self.old held → IsForeseen (IsToldAnew K.shows K.leaves_one_of K.keeps_beside K.is_trusted K.has_failed K.is_closed K.expects) (AsksAnewForChange M) held piece.now desk.old desk.new }
         ensures trust { K.is_trusted desk.new → K.is_trusted desk.old }
         ensures beside { (beside : K.Beside) → K.keeps_beside desk.old beside → K.keeps_beside desk.new beside }
         ensures closed { K.is_closed desk.old ≡ true → K.is_closed desk.new ≡ true }

@@ -4,7 +4,7 @@ ghost use Rattle.dict_catalogue.specs.Steps.{Catalogue};
 ghost use Rattle.dict_session.specs.Desks.{condition};
 ghost use Rattle.net_hub.specs.Books.{IsRefusal, opening};
 ghost use Rattle.net_hub.specs.Holding.{Holding, left_by};
-ghost use Rattle.http_service.specs.Foreseeing.{AsksAnewForChange, AsksForChange};
+ghost use Rattle.http_service.specs.Foreseeing.{IsToldAnew, AsksAnewForChange, AsksForChange};
 ghost use Rattle.net_hub.specs.Foreseen.{AreForeseen, MakeCommand};
 ghost use Rattle.net_hub.specs.Given.{Greets, Gets, GetsThrough, LookNothingUp};
 ghost use Rattle.net_hub.specs.declared.kind.Kind.{Kind};
@@ -135,8 +135,8 @@ impl<'h> Hub<'h> {
     /// the event of these octets gives what it would have given. The desk is told of each change, but where its body is JSON of
     /// 65,536 octets and more.
     pub fn foresee<K: Preparer>(&mut self, desk: &mut K, id: u64, piece: &[u8]) -> bool
-        ensures foreseen { result ≡ true → (held : Option Holding) → HasHolding self.old id held → AreForeseen K.expects AsksForChange held piece.now desk.new }
-        ensures anew { result ≡ true → K.is_trusted desk.new → (M : Catalogue) → K.shows desk.old M → (held : Option Holding) → HasHolding self.old id held → AreForeseen K.expects (AsksAnewForChange M) held piece.now desk.new }
+        ensures foreseen { result ≡ true → (held : Option Holding) → HasHolding self.old id held → AreForeseen (IsToldAnew K.shows K.leaves_one_of K.keeps_beside K.is_trusted K.has_failed K.is_closed K.expects) AsksForChange held piece.now desk.old desk.new }
+        ensures anew { result ≡ true → K.is_trusted desk.new → (M : Catalogue) → K.shows desk.old M → (held : Option Holding) → HasHolding self.old id held → AreForeseen (IsToldAnew K.shows K.leaves_one_of K.keeps_beside K.is_trusted K.has_failed K.is_closed K.expects) (AsksAnewForChange M) held piece.now desk.old desk.new }
         ensures kept { (other : ℕ) (held : Option Holding) → HasHolding self.old other held → HasHolding self.new other held }
         ensures state { (state : State) → IsAt self.old state → IsAt self.new state }
         ensures given { greatest_of self.new ≡ greatest_of self.old }

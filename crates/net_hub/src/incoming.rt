@@ -1,7 +1,7 @@
 // The editors' half of a hub: one request a connection.
 ghost use Rattle.std.specs.Prelude.{◌≡◌, ◌+◌, ◌++◌, ◌≤◌, [], false, true, length, List, Option, IfErr, IfOk, OnErr, vec_len, vec_capacity};
 ghost use Rattle.dict_catalogue.specs.Steps.{Catalogue};
-ghost use Rattle.http_service.specs.Foreseeing.{HasForeseen, AsksAnewForChange, AsksForChange, AsksForCommand};
+ghost use Rattle.http_service.specs.Foreseeing.{IsToldAnew, IsToldOver, AsksAnewForChange, AsksForChange, AsksForCommand};
 ghost use Rattle.net_hub.specs.Asking.{Awaits, AnswersRequest, IsAwaitedIn};
 ghost use Rattle.net_hub.specs.declared.incoming.Out.TheVariants as outs;
 ghost use Rattle.std.specs.Prelude.{Ok};
@@ -105,8 +105,8 @@ impl Incoming {
     ) -> bool
         ensures octets { self.new.octets.items ≡ self.old.octets.items }
         ensures awaited { self.new.awaited ≡ self.old.awaited }
-        ensures foreseen { result ≡ true → HasForeseen K.expects (AsksForChange (self.old.octets.items ++ piece.now)) desk.new }
-        ensures anew { result ≡ true → K.is_trusted desk.new → (M : Catalogue) → K.shows desk.old M → HasForeseen K.expects (AsksAnewForChange M (self.old.octets.items ++ piece.now)) desk.new }
+        ensures foreseen { result ≡ true → IsToldOver (IsToldAnew K.shows K.leaves_one_of K.keeps_beside K.is_trusted K.has_failed K.is_closed K.expects) (AsksForChange (self.old.octets.items ++ piece.now)) desk.old desk.new }
+        ensures anew { result ≡ true → K.is_trusted desk.new → (M : Catalogue) → K.shows desk.old M → IsToldOver (IsToldAnew K.shows K.leaves_one_of K.keeps_beside K.is_trusted K.has_failed K.is_closed K.expects) (AsksAnewForChange M (self.old.octets.items ++ piece.now)) desk.old desk.new }
         ensures trust { K.is_trusted desk.new → K.is_trusted desk.old }
         ensures beside { (beside : K.Beside) → K.keeps_beside desk.old beside → K.keeps_beside desk.new beside }
         ensures closed { K.is_closed desk.old ≡ true → K.is_closed desk.new ≡ true }

@@ -6,8 +6,7 @@ returns-clause-foreseen g c = λ taken values are.
     record {
       asked = told.asked;
       asks = record { id = c.in-Some.id.now; one = c.in-Some.ensures values are; lawful = c.may_act.ensures.lawful c.if-not-may_act.false; says = told.asks };
-      before = c.may_act.new.desk;
-      told = told.told;
+      told = record { between = c.may_act.new.desk; finds = c.may_act.ensures.finds c.if-not-may_act.false; told = told.told };
     }
 
 pub returns-clause-anew : goal.returns-clause-anew
@@ -20,6 +19,5 @@ returns-clause-anew g c = λ taken trusted M shown values are.
         asks = record { id = c.in-Some.id.now; one = c.in-Some.ensures values are; lawful = c.may_act.ensures.lawful c.if-not-may_act.false; says = told.asks };
         anew = c.may_act.ensures.anew c.if-not-may_act.false noted M shown;
       };
-      before = c.may_act.new.desk;
-      told = told.told;
+      told = record { between = c.may_act.new.desk; finds = c.may_act.ensures.finds c.if-not-may_act.false; told = told.told };
     }

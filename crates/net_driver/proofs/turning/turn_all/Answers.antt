@@ -1,5 +1,6 @@
 use Rattle.std.proofs.Common.{◌≡◌, ◌<◌, ◌≤◌, ℕ, true, false, rules, length, get_or, arith, sym, ap, subst, ◌∙◌}
 use Rattle.dict_session.specs.Desks.{condition}
+use Rattle.http_service.specs.Foreseeing.{IsToldAnew}
 use Rattle.net_connection.specs.Foreseen.{HoldsBack, KeepsOrder}
 use Rattle.net_driver.specs.Turning.{first_of, is_other}
 use Rattle.net_driver.proofs.BoolLemmas.{so_still, so_then}
@@ -18,7 +19,9 @@ loop-one-init g c =
       beside = λ beside kept. kept;
       closed = λ is. is;
       others = λ other held apart has. has;
-      led = led_still (turn_none (condition g.K.Lookup.has_failed g.K.Lookup.is_closed) g.K.Preparer.expects g.K.Preparer.prepares g.T.Transport.taken g.T.Transport.coming g.T.Transport.made g.O.Opening.refuses c.args.hub.now
+      led = led_still (turn_none (condition g.K.Lookup.has_failed g.K.Lookup.is_closed)
+          (IsToldAnew g.K.Lookup.shows g.K.Lookup.leaves_one_of g.K.Lookup.keeps_beside g.K.Lookup.is_trusted g.K.Lookup.has_failed g.K.Lookup.is_closed g.K.Preparer.expects)
+          g.K.Preparer.prepares g.T.Transport.taken g.T.Transport.coming g.T.Transport.made g.O.Opening.refuses c.args.hub.now
           c.args.desk.now c.args.all.now.items c.first_of-first.result
           (c.first_of-first.ensures ∙ ap (λ all. first_of all) c.as_slice.ensures.value));
     })
@@ -45,7 +48,9 @@ loop-one-preserved g c =
       closed = λ is. c.turn.ensures.closed (c.loop-one.invariant.closed is);
       others = keeps_more c.args.all.now.items i one c.args.hub.now c.loop-one.hub c.turn.new.hub within was c.loop-one.invariant.others c.turn.ensures.others;
       led = led_joined c.loop-one.invariant.led c.turn.ensures.led c.turn.ensures.trust
-          (λ es fs all turns. turn_more (condition g.K.Lookup.has_failed g.K.Lookup.is_closed) g.K.Preparer.expects g.K.Preparer.prepares g.T.Transport.taken g.T.Transport.coming g.T.Transport.made g.O.Opening.refuses
+          (λ es fs all turns. turn_more (condition g.K.Lookup.has_failed g.K.Lookup.is_closed)
+          (IsToldAnew g.K.Lookup.shows g.K.Lookup.leaves_one_of g.K.Lookup.keeps_beside g.K.Lookup.is_trusted g.K.Lookup.has_failed g.K.Lookup.is_closed g.K.Preparer.expects)
+          g.K.Preparer.prepares g.T.Transport.taken g.T.Transport.coming g.T.Transport.made g.O.Opening.refuses
           c.args.hub.now c.loop-one.hub c.args.desk.now c.loop-one.desk c.turn.new.desk c.args.all.now.items now i one c.turn.new.self c.loop-one.first _ c.loop-one.has_moved c.turn.result _ es fs c.requires within
           (default_free now i one c.one-item.result in_now)
           c.first_since-first.ensures
@@ -54,7 +59,9 @@ loop-one-preserved g c =
             | else-turn w ↦ so_still _ c.loop-one.has_moved c.turn.result w.has_moved-is w.if-turn.false
           ])
           c.loop-one.invariant.others turns.0 turns.1 turns.2
-          (subst (λ b. KeepsOrder b one.held.kind c.loop-one.hub fs) same turns.3) (subst (λ b. HoldsBack g.K.Preparer.expects g.K.Preparer.prepares b c.loop-one.hub c.loop-one.desk c.turn.new.desk one c.turn.new.self) same
+          (subst (λ b. KeepsOrder b one.held.kind c.loop-one.hub fs) same turns.3) (subst (λ b. HoldsBack
+          (IsToldAnew g.K.Lookup.shows g.K.Lookup.leaves_one_of g.K.Lookup.keeps_beside g.K.Lookup.is_trusted g.K.Lookup.has_failed g.K.Lookup.is_closed g.K.Preparer.expects)
+          g.K.Preparer.prepares b c.loop-one.hub c.loop-one.desk c.turn.new.desk one c.turn.new.self) same
           c.turn.ensures.prepared)
           c.turn.ensures.closed all);
     }
@@ -66,7 +73,9 @@ returns-clause-led g c =
     let done : length c.args.all.now.items ≤ c.loop-one.one-index = omega (arith, all, c.loop-one-test.false) in
     rw taken_whole
     (led_as c.loop-one.invariant.led
-    (λ events up_to. turn_whole (condition g.K.Lookup.has_failed g.K.Lookup.is_closed) g.K.Preparer.expects g.K.Preparer.prepares g.T.Transport.taken g.T.Transport.coming g.T.Transport.made g.O.Opening.refuses c.args.hub.now
+    (λ events up_to. turn_whole (condition g.K.Lookup.has_failed g.K.Lookup.is_closed)
+    (IsToldAnew g.K.Lookup.shows g.K.Lookup.leaves_one_of g.K.Lookup.keeps_beside g.K.Lookup.is_trusted g.K.Lookup.has_failed g.K.Lookup.is_closed g.K.Preparer.expects)
+    g.K.Preparer.prepares g.T.Transport.taken g.T.Transport.coming g.T.Transport.made g.O.Opening.refuses c.args.hub.now
     c.args.desk.now _ c.args.all.now.items c.loop-one.one-items c.loop-one.one-index c.loop-one.first c.loop-one.has_moved events done up_to))
 
 pub returns-clause-others : goal.returns-clause-others

@@ -1,5 +1,6 @@
 use Rattle.std.proofs.Common.{◌≡◌, ◌<◌, ℕ, true, false, length, get_or}
 use Rattle.dict_session.specs.Desks.{condition}
+use Rattle.http_service.specs.Foreseeing.{IsToldAnew}
 use Rattle.net_connection.specs.Leading.{HasLedOn}
 use Rattle.net_connection.specs.Turns.{HasNothingToDo}
 use Rattle.net_driver.proofs.ListLemmas.{HaveSameIds}
@@ -15,6 +16,8 @@ invariant-loop-one g l = record {
   closed : g.K.Lookup.is_closed l.fn.desk ≡ true → g.K.Lookup.is_closed l.desk ≡ true;
   others : KeepsFrom l.fn.all.items l.one-index l.fn.hub l.hub;
   led : HasLedOn (g.K.Lookup.is_trusted l.desk) (g.K.Lookup.shows l.fn.desk) (g.K.Lookup.leaves_one_of l.fn.desk) (g.K.Lookup.shows l.desk) (g.K.Lookup.leaves_one_of l.desk) l.fn.hub l.hub
-      (λ events. TurnUpTo (condition g.K.Lookup.has_failed g.K.Lookup.is_closed) g.K.Preparer.expects g.K.Preparer.prepares g.T.Transport.taken g.T.Transport.coming g.T.Transport.made g.O.Opening.refuses l.fn.hub l.fn.desk l.desk
+      (λ events. TurnUpTo (condition g.K.Lookup.has_failed g.K.Lookup.is_closed)
+      (IsToldAnew g.K.Lookup.shows g.K.Lookup.leaves_one_of g.K.Lookup.keeps_beside g.K.Lookup.is_trusted g.K.Lookup.has_failed g.K.Lookup.is_closed g.K.Preparer.expects)
+      g.K.Preparer.prepares g.T.Transport.taken g.T.Transport.coming g.T.Transport.made g.O.Opening.refuses l.fn.hub l.fn.desk l.desk
       l.fn.all.items l.one-items l.one-index l.first l.has_moved events);
 }

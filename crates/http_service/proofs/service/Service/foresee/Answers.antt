@@ -27,7 +27,6 @@ returns-clause-foreseen g c = λ taken.
         acts = sym (ap (action_of route) tells.method) ∙ found;
         asks = subst (λ b. AsksBy action asked.ids name b told.asked) tells.body told.asks;
       };
-      before = told.before;
       told = told.told;
     }
 
@@ -57,6 +56,5 @@ returns-clause-anew g c = λ taken trusted M shown.
         };
         anew = by.anew;
       };
-      before = told.before;
       told = told.told;
     }

@@ -1,4 +1,5 @@
 use Rattle.std.proofs.Common.{refl, ap, ◌∙◌, inl}
+use Rattle.http_service.specs.Foreseeing.{IsToldAnew}
 use Rattle.net_hub.specs.Events.{is_of_editor}
 use Rattle.net_connection.specs.Causes.{IsRefused}
 use Rattle.net_connection.specs.Handing.{held_in}
@@ -54,13 +55,17 @@ pub returns-then-not-is_behind-clause-back : goal.returns-then-not-is_behind-cla
 returns-then-not-is_behind-clause-back g c = λ still back.
     let at = c.hand_prepared.ensures.back still back in
     let told = c.foresee.ensures in
-    prepares_on g.K.Preparer.expects g.K.Preparer.prepares c.args.is_behind c.args.hub.now c.args.desk.now c.foresee.new.desk c.hand_prepared.new.desk c.args.self.now.id c.args.self.now.held c.foresee.new.self.held
+    prepares_on
+    (IsToldAnew g.K.Lookup.shows g.K.Lookup.leaves_one_of g.K.Lookup.keeps_beside g.K.Lookup.is_trusted g.K.Lookup.has_failed g.K.Lookup.is_closed g.K.Preparer.expects)
+    g.K.Preparer.prepares c.args.is_behind c.args.hub.now c.args.desk.now c.foresee.new.desk c.hand_prepared.new.desk c.args.self.now.id c.args.self.now.held c.foresee.new.self.held
     c.hand_prepared.new.self.held
     c.if-not-is_behind.true back at.4 told.waited told.before told.told at.0 at.1 at.2 at.3 at.5
 
 pub returns-then-asks_change-clause-back : goal.returns-then-asks_change-clause-back
 returns-then-asks_change-clause-back g c = λ still back.
-    waits_still g.K.Preparer.expects g.K.Preparer.prepares c.args.is_behind c.args.hub.now c.args.desk.now c.args.self.now.id c.args.self.now.held c.wait.new.self c.if-not-is_behind.false back c.wait.ensures.octets
+    waits_still
+    (IsToldAnew g.K.Lookup.shows g.K.Lookup.leaves_one_of g.K.Lookup.keeps_beside g.K.Lookup.is_trusted g.K.Lookup.has_failed g.K.Lookup.is_closed g.K.Preparer.expects)
+    g.K.Preparer.prepares c.args.is_behind c.args.hub.now c.args.desk.now c.args.self.now.id c.args.self.now.held c.wait.new.self c.if-not-is_behind.false back c.wait.ensures.octets
     c.wait.ensures.foreseen c.wait.ensures.turns c.wait.ensures.waited (c.asks_change.ensures.yes c.if-asks_change.true).1
 
 pub returns-clause-back : goal.returns-clause-back

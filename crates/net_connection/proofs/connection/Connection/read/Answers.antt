@@ -1,5 +1,6 @@
 use Rattle.std.proofs.Common.{◌≡◌, ◌∙◌, refl, sym, ap, subst, [], take, true, false}
 use Rattle.std.proofs.KnownBytes.{Consumes-nil, Keeps-refl}
+use Rattle.http_service.specs.Foreseeing.{IsToldAnew}
 use Rattle.net_connection.specs.Handing.{held_in, is_held_back}
 use Rattle.net_connection.specs.Causes.{IsRefused}
 use Rattle.net_connection.proofs.CauseLemmas.{caused_from, caused_still}
@@ -108,7 +109,9 @@ returns-then-not-self-clause-prepared g c = λ still back. back_never _ (none_ba
 
 pub returns-in-Octets-clause-prepared : goal.returns-in-Octets-clause-prepared
 returns-in-Octets-clause-prepared g c = λ still back.
-    filled_held g.K.Preparer.expects g.K.Preparer.prepares c.args.is_behind c.fill.new.self.is_foreseen c.fill.new.self.turns_left c.fill.new.self.waited c.args.hub.now c.args.desk.now c.hand_on.new.desk
+    filled_held
+    (IsToldAnew g.K.Lookup.shows g.K.Lookup.leaves_one_of g.K.Lookup.keeps_beside g.K.Lookup.is_trusted g.K.Lookup.has_failed g.K.Lookup.is_closed g.K.Preparer.expects)
+    g.K.Preparer.prepares c.args.is_behind c.fill.new.self.is_foreseen c.fill.new.self.turns_left c.fill.new.self.waited c.args.hub.now c.args.desk.now c.hand_on.new.desk
     c.receive-received.new.self.id c.args.self.now.id
     c.hand_on.new.self.held c.fill.ensures.foreseen c.fill.ensures.waited (ap (λ it. it.id) c.receive-received.ensures.same) (c.hand_on.ensures.back still back)
 

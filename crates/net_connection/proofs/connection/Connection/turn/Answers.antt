@@ -1,4 +1,5 @@
 use Rattle.std.proofs.Common.{◌∙◌, sym, ap}
+use Rattle.http_service.specs.Foreseeing.{IsToldAnew}
 use Rattle.net_hub.specs.Events.{ended, is_of_editor}
 use Rattle.net_connection.specs.Handing.{is_held_back}
 use Rattle.net_connection.proofs.BackLemmas.{begins_held, none_back, over_closed, still_held, was_back}
@@ -63,11 +64,15 @@ returns-then-has_failed-clause-prepared g c = λ still back. over_closed _ c.end
 pub returns-then-not-is_empty-clause-prepared : goal.returns-then-not-is_empty-clause-prepared
 returns-then-not-is_empty-clause-prepared g c = λ still back.
     let before = was_back c.send-sent.new.self.held c.hand_on.new.self.held (sym c.is_empty.ensures ∙ c.if-not-is_empty.true) c.hand_on.ensures.kind back in
-    still_held g.K.Preparer.expects g.K.Preparer.prepares c.args.is_behind c.args.hub.now c.args.desk.now c.hand_on.new.desk c.send-sent.new.self.id c.args.self.now.id c.args.self.now.held c.send-sent.new.self.held c.hand_on.new.self.held
+    still_held
+    (IsToldAnew g.K.Lookup.shows g.K.Lookup.leaves_one_of g.K.Lookup.keeps_beside g.K.Lookup.is_trusted g.K.Lookup.has_failed g.K.Lookup.is_closed g.K.Preparer.expects)
+    g.K.Preparer.prepares c.args.is_behind c.args.hub.now c.args.desk.now c.hand_on.new.desk c.send-sent.new.self.id c.args.self.now.id c.args.self.now.held c.send-sent.new.self.held c.hand_on.new.self.held
     c.send-sent.ensures.held c.send-sent.ensures.id before (c.hand_on.ensures.back still back)
 
 pub returns-clause-prepared : goal.returns-clause-prepared
 returns-clause-prepared g c = λ still back.
     let none = none_back c.send-sent.new.self.held (none_held c.send-sent.new.self.held (sym c.is_empty.ensures ∙ c.if-not-is_empty.false)) in
-    begins_held g.K.Preparer.expects g.K.Preparer.prepares c.args.is_behind c.args.hub.now c.args.desk.now c.read-received.new.desk c.send-sent.new.self.id c.args.self.now.id c.args.self.now.held c.read-received.new.self.held
+    begins_held
+    (IsToldAnew g.K.Lookup.shows g.K.Lookup.leaves_one_of g.K.Lookup.keeps_beside g.K.Lookup.is_trusted g.K.Lookup.has_failed g.K.Lookup.is_closed g.K.Preparer.expects)
+    g.K.Preparer.prepares c.args.is_behind c.args.hub.now c.args.desk.now c.read-received.new.desk c.send-sent.new.self.id c.args.self.now.id c.args.self.now.held c.read-received.new.self.held
     c.send-sent.ensures.id (ap is_held_back (sym c.send-sent.ensures.held) ∙ none) (c.read-received.ensures.prepared still back)

@@ -2,6 +2,7 @@ use Rattle.std.proofs.Common.{◌≡◌, ◌≢◌, ◌≤◌, ◌∙◌, All, a
 use Rattle.std.proofs.lemmas.List.Elements.{All-filter, filter_from_retain}
 use Rattle.std.specs.List.{filter}
 use Rattle.dict_session.specs.Desks.{condition}
+use Rattle.http_service.specs.Foreseeing.{IsToldAnew}
 use Rattle.net_connection.specs.Stages.{is_departing, is_held, is_open}
 use Rattle.net_driver.specs.Rounds.{TurnEach, connections_fitting, latest}
 use Rattle.net_connection.specs.Turns.{HasNothingToDo}
@@ -13,7 +14,9 @@ use Rattle.net_driver.proofs.connections.Connections.turn.Goals as goal
 pub returns-then-departed-clause-led : goal.returns-then-departed-clause-led
 returns-then-departed-clause-led g c =
     led_as c.turn_all-turned.ensures.led (λ events turned.
-    let each : TurnEach (condition g.K.Lookup.has_failed g.K.Lookup.is_closed) g.K.Preparer.expects g.K.Preparer.prepares g.T.Transport.taken g.T.Transport.coming g.T.Transport.made g.O.Opening.refuses c.args.hub.now
+    let each : TurnEach (condition g.K.Lookup.has_failed g.K.Lookup.is_closed)
+    (IsToldAnew g.K.Lookup.shows g.K.Lookup.leaves_one_of g.K.Lookup.keeps_beside g.K.Lookup.is_trusted g.K.Lookup.has_failed g.K.Lookup.is_closed g.K.Preparer.expects)
+    g.K.Preparer.prepares g.T.Transport.taken g.T.Transport.coming g.T.Transport.made g.O.Opening.refuses c.args.hub.now
     c.args.desk.now c.turn_all-turned.new.desk c.args.self.now c.settle.new.self c.depart_all-departed.result events = record {
       departed = c.depart_all-departed.new.all.items;
       by_departing = c.depart_all-departed.result;
@@ -32,7 +35,9 @@ returns-then-departed-clause-led g c =
 pub returns-else-departed-clause-led : goal.returns-else-departed-clause-led
 returns-else-departed-clause-led g c =
     led_as c.turn_all-turned.ensures.led (λ events turned.
-    let each : TurnEach (condition g.K.Lookup.has_failed g.K.Lookup.is_closed) g.K.Preparer.expects g.K.Preparer.prepares g.T.Transport.taken g.T.Transport.coming g.T.Transport.made g.O.Opening.refuses c.args.hub.now
+    let each : TurnEach (condition g.K.Lookup.has_failed g.K.Lookup.is_closed)
+    (IsToldAnew g.K.Lookup.shows g.K.Lookup.leaves_one_of g.K.Lookup.keeps_beside g.K.Lookup.is_trusted g.K.Lookup.has_failed g.K.Lookup.is_closed g.K.Preparer.expects)
+    g.K.Preparer.prepares g.T.Transport.taken g.T.Transport.coming g.T.Transport.made g.O.Opening.refuses c.args.hub.now
     c.args.desk.now c.turn_all-turned.new.desk c.args.self.now c.settle.new.self c.turn_all-turned.result events = record {
       departed = c.depart_all-departed.new.all.items;
       by_departing = c.depart_all-departed.result;

@@ -1,6 +1,7 @@
 use Rattle.std.proofs.Common.{◌≡◌, ◌∙◌, List, [], ◌++◌, true, false, is_ok, sym, ap, subst, refl}
 use Rattle.std.specs.Prelude.{nat_lt}
 use Rattle.dict_session.specs.Desks.{condition}
+use Rattle.http_service.specs.Foreseeing.{IsToldAnew}
 use Rattle.net_hub.specs.Runs.{Accepted, IsAt}
 use Rattle.net_hub.specs.declared.kind.Kind.TheVariants.{Dict}
 use Rattle.net_driver.specs.Accepting.{HasAccepted}
@@ -46,10 +47,14 @@ returns-clause-led g c =
     (λ es fs before then. (
       moves_joined self.connections c.accept_all-by_http.new.self.connections c.turn-turned.new.self es fs before.0 then.0,
       taken_round g.S.Opening.refuses asked c.poll.new.self c.accept_all-by_dict.new.self c.accept_all-by_http.new.self es fs before.1 then.1 then.2,
-      round_made g.S.Opening.refuses asked (condition g.K.Lookup.has_failed g.K.Lookup.is_closed) g.K.Preparer.expects g.K.Preparer.prepares g.T.Transport.taken g.T.Transport.coming g.T.Transport.made
+      round_made g.S.Opening.refuses asked (condition g.K.Lookup.has_failed g.K.Lookup.is_closed)
+          (IsToldAnew g.K.Lookup.shows g.K.Lookup.leaves_one_of g.K.Lookup.keeps_beside g.K.Lookup.is_trusted g.K.Lookup.has_failed g.K.Lookup.is_closed g.K.Preparer.expects)
+          g.K.Preparer.prepares g.T.Transport.taken g.T.Transport.coming g.T.Transport.made
           (g.S.Sockets.told c.poll.new.self.sockets) c.poll.result c.args.desk.now c.turn-turned.new.desk self c.poll.new.self c.accept_all-by_dict.new.self c.accept_all-by_http.new.self _
           c.has_any.result c.turn-turned.result es fs (ap is_ok c.in-Ok.is) c.poll.ensures before.1
-          (subst (λ d. TurnEach (condition g.K.Lookup.has_failed g.K.Lookup.is_closed) g.K.Preparer.expects g.K.Preparer.prepares g.T.Transport.taken g.T.Transport.coming g.T.Transport.made g.S.Opening.refuses
+          (subst (λ d. TurnEach (condition g.K.Lookup.has_failed g.K.Lookup.is_closed)
+          (IsToldAnew g.K.Lookup.shows g.K.Lookup.leaves_one_of g.K.Lookup.keeps_beside g.K.Lookup.is_trusted g.K.Lookup.has_failed g.K.Lookup.is_closed g.K.Preparer.expects)
+          g.K.Preparer.prepares g.T.Transport.taken g.T.Transport.coming g.T.Transport.made g.S.Opening.refuses
           c.accept_all-by_http.new.self.hub d c.turn-turned.new.desk c.accept_all-by_http.new.self.connections c.turn-turned.new.self c.turn-turned.result fs)
           (c.accept_all-by_http.ensures.unasked ∙ c.accept_all-by_dict.ensures.unasked) then.3) c.turn-turned.ensures.others refl c.accept_all-by_http.ensures.other refl c.accept_all-by_dict.ensures.other
           (moved_by c.has_any.result c.has_given-is_more.result c.accept_all-by_dict.result c.accept_all-by_http.result c.turn-turned.result _ _ _ c.has_any.ensures
