@@ -45,6 +45,14 @@ fn cache_pages(octets: u64) -> usize
     pages.clamp(FEWEST_PAGES, MOST_PAGES)
 }
 
+// How many octets the file at this path has: none where it isn't there, or can't be asked.
+pub(crate) fn octets_at(rt: &HostRuntime, path: &str) -> u64 {
+    match fs::metadata(rt, path) {
+        Ok(found) => found.len(),
+        Err(_) => 0,
+    }
+}
+
 // How the files at this path are opened: with a cache of the size that the file has now, a short log, and a random number for it; none where
 // the system gives none.
 pub(crate) fn options(rt: &HostRuntime, path: &str) -> Option<Options>
@@ -52,12 +60,8 @@ pub(crate) fn options(rt: &HostRuntime, path: &str) -> Option<Options>
     ensures log { IfSome result (λ it. it.checkpoint_frames ≡ 256) }
 {
     let state = RandomState::new(rt).ok()?;
-    let octets = match fs::metadata(rt, path) {
-        Ok(found) => found.len(),
-        Err(_) => 0,
-    };
     Some(Options {
-        cache_pages: cache_pages(octets),
+        cache_pages: cache_pages(octets_at(rt, path)),
         checkpoint_frames: LOG_PAGES,
         ..Options::new(state.hash_one(&0u8))
     })

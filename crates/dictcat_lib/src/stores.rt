@@ -3,12 +3,14 @@ ghost use Rattle.std.specs.Prelude.{◌≡◌, false, IfOk, IfErr};
 ghost use Rattle.dictcat_lib.specs.DeskOpener.{IsNotOpened, TellsUnopened};
 ghost use Rattle.dictcat_lib.specs.Files.{IsOpenedFrom, IsPutAway};
 
+use crate::cached::octets_at;
 use crate::left::{Left, hold};
 use crate::opener::FileOpener;
 use app_words::ProgramFault;
 use dict_desk::Fault as DeskFault;
 use sqlite::{Connection, FileStore};
 use sqlite_disk::Disk;
+use std::alloc::AllocError;
 use std::fs;
 use std::io::ErrorKind;
 use store_desk::Unopened;
@@ -32,8 +34,23 @@ pub(crate) fn open_file<'w, D: Disk + Drop, O: FileOpener<D>>(
     }
 }
 
-// Opens the file with this path, or makes it where none is there: then each of its pages ends in a sum. It is done once: `start` is
-// taken for it.
+// A log of fewer octets has no page.
+const PAGE: u64 = 4_096;
+
+// Whether pages of a catalogue may stand in the log of a file that isn't there, or is empty: the log would be dropped where that is opened. No
+// proof rests on it. The only error is refused memory.
+fn is_log_alone(rt: &HostRuntime, path: &str) -> Result<bool, AllocError> {
+    if octets_at(rt, path) > 0 {
+        return Ok(false);
+    }
+    let mut log = String::new(rt.alloc());
+    log.push_str(path)?;
+    log.push_str("-wal")?;
+    Ok(octets_at(rt, &log) >= PAGE)
+}
+
+// Opens the file with this path, or makes it where none is there: then each of its pages ends in a sum. Over none, and an empty one, it does
+// neither beside a log that may have pages. It is done once: `start` is taken for it.
 pub(crate) fn make_file<'w, D: Disk + Drop, O: FileOpener<D>>(
     rt: &HostRuntime,
     path: &'w str,
@@ -44,6 +61,12 @@ pub(crate) fn make_file<'w, D: Disk + Drop, O: FileOpener<D>>(
     ensures autocommit { IfOk result (λ conn. conn.in_transaction ≡ false) }
     ensures unopened { IfErr result (IsNotOpened O.image path.entry.now start.old start.new held.old held.new) }
 {
+    let Ok(alone) = is_log_alone(rt, path) else {
+        return Err(ProgramFault::Memory);
+    };
+    if alone {
+        return Err(ProgramFault::CannotRead(path));
+    }
     let Some(first) = start.take() else {
         return Err(ProgramFault::CannotRead(path));
     };
