@@ -133,7 +133,7 @@ handed_over taken coming made refused since a b c events same kind held over (ha
 -- octets came, which are held then, and the hub was told the first piece of them, or they are held back
 pub reads_octets : {T : Type 0} {refused : ℕ → Kind → Type 0} (taken coming : T → Option (List ℕ)) (made : T → Option (List Call)) (a b s c : Connection T) (count : ℕ) (octets : List ℕ) (events : List Accepted)
     → b ≡ record a { transport = b.transport } → s ≡ record b { held = s.held } → a.may_receive ≡ true → s.held.kind ≡ b.held.kind → held_in s.held ≡ octets
-    → Keeps (taken a.transport) (taken b.transport) → Consumes (coming a.transport) (coming b.transport) octets → MakesCalls (made a.transport) (made b.transport) (receives 4096 (receiveds.Octets count) ∷ [])
+    → Keeps (taken a.transport) (taken b.transport) → Consumes (coming a.transport) (coming b.transport) octets → MakesCalls (made a.transport) (made b.transport) (receives 65536 (receiveds.Octets count) ∷ [])
     → HandsOver taken coming made (held_in s.held) s c events × LeadsByPiece refused (held_in s.held) s c events → ReadsOnce taken coming made refused a c (receiveds.Octets count) events
 reads_octets {refused = refused} taken coming made a b s c count octets events same filled marked kind is took comes calls (hands, leads) =
     let id : s.id ≡ a.id = ap (λ it. it.id) filled ∙ ap (λ it. it.id) same in
@@ -145,7 +145,7 @@ reads_octets {refused = refused} taken coming made a b s c count octets events s
     reads_handed taken coming made a s c (receiveds.Octets count) octets events id stage queue kinds marked
     (subst (λ t. Keeps (taken a.transport) (taken t)) back took)
     (subst (λ t. Consumes (coming a.transport) (coming t) octets) back comes)
-    (subst (λ t. MakesCalls (made a.transport) (made t) (receives 4096 (receiveds.Octets count) ∷ [])) back calls)
+    (subst (λ t. MakesCalls (made a.transport) (made t) (receives 65536 (receiveds.Octets count) ∷ [])) back calls)
     (subst (λ (l : List ℕ). HandsOver taken coming made l s c events) is hands) (
       piece_from refused a s c octets events id stage kinds (subst (λ (l : List ℕ). LeadsByPiece refused l s c events) is leads),
       hands.may_receive ∙ marks,

@@ -329,7 +329,7 @@ leads_from refused a b c receiveds.Failed octets events id stage marks held lead
 -- octets came, or an end, and the hub was told
 pub reads_handed : {T : Type 0} {refused : ℕ → Kind → Type 0} (taken coming : T → Option (List ℕ)) (made : T → Option (List Call)) (a b c : Connection T) (reading : Received) (octets : List ℕ) (events : List Accepted)
     → b.id ≡ a.id → b.stage ≡ a.stage → b.queue ≡ a.queue → b.held.kind ≡ a.held.kind → a.may_receive ≡ true → Keeps (taken a.transport) (taken b.transport) → Consumes (coming a.transport) (coming b.transport) octets
-    → MakesCalls (made a.transport) (made b.transport) (receives 4096 reading ∷ []) → HandsOver taken coming made octets b c events → LeadsByReading refused reading octets a c events → ReadsOnce taken coming made refused a c reading events
+    → MakesCalls (made a.transport) (made b.transport) (receives 65536 reading ∷ []) → HandsOver taken coming made octets b c events → LeadsByReading refused reading octets a c events → ReadsOnce taken coming made refused a c reading events
 reads_handed {refused = refused} taken coming made a b c reading octets events id stage queue kind marked took comes calls hands leads = record {
   id = hands.id ∙ id;
   kind = hands.kind ∙ kind;
@@ -347,8 +347,8 @@ reads_handed {refused = refused} taken coming made a b c reading octets events i
   handed = hands.handed;
   within = hands.passes.within;
   sendings = hands.passes.sendings;
-  calls = rw marked (makes_joined _ _ _ (receives 4096 reading ∷ []) hands.passes.within calls hands.passes.calls);
-  stuck = rw marked (stuck_behind (made a.transport) (made b.transport) (made c.transport) (receives 4096 reading ∷ []) a.queue c.queue calls
+  calls = rw marked (makes_joined _ _ _ (receives 65536 reading ∷ []) hands.passes.within calls hands.passes.calls);
+  stuck = rw marked (stuck_behind (made a.transport) (made b.transport) (made c.transport) (receives 65536 reading ∷ []) a.queue c.queue calls
       (stuck_from (made b.transport) (made c.transport) a.queue b.queue c.queue (ap (λ q. q.failures) queue) (ap (λ q. length q.refused.octets) queue) hands.stuck));
   lazy = λ few. hands.passes.lazy (subst (λ q. length (waiting q) + length hands.put < 1048576) (sym queue) few);
   unmarked = λ isnt. absurd (let never : true ≡ false = sym marked ∙ isnt in cc);
@@ -358,7 +358,7 @@ reads_handed {refused = refused} taken coming made a b c reading octets events i
 -- an end came, or a failure
 pub reads_still : {T : Type 0} {refused : ℕ → Kind → Type 0} (taken coming : T → Option (List ℕ)) (made : T → Option (List Call)) (a b c : Connection T) (reading : Received) (events : List Accepted)
     → b ≡ record a { transport = b.transport } → held_in a.held ≡ [] → a.may_receive ≡ true → Keeps (taken a.transport) (taken b.transport) → Consumes (coming a.transport) (coming b.transport) []
-    → MakesCalls (made a.transport) (made b.transport) (receives 4096 reading ∷ []) → HandsToHub [] b c events → LeadsByReading refused reading [] b c events → ReadsOnce taken coming made refused a c reading events
+    → MakesCalls (made a.transport) (made b.transport) (receives 65536 reading ∷ []) → HandsToHub [] b c events → LeadsByReading refused reading [] b c events → ReadsOnce taken coming made refused a c reading events
 reads_still {refused = refused} taken coming made a b c reading events same none marked took comes calls hands leads =
     let id : b.id ≡ a.id = ap (λ it. it.id) same in
     let stage : b.stage ≡ a.stage = ap (λ it. it.stage) same in

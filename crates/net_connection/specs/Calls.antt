@@ -17,10 +17,10 @@ abbrev pub sendings : Bool → Sent → List Call
 sendings true sent = []
 sendings false sent = sends sent ∷ []
 
--- a reading is made where one may give something, into a room of 4,096 octets
+-- a reading is made where one may give something, into a room of 65,536 octets
 abbrev pub reading_calls : Bool → Received → List Call
 reading_calls false received = []
-reading_calls true received = receives 4096 received ∷ []
+reading_calls true received = receives 65536 received ∷ []
 
 -- the calls of a turn: a sending where something waits, and where it didn't fail a reading where one is to be made
 abbrev pub calls_of_turn : Bool → Bool → Sent → Received → List Call

@@ -219,7 +219,7 @@ impl<T: Transport> Connection<T> {
         ensures gives { Consumes (T.coming self.old.transport) (T.coming self.new.transport) (take (count_received result) room.new) }
         ensures taken { Keeps (T.taken self.old.transport) (T.taken self.new.transport) }
         ensures same { self.new ≡ record self.old { transport = self.new.transport } }
-        ensures made { MakesCalls (T.made self.old.transport) (T.made self.new.transport) (receives 4096 result ∷ []) }
+        ensures made { MakesCalls (T.made self.old.transport) (T.made self.new.transport) (receives 65536 result ∷ []) }
     {
         received_by(&self.transport.receive(room))
     }

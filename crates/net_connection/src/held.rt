@@ -6,7 +6,7 @@ use memchr::memchr;
 use net_hub::Kind;
 
 /// The most octets that one reading takes.
-pub const PIECE: usize = 4_096;
+pub const PIECE: usize = 65_536;
 
 // For how many turns the octets of one reading are held back at most, while the desk prepares what they complete.
 const MAX_TURNS: u32 = 1_000_000;
@@ -26,9 +26,9 @@ pub struct Held {
     // For how many turns they were held back.
     waited: u64,
     ghost in_front: { handed ≤ vec_len octets },
-    ghost few: { vec_len octets ≤ 4096 },
+    ghost few: { vec_len octets ≤ 65536 },
     ghost unforeseen: { is_foreseen ≡ false → turns_left ≡ 0 },
-    ghost room: { 4096 ≤ vec_capacity octets },
+    ghost room: { 65536 ≤ vec_capacity octets },
 }
 
 impl Held {
@@ -40,7 +40,7 @@ impl Held {
     /// Nothing was read yet of a connection of this kind. This is the room for it.
     pub fn new(kind: Kind, octets: Vec<u8>) -> Self
         requires none { octets.items ≡ [] }
-        requires room { 4096 ≤ vec_capacity octets }
+        requires room { 65536 ≤ vec_capacity octets }
         ensures kind { result.kind ≡ kind }
         ensures none { held_in result ≡ [] }
     {
@@ -91,7 +91,7 @@ impl Held {
 
     /// Takes the octets of a reading, in place of those of the last one. They aren't held back.
     pub fn fill(&mut self, octets: &[u8])
-        requires { length octets.now ≤ 4096 }
+        requires { length octets.now ≤ 65536 }
         ensures octets { held_in self.new ≡ octets.now }
         ensures kind { self.new.kind ≡ self.old.kind }
         ensures foreseen { self.new.is_foreseen ≡ false }
@@ -109,7 +109,7 @@ impl Held {
     /// editor's all.
     pub fn next_piece(&self) -> &[u8]
         ensures value { result.now ≡ next_piece self.now.kind (held_in self.now) }
-        ensures few { length result.now ≤ 4096 }
+        ensures few { length result.now ≤ 65536 }
     {
         let octets = self.octets.as_slice().split_at(self.handed).1;
         match self.kind {

@@ -30,7 +30,7 @@ pub trait Opening {
 
     /// Room for what is read of a connection that is to be opened in this hub, by this id and of this kind.
     fn room(&self, alloc: Global, hub: &Hub, id: u64, kind: Kind) -> Result<Vec<u8>, AllocError>
-        ensures { MatchResult result (λ octets. (octets.items ≡ []) × (4096 ≤ vec_capacity octets)) (λ _. refuses hub.now id kind None) };
+        ensures { MatchResult result (λ octets. (octets.items ≡ []) × (65536 ≤ vec_capacity octets)) (λ _. refuses hub.now id kind None) };
 
     /// Tells the hub of a connection, whose greeting waits in its queue then.
     fn greet<K: Preparer>(

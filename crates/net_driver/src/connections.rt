@@ -5,7 +5,7 @@ ghost use Rattle.net_connection.specs.Stages.{is_open};
 
 use crate::turning::{depart_all, have_bounded_room, mark_one, turn_all};
 use dict_desk::Preparer;
-use net_connection::{Connection, Opening};
+use net_connection::{Connection, Opening, PIECE};
 use net_hub::{Hub, Kind, MAX_OPEN};
 use net_outlet::Transport;
 use std::alloc::{AllocError, Global};
@@ -157,9 +157,10 @@ impl<T: Transport> Connections<T> {
         ensures closed { K.is_closed desk.old ≡ true → K.is_closed desk.new ≡ true }
         ensures idle { result ≡ false → All HasNothingToDo self.new.opened.items }
     {
-        let departed = depart_all(&mut self.departing);
+        let mut room = [0u8; PIECE];
+        let departed = depart_all(&mut self.departing, &mut room);
         self.departing.retain(|one| one.stage().is_held());
-        let turned = turn_all(opening, &mut self.opened, hub, desk);
+        let turned = turn_all(opening, &mut self.opened, hub, desk, &mut room);
         self.settle();
         departed || turned
     }

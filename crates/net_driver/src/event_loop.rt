@@ -107,7 +107,7 @@ impl<'h, T: Transport, S: Sockets<T>> EventLoop<'h, T, S> {
     /// One round: the sockets are looked at, the connections that wait are taken from that for readers, at most 16, and then from
     /// that for editors, at most 16, and then each connection has a turn, the open ones in the order of their ids: what waits is
     /// sent, and the next piece of what was read goes to the hub, of a reader one line; where none is left, one read of at most
-    /// 4,096 octets is made before. A piece that completes an install is held back while the desk prepares that, by a part in each
+    /// 65,536 octets is made before. A piece that completes an install is held back while the desk prepares that, by a part in each
     /// round, and a piece that makes another command whole until it comes first: they come in the order in which they were whole.
     /// Whether anything happened; where nothing did, `wait` may come before the next round.
     pub fn round<K: Preparer>(&mut self, desk: &mut K) -> io::Result<bool>

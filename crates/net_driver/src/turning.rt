@@ -22,6 +22,7 @@ pub fn turn_all<T: Transport, K: Preparer, O: Opening>(
     all: &mut Vec<Connection<T>>,
     hub: &mut Hub,
     desk: &mut K,
+    room: &mut [u8; PIECE],
 ) -> bool
     requires { AllPairs (λ a b. a.id < b.id) all.old.items }
     ensures led { HasLedOn (K.is_trusted desk.new) (K.shows desk.old) (K.leaves_one_of desk.old) (K.shows desk.new) (K.leaves_one_of desk.new) hub.old hub.new
@@ -35,12 +36,11 @@ pub fn turn_all<T: Transport, K: Preparer, O: Opening>(
     ensures len { vec_len all.new ≡ vec_len all.old }
     ensures capacity { vec_capacity all.new ≡ vec_capacity all.old }
 {
-    let mut room = [0u8; PIECE];
     let mut has_moved = false;
     let mut first = first_of(all.as_slice());
     for one in all.iter_mut() {
         let is_behind = is_other(first, one.id());
-        if one.turn(opening, hub, desk, &mut room, is_behind) {
+        if one.turn(opening, hub, desk, room, is_behind) {
             has_moved = true;
         }
         first = first_since(first, one);
@@ -102,15 +102,14 @@ fn is_other(first: Option<u64>, id: u64) -> bool
 }
 
 /// A turn of each connection that is no longer open, in order. Whether anything happened.
-pub fn depart_all<T: Transport>(all: &mut Vec<Connection<T>>) -> bool
+pub fn depart_all<T: Transport>(all: &mut Vec<Connection<T>>, room: &mut [u8; PIECE]) -> bool
     ensures departs { DepartAll T.taken T.coming T.made all.old.items all.new.items result }
     ensures len { vec_len all.new ≡ vec_len all.old }
     ensures capacity { vec_capacity all.new ≡ vec_capacity all.old }
 {
-    let mut room = [0u8; PIECE];
     let mut has_moved = false;
     for one in all.iter_mut() {
-        if one.linger(&mut room) {
+        if one.linger(room) {
             has_moved = true;
         }
     }

@@ -4,7 +4,7 @@ ghost use Rattle.std.specs.Prelude.{None, ⊤};
 use crate::peer::{Peer, SILENT, Script};
 use dict_desk::Preparer;
 use dict_proto::Sink;
-use net_connection::{Opening, greet_by_hub, hand_by_hub};
+use net_connection::{Opening, PIECE, greet_by_hub, hand_by_hub};
 use net_driver::Sockets;
 use net_hub::{Hub, HubFault, Kind, Out};
 use net_outlet::Queue;
@@ -53,7 +53,7 @@ impl Opening for Crowd {
         _id: u64,
         _kind: Kind,
     ) -> Result<Vec<u8>, AllocError> {
-        Vec::with_capacity(alloc, 4_096)
+        Vec::with_capacity(alloc, PIECE)
     }
 
     fn greet<K: Preparer>(

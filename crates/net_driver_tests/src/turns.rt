@@ -4,7 +4,7 @@ use crate::checks::holds;
 use crate::crowd::Crowd;
 use crate::peer::{Peer, SILENT, Script};
 use dict_fixtures::{PartsDesk, install_long};
-use net_connection::{Connection, Stage};
+use net_connection::{Connection, PIECE, Stage};
 use net_hub::{Hub, Kind};
 use std::alloc::Global;
 use std::test::Fail;
@@ -70,7 +70,7 @@ fn turn(
     one: &mut Connection<Peer>,
     is_behind: bool,
 ) {
-    let mut room = [0u8; 4_096];
+    let mut room = [0u8; PIECE];
     if one.stage().is_open() {
         one.turn(rooms, hub, desk, &mut room, is_behind);
     } else {

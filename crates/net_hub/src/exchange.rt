@@ -125,7 +125,7 @@ impl<'h> Exchange<'h> {
 
     /// Whether this piece makes an editor's request whole that changes the catalogue. Nothing of what is held changes.
     pub fn asks_change(&mut self, service: &Service, piece: &[u8]) -> bool
-        requires { length piece.now ≤ 4096 }
+        requires { length piece.now ≤ 65536 }
         ensures holds { (host : List ℕ) (id : ℕ) (held : Holding) → HoldsExchange host id self.old held → HoldsExchange host id self.new held }
         ensures yes { result ≡ true → (host : List ℕ) (id : ℕ) (held : Holding) → HoldsExchange host id self.old held → MakesCommand held piece.now }
         ensures no { result ≡ false → (host : List ℕ) (id : ℕ) (held : Holding) → HoldsExchange host id self.old held → ¬ MakesCommand held piece.now }

@@ -155,9 +155,9 @@ impl<'h> Hub<'h> {
     }
 
     /// Whether these octets, the next that come on a connection, make a command whole: a request that changes the catalogue, whatever
-    /// is answered. It is no event: nothing of the hub changes. At most 4,096 octets are asked about.
+    /// is answered. It is no event: nothing of the hub changes. At most 65,536 octets are asked about.
     pub fn asks_change(&mut self, id: u64, piece: &[u8]) -> bool
-        requires { length piece.now ≤ 4096 }
+        requires { length piece.now ≤ 65536 }
         ensures yes { result ≡ true → (held : Option Holding) → HasHolding self.old id held → MakeCommand held piece.now }
         ensures no { result ≡ false → (held : Option Holding) → HasHolding self.old id held → ¬ MakeCommand held piece.now }
         ensures kept { (other : ℕ) (held : Option Holding) → HasHolding self.old other held → HasHolding self.new other held }

@@ -15,7 +15,7 @@ use http_service::Service;
 use std::alloc::{AllocError, Global};
 
 /// The most octets of a piece of which it is told whether it makes a command whole. Room for so many is kept.
-pub const MAX_ASKED: usize = 4_096;
+pub const MAX_ASKED: usize = 65_536;
 
 /// What becomes of a connection after an event.
 #[derive(Clone, Copy, Debug, PartialEq, Eq)]
@@ -26,14 +26,14 @@ pub enum Out {
     Close,
 }
 
-/// The octets of an editor's request that have come. Once its head is whole it is known how many are awaited. There is room for 4,096
+/// The octets of an editor's request that have come. Once its head is whole it is known how many are awaited. There is room for 65,536
 /// more.
 #[derive(Drop)]
 pub struct Incoming {
     octets: Vec<u8>,
     // How many octets head and body have, where the head was seen to be whole, and 0 before.
     awaited: usize,
-    ghost room: { vec_len octets + 4096 ≤ vec_capacity octets },
+    ghost room: { vec_len octets + 65536 ≤ vec_capacity octets },
 }
 
 impl Incoming {
@@ -129,7 +129,7 @@ impl Incoming {
 
     /// Whether this piece, behind the octets that have come, makes a request whole that changes the catalogue. The piece isn't held.
     pub fn asks_change(&mut self, service: &Service, piece: &[u8]) -> bool
-        requires { length piece.now ≤ 4096 }
+        requires { length piece.now ≤ 65536 }
         ensures octets { self.new.octets.items ≡ self.old.octets.items }
         ensures awaited { self.new.awaited ≡ self.old.awaited }
         ensures yes { result ≡ true → AsksForCommand (self.old.octets.items ++ piece.now) }
