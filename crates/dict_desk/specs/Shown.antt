@@ -39,6 +39,11 @@ found_rows strategy query edition = map row_of (found strategy query edition)
 abbrev pub headword_rows : Strategy → List ℕ → Edition → List Row
 headword_rows strategy query edition = map (λ shown. row shown []) (headwords (found strategy query edition))
 
+-- the rows that a query gives: those of the entries found, or of the headwords shown of them
+abbrev pub rows_given : What → Strategy → List ℕ → Edition → List Row
+rows_given Entries strategy query edition = found_rows strategy query edition
+rows_given Headwords strategy query edition = headword_rows strategy query edition
+
 -- what the edition's database says of itself, where nothing is shown
 abbrev pub info_rows : Edition → List Row
 info_rows edition = row [] edition.info ∷ []

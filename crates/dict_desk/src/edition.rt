@@ -6,12 +6,12 @@ ghost use Rattle.dict_index.specs.Edition.{edition_of};
 ghost use Rattle.dict_desk.specs.Found.{is_found};
 ghost use Rattle.dict_desk.specs.PlainEntries.{LieWithin};
 ghost use Rattle.dict_desk.specs.declared.lookup.What.TheVariants.{Entries, Headwords};
-ghost use Rattle.dict_desk.specs.Shown.{found_rows, headword_rows, info_rows, count_of};
+ghost use Rattle.dict_desk.specs.Shown.{found_rows, headword_rows, rows_given, info_rows, count_of};
 
 use crate::entries::{
     EntryHits, OwnedEntry, PlaceSpan, hand_found, hand_headwords, hits_among, owned_entries,
 };
-use crate::lookup::End;
+use crate::lookup::{End, What};
 use crate::sink::{Demand, Row, RowSink};
 use dict_index::Edition;
 use dict_match::Strategy;
@@ -88,8 +88,27 @@ impl PlainEdition {
         hits_among(&self.entries, strategy, query)
     }
 
-    // Hands out the entries that a query finds, all of which lie in the span.
+    // Hands out the entries that a query finds, all of which lie in the span, or the headwords shown of them.
     pub(crate) fn find<T: RowSink>(
+        &self,
+        span: PlaceSpan,
+        strategy: Strategy,
+        query: &[u8],
+        what: What,
+        sink: &mut T,
+    ) -> End
+        requires { LieWithin (is_found strategy query.now) self.now.content.entries span.first span.end }
+        ensures all { result ≡ End.All → T.takes sink.old (rows_given what strategy query.now self.now.content) sink.new }
+        ensures stopped { result ≡ End.Stopped → T.stops sink.old (rows_given what strategy query.now self.now.content) sink.new }
+    {
+        match what {
+            What::Entries => self.find_entries(span, strategy, query, sink),
+            What::Headwords => self.find_headwords(span, strategy, query, sink),
+        }
+    }
+
+    // Hands out the entries that a query finds, all of which lie in the span.
+    fn find_entries<T: RowSink>(
         &self,
         span: PlaceSpan,
         strategy: Strategy,
@@ -110,7 +129,7 @@ impl PlainEdition {
     }
 
     // Hands out the headwords shown of the entries that a query finds, all of which lie in the span.
-    pub(crate) fn heads<T: RowSink>(
+    fn find_headwords<T: RowSink>(
         &self,
         span: PlaceSpan,
         strategy: Strategy,

@@ -4,7 +4,7 @@ ghost use Rattle.dict_index.specs.Edition.{Edition};
 ghost use Rattle.dict_catalogue.specs.Steps.{Catalogue, summary_of};
 ghost use Rattle.dict_catalogue.specs.Views.{summary_shown};
 ghost use Rattle.dict_catalogue.specs.WellFormed.{IsWellFormed};
-ghost use Rattle.dict_desk.specs.Shown.{Row, HasEdition, found_rows, headword_rows, info_rows, count_of};
+ghost use Rattle.dict_desk.specs.Shown.{Row, HasEdition, rows_given, info_rows, count_of};
 ghost use Rattle.dict_desk.specs.Handing.{Hands};
 ghost use Rattle.dict_desk.specs.Faults.{IsOfLookup, has_failed_by, has_closed_by};
 ghost use Rattle.dict_desk.specs.declared.fault.Fault.{Fault as Failure};
@@ -23,7 +23,7 @@ pub enum End {
     Stopped,
 }
 
-/// What is counted of the entries that are found.
+/// What is counted, or handed out, of the entries that are found.
 #[derive(Clone, Copy, Debug, PartialEq, Eq)]
 pub enum What {
     /// The entries.
@@ -106,37 +106,17 @@ pub trait Lookup {
         ensures closed { (result ≡ Err Fault.Closed) ↔ (is_closed self.old ≡ true) };
 
     /// Hands the entries of the edition that the query finds by the strategy to the sink, in the order of the index,
-    /// each as a row of what is shown of it and its text.
+    /// each as a row of what is shown of it and its text; or the headwords shown of them, each once, in the order in
+    /// which they first stand among these, as rows with the empty text.
     fn find<T: RowSink>(
         &mut self,
         number: u64,
         strategy: Strategy,
         query: &Key,
+        what: What,
         sink: &mut T,
     ) -> Result<End, Fault>
-        ensures value { is_trusted self.new → (M : Catalogue) (edition : Edition) → shows self.old M → HasEdition M number edition → Hands T.takes T.stops sink.old sink.new (found_rows strategy query.now edition) result }
-        ensures looks { is_trusted self.new → (M : Catalogue) (edition : Edition) → shows self.old M → HasEdition M number edition → result ≡ Ok End.All → looks_at self.old self.new (count_of What.Entries strategy query.now edition) }
-        ensures handed { (rows : List Row) × Hands T.takes T.stops sink.old sink.new rows result }
-        ensures trust { is_trusted self.new → is_trusted self.old }
-        ensures beside { (beside : Beside) → keeps_beside self.old beside → keeps_beside self.new beside }
-        ensures shows { is_trusted self.new → (M : Catalogue) → shows self.old M → shows self.new M }
-        ensures leaves { (ms : List (Option Catalogue)) → leaves_one_of self.old ms → leaves_one_of self.new ms }
-        ensures kinds { IfErr result IsOfLookup }
-        ensures caused { is_trusted self.new → IfErr result (gives_way self.old self.new) }
-        ensures failed { has_failed self.new ≡ has_failed_by result }
-        ensures closes { is_closed self.new ≡ (is_closed self.old || has_closed_by result) }
-        ensures closed { (result ≡ Err Fault.Closed) ↔ (is_closed self.old ≡ true) };
-
-    /// Hands the headwords shown of the entries that the query finds by the strategy to the sink, each once, in the order
-    /// in which they first stand among these, as rows with the empty text.
-    fn heads<T: RowSink>(
-        &mut self,
-        number: u64,
-        strategy: Strategy,
-        query: &Key,
-        sink: &mut T,
-    ) -> Result<End, Fault>
-        ensures value { is_trusted self.new → (M : Catalogue) (edition : Edition) → shows self.old M → HasEdition M number edition → Hands T.takes T.stops sink.old sink.new (headword_rows strategy query.now edition) result }
+        ensures value { is_trusted self.new → (M : Catalogue) (edition : Edition) → shows self.old M → HasEdition M number edition → Hands T.takes T.stops sink.old sink.new (rows_given what strategy query.now edition) result }
         ensures looks { is_trusted self.new → (M : Catalogue) (edition : Edition) → shows self.old M → HasEdition M number edition → result ≡ Ok End.All → looks_at self.old self.new (count_of What.Entries strategy query.now edition) }
         ensures handed { (rows : List Row) × Hands T.takes T.stops sink.old sink.new rows result }
         ensures trust { is_trusted self.new → is_trusted self.old }

@@ -318,25 +318,14 @@ impl Lookup for PlainDesk {
         number: u64,
         strategy: Strategy,
         query: &Key,
+        what: What,
         sink: &mut T,
     ) -> Result<End, Fault> {
         self.has_failed = false;
         match self.asked(number, strategy, query) {
-            Some((edition, span)) => Ok(edition.find(span, strategy, query.as_bytes(), sink)),
-            None => Ok(End::All),
-        }
-    }
-
-    fn heads<T: RowSink>(
-        &mut self,
-        number: u64,
-        strategy: Strategy,
-        query: &Key,
-        sink: &mut T,
-    ) -> Result<End, Fault> {
-        self.has_failed = false;
-        match self.asked(number, strategy, query) {
-            Some((edition, span)) => Ok(edition.heads(span, strategy, query.as_bytes(), sink)),
+            Some((edition, span)) => {
+                Ok(edition.find(span, strategy, query.as_bytes(), what, sink))
+            }
             None => Ok(End::All),
         }
     }

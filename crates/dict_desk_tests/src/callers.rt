@@ -28,7 +28,7 @@ pub(crate) fn count_and_find<L: Lookup, T: RowSink>(
     if count == 0 {
         return Ok(End::All);
     }
-    desk.find(number, strategy, query, sink)
+    desk.find(number, strategy, query, What::Entries, sink)
 }
 
 /// Asks whether an id is kept, and applies the command if it isn't.

@@ -55,8 +55,8 @@ fn hand(
     rows: &mut Rows,
 ) -> Result<End, Fault> {
     match sought {
-        Sought::Found => desk.find(number, strategy, query, rows),
-        Sought::Heads => desk.heads(number, strategy, query, rows),
+        Sought::Found => desk.find(number, strategy, query, What::Entries, rows),
+        Sought::Heads => desk.find(number, strategy, query, What::Headwords, rows),
         Sought::Info => desk.info(number, rows),
     }
 }

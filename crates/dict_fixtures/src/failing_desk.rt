@@ -127,23 +127,11 @@ impl Lookup for FailingDesk {
         number: u64,
         strategy: Strategy,
         query: &Key,
+        what: What,
         sink: &mut T,
     ) -> Result<End, Fault> {
         self.turn()?;
-        let answer = self.desk.find(number, strategy, query, sink);
-        self.has_failed = failed_by(&answer);
-        answer
-    }
-
-    fn heads<T: RowSink>(
-        &mut self,
-        number: u64,
-        strategy: Strategy,
-        query: &Key,
-        sink: &mut T,
-    ) -> Result<End, Fault> {
-        self.turn()?;
-        let answer = self.desk.heads(number, strategy, query, sink);
+        let answer = self.desk.find(number, strategy, query, what, sink);
         self.has_failed = failed_by(&answer);
         answer
     }

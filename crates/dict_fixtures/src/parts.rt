@@ -151,19 +151,10 @@ impl Lookup for PartsDesk {
         number: u64,
         strategy: Strategy,
         query: &Key,
+        what: What,
         sink: &mut T,
     ) -> Result<End, Fault> {
-        self.desk.find(number, strategy, query, sink)
-    }
-
-    fn heads<T: RowSink>(
-        &mut self,
-        number: u64,
-        strategy: Strategy,
-        query: &Key,
-        sink: &mut T,
-    ) -> Result<End, Fault> {
-        self.desk.heads(number, strategy, query, sink)
+        self.desk.find(number, strategy, query, what, sink)
     }
 
     ghost well_formed = { λ s M h. absurd h };

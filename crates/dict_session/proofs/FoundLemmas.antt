@@ -20,14 +20,14 @@ use Rattle.dict_catalogue.specs.Steps.{Catalogue, summary_of}
 use Rattle.dict_catalogue.specs.WellFormed.{IsWellFormed, IsLawfulItem, HasWellFormedEditions, total}
 use Rattle.dict_catalogue.proofs.ListLemmas.{sum_flat_map, sum_append}
 use Rattle.dict_desk.specs.Found.{found, is_found, distinct, shown_of, headwords}
-use Rattle.dict_desk.specs.Shown.{Row, HasEdition, count_of, row, row_of}
+use Rattle.dict_desk.specs.Shown.{Row, HasEdition, count_of, row, row_of, rows_given}
 use Rattle.dict_desk.specs.Asked.{Database, first_finding, definitions_in, matches_in}
 use Rattle.dict_desk.specs.declared.lookup.What.{What}
 use Rattle.dict_desk.specs.declared.lookup.What.TheVariants.{Entries, Headwords}
 use Rattle.dict_proto.specs.Replies.{no_match_octets, definition_count_octets, match_count_octets, list_end_octets, done_octets}
 use Rattle.dict_session.specs.Answers.{definition_of, definitions_answer, match_line, matches_answer}
 use Rattle.dict_session.specs.Places.{IsHeading}
-use Rattle.dict_session.specs.Rows.{rows_given, row_octets, octets_in, count_in, regular_as, at_place, octets_at_place, count_at, first_counted, count_octets, end_octets, counted_octets, found_octets, giving, IsCounted}
+use Rattle.dict_session.specs.Rows.{row_octets, octets_in, count_in, regular_as, at_place, octets_at_place, count_at, first_counted, count_octets, end_octets, counted_octets, found_octets, giving, IsCounted}
 use Rattle.dict_session.specs.declared.found.CountedRows.{CountedRows}
 use Rattle.dict_session.specs.declared.query.Query.{Query}
 use Rattle.dict_session.specs.declared.asked.Heading.{Heading}

@@ -28,7 +28,7 @@ use Rattle.dict_catalogue.specs.Items.{Item, Stored, regular, virtual, is_named}
 use Rattle.dict_catalogue.specs.Steps.{Catalogue}
 use Rattle.dict_catalogue.specs.WellFormed.{IsWellFormed, IsLawfulItem, HasWellFormedEditions, total}
 use Rattle.dict_desk.specs.Found.{found, is_found, distinct, shown_of}
-use Rattle.dict_desk.specs.Shown.{Row, row, row_of}
+use Rattle.dict_desk.specs.Shown.{Row, row, row_of, rows_given}
 use Rattle.dict_desk.specs.Asked.{Database, databases_named, strategy_of}
 use Rattle.dict_desk.specs.declared.lookup.What.{What}
 use Rattle.dict_desk.specs.declared.lookup.What.TheVariants.{Entries, Headwords}
@@ -36,7 +36,7 @@ use Rattle.dict_session.specs.Shows.{databases_answer, strategies_answer, strate
 use Rattle.dict_session.specs.Answers.{answer_to, define_answer, match_answer, is_quit}
 use Rattle.dict_session.specs.Spoken.{Speaks}
 use Rattle.dict_session.specs.Places.{AskedPlaces, asked_in}
-use Rattle.dict_session.specs.Rows.{rows_given, row_octets, octets_in, octets_at_place, count_at, regular_as, first_counted, answering, count_octets, end_octets, counted_octets, found_octets}
+use Rattle.dict_session.specs.Rows.{row_octets, octets_in, octets_at_place, count_at, regular_as, first_counted, answering, count_octets, end_octets, counted_octets, found_octets}
 use Rattle.dict_session.specs.declared.query.Query.{Query}
 use Rattle.dict_session.specs.Limits.{is_host_octet, is_host}
 use Rattle.dict_session.proofs.FoundLemmas.{item_at, current_well, counts_few, for_definitions, for_matches}

@@ -1,12 +1,11 @@
 -- What a query gives, place by place, as the code goes through them.
 use Rattle.std.specs.Prelude.{◌≡◌, ℕ, Bool, true, false, not, ◌==◌, filter, length, List, [], ◌∷◌, ◌++◌, if◌then◌else◌, Option, Some, None, slice_get}
 use Rattle.std.specs.List.{flat_map}
-use Rattle.dict_match.specs.declared.strategy.Strategy.{Strategy}
 use Rattle.dict_index.specs.Edition.{Edition}
 use Rattle.dict_catalogue.specs.Items.{Item, regular, virtual, name_of}
 use Rattle.dict_catalogue.specs.Views.{title_of}
 use Rattle.dict_catalogue.specs.WellFormed.{total}
-use Rattle.dict_desk.specs.Shown.{Row, found_rows, headword_rows, count_of}
+use Rattle.dict_desk.specs.Shown.{Row, rows_given, count_of}
 use Rattle.dict_desk.specs.Asked.{Database}
 use Rattle.dict_desk.specs.declared.lookup.What.{What}
 use Rattle.dict_desk.specs.declared.lookup.What.TheVariants.{Entries, Headwords}
@@ -15,11 +14,6 @@ pub use Rattle.dict_session.specs.Answers.{count_octets}
 use Rattle.dict_session.specs.Places.{is_regular_named}
 use Rattle.dict_session.specs.declared.query.Query.{Query}
 use Rattle.dict_session.specs.declared.found.CountedRows.{CountedRows}
-
--- the rows that a query gives of an edition: those of the entries found, or of the headwords shown of them
-abbrev pub rows_given : What → Strategy → List ℕ → Edition → List Row
-rows_given Entries strategy key edition = found_rows strategy key edition
-rows_given Headwords strategy key edition = headword_rows strategy key edition
 
 -- a row of the database with this name and title: a definition, or a line of a list
 abbrev pub row_octets : What → List ℕ → List ℕ → Row → List ℕ

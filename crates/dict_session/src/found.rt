@@ -3,14 +3,14 @@ ghost use Rattle.std.specs.Prelude.{◌≡◌, ◌≤◌, ◌<◌, ◌==◌, ◌
 ghost use Rattle.std.specs.List.{flat_map};
 ghost use Rattle.dict_index.specs.Edition.{Edition};
 ghost use Rattle.dict_catalogue.specs.Steps.{Catalogue, summary_of};
-ghost use Rattle.dict_desk.specs.Shown.{Row, HasEdition};
+ghost use Rattle.dict_desk.specs.Shown.{Row, HasEdition, rows_given};
 ghost use Rattle.dict_desk.specs.Handing.{Hands};
 ghost use Rattle.dict_proto.specs.Streams.{Puts};
 ghost use Rattle.dict_session.specs.Answers.{counted_rows};
 ghost use Rattle.dict_session.specs.Desks.{Stays};
 ghost use Rattle.dict_session.specs.Ending.{Delivers, PutsAnswer};
 ghost use Rattle.dict_session.specs.Places.{IsHeading};
-ghost use Rattle.dict_session.specs.Rows.{rows_given, row_octets, count_octets, end_octets, count_at, octets_at_place, first_counted, answering, counted_octets, found_octets, IsCounted};
+ghost use Rattle.dict_session.specs.Rows.{row_octets, count_octets, end_octets, count_at, octets_at_place, first_counted, answering, counted_octets, found_octets, IsCounted};
 
 use crate::answer::{put_unavailable, put_whole, whole};
 use crate::asked::{Asked, Heading, add_place, heading_at, one_place};
@@ -145,10 +145,7 @@ fn hand_out<L: Lookup, T: RowSink>(
     ensures open { OnOk result (L.is_closed desk.new ≡ false) }
     ensures failed { OnErr result (L.has_failed desk.new ≡ true) }
 {
-    match query.what {
-        What::Entries => desk.find(number, query.strategy, &query.key, sink),
-        What::Headwords => desk.heads(number, query.strategy, &query.key, sink),
-    }
+    desk.find(number, query.strategy, &query.key, query.what, sink)
 }
 
 // Puts the rows that a query gives of the edition of this number.

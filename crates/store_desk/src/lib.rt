@@ -6,6 +6,7 @@ mod closing;
 mod coming;
 mod copying;
 mod desk;
+mod finding;
 mod finishing;
 mod indexing;
 mod keeper;

@@ -1,12 +1,13 @@
 // What readers ask of a desk.
 use crate::desk::Desk;
+use crate::finding::hand_rows;
 use crate::kept::forget_by;
 use crate::last::{LastCall, last_by};
 use dict_catalogue::Summary;
 use dict_desk::{End, Fault, Lookup, RowSink, What};
 use dict_match::{Key, Strategy};
 use sqlite::Alter;
-use store_lookup::{count_under, find_under, heads_under};
+use store_lookup::count_under;
 
 impl<S: Alter + Drop> Lookup for Desk<S> {
     ghost use Rattle.sqlite.specs.State.{HasCleanDisk};
@@ -87,12 +88,13 @@ impl<S: Alter + Drop> Lookup for Desk<S> {
         number: u64,
         strategy: Strategy,
         query: &Key,
+        what: What,
         sink: &mut T,
     ) -> Result<End, Fault> {
         if self.last == LastCall::Closed {
             return Err(Fault::Closed);
         }
-        let outcome = find_under(
+        let outcome = hand_rows(
             self.alloc,
             &mut self.conn,
             &mut self.texts,
@@ -101,30 +103,7 @@ impl<S: Alter + Drop> Lookup for Desk<S> {
             number,
             strategy,
             query,
-            sink,
-            &mut self.rows_taken,
-        );
-        self.last = last_by(&outcome);
-        forget_by(&mut self.texts, self.last);
-        outcome
-    }
-
-    fn heads<T: RowSink>(
-        &mut self,
-        number: u64,
-        strategy: Strategy,
-        query: &Key,
-        sink: &mut T,
-    ) -> Result<End, Fault> {
-        if self.last == LastCall::Closed {
-            return Err(Fault::Closed);
-        }
-        let outcome = heads_under(
-            self.alloc,
-            &mut self.indexes,
-            number,
-            strategy,
-            query,
+            what,
             sink,
             &mut self.rows_taken,
         );

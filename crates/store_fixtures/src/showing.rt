@@ -7,7 +7,7 @@ ghost use Rattle.store_fixtures.specs.Listed.{content_text, item_listed, items_t
 
 use crate::asked::told_reply;
 use dict_catalogue::{Item, Summary, edition_numbers};
-use dict_desk::{Demand, Fault, Keeper, Lookup, Row, RowSink};
+use dict_desk::{Demand, Fault, Keeper, Lookup, Row, RowSink, What};
 use dict_match::{Strategy, key_of};
 use std::alloc::{AllocError, Global};
 
@@ -135,8 +135,20 @@ fn push_editions<L: Lookup>(alloc: Global, rows: &mut Rows, desk: &mut L) -> Res
     let numbers = edition_numbers(alloc, &desk.summary()?.items)?;
     for number in &numbers {
         desk.info(*number, rows)?;
-        desk.find(*number, Strategy::Substring, &key_of(alloc, "o")?, rows)?;
-        desk.find(*number, Strategy::Prefix, &key_of(alloc, "é")?, rows)?;
+        desk.find(
+            *number,
+            Strategy::Substring,
+            &key_of(alloc, "o")?,
+            What::Entries,
+            rows,
+        )?;
+        desk.find(
+            *number,
+            Strategy::Prefix,
+            &key_of(alloc, "é")?,
+            What::Entries,
+            rows,
+        )?;
     }
     Ok(())
 }

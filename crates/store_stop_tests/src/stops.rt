@@ -148,8 +148,9 @@ fn answers_nothing<K: Keeper>(alloc: Global, desk: &mut K) -> Result<bool, Fail>
     let mut rows = Rows::new(alloc, 9);
     let retire = Command::Retire { name: "gem" };
     Ok(
-        desk.find(1, Strategy::Suffix, &query, &mut rows) == Err(Fault::Closed)
-            && desk.heads(1, Strategy::Suffix, &query, &mut rows) == Err(Fault::Closed)
+        desk.find(1, Strategy::Suffix, &query, What::Entries, &mut rows) == Err(Fault::Closed)
+            && desk.find(1, Strategy::Suffix, &query, What::Headwords, &mut rows)
+                == Err(Fault::Closed)
             && desk.count(1, Strategy::Suffix, &query, What::Entries) == Err(Fault::Closed)
             && desk.info(1, &mut rows) == Err(Fault::Closed)
             && matches!(desk.summary(), Err(Fault::Closed))

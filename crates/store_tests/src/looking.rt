@@ -470,9 +470,9 @@ fn told_all<L: Lookup>(
     query: &Key,
 ) -> Result<String, Fault> {
     let mut rows = Rows::new(alloc, usize::MAX);
-    desk.find(number, strategy, query, &mut rows)?;
+    desk.find(number, strategy, query, What::Entries, &mut rows)?;
     rows.text.push(';')?;
-    desk.heads(number, strategy, query, &mut rows)?;
+    desk.find(number, strategy, query, What::Headwords, &mut rows)?;
     let entries = desk.count(number, strategy, query, What::Entries)?;
     let texts = desk.count(number, strategy, query, What::Headwords)?;
     rows.text
@@ -502,8 +502,8 @@ fn told_rows<L: Lookup>(
     let mut rows = Rows::new(alloc, most);
     let end = match case.1 {
         Question::Info(_) => desk.info(case.0, &mut rows)?,
-        Question::Heads(_) => desk.heads(case.0, case.2, query, &mut rows)?,
-        _ => desk.find(case.0, case.2, query, &mut rows)?,
+        Question::Heads(_) => desk.find(case.0, case.2, query, What::Headwords, &mut rows)?,
+        _ => desk.find(case.0, case.2, query, What::Entries, &mut rows)?,
     };
     rows.text.push_str(format!(in alloc; " {end:?}")?.as_str())?;
     Ok(rows.text)

@@ -2,7 +2,7 @@
 
 use crate::checks::{holds, same_text};
 use dict_catalogue::{Command, Kept};
-use dict_desk::{Answered, Fault, Keeper, Lookup, PlainDesk, Preparer};
+use dict_desk::{Answered, Fault, Keeper, Lookup, PlainDesk, Preparer, What};
 use dict_index::{Edition, EditionRefusal, read_edition};
 use dict_match::{Strategy, key_of};
 use sqlite::{Alter, Connection};
@@ -115,6 +115,7 @@ fn found<L: Lookup>(
         number,
         Strategy::Exact,
         &key_of(alloc, headword)?,
+        What::Entries,
         &mut rows,
     )?;
     Ok(rows)

@@ -1,6 +1,6 @@
 //! What is found in an edition, and how many rows the statements hand over for it.
 
-use dict_desk::{Fault, Lookup, PlainDesk};
+use dict_desk::{Fault, Lookup, PlainDesk, What};
 use dict_match::{Strategy, key_of};
 use sqlite::Alter;
 use std::alloc::Global;
@@ -17,7 +17,13 @@ pub(crate) fn found<L: Lookup>(
     most: usize,
 ) -> Result<Rows, Fault> {
     let mut rows = Rows::new(alloc, most);
-    desk.find(number, strategy, &key_of(alloc, text)?, &mut rows)?;
+    desk.find(
+        number,
+        strategy,
+        &key_of(alloc, text)?,
+        What::Entries,
+        &mut rows,
+    )?;
     Ok(rows)
 }
 

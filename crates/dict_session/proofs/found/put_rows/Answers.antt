@@ -1,7 +1,8 @@
 use Rattle.std.proofs.Common.{subst, sym}
 use Rattle.std.specs.List.{flat_map}
 use Rattle.dict_session.specs.Ending.{Delivers}
-use Rattle.dict_session.specs.Rows.{row_octets, rows_given}
+use Rattle.dict_desk.specs.Shown.{rows_given}
+use Rattle.dict_session.specs.Rows.{row_octets}
 use Rattle.dict_session.proofs.found.put_rows.Goals as goal
 
 pub returns-clause-value : goal.returns-clause-value

@@ -18,41 +18,41 @@ use Rattle.store_desk.proofs.SeenLemmas.{own_seen, seen}
 use Rattle.store_desk.proofs.ServedLemmas.{served_one}
 use Rattle.store_desk.proofs.lookups.DeskLookup.find.Goals as goal
 
-pub find_under-outcome-requires : goal.find_under-outcome-requires
-find_under-outcome-requires g c = λ clean live.
+pub hand_rows-outcome-requires : goal.hand_rows-outcome-requires
+hand_rows-outcome-requires g c = λ clean live.
     let before : is_closed c.self.inside.last ≡ false = search rules in
     held_tables (state g.S.Store c.self.inside.conn).now (own_seen g.S.Store c.self.inside.last (summary_shown c.self.inside.summary) c.self.inside.filing c.self.inside.conn before c.self.invariant.0 clean live)
 
 pub invariant_of-self : goal.invariant_of-self
 invariant_of-self g c =
     let before : is_closed c.self.inside.last ≡ false = search rules in
-    desk_on g.S.Store c.self.inside.conn c.find_under-outcome.new.conn
-    (summary_shown c.self.inside.summary) c.self.inside.filing c.self.inside.last c.last_by-self-inside.result before c.self.invariant.0 c.find_under-outcome.ensures.survives
-    (λ clean. found_stays g.S.Store (number_in_column c.args.number) c.self.inside.conn c.find_under-outcome.new.conn c.find_under-outcome.result (c.find_under-outcome.ensures.same clean) (c.find_under-outcome.ensures.failed clean))
-    c.find_under-outcome.ensures.mode c.find_under-outcome.new.texts c.forget_by.new.texts c.forget_by.ensures (c.find_under-outcome.ensures.made c.self.invariant.1.made)
+    desk_on g.S.Store c.self.inside.conn c.hand_rows-outcome.new.conn
+    (summary_shown c.self.inside.summary) c.self.inside.filing c.self.inside.last c.last_by-self-inside.result before c.self.invariant.0 c.hand_rows-outcome.ensures.survives
+    (λ clean. found_stays g.S.Store (number_in_column c.args.number) c.self.inside.conn c.hand_rows-outcome.new.conn c.hand_rows-outcome.result (c.hand_rows-outcome.ensures.same clean) (c.hand_rows-outcome.ensures.failed clean))
+    c.hand_rows-outcome.ensures.mode c.hand_rows-outcome.new.texts c.forget_by.new.texts c.forget_by.ensures (c.hand_rows-outcome.ensures.made c.self.invariant.1.made)
 
 pub returns-clause-shows : goal.returns-clause-shows
 returns-clause-shows g c = λ clean M shown.
     let before : is_closed c.self.inside.last ≡ false = search rules in
     subst (λ (indexes : List (ℕ × List Indexed)). Shows g.S.Store
     (record {
-      conn = c.find_under-outcome.new.conn;
+      conn = c.hand_rows-outcome.new.conn;
       summary = summary_shown c.self.inside.summary;
       last = c.last_by-self-inside.result;
       indexes = indexes;
       texts = c.forget_by.new.texts;
-      counts = counted c.find_under-outcome.new.rows_taken c.self.inside.is_log_long c.self.inside.orphans c.self.inside.draft c.self.inside.filing;
+      counts = counted c.hand_rows-outcome.new.rows_taken c.self.inside.is_log_long c.self.inside.orphans c.self.inside.draft c.self.inside.filing;
     })
-    M) (sym c.find_under-outcome.ensures.indexes)
-    (shows_with g.S.Store c.self.inside.conn c.find_under-outcome.new.conn
-    (summary_shown c.self.inside.summary) c.self.inside.filing c.self.inside.last c.last_by-self-inside.result before c.self.invariant.0 c.find_under-outcome.ensures.survives
-    (λ clean. found_stays g.S.Store (number_in_column c.args.number) c.self.inside.conn c.find_under-outcome.new.conn c.find_under-outcome.result (c.find_under-outcome.ensures.same clean) (c.find_under-outcome.ensures.failed clean))
+    M) (sym c.hand_rows-outcome.ensures.indexes)
+    (shows_with g.S.Store c.self.inside.conn c.hand_rows-outcome.new.conn
+    (summary_shown c.self.inside.summary) c.self.inside.filing c.self.inside.last c.last_by-self-inside.result before c.self.invariant.0 c.hand_rows-outcome.ensures.survives
+    (λ clean. found_stays g.S.Store (number_in_column c.args.number) c.self.inside.conn c.hand_rows-outcome.new.conn c.hand_rows-outcome.result (c.hand_rows-outcome.ensures.same clean) (c.hand_rows-outcome.ensures.failed clean))
     c.self.inside.indexes c.self.inside.texts M (subst (λ (d : DeskState _). Shows g.S.Store d M) (sym c.self.view_is) shown) c.forget_by.new.texts
     (λ clean stored one.
-    let honest = clean_behind (state g.S.Store c.self.inside.conn) (state g.S.Store c.find_under-outcome.new.conn) c.find_under-outcome.ensures.survives clean in
+    let honest = clean_behind (state g.S.Store c.self.inside.conn) (state g.S.Store c.hand_rows-outcome.new.conn) c.hand_rows-outcome.ensures.survives clean in
     subst (ArePartsOf stored.number one.text) (sym c.forget_by.ensures)
-    (parts_after c.last_by-self-inside.result stored.number one.text c.find_under-outcome.new.texts
-    (c.find_under-outcome.ensures.texts clean stored.number one.text one.kept
+    (parts_after c.last_by-self-inside.result stored.number one.text c.hand_rows-outcome.new.texts
+    (c.hand_rows-outcome.ensures.texts clean stored.number one.text one.kept
     (λ same live. seen g.S.Store c.self.inside.last (summary_shown c.self.inside.summary) c.self.inside.filing c.self.inside.conn before c.self.invariant.0 honest live
     (λ (db : Database). HoldsText db stored.number one.text) (one.held before live))))))
 
@@ -67,14 +67,14 @@ returns-clause-leaves g c = λ ms left.
       counts = counted c.self.inside.rows_taken c.self.inside.is_log_long c.self.inside.orphans c.self.inside.draft c.self.inside.filing;
     })
     (record {
-      conn = c.find_under-outcome.new.conn;
+      conn = c.hand_rows-outcome.new.conn;
       summary = summary_shown c.self.inside.summary;
       last = c.last_by-self-inside.result;
-      indexes = c.find_under-outcome.new.indexes;
+      indexes = c.hand_rows-outcome.new.indexes;
       texts = c.forget_by.new.texts;
-      counts = counted c.find_under-outcome.new.rows_taken c.self.inside.is_log_long c.self.inside.orphans c.self.inside.draft c.self.inside.filing;
+      counts = counted c.hand_rows-outcome.new.rows_taken c.self.inside.is_log_long c.self.inside.orphans c.self.inside.draft c.self.inside.filing;
     })
-    c.find_under-outcome.ensures.survives ms (subst (λ (d : DeskState _). LeavesOneOf g.S.Store d ms) (sym c.self.view_is) left)
+    c.hand_rows-outcome.ensures.survives ms (subst (λ (d : DeskState _). LeavesOneOf g.S.Store d ms) (sym c.self.view_is) left)
 
 pub returns-clause-beside : goal.returns-clause-beside
 returns-clause-beside g c = λ db kept.
@@ -87,19 +87,19 @@ returns-clause-beside g c = λ db kept.
       counts = counted c.self.inside.rows_taken c.self.inside.is_log_long c.self.inside.orphans c.self.inside.draft c.self.inside.filing;
     })
     (record {
-      conn = c.find_under-outcome.new.conn;
+      conn = c.hand_rows-outcome.new.conn;
       summary = summary_shown c.self.inside.summary;
       last = c.last_by-self-inside.result;
-      indexes = c.find_under-outcome.new.indexes;
+      indexes = c.hand_rows-outcome.new.indexes;
       texts = c.forget_by.new.texts;
-      counts = counted c.find_under-outcome.new.rows_taken c.self.inside.is_log_long c.self.inside.orphans c.self.inside.draft c.self.inside.filing;
+      counts = counted c.hand_rows-outcome.new.rows_taken c.self.inside.is_log_long c.self.inside.orphans c.self.inside.draft c.self.inside.filing;
     })
-    c.find_under-outcome.ensures.survives db (subst (λ (d : DeskState _). KeepsBeside g.S.Store d db) (sym c.self.view_is) kept)
+    c.hand_rows-outcome.ensures.survives db (subst (λ (d : DeskState _). KeepsBeside g.S.Store d db) (sym c.self.view_is) kept)
 
 pub returns-clause-value : goal.returns-clause-value
 returns-clause-value g c = λ clean M edition shown has.
     let before : is_closed c.self.inside.last ≡ false = search rules in
-    let honest = clean_behind (state g.S.Store c.self.inside.conn) (state g.S.Store c.find_under-outcome.new.conn) c.find_under-outcome.ensures.survives clean in
+    let honest = clean_behind (state g.S.Store c.self.inside.conn) (state g.S.Store c.hand_rows-outcome.new.conn) c.hand_rows-outcome.ensures.survives clean in
     let ready = subst (λ (d : DeskState _). Shows g.S.Store d M) (sym c.self.view_is) shown in
     let one = served_one g.S.Store
     (record {
@@ -111,13 +111,13 @@ returns-clause-value g c = λ clean M edition shown has.
       counts = counted c.self.inside.rows_taken c.self.inside.is_log_long c.self.inside.orphans c.self.inside.draft c.self.inside.filing;
     }) M
     c.args.number edition has (ready.served honest) in
-    c.find_under-outcome.ensures.value clean one.index edition one.text one.stands one.cuts one.kept
+    c.hand_rows-outcome.ensures.value clean one.index edition one.text one.stands one.cuts one.kept
     (λ live. seen g.S.Store c.self.inside.last (summary_shown c.self.inside.summary) c.self.inside.filing c.self.inside.conn before c.self.invariant.0 honest live
     (λ (db : Database). HoldsText db c.args.number one.text) (one.held before live))
 
 pub returns-clause-looks : goal.returns-clause-looks
 returns-clause-looks g c = λ clean M edition shown has all.
-    let honest = clean_behind (state g.S.Store c.self.inside.conn) (state g.S.Store c.find_under-outcome.new.conn) c.find_under-outcome.ensures.survives clean in
+    let honest = clean_behind (state g.S.Store c.self.inside.conn) (state g.S.Store c.hand_rows-outcome.new.conn) c.hand_rows-outcome.ensures.survives clean in
     let ready = subst (λ (d : DeskState _). Shows g.S.Store d M) (sym c.self.view_is) shown in
     let one = served_one g.S.Store
     (record {
@@ -129,9 +129,9 @@ returns-clause-looks g c = λ clean M edition shown has all.
       counts = counted c.self.inside.rows_taken c.self.inside.is_log_long c.self.inside.orphans c.self.inside.draft c.self.inside.filing;
     }) M
     c.args.number edition has (ready.served honest) in
-    let now = counted c.find_under-outcome.new.rows_taken c.self.inside.is_log_long c.self.inside.orphans c.self.inside.draft c.self.inside.filing in
+    let now = counted c.hand_rows-outcome.new.rows_taken c.self.inside.is_log_long c.self.inside.orphans c.self.inside.draft c.self.inside.filing in
     subst (λ (d : DeskState _). CountsLook d.counts now (count_of Entries c.args.strategy c.args.query.now edition)) c.self.view_is (record {
-      taken = c.find_under-outcome.ensures.looks one.index edition one.stands (one.text, one.cuts) all;
+      taken = c.hand_rows-outcome.ensures.looks one.index edition one.stands (one.text, one.cuts) all;
       same = refl;
     })
 
@@ -140,12 +140,12 @@ returns-clause-caused g c =
     let before : is_closed c.self.inside.last ≡ false = search rules in
     found_gives_way g.S.Store c.args.self.now
     (record {
-      conn = c.find_under-outcome.new.conn;
+      conn = c.hand_rows-outcome.new.conn;
       summary = summary_shown c.self.inside.summary;
       last = c.last_by-self-inside.result;
-      indexes = c.find_under-outcome.new.indexes;
+      indexes = c.hand_rows-outcome.new.indexes;
       texts = c.forget_by.new.texts;
-      counts = counted c.find_under-outcome.new.rows_taken c.self.inside.is_log_long c.self.inside.orphans c.self.inside.draft c.self.inside.filing;
+      counts = counted c.hand_rows-outcome.new.rows_taken c.self.inside.is_log_long c.self.inside.orphans c.self.inside.draft c.self.inside.filing;
     })
-    c.self.inside.conn (ap (λ (d : DeskState _). d.conn) c.self.view_is) (summary_shown c.self.inside.summary) c.self.inside.filing c.self.inside.last before c.self.invariant.0 c.find_under-outcome.ensures.survives
-    c.args.number c.find_under-outcome.result c.find_under-outcome.ensures.kinds c.find_under-outcome.ensures.failed
+    c.self.inside.conn (ap (λ (d : DeskState _). d.conn) c.self.view_is) (summary_shown c.self.inside.summary) c.self.inside.filing c.self.inside.last before c.self.invariant.0 c.hand_rows-outcome.ensures.survives
+    c.args.number c.hand_rows-outcome.result c.hand_rows-outcome.ensures.kinds c.hand_rows-outcome.ensures.failed

@@ -6,7 +6,7 @@ use Rattle.dict_desk.specs.Shown.{Row, headword_rows}
 use Rattle.dict_desk.specs.PlainEntries.{is_hit_of, rows_listed, LieWithin}
 use Rattle.dict_desk.specs.declared.entries.OwnedEntry.{OwnedEntry}
 use Rattle.dict_desk.proofs.PlainLemmas.{rows_are_listed, hits_within}
-use Rattle.dict_desk.proofs.edition.PlainEdition.heads.Goals as goal
+use Rattle.dict_desk.proofs.edition.PlainEdition.find_headwords.Goals as goal
 
 pub hand_headwords-requires-clause-within : goal.hand_headwords-requires-clause-within
 hand_headwords-requires-clause-within g c =
