@@ -3,6 +3,7 @@ pub mod Asked
 pub mod Faults
 pub mod Shown
 pub mod Handing
+pub mod Keeping
 pub mod Applying
 pub mod Requests
 pub mod AllApplied

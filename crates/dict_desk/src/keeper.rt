@@ -5,6 +5,7 @@ ghost use Rattle.dict_catalogue.specs.declared.reply.Kept.{Kept as Reply};
 ghost use Rattle.dict_catalogue.specs.Views.{command_meant, kept_shown};
 ghost use Rattle.dict_desk.specs.Applying.{Applies, Leaves};
 ghost use Rattle.dict_desk.specs.Faults.{IsOfLookup, IsOfCommand, is_disk, is_failure, has_failed_by, has_closed_by};
+ghost use Rattle.dict_desk.specs.Keeping.{KeepsCatalogue};
 ghost use Rattle.dict_desk.specs.Requests.{requests_meant};
 ghost use Rattle.dict_desk.specs.AllApplied.{settled_answer, AllAnswered, HaltsAt, AreApplied, HasHalted};
 ghost use Rattle.dict_desk.specs.declared.fault.Fault.{Fault as Failure};
@@ -27,15 +28,7 @@ pub trait Keeper: Lookup {
     /// The reply that is kept under the id of a request, if there is one.
     fn kept(&mut self, id: &str) -> Result<Option<Kept>, Fault>
         ensures value { Self.is_trusted self.new → (M : Catalogue) → Self.shows self.old M → IfOk result (λ reply. option_map kept_shown reply ≡ kept_under M.kept id.now) }
-        ensures trust { Self.is_trusted self.new → Self.is_trusted self.old }
-        ensures beside { (beside : Self.Beside) → Self.keeps_beside self.old beside → Self.keeps_beside self.new beside }
-        ensures shows { Self.is_trusted self.new → (M : Catalogue) → Self.shows self.old M → Self.shows self.new M }
-        ensures leaves { (ms : List (Option Catalogue)) → Self.leaves_one_of self.old ms → Self.leaves_one_of self.new ms }
-        ensures kinds { IfErr result IsOfLookup }
-        ensures caused { Self.is_trusted self.new → IfErr result (Self.gives_way self.old self.new) }
-        ensures failed { Self.has_failed self.new ≡ has_failed_by result }
-        ensures closes { Self.is_closed self.new ≡ (Self.is_closed self.old || has_closed_by result) }
-        ensures closed { (result ≡ Err Fault.Closed) ↔ (Self.is_closed self.old ≡ true) };
+        ensures keeps { KeepsCatalogue Self.shows Self.leaves_one_of Self.keeps_beside Self.is_trusted Self.has_failed Self.is_closed Self.gives_way false self.old self.new result };
 
     /// Applies a command under the id of its request: the whole of it, or nothing.
     ///

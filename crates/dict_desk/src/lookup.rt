@@ -1,12 +1,12 @@
 // What finds entries in a catalogue.
-ghost use Rattle.std.specs.Prelude.{◌≡◌, ◌↔◌, ℕ, Bool, true, false, ◌||◌, List, Option, Contains, IsOk, IfOk, IfErr, Ok, Err};
+ghost use Rattle.std.specs.Prelude.{◌≡◌, ℕ, Bool, true, false, List, Option, Contains, IsOk, IfOk, Ok, Err};
 ghost use Rattle.dict_index.specs.Edition.{Edition};
 ghost use Rattle.dict_catalogue.specs.Steps.{Catalogue, summary_of};
 ghost use Rattle.dict_catalogue.specs.Views.{summary_shown};
 ghost use Rattle.dict_catalogue.specs.WellFormed.{IsWellFormed};
 ghost use Rattle.dict_desk.specs.Shown.{Row, HasEdition, rows_given, info_rows, count_of};
 ghost use Rattle.dict_desk.specs.Handing.{Hands};
-ghost use Rattle.dict_desk.specs.Faults.{IsOfLookup, has_failed_by, has_closed_by};
+ghost use Rattle.dict_desk.specs.Keeping.{KeepsCatalogue};
 ghost use Rattle.dict_desk.specs.declared.fault.Fault.{Fault as Failure};
 
 use crate::fault::Fault;
@@ -75,15 +75,7 @@ pub trait Lookup {
         ensures value { is_trusted self.new → (M : Catalogue) (edition : Edition) → shows self.old M → HasEdition M number edition → Hands T.takes T.stops sink.old sink.new (info_rows edition) result }
         ensures looks { is_trusted self.new → (M : Catalogue) (edition : Edition) → shows self.old M → HasEdition M number edition → result ≡ Ok End.All → looks_at self.old self.new 1 }
         ensures handed { (rows : List Row) × Hands T.takes T.stops sink.old sink.new rows result }
-        ensures trust { is_trusted self.new → is_trusted self.old }
-        ensures beside { (beside : Beside) → keeps_beside self.old beside → keeps_beside self.new beside }
-        ensures shows { is_trusted self.new → (M : Catalogue) → shows self.old M → shows self.new M }
-        ensures leaves { (ms : List (Option Catalogue)) → leaves_one_of self.old ms → leaves_one_of self.new ms }
-        ensures kinds { IfErr result IsOfLookup }
-        ensures caused { is_trusted self.new → IfErr result (gives_way self.old self.new) }
-        ensures failed { has_failed self.new ≡ has_failed_by result }
-        ensures closes { is_closed self.new ≡ (is_closed self.old || has_closed_by result) }
-        ensures closed { (result ≡ Err Fault.Closed) ↔ (is_closed self.old ≡ true) };
+        ensures keeps { KeepsCatalogue shows leaves_one_of keeps_beside is_trusted has_failed is_closed gives_way false self.old self.new result };
 
     /// How many entries of the edition the query finds by the strategy, or how many headwords are shown of them.
     fn count(
@@ -95,15 +87,7 @@ pub trait Lookup {
     ) -> Result<u64, Fault>
         ensures value { is_trusted self.new → (M : Catalogue) (edition : Edition) → shows self.old M → HasEdition M number edition → IfOk result (λ count. count ≡ count_of what strategy query.now edition) }
         ensures looks { is_trusted self.new → (M : Catalogue) (edition : Edition) → shows self.old M → HasEdition M number edition → (count : ℕ) → result ≡ Ok count → looks_at self.old self.new (count_of What.Entries strategy query.now edition) }
-        ensures trust { is_trusted self.new → is_trusted self.old }
-        ensures beside { (beside : Beside) → keeps_beside self.old beside → keeps_beside self.new beside }
-        ensures shows { is_trusted self.new → (M : Catalogue) → shows self.old M → shows self.new M }
-        ensures leaves { (ms : List (Option Catalogue)) → leaves_one_of self.old ms → leaves_one_of self.new ms }
-        ensures kinds { IfErr result IsOfLookup }
-        ensures caused { is_trusted self.new → IfErr result (gives_way self.old self.new) }
-        ensures failed { has_failed self.new ≡ has_failed_by result }
-        ensures closes { is_closed self.new ≡ (is_closed self.old || has_closed_by result) }
-        ensures closed { (result ≡ Err Fault.Closed) ↔ (is_closed self.old ≡ true) };
+        ensures keeps { KeepsCatalogue shows leaves_one_of keeps_beside is_trusted has_failed is_closed gives_way false self.old self.new result };
 
     /// Hands the entries of the edition that the query finds by the strategy to the sink, in the order of the index,
     /// each as a row of what is shown of it and its text; or the headwords shown of them, each once, in the order in
@@ -119,15 +103,7 @@ pub trait Lookup {
         ensures value { is_trusted self.new → (M : Catalogue) (edition : Edition) → shows self.old M → HasEdition M number edition → Hands T.takes T.stops sink.old sink.new (rows_given what strategy query.now edition) result }
         ensures looks { is_trusted self.new → (M : Catalogue) (edition : Edition) → shows self.old M → HasEdition M number edition → result ≡ Ok End.All → looks_at self.old self.new (count_of What.Entries strategy query.now edition) }
         ensures handed { (rows : List Row) × Hands T.takes T.stops sink.old sink.new rows result }
-        ensures trust { is_trusted self.new → is_trusted self.old }
-        ensures beside { (beside : Beside) → keeps_beside self.old beside → keeps_beside self.new beside }
-        ensures shows { is_trusted self.new → (M : Catalogue) → shows self.old M → shows self.new M }
-        ensures leaves { (ms : List (Option Catalogue)) → leaves_one_of self.old ms → leaves_one_of self.new ms }
-        ensures kinds { IfErr result IsOfLookup }
-        ensures caused { is_trusted self.new → IfErr result (gives_way self.old self.new) }
-        ensures failed { has_failed self.new ≡ has_failed_by result }
-        ensures closes { is_closed self.new ≡ (is_closed self.old || has_closed_by result) }
-        ensures closed { (result ≡ Err Fault.Closed) ↔ (is_closed self.old ≡ true) };
+        ensures keeps { KeepsCatalogue shows leaves_one_of keeps_beside is_trusted has_failed is_closed gives_way false self.old self.new result };
 
     // A catalogue that is shown keeps all limits and rules.
     ghost well_formed: { (s : Self) (M : Catalogue) → shows s M → IsWellFormed M };

@@ -10,6 +10,7 @@ ghost use Rattle.dict_desk.specs.Faults.{IsOfCommand, IsOfLookup, is_disk, is_fa
 ghost use Rattle.dict_desk.specs.declared.fault.Fault.{Fault as Failure};
 ghost use Rattle.dict_desk.specs.Expected.{Expected, of_command, of_files};
 ghost use Rattle.dict_desk.specs.Answering.{IfDone, IfLetGo, IfRefused};
+ghost use Rattle.dict_desk.specs.Keeping.{KeepsCatalogue};
 
 use crate::answered::Answered;
 use crate::fault::Fault;
@@ -36,42 +37,18 @@ pub trait Preparer: Keeper {
     /// told.
     fn expect(&mut self, command: &Command) -> Result<(), Fault>
         ensures told { expects self.old (of_command (command_meant command.now)) self.new }
-        ensures trust { Self.is_trusted self.new → Self.is_trusted self.old }
-        ensures beside { (beside : Self.Beside) → Self.keeps_beside self.old beside → Self.keeps_beside self.new beside }
-        ensures shows { Self.is_trusted self.new → (M : Catalogue) → Self.shows self.old M → Self.shows self.new M }
-        ensures leaves { (ms : List (Option Catalogue)) → Self.leaves_one_of self.old ms → Self.leaves_one_of self.new ms }
-        ensures kinds { IfErr result IsOfLookup }
-        ensures caused { Self.is_trusted self.new → IfErr result (fails_to_prepare self.old self.new) }
-        ensures failed { Self.has_failed self.new ≡ (Self.has_failed self.old || has_failed_by result) }
-        ensures closes { Self.is_closed self.new ≡ (Self.is_closed self.old || has_closed_by result) }
-        ensures closed { (result ≡ Err Fault.Closed) ↔ (Self.is_closed self.old ≡ true) };
+        ensures keeps { KeepsCatalogue Self.shows Self.leaves_one_of Self.keeps_beside Self.is_trusted Self.has_failed Self.is_closed fails_to_prepare (Self.has_failed self.old) self.old self.new result };
 
     /// Notes an install that may come next by its name and its two files, an index and a text, in place of what was noted before.
     /// The files are read later, as a part of what is prepared.
     fn expect_install(&mut self, name: &str, index: &[u8], text: &[u8]) -> Result<(), Fault>
         ensures told { expects self.old (of_files name.now index.now text.now) self.new }
-        ensures trust { Self.is_trusted self.new → Self.is_trusted self.old }
-        ensures beside { (beside : Self.Beside) → Self.keeps_beside self.old beside → Self.keeps_beside self.new beside }
-        ensures shows { Self.is_trusted self.new → (M : Catalogue) → Self.shows self.old M → Self.shows self.new M }
-        ensures leaves { (ms : List (Option Catalogue)) → Self.leaves_one_of self.old ms → Self.leaves_one_of self.new ms }
-        ensures kinds { IfErr result IsOfLookup }
-        ensures caused { Self.is_trusted self.new → IfErr result (fails_to_prepare self.old self.new) }
-        ensures failed { Self.has_failed self.new ≡ (Self.has_failed self.old || has_failed_by result) }
-        ensures closes { Self.is_closed self.new ≡ (Self.is_closed self.old || has_closed_by result) }
-        ensures closed { (result ≡ Err Fault.Closed) ↔ (Self.is_closed self.old ≡ true) };
+        ensures keeps { KeepsCatalogue Self.shows Self.leaves_one_of Self.keeps_beside Self.is_trusted Self.has_failed Self.is_closed fails_to_prepare (Self.has_failed self.old) self.old self.new result };
 
     /// Prepares a bounded part of what was noted last. Whether there is more to prepare.
     fn prepare(&mut self) -> Result<bool, Fault>
         ensures prepared { prepares self.old result self.new }
-        ensures trust { Self.is_trusted self.new → Self.is_trusted self.old }
-        ensures beside { (beside : Self.Beside) → Self.keeps_beside self.old beside → Self.keeps_beside self.new beside }
-        ensures shows { Self.is_trusted self.new → (M : Catalogue) → Self.shows self.old M → Self.shows self.new M }
-        ensures leaves { (ms : List (Option Catalogue)) → Self.leaves_one_of self.old ms → Self.leaves_one_of self.new ms }
-        ensures kinds { IfErr result IsOfLookup }
-        ensures caused { Self.is_trusted self.new → IfErr result (fails_to_prepare self.old self.new) }
-        ensures failed { Self.has_failed self.new ≡ (Self.has_failed self.old || has_failed_by result) }
-        ensures closes { Self.is_closed self.new ≡ (Self.is_closed self.old || has_closed_by result) }
-        ensures closed { (result ≡ Err Fault.Closed) ↔ (Self.is_closed self.old ≡ true) };
+        ensures keeps { KeepsCatalogue Self.shows Self.leaves_one_of Self.keeps_beside Self.is_trusted Self.has_failed Self.is_closed fails_to_prepare (Self.has_failed self.old) self.old self.new result };
 
     /// Answers an install under the id of its request, where just this name and these two files were noted last, and are read: once all
     /// of it is prepared the command is applied as ever, and files that say no edition are refused. None, and what was prepared is let
@@ -109,15 +86,7 @@ pub trait Preparer: Keeper {
 
     /// Lets go of what was noted last, and of what was prepared of it.
     fn forget(&mut self) -> Result<(), Fault>
-        ensures trust { Self.is_trusted self.new → Self.is_trusted self.old }
-        ensures beside { (beside : Self.Beside) → Self.keeps_beside self.old beside → Self.keeps_beside self.new beside }
-        ensures shows { Self.is_trusted self.new → (M : Catalogue) → Self.shows self.old M → Self.shows self.new M }
-        ensures leaves { (ms : List (Option Catalogue)) → Self.leaves_one_of self.old ms → Self.leaves_one_of self.new ms }
-        ensures kinds { IfErr result IsOfLookup }
-        ensures caused { Self.is_trusted self.new → IfErr result (fails_to_prepare self.old self.new) }
-        ensures failed { Self.has_failed self.new ≡ (Self.has_failed self.old || has_failed_by result) }
-        ensures closes { Self.is_closed self.new ≡ (Self.is_closed self.old || has_closed_by result) }
-        ensures closed { (result ≡ Err Fault.Closed) ↔ (Self.is_closed self.old ≡ true) };
+        ensures keeps { KeepsCatalogue Self.shows Self.leaves_one_of Self.keeps_beside Self.is_trusted Self.has_failed Self.is_closed fails_to_prepare (Self.has_failed self.old) self.old self.new result };
 }
 
 /// A catalogue in memory prepares nothing.

@@ -1,5 +1,5 @@
 -- What a desk is behind a commit that changes nothing that is held.
-use Rattle.std.proofs.Common.{◌≡◌, inl, inr, ℕ, ◌≤◌, Bool, true, false, List, [], ◌∷◌, refl, sym, subst, ◌∙◌, arith}
+use Rattle.std.proofs.Common.{◌≡◌, inl, inr, ℕ, ◌≤◌, Bool, true, false, List, [], ◌∷◌, refl, sym, ap, subst, ◌∙◌, arith}
 use Rattle.std.specs.Prelude.{IsTrue, IsPermutation, Option, Some, None, Contains, Result, Ok, Err, OnErr, IfErr}
 use Rattle.std.specs.List.{AllByRecursion}
 use Rattle.sqlite.proofs.StateLemmas.{survives_weaker}
@@ -30,13 +30,13 @@ use Rattle.store_commands.specs.Marking.{Remains}
 use Rattle.store_commands.proofs.AboveLemmas.{above_same}
 use Rattle.store_commands.proofs.WriteLemmas.{others_none}
 use Rattle.store_desk.specs.Causes.{FailsToPrepare}
-use Rattle.store_desk.specs.Desk.{DeskState, HasFiled, IsAtRest, ServesEdition, Shows, KeepsBeside, LeavesOneOf, StandsFor, is_closed}
+use Rattle.store_desk.specs.Desk.{DeskState, HasFiled, IsAtRest, ServesEdition, Shows, KeepsBeside, LeavesOneOf, StandsFor, has_failed, is_closed}
 use Rattle.store_desk.specs.KeptParts.{KeepsTexts, texts_behind}
-use Rattle.store_desk.specs.Prepared.{last_behind}
+use Rattle.store_desk.specs.Prepared.{KeepsDesk, last_behind}
 use Rattle.store_desk.specs.declared.last.LastCall.{LastCall}
 use Rattle.store_desk.specs.Left.{ComingState, Counts}
 use Rattle.store_desk.proofs.BesideLemmas.{beside_by}
-use Rattle.store_desk.proofs.PreparingLemmas.{parts_behind}
+use Rattle.store_desk.proofs.PreparingLemmas.{behind_closed, behind_failed, lookup_kind, open_closed, parts_behind}
 use Rattle.store_desk.proofs.IndexedLemmas.{each_both, each_low}
 use Rattle.store_desk.proofs.TextLemmas.{text_carried, texts_stay}
 
@@ -69,7 +69,7 @@ CommitsSame g summary h trees = IsTrue (state g h).is_open × IsTreesOf (Remains
 module _ {S : Type 0} (g : Ghosts S) (old new : Held S) (summary : Holdings (List ℕ)) (filing : Option ComingState) (before : LastCall) (fine : is_closed before ≡ false) (rest : IsAtRest g before summary filing old)
     (crash : Survives (state g old) (state g new) (CommitsSame g summary old)) (lives : HasCleanDisk (state g new) → IsTrue (state g new).is_open → IsTrue (state g old).is_open)
     (remains : HasCleanDisk (state g new) → IsTrue (state g new).is_open → Remains summary (state g old).committed (state g new).committed) where
-  pub copied_first : HasCleanDisk (state g new) → HasCleanDisk (state g old)
+  copied_first : HasCleanDisk (state g new) → HasCleanDisk (state g old)
   copied_first clean = omega (arith, crash.clean)
 
   pub copied_rests : (after : LastCall) (left : Option ComingState) → (HasCleanDisk (state g new) → IsTrue (state g new).is_open → (state g new).now ≡ (state g new).committed) → new.in_transaction ≡ false
@@ -84,7 +84,7 @@ module _ {S : Type 0} (g : Ghosts S) (old new : Held S) (summary : Holdings (Lis
     filed = λ _. filed;
   }
 
-  pub copied_shows : {T : Type 0} {taken later : Counts} (result : Result T Fault) (after : LastCall) (indexes : List (ℕ × List Indexed)) (kept texts : List (PartNumbers × List ℕ)) → texts ≡ texts_behind result kept → (M : Catalogue)
+  copied_shows : {T : Type 0} {taken later : Counts} (result : Result T Fault) (after : LastCall) (indexes : List (ℕ × List Indexed)) (kept texts : List (PartNumbers × List ℕ)) → texts ≡ texts_behind result kept → (M : Catalogue)
       → Shows g (record { conn = old; summary = summary; last = before; indexes = indexes; texts = kept; counts = taken }) M
       → Shows g (record { conn = new; summary = summary; last = after; indexes = indexes; texts = texts; counts = later }) M
   copied_shows {taken = taken} {later = later} result after indexes kept texts is M shown = record {
@@ -126,7 +126,7 @@ copied_same old conn last texts later (Ok more) by is ok = λ i. record { conn =
 copied_same old conn last texts later (Err fault) by is ok = absurd (let e = ok in cc)
 
 -- why it failed
-pub copied_caused : {S T : Type 0} (g : Ghosts S) (old new : DeskState S) (result : Result T Fault) → IfErr result IsOfStore → OnErr result (KeepsCommit (state g old.conn) (state g new.conn))
+copied_caused : {S T : Type 0} (g : Ghosts S) (old new : DeskState S) (result : Result T Fault) → IfErr result IsOfStore → OnErr result (KeepsCommit (state g old.conn) (state g new.conn))
     → IfErr result (λ fault. fault ≡ Disk → MoreFaults (state g old.conn).faults (state g new.conn).faults) → IfErr result (FailsToPrepare g old new)
 copied_caused g old new (Ok value) kind keeps more = tt
 copied_caused g old new (Err (Refused refusal)) kind keeps more = absurd kind
@@ -143,7 +143,7 @@ stands_on : (m : Option Catalogue) (M : Catalogue) (before after : Trees) → Is
 stands_on None M before after was is stands = absurd (stands M was)
 stands_on (Some N) M before after was is stands = subst (λ (one : Catalogue). IsLeft one after) (one_left before M N was stands) is
 
-pub copied_leaves : {S : Type 0} (g : Ghosts S) (old new : DeskState S) → HoldsBy old.summary (state g old.conn) → IsLive (state g old.conn)
+copied_leaves : {S : Type 0} (g : Ghosts S) (old new : DeskState S) → HoldsBy old.summary (state g old.conn) → IsLive (state g old.conn)
     → (IsTrue (state g old.conn).is_open → (state g old.conn).may_leave (state g old.conn).committed.trees) → Survives (state g old.conn) (state g new.conn) (CommitsSame g old.summary old.conn)
     → (ms : List (Option Catalogue)) → LeavesOneOf g old ms → LeavesOneOf g new ms
 copied_leaves g old new holds sound stays crash ms left clean trees may =
@@ -160,10 +160,33 @@ copied_leaves g old new holds sound stays crash ms left clean trees may =
           )
     ]
 
-pub copied_beside : {S : Type 0} (g : Ghosts S) (old new : DeskState S) → HoldsBy old.summary (state g old.conn) → IsLive (state g old.conn)
+copied_beside : {S : Type 0} (g : Ghosts S) (old new : DeskState S) → HoldsBy old.summary (state g old.conn) → IsLive (state g old.conn)
     → (IsTrue (state g old.conn).is_open → (state g old.conn).may_leave (state g old.conn).committed.trees) → Survives (state g old.conn) (state g new.conn) (CommitsSame g old.summary old.conn)
     → (db : Database) → KeepsBeside g old db → KeepsBeside g new db
 copied_beside g old new holds sound stays crash =
     beside_by g old new holds sound stays
     (survives_weaker (state g old.conn) (state g new.conn) (CommitsSame g old.summary old.conn) (λ trees. IsTrue (state g old.conn).is_open × IsTreesOf (SparesTablesOfOthers (state g old.conn).committed) trees)
     (λ clean trees h. (h.0, (h.1.0, h.1.1, h.1.2, h.1.3.others))) crash)
+
+-- ---- all that a call that prepares leaves
+
+pub copied_whole : {S : Type 0} (g : Ghosts S) (old : DeskState S) (conn : Held S) (last : LastCall) (texts : List (PartNumbers × List ℕ)) (later : Counts) (filing : Option ComingState) → is_closed old.last ≡ false
+    → IsAtRest g old.last old.summary filing old.conn → IsLive (state g old.conn) → (IsTrue (state g old.conn).is_open → (state g old.conn).may_leave (state g old.conn).committed.trees)
+    → Survives (state g old.conn) (state g conn) (CommitsSame g old.summary old.conn) → (HasCleanDisk (state g conn) → IsTrue (state g conn).is_open → IsTrue (state g old.conn).is_open)
+    → (HasCleanDisk (state g conn) → IsTrue (state g conn).is_open → Remains old.summary (state g old.conn).committed (state g conn).committed) → (result : Result Bool Fault) → last ≡ last_behind old.last result
+    → texts ≡ texts_behind result old.texts → IfErr result IsOfStore → (HasCleanDisk (state g conn) → OnErr result (KeepsCommit (state g old.conn) (state g conn)))
+    → (HasCleanDisk (state g conn) → IfErr result (λ fault. fault ≡ Disk → MoreFaults (state g old.conn).faults (state g conn).faults))
+    → KeepsDesk g old (record { conn = conn; summary = old.summary; last = last; indexes = old.indexes; texts = texts; counts = later }) result
+copied_whole g old conn last texts later filing fine rest sound stays crash lives remains result by is kinds keeps faulted =
+    let new : DeskState _ = record { conn = conn; summary = old.summary; last = last; indexes = old.indexes; texts = texts; counts = later } in
+    record {
+      trust = copied_first g old.conn conn old.summary filing old.last fine rest crash lives remains;
+      beside = copied_beside g old new (rest.holds fine) sound stays crash;
+      shows = λ clean M shown. copied_shows g old.conn conn old.summary filing old.last fine rest crash lives remains result last old.indexes old.texts texts is M shown;
+      leaves = copied_leaves g old new (rest.holds fine) sound stays crash;
+      kinds = lookup_kind result kinds;
+      caused = λ clean. copied_caused g old new result kinds (keeps clean) (faulted clean);
+      failed = ap has_failed by ∙ behind_failed old.last result kinds;
+      closes = ap is_closed by ∙ behind_closed old.last result fine kinds;
+      closed = open_closed old.last result fine kinds;
+    }

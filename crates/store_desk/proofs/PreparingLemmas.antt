@@ -2,7 +2,7 @@
 use Rattle.std.proofs.Common.{◌≡◌, ◌⊎◌, inl, inr, ℕ, ◌||◌, Bool, true, false, List, refl, sym, ap, subst, ◌∙◌}
 use Rattle.std.specs.Prelude.{◌↔◌, IfSome, is_some, Option, Some, None, Result, Ok, Err, OnOk, IfErr}
 use Rattle.std.proofs.lemmas.Bool.{false≢true}
-use Rattle.sqlite.specs.State.{State}
+use Rattle.sqlite.specs.State.{State, HasCleanDisk}
 use Rattle.sqlite.specs.Held.{Held, state}
 use Rattle.sqlite_trees.specs.declared.store.Store.{Ghosts}
 use Rattle.dict_catalogue.specs.Steps.{Catalogue}
@@ -17,9 +17,9 @@ use Rattle.store_commands.specs.Committed.{IsOfStore}
 use Rattle.store_commands.specs.Filing.{HasNoneFiled, IsDrawnUp}
 use Rattle.store_lookup.specs.Indexes.{entries_under}
 use Rattle.store_desk.specs.Causes.{FailsToPrepare}
-use Rattle.store_desk.specs.Desk.{DeskState, HasFiled, IsAtRest, Shows, has_failed, is_closed}
+use Rattle.store_desk.specs.Desk.{DeskState, HasFiled, IsAtRest, KeepsBeside, LeavesOneOf, Shows, has_failed, is_closed}
 use Rattle.store_desk.specs.KeptParts.{texts_after, texts_behind}
-use Rattle.store_desk.specs.Prepared.{last_behind}
+use Rattle.store_desk.specs.Prepared.{KeepsDesk, last_behind}
 use Rattle.store_desk.specs.declared.last.LastCall.{LastCall}
 use Rattle.store_desk.specs.declared.last.LastCall.TheVariants.{Fine, Failed, Closed}
 use Rattle.store_desk.specs.Left.{ComingState, Counts, recounted}
@@ -128,25 +128,80 @@ closed_failed Fine e = e
 closed_failed Failed e = refl
 closed_failed Closed e = refl
 
+pub lookup_kind : {T : Type 0} (result : Result T Fault) → IfErr result IsOfStore → IfErr result IsOfLookup
+lookup_kind (Ok value) kind = tt
+lookup_kind (Err (Refused refusal)) kind = absurd kind
+lookup_kind (Err Memory) kind = tt
+lookup_kind (Err Disk) kind = tt
+lookup_kind (Err Shut) kind = absurd kind
+lookup_kind (Err NotACatalogue) kind = absurd kind
+lookup_kind (Err Damaged) kind = absurd kind
+lookup_kind (Err NewerSchema) kind = absurd kind
+
+-- ---- nothing was done
+
+module _ {S T : Type 0} (g : Ghosts S) (desk : DeskState S) where
+  -- by a desk that isn't closed, and there was nothing to do
+  pub nothing_keeps : (value : T) → is_closed desk.last ≡ false → KeepsDesk g desk desk (Ok value)
+  nothing_keeps value fine = record {
+    trust = λ clean. clean;
+    beside = λ db kept. kept;
+    shows = λ clean M shown. shown;
+    leaves = λ ms left. left;
+    kinds = tt;
+    caused = λ clean. tt;
+    failed = sym (or_false (has_failed desk.last));
+    closes = sym (or_false (is_closed desk.last));
+    closed = open_closed desk.last (Ok value) fine tt;
+  }
+
+  -- by one that is
+  pub shut_keeps : is_closed desk.last ≡ true → KeepsDesk g {T = T} desk desk (Err Shut)
+  shut_keeps shut = record {
+    trust = λ clean. clean;
+    beside = λ db kept. kept;
+    shows = λ clean M shown. shown;
+    leaves = λ ms left. left;
+    kinds = tt;
+    caused = λ clean. (shut, refl);
+    failed = failing_or desk.last desk.last Shut refl (closed_failed desk.last shut);
+    closes = sym (or_false (is_closed desk.last));
+    closed = (λ is. shut, λ same. refl);
+  }
+
 -- ---- what is prepared is let go of
 
 module _ {S T : Type 0} (old new : DeskState S) (same : new ≡ record old { counts = recounted old.counts new.counts }) where
-  pub forgotten_failed : (result : Result T Fault) → IfErr result (λ fault. (fault ≡ Shut) × (is_closed old.last ≡ true) × (new ≡ old)) → has_failed new.last ≡ (has_failed old.last || has_failed_by result)
+  forgotten_failed : (result : Result T Fault) → IfErr result (λ fault. (fault ≡ Shut) × (is_closed old.last ≡ true) × (new ≡ old)) → has_failed new.last ≡ (has_failed old.last || has_failed_by result)
   forgotten_failed (Ok value) told = ap (λ (d : DeskState S). has_failed d.last) same ∙ sym (or_false (has_failed old.last))
   forgotten_failed (Err fault) told = failing_or old.last new.last fault (ap is_failure told.0) (ap (λ (d : DeskState S). has_failed d.last) same ∙ closed_failed old.last told.1)
 
-  pub forgotten_closes : (result : Result T Fault) → IfErr result (λ fault. (fault ≡ Shut) × (is_closed old.last ≡ true) × (new ≡ old)) → is_closed new.last ≡ (is_closed old.last || has_closed_by result)
+  forgotten_closes : (result : Result T Fault) → IfErr result (λ fault. (fault ≡ Shut) × (is_closed old.last ≡ true) × (new ≡ old)) → is_closed new.last ≡ (is_closed old.last || has_closed_by result)
   forgotten_closes (Ok value) told = ap (λ (d : DeskState S). is_closed d.last) same ∙ sym (or_false (is_closed old.last))
   forgotten_closes (Err fault) told = ap (λ (d : DeskState S). is_closed d.last) same ∙ (sym (or_false (is_closed old.last)) ∙ ap (λ (f : Fault). is_closed old.last || is_disk f) (sym told.0))
 
-  pub forgotten_closed : (result : Result T Fault) → OnOk result (is_closed old.last ≡ false) → IfErr result (λ fault. (fault ≡ Shut) × (is_closed old.last ≡ true) × (new ≡ old)) → (result ≡ Err Shut) ↔ (is_closed old.last ≡ true)
+  forgotten_closed : (result : Result T Fault) → OnOk result (is_closed old.last ≡ false) → IfErr result (λ fault. (fault ≡ Shut) × (is_closed old.last ≡ true) × (new ≡ old)) → (result ≡ Err Shut) ↔ (is_closed old.last ≡ true)
   forgotten_closed (Ok value) fine told = (λ is. absurd (let e = is in cc), λ shut. absurd (false≢true (sym fine ∙ shut)))
   forgotten_closed (Err fault) fine told = (λ is. told.1, λ shut. ap Err told.0)
 
-  pub forgotten_caused : (g : Ghosts S) (result : Result T Fault) → IfErr result (λ fault. (fault ≡ Shut) × (is_closed old.last ≡ true) × (new ≡ old)) → IfErr result (FailsToPrepare g old new)
+  forgotten_caused : (g : Ghosts S) (result : Result T Fault) → IfErr result (λ fault. (fault ≡ Shut) × (is_closed old.last ≡ true) × (new ≡ old)) → IfErr result (FailsToPrepare g old new)
   forgotten_caused g (Ok value) told = tt
   forgotten_caused g (Err fault) told = subst (FailsToPrepare g old new) (sym told.0) (told.1, told.2)
 
-  pub forgotten_kind : (result : Result T Fault) → IfErr result (λ fault. (fault ≡ Shut) × (is_closed old.last ≡ true) × (new ≡ old)) → IfErr result IsOfLookup
+  forgotten_kind : (result : Result T Fault) → IfErr result (λ fault. (fault ≡ Shut) × (is_closed old.last ≡ true) × (new ≡ old)) → IfErr result IsOfLookup
   forgotten_kind (Ok value) told = tt
   forgotten_kind (Err fault) told = subst IsOfLookup (sym told.0) tt
+
+  pub forgotten_keeps : (g : Ghosts S) (result : Result T Fault) → OnOk result (is_closed old.last ≡ false) → IfErr result (λ fault. (fault ≡ Shut) × (is_closed old.last ≡ true) × (new ≡ old))
+      → KeepsDesk g old new result
+  forgotten_keeps g result fine told = record {
+    trust = λ clean. subst (λ (d : DeskState S). HasCleanDisk (state g d.conn)) same clean;
+    beside = λ db kept. subst (λ (d : DeskState S). KeepsBeside g d db) (sym same) kept;
+    shows = λ clean M shown. shows_but_counts g old new same M shown;
+    leaves = λ ms left. subst (λ (d : DeskState S). LeavesOneOf g d ms) (sym same) left;
+    kinds = forgotten_kind result told;
+    caused = λ clean. forgotten_caused g result told;
+    failed = forgotten_failed result told;
+    closes = forgotten_closes result told;
+    closed = forgotten_closed result fine told;
+  }

@@ -1,23 +1,20 @@
 // What a desk prepares of a change that may come.
-ghost use Rattle.std.specs.Prelude.{◌≡◌, ◌≢◌, ◌⊎◌, ◌||◌, true, false, IsTrue, IfErr, IfSome, List, None, Ok, OnErr, Option, Some};
+ghost use Rattle.std.specs.Prelude.{◌≡◌, ◌≢◌, ◌⊎◌, true, false, IsTrue, IfErr, IfSome, None, Ok, OnErr, Option, Some};
 ghost use Rattle.sqlite.specs.Disk.{MoreFaults};
-ghost use Rattle.sqlite.specs.Effect.{Database};
 ghost use Rattle.sqlite.specs.State.{HasCleanDisk, KeepsCommit, Survives};
 ghost use Rattle.sqlite.specs.Held.{state};
 ghost use Rattle.store_commands.specs.Committed.{IsOfStore};
-ghost use Rattle.dict_catalogue.specs.Steps.{Catalogue};
 ghost use Rattle.dict_catalogue.specs.Views.{summary_shown};
 ghost use Rattle.store_commands.specs.Changes.{IsInRange};
 ghost use Rattle.store_commands.specs.Answers.{HoldsBy};
 ghost use Rattle.store_commands.specs.Filing.{HasNoneFiled, IsDrawnUp};
 ghost use Rattle.store_commands.specs.Marking.{Remains};
 ghost use Rattle.store_holdings.specs.Committed.{IsCommitted, IsTreesOf};
-ghost use Rattle.dict_desk.specs.Faults.{has_closed_by, has_failed_by};
 ghost use Rattle.store_desk.specs.Causes.{FailsToPrepare};
-ghost use Rattle.store_desk.specs.Desk.{HasFiled, KeepsBeside, LeavesOneOf, Shows, has_failed, is_closed};
+ghost use Rattle.store_desk.specs.Desk.{HasFiled, has_failed, is_closed};
 ghost use Rattle.store_commands.specs.Left.{IsLess};
 ghost use Rattle.store_desk.specs.Left.{coming_left, install_left, reading_left, recounted};
-ghost use Rattle.store_desk.specs.Prepared.{HasCommittedSame, last_behind};
+ghost use Rattle.store_desk.specs.Prepared.{HasCommittedSame, KeepsDesk, last_behind};
 
 use crate::adopting::is_whole;
 use crate::coming::Coming;
@@ -211,14 +208,8 @@ impl<S: Alter + Drop> Desk<S> {
         requires { is_closed self.old.last ≡ false }
         ensures prepared { HasCleanDisk (state S.Store self.new.conn) → result ≡ Ok true → (self.new ≡ record self.old { counts = recounted self.old.counts self.new.counts }) ⊎ HasCommittedSame S.Store self.old self.new }
         ensures fewer { result ≡ Ok true → IsLess self.new.counts.left self.old.counts.left }
-        ensures trust { HasCleanDisk (state S.Store self.new.conn) → HasCleanDisk (state S.Store self.old.conn) }
-        ensures shows { HasCleanDisk (state S.Store self.new.conn) → (M : Catalogue) → Shows S.Store self.old M → Shows S.Store self.new M }
-        ensures leaves { (ms : List (Option Catalogue)) → LeavesOneOf S.Store self.old ms → LeavesOneOf S.Store self.new ms }
-        ensures beside { (db : Database) → KeepsBeside S.Store self.old db → KeepsBeside S.Store self.new db }
+        ensures keeps { KeepsDesk S.Store self.old self.new result }
         ensures kinds { IfErr result IsOfStore }
-        ensures caused { HasCleanDisk (state S.Store self.new.conn) → IfErr result (FailsToPrepare S.Store self.old self.new) }
-        ensures failed { has_failed self.new.last ≡ (has_failed self.old.last || has_failed_by result) }
-        ensures closes { is_closed self.new.last ≡ (is_closed self.old.last || has_closed_by result) }
     {
         is_whole(&self.conn);
         committed_may_stay(&self.conn);

@@ -7,7 +7,13 @@ unfolding InstallEnds
 returns-in-Ok-Some-clause-installed g c = inl (record {
   reply = c.in-Ok-Some.kept;
   kept = rw c.in-Ok-Some.field-0-is at c.in-Ok-Some.ensures.value;
-  stays = record { trust = c.in-Ok-Some.ensures.trust; shows = c.in-Ok-Some.ensures.shows; leaves = c.in-Ok-Some.ensures.leaves; beside = c.in-Ok-Some.ensures.beside; closed = λ is. search (is, c.in-Ok-Some.ensures.closes) };
+  stays = record {
+    trust = c.in-Ok-Some.ensures.keeps.trust;
+    shows = c.in-Ok-Some.ensures.keeps.shows;
+    leaves = c.in-Ok-Some.ensures.keeps.leaves;
+    beside = c.in-Ok-Some.ensures.keeps.beside;
+    closed = λ is. search (is, c.in-Ok-Some.ensures.keeps.closes);
+  };
   line = c.tell_kept.ensures;
 })
 
@@ -17,7 +23,13 @@ returns-in-Ok-None-clause-installed g c = inr (inr (
   c.kept.new.self,
   record {
     none = rw c.in-Ok-None.field-0-is at c.in-Ok-None.ensures.value;
-    stays = record { trust = c.in-Ok-None.ensures.trust; shows = c.in-Ok-None.ensures.shows; leaves = c.in-Ok-None.ensures.leaves; beside = c.in-Ok-None.ensures.beside; closed = λ is. search (is, c.in-Ok-None.ensures.closes) };
+    stays = record {
+      trust = c.in-Ok-None.ensures.keeps.trust;
+      shows = c.in-Ok-None.ensures.keeps.shows;
+      leaves = c.in-Ok-None.ensures.keeps.leaves;
+      beside = c.in-Ok-None.ensures.keeps.beside;
+      closed = λ is. search (is, c.in-Ok-None.ensures.keeps.closes);
+    };
   },
   c.install_files.ensures.installed,
 ))
@@ -26,8 +38,14 @@ pub returns-in-Err-clause-installed : goal.returns-in-Err-clause-installed
 unfolding InstallEnds
 returns-in-Err-clause-installed g c = inr (inl (record {
   fault = c.in-Err.fault;
-  kind = c.in-Err.ensures.kinds;
+  kind = c.in-Err.ensures.keeps.kinds;
   told = ap Err c.from.ensures;
-  stays = record { trust = c.in-Err.ensures.trust; shows = c.in-Err.ensures.shows; leaves = c.in-Err.ensures.leaves; beside = c.in-Err.ensures.beside; closed = λ is. search (is, c.in-Err.ensures.closes) };
+  stays = record {
+    trust = c.in-Err.ensures.keeps.trust;
+    shows = c.in-Err.ensures.keeps.shows;
+    leaves = c.in-Err.ensures.keeps.leaves;
+    beside = c.in-Err.ensures.keeps.beside;
+    closed = λ is. search (is, c.in-Err.ensures.keeps.closes);
+  };
   untouched = refl;
 }))

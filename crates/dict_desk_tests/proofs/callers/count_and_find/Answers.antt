@@ -14,4 +14,4 @@ returns-then-count-eq0-clause-value g c = λ trusted M edition shown has.
 
 pub returns-clause-value : goal.returns-clause-value
 returns-clause-value g c = λ trusted M edition shown has.
-    c.find.ensures.value trusted M edition (c.count.ensures.shows (c.find.ensures.trust trusted) M shown) has
+    c.find.ensures.value trusted M edition (c.count.ensures.keeps.shows (c.find.ensures.keeps.trust trusted) M shown) has

@@ -34,7 +34,7 @@ returns-in-Ok-Stopped-clause-same_reference g c = let (rows, handed) = c.in-Ok-S
 pub returns-then-row-clause-value : goal.returns-then-row-clause-value
 returns-then-row-clause-value g c = λ trusted M edition shown has.
     let (front, rest, parts, taken) = (c.in-Err.ensures.value trusted M edition shown has).failed in (
-      c.in-Err.ensures.failed ∙ lookup_failed c.in-Err.field-0 c.in-Err.ensures.kinds,
+      c.in-Err.ensures.keeps.failed ∙ lookup_failed c.in-Err.field-0 c.in-Err.ensures.keeps.kinds,
       part_of_row (g.K.Sink.stream c.args.row.now.sink.now) (g.K.Sink.stream c.info.new.sink.sink.now) edition front rest
           (sym c.if-row.true ∙ (taken.2 ∙ ap (λ b. b || has_some front) c.requires)) parts taken.0,
     )

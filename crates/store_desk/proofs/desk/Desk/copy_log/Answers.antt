@@ -1,16 +1,11 @@
-use Rattle.std.proofs.Common.{◌≡◌, ◌||◌, false, sym, ap, subst, ◌∙◌}
-use Rattle.std.specs.Prelude.{IfErr, OnErr, Option}
+use Rattle.std.proofs.Common.{◌≡◌, false, sym, ap, subst, ◌∙◌}
+use Rattle.std.specs.Prelude.{Option}
 use Rattle.sqlite.specs.Held.{state}
-use Rattle.sqlite.specs.Disk.{MoreFaults}
-use Rattle.sqlite.specs.State.{HasCleanDisk, KeepsCommit}
 use Rattle.dict_catalogue.specs.Views.{summary_shown}
-use Rattle.dict_desk.specs.Faults.{has_failed_by, has_closed_by}
-use Rattle.dict_desk.specs.declared.fault.Fault.TheVariants.{Disk}
-use Rattle.store_desk.specs.Desk.{DeskState, HasFiled, Shows, LeavesOneOf, has_failed, is_closed, KeepsBeside}
-use Rattle.store_desk.specs.Prepared.{HasCommittedSame}
+use Rattle.store_desk.specs.Desk.{DeskState, HasFiled, is_closed}
+use Rattle.store_desk.specs.Prepared.{HasCommittedSame, KeepsDesk}
 use Rattle.store_desk.specs.Left.{ComingState, counted}
-use Rattle.store_desk.proofs.CopyLemmas.{copied_beside, copied_caused, copied_first, copied_keeps, copied_leaves, copied_rests, copied_same, copied_shows}
-use Rattle.store_desk.proofs.PreparingLemmas.{behind_failed, behind_closed}
+use Rattle.store_desk.proofs.CopyLemmas.{copied_keeps, copied_rests, copied_same, copied_whole}
 use Rattle.store_desk.proofs.desk.Desk.copy_log.Goals as goal
 
 pub copy_over-outcome-requires-clause-autocommit : goal.copy_over-outcome-requires-clause-autocommit
@@ -54,83 +49,20 @@ returns-clause-committed g c = λ clean is.
       done = c.copy_over-outcome.ensures.made clean is;
     })
 
-pub returns-clause-trust : goal.returns-clause-trust
-returns-clause-trust g c = λ clean.
+pub returns-clause-keeps : goal.returns-clause-keeps
+returns-clause-keeps g c =
     let before : is_closed c.self.inside.last ≡ false = ap (λ (d : DeskState _). is_closed d.last) c.self.view_is ∙ c.requires in
-    subst (λ (d : DeskState _). HasCleanDisk (state g.S.Store d.conn)) c.self.view_is
-    (copied_first g.S.Store c.self.inside.conn c.copy_over-outcome.new.conn (summary_shown c.self.inside.summary) c.self.inside.filing c.self.inside.last before c.self.invariant.0
-    c.copy_over-outcome.ensures.crash c.copy_over-outcome.ensures.lives c.copy_over-outcome.ensures.remains clean)
-
-pub returns-clause-shows : goal.returns-clause-shows
-returns-clause-shows g c = λ clean M shown.
-    let before : is_closed c.self.inside.last ≡ false = ap (λ (d : DeskState _). is_closed d.last) c.self.view_is ∙ c.requires in
-    copied_shows g.S.Store c.self.inside.conn c.copy_over-outcome.new.conn (summary_shown c.self.inside.summary) c.self.inside.filing c.self.inside.last before c.self.invariant.0
-    c.copy_over-outcome.ensures.crash c.copy_over-outcome.ensures.lives c.copy_over-outcome.ensures.remains
-    c.copy_over-outcome.result c.last_behind-self-inside.result c.self.inside.indexes c.self.inside.texts c.forget_behind.new.texts c.forget_behind.ensures M (subst (λ (d : DeskState _). Shows g.S.Store d M) (sym c.self.view_is) shown)
-
-pub returns-clause-leaves : goal.returns-clause-leaves
-returns-clause-leaves g c = λ ms left.
-    let before : is_closed c.self.inside.last ≡ false = ap (λ (d : DeskState _). is_closed d.last) c.self.view_is ∙ c.requires in
-    copied_leaves g.S.Store (record {
+    let old : DeskState _ = record {
       conn = c.self.inside.conn;
       summary = summary_shown c.self.inside.summary;
       last = c.self.inside.last;
       indexes = c.self.inside.indexes;
       texts = c.self.inside.texts;
       counts = counted c.self.inside.rows_taken c.self.inside.is_log_long c.self.inside.orphans c.self.inside.draft c.self.inside.filing;
-    })
-    (record {
-      conn = c.copy_over-outcome.new.conn;
-      summary = summary_shown c.self.inside.summary;
-      last = c.last_behind-self-inside.result;
-      indexes = c.self.inside.indexes;
-      texts = c.forget_behind.new.texts;
-      counts = counted c.self.inside.rows_taken false c.let_go.new.orphans c.self.inside.draft c.let_go.new.filing;
-    })
-    (c.self.invariant.0.holds before) c.is_whole.ensures.live c.committed_may_stay.ensures c.copy_over-outcome.ensures.crash ms (subst (λ (d : DeskState _). LeavesOneOf g.S.Store d ms) (sym c.self.view_is) left)
-
-pub returns-clause-beside : goal.returns-clause-beside
-returns-clause-beside g c = λ db kept.
-    let before : is_closed c.self.inside.last ≡ false = ap (λ (d : DeskState _). is_closed d.last) c.self.view_is ∙ c.requires in
-    copied_beside g.S.Store (record {
-      conn = c.self.inside.conn;
-      summary = summary_shown c.self.inside.summary;
-      last = c.self.inside.last;
-      indexes = c.self.inside.indexes;
-      texts = c.self.inside.texts;
-      counts = counted c.self.inside.rows_taken c.self.inside.is_log_long c.self.inside.orphans c.self.inside.draft c.self.inside.filing;
-    })
-    (record {
-      conn = c.copy_over-outcome.new.conn;
-      summary = summary_shown c.self.inside.summary;
-      last = c.last_behind-self-inside.result;
-      indexes = c.self.inside.indexes;
-      texts = c.forget_behind.new.texts;
-      counts = counted c.self.inside.rows_taken false c.let_go.new.orphans c.self.inside.draft c.let_go.new.filing;
-    })
-    (c.self.invariant.0.holds before) c.is_whole.ensures.live c.committed_may_stay.ensures c.copy_over-outcome.ensures.crash db (subst (λ (d : DeskState _). KeepsBeside g.S.Store d db) (sym c.self.view_is) kept)
-
-pub returns-clause-failed : goal.returns-clause-failed
-returns-clause-failed g c =
-    ap has_failed c.last_behind-self-inside.ensures ∙ (behind_failed c.self.inside.last c.copy_over-outcome.result c.copy_over-outcome.ensures.kinds
-    ∙ ap (λ (d : DeskState _). has_failed d.last || has_failed_by c.copy_over-outcome.result) c.self.view_is)
-
-pub returns-clause-closes : goal.returns-clause-closes
-returns-clause-closes g c =
-    let before : is_closed c.self.inside.last ≡ false = ap (λ (d : DeskState _). is_closed d.last) c.self.view_is ∙ c.requires in
-    ap is_closed c.last_behind-self-inside.ensures ∙ (behind_closed c.self.inside.last c.copy_over-outcome.result before c.copy_over-outcome.ensures.kinds
-    ∙ ap (λ (d : DeskState _). is_closed d.last || has_closed_by c.copy_over-outcome.result) c.self.view_is)
-
-pub returns-clause-caused : goal.returns-clause-caused
-returns-clause-caused g c = λ clean.
-    copied_caused g.S.Store c.args.self.now (record {
-      conn = c.copy_over-outcome.new.conn;
-      summary = summary_shown c.self.inside.summary;
-      last = c.last_behind-self-inside.result;
-      indexes = c.self.inside.indexes;
-      texts = c.forget_behind.new.texts;
-      counts = counted c.self.inside.rows_taken false c.let_go.new.orphans c.self.inside.draft c.let_go.new.filing;
-    }) c.copy_over-outcome.result c.copy_over-outcome.ensures.kinds
-    (subst (λ (d : DeskState _). OnErr c.copy_over-outcome.result (KeepsCommit (state g.S.Store d.conn) (state g.S.Store c.copy_over-outcome.new.conn))) c.self.view_is (c.copy_over-outcome.ensures.keeps clean))
-    (subst (λ (d : DeskState _). IfErr c.copy_over-outcome.result (λ fault. fault ≡ Disk → MoreFaults (state g.S.Store d.conn).faults (state g.S.Store c.copy_over-outcome.new.conn).faults)) c.self.view_is
-    (c.copy_over-outcome.ensures.faulted clean))
+    } in
+    let later = counted c.self.inside.rows_taken false c.let_go.new.orphans c.self.inside.draft c.let_go.new.filing in
+    let new : DeskState _ = record { conn = c.copy_over-outcome.new.conn; summary = old.summary; last = c.last_behind-self-inside.result; indexes = old.indexes; texts = c.forget_behind.new.texts; counts = later } in
+    subst (λ (d : DeskState _). KeepsDesk g.S.Store d new c.copy_over-outcome.result) c.self.view_is
+    (copied_whole g.S.Store old c.copy_over-outcome.new.conn new.last new.texts later c.self.inside.filing before c.self.invariant.0 c.is_whole.ensures.live c.committed_may_stay.ensures
+    c.copy_over-outcome.ensures.crash c.copy_over-outcome.ensures.lives
+    c.copy_over-outcome.ensures.remains c.copy_over-outcome.result c.last_behind-self-inside.ensures c.forget_behind.ensures c.copy_over-outcome.ensures.kinds c.copy_over-outcome.ensures.keeps c.copy_over-outcome.ensures.faulted)

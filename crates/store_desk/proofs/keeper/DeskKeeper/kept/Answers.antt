@@ -1,5 +1,6 @@
 use Rattle.std.proofs.Common.{◌≡◌, false, sym, ap, subst, rules}
 use Rattle.std.specs.Prelude.{option_map}
+use Rattle.sqlite.specs.State.{HasCleanDisk}
 use Rattle.sqlite.specs.Held.{state}
 use Rattle.dict_catalogue.specs.Steps.{kept_under}
 use Rattle.dict_catalogue.specs.Views.{summary_shown, kept_shown}
@@ -37,65 +38,42 @@ returns-clause-value g c = λ clean M shown.
     (λ reply live alone. alone M.kept (replies_seen g.S.Store c.self.inside.last (summary_shown c.self.inside.summary) c.self.inside.filing c.self.inside.conn before c.self.invariant.0 honest live M (ready.holds before honest live)))
     (c.kept_reply-outcome.ensures.same clean) (c.kept_reply-outcome.ensures.alone clean)
 
-pub returns-clause-shows : goal.returns-clause-shows
-returns-clause-shows g c = λ clean M shown.
+pub returns-clause-keeps : goal.returns-clause-keeps
+returns-clause-keeps g c =
     let before : is_closed c.self.inside.last ≡ false = search rules in
-    shows_on g.S.Store c.self.inside.conn c.kept_reply-outcome.new.conn (summary_shown c.self.inside.summary) c.self.inside.filing c.self.inside.last c.last_by-self-inside.result before c.self.invariant.0
-    c.kept_reply-outcome.ensures.survives
-    (λ clean. replies_stay (state g.S.Store c.self.inside.conn) (state g.S.Store c.kept_reply-outcome.new.conn) c.kept_reply-outcome.result (c.kept_reply-outcome.ensures.same clean) (c.kept_reply-outcome.ensures.failed clean))
-    c.self.inside.indexes c.self.inside.texts M (subst (λ (d : DeskState _). Shows g.S.Store d M) (sym c.self.view_is) shown) c.forget_by.new.texts c.forget_by.ensures
-
-pub returns-clause-leaves : goal.returns-clause-leaves
-returns-clause-leaves g c = λ ms left.
-    leaves_on g.S.Store (record {
+    let old : DeskState _ = record {
       conn = c.self.inside.conn;
       summary = summary_shown c.self.inside.summary;
       last = c.self.inside.last;
       indexes = c.self.inside.indexes;
       texts = c.self.inside.texts;
       counts = counted c.self.inside.rows_taken c.self.inside.is_log_long c.self.inside.orphans c.self.inside.draft c.self.inside.filing;
-    })
-    (record {
+    } in
+    let new : DeskState _ = record {
       conn = c.kept_reply-outcome.new.conn;
       summary = summary_shown c.self.inside.summary;
       last = c.last_by-self-inside.result;
       indexes = c.self.inside.indexes;
       texts = c.forget_by.new.texts;
       counts = counted c.self.inside.rows_taken c.self.inside.is_log_long c.self.inside.orphans c.self.inside.draft c.self.inside.filing;
-    })
-    c.kept_reply-outcome.ensures.survives ms (subst (λ (d : DeskState _). LeavesOneOf g.S.Store d ms) (sym c.self.view_is) left)
-
-pub returns-clause-beside : goal.returns-clause-beside
-returns-clause-beside g c = λ db kept.
-    beside_on g.S.Store (record {
-      conn = c.self.inside.conn;
-      summary = summary_shown c.self.inside.summary;
-      last = c.self.inside.last;
-      indexes = c.self.inside.indexes;
-      texts = c.self.inside.texts;
-      counts = counted c.self.inside.rows_taken c.self.inside.is_log_long c.self.inside.orphans c.self.inside.draft c.self.inside.filing;
-    })
-    (record {
-      conn = c.kept_reply-outcome.new.conn;
-      summary = summary_shown c.self.inside.summary;
-      last = c.last_by-self-inside.result;
-      indexes = c.self.inside.indexes;
-      texts = c.forget_by.new.texts;
-      counts = counted c.self.inside.rows_taken c.self.inside.is_log_long c.self.inside.orphans c.self.inside.draft c.self.inside.filing;
-    })
-    c.kept_reply-outcome.ensures.survives db (subst (λ (d : DeskState _). KeepsBeside g.S.Store d db) (sym c.self.view_is) kept)
-
-pub returns-clause-caused : goal.returns-clause-caused
-returns-clause-caused g c =
-    let before : is_closed c.self.inside.last ≡ false = search rules in
-    reply_gives_way g.S.Store c.args.self.now
-    (record {
-      conn = c.kept_reply-outcome.new.conn;
-      summary = summary_shown c.self.inside.summary;
-      last = c.last_by-self-inside.result;
-      indexes = c.self.inside.indexes;
-      texts = c.forget_by.new.texts;
-      counts = counted c.self.inside.rows_taken c.self.inside.is_log_long c.self.inside.orphans c.self.inside.draft c.self.inside.filing;
-    })
-    c.self.inside.conn (ap (λ (d : DeskState _). d.conn) c.self.view_is) (summary_shown c.self.inside.summary) c.self.inside.filing c.self.inside.last before c.self.invariant.0 c.kept_reply-outcome.ensures.survives
-    c.kept_reply-outcome.result c.kept_reply-outcome.ensures.kinds c.kept_reply-outcome.ensures.failed
+    } in
+    record {
+      trust = λ clean. subst (λ (d : DeskState _). HasCleanDisk (state g.S.Store d.conn)) c.self.view_is
+          (clean_behind (state g.S.Store c.self.inside.conn) (state g.S.Store c.kept_reply-outcome.new.conn) c.kept_reply-outcome.ensures.survives clean);
+      beside = λ db kept.
+          beside_on g.S.Store old new c.kept_reply-outcome.ensures.survives db (subst (λ (d : DeskState _). KeepsBeside g.S.Store d db) (sym c.self.view_is) kept);
+      shows = λ clean M shown.
+          shows_on g.S.Store c.self.inside.conn c.kept_reply-outcome.new.conn (summary_shown c.self.inside.summary) c.self.inside.filing c.self.inside.last c.last_by-self-inside.result before c.self.invariant.0
+          c.kept_reply-outcome.ensures.survives
+          (λ clean. replies_stay (state g.S.Store c.self.inside.conn) (state g.S.Store c.kept_reply-outcome.new.conn) c.kept_reply-outcome.result (c.kept_reply-outcome.ensures.same clean) (c.kept_reply-outcome.ensures.failed clean))
+          c.self.inside.indexes c.self.inside.texts M (subst (λ (d : DeskState _). Shows g.S.Store d M) (sym c.self.view_is) shown) c.forget_by.new.texts c.forget_by.ensures;
+      leaves = λ ms left.
+          leaves_on g.S.Store old new c.kept_reply-outcome.ensures.survives ms (subst (λ (d : DeskState _). LeavesOneOf g.S.Store d ms) (sym c.self.view_is) left);
+      kinds = search rules;
+      caused = reply_gives_way g.S.Store c.args.self.now new c.self.inside.conn (ap (λ (d : DeskState _). d.conn) c.self.view_is) (summary_shown c.self.inside.summary) c.self.inside.filing
+          c.self.inside.last before c.self.invariant.0 c.kept_reply-outcome.ensures.survives
+          c.kept_reply-outcome.result c.kept_reply-outcome.ensures.kinds c.kept_reply-outcome.ensures.failed;
+      failed = search rules;
+      closes = search rules;
+      closed = search rules;
+    }

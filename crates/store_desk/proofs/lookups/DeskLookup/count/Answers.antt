@@ -1,5 +1,7 @@
 use Rattle.std.proofs.Common.{◌≡◌, ℕ, false, sym, ap, subst, refl, rules}
 use Rattle.std.specs.Prelude.{Result, OnOk}
+use Rattle.sqlite.specs.State.{HasCleanDisk}
+use Rattle.sqlite.specs.Held.{state}
 use Rattle.dict_catalogue.specs.Views.{summary_shown}
 use Rattle.dict_desk.specs.Shown.{count_of}
 use Rattle.dict_desk.specs.declared.fault.Fault.{Fault}
@@ -24,31 +26,32 @@ invariant_of-self g c =
           (texts_keep c.last_by-self-inside.result (summary_shown c.self.inside.summary) c.self.inside.texts c.self.invariant.1.made),
     )
 
-pub returns-clause-shows : goal.returns-clause-shows
-returns-clause-shows g c = λ clean M shown.
+pub returns-clause-keeps : goal.returns-clause-keeps
+returns-clause-keeps g c =
     let before : is_closed c.self.inside.last ≡ false = search rules in
-    shows_as g.S.Store (summary_shown c.self.inside.summary) c.self.inside.last c.last_by-self-inside.result c.self.inside.conn before c.self.inside.indexes c.count_under-outcome.new.indexes
-    (λ q. ap (entries_under q) c.count_under-outcome.ensures.indexes) c.self.inside.texts c.forget_by.new.texts c.forget_by.ensures M
-    (subst (λ (d : DeskState _). Shows g.S.Store d M) (sym c.self.view_is) shown)
-
-pub returns-clause-leaves : goal.returns-clause-leaves
-returns-clause-leaves g c = λ ms left. subst (λ (d : DeskState _). LeavesOneOf g.S.Store d ms) (sym c.self.view_is) left
-
-pub returns-clause-beside : goal.returns-clause-beside
-returns-clause-beside g c = λ db kept. subst (λ (d : DeskState _). KeepsBeside g.S.Store d db) (sym c.self.view_is) kept
-
-pub returns-clause-caused : goal.returns-clause-caused
-returns-clause-caused g c = λ clean.
-    memory_gives_way g.S.Store c.args.self.now
-    (record {
+    let new : DeskState _ = record {
       conn = c.self.inside.conn;
       summary = summary_shown c.self.inside.summary;
       last = c.last_by-self-inside.result;
       indexes = c.count_under-outcome.new.indexes;
       texts = c.forget_by.new.texts;
       counts = counted c.count_under-outcome.new.rows_taken c.self.inside.is_log_long c.self.inside.orphans c.self.inside.draft c.self.inside.filing;
-    })
-    (ap (λ (d : DeskState _). d.conn) c.self.view_is) c.count_under-outcome.result c.count_under-outcome.ensures.kinds
+    } in
+    record {
+      trust = λ clean. subst (λ (d : DeskState _). HasCleanDisk (state g.S.Store d.conn)) c.self.view_is clean;
+      beside = λ db kept. subst (λ (d : DeskState _). KeepsBeside g.S.Store d db) (sym c.self.view_is) kept;
+      shows = λ clean M shown.
+          shows_as g.S.Store (summary_shown c.self.inside.summary) c.self.inside.last c.last_by-self-inside.result c.self.inside.conn before c.self.inside.indexes c.count_under-outcome.new.indexes
+          (λ q. ap (entries_under q) c.count_under-outcome.ensures.indexes) c.self.inside.texts c.forget_by.new.texts c.forget_by.ensures M
+          (subst (λ (d : DeskState _). Shows g.S.Store d M) (sym c.self.view_is) shown);
+      leaves = λ ms left. subst (λ (d : DeskState _). LeavesOneOf g.S.Store d ms) (sym c.self.view_is) left;
+      kinds = search rules;
+      caused = λ clean.
+          memory_gives_way g.S.Store c.args.self.now new (ap (λ (d : DeskState _). d.conn) c.self.view_is) c.count_under-outcome.result c.count_under-outcome.ensures.kinds;
+      failed = search rules;
+      closes = search rules;
+      closed = search rules;
+    }
 
 pub returns-clause-value : goal.returns-clause-value
 returns-clause-value g c = λ clean M edition shown has.

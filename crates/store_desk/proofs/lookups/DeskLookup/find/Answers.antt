@@ -1,5 +1,6 @@
 use Rattle.std.proofs.Common.{◌≡◌, ℕ, List, false, sym, ap, subst, refl, rules}
 use Rattle.sqlite.specs.Effect.{Database}
+use Rattle.sqlite.specs.State.{HasCleanDisk}
 use Rattle.sqlite.specs.Held.{state}
 use Rattle.dict_catalogue.specs.Views.{summary_shown}
 use Rattle.store_holdings.specs.Texts.{HoldsText}
@@ -31,70 +32,62 @@ invariant_of-self g c =
     (λ clean. found_stays g.S.Store (number_in_column c.args.number) c.self.inside.conn c.hand_rows-outcome.new.conn c.hand_rows-outcome.result (c.hand_rows-outcome.ensures.same clean) (c.hand_rows-outcome.ensures.failed clean))
     c.hand_rows-outcome.ensures.mode c.hand_rows-outcome.new.texts c.forget_by.new.texts c.forget_by.ensures (c.hand_rows-outcome.ensures.made c.self.invariant.1.made)
 
-pub returns-clause-shows : goal.returns-clause-shows
-returns-clause-shows g c = λ clean M shown.
+pub returns-clause-keeps : goal.returns-clause-keeps
+returns-clause-keeps g c =
     let before : is_closed c.self.inside.last ≡ false = search rules in
-    subst (λ (indexes : List (ℕ × List Indexed)). Shows g.S.Store
-    (record {
-      conn = c.hand_rows-outcome.new.conn;
-      summary = summary_shown c.self.inside.summary;
-      last = c.last_by-self-inside.result;
-      indexes = indexes;
-      texts = c.forget_by.new.texts;
-      counts = counted c.hand_rows-outcome.new.rows_taken c.self.inside.is_log_long c.self.inside.orphans c.self.inside.draft c.self.inside.filing;
-    })
-    M) (sym c.hand_rows-outcome.ensures.indexes)
-    (shows_with g.S.Store c.self.inside.conn c.hand_rows-outcome.new.conn
-    (summary_shown c.self.inside.summary) c.self.inside.filing c.self.inside.last c.last_by-self-inside.result before c.self.invariant.0 c.hand_rows-outcome.ensures.survives
-    (λ clean. found_stays g.S.Store (number_in_column c.args.number) c.self.inside.conn c.hand_rows-outcome.new.conn c.hand_rows-outcome.result (c.hand_rows-outcome.ensures.same clean) (c.hand_rows-outcome.ensures.failed clean))
-    c.self.inside.indexes c.self.inside.texts M (subst (λ (d : DeskState _). Shows g.S.Store d M) (sym c.self.view_is) shown) c.forget_by.new.texts
-    (λ clean stored one.
-    let honest = clean_behind (state g.S.Store c.self.inside.conn) (state g.S.Store c.hand_rows-outcome.new.conn) c.hand_rows-outcome.ensures.survives clean in
-    subst (ArePartsOf stored.number one.text) (sym c.forget_by.ensures)
-    (parts_after c.last_by-self-inside.result stored.number one.text c.hand_rows-outcome.new.texts
-    (c.hand_rows-outcome.ensures.texts clean stored.number one.text one.kept
-    (λ same live. seen g.S.Store c.self.inside.last (summary_shown c.self.inside.summary) c.self.inside.filing c.self.inside.conn before c.self.invariant.0 honest live
-    (λ (db : Database). HoldsText db stored.number one.text) (one.held before live))))))
-
-pub returns-clause-leaves : goal.returns-clause-leaves
-returns-clause-leaves g c = λ ms left.
-    leaves_on g.S.Store (record {
+    let old : DeskState _ = record {
       conn = c.self.inside.conn;
       summary = summary_shown c.self.inside.summary;
       last = c.self.inside.last;
       indexes = c.self.inside.indexes;
       texts = c.self.inside.texts;
       counts = counted c.self.inside.rows_taken c.self.inside.is_log_long c.self.inside.orphans c.self.inside.draft c.self.inside.filing;
-    })
-    (record {
+    } in
+    let new : DeskState _ = record {
       conn = c.hand_rows-outcome.new.conn;
       summary = summary_shown c.self.inside.summary;
       last = c.last_by-self-inside.result;
       indexes = c.hand_rows-outcome.new.indexes;
       texts = c.forget_by.new.texts;
       counts = counted c.hand_rows-outcome.new.rows_taken c.self.inside.is_log_long c.self.inside.orphans c.self.inside.draft c.self.inside.filing;
-    })
-    c.hand_rows-outcome.ensures.survives ms (subst (λ (d : DeskState _). LeavesOneOf g.S.Store d ms) (sym c.self.view_is) left)
-
-pub returns-clause-beside : goal.returns-clause-beside
-returns-clause-beside g c = λ db kept.
-    beside_on g.S.Store (record {
-      conn = c.self.inside.conn;
-      summary = summary_shown c.self.inside.summary;
-      last = c.self.inside.last;
-      indexes = c.self.inside.indexes;
-      texts = c.self.inside.texts;
-      counts = counted c.self.inside.rows_taken c.self.inside.is_log_long c.self.inside.orphans c.self.inside.draft c.self.inside.filing;
-    })
-    (record {
-      conn = c.hand_rows-outcome.new.conn;
-      summary = summary_shown c.self.inside.summary;
-      last = c.last_by-self-inside.result;
-      indexes = c.hand_rows-outcome.new.indexes;
-      texts = c.forget_by.new.texts;
-      counts = counted c.hand_rows-outcome.new.rows_taken c.self.inside.is_log_long c.self.inside.orphans c.self.inside.draft c.self.inside.filing;
-    })
-    c.hand_rows-outcome.ensures.survives db (subst (λ (d : DeskState _). KeepsBeside g.S.Store d db) (sym c.self.view_is) kept)
+    } in
+    record {
+      trust = λ clean. subst (λ (d : DeskState _). HasCleanDisk (state g.S.Store d.conn)) c.self.view_is
+          (clean_behind (state g.S.Store c.self.inside.conn) (state g.S.Store c.hand_rows-outcome.new.conn) c.hand_rows-outcome.ensures.survives clean);
+      beside = λ db kept.
+          beside_on g.S.Store old new c.hand_rows-outcome.ensures.survives db (subst (λ (d : DeskState _). KeepsBeside g.S.Store d db) (sym c.self.view_is) kept);
+      shows = λ clean M shown.
+          subst (λ (indexes : List (ℕ × List Indexed)). Shows g.S.Store
+          (record {
+            conn = c.hand_rows-outcome.new.conn;
+            summary = summary_shown c.self.inside.summary;
+            last = c.last_by-self-inside.result;
+            indexes = indexes;
+            texts = c.forget_by.new.texts;
+            counts = counted c.hand_rows-outcome.new.rows_taken c.self.inside.is_log_long c.self.inside.orphans c.self.inside.draft c.self.inside.filing;
+          })
+          M) (sym c.hand_rows-outcome.ensures.indexes)
+          (shows_with g.S.Store c.self.inside.conn c.hand_rows-outcome.new.conn
+          (summary_shown c.self.inside.summary) c.self.inside.filing c.self.inside.last c.last_by-self-inside.result before c.self.invariant.0 c.hand_rows-outcome.ensures.survives
+          (λ clean. found_stays g.S.Store (number_in_column c.args.number) c.self.inside.conn c.hand_rows-outcome.new.conn c.hand_rows-outcome.result (c.hand_rows-outcome.ensures.same clean) (c.hand_rows-outcome.ensures.failed clean))
+          c.self.inside.indexes c.self.inside.texts M (subst (λ (d : DeskState _). Shows g.S.Store d M) (sym c.self.view_is) shown) c.forget_by.new.texts
+          (λ clean stored one.
+          let honest = clean_behind (state g.S.Store c.self.inside.conn) (state g.S.Store c.hand_rows-outcome.new.conn) c.hand_rows-outcome.ensures.survives clean in
+          subst (ArePartsOf stored.number one.text) (sym c.forget_by.ensures)
+          (parts_after c.last_by-self-inside.result stored.number one.text c.hand_rows-outcome.new.texts
+          (c.hand_rows-outcome.ensures.texts clean stored.number one.text one.kept
+          (λ same live. seen g.S.Store c.self.inside.last (summary_shown c.self.inside.summary) c.self.inside.filing c.self.inside.conn before c.self.invariant.0 honest live
+          (λ (db : Database). HoldsText db stored.number one.text) (one.held before live))))));
+      leaves = λ ms left.
+          leaves_on g.S.Store old new c.hand_rows-outcome.ensures.survives ms (subst (λ (d : DeskState _). LeavesOneOf g.S.Store d ms) (sym c.self.view_is) left);
+      kinds = search rules;
+      caused = found_gives_way g.S.Store c.args.self.now new c.self.inside.conn (ap (λ (d : DeskState _). d.conn) c.self.view_is) (summary_shown c.self.inside.summary) c.self.inside.filing
+          c.self.inside.last before c.self.invariant.0 c.hand_rows-outcome.ensures.survives
+          c.args.number c.hand_rows-outcome.result c.hand_rows-outcome.ensures.kinds c.hand_rows-outcome.ensures.failed;
+      failed = search rules;
+      closes = search rules;
+      closed = search rules;
+    }
 
 pub returns-clause-value : goal.returns-clause-value
 returns-clause-value g c = λ clean M edition shown has.
@@ -134,18 +127,3 @@ returns-clause-looks g c = λ clean M edition shown has all.
       taken = c.hand_rows-outcome.ensures.looks one.index edition one.stands (one.text, one.cuts) all;
       same = refl;
     })
-
-pub returns-clause-caused : goal.returns-clause-caused
-returns-clause-caused g c =
-    let before : is_closed c.self.inside.last ≡ false = search rules in
-    found_gives_way g.S.Store c.args.self.now
-    (record {
-      conn = c.hand_rows-outcome.new.conn;
-      summary = summary_shown c.self.inside.summary;
-      last = c.last_by-self-inside.result;
-      indexes = c.hand_rows-outcome.new.indexes;
-      texts = c.forget_by.new.texts;
-      counts = counted c.hand_rows-outcome.new.rows_taken c.self.inside.is_log_long c.self.inside.orphans c.self.inside.draft c.self.inside.filing;
-    })
-    c.self.inside.conn (ap (λ (d : DeskState _). d.conn) c.self.view_is) (summary_shown c.self.inside.summary) c.self.inside.filing c.self.inside.last before c.self.invariant.0 c.hand_rows-outcome.ensures.survives
-    c.args.number c.hand_rows-outcome.result c.hand_rows-outcome.ensures.kinds c.hand_rows-outcome.ensures.failed

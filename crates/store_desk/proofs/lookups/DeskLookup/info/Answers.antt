@@ -3,6 +3,7 @@ use Rattle.std.specs.Prelude.{IsErr, OnOk, Result, Ok, Err}
 use Rattle.std.proofs.lemmas.Bool.{false≢true}
 use Rattle.sqlite.specs.Effect.{Database}
 use Rattle.dict_index.specs.Edition.{Edition}
+use Rattle.sqlite.specs.State.{HasCleanDisk}
 use Rattle.sqlite.specs.Held.{state}
 use Rattle.dict_catalogue.specs.Views.{summary_shown}
 use Rattle.store_holdings.specs.Holds.{Holds}
@@ -35,52 +36,45 @@ invariant_of-self g c =
     (λ clean. lookup_stays (number_in_column c.args.number) (state g.S.Store c.self.inside.conn) (state g.S.Store c.info-outcome.new.conn) c.info-outcome.result (c.info-outcome.ensures.same clean) (c.info-outcome.ensures.failed clean))
     c.info-outcome.ensures.mode c.self.inside.texts c.forget_by.new.texts c.forget_by.ensures c.self.invariant.1.made
 
-pub returns-clause-shows : goal.returns-clause-shows
-returns-clause-shows g c = λ clean M shown.
+pub returns-clause-keeps : goal.returns-clause-keeps
+returns-clause-keeps g c =
     let before : is_closed c.self.inside.last ≡ false = search rules in
-    shows_on g.S.Store c.self.inside.conn c.info-outcome.new.conn (summary_shown c.self.inside.summary) c.self.inside.filing c.self.inside.last c.last_by-self-inside.result before c.self.invariant.0 c.info-outcome.ensures.survives
-    (λ clean. lookup_stays (number_in_column c.args.number) (state g.S.Store c.self.inside.conn) (state g.S.Store c.info-outcome.new.conn) c.info-outcome.result (c.info-outcome.ensures.same clean) (c.info-outcome.ensures.failed clean))
-    c.self.inside.indexes c.self.inside.texts M (subst (λ (d : DeskState _). Shows g.S.Store d M) (sym c.self.view_is) shown) c.forget_by.new.texts c.forget_by.ensures
-
-pub returns-clause-leaves : goal.returns-clause-leaves
-returns-clause-leaves g c = λ ms left.
-    leaves_on g.S.Store (record {
+    let old : DeskState _ = record {
       conn = c.self.inside.conn;
       summary = summary_shown c.self.inside.summary;
       last = c.self.inside.last;
       indexes = c.self.inside.indexes;
       texts = c.self.inside.texts;
       counts = counted c.self.inside.rows_taken c.self.inside.is_log_long c.self.inside.orphans c.self.inside.draft c.self.inside.filing;
-    })
-    (record {
+    } in
+    let new : DeskState _ = record {
       conn = c.info-outcome.new.conn;
       summary = summary_shown c.self.inside.summary;
       last = c.last_by-self-inside.result;
       indexes = c.self.inside.indexes;
       texts = c.forget_by.new.texts;
       counts = counted c.info-outcome.new.rows_taken c.self.inside.is_log_long c.self.inside.orphans c.self.inside.draft c.self.inside.filing;
-    })
-    c.info-outcome.ensures.survives ms (subst (λ (d : DeskState _). LeavesOneOf g.S.Store d ms) (sym c.self.view_is) left)
-
-pub returns-clause-beside : goal.returns-clause-beside
-returns-clause-beside g c = λ db kept.
-    beside_on g.S.Store (record {
-      conn = c.self.inside.conn;
-      summary = summary_shown c.self.inside.summary;
-      last = c.self.inside.last;
-      indexes = c.self.inside.indexes;
-      texts = c.self.inside.texts;
-      counts = counted c.self.inside.rows_taken c.self.inside.is_log_long c.self.inside.orphans c.self.inside.draft c.self.inside.filing;
-    })
-    (record {
-      conn = c.info-outcome.new.conn;
-      summary = summary_shown c.self.inside.summary;
-      last = c.last_by-self-inside.result;
-      indexes = c.self.inside.indexes;
-      texts = c.forget_by.new.texts;
-      counts = counted c.info-outcome.new.rows_taken c.self.inside.is_log_long c.self.inside.orphans c.self.inside.draft c.self.inside.filing;
-    })
-    c.info-outcome.ensures.survives db (subst (λ (d : DeskState _). KeepsBeside g.S.Store d db) (sym c.self.view_is) kept)
+    } in
+    record {
+      trust = λ clean. subst (λ (d : DeskState _). HasCleanDisk (state g.S.Store d.conn)) c.self.view_is
+          (clean_behind (state g.S.Store c.self.inside.conn) (state g.S.Store c.info-outcome.new.conn) c.info-outcome.ensures.survives clean);
+      beside = λ db kept.
+          beside_on g.S.Store old new c.info-outcome.ensures.survives db (subst (λ (d : DeskState _). KeepsBeside g.S.Store d db) (sym c.self.view_is) kept);
+      shows = λ clean M shown.
+          shows_on g.S.Store c.self.inside.conn c.info-outcome.new.conn (summary_shown c.self.inside.summary) c.self.inside.filing c.self.inside.last c.last_by-self-inside.result before c.self.invariant.0 c.info-outcome.ensures.survives
+          (λ clean. lookup_stays (number_in_column c.args.number) (state g.S.Store c.self.inside.conn) (state g.S.Store c.info-outcome.new.conn)
+          c.info-outcome.result (c.info-outcome.ensures.same clean) (c.info-outcome.ensures.failed clean))
+          c.self.inside.indexes c.self.inside.texts M (subst (λ (d : DeskState _). Shows g.S.Store d M) (sym c.self.view_is) shown) c.forget_by.new.texts c.forget_by.ensures;
+      leaves = λ ms left.
+          leaves_on g.S.Store old new c.info-outcome.ensures.survives ms (subst (λ (d : DeskState _). LeavesOneOf g.S.Store d ms) (sym c.self.view_is) left);
+      kinds = search rules;
+      caused = lookup_gives_way g.S.Store c.args.self.now new c.self.inside.conn (ap (λ (d : DeskState _). d.conn) c.self.view_is) (summary_shown c.self.inside.summary) c.self.inside.filing
+          c.self.inside.last before c.self.invariant.0 c.info-outcome.ensures.survives
+          c.args.number c.info-outcome.result c.info-outcome.ensures.kinds c.info-outcome.ensures.failed;
+      failed = search rules;
+      closes = search rules;
+      closed = search rules;
+    }
 
 pub returns-clause-value : goal.returns-clause-value
 returns-clause-value g c = λ clean M edition shown has.
@@ -116,18 +110,3 @@ returns-clause-looks g c = λ clean M edition shown has all.
           (λ dead. (c.info-outcome.ensures.shut clean dead).0) all;
       same = refl;
     })
-
-pub returns-clause-caused : goal.returns-clause-caused
-returns-clause-caused g c =
-    let before : is_closed c.self.inside.last ≡ false = search rules in
-    lookup_gives_way g.S.Store c.args.self.now
-    (record {
-      conn = c.info-outcome.new.conn;
-      summary = summary_shown c.self.inside.summary;
-      last = c.last_by-self-inside.result;
-      indexes = c.self.inside.indexes;
-      texts = c.forget_by.new.texts;
-      counts = counted c.info-outcome.new.rows_taken c.self.inside.is_log_long c.self.inside.orphans c.self.inside.draft c.self.inside.filing;
-    })
-    c.self.inside.conn (ap (λ (d : DeskState _). d.conn) c.self.view_is) (summary_shown c.self.inside.summary) c.self.inside.filing c.self.inside.last before c.self.invariant.0 c.info-outcome.ensures.survives
-    c.args.number c.info-outcome.result c.info-outcome.ensures.kinds c.info-outcome.ensures.failed
