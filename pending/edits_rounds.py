@@ -40,7 +40,7 @@ EDITS = {
     "store_search": {
         "an_index_is_keyed_by_what_is_shown": ("edition::index_entries", "the only clause"),
     },
-    "store_lookup": {
+    "store_holdings": {
         "the_part_behind_is_read": ("parts::put_part", "put"),
         "a_cut_goes_past_its_part": ("parts::front", "the slice's bound"),
         "headwords_are_counted_for_entries": ("answering::count_under", "value"),

@@ -18,12 +18,17 @@ use Rattle.dict_catalogue.specs.Effects.{installed, swapped, put_anew, changed_i
 use Rattle.dict_catalogue.specs.Steps.{KeptFor, Catalogue, Outcome, holdings, kept_under, with_effect, step, AllHold, IsStep, id_unlawful, id_kept, test_failed, none_failed}
 use Rattle.dict_catalogue.specs.WellFormed.{IsEachOnce, IsLawfulItem, HasWellFormedEditions, HasKnownMembers, IsLawfulCommand, tells_edition, IsLawfulReply, IsNumberedFrom, is_install, IsWellFormed}
 use Rattle.dict_text.proofs.AllLemmas.{all_weaker, all_append, all_filter, all_flat_map, all_flat_map_parts}
+use Rattle.dict_text.proofs.AsciiLemmas.{name_utf8}
 use Rattle.dict_catalogue.proofs.ListLemmas.{sum_append, any_moved, any_append_left, any_append_right, any_filter, none_passes, by_test}
 use Rattle.dict_catalogue.proofs.ItemLemmas.{same_text, text_itself, known_turned, regular_named_turned, virtual_named_turned, current_there, all_after}
 use Rattle.dict_catalogue.proofs.CountLemmas.{once_added, tested_once, tested_regular, tested_later, names_after, limit_after, numbers_after}
 use Rattle.dict_catalogue.proofs.StepLemmas.{step_is}
 
 -- lawful items
+
+pub item_name : (item : Item Edition) → IsLawfulItem item → IsUtf8 (name_of item)
+item_name (regular name current former) h = name_utf8 name h
+item_name (virtual name title members) h = name_utf8 name h.0
 
 lawful_installed : (edition : Stored Edition) (item : Item Edition) → IsLawfulItem item → IsLawfulItem (installed edition item)
 lawful_installed edition (regular n current former) h = h

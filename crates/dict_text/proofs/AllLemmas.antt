@@ -51,6 +51,10 @@ pub all_map : {X Y : Type 0} (P : X → Type 0) (Q : Y → Type 0) (g : X → Y)
 all_map P Q g w [] h = tt
 all_map P Q g w (x ∷ xs) h = (w x h.0, all_map P Q g w xs h.1)
 
+pub all_unmapped : {X Y : Type 0} (P : Y → Type 0) (f : X → Y) (xs : List X) → AllByRecursion P (map f xs) → AllByRecursion (λ x. P (f x)) xs
+all_unmapped P f [] h = tt
+all_unmapped P f (x ∷ xs) h = (h.0, all_unmapped P f xs h.1)
+
 pub all_append_parts : {X : Type 0} (P : X → Type 0) (xs ys : List X) → AllByRecursion P (xs ++ ys) → AllByRecursion P xs × AllByRecursion P ys
 all_append_parts P [] ys h = (tt, h)
 all_append_parts P (x ∷ xs) ys h = let parts = all_append_parts P xs ys h.1 in ((h.0, parts.0), parts.1)

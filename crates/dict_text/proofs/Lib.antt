@@ -5,3 +5,4 @@ pub mod PositionLemmas
 pub mod DigitLemmas
 pub mod NumberLemmas
 pub mod FaultLemmas
+pub mod AsciiLemmas

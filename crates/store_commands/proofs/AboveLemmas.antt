@@ -19,7 +19,7 @@ use Rattle.dict_desk.specs.declared.fault.Fault.TheVariants.{Refused, Memory, Di
 use Rattle.store_rows.specs.After.{Installed}
 use Rattle.store_rows.specs.Versions.{known}
 use Rattle.store_holdings.specs.AllTables.{AllTables, with_derived, all_after}
-use Rattle.store_holdings.specs.Texts.{text_rows}
+use Rattle.store_holdings.specs.HeldTexts.{text_rows}
 use Rattle.store_commands.specs.KeptRecords.{HasRecords, KeepsTextRows, TurnsRecords}
 use Rattle.store_commands.specs.Changes.{change_by, installed_by, IsWritable}
 use Rattle.store_holdings.specs.Committed.{IsCommitted}

@@ -25,7 +25,7 @@ use Rattle.store_rows.specs.Tables.{same_number}
 use Rattle.store_rows.specs.Versions.{known}
 use Rattle.store_rows.proofs.SelectionLemmas.{filter_filter}
 use Rattle.store_rows.proofs.TakenLemmas.{same_number_is, same_itself}
-use Rattle.store_holdings.specs.Texts.{rows_under}
+use Rattle.store_holdings.specs.HeldTexts.{rows_under}
 use Rattle.store_holdings.specs.Files.{parts_under, installed_parts}
 use Rattle.store_holdings.specs.AllTables.{AllTables, beside_installed, all_after}
 use Rattle.store_holdings.specs.Holds.{Keeps}

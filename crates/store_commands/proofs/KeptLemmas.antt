@@ -35,7 +35,7 @@ use Rattle.store_sql.specs.Columns.{kept_columns}
 use Rattle.store_sql.specs.Reads.{FailsToList}
 use Rattle.store_sql.specs.declared.records.ReadError.{ReadError}
 use Rattle.store_holdings.specs.Faults.{fault_of_read}
-use Rattle.store_holdings.proofs.FailLemmas.{list_fails}
+use Rattle.store_commands.proofs.UnreadLemmas.{list_fails}
 use Rattle.store_holdings.proofs.ReadableLemmas.{held_replies}
 use Rattle.store_holdings.specs.Faults.{FailsToReadCatalogue}
 

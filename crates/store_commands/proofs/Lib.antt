@@ -18,3 +18,4 @@ pub mod DraftLemmas
 pub mod LeftLemmas
 pub mod MarkingLemmas
 pub mod TakingLemmas
+pub mod UnreadLemmas

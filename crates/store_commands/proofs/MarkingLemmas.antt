@@ -13,7 +13,7 @@ use Rattle.dict_catalogue.specs.Tests.{Holdings}
 use Rattle.store_rows.specs.Versions.{known}
 use Rattle.store_holdings.specs.AllTables.{with_derived}
 use Rattle.store_holdings.specs.Holds.{Holds}
-use Rattle.store_holdings.specs.Texts.{text_rows}
+use Rattle.store_holdings.specs.HeldTexts.{text_rows}
 use Rattle.store_commands.specs.KeptRecords.{HasRecords, TurnsRecords}
 use Rattle.store_commands.specs.Changes.{with_mark}
 use Rattle.store_holdings.specs.Committed.{IsCommitted}

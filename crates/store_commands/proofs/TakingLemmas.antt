@@ -32,7 +32,7 @@ use Rattle.store_rows.proofs.TakenLemmas.{nat_same, same_number_is, same_itself}
 use Rattle.store_holdings.specs.AllTables.{AllTables, with_derived}
 use Rattle.store_holdings.specs.Files.{all_parts, edition_parts, index_octets}
 use Rattle.store_holdings.specs.Holds.{Holds}
-use Rattle.store_holdings.specs.Texts.{rows_under, text_rows}
+use Rattle.store_holdings.specs.HeldTexts.{rows_under, text_rows}
 use Rattle.store_holdings.proofs.FileLemmas.{of_under}
 use Rattle.store_commands.specs.KeptRecords.{HasRecords, TurnsRecords}
 use Rattle.store_commands.specs.Changes.{IsInRange}

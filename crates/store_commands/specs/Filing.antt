@@ -13,7 +13,7 @@ use Rattle.dict_desk.specs.declared.fault.Fault.TheVariants.{Memory, Disk}
 use Rattle.store_rows.specs.Stored.{stored_index}
 use Rattle.store_rows.specs.After.{Installed}
 use Rattle.store_holdings.specs.Files.{parts_under}
-use Rattle.store_holdings.specs.Texts.{rows_under}
+use Rattle.store_holdings.specs.HeldTexts.{rows_under}
 use Rattle.store_holdings.specs.AllTables.{AllTables}
 use Rattle.store_commands.specs.KeptRecords.{FitsColumn}
 use Rattle.store_commands.specs.Changes.{with_more_parts, with_parts_anew}

@@ -4,7 +4,7 @@ use Rattle.sqlite.specs.Effect.{Database}
 use Rattle.dict_catalogue.specs.declared.commands.Command.{Command}
 use Rattle.dict_catalogue.specs.declared.commands.Command.TheVariants.{Install, Rollback, Retire, PutVirtual, Place}
 use Rattle.dict_desk.specs.declared.fault.Fault.{Fault}
-use Rattle.store_holdings.specs.Texts.{HoldsText}
+use Rattle.store_holdings.specs.HeldTexts.{HoldsText}
 use Rattle.store_commands.specs.declared.applied.Applied.{Applied}
 use Rattle.store_commands.specs.declared.applied.Applied.TheVariants.{Repeated, Done}
 

@@ -13,7 +13,7 @@ use Rattle.store_rows.specs.Versions.{known, layout_of}
 use Rattle.store_holdings.specs.AllTables.{AllTables}
 use Rattle.store_holdings.specs.Holds.{HasLayout, Keeps}
 use Rattle.store_holdings.specs.Readings.{table_name_of, readings, KeepsAll}
-use Rattle.store_holdings.specs.Texts.{text_rows}
+use Rattle.store_holdings.specs.HeldTexts.{text_rows}
 
 -- the database has the product's tables, and they keep these records
 pub record HasRecords (db : Database) (all : AllTables) : Type 0 where

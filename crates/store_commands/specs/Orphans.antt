@@ -10,7 +10,7 @@ use Rattle.store_tables.specs.Records.{Part}
 use Rattle.dict_desk.specs.declared.fault.Fault.{Fault}
 use Rattle.store_rows.specs.Tables.{same_number}
 use Rattle.store_holdings.specs.AllTables.{AllTables}
-use Rattle.store_holdings.specs.Texts.{rows_under}
+use Rattle.store_holdings.specs.HeldTexts.{rows_under}
 use Rattle.store_commands.specs.KeptRecords.{TurnsRecords}
 use Rattle.store_commands.specs.Marking.{FailsToCommitRun}
 use Rattle.store_commands.specs.Writes.{WroteStatements}

@@ -26,9 +26,9 @@ use Rattle.store_commands.specs.declared.applied.Applied.{Applied}
 use Rattle.store_commands.specs.declared.applied.Applied.TheVariants.{Repeated, Done}
 use Rattle.dict_desk.specs.declared.fault.Fault.{Fault}
 use Rattle.store_holdings.specs.Holds.{Holds, Rests}
-use Rattle.store_lookup.specs.Indexes.{entries_under}
-use Rattle.store_lookup.specs.Texts.{ArePartsOf, AreOfInstalls}
-use Rattle.store_lookup.specs.KeptTexts.{PartNumbers}
+use Rattle.store_holdings.specs.Indexes.{entries_under}
+use Rattle.store_holdings.specs.CutTexts.{ArePartsOf, AreOfInstalls}
+use Rattle.store_holdings.specs.KeptTexts.{PartNumbers}
 use Rattle.store_rows.specs.Versions.{known}
 use Rattle.store_search.specs.Entries.{Indexed}
 use Rattle.store_desk.specs.Applied.{AppliesOver}

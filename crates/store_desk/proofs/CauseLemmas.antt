@@ -17,9 +17,9 @@ use Rattle.dict_desk.specs.declared.fault.Fault.TheVariants.{Refused, Memory, Di
 use Rattle.store_rows.specs.Versions.{known}
 use Rattle.store_holdings.specs.Faults.{fault_of, IsUnreadCatalogue, FailsToReadCatalogue}
 use Rattle.store_holdings.specs.Holds.{Holds}
-use Rattle.store_lookup.specs.Searches as search
-use Rattle.store_lookup.specs.Searches.{IsOfStore}
-use Rattle.store_lookup.proofs.HeldLemmas.{held_readable}
+use Rattle.store_holdings.specs.Searches as search
+use Rattle.store_holdings.specs.Searches.{IsOfStore}
+use Rattle.store_holdings.proofs.HeldLemmas.{held_readable}
 use Rattle.store_commands.specs.Answers.{IsOfApply}
 use Rattle.store_commands.proofs.ApplyLemmas.{holds_now}
 use Rattle.store_commands.specs.declared.applied.Applied.{Applied}

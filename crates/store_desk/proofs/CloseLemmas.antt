@@ -24,7 +24,7 @@ use Rattle.store_desk.specs.declared.last.LastCall.{LastCall}
 use Rattle.store_desk.specs.Left.{Counts}
 use Rattle.std.proofs.Common.{ℕ}
 use Rattle.store_holdings.proofs.OneLemmas.{held_known}
-use Rattle.store_lookup.specs.KeptTexts.{PartNumbers}
+use Rattle.store_holdings.specs.KeptTexts.{PartNumbers}
 
 -- what is shown is committed
 pub committed_holds : {S : Type 0} (g : store.Ghosts S) (conn : Held S) (summary : Holdings (List ℕ)) (last : LastCall) (indexes : List (ℕ × List Indexed)) (texts : List (PartNumbers × List ℕ)) {taken : Counts} → IsLive (state g conn)

@@ -17,10 +17,10 @@ use Rattle.dict_catalogue.specs.Tests.{Holdings}
 use Rattle.dict_desk.specs.declared.fault.Fault.{Fault}
 use Rattle.dict_desk.specs.declared.fault.Fault.TheVariants.{Refused, Memory, Disk, Closed as Shut, NotACatalogue, Damaged, NewerSchema}
 use Rattle.store_holdings.specs.Holds.{IsLeft}
-use Rattle.store_holdings.specs.Texts.{text_rows}
+use Rattle.store_holdings.specs.HeldTexts.{text_rows}
 use Rattle.store_holdings.proofs.OneLemmas.{held_known, one_left}
-use Rattle.store_lookup.specs.Texts.{ArePartsOf}
-use Rattle.store_lookup.specs.KeptTexts.{PartNumbers}
+use Rattle.store_holdings.specs.CutTexts.{ArePartsOf}
+use Rattle.store_holdings.specs.KeptTexts.{PartNumbers}
 use Rattle.store_search.specs.Entries.{Indexed}
 use Rattle.store_commands.specs.Answers.{HoldsBy}
 use Rattle.store_holdings.specs.Committed.{IsTreesOf}

@@ -19,9 +19,9 @@ use Rattle.dict_desk.specs.declared.lookup.End.{End}
 use Rattle.dict_desk.proofs.HandingLemmas.{hands_front}
 use Rattle.store_holdings.specs.Faults as reading
 use Rattle.store_holdings.specs.Holds.{Holds, IsLeft}
-use Rattle.store_lookup.specs.Searches.{FailsToLookUp}
-use Rattle.store_lookup.specs.Texts.{ArePartsOf, AreOfInstalls, IsAtMostRead}
-use Rattle.store_lookup.specs.KeptTexts.{PartNumbers}
+use Rattle.store_holdings.specs.Searches.{FailsToLookUp}
+use Rattle.store_holdings.specs.CutTexts.{ArePartsOf, AreOfInstalls, IsAtMostRead}
+use Rattle.store_holdings.specs.KeptTexts.{PartNumbers}
 use Rattle.store_commands.specs.Committed.{StaysCommitted}
 use Rattle.store_commands.specs.Filing.{HasFiledParts}
 use Rattle.store_commands.proofs.ApplyLemmas.{rests_still}

@@ -19,10 +19,10 @@ use Rattle.dict_desk.specs.declared.fault.Fault.{Fault}
 use Rattle.dict_desk.specs.declared.fault.Fault.TheVariants.{Refused, Memory, Disk, Closed as Shut, NotACatalogue, Damaged, NewerSchema}
 use Rattle.store_rows.specs.Versions.{known}
 use Rattle.store_holdings.specs.Holds.{Holds}
-use Rattle.store_holdings.specs.Texts.{HoldsText}
-use Rattle.store_lookup.specs.Indexes.{entries_under}
-use Rattle.store_lookup.specs.Texts.{ArePartsOf}
-use Rattle.store_lookup.specs.KeptTexts.{PartNumbers}
+use Rattle.store_holdings.specs.HeldTexts.{HoldsText}
+use Rattle.store_holdings.specs.Indexes.{entries_under}
+use Rattle.store_holdings.specs.CutTexts.{ArePartsOf}
+use Rattle.store_holdings.specs.KeptTexts.{PartNumbers}
 use Rattle.store_search.specs.Entries.{Indexed, entry_of}
 use Rattle.store_commands.specs.Answers.{IsOfApply}
 use Rattle.store_commands.specs.Committed.{StaysCommitted}

@@ -7,7 +7,7 @@ use Rattle.std.proofs.lemmas.List.Elements.{All-contains_itself, recursion_from_
 use Rattle.sqlite.specs.Effect.{Database}
 use Rattle.sqlite.specs.Held.{Held, state}
 use Rattle.sqlite_trees.specs.declared.store.Store.{Ghosts}
-use Rattle.dict_text.proofs.AllLemmas.{all_flat_map_parts, all_map, all_weaker}
+use Rattle.dict_text.proofs.AllLemmas.{all_flat_map_parts, all_map, all_weaker, all_unmapped}
 use Rattle.dict_index.specs.Edition.{Edition, ReadEdition, edition_of}
 use Rattle.dict_catalogue.specs.Items.{Stored, Item, regular, virtual, editions_of, numbers_of, item_as}
 use Rattle.dict_catalogue.specs.Tests.{Holdings}
@@ -22,11 +22,10 @@ use Rattle.dict_catalogue.proofs.WellFormedLemmas.{IfInstalled, each_after}
 use Rattle.store_commands.specs.Installed.{HasTextOf}
 use Rattle.dict_desk.specs.Shown.{HasEdition}
 use Rattle.store_holdings.specs.Holds.{Holds}
-use Rattle.store_lookup.specs.Indexes.{entries_under}
-use Rattle.store_holdings.specs.Texts.{HoldsText, text_rows}
-use Rattle.store_lookup.specs.Texts.{ArePartsOf, AreOfInstalls, Cuts}
-use Rattle.store_lookup.specs.KeptTexts.{PartNumbers}
-use Rattle.store_lookup.proofs.ListLemmas.{all_unmapped}
+use Rattle.store_holdings.specs.Indexes.{entries_under}
+use Rattle.store_holdings.specs.HeldTexts.{HoldsText, text_rows}
+use Rattle.store_holdings.specs.CutTexts.{ArePartsOf, AreOfInstalls, Cuts}
+use Rattle.store_holdings.specs.KeptTexts.{PartNumbers}
 use Rattle.store_rows.specs.Versions.{known}
 use Rattle.store_rows.proofs.OrderLemmas.{all_with}
 use Rattle.store_search.specs.Entries.{Indexed, entry_of}

@@ -37,7 +37,7 @@ use Rattle.store_desk.specs.Left.{ComingState, Counts}
 use Rattle.store_desk.proofs.DeskLemmas.{texts_keep}
 use Rattle.store_rows.specs.Versions.{known}
 use Rattle.store_holdings.proofs.OneLemmas.{left_known}
-use Rattle.store_lookup.specs.KeptTexts.{PartNumbers}
+use Rattle.store_holdings.specs.KeptTexts.{PartNumbers}
 
 -- ---- kept replies
 

@@ -11,7 +11,7 @@ use Rattle.store_holdings.specs.Holds.{AreOrphans}
 use Rattle.store_holdings.specs.Readings.{KeepsAll}
 use Rattle.store_holdings.proofs.OrphanLemmas.{beside_orphans, no_orphans}
 use Rattle.store_tables.specs.Records.{Part}
-use Rattle.store_lookup.proofs.HeldLemmas.{number_few, number_known, text_held}
+use Rattle.store_holdings.proofs.HeldLemmas.{number_few, number_known, text_held}
 use Rattle.store_migration.specs.Migrated.{IsMigrated}
 use Rattle.store_rows.specs.Tables.{Tables}
 use Rattle.store_rows.specs.Versions.{Parted, known, layout_of}

@@ -10,12 +10,12 @@ use Rattle.dict_catalogue.specs.Tests.{Holdings}
 use Rattle.dict_desk.specs.Faults.{IsOfLookup, is_disk, is_failure, has_failed_by, has_closed_by}
 use Rattle.dict_desk.specs.declared.fault.Fault.{Fault}
 use Rattle.dict_desk.specs.declared.fault.Fault.TheVariants.{Refused, Memory, Disk, Closed as Shut, NotACatalogue, Damaged, NewerSchema}
-use Rattle.store_lookup.specs.Texts.{ArePartsOf}
-use Rattle.store_lookup.specs.KeptTexts.{PartNumbers}
+use Rattle.store_holdings.specs.CutTexts.{ArePartsOf}
+use Rattle.store_holdings.specs.KeptTexts.{PartNumbers}
 use Rattle.store_search.specs.Entries.{Indexed}
 use Rattle.store_commands.specs.Committed.{IsOfStore}
 use Rattle.store_commands.specs.Filing.{HasNoneFiled, IsDrawnUp}
-use Rattle.store_lookup.specs.Indexes.{entries_under}
+use Rattle.store_holdings.specs.Indexes.{entries_under}
 use Rattle.store_desk.specs.Causes.{FailsToPrepare}
 use Rattle.store_desk.specs.Desk.{DeskState, HasFiled, IsAtRest, KeepsBeside, LeavesOneOf, Shows, has_failed, is_closed}
 use Rattle.store_desk.specs.KeptParts.{texts_after, texts_behind}

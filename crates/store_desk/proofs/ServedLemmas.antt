@@ -9,11 +9,11 @@ use Rattle.dict_text.proofs.AllLemmas.{all_weaker}
 use Rattle.dict_index.specs.Edition.{Edition}
 use Rattle.dict_catalogue.specs.Items.{Stored, Item, editions_of}
 use Rattle.dict_catalogue.specs.Steps.{Catalogue}
-use Rattle.store_lookup.specs.Indexes.{entries_under}
+use Rattle.store_holdings.specs.Indexes.{entries_under}
 use Rattle.dict_desk.specs.Shown.{HasEdition}
-use Rattle.store_holdings.specs.Texts.{HoldsText}
-use Rattle.store_lookup.specs.Texts.{ArePartsOf}
-use Rattle.store_lookup.proofs.FailLemmas.{all_contains}
+use Rattle.store_holdings.specs.HeldTexts.{HoldsText}
+use Rattle.store_holdings.specs.CutTexts.{ArePartsOf}
+use Rattle.store_holdings.proofs.LookupLemmas.{all_contains}
 use Rattle.store_desk.specs.Desk.{DeskState, ServesEdition, ServesEditions, is_closed}
 
 -- what holds of each edition of each item

@@ -7,8 +7,8 @@ use Rattle.dict_catalogue.specs.declared.reply.Kept.{Kept}
 use Rattle.dict_catalogue.specs.declared.summary.Summary.{Summary}
 use Rattle.store_commands.specs.declared.applied.Applied.{Applied}
 use Rattle.store_commands.specs.declared.applied.Applied.TheVariants.{Done}
-use Rattle.store_lookup.specs.Indexes.{IsGone}
-use Rattle.store_lookup.proofs.NumberLemmas.{OfNumbers, Same}
+use Rattle.store_holdings.specs.Indexes.{IsGone}
+use Rattle.store_holdings.proofs.NumberLemmas.{OfNumbers, Same}
 use Rattle.store_search.specs.Entries.{Indexed}
 use Rattle.store_desk.specs.Indexed.{HasLetGoIndexes, HasSettled}
 

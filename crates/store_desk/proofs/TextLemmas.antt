@@ -4,7 +4,7 @@ use Rattle.std.specs.Prelude.{pos, Some, None, IsPermutation}
 use Rattle.std.specs.List.{AllByRecursion}
 use Rattle.std.proofs.lemmas.List.Sorted.{IsPermutation-trans}
 use Rattle.sqlite.specs.Effect.{Database}
-use Rattle.dict_text.proofs.AllLemmas.{all_flat_map_parts, all_weaker}
+use Rattle.dict_text.proofs.AllLemmas.{all_flat_map_parts, all_weaker, all_unmapped}
 use Rattle.dict_index.specs.Edition.{Edition}
 use Rattle.dict_catalogue.specs.Items.{Stored, Item, regular, virtual, editions_of, numbers_of, edition_numbers, item_as}
 use Rattle.dict_catalogue.specs.Tests.{Holdings}
@@ -14,12 +14,11 @@ use Rattle.store_rows.specs.Versions.{known}
 use Rattle.store_holdings.specs.Files.{file_parts}
 use Rattle.store_edition_sql.specs.PartRecords.{part_row}
 use Rattle.store_holdings.specs.Holds.{Holds}
-use Rattle.store_holdings.specs.Texts.{HoldsText, text_rows}
-use Rattle.store_lookup.specs.Texts.{AreOfInstalls}
-use Rattle.store_lookup.proofs.HeldLemmas.{held_one, text_once}
-use Rattle.store_lookup.proofs.ListLemmas.{all_unmapped}
+use Rattle.store_holdings.specs.HeldTexts.{HoldsText, text_rows}
+use Rattle.store_holdings.specs.CutTexts.{AreOfInstalls}
+use Rattle.store_holdings.proofs.HeldLemmas.{held_one, text_once}
 use Rattle.store_commands.specs.KeptRecords.{KeepsTextRows}
-use Rattle.store_lookup.specs.KeptTexts.{PartNumbers}
+use Rattle.store_holdings.specs.KeptTexts.{PartNumbers}
 
 -- a text that stays
 pub text_carried : (old new : Database) (number : ℕ) (text : List ℕ) → IsPermutation (text_rows number old) (text_rows number new) → HoldsText old number text → HoldsText new number text

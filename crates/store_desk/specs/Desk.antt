@@ -15,10 +15,10 @@ use Rattle.dict_desk.specs.Faults.{is_disk, is_failure}
 use Rattle.dict_desk.specs.declared.fault.Fault.{Fault}
 use Rattle.store_holdings.specs.Committed.{IsTreesOf}
 use Rattle.store_holdings.specs.Holds.{Holds}
-use Rattle.store_lookup.specs.Indexes.{entries_under}
-use Rattle.store_holdings.specs.Texts.{HoldsText}
-use Rattle.store_lookup.specs.Texts.{Cuts, ArePartsOf}
-use Rattle.store_lookup.specs.KeptTexts.{PartNumbers}
+use Rattle.store_holdings.specs.Indexes.{entries_under}
+use Rattle.store_holdings.specs.HeldTexts.{HoldsText}
+use Rattle.store_holdings.specs.CutTexts.{Cuts, ArePartsOf}
+use Rattle.store_holdings.specs.KeptTexts.{PartNumbers}
 pub use Rattle.store_migration.specs.Leaves.{StandsFor}
 use Rattle.store_migration.specs.Spared.{SparesOthers}
 use Rattle.store_search.specs.Entries.{Indexed}

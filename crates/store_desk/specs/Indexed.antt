@@ -12,9 +12,9 @@ use Rattle.dict_catalogue.specs.Views.{item_shown}
 use Rattle.store_commands.specs.declared.applied.Applied.{Applied}
 use Rattle.store_commands.specs.declared.applied.Applied.TheVariants.{Repeated, Done}
 use Rattle.dict_desk.specs.declared.fault.Fault.{Fault}
-use Rattle.store_lookup.specs.Indexes.{entries_under, IsGone}
-use Rattle.store_holdings.specs.Texts.{HoldsText}
-use Rattle.store_lookup.specs.Texts.{Cuts}
+use Rattle.store_holdings.specs.Indexes.{entries_under, IsGone}
+use Rattle.store_holdings.specs.HeldTexts.{HoldsText}
+use Rattle.store_holdings.specs.CutTexts.{Cuts}
 use Rattle.store_search.specs.Entries.{Indexed, entry_of}
 
 -- Under the edition's number stands an index that cuts its entries out of the text which the database has under it.

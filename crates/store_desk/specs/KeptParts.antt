@@ -2,8 +2,8 @@
 use Rattle.std.specs.Prelude.{◌≡◌, ℕ, true, List, [], Result, Ok, Err}
 use Rattle.dict_catalogue.specs.Tests.{Holdings}
 use Rattle.dict_desk.specs.declared.fault.Fault.{Fault}
-use Rattle.store_lookup.specs.Texts.{AreOfInstalls}
-use Rattle.store_lookup.specs.KeptTexts.{PartNumbers}
+use Rattle.store_holdings.specs.CutTexts.{AreOfInstalls}
+use Rattle.store_holdings.specs.KeptTexts.{PartNumbers}
 use Rattle.store_desk.specs.Desk.{has_failed}
 use Rattle.store_desk.specs.declared.last.LastCall.{LastCall}
 use Rattle.store_desk.specs.declared.last.LastCall.TheVariants.{Fine, Failed, Closed}

@@ -3,7 +3,7 @@ use Rattle.std.specs.Prelude.{◌≡◌, ℕ, ◌-◌, ◌^◌, Bool, true, fals
 use Rattle.store_commands.specs.Drafts.{DraftState}
 use Rattle.store_commands.specs.Left.{draft_left, filing_left}
 use Rattle.store_commands.specs.declared.filing.Filing.{Filing}
-use Rattle.store_lookup.specs.Taken.{LooksAt}
+use Rattle.store_holdings.specs.Taken.{LooksAt}
 use Rattle.store_desk.specs.declared.making.IndexPart.{IndexPart}
 use Rattle.store_desk.specs.declared.making.IndexPart.TheVariants.{Entries, Parts, Lost}
 

@@ -29,7 +29,7 @@ use dict_desk::Fault;
 use sqlite::{Alter, Connection};
 use std::alloc::{AllocError, Global};
 use store_commands::{kept_reply, summaries_in_range};
-use store_lookup::Indexes;
+use store_holdings::Indexes;
 use store_migration::migrate;
 use store_opening::{held_is_marked, one_is_held, read_catalogue};
 use store_rows::KNOWN_VERSION;

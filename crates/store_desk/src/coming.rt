@@ -5,7 +5,7 @@ ghost use Rattle.sqlite.specs.State.{HasCleanDisk, Survives};
 ghost use Rattle.sqlite.specs.Held.{state};
 ghost use Rattle.dict_index.specs.Edition.{ReadEdition};
 ghost use Rattle.dict_index.specs.Meaning.{IsReadEdition};
-ghost use Rattle.store_lookup.specs.Indexes.{entries_under};
+ghost use Rattle.store_holdings.specs.Indexes.{entries_under};
 ghost use Rattle.store_search.specs.Entries.{entry_of};
 ghost use Rattle.dict_catalogue.specs.Views.{summary_shown};
 ghost use Rattle.store_holdings.specs.Committed.{IsCommitted, IsTreesOf};
@@ -28,7 +28,7 @@ use sqlite::{Alter, Connection};
 use std::alloc::Global;
 use std::marker::Model;
 use store_commands::{Applied, ReadInstall, apply_read, file_part};
-use store_lookup::Indexes;
+use store_holdings::Indexes;
 use store_search::IndexBuilder;
 
 /// An install of whose edition all is read, and the index in memory of that, as far as it is made. Contracts see what is filed.

@@ -30,12 +30,12 @@ use sqlite::{Alter, Connection};
 use std::alloc::Global;
 use std::marker::Model;
 use store_commands::Draft;
-use store_lookup::{Indexes, TextParts, make_indexes};
+use store_holdings::{Indexes, TextParts, make_indexes};
 use store_migration::create;
 
 /// A desk over one database: the connection to it, the summary of the catalogue that it holds, and an index of each of its editions,
 /// current and former, which counts and finds. The texts of editions from which entries were handed out last are kept in memory, up to
-/// `store_lookup::MAX_OCTETS`. Parts of an edition that may come are committed under the number that it gets, of which no edition is: none of them
+/// `store_holdings::MAX_OCTETS`. Parts of an edition that may come are committed under the number that it gets, of which no edition is: none of them
 /// is shown before the edition is installed.
 pub struct Desk<S: Alter + Drop> {
     pub(crate) alloc: Global,

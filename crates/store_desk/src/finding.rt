@@ -7,17 +7,17 @@ ghost use Rattle.dict_desk.specs.Shown.{Row as ShownRow, rows_given, count_of};
 ghost use Rattle.dict_desk.specs.Handing.{Hands};
 ghost use Rattle.store_sql.specs.Effects.{WhileOpen};
 ghost use Rattle.store_search.specs.Entries.{Indexed};
-ghost use Rattle.store_holdings.specs.Texts.{HoldsText};
-ghost use Rattle.store_lookup.specs.Indexes.{entries_under};
-ghost use Rattle.store_lookup.specs.Searches.{HasLookupTables, IsOfStore};
-ghost use Rattle.store_lookup.specs.Taken.{LooksAt};
-ghost use Rattle.store_lookup.specs.Texts.{Cuts, IsIndexOf, ArePartsOf, AreOfInstalls, IsAtMostRead, FailsToFind};
+ghost use Rattle.store_holdings.specs.HeldTexts.{HoldsText};
+ghost use Rattle.store_holdings.specs.Indexes.{entries_under};
+ghost use Rattle.store_holdings.specs.Searches.{HasLookupTables, IsOfStore};
+ghost use Rattle.store_holdings.specs.Taken.{LooksAt};
+ghost use Rattle.store_holdings.specs.CutTexts.{Cuts, IsIndexOf, ArePartsOf, AreOfInstalls, IsAtMostRead, FailsToFind};
 
 use dict_desk::{End, Fault, RowSink, What};
 use dict_match::{Key, Strategy};
 use sqlite::{Alter, Connection};
 use std::alloc::Global;
-use store_lookup::{Indexes, TextParts, find_under, heads_under};
+use store_holdings::{Indexes, TextParts, find_under, heads_under};
 
 // Hands out the entries of the edition under a number that the query finds, or the headwords shown of them, by the index that stands
 // under the number. For headwords the database isn't asked.

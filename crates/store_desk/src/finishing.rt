@@ -13,7 +13,7 @@ ghost use Rattle.store_commands.specs.Committed.{StaysCommitted};
 ghost use Rattle.store_commands.specs.Finishing.{IsFinished};
 ghost use Rattle.dict_desk.specs.Faults.{IsOfCommand, has_closed_by, has_failed_by};
 ghost use Rattle.store_desk.specs.Causes.{IsAppliedTo};
-ghost use Rattle.store_lookup.specs.Indexes.{entries_under};
+ghost use Rattle.store_holdings.specs.Indexes.{entries_under};
 ghost use Rattle.store_search.specs.Entries.{entry_of};
 ghost use Rattle.store_desk.specs.Desk.{HasFiled, Shows, is_closed, has_failed};
 ghost use Rattle.store_desk.specs.Indexed.{HasPutIfSome};
@@ -35,7 +35,7 @@ use dict_index::EditionRefusal;
 use sqlite::{Alter, Connection};
 use std::alloc::Global;
 use store_commands::Applied;
-use store_lookup::Indexes;
+use store_holdings::Indexes;
 
 // Finishes the install of what is prepared, if anything is, as `Coming::finish` does.
 fn finish_coming<S: Alter>(

@@ -3,14 +3,14 @@ ghost use Rattle.std.specs.Prelude.{◌≡◌, ℕ, true, OnOk, OnErr};
 ghost use Rattle.dict_catalogue.specs.Commands.{verb_of};
 ghost use Rattle.dict_catalogue.specs.Views.{command_meant};
 ghost use Rattle.dict_catalogue.specs.WellFormed.{is_install};
-ghost use Rattle.store_lookup.specs.Indexes.{entries_under};
+ghost use Rattle.store_holdings.specs.Indexes.{entries_under};
 ghost use Rattle.store_desk.specs.Indexed.{index_coming, HasLetGoIndexes, HasPutIfSome, HasSettled};
 
 use dict_catalogue::{Command, Item};
 use dict_desk::Fault;
 use std::alloc::{AllocError, Global};
 use store_commands::Applied;
-use store_lookup::{Indexes, let_go_of_gone};
+use store_holdings::{Indexes, let_go_of_gone};
 use store_search::making_of_edition;
 
 // Puts the index of the edition that a command installs, if it installs one, under the number that the edition gets: it is made when it

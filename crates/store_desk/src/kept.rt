@@ -4,7 +4,7 @@ ghost use Rattle.store_desk.specs.KeptParts.{texts_after, texts_behind};
 
 use crate::last::LastCall;
 use dict_desk::Fault;
-use store_lookup::TextParts;
+use store_holdings::TextParts;
 
 // After a fault from 40 on none is kept: what memory they had is free then.
 pub(crate) fn forget_by(texts: &mut TextParts, last: LastCall)

@@ -7,7 +7,7 @@ use dict_catalogue::Summary;
 use dict_desk::{End, Fault, Lookup, RowSink, What};
 use dict_match::{Key, Strategy};
 use sqlite::Alter;
-use store_lookup::count_under;
+use store_holdings::count_under;
 
 impl<S: Alter + Drop> Lookup for Desk<S> {
     ghost use Rattle.sqlite.specs.State.{HasCleanDisk};
@@ -47,7 +47,7 @@ impl<S: Alter + Drop> Lookup for Desk<S> {
         if self.last == LastCall::Closed {
             return Err(Fault::Closed);
         }
-        let outcome = store_lookup::info(
+        let outcome = store_holdings::info(
             self.alloc,
             &mut self.conn,
             number,

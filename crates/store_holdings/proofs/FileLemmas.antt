@@ -4,7 +4,7 @@ use Rattle.std.specs.Prelude.{filter, flat_map, not}
 use Rattle.std.specs.List.{AllByRecursion}
 use Rattle.std.proofs.lemmas.Bool.{false≢true}
 use Rattle.std.proofs.lemmas.List.Elements.{filter-append}
-use Rattle.dict_text.proofs.AllLemmas.{all_append}
+use Rattle.dict_text.proofs.AllLemmas.{all_append, all_of, all_weaker}
 use Rattle.store_tables.specs.Records.{EntryRecord, EditionRecord, Part}
 use Rattle.dict_index.specs.Edition.{Edition as AnEdition}
 use Rattle.dict_index.specs.Line.{Line}
@@ -16,6 +16,7 @@ use Rattle.store_rows.specs.Stands.{Stands}
 use Rattle.store_rows.specs.Tables.{Tables, same_number, entries_of, editions_numbered}
 use Rattle.store_rows.specs.Written.{numbered, edition_record, entry_record}
 use Rattle.store_rows.specs.After.{TableChange, Installed, IsTableChange, is_gone, installed_entries, installed_editions}
+use Rattle.store_rows.proofs.ListLemmas.{each_numbered}
 use Rattle.store_rows.proofs.ChangeLemmas.{IsFit, IsFree, fit_of, free_of}
 use Rattle.store_rows.proofs.TakenLemmas.{same_number_is, same_itself}
 use Rattle.store_holdings.specs.AllTables.{HasNoneOf, HasNewNumber}
@@ -24,7 +25,7 @@ use Rattle.store_holdings.specs.Files.{part_at, file_parts, parts_under, edition
 -- ---- what passes a test, and what is made of it
 
 -- what passes for each element of a list, or for none
-passes : {Y : Type 0} (q : Y → Bool) (b : Bool) (ys : List Y) → AllByRecursion (λ y. q y ≡ b) ys → filter q ys ≡ cond b ys []
+pub passes : {Y : Type 0} (q : Y → Bool) (b : Bool) (ys : List Y) → AllByRecursion (λ y. q y ≡ b) ys → filter q ys ≡ cond b ys []
 passes q true [] h = refl
 passes q false [] h = refl
 passes q true (y ∷ ys) h = ap (λ b. cond b (y ∷ filter q ys) (filter q ys)) h.0 ∙ ap (λ l. y ∷ l) (passes q true ys h.1)
@@ -43,14 +44,11 @@ flat_map_filtered {X} {Y} f p q same (x ∷ xs) ys =
 
 -- ---- the parts of one number
 
-pub of_numbered : (test : ℤ → Bool) (edition file : ℤ) (n : ℕ) (os : List (List ℕ)) → AllByRecursion (λ (p : Part). test p.edition ≡ test edition) (numbered (part_at edition file) n os)
-of_numbered test edition file n [] = tt
-of_numbered test edition file n (o ∷ os) = (refl, of_numbered test edition file (n + 1) os)
-
 pub of_under : (test : ℤ → Bool) (edition : ℤ) (index text : List ℕ) → AllByRecursion (λ (p : Part). test p.edition ≡ test edition) (parts_under edition index text)
 of_under test edition index text =
     all_append (λ (p : Part). test p.edition ≡ test edition) (file_parts edition (pos 0) index) (file_parts edition (pos 1) text)
-    (of_numbered test edition (pos 0) 0 (parts_of index)) (of_numbered test edition (pos 1) 0 (parts_of text))
+    (each_numbered (part_at edition (pos 0)) (λ (p : Part). test p.edition ≡ test edition) (λ n octets. refl) 0 (parts_of index))
+    (each_numbered (part_at edition (pos 1)) (λ (p : Part). test p.edition ≡ test edition) (λ n octets. refl) 0 (parts_of text))
 
 pub part_once : (t : Tables) (number : ℤ) → filter (λ (p : Part). same_number p.edition number) (all_parts t) ≡ flat_map (edition_parts t.entries) (editions_numbered number t.editions)
 part_once t number =
@@ -89,15 +87,14 @@ lines_back number first [] = refl
 lines_back number first (line ∷ lines) = ap (λ l. line ∷ l) (lines_back number (first + 1) lines)
 
 own_entries : (number first : ℕ) (lines : List Line) → entries_of (pos number) (numbered (entry_record number) first lines) ≡ numbered (entry_record number) first lines
-own_entries number first [] = refl
-own_entries number first (line ∷ lines) =
-    ap (λ b. cond b (entry_record number first line ∷ entries_of (pos number) (numbered (entry_record number) (first + 1) lines)) (entries_of (pos number) (numbered (entry_record number) (first + 1) lines))) (same_itself (pos number))
-    ∙ ap (λ l. entry_record number first line ∷ l) (own_entries number (first + 1) lines)
+own_entries number first lines =
+    passes (λ (r : EntryRecord). same_number r.edition (pos number)) true (numbered (entry_record number) first lines)
+    (each_numbered (entry_record number) (λ (r : EntryRecord). same_number r.edition (pos number) ≡ true) (λ n line. same_itself (pos number)) first lines)
 
 other_entries : (n : ℤ) (number first : ℕ) (lines : List Line) → same_number (pos number) n ≡ false → entries_of n (numbered (entry_record number) first lines) ≡ []
-other_entries n number first [] e = refl
-other_entries n number first (line ∷ lines) e =
-    ap (λ b. cond b (entry_record number first line ∷ entries_of n (numbered (entry_record number) (first + 1) lines)) (entries_of n (numbered (entry_record number) (first + 1) lines))) e ∙ other_entries n number (first + 1) lines e
+other_entries n number first lines e =
+    passes (λ (r : EntryRecord). same_number r.edition n) false (numbered (entry_record number) first lines)
+    (each_numbered (entry_record number) (λ (r : EntryRecord). same_number r.edition n ≡ false) (λ _ line. e) first lines)
 
 pub turned : (a b : ℤ) → same_number a b ≡ false → same_number b a ≡ false
 turned a b e = by (same_number b a) refl
@@ -138,17 +135,18 @@ parts_after gone ed t new = whole ed new
 
     each : (o : Option Installed) (es : List EditionRecord) → AllByRecursion (λ (e : EditionRecord). entries_of e.number (installed_entries o) ≡ []) es
         → AllByRecursion (λ (e : EditionRecord). not (is_gone gone e.number) ≡ true → those o e ≡ edition_parts t.entries e) es
-    each o [] h = tt
-    each o (e ∷ es) h = (λ stay. staying gone o t e stay h.0, each o es h.1)
+    each o es h =
+        all_weaker (λ (e : EditionRecord). entries_of e.number (installed_entries o) ≡ []) (λ (e : EditionRecord). not (is_gone gone e.number) ≡ true → those o e ≡ edition_parts t.entries e)
+        (λ e none stay. staying gone o t e stay none) es h
 
     fresh : (one : Installed) (es : List EditionRecord) → AllByRecursion (λ (row : EditionRecord). same_number row.number (pos one.number) ≡ false) es
         → AllByRecursion (λ (e : EditionRecord). entries_of e.number (installed_entries (Some one)) ≡ []) es
-    fresh one [] h = tt
-    fresh one (e ∷ es) h = (other_entries e.number one.number 0 one.reading.lines (turned e.number (pos one.number) h.0), fresh one es h.1)
+    fresh one es h =
+        all_weaker (λ (row : EditionRecord). same_number row.number (pos one.number) ≡ false) (λ (e : EditionRecord). entries_of e.number (installed_entries (Some one)) ≡ [])
+        (λ e apart. other_entries e.number one.number 0 one.reading.lines (turned e.number (pos one.number) apart)) es h
 
     none : (es : List EditionRecord) → AllByRecursion (λ (e : EditionRecord). entries_of e.number (installed_entries None) ≡ []) es
-    none [] = tt
-    none (e ∷ es) = (refl, none es)
+    none es = all_of (λ (e : EditionRecord). entries_of e.number (installed_entries None) ≡ []) (λ e. refl) es
 
     coming : (one : Installed) → HasNewNumber (Some one) t → those (Some one) (edition_record one.owner one.number one.reading) ≡ installed_parts (Some one)
     coming one h =

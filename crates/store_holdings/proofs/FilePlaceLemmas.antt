@@ -1,11 +1,10 @@
 -- The parts of the two files of an edition, by their places.
-use Rattle.std.proofs.Common.{◌≡◌, ℕ, zero, suc, ◌+◌, ◌-◌, ◌/◌, ◌%◌, min, ◌<◌, ◌≤◌, ℤ, pos, List, [], ◌∷◌, length, get_or, arith, sym, ap, subst, ◌∙◌}
+use Rattle.std.proofs.Common.{◌≡◌, ℕ, ◌+◌, ◌-◌, ◌/◌, ◌%◌, min, ◌<◌, ◌≤◌, ℤ, pos, List, [], length, get_or, arith, sym, ap, subst, ◌∙◌}
 use Rattle.std.proofs.lemmas.List.{length-append, get_or_append_left, get_or-append-add}
 use Rattle.store_tables.specs.Records.{Part}
 use Rattle.store_rows.specs.Parts.{parts_of, part_count}
-use Rattle.store_rows.specs.Written.{numbered}
 use Rattle.store_rows.proofs.PartLemmas.{parts_length}
-use Rattle.store_rows.proofs.ListLemmas.{numbered_length}
+use Rattle.store_rows.proofs.ListLemmas.{numbered_at, numbered_length}
 use Rattle.store_holdings.specs.Files.{part_at, file_parts, parts_under}
 
 -- ---- how many they are
@@ -24,13 +23,6 @@ both_length edition index text =
     length-append (file_parts edition (pos 0) index) (file_parts edition (pos 1) text) ∙ (λ i. file_length edition (pos 0) index i + file_length edition (pos 1) text i)
 
 -- ---- each of them
-
-numbered_at : {X Y : Type 0} (f : ℕ → X → Y) (n : ℕ) (xs : List X) (i : ℕ) (d : X) (e : Y) → i < length xs → get_or (numbered f n xs) i e ≡ f (n + i) (get_or xs i d)
-numbered_at f n [] i d e lt = absurd (omega (arith, lt))
-numbered_at f n (x ∷ xs) zero d e lt = ap (λ k. f k x) (let same : n ≡ n + 0 = omega arith in same)
-numbered_at f n (x ∷ xs) (suc i) d e lt =
-    let same : (n + 1) + i ≡ n + suc i = omega arith in
-    numbered_at f (n + 1) xs i d e (let less : i < length xs = omega (arith, lt) in less) ∙ ap (λ k. f k (get_or xs i d)) same
 
 file_at : (edition file : ℤ) (octets : List ℕ) (i : ℕ) (p : Part) → i < length (parts_of octets) → get_or (file_parts edition file octets) i p ≡ part_at edition file i (get_or (parts_of octets) i [])
 file_at edition file octets i p lt =

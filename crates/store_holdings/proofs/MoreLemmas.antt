@@ -4,6 +4,7 @@ use Rattle.std.specs.Prelude.{flat_map}
 use Rattle.std.specs.List.{AllByRecursion}
 use Rattle.std.proofs.lemmas.Grind.{flat_map-append}
 use Rattle.std.proofs.lemmas.List.Elements.{filter-append}
+use Rattle.dict_text.proofs.AllLemmas.{all_weaker}
 use Rattle.store_tables.specs.Records.{EntryRecord, EditionRecord}
 use Rattle.store_rows.specs.Tables.{Tables, same_number, entries_of}
 use Rattle.store_rows.specs.Taken.{with_edition}
@@ -15,11 +16,9 @@ use Rattle.store_holdings.proofs.FileLemmas.{turned}
 
 -- no entry of the edition has another number
 none_of : (n number : ℤ) → same_number n number ≡ false → (es : List EntryRecord) → AllByRecursion (λ (row : EntryRecord). row.edition ≡ number) es → entries_of n es ≡ []
-none_of n number apart es of = filter_none (λ (row : EntryRecord). same_number row.edition n) es (each es of)
-  where
-    each : (es : List EntryRecord) → AllByRecursion (λ (row : EntryRecord). row.edition ≡ number) es → AllByRecursion (λ (row : EntryRecord). same_number row.edition n ≡ false) es
-    each [] h = tt
-    each (e ∷ es) h = (ap (λ m. same_number m n) h.0 ∙ turned n number apart, each es h.1)
+none_of n number apart es of =
+    filter_none (λ (row : EntryRecord). same_number row.edition n) es
+    (all_weaker (λ (row : EntryRecord). row.edition ≡ number) (λ (row : EntryRecord). same_number row.edition n ≡ false) (λ row is. ap (λ m. same_number m n) is ∙ turned n number apart) es of)
 
 before : (t : Tables) (number : ℤ) (es : List EntryRecord) → AllByRecursion (λ (row : EntryRecord). row.edition ≡ number) es → (xs : List EditionRecord) → AllByRecursion (λ (row : EditionRecord). same_number row.number number ≡ false) xs
     → flat_map (edition_parts (t.entries ++ es)) xs ≡ flat_map (edition_parts t.entries) xs

@@ -11,6 +11,7 @@ use Rattle.sqlite.specs.declared.types.Value.TheVariants.{Int, Text, Blob}
 use Rattle.sqlite_trees.specs.Objects.{catalog_tree}
 use Rattle.sqlite_catalog.specs.Listing.{Lists}
 use Rattle.sqlite_catalog.proofs.ReadLemmas.{lists_once}
+use Rattle.dict_text.proofs.AllLemmas.{all_of}
 use Rattle.store_tables.specs.Records as spec
 use Rattle.store_sql.specs.Effects.{rows_of}
 use Rattle.store_sql.specs.Encodings.{mark_row, item_row, member_row, edition_row, entry_row, kept_row, number_or_null, text_or_null}
@@ -26,7 +27,7 @@ use Rattle.store_rows.proofs.OrderLemmas.{Same, same_from, one_once, ordered_sta
 use Rattle.store_holdings.specs.AllTables.{with_derived}
 use Rattle.store_holdings.specs.Files.{all_parts}
 use Rattle.store_holdings.specs.Told.{HaveSameFiles}
-use Rattle.store_holdings.proofs.RiseLemmas.{ordered}
+use Rattle.store_rows.proofs.RiseLemmas.{ordered}
 use Rattle.store_holdings.proofs.TellLemmas.{told_once}
 use Rattle.store_holdings.specs.Readings.{KeepsAll, AreShownIn, shown_row}
 use Rattle.store_holdings.specs.Holds.{Holds, IsHeld, IsLeft, IsLeftAs}
@@ -139,14 +140,7 @@ both_where Q encode decode undo xs ys rows qx qy a b =
 
 -- lists of records that are written as the same rows
 pub both : {W : Type 0} (encode : W → Row) (decode : Row → W) → ((w : W) → decode (encode w) ≡ w) → (xs ys : List W) (rows : List Row) → IsPermutation (map encode xs) rows → IsPermutation (map encode ys) rows → IsPermutation xs ys
-both encode decode undo xs ys rows a b =
-    let between = IsPermutation-trans (map encode xs) rows (map encode ys) a (IsPermutation-sym (map encode ys) rows b) in
-    let read = IsPermutation-map decode (map encode xs) (map encode ys) between in
-    subst (λ l. IsPermutation l ys) (back xs) (subst (IsPermutation (map decode (map encode xs))) (back ys) read)
-  where
-    back : (ws : List _) → map decode (map encode ws) ≡ ws
-    back [] = refl
-    back (w ∷ ws) = λ i. undo w i ∷ back ws i
+both encode decode undo xs ys rows a b = both_where (λ _. Unit {0}) encode decode (λ w _. undo w) xs ys rows (all_of (λ _. Unit {0}) (λ _. tt) xs) (all_of (λ _. Unit {0}) (λ _. tt) ys) a b
 
 -- ---- the same records
 

@@ -1,5 +1,5 @@
 -- Parts of no edition beside those of editions.
-use Rattle.std.proofs.Common.{◌≡◌, ◌⊎◌, inl, inr, ℕ, ℤ, pos, ◌+◌, Bool, true, false, cond, ◌||◌, ◌==◌, List, [], ◌∷◌, ◌++◌, map, refl, ap, sym, subst, ◌∙◌, append_assoc, append-nil, Option, Some, None, arith}
+use Rattle.std.proofs.Common.{◌≡◌, ◌⊎◌, inl, inr, ℕ, ℤ, pos, ◌+◌, Bool, true, false, ◌||◌, ◌==◌, List, [], ◌∷◌, ◌++◌, map, refl, ap, sym, subst, ◌∙◌, append_assoc, append-nil, Option, Some, None, arith}
 use Rattle.std.specs.Prelude.{drop, filter, flat_map, not}
 use Rattle.std.specs.List.{AllByRecursion, list_any}
 use Rattle.std.specs.List.Sorted.{IsPermutation}
@@ -20,7 +20,7 @@ use Rattle.store_rows.specs.Written.{edition_record}
 use Rattle.store_rows.specs.Stands.{Stands, has_number}
 use Rattle.store_rows.specs.Tables.{Tables, same_number, entries_of}
 use Rattle.store_rows.specs.After.{Installed, TableChange, IsTableChange, is_gone, tables_after}
-use Rattle.store_rows.proofs.AfterLemmas.{IsOld, stays}
+use Rattle.store_rows.proofs.AfterLemmas.{IsOld, filter_none, stays}
 use Rattle.store_rows.proofs.ChangeLemmas.{IsNewOf, AreOldOrNew, each_edition, each_among, old_each}
 use Rattle.store_rows.proofs.OrderLemmas.{IsIn, in_all, in_passed, all_with, all_passed}
 use Rattle.store_rows.proofs.TakenLemmas.{same_number_is}
@@ -28,8 +28,8 @@ use Rattle.store_holdings.specs.AllTables.{AllTables, with_derived, all_after, b
 use Rattle.store_holdings.specs.Files.{all_parts, edition_parts, index_octets, installed_parts}
 use Rattle.store_holdings.specs.Holds.{AreOrphans}
 use Rattle.store_holdings.specs.Readings.{TableReading, KeepsRows, KeepsAll, marks, items as item_readings, members, kept_replies, editions, contents, table_name_of}
-use Rattle.store_holdings.proofs.FileLemmas.{flat_map_filtered, of_under, parts_after, turned}
-use Rattle.store_holdings.proofs.RiseLemmas.{any_holds}
+use Rattle.store_holdings.proofs.FileLemmas.{passes, flat_map_filtered, of_under, parts_after, turned}
+use Rattle.store_rows.proofs.RiseLemmas.{any_holds}
 
 pub no_orphans : (version : ℕ) (M : Catalogue) → AreOrphans version M []
 no_orphans version M = record { apart = tt; later = λ before. refl }
@@ -44,19 +44,11 @@ orphans_apart version M orphans number are known =
     by p false e h = refl
     by p true e h = absurd (false≢true (sym h ∙ ap (λ n. has_number M.items n) (same_number_is p.edition number e) ∙ known))
 
-none_pass : {X : Type 0} (test : X → Bool) (xs : List X) → AllByRecursion (λ x. test x ≡ false) xs → filter test xs ≡ []
-none_pass test [] h = refl
-none_pass test (x ∷ xs) h = ap (λ b. cond b (x ∷ filter test xs) (filter test xs)) h.0 ∙ none_pass test xs h.1
-
-all_pass : {X : Type 0} (test : X → Bool) (xs : List X) → AllByRecursion (λ x. test x ≡ true) xs → filter test xs ≡ xs
-all_pass test [] h = refl
-all_pass test (x ∷ xs) h = ap (λ b. cond b (x ∷ filter test xs) (filter test xs)) h.0 ∙ ap (λ l. x ∷ l) (all_pass test xs h.1)
-
 pub beside_orphans : (version : ℕ) (M : Catalogue) (orphans : List Part) (t : Tables) (number : ℤ) → AreOrphans version M orphans → has_number M.items number ≡ true
     → filter (λ (p : Part). same_number p.edition number) (orphans ++ all_parts t) ≡ filter (λ (p : Part). same_number p.edition number) (all_parts t)
 beside_orphans version M orphans t number are known =
     filter-append (λ (p : Part). same_number p.edition number) orphans (all_parts t)
-    ∙ ap (λ l. l ++ filter (λ (p : Part). same_number p.edition number) (all_parts t)) (none_pass (λ (p : Part). same_number p.edition number) orphans (orphans_apart version M orphans number are known))
+    ∙ ap (λ l. l ++ filter (λ (p : Part). same_number p.edition number) (all_parts t)) (filter_none (λ (p : Part). same_number p.edition number) orphans (orphans_apart version M orphans number are known))
 
 -- ---- the same parts in another order
 
@@ -106,14 +98,15 @@ others (Some new) t h =
     ∙ sym (flat_map_filtered (edition_parts t.entries) (λ (e : EditionRecord). not (is_gone (new.number ∷ []) e.number)) stay
     (λ e. of_under (λ n. not (is_gone (new.number ∷ []) n)) e.number (index_octets (entries_of e.number t.entries)) e.body) t.editions [])
     ∙ ap (flat_map (edition_parts t.entries))
-    (append-nil (filter (λ (e : EditionRecord). not (is_gone (new.number ∷ []) e.number)) t.editions) ∙ all_pass (λ (e : EditionRecord). not (is_gone (new.number ∷ []) e.number)) t.editions (each t.editions h.0))
+    (append-nil (filter (λ (e : EditionRecord). not (is_gone (new.number ∷ []) e.number)) t.editions) ∙ passes (λ (e : EditionRecord). not (is_gone (new.number ∷ []) e.number)) true t.editions (each t.editions h.0))
   where
     stay : Part → Bool
     stay row = not (is_gone (new.number ∷ []) row.edition)
 
     each : (es : List EditionRecord) → AllByRecursion (λ (row : EditionRecord). same_number row.number (pos new.number) ≡ false) es → AllByRecursion (λ (e : EditionRecord). not (is_gone (new.number ∷ []) e.number) ≡ true) es
-    each [] g = tt
-    each (e ∷ es) g = (ap (λ b. not (b || false)) (turned e.number (pos new.number) g.0), each es g.1)
+    each es g =
+        all_weaker (λ (row : EditionRecord). same_number row.number (pos new.number) ≡ false) (λ (e : EditionRecord). not (is_gone (new.number ∷ []) e.number) ≡ true)
+        (λ e apart. ap (λ b. not (b || false)) (turned e.number (pos new.number) apart)) es g
 
 beside_append : (edition : Option Installed) (xs ys : List Part) → beside_installed edition (xs ++ ys) ≡ beside_installed edition xs ++ beside_installed edition ys
 beside_append None xs ys = refl

@@ -10,6 +10,7 @@ use Rattle.std.proofs.lemmas.Cmp.{on_total, then_total, int_ranked}
 use Rattle.std.proofs.lemmas.Int.{ints}
 use Rattle.std.proofs.lemmas.List.Sorted.{ranks_by, sorted_far}
 use Rattle.std.specs.Cmp.{nat_cmp_total}
+use Rattle.dict_text.proofs.AllLemmas.{all_map, all_unmapped}
 use Rattle.sqlite.specs.Order.{Row, column, value_cmp}
 use Rattle.sqlite.specs.declared.types.Value.TheVariants.{Int, Text}
 use Rattle.sqlite_value.proofs.OrderLemmas.{value_cmp_total, value_cmp-Int, then-Equal}
@@ -59,10 +60,6 @@ second_le s t m n same h =
 
 -- ---- the records of rows
 
-all_of_map : {X Y Z : Type 0} (f : X → Y) (g : X → Z) (P : Y → Type 0) (Q : Z → Type 0) → ((x : X) → P (f x) → Q (g x)) → (xs : List X) → AllByRecursion P (map f xs) → AllByRecursion Q (map g xs)
-all_of_map f g P Q w [] h = tt
-all_of_map f g P Q w (x ∷ xs) h = (w x h.0, all_of_map f g P Q w xs h.1)
-
 pub records_order : {X Y Z : Type 0} (f : X → Y) (g : X → Z) (R : Y → Y → Type 0) (T : Z → Z → Type 0) → ((a b : X) → R (f a) (f b) → T (g a) (g b)) → (xs : List X) → InOrder R (map f xs) → InOrder T (map g xs)
 records_order f g R T w [] h = tt
-records_order f g R T w (x ∷ xs) h = (all_of_map f g (R (f x)) (T (g x)) (w x) xs h.0, records_order f g R T w xs h.1)
+records_order f g R T w (x ∷ xs) h = (all_map (λ y. R (f x) (f y)) (T (g x)) g (w x) xs (all_unmapped (R (f x)) f xs h.0), records_order f g R T w xs h.1)

@@ -5,7 +5,7 @@ use Rattle.std.specs.List.{AllByRecursion, concat}
 use Rattle.std.proofs.lemmas.List.Elements.{filter-append}
 use Rattle.std.specs.List.Sorted.{IsPermutation}
 use Rattle.std.proofs.lemmas.List.Sorted.{IsPermutation-refl}
-use Rattle.dict_text.proofs.AllLemmas.{all_weaker, all_map}
+use Rattle.dict_text.proofs.AllLemmas.{all_weaker, all_map, all_unmapped}
 use Rattle.store_tables.specs.Records.{EditionRecord, EntryRecord, HeaderRecord, Part, header_of}
 use Rattle.dict_index.specs.Edition.{Edition as AnEdition, entry_in}
 use Rattle.dict_index.specs.Line.{Line}
@@ -19,6 +19,7 @@ use Rattle.store_rows.specs.Tables.{Tables, same_number, entries_of, editions_nu
 use Rattle.store_rows.specs.Written.{numbered, edition_record, entry_record}
 use Rattle.store_rows.specs.Stands.{HoldsEdition, HoldsEditions, IsWithin, has_number, Stands}
 use Rattle.store_rows.specs.Order.{InOrder}
+use Rattle.store_rows.proofs.ListLemmas.{each_numbered}
 use Rattle.store_rows.proofs.IndexLemmas.{says_one_list}
 use Rattle.store_rows.proofs.StoredLemmas.{of_entries}
 use Rattle.store_rows.proofs.PartLemmas.{parts_join}
@@ -30,22 +31,17 @@ use Rattle.store_rows.proofs.OrderLemmas.{IsIn, Same, Below, in_all, in_passed, 
 use Rattle.store_holdings.specs.Files.{part_at, file_parts, parts_under, edition_parts, all_parts, index_octets}
 use Rattle.store_holdings.specs.Holds.{AreOrphans}
 use Rattle.store_holdings.specs.Told.{HaveSameFiles}
-use Rattle.store_holdings.proofs.FileLemmas.{part_once, lines_back}
+use Rattle.store_holdings.proofs.FileLemmas.{passes, part_once, lines_back}
 use Rattle.store_holdings.proofs.OrphanLemmas.{beside_orphans}
-use Rattle.store_holdings.proofs.RiseLemmas.{order_weaker, ordered}
+use Rattle.store_holdings.proofs.RowLemmas.{filter_map}
+use Rattle.store_rows.proofs.RiseLemmas.{order_weaker, ordered}
 
 -- ---- one file of an edition
 
 -- its parts pass the test of their file
 of_file : (edition file one : ℤ) (b : Bool) → same_number file one ≡ b → (n : ℕ) (os : List (List ℕ)) → filter (λ (p : Part). same_number p.file one) (numbered (part_at edition file) n os) ≡ cond b (numbered (part_at edition file) n os) []
-of_file edition file one true e n [] = refl
-of_file edition file one false e n [] = refl
-of_file edition file one true e n (o ∷ os) =
-    let rest = filter (λ (p : Part). same_number p.file one) (numbered (part_at edition file) (n + 1) os) in
-    ap (λ b. cond b (part_at edition file n o ∷ rest) rest) e ∙ ap (λ l. part_at edition file n o ∷ l) (of_file edition file one true e (n + 1) os)
-of_file edition file one false e n (o ∷ os) =
-    let rest = filter (λ (p : Part). same_number p.file one) (numbered (part_at edition file) (n + 1) os) in
-    ap (λ b. cond b (part_at edition file n o ∷ rest) rest) e ∙ of_file edition file one false e (n + 1) os
+of_file edition file one b e n os =
+    passes (λ (p : Part). same_number p.file one) b (numbered (part_at edition file) n os) (each_numbered (part_at edition file) (λ (p : Part). same_number p.file one ≡ b) (λ n o. e) n os)
 
 pub index_under : (edition : ℤ) (index text : List ℕ) → filter (λ (p : Part). same_number p.file (pos 0)) (parts_under edition index text) ≡ file_parts edition (pos 0) index
 index_under edition index text =
@@ -75,14 +71,7 @@ file_once edition file x y same =
 -- ---- the record of an edition
 
 headers_of : (number : ℤ) (es : List EditionRecord) → filter (λ (h : HeaderRecord). same_number h.number number) (map header_of es) ≡ map header_of (editions_numbered number es)
-headers_of number [] = refl
-headers_of number (e ∷ es) = by (same_number e.number number) (headers_of number es)
-  where
-    by : (b : Bool) → filter (λ (h : HeaderRecord). same_number h.number number) (map header_of es) ≡ map header_of (editions_numbered number es)
-        → cond b (header_of e ∷ filter (λ (h : HeaderRecord). same_number h.number number) (map header_of es)) (filter (λ (h : HeaderRecord). same_number h.number number) (map header_of es))
-        ≡ map header_of (cond b (e ∷ editions_numbered number es) (editions_numbered number es))
-    by true rest = ap (λ l. header_of e ∷ l) rest
-    by false rest = rest
+headers_of number es = filter_map header_of (λ (e : EditionRecord). same_number e.number number) (λ (h : HeaderRecord). same_number h.number number) (λ e. refl) es
 
 one_of_map : {X Y : Type 0} (f : X → Y) (xs : List X) (y : Y) → map f xs ≡ y ∷ [] → (x : X) × (xs ≡ x ∷ []) × (f x ≡ y)
 one_of_map f [] y e = absurd (cc)
@@ -179,13 +168,9 @@ module _ (version : ℕ) (o p : List Part) (a b : Tables) (M N : Catalogue) (sam
   item_told : (item : Item AnEdition) → HoldsEditions a item → HasWellFormedEditions item → HoldsEditions b item
   item_told item h lawful = all_with (HoldsEdition a (name_of item)) (λ stored. IsWellFormedEdition stored.content) (HoldsEdition b (name_of item)) (edition_told (name_of item)) (editions_of item) h lawful
 
-  of_headers : (P : ℤ → Type 0) (es : List EditionRecord) → AllByRecursion (λ (x : HeaderRecord). P x.number) (map header_of es) → AllByRecursion (λ (e : EditionRecord). P e.number) es
-  of_headers P [] h = tt
-  of_headers P (e ∷ es) h = (h.0, of_headers P es h.1)
-
   numbers_told : AllByRecursion (λ (row : EditionRecord). IsTrue (has_number M.items row.number)) b.editions
   numbers_told =
-      of_headers (λ n. IsTrue (has_number M.items n)) b.editions
+      all_unmapped (λ (x : HeaderRecord). IsTrue (has_number M.items x.number)) header_of b.editions
       (all_same (λ (x : HeaderRecord). IsTrue (has_number M.items x.number)) (map header_of a.editions) (map header_of b.editions) same.headers
       (all_map (λ (e : EditionRecord). IsTrue (has_number M.items e.number)) (λ (x : HeaderRecord). IsTrue (has_number M.items x.number)) header_of (λ e k. k) a.editions sa.numbers))
 

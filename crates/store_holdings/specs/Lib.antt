@@ -5,7 +5,12 @@ pub mod Worked
 pub mod Readings
 pub mod Room
 pub mod Holds
-pub mod Texts
+pub mod HeldTexts
 pub mod Faults
 pub mod Committed
 pub mod Writing
+pub mod Indexes
+pub mod KeptTexts
+pub mod Searches
+pub mod CutTexts
+pub mod Taken

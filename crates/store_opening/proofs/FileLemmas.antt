@@ -17,7 +17,7 @@ use Rattle.store_rows.proofs.SelectionLemmas.{filter_filter}
 use Rattle.store_holdings.specs.Files.{file_parts, edition_parts, all_parts, index_octets}
 use Rattle.store_holdings.proofs.FileLemmas.{part_once, lines_back}
 use Rattle.store_holdings.proofs.TellLemmas.{index_under, text_under}
-use Rattle.store_lookup.proofs.RowLemmas.{filter_map}
+use Rattle.store_holdings.proofs.RowLemmas.{filter_map}
 use Rattle.store_scans.specs.Files.{file_rows, HasFile}
 use Rattle.store_scans.proofs.NumberLemmas.{behind_column, same_int}
 

@@ -29,7 +29,7 @@ use Rattle.store_rows.specs.Versions.{layout_of}
 use Rattle.store_holdings.proofs.ReadingLemmas.{marks_kept, items_kept, replies_kept}
 use Rattle.store_scans.specs.Takers.{KeptRow}
 use Rattle.store_scans.proofs.CodecLemmas.{Codec, read, read_stored, rows_order, listed_records, mark_codec, item_codec, kept_codec}
-use Rattle.store_lookup.proofs.RowLemmas.{column_behind}
+use Rattle.store_holdings.proofs.RowLemmas.{column_behind}
 use Rattle.store_holdings.specs.Holds.{Keeps}
 
 -- ---- the entries of one number

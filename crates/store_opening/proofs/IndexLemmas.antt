@@ -20,7 +20,7 @@ use Rattle.store_rows.proofs.OrderLemmas.{all_with}
 use Rattle.store_rows.proofs.LawfulLemmas.{numbers_as}
 use Rattle.store_scans.proofs.RowidLemmas.{all_of_map}
 use Rattle.store_search.specs.Entries.{Indexed, entry_of}
-use Rattle.store_lookup.specs.Indexes.{entries_under}
+use Rattle.store_holdings.specs.Indexes.{entries_under}
 use Rattle.store_holdings.specs.Holds.{Holds}
 use Rattle.store_holdings.proofs.ReadableLemmas.{held_readable}
 use Rattle.store_scans.specs.Entries.{HasEntries}

@@ -31,7 +31,7 @@ use Rattle.store_holdings.proofs.ReadingLemmas.{editions_kept, parts_kept}
 use Rattle.store_scans.specs.Entries.{HasWrongEntries, HasWrongRows, HasWrongIndex, next_entries}
 use Rattle.store_scans.proofs.CodecLemmas.{Codec, read, read_stored, selected_records, edition_codec, header_codec}
 use Rattle.store_scans.proofs.NumberLemmas.{first_number}
-use Rattle.store_lookup.proofs.FailLemmas.{all_contains}
+use Rattle.store_holdings.proofs.LookupLemmas.{all_contains}
 use Rattle.store_opening.specs.Opens.{Keeping, KeepsNone, AllGoOnFrom, CanReadOne, IsNotOne, HasRecord, HasNoEdition}
 use Rattle.store_opening.proofs.EntryLemmas.{HasEntryTable, IsEntryRow, entries_rows, entries_written}
 use Rattle.store_opening.proofs.FileLemmas.{has_index, has_text, headers_of}

@@ -27,7 +27,7 @@ use Rattle.store_rows.specs.declared.reader.Reader.{Reader}
 use Rattle.store_rows.proofs.AfterLemmas.{filter_none}
 use Rattle.store_rows.proofs.OrderLemmas.{all_passed, all_same}
 use Rattle.store_rows.proofs.SelectionLemmas.{filter_whole}
-use Rattle.store_lookup.proofs.RowLemmas.{filter_map}
+use Rattle.store_holdings.proofs.RowLemmas.{filter_map}
 use Rattle.store_holdings.specs.AllTables.{with_derived}
 use Rattle.store_holdings.specs.Files.{all_parts}
 use Rattle.store_holdings.specs.Holds.{AreOrphans}

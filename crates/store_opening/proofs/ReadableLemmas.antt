@@ -12,7 +12,7 @@ use Rattle.store_sql.specs.declared.records.ReadError.{ReadError}
 use Rattle.store_sql.specs.declared.records.ReadError.TheVariants.{NoRecord, Store}
 use Rattle.store_scans.specs.Reading.{fault_of_store, reading_fault_of}
 use Rattle.store_scans.specs.declared.fault.ReadingFault.TheVariants.{Damaged}
-use Rattle.store_lookup.proofs.FailLemmas.{all_contains}
+use Rattle.store_holdings.proofs.LookupLemmas.{all_contains}
 
 no_damage : (e : Error) → fault_of_store e ≡ Damaged → ⊥
 no_damage (SqliteFailure code.OutOfMemory) is = absurd (cc)

@@ -59,7 +59,7 @@ use Rattle.store_holdings.specs.Files.{part_at, file_parts, parts_under, edition
 use Rattle.store_holdings.specs.Holds.{Keeps, AreOrphans}
 use Rattle.store_holdings.specs.Readings.{KeepsRows, KeepsAll, editions, contents, table_name_of}
 use Rattle.store_holdings.proofs.ReadLemmas.{sorted_order, second_le, records_order}
-use Rattle.store_holdings.proofs.RiseLemmas.{ordered}
+use Rattle.store_rows.proofs.RiseLemmas.{ordered}
 use Rattle.store_holdings.proofs.ReadableLemmas.{held_readable}
 use Rattle.store_holdings.proofs.ReadingLemmas.{map_twice, members_kept, replies_kept, parts_kept}
 use Rattle.store_scans.specs.Census.{one_of, may_stand, may_be_in_contents, AreKnownApart}

@@ -10,7 +10,7 @@ use Rattle.store_rows.specs.Tables.{Tables}
 use Rattle.store_rows.specs.Stands.{HoldsEdition}
 use Rattle.store_rows.specs.Versions.{Layout}
 use Rattle.store_search.specs.Entries.{Indexed, entry_of}
-use Rattle.store_lookup.specs.Indexes.{entries_under}
+use Rattle.store_holdings.specs.Indexes.{entries_under}
 use Rattle.store_holdings.specs.Holds.{Holds}
 use Rattle.store_scans.specs.Entries.{HasEntries}
 use Rattle.store_scans.specs.Indexing.{indexed_of}

@@ -19,7 +19,7 @@ use crate::texts::read_edition;
 use sqlite::{Alter, Connection};
 use std::alloc::Global;
 use std::mem::replace;
-use store_lookup::Indexes;
+use store_holdings::Indexes;
 use store_rows::number_in;
 use store_scans::{
     EditionIndex, IndexingReader, ReadingFault, fault_of_rows, read_filed_entries,

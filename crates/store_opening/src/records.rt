@@ -19,7 +19,7 @@ use crate::strays::test_strays;
 use dict_catalogue::Summary;
 use sqlite::{Alter, Connection};
 use std::alloc::Global;
-use store_lookup::Indexes;
+use store_holdings::Indexes;
 use store_rows::Reader;
 use store_scans::{
     EditionIndex, IndexingReader, ReadingFault, fault_of_read, fault_of_rows, read_replies,

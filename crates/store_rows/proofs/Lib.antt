@@ -28,3 +28,4 @@ pub mod SpellingLemmas
 pub mod ColumnLemmas
 pub mod StoredLemmas
 pub mod IndexLemmas
+pub mod RiseLemmas

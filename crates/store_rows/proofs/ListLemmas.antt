@@ -1,5 +1,5 @@
 -- Lists whose elements have their places, filters, and what comes next in them.
-use Rattle.std.proofs.Common.{◌≡◌, ℕ, suc, ◌+◌, ◌≤◌, ◌<◌, ◌||◌, Bool, true, false, List, [], ◌∷◌, ◌++◌, length, take, drop, get_or, refl, ap, sym, ◌∙◌, arith, zero-add}
+use Rattle.std.proofs.Common.{◌≡◌, ℕ, zero, suc, ◌+◌, ◌≤◌, ◌<◌, ◌||◌, Bool, true, false, List, [], ◌∷◌, ◌++◌, length, take, drop, get_or, refl, ap, sym, ◌∙◌, arith, zero-add}
 use Rattle.std.specs.Prelude.{map, filter, cond}
 use Rattle.std.specs.List.{AllByRecursion, list_any}
 use Rattle.std.proofs.Math.ListN.{set}
@@ -15,6 +15,21 @@ use Rattle.store_rows.proofs.OnceLemmas.{head_same, tail_same}
 pub numbered_length : {X Y : Type 0} (f : ℕ → X → Y) (n : ℕ) (xs : List X) → length (numbered f n xs) ≡ length xs
 numbered_length f n [] = refl
 numbered_length f n (x ∷ xs) = ap suc (numbered_length f (n + 1) xs)
+
+pub all_numbered : {X Y : Type 0} (f : ℕ → X → Y) (P : X → Type 0) (Q : Y → Type 0) → ((n : ℕ) (x : X) → P x → Q (f n x)) → (n : ℕ) (xs : List X) → AllByRecursion P xs → AllByRecursion Q (numbered f n xs)
+all_numbered f P Q then n [] h = tt
+all_numbered f P Q then n (x ∷ xs) h = (then n x h.0, all_numbered f P Q then (n + 1) xs h.1)
+
+pub each_numbered : {X Y : Type 0} (f : ℕ → X → Y) (Q : Y → Type 0) → ((n : ℕ) (x : X) → Q (f n x)) → (n : ℕ) (xs : List X) → AllByRecursion Q (numbered f n xs)
+each_numbered f Q then n [] = tt
+each_numbered f Q then n (x ∷ xs) = (then n x, each_numbered f Q then (n + 1) xs)
+
+pub numbered_at : {X Y : Type 0} (f : ℕ → X → Y) (n : ℕ) (xs : List X) (i : ℕ) (d : X) (e : Y) → i < length xs → get_or (numbered f n xs) i e ≡ f (n + i) (get_or xs i d)
+numbered_at f n [] i d e lt = absurd (omega (arith, lt))
+numbered_at f n (x ∷ xs) zero d e lt = ap (λ k. f k x) (let same : n ≡ n + 0 = omega arith in same)
+numbered_at f n (x ∷ xs) (suc i) d e lt =
+    let same : (n + 1) + i ≡ n + suc i = omega arith in
+    numbered_at f (n + 1) xs i d e (let less : i < length xs = omega (arith, lt) in less) ∙ ap (λ k. f k (get_or xs i d)) same
 
 pub numbered_append : {X Y : Type 0} (f : ℕ → X → Y) (n : ℕ) (xs ys : List X) → numbered f n (xs ++ ys) ≡ numbered f n xs ++ numbered f (n + length xs) ys
 numbered_append f n [] ys = ap (λ k. numbered f k ys) (let e : n ≡ n + 0 = omega arith in e)

@@ -32,9 +32,9 @@ pub record Same {X : Type 0} (xs ys : List X) : Type 0 where
   pub back : (x : X) → IsIn x ys → IsIn x xs
   pub counts : (p : X → Bool) → total (λ x. cond (p x) 1 0) xs ≡ total (λ x. cond (p x) 1 0) ys
 
-all_in : {X : Type 0} (xs ys : List X) → ((x : X) → IsIn x ys → IsIn x xs) → AllByRecursion (λ x. IsIn x xs) ys
-all_in xs [] h = tt
-all_in xs (y ∷ ys) h = (h y (inl refl), all_in xs ys (λ x i. h x (inr i)))
+pub each_in : {X : Type 0} (P : X → Type 0) (xs : List X) → ((x : X) → IsIn x xs → P x) → AllByRecursion P xs
+each_in P [] h = tt
+each_in P (x ∷ xs) h = (h x (inl refl), each_in P xs (λ y i. h y (inr i)))
 
 pub in_all : {X : Type 0} (P : X → Type 0) (x : X) (ys : List X) → AllByRecursion P ys → IsIn x ys → P x
 in_all P x [] h i = absurd i
@@ -43,7 +43,7 @@ in_all P x (y ∷ ys) h (inr i) = in_all P x ys h.1 i
 
 one_way : {X : Type 0} (xs ys : List X) → IsPermutation xs ys → (x : X) → IsIn x ys → IsIn x xs
 one_way xs ys same x i =
-    in_all (λ y. IsIn y xs) x ys (recursion_from_All (λ y. IsIn y xs) ys (All-permutation (λ y. IsIn y xs) xs ys same (All-from_recursion (λ y. IsIn y xs) xs (all_in xs xs (λ y j. j))))) i
+    in_all (λ y. IsIn y xs) x ys (recursion_from_All (λ y. IsIn y xs) ys (All-permutation (λ y. IsIn y xs) xs ys same (All-from_recursion (λ y. IsIn y xs) xs (each_in (λ y. IsIn y xs) xs (λ y j. j))))) i
 
 fold_total : {X : Type 0} (f : X → ℕ) (a : ℕ) (xs : List X) → fold (λ (n : ℕ) (x : X). n + f x) a xs ≡ a + total f xs
 fold_total f a [] = let e : a ≡ a + 0 = omega arith in e

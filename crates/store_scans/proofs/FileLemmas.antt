@@ -28,7 +28,7 @@ use Rattle.store_rows.proofs.OrderLemmas.{Below, all_passed, all_same, same_from
 use Rattle.store_holdings.specs.Files.{part_at, file_parts}
 use Rattle.store_holdings.proofs.ReadLemmas.{one_le}
 use Rattle.store_scans.specs.Cursors.Cursor.{PartsOf}
-use Rattle.store_holdings.proofs.RiseLemmas.{order_weaker}
+use Rattle.store_rows.proofs.RiseLemmas.{order_weaker}
 use Rattle.store_scans.specs.Cursors.{IsScannedToEnd}
 use Rattle.store_scans.specs.Files.{file_rows, HasFile, HasNoFile, TakesParts, RefusesParts, AreNumbered, octets_of_part, number_of_part}
 use Rattle.store_scans.specs.Scans.{TakesAll, IsWrong}

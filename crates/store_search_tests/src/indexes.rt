@@ -5,7 +5,7 @@ use crate::checks::holds;
 use std::alloc::{AllocError, Global};
 use std::process::Abort;
 use std::test::Fail;
-use store_lookup::Indexes;
+use store_holdings::Indexes;
 use store_search::IndexBuilder;
 
 fn builder_of(alloc: Global, shown: &str) -> Result<IndexBuilder, AllocError>

@@ -2,7 +2,7 @@
 use std::alloc::Global;
 use std::process::Abort;
 use std::test::Fail;
-use store_lookup::{MAX_TEXTS, PartKey, TextParts};
+use store_holdings::{MAX_TEXTS, PartKey, TextParts};
 
 fn text(alloc: Global, octets: &[u8]) -> Result<Vec<u8>, Fail> {
     Ok(Vec::from_slice(alloc, octets)?)

@@ -5,7 +5,7 @@ use Rattle.sqlite.specs.Held.{state}
 use Rattle.store_sql.specs.Effects.{equals_text}
 use Rattle.store_holdings.specs.Faults.{FailsToReadCatalogue}
 use Rattle.store_commands.proofs.KeptLemmas.{replies_fail}
-use Rattle.store_holdings.proofs.FailLemmas.{refused_memory}
+use Rattle.store_commands.proofs.UnreadLemmas.{refused_memory}
 use Rattle.store_commands.proofs.replies.kept_reply.Goals as goal
 use Rattle.store_rows.specs.Versions.{known}
 

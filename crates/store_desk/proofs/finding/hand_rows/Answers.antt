@@ -7,9 +7,9 @@ use Rattle.dict_desk.specs.declared.fault.Fault.TheVariants.{Memory}
 use Rattle.dict_desk.specs.declared.lookup.End.{End}
 use Rattle.dict_desk.specs.declared.lookup.What.{What}
 use Rattle.dict_desk.specs.declared.lookup.What.TheVariants.{Entries}
-use Rattle.store_lookup.specs.Taken.{LooksAt}
-use Rattle.store_lookup.specs.Texts.{IsAtMostRead, FailsToFind}
-use Rattle.store_lookup.proofs.StateLemmas.{each_err}
+use Rattle.store_holdings.specs.Taken.{LooksAt}
+use Rattle.store_holdings.specs.CutTexts.{IsAtMostRead, FailsToFind}
+use Rattle.store_holdings.proofs.StateLemmas.{each_err}
 use Rattle.store_desk.proofs.finding.hand_rows.Goals as goal
 
 on_ok_alone : {X E : Type 0} (result : Result X E) (A : Type 0) → A → OnOk result A

@@ -1,8 +1,8 @@
 use Rattle.std.proofs.Common.{List, subst}
 use Rattle.std.specs.List.{AllByRecursion}
 use Rattle.dict_catalogue.specs.declared.summary.Item.{Item}
-use Rattle.store_lookup.specs.Indexes.{IsGone}
-use Rattle.store_lookup.proofs.NumberLemmas.{OfNumbers, Same}
+use Rattle.store_holdings.specs.Indexes.{IsGone}
+use Rattle.store_holdings.proofs.NumberLemmas.{OfNumbers, Same}
 use Rattle.store_desk.proofs.StandingLemmas.{gone_done, settled_done}
 use Rattle.store_desk.proofs.indexing.settle.Goals as goal
 

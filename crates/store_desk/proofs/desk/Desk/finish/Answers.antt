@@ -26,7 +26,7 @@ use Rattle.store_desk.proofs.CauseLemmas.{fails_to_apply}
 use Rattle.store_desk.proofs.DeskLemmas.{clean_behind, rests_on}
 use Rattle.store_desk.proofs.FinishLemmas.{finished_over, never_shut, none_by, reply_kind, unfinished_shows}
 use Rattle.store_desk.proofs.KeeperLemmas.{closed_by, others_by, told_rests, told_applies, told_leaves, told_spares, failed_by}
-use Rattle.store_lookup.proofs.NumberLemmas.{beside_one}
+use Rattle.store_holdings.proofs.NumberLemmas.{beside_one}
 use Rattle.store_desk.proofs.desk.Desk.finish.Goals as goal
 
 abbrev LeftBeside : State → Trees → Type 0

@@ -1,7 +1,7 @@
 use Rattle.std.proofs.Common.{false, refl, sym, subst}
 use Rattle.std.specs.Prelude.{None}
 use Rattle.sqlite.specs.Held.{state}
-use Rattle.store_lookup.specs.Texts.{ArePartsOf}
+use Rattle.store_holdings.specs.CutTexts.{ArePartsOf}
 use Rattle.dict_catalogue.specs.Views.{summary_shown}
 use Rattle.store_desk.specs.Desk.{ServesEdition}
 use Rattle.store_desk.specs.Indexed.{IsHeldCut}

@@ -6,10 +6,10 @@ use Rattle.dict_catalogue.specs.Views.{summary_shown}
 use Rattle.dict_desk.specs.Shown.{count_of}
 use Rattle.dict_desk.specs.declared.fault.Fault.{Fault}
 use Rattle.dict_desk.specs.declared.lookup.What.TheVariants.{Entries}
-use Rattle.store_lookup.specs.Taken.{LooksAt}
+use Rattle.store_holdings.specs.Taken.{LooksAt}
 use Rattle.store_desk.specs.Desk.{DeskState, Shows, LeavesOneOf, is_closed, KeepsBeside}
-use Rattle.store_lookup.specs.Indexes.{entries_under}
-use Rattle.store_lookup.proofs.StateLemmas.{each_ok}
+use Rattle.store_holdings.specs.Indexes.{entries_under}
+use Rattle.store_holdings.proofs.StateLemmas.{each_ok}
 use Rattle.store_desk.proofs.CauseLemmas.{memory_gives_way}
 use Rattle.store_desk.proofs.DeskLemmas.{texts_keep}
 use Rattle.store_desk.proofs.PreparingLemmas.{rests_as, shows_as}

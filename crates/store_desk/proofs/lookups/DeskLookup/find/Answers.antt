@@ -3,13 +3,13 @@ use Rattle.sqlite.specs.Effect.{Database}
 use Rattle.sqlite.specs.State.{HasCleanDisk}
 use Rattle.sqlite.specs.Held.{state}
 use Rattle.dict_catalogue.specs.Views.{summary_shown}
-use Rattle.store_holdings.specs.Texts.{HoldsText}
-use Rattle.store_lookup.specs.Searches.{number_in_column}
-use Rattle.store_lookup.specs.Texts.{ArePartsOf}
+use Rattle.store_holdings.specs.HeldTexts.{HoldsText}
+use Rattle.store_holdings.specs.Searches.{number_in_column}
+use Rattle.store_holdings.specs.CutTexts.{ArePartsOf}
 use Rattle.dict_desk.specs.Shown.{count_of}
 use Rattle.dict_desk.specs.declared.lookup.What.TheVariants.{Entries}
 use Rattle.store_search.specs.Entries.{Indexed}
-use Rattle.store_lookup.proofs.HeldLemmas.{held_tables}
+use Rattle.store_holdings.proofs.HeldLemmas.{held_tables}
 use Rattle.store_desk.specs.Desk.{DeskState, Shows, LeavesOneOf, is_closed, KeepsBeside}
 use Rattle.store_desk.specs.Left.{CountsLook, counted}
 use Rattle.store_desk.proofs.CauseLemmas.{found_gives_way}

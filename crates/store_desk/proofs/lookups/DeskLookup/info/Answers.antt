@@ -8,8 +8,8 @@ use Rattle.sqlite.specs.Held.{state}
 use Rattle.dict_catalogue.specs.Views.{summary_shown}
 use Rattle.store_holdings.specs.Holds.{Holds}
 use Rattle.store_rows.specs.Versions.{known}
-use Rattle.store_lookup.specs.Searches.{number_in_column}
-use Rattle.store_lookup.proofs.HeldLemmas.{held_one, held_tables}
+use Rattle.store_holdings.specs.Searches.{number_in_column}
+use Rattle.store_holdings.proofs.HeldLemmas.{held_one, held_tables}
 use Rattle.store_desk.specs.Desk.{DeskState, Shows, LeavesOneOf, is_closed, KeepsBeside}
 use Rattle.store_desk.specs.Left.{CountsLook, counted}
 use Rattle.store_desk.proofs.CauseLemmas.{lookup_gives_way}
@@ -21,7 +21,7 @@ use Rattle.dict_desk.specs.Shown.{info_rows}
 use Rattle.dict_desk.specs.declared.fault.Fault.{Fault}
 use Rattle.dict_desk.specs.declared.lookup.End.{End}
 use Rattle.dict_desk.specs.declared.lookup.End.TheVariants.{All}
-use Rattle.store_lookup.specs.Taken.{more_taken, LooksAt}
+use Rattle.store_holdings.specs.Taken.{more_taken, LooksAt}
 use Rattle.store_desk.proofs.lookups.DeskLookup.info.Goals as goal
 
 pub info-outcome-requires : goal.info-outcome-requires
