@@ -9,7 +9,7 @@ use Rattle.sqlite.specs.Held.{Held, state}
 use Rattle.sqlite.specs.declared.error.Error.{Error}
 use Rattle.sqlite_trees.specs.declared.store.Store.{Ghosts}
 use Rattle.store_sql.specs.Inserts.{Inserts, FailsToInsert}
-use Rattle.store_edition_sql.specs.HeaderRecords.{header_row}
+use Rattle.store_sql.specs.HeaderRecords.{header_row}
 use Rattle.store_tables.specs.Records.{EditionRecord, HeaderRecord, header_of}
 use Rattle.store_rows.specs.After.{Installed, TableChange, installed_editions}
 use Rattle.store_rows.specs.Written.{edition_record}

@@ -5,9 +5,9 @@ use Rattle.sqlite.specs.State.{State}
 use Rattle.sqlite.specs.Held.{Held, state}
 use Rattle.sqlite.specs.declared.error.Error.{Error}
 use Rattle.sqlite_trees.specs.declared.store.Store.{Ghosts}
-use Rattle.store_sql.specs.Effects.{CountsFaults}
+use Rattle.store_tables.specs.Effects.{CountsFaults}
 use Rattle.store_sql.specs.Statements.{Statement, make, add, remove, FailsTo, FailsInTurn}
-use Rattle.store_sql.proofs.MakeLemmas.{counts_since}
+use Rattle.store_tables.proofs.MakeLemmas.{counts_since}
 
 fails_counts : (one : Statement) (old new : State) (e : Error) → FailsTo one old new e → CountsFaults old new e
 fails_counts (make table) old new e h = h.counts

@@ -17,9 +17,9 @@ use Rattle.sqlite.specs.declared.error.Error.{Error}
 use Rattle.sqlite_trees.specs.declared.store.Store.{Ghosts}
 use Rattle.dict_text.proofs.AllLemmas.{all_drop, all_take, all_weaker}
 use Rattle.store_tables.specs.Records.{EntryRecord, Part}
-use Rattle.store_sql.specs.Effects.{equals_number, rows_of}
+use Rattle.store_tables.specs.Effects.{equals_number, rows_of}
 use Rattle.store_sql.specs.Statements.{Statement, make, add, remove, Succeeds, RunInTurn}
-use Rattle.store_edition_sql.specs.PartRecords.{part_row}
+use Rattle.store_sql.specs.PartRecords.{part_row}
 use Rattle.store_rows.specs.After.{Installed, TableChange, is_gone}
 use Rattle.store_rows.specs.Tables.{same_number}
 use Rattle.store_rows.specs.Versions.{known}

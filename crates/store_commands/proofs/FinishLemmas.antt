@@ -13,7 +13,7 @@ use Rattle.dict_desk.specs.declared.fault.Fault.{Fault}
 use Rattle.dict_desk.specs.declared.fault.Fault.TheVariants.{Refused, Memory, Disk, Closed, NotACatalogue, Damaged, NewerSchema}
 use Rattle.dict_index.specs.Edition.{Edition}
 use Rattle.dict_text.specs.Names.{is_request_id}
-use Rattle.store_sql.specs.Effects.{WhileOpen}
+use Rattle.store_tables.specs.Effects.{WhileOpen}
 use Rattle.store_sql.specs.Statements.{RunInTurn}
 use Rattle.dict_catalogue.specs.Commands.{Command}
 use Rattle.dict_catalogue.specs.Tests.{Holdings}

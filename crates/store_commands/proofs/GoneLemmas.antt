@@ -11,7 +11,7 @@ use Rattle.sqlite.specs.Effect.{Database}
 use Rattle.sqlite.specs.Order.{Row, column}
 use Rattle.sqlite.specs.declared.types.Value.{Value}
 use Rattle.sqlite.specs.declared.types.Value.TheVariants.{Int}
-use Rattle.store_sql.specs.Effects.{IsRemoved, equals_number, same_value}
+use Rattle.store_tables.specs.Effects.{IsRemoved, equals_number, same_value}
 use Rattle.store_tables.specs.Records.{EditionRecord, EntryRecord}
 use Rattle.store_rows.specs.Tables.{same_number}
 use Rattle.store_rows.specs.After.{is_gone}

@@ -12,7 +12,7 @@ use Rattle.sqlite.specs.Effect.{Database}
 use Rattle.sqlite.specs.Order.{Row}
 use Rattle.sqlite.specs.declared.types.Value.{Value}
 use Rattle.sqlite.specs.declared.types.Value.TheVariants.{Int, Text}
-use Rattle.store_sql.specs.Effects.{equals_text, rows_of}
+use Rattle.store_tables.specs.Effects.{equals_text, rows_of}
 use Rattle.store_sql.specs.Encodings.{kept_row, number_or_null, stored_kept}
 use Rattle.store_sql.specs.Reads.{IsSelection}
 use Rattle.store_tables.specs.Records.{KeptRecord}

@@ -6,7 +6,7 @@ use Rattle.std.proofs.lemmas.List.Sorted.{IsPermutation-sym, IsPermutation-trans
 use Rattle.sqlite.specs.Effect.{Database}
 use Rattle.sqlite.specs.State.{State, HasCleanDisk}
 use Rattle.store_tables.specs.Records.{Mark}
-use Rattle.store_edition_sql.specs.PartRecords.{part_row}
+use Rattle.store_sql.specs.PartRecords.{part_row}
 use Rattle.dict_catalogue.specs.Items.{edition_numbers}
 use Rattle.dict_catalogue.specs.Steps.{Catalogue, summary_of}
 use Rattle.dict_catalogue.specs.Tests.{Holdings}

@@ -11,10 +11,10 @@ use Rattle.sqlite.specs.declared.error.Error.{Error}
 use Rattle.sqlite.specs.declared.types.Value.TheVariants.{Int}
 use Rattle.sqlite_trees.specs.declared.store.Store.{Ghosts}
 use Rattle.store_sql.specs.Deletes.{Removes, FailsToRemove}
-use Rattle.store_sql.specs.Effects.{IsRemoved, count_in, equals_number, rows_of}
+use Rattle.store_tables.specs.Effects.{IsRemoved, count_in, equals_number, rows_of}
 use Rattle.store_sql.specs.Statements.{Statement, remove}
-use Rattle.store_edition_sql.specs.PartRecords.{part_row}
-use Rattle.store_edition_sql.specs.Chosen.{is_of_file, is_part_from}
+use Rattle.store_sql.specs.PartRecords.{part_row}
+use Rattle.store_sql.specs.ChosenParts.{is_of_file, is_part_from}
 use Rattle.store_tables.specs.Records.{Part}
 use Rattle.store_rows.specs.After.{is_gone}
 use Rattle.store_rows.proofs.SelectionLemmas.{filter_filter}

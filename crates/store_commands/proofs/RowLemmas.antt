@@ -11,8 +11,8 @@ use Rattle.sqlite.specs.Effect.{Database}
 use Rattle.sqlite.specs.Order.{Row}
 use Rattle.sqlite_value.proofs.OrderLemmas.{value_cmp-Int}
 use Rattle.sqlite.specs.declared.types.Value.TheVariants.{Int}
-use Rattle.store_sql.specs.Effects.{HasApartRowids, same_value, IsRemoved, equals_number, rows_of}
-use Rattle.store_sql.proofs.Callers.{apart_removed, apart_none}
+use Rattle.store_tables.specs.Effects.{HasApartRowids, same_value, IsRemoved, equals_number, rows_of}
+use Rattle.store_tables.proofs.Callers.{apart_removed, apart_none}
 use Rattle.store_rows.specs.Tables.{same_number}
 use Rattle.store_rows.proofs.TakenLemmas.{same_number_is, same_itself}
 use Rattle.store_holdings.specs.Holds.{Keeps}

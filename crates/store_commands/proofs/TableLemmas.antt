@@ -13,14 +13,14 @@ use Rattle.sqlite_schema.specs.Names.{table_named}
 use Rattle.dict_text.proofs.AllLemmas.{all_weaker}
 use Rattle.store_tables.specs.Found.{HasOwn, found_table}
 use Rattle.store_tables.specs.Tables.{mark, item, member, kept}
-use Rattle.store_sql.specs.Effects.{Has, HasApartRowids, IsAdded, IsRemoved, SameOthers, rows_of, table_in}
+use Rattle.store_tables.specs.Effects.{Has, HasApartRowids, IsAdded, IsRemoved, SameOthers, rows_of, table_in}
 use Rattle.store_sql.specs.Deletes.{HasToRemove}
 use Rattle.store_sql.specs.Encodings.{mark_row, item_row, member_row, kept_row}
-use Rattle.store_sql.proofs.Callers.{own_has}
-use Rattle.store_edition_sql.specs.HeaderTable.{header}
-use Rattle.store_edition_sql.specs.HeaderRecords.{header_row}
-use Rattle.store_edition_sql.specs.PartTable.{part}
-use Rattle.store_edition_sql.specs.PartRecords.{part_row}
+use Rattle.store_tables.proofs.Callers.{own_has}
+use Rattle.store_sql.specs.HeaderTable.{header}
+use Rattle.store_sql.specs.HeaderRecords.{header_row}
+use Rattle.store_sql.specs.PartTable.{part}
+use Rattle.store_sql.specs.PartRecords.{part_row}
 use Rattle.store_tables.specs.Records.{Mark, ItemRecord, Member, EditionRecord, EntryRecord, Part, KeptRecord, header_of}
 use Rattle.store_rows.specs.Versions.{Parted}
 use Rattle.store_holdings.specs.AllTables.{AllTables}

@@ -19,8 +19,8 @@ use Rattle.dict_catalogue.specs.declared.summary.Item.{Item}
 use Rattle.dict_catalogue.specs.Steps.{Catalogue, summary_of}
 use Rattle.dict_catalogue.specs.Tests.{Holdings}
 use Rattle.store_tables.specs.Records.{EditionRecord, Part}
-use Rattle.store_edition_sql.specs.PartRecords.{part_row}
-use Rattle.store_sql.specs.Effects.{equals_number}
+use Rattle.store_sql.specs.PartRecords.{part_row}
+use Rattle.store_tables.specs.Effects.{equals_number}
 use Rattle.store_rows.specs.Versions.{known}
 use Rattle.store_rows.specs.Stands.{Stands, has_number}
 use Rattle.store_rows.specs.Tables.{Tables, same_number, entries_of}

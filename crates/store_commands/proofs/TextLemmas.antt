@@ -9,9 +9,9 @@ use Rattle.sqlite_trees.proofs.ListLemmas.{IsPermutation-filter}
 use Rattle.sqlite.specs.Effect.{Database}
 use Rattle.sqlite.specs.Order.{Row}
 use Rattle.dict_text.proofs.AllLemmas.{all_append}
-use Rattle.store_sql.specs.Effects.{equals_number, rows_of}
-use Rattle.store_edition_sql.specs.PartRecords.{part_row}
-use Rattle.store_edition_sql.specs.Chosen.{is_of_file}
+use Rattle.store_tables.specs.Effects.{equals_number, rows_of}
+use Rattle.store_sql.specs.PartRecords.{part_row}
+use Rattle.store_sql.specs.ChosenParts.{is_of_file}
 use Rattle.store_tables.specs.Records.{Part}
 use Rattle.store_rows.specs.Parts.{parts_of}
 use Rattle.store_rows.specs.Stored.{stored_index}

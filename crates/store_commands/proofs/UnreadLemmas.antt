@@ -7,8 +7,8 @@ use Rattle.sqlite.specs.declared.error.Error.{Error}
 use Rattle.sqlite.specs.State.{State, IsUnchanged}
 use Rattle.dict_text.proofs.AllLemmas.{all_filter}
 use Rattle.store_sql.specs.Columns.{Content, HasColumns}
-use Rattle.store_sql.specs.Effects.{rows_of}
-use Rattle.store_sql.specs.Reads.{FailsToRead, FailsToList}
+use Rattle.store_tables.specs.Effects.{rows_of, FailsToRead}
+use Rattle.store_sql.specs.Reads.{FailsToList}
 use Rattle.store_sql.proofs.StreamLemmas.{passed_on}
 use Rattle.store_sql.specs.declared.records.ReadError.{ReadError}
 use Rattle.store_sql.specs.declared.records.ReadError.TheVariants.{NoRecord, Store}

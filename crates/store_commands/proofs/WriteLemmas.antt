@@ -13,7 +13,7 @@ use Rattle.sqlite.proofs.StateLemmas.{survives_then}
 use Rattle.sqlite.specs.Held.{Held, state}
 use Rattle.sqlite.specs.declared.error.Error.{Error}
 use Rattle.sqlite_trees.specs.declared.store.Store.{Ghosts}
-use Rattle.store_sql.specs.Effects.{WhileOpen, IsAdded, IsRemoved, GoesOn}
+use Rattle.store_tables.specs.Effects.{WhileOpen, IsAdded, IsRemoved, GoesOn}
 use Rattle.store_sql.specs.Inserts.{Inserts, FailsToInsert}
 use Rattle.store_sql.specs.Deletes.{Removes, FailsToRemove}
 use Rattle.store_sql.specs.Statements.{Statement, add, remove, Succeeds, FailsTo}

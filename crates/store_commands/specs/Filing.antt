@@ -7,7 +7,7 @@ use Rattle.sqlite.specs.declared.error.Error.TheVariants.{SqliteFailure}
 use Rattle.sqlite.specs.declared.error.ErrorCode.TheVariants as code
 use Rattle.store_sql.specs.Statements.{Statement}
 use Rattle.store_tables.specs.Records.{Part}
-use Rattle.store_edition_sql.specs.PartRecords.{part_row}
+use Rattle.store_sql.specs.PartRecords.{part_row}
 use Rattle.dict_desk.specs.declared.fault.Fault.{Fault}
 use Rattle.dict_desk.specs.declared.fault.Fault.TheVariants.{Memory, Disk}
 use Rattle.store_rows.specs.Stored.{stored_index}

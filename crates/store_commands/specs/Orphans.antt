@@ -4,7 +4,7 @@ use Rattle.sqlite.specs.Effect.{Database}
 use Rattle.sqlite.specs.Held.{Held, state}
 use Rattle.sqlite.specs.State.{HasCleanDisk}
 use Rattle.sqlite_trees.specs.declared.store.Store.{Ghosts}
-use Rattle.store_sql.specs.Effects.{count_in, equals_number}
+use Rattle.store_tables.specs.Effects.{count_in, equals_number}
 use Rattle.store_sql.specs.Statements.{Statement}
 use Rattle.store_tables.specs.Records.{Part}
 use Rattle.dict_desk.specs.declared.fault.Fault.{Fault}

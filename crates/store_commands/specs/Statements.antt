@@ -3,12 +3,12 @@ use Rattle.std.specs.Prelude.{ℕ, ℤ, pos, true, List, [], ◌∷◌, ◌++◌
 use Rattle.store_tables.specs.Tables.{table_of}
 use Rattle.store_tables.specs.declared.tables.StoreTable.{StoreTable}
 use Rattle.store_tables.specs.declared.tables.StoreTable.TheVariants as table
-use Rattle.store_sql.specs.Effects.{equals_number}
+use Rattle.store_tables.specs.Effects.{equals_number}
 use Rattle.store_sql.specs.Encodings.{mark_row, item_row, member_row, kept_row}
 use Rattle.store_sql.specs.Statements.{Statement, add, remove}
-use Rattle.store_edition_sql.specs.HeaderRecords.{header_row}
-use Rattle.store_edition_sql.specs.PartRecords.{part_row}
-use Rattle.store_edition_sql.specs.Chosen.{is_part_from}
+use Rattle.store_sql.specs.HeaderRecords.{header_row}
+use Rattle.store_sql.specs.PartRecords.{part_row}
+use Rattle.store_sql.specs.ChosenParts.{is_part_from}
 use Rattle.store_tables.specs.Records.{Mark, ItemRecord, Member, EditionRecord, Part, KeptRecord, header_of}
 use Rattle.store_holdings.specs.Files.{installed_parts}
 use Rattle.dict_catalogue.specs.Items.{Item}

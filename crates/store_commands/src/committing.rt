@@ -2,7 +2,7 @@
 ghost use Rattle.std.specs.Prelude.{◌≡◌, false, IsTrue, IfErr, OnErr, OnOk};
 ghost use Rattle.sqlite.specs.State.{HasCleanDisk, Survives};
 ghost use Rattle.sqlite.specs.Held.{state};
-ghost use Rattle.store_sql.specs.Effects.{WhileOpen};
+ghost use Rattle.store_tables.specs.Effects.{WhileOpen};
 ghost use Rattle.dict_desk.specs.Faults.{is_disk};
 ghost use Rattle.store_rows.specs.Versions.{known};
 ghost use Rattle.store_holdings.specs.AllTables.{all_after};
@@ -20,7 +20,7 @@ use dict_desk::Fault;
 use sqlite::{Alter, Connection};
 use std::alloc::Global;
 use store_holdings::fault_of;
-use store_sql::commit::commit;
+use store_tables::commit::commit;
 
 // Makes what was planned of a command by one commit, where the index of the edition that it installs is these octets.
 fn commit_files<S: Alter>(

@@ -1,7 +1,7 @@
 // The editions that go, and the one that is installed.
 ghost use Rattle.std.specs.Prelude.{◌≡◌, ◌≤◌, [], ◌∷◌, IfErr, OnOk, Option, flat_map, length, map, option_copied, option_map, slice_range};
 ghost use Rattle.sqlite.specs.Held.{state};
-ghost use Rattle.store_sql.specs.Effects.{WhileOpen};
+ghost use Rattle.store_tables.specs.Effects.{WhileOpen};
 ghost use Rattle.store_tables.specs.Records.{header_of};
 ghost use Rattle.store_tables.specs.Typed.{lent_header};
 ghost use Rattle.dict_index.specs.Edition.{ReadEdition};
@@ -16,9 +16,10 @@ ghost use Rattle.store_commands.specs.Writes.{WroteStatements, FailsToWrite, Com
 use crate::files::{EditionFiles, add_parts};
 use dict_catalogue::Command;
 use sqlite::{Alter, Error};
-use store_edition_sql::{delete_header, delete_parts, delete_parts_from, insert_header};
-use store_sql::transaction::OpenTransaction;
+use store_sql::header_statements::{delete_header, insert_header};
+use store_sql::part_statements::{delete_parts, delete_parts_from};
 use store_tables::HeaderRecord;
+use store_tables::transaction::OpenTransaction;
 
 // A statement has all rows that it takes out in memory, so a text goes 128 parts, which are 2 MiB, at a time, and then an index does. Each of
 // these is a file, 1 the text and 0 the index, and the number from which on its parts go, the last ones first.

@@ -4,7 +4,7 @@ ghost use Rattle.sqlite.specs.Effect.{IsDatabase};
 ghost use Rattle.sqlite.specs.State.{HasCleanDisk, IsUnchanged, Survives};
 ghost use Rattle.sqlite.specs.Held.{state};
 ghost use Rattle.dict_text.specs.Names.{is_request_id};
-ghost use Rattle.store_sql.specs.Effects.{WhileOpen};
+ghost use Rattle.store_tables.specs.Effects.{WhileOpen};
 ghost use Rattle.dict_index.specs.Edition.{ReadEdition, edition_of};
 ghost use Rattle.dict_index.specs.Meaning.{IsRead, IsReadEdition};
 ghost use Rattle.dict_catalogue.specs.Commands.{install};
@@ -43,8 +43,8 @@ use dict_text::is_request_id;
 use sqlite::{Alter, Connection, Error};
 use std::alloc::Global;
 use store_holdings::fault_of;
-use store_sql::commit::commit;
-use store_sql::transaction::OpenTransaction;
+use store_tables::commit::commit;
+use store_tables::transaction::OpenTransaction;
 
 // Whether the change is under the filing's number.
 fn is_planned_so(filing: &Filing, change: &PlannedChange) -> bool

@@ -2,11 +2,11 @@
 ghost use Rattle.std.specs.Prelude.{◌≡◌, ◌≤◌, ◌<◌, [], IfErr, IfOk, OnOk, length, map, pos, slice_index_or, slice_range};
 ghost use Rattle.std.specs.List.{AllByRecursion};
 ghost use Rattle.sqlite.specs.Held.{state};
-ghost use Rattle.store_sql.specs.Effects.{WhileOpen};
+ghost use Rattle.store_tables.specs.Effects.{WhileOpen};
 ghost use Rattle.dict_index.specs.Views.{line_of};
 ghost use Rattle.store_rows.specs.Stored.{stored_index, IsStorable as IsStorableLine};
 ghost use Rattle.store_rows.specs.Parts.{parts_of};
-ghost use Rattle.store_edition_sql.specs.PartRecords.{lent_part};
+ghost use Rattle.store_sql.specs.PartRecords.{lent_part};
 ghost use Rattle.store_holdings.specs.Files.{part_at};
 ghost use Rattle.store_commands.specs.KeptRecords.{IsUsable, FitsColumn};
 ghost use Rattle.store_commands.specs.Statements.{adding_part};
@@ -18,9 +18,10 @@ use dict_catalogue::Command;
 use dict_index::{Edition, Entry};
 use sqlite::{Alter, Error};
 use std::alloc::{AllocError, Global};
-use store_edition_sql::{Part, insert_part};
 use store_rows::{PART_SIZE, part, write_line};
-use store_sql::transaction::OpenTransaction;
+use store_sql::part_records::Part;
+use store_sql::part_statements::insert_part;
+use store_tables::transaction::OpenTransaction;
 
 // An index has file 0 of its edition, and a text file 1.
 const INDEX: i64 = 0;

@@ -3,7 +3,7 @@ ghost use Rattle.std.specs.Prelude.{◌≡◌, false, IsTrue, Some, IfErr, IfSom
 ghost use Rattle.sqlite.specs.Disk.{MoreFaults};
 ghost use Rattle.sqlite.specs.State.{HasCleanDisk, Survives};
 ghost use Rattle.sqlite.specs.Held.{state};
-ghost use Rattle.store_sql.specs.Effects.{WhileOpen};
+ghost use Rattle.store_tables.specs.Effects.{WhileOpen};
 ghost use Rattle.dict_catalogue.specs.Views.{summary_shown};
 ghost use Rattle.store_commands.specs.KeptRecords.{TurnsRecords, IsUsable, FitsColumn};
 ghost use Rattle.store_commands.specs.Changes.{with_mark};
@@ -19,7 +19,7 @@ use crate::small::write_mark;
 use dict_catalogue::Summary;
 use dict_desk::Fault;
 use sqlite::{Alter, Connection};
-use store_sql::commit::commit;
+use store_tables::commit::commit;
 
 // Writes the mark with this count of installs by one commit.
 fn commit_mark<S: Alter>(conn: &mut Connection<S>, installs: u64) -> Result<(), Option<Fault>>

@@ -5,7 +5,7 @@ ghost use Rattle.sqlite.specs.Disk.{MoreFaults};
 ghost use Rattle.sqlite.specs.Effect.{IsDatabase};
 ghost use Rattle.sqlite.specs.State.{HasCleanDisk, Survives};
 ghost use Rattle.sqlite.specs.Held.{state};
-ghost use Rattle.store_sql.specs.Effects.{WhileOpen};
+ghost use Rattle.store_tables.specs.Effects.{WhileOpen};
 ghost use Rattle.dict_catalogue.specs.Items.{numbers_of};
 ghost use Rattle.dict_catalogue.specs.Views.{item_shown, summary_shown};
 ghost use Rattle.store_commands.specs.KeptRecords.{IsUsable, FitsColumn};
@@ -22,9 +22,9 @@ use crate::parts::fault_filed;
 use dict_catalogue::{Item, Summary};
 use dict_desk::Fault;
 use sqlite::{Alter, Connection, Error};
-use store_edition_sql::{delete_parts, delete_parts_from};
-use store_sql::commit::commit;
-use store_sql::transaction::OpenTransaction;
+use store_sql::part_statements::{delete_parts, delete_parts_from};
+use store_tables::commit::commit;
+use store_tables::transaction::OpenTransaction;
 
 // One commit takes out so many parts at least, where there are as many, and 128 more at most.
 const ENOUGH: usize = 64;

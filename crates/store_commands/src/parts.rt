@@ -4,7 +4,7 @@ ghost use Rattle.sqlite.specs.Disk.{MoreFaults};
 ghost use Rattle.sqlite.specs.Effect.{IsDatabase};
 ghost use Rattle.sqlite.specs.State.{HasCleanDisk, Survives, is_disk_error};
 ghost use Rattle.sqlite.specs.Held.{state};
-ghost use Rattle.store_sql.specs.Effects.{WhileOpen};
+ghost use Rattle.store_tables.specs.Effects.{WhileOpen};
 ghost use Rattle.store_sql.specs.Statements.{Statement};
 ghost use Rattle.dict_catalogue.specs.Views.{summary_shown};
 ghost use Rattle.store_holdings.specs.Committed.{IsCommitted, IsTreesOf};
@@ -23,8 +23,8 @@ use crate::filing::Filing;
 use dict_catalogue::Summary;
 use dict_desk::Fault;
 use sqlite::{Alter, Connection, Error, ErrorCode};
-use store_sql::commit::commit;
-use store_sql::transaction::OpenTransaction;
+use store_tables::commit::commit;
+use store_tables::transaction::OpenTransaction;
 
 // So many parts are filed at a time: 512 KiB.
 const PARTS: usize = 32;

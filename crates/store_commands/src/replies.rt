@@ -3,7 +3,7 @@ ghost use Rattle.std.specs.Prelude.{◌≡◌, ◌≢◌, ℕ, List, Option, fal
 ghost use Rattle.sqlite.specs.State.{HasCleanDisk, IsUnchanged, Survives};
 ghost use Rattle.sqlite.specs.Held.{state};
 ghost use Rattle.store_tables.specs.Tables.{kept as kept_table};
-ghost use Rattle.store_sql.specs.Effects.{Has, WhileOpen};
+ghost use Rattle.store_tables.specs.Effects.{Has, WhileOpen};
 ghost use Rattle.store_tables.specs.Typed.{owned_kept};
 ghost use Rattle.dict_catalogue.specs.Steps.{Catalogue, KeptFor, kept_under};
 ghost use Rattle.dict_catalogue.specs.Views.{kept_shown};

@@ -4,7 +4,7 @@ ghost use Rattle.std.specs.List.{AllByRecursion};
 ghost use Rattle.sqlite.specs.Effect.{IsDatabase};
 ghost use Rattle.sqlite.specs.State.{HasCleanDisk};
 ghost use Rattle.sqlite.specs.Held.{state};
-ghost use Rattle.store_sql.specs.Effects.{WhileOpen};
+ghost use Rattle.store_tables.specs.Effects.{WhileOpen};
 ghost use Rattle.dict_catalogue.specs.Items.{name_of, members_of, numbers_of};
 ghost use Rattle.dict_catalogue.specs.Views.{item_shown, texts_shown};
 ghost use Rattle.store_rows.specs.Written.{numbered, item_record, member_record};
@@ -20,8 +20,8 @@ use sqlite::{Alter, Error};
 use store_rows::{KNOWN_VERSION, item_row, mark_row, member_row};
 use store_sql::delete::clear_table;
 use store_sql::insert::{insert_item, insert_mark, insert_member};
-use store_sql::transaction::OpenTransaction;
 use store_tables::StoreTable;
+use store_tables::transaction::OpenTransaction;
 
 /// Writes the mark anew, with the count of installs.
 pub(crate) fn write_mark<S: Alter, T: OpenTransaction<S>>(

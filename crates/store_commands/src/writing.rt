@@ -4,7 +4,7 @@ ghost use Rattle.std.specs.List.{AllByRecursion};
 ghost use Rattle.sqlite.specs.Effect.{IsDatabase};
 ghost use Rattle.sqlite.specs.State.{HasCleanDisk};
 ghost use Rattle.sqlite.specs.Held.{state};
-ghost use Rattle.store_sql.specs.Effects.{WhileOpen};
+ghost use Rattle.store_tables.specs.Effects.{WhileOpen};
 ghost use Rattle.dict_catalogue.specs.Items.{numbers_of};
 ghost use Rattle.dict_catalogue.specs.Views.{item_shown, kept_shown};
 ghost use Rattle.store_tables.specs.Typed.{lent_header};
@@ -22,8 +22,8 @@ use dict_catalogue::{Command, Kept, PlannedChange, Summary};
 use sqlite::{Alter, Error};
 use store_rows::kept_row;
 use store_sql::insert::insert_kept;
-use store_sql::transaction::OpenTransaction;
 use store_tables::HeaderRecord;
+use store_tables::transaction::OpenTransaction;
 
 /// Writes the mark, the items and the members of a summary anew.
 pub(crate) fn write_summary<S: Alter, T: OpenTransaction<S>>(

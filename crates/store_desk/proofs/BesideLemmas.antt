@@ -13,11 +13,11 @@ use Rattle.store_tables.specs.Tables.{item, kept, mark, member}
 use Rattle.store_tables.specs.declared.tables.StoreTable.TheVariants as store
 use Rattle.store_tables.proofs.MadeLemmas.{found_is, store_defined}
 use Rattle.store_tables.proofs.PlaceLemmas.{found}
-use Rattle.store_sql.specs.Effects.{rows_of, table_in}
-use Rattle.store_edition_sql.specs.HeaderTable.{header}
-use Rattle.store_edition_sql.specs.PartTable.{part}
-use Rattle.store_edition_sql.proofs.HeaderDefinitionLemmas.{header_defined}
-use Rattle.store_edition_sql.proofs.PartDefinitionLemmas.{part_defined}
+use Rattle.store_tables.specs.Effects.{rows_of, table_in}
+use Rattle.store_sql.specs.HeaderTable.{header}
+use Rattle.store_sql.specs.PartTable.{part}
+use Rattle.store_sql.proofs.HeaderDefinitionLemmas.{header_defined}
+use Rattle.store_sql.proofs.PartDefinitionLemmas.{part_defined}
 use Rattle.store_rows.specs.Versions.{known, layout_of}
 use Rattle.store_holdings.specs.Committed.{IsTreesOf}
 use Rattle.store_holdings.specs.Holds.{HasLayout}

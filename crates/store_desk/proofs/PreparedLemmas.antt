@@ -9,7 +9,7 @@ use Rattle.dict_catalogue.specs.Steps.{Catalogue}
 use Rattle.dict_catalogue.specs.Tests.{Holdings}
 use Rattle.store_rows.specs.Versions.{known, layout_of}
 use Rattle.store_holdings.specs.Holds.{HasLayout, Holds}
-use Rattle.store_sql.specs.Effects.{Has}
+use Rattle.store_tables.specs.Effects.{Has}
 use Rattle.store_tables.specs.Tables.{kept}
 use Rattle.store_commands.specs.KeptRecords.{HoldsReplies}
 use Rattle.store_commands.proofs.KeptLemmas.{holds_replies}

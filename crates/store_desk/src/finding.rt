@@ -5,7 +5,7 @@ ghost use Rattle.sqlite.specs.Held.{state};
 ghost use Rattle.dict_index.specs.Edition.{Edition};
 ghost use Rattle.dict_desk.specs.Shown.{Row as ShownRow, rows_given, count_of};
 ghost use Rattle.dict_desk.specs.Handing.{Hands};
-ghost use Rattle.store_sql.specs.Effects.{WhileOpen};
+ghost use Rattle.store_tables.specs.Effects.{WhileOpen};
 ghost use Rattle.store_search.specs.Entries.{Indexed};
 ghost use Rattle.store_holdings.specs.HeldTexts.{HoldsText};
 ghost use Rattle.store_holdings.specs.Indexes.{entries_under};

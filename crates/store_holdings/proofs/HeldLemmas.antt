@@ -10,10 +10,10 @@ use Rattle.dict_text.proofs.AllLemmas.{all_filter, all_flat_map_parts, all_unmap
 use Rattle.store_tables.specs.Records.{EditionRecord, Part, header_of}
 use Rattle.store_tables.specs.Found.{HasOwn}
 use Rattle.store_sql.specs.Columns.{HasColumns}
-use Rattle.store_sql.specs.Effects.{Has, rows_of, equals_number, same_value}
-use Rattle.store_edition_sql.specs.HeaderRecords.{header_row, header_columns}
-use Rattle.store_edition_sql.specs.Chosen.{is_of_file}
-use Rattle.store_edition_sql.specs.PartRecords.{part_row, part_columns}
+use Rattle.store_tables.specs.Effects.{Has, rows_of, equals_number, same_value}
+use Rattle.store_sql.specs.HeaderRecords.{header_row, header_columns}
+use Rattle.store_sql.specs.ChosenParts.{is_of_file}
+use Rattle.store_sql.specs.PartRecords.{part_row, part_columns}
 use Rattle.dict_index.specs.Edition.{Edition as AnEdition, ReadEdition, edition_of}
 use Rattle.dict_catalogue.specs.Items.{Stored, Item, name_of, editions_of, edition_numbers, numbers_of}
 use Rattle.dict_catalogue.specs.Steps.{Catalogue, KeptFor}

@@ -12,7 +12,8 @@ use Rattle.sqlite.proofs.Callers.{unchanged_then}
 use Rattle.sqlite_trees.specs.declared.error.StoreError.{StoreError}
 use Rattle.sqlite_trees.specs.declared.error.StoreError.TheVariants.{OutOfMemory, Io, Corrupt, Full, Broken, Unstorable}
 use Rattle.store_sql.specs.Columns.{Content, HasColumns}
-use Rattle.store_sql.specs.Reads.{FailsToRead, FailsToList}
+use Rattle.store_sql.specs.Reads.{FailsToList}
+use Rattle.store_tables.specs.Effects.{FailsToRead}
 use Rattle.store_sql.specs.declared.records.ReadError.{ReadError}
 use Rattle.store_sql.specs.declared.records.ReadError.TheVariants.{NoRecord, Store}
 use Rattle.dict_desk.specs.declared.fault.Fault.{Fault}

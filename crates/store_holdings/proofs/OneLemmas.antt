@@ -13,10 +13,10 @@ use Rattle.sqlite_catalog.specs.Listing.{Lists}
 use Rattle.sqlite_catalog.proofs.ReadLemmas.{lists_once}
 use Rattle.dict_text.proofs.AllLemmas.{all_of}
 use Rattle.store_tables.specs.Records as spec
-use Rattle.store_sql.specs.Effects.{rows_of}
+use Rattle.store_tables.specs.Effects.{rows_of}
 use Rattle.store_sql.specs.Encodings.{mark_row, item_row, member_row, edition_row, entry_row, kept_row, number_or_null, text_or_null}
-use Rattle.store_edition_sql.specs.HeaderRecords.{header_row}
-use Rattle.store_edition_sql.specs.PartRecords.{part_row}
+use Rattle.store_sql.specs.HeaderRecords.{header_row}
+use Rattle.store_sql.specs.PartRecords.{part_row}
 use Rattle.dict_catalogue.specs.Steps.{Catalogue}
 use Rattle.store_rows.specs.Versions.{Layout, Plain, Keyed, Shown, Parted, layout_of, known, IsVersion}
 use Rattle.store_rows.specs.Tables.{Tables}

@@ -13,8 +13,8 @@ use Rattle.dict_index.specs.Edition.{Edition as AnEdition}
 use Rattle.dict_catalogue.specs.Commands.{Command}
 use Rattle.dict_catalogue.specs.Items.{Stored, Item, name_of, numbers_of, editions_of, edition_numbers}
 use Rattle.dict_catalogue.specs.Steps.{Catalogue, with_effect}
-use Rattle.store_sql.specs.Effects.{rows_of}
-use Rattle.store_edition_sql.specs.PartRecords.{part_row}
+use Rattle.store_tables.specs.Effects.{rows_of}
+use Rattle.store_sql.specs.PartRecords.{part_row}
 use Rattle.store_rows.specs.Versions.{Layout, Plain, Keyed, Shown, Parted, known}
 use Rattle.store_rows.specs.Written.{edition_record}
 use Rattle.store_rows.specs.Stands.{Stands, has_number}

@@ -16,12 +16,12 @@ use Rattle.sqlite.specs.declared.types.Value.TheVariants.{Int}
 use Rattle.dict_text.proofs.AllLemmas.{all_filter}
 use Rattle.store_tables.specs.Records.{Part}
 use Rattle.store_sql.specs.Columns.{HasColumns}
-use Rattle.store_sql.specs.Effects.{rows_of, equals_number, same_value}
+use Rattle.store_tables.specs.Effects.{rows_of, equals_number, same_value}
 use Rattle.store_sql.specs.Reads.{IsSelection, FailsToList}
 use Rattle.store_sql.specs.declared.records.ReadError.{ReadError}
-use Rattle.store_edition_sql.specs.Chosen.{is_of_file, is_numbered}
-use Rattle.store_edition_sql.specs.PartRecords.{part_row, part_columns, owned_part, stored_part}
-use Rattle.store_edition_sql.specs.declared.part_records.StoredPart.{StoredPart}
+use Rattle.store_sql.specs.ChosenParts.{is_of_file, is_numbered}
+use Rattle.store_sql.specs.PartRecords.{part_row, part_columns, owned_part, stored_part}
+use Rattle.store_sql.specs.declared.part_records.StoredPart.{StoredPart}
 use Rattle.store_rows.specs.Parts.{parts_of}
 use Rattle.store_rows.specs.Tables.{same_number}
 use Rattle.store_rows.specs.Written.{numbered}

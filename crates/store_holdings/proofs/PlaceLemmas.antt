@@ -4,7 +4,7 @@ use Rattle.std.specs.Fmt.{digits}
 use Rattle.sqlite.specs.Schema.{Schema}
 use Rattle.sqlite.specs.Change.{is_used}
 use Rattle.store_tables.specs.Room.{LeavesRoom, is_referred}
-use Rattle.store_edition_sql.specs.PartTable.{part}
+use Rattle.store_sql.specs.PartTable.{part}
 
 abbrev pub AreFree : Schema → Type 0
 AreFree schema = (is_used schema (codes "dictcat_part") ≡ false) × ((is_referred schema (codes "dictcat_part") ≡ false) × (is_used schema (codes "sqlite_autoindex_dictcat_part_1") ≡ false))

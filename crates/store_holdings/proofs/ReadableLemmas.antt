@@ -11,7 +11,7 @@ use Rattle.dict_text.proofs.AllLemmas.{all_map, all_unmapped, all_weaker, all_fl
 use Rattle.dict_text.proofs.AsciiLemmas.{word_utf8, name_utf8, id_utf8}
 use Rattle.store_tables.specs.Records as spec
 use Rattle.store_sql.specs.Columns.{Content, Number, HasColumns, IsNumber, mark_columns, item_columns, member_columns, edition_columns, entry_columns, kept_columns}
-use Rattle.store_sql.specs.Effects.{rows_of}
+use Rattle.store_tables.specs.Effects.{rows_of}
 use Rattle.store_sql.specs.Encodings.{number_or_null, mark_row, item_row, member_row, edition_row, entry_row, kept_row}
 use Rattle.dict_index.specs.Line.{Line}
 use Rattle.dict_index.specs.Edition.{Edition, entry_in}
@@ -33,8 +33,8 @@ use Rattle.store_holdings.specs.Holds.{Holds}
 use Rattle.store_holdings.specs.Readings as looks
 use Rattle.store_holdings.specs.Readings.{TableReading, KeepsRows, KeepsAll, IsReadable, HasReadableRows}
 use Rattle.store_rows.specs.Versions.{Layout, Plain, Keyed, Shown, Parted, layout_of}
-use Rattle.store_edition_sql.specs.HeaderRecords.{header_row, header_columns}
-use Rattle.store_edition_sql.specs.PartRecords.{part_row, part_columns}
+use Rattle.store_sql.specs.HeaderRecords.{header_row, header_columns}
+use Rattle.store_sql.specs.PartRecords.{part_row, part_columns}
 use Rattle.store_holdings.specs.AllTables.{AllTables, with_derived}
 use Rattle.store_holdings.specs.Files.{all_parts}
 use Rattle.store_rows.proofs.RiseLemmas.{any_holds}

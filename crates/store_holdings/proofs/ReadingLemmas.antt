@@ -3,8 +3,8 @@ use Rattle.std.proofs.Common.{◌≡◌, List, [], ◌∷◌, ◌++◌, map, cod
 use Rattle.sqlite.specs.Effect.{Database}
 use Rattle.store_tables.specs.Records.{Part, header_of}
 use Rattle.store_sql.specs.Encodings.{mark_row, item_row, member_row, edition_row, kept_row}
-use Rattle.store_edition_sql.specs.HeaderRecords.{header_row}
-use Rattle.store_edition_sql.specs.PartRecords.{part_row}
+use Rattle.store_sql.specs.HeaderRecords.{header_row}
+use Rattle.store_sql.specs.PartRecords.{part_row}
 use Rattle.store_rows.specs.Tables.{Tables}
 use Rattle.store_rows.specs.Versions.{Layout, Plain, Keyed, Shown, Parted}
 use Rattle.store_holdings.specs.AllTables.{with_derived}

@@ -14,8 +14,8 @@ use Rattle.sqlite.specs.declared.types.Value.TheVariants.{Text as Letters}
 use Rattle.dict_text.proofs.AllLemmas.{all_map}
 use Rattle.store_tables.specs.Records.{header_of}
 use Rattle.store_sql.specs.Columns.{HasColumns}
-use Rattle.store_edition_sql.specs.Infos.{headers_with, informed, info_columns}
-use Rattle.store_edition_sql.specs.HeaderRecords.{header_row, header_columns}
+use Rattle.store_sql.specs.Infos.{headers_with, informed, info_columns}
+use Rattle.store_sql.specs.HeaderRecords.{header_row, header_columns}
 use Rattle.dict_index.specs.Edition.{ReadEdition}
 use Rattle.store_rows.specs.Written.{edition_record}
 use Rattle.store_rows.proofs.OrderLemmas.{same_from, one_once}

@@ -10,7 +10,7 @@ use Rattle.sqlite_value.proofs.OrderLemmas.{value_cmp-Int}
 use Rattle.sqlite.specs.Order.{Row, column}
 use Rattle.sqlite.specs.Effect.{Database}
 use Rattle.sqlite.specs.declared.types.Value.TheVariants.{Int}
-use Rattle.store_sql.specs.Effects.{rows_of, equals_number, same_value}
+use Rattle.store_tables.specs.Effects.{rows_of, equals_number, same_value}
 use Rattle.store_rows.specs.Tables.{same_number}
 use Rattle.store_rows.proofs.TakenLemmas.{same_number_is, same_itself}
 

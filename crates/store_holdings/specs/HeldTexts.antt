@@ -2,9 +2,9 @@
 use Rattle.std.specs.Prelude.{ℕ, ◌≤◌, pos, List, codes, map, drop, filter, IsPermutation}
 use Rattle.sqlite.specs.Effect.{Database}
 use Rattle.sqlite.specs.Order.{Row}
-use Rattle.store_sql.specs.Effects.{equals_number, rows_of}
-use Rattle.store_edition_sql.specs.PartRecords.{part_row}
-use Rattle.store_edition_sql.specs.Chosen.{is_of_file}
+use Rattle.store_tables.specs.Effects.{equals_number, rows_of}
+use Rattle.store_sql.specs.PartRecords.{part_row}
+use Rattle.store_sql.specs.ChosenParts.{is_of_file}
 use Rattle.store_holdings.specs.Files.{file_parts}
 
 -- the rows of a table that have this number, without their rowids

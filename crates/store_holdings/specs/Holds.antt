@@ -10,8 +10,8 @@ use Rattle.store_tables.specs.Records.{Part}
 use Rattle.store_tables.specs.Found.{HasOwn}
 use Rattle.store_tables.specs.Names.{has_prefixed}
 use Rattle.store_tables.specs.Room.{HasRoom, LeavesRoom}
-use Rattle.store_sql.specs.Effects.{HasApartRowids, rows_of}
-use Rattle.store_edition_sql.specs.PartTable.{part}
+use Rattle.store_tables.specs.Effects.{HasApartRowids, rows_of}
+use Rattle.store_sql.specs.PartTable.{part}
 use Rattle.dict_catalogue.specs.Steps.{Catalogue}
 use Rattle.store_rows.specs.Versions.{Layout, layout_of, IsVersion}
 use Rattle.store_rows.specs.Tables.{Tables}

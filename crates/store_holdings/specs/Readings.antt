@@ -8,13 +8,13 @@ use Rattle.sqlite.specs.Table.{Table}
 use Rattle.store_tables.specs.Records.{EntryRecord, ShowsHeadword, header_of}
 use Rattle.store_tables.specs.Tables.{mark, item, member, edition, entry, kept}
 use Rattle.store_tables.specs.Keyed as keyed
-use Rattle.store_sql.specs.Effects.{HasApartRowids, rows_of}
+use Rattle.store_tables.specs.Effects.{HasApartRowids, rows_of}
 use Rattle.store_sql.specs.Columns.{Content, Name, HasColumns, mark_columns, item_columns, member_columns, edition_columns, entry_columns, kept_columns}
 use Rattle.store_sql.specs.Encodings.{mark_row, item_row, member_row, edition_row, entry_row, kept_row}
-use Rattle.store_edition_sql.specs.HeaderTable.{header}
-use Rattle.store_edition_sql.specs.HeaderRecords.{header_row, header_columns}
-use Rattle.store_edition_sql.specs.PartTable.{part}
-use Rattle.store_edition_sql.specs.PartRecords.{part_row, part_columns}
+use Rattle.store_sql.specs.HeaderTable.{header}
+use Rattle.store_sql.specs.HeaderRecords.{header_row, header_columns}
+use Rattle.store_sql.specs.PartTable.{part}
+use Rattle.store_sql.specs.PartRecords.{part_row, part_columns}
 use Rattle.store_rows.specs.Versions.{Layout, Plain, Keyed, Shown, Parted}
 use Rattle.store_holdings.specs.AllTables.{AllTables}
 

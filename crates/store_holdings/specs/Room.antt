@@ -3,7 +3,7 @@ use Rattle.std.specs.Prelude.{◌≡◌, false, ⊤}
 use Rattle.sqlite.specs.Schema.{Schema}
 use Rattle.sqlite.specs.Does.{lacks_sequence}
 use Rattle.store_tables.specs.Room.{LeavesRoom}
-use Rattle.store_edition_sql.specs.PartTable.{part}
+use Rattle.store_sql.specs.PartTable.{part}
 use Rattle.store_rows.specs.Versions.{Layout, Plain, Keyed, Shown, Parted}
 
 -- There is room for it, and no table with AUTOINCREMENT waits for its counter, which a CREATE would make too. The tables of entries

@@ -5,13 +5,13 @@ use Rattle.sqlite.specs.declared.error.Error.{Error}
 use Rattle.sqlite.specs.Effect.{Database}
 use Rattle.sqlite.specs.State.{State, IsUnchanged, Fails}
 use Rattle.store_tables.specs.Records.{header_of}
-use Rattle.store_sql.specs.Effects.{Has, equals_number, rows_of}
+use Rattle.store_tables.specs.Effects.{Has, equals_number, rows_of}
 use Rattle.store_sql.specs.Columns.{HasColumns}
-use Rattle.store_edition_sql.specs.HeaderTable.{header}
-use Rattle.store_edition_sql.specs.HeaderRecords.{header_row, header_columns}
-use Rattle.store_edition_sql.specs.PartTable.{part}
-use Rattle.store_edition_sql.specs.Chosen.{is_of_file}
-use Rattle.store_edition_sql.specs.PartRecords.{part_columns}
+use Rattle.store_sql.specs.HeaderTable.{header}
+use Rattle.store_sql.specs.HeaderRecords.{header_row, header_columns}
+use Rattle.store_sql.specs.PartTable.{part}
+use Rattle.store_sql.specs.ChosenParts.{is_of_file}
+use Rattle.store_sql.specs.PartRecords.{part_columns}
 use Rattle.dict_index.specs.Edition.{ReadEdition}
 use Rattle.store_rows.specs.Written.{edition_record}
 use Rattle.store_holdings.specs.HeldTexts.{rows_under}

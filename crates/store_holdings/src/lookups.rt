@@ -2,7 +2,7 @@
 ghost use Rattle.std.specs.Prelude.{◌≡◌, ◌+◌, ◌≤◌, ℕ, false, List, IsTrue, Ok, IfOk, IfErr, IsErr, OnOk, OnErr};
 ghost use Rattle.sqlite.specs.State.{HasCleanDisk, IsUnchanged, Survives};
 ghost use Rattle.sqlite.specs.Held.{state};
-ghost use Rattle.store_sql.specs.Effects.{WhileOpen};
+ghost use Rattle.store_tables.specs.Effects.{WhileOpen};
 ghost use Rattle.dict_index.specs.Edition.{Edition, ReadEdition, edition_of};
 ghost use Rattle.dict_desk.specs.Shown.{Row as ShownRow, found_rows, headword_rows, info_rows, count_of};
 ghost use Rattle.dict_desk.specs.Handing.{Hands};

@@ -7,7 +7,7 @@ ghost use Rattle.store_tables.specs.declared.records.ItemRecord.{ItemRecord};
 ghost use Rattle.store_tables.specs.declared.records.Member.{Member};
 ghost use Rattle.store_tables.specs.declared.records.EntryRecord.{EntryRecord};
 ghost use Rattle.store_tables.specs.declared.records.KeptRecord.{KeptRecord};
-ghost use Rattle.store_sql.specs.Effects.{equals_number};
+ghost use Rattle.store_tables.specs.Effects.{equals_number};
 ghost use Rattle.store_sql.specs.Encodings.{stored_item, stored_member, stored_entry, stored_kept};
 ghost use Rattle.store_sql.specs.Reads.{IsListing, IsSelection};
 ghost use Rattle.store_rows.specs.Given.{items_given, members_given, entries_given, kept_given};

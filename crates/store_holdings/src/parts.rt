@@ -3,8 +3,8 @@ ghost use Rattle.std.specs.Prelude.{◌≡◌, ◌<◌, ◌≤◌, ◌+◌, ◌-
 ghost use Rattle.std.specs.Map.{lookup, remove_entry};
 ghost use Rattle.sqlite.specs.State.{HasCleanDisk, Survives};
 ghost use Rattle.sqlite.specs.Held.{state};
-ghost use Rattle.store_sql.specs.Effects.{Has, WhileOpen};
-ghost use Rattle.store_edition_sql.specs.PartTable.{part as part_table};
+ghost use Rattle.store_tables.specs.Effects.{Has, WhileOpen};
+ghost use Rattle.store_sql.specs.PartTable.{part as part_table};
 ghost use Rattle.store_rows.specs.Parts.{parts_of};
 ghost use Rattle.store_holdings.specs.HeldTexts.{HoldsText};
 ghost use Rattle.store_holdings.specs.KeptTexts.{same_key};

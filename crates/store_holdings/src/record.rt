@@ -3,10 +3,10 @@ ghost use Rattle.std.specs.Prelude.{◌≡◌, ◌<◌, ◌-◌, ◌^◌, ℕ, p
 ghost use Rattle.std.specs.declared.alloc.Global.{Global};
 ghost use Rattle.sqlite.specs.State.{HasCleanDisk, IsUnchanged, Survives};
 ghost use Rattle.sqlite.specs.Held.{state};
-ghost use Rattle.store_sql.specs.Effects.{Has, WhileOpen};
-ghost use Rattle.store_edition_sql.specs.HeaderTable.{header};
-ghost use Rattle.store_edition_sql.specs.PartTable.{part as part_table};
-ghost use Rattle.store_edition_sql.specs.declared.part_records.StoredPart.{StoredPart as AStoredPart};
+ghost use Rattle.store_tables.specs.Effects.{Has, WhileOpen};
+ghost use Rattle.store_sql.specs.HeaderTable.{header};
+ghost use Rattle.store_sql.specs.PartTable.{part as part_table};
+ghost use Rattle.store_sql.specs.declared.part_records.StoredPart.{StoredPart as AStoredPart};
 ghost use Rattle.store_rows.specs.Parts.{parts_of};
 ghost use Rattle.dict_index.specs.Edition.{ReadEdition};
 ghost use Rattle.store_holdings.specs.HeldTexts.{HoldsText};
@@ -17,7 +17,9 @@ use crate::fault::fault_of_read;
 use dict_desk::Fault;
 use sqlite::{Alter, Connection};
 use std::alloc::Global;
-use store_edition_sql::{StoredPart, infos_numbered, parts_numbered};
+use store_sql::infos::infos_numbered;
+use store_sql::part_one::parts_numbered;
+use store_sql::part_records::StoredPart;
 
 // Which of the files of an edition is its text.
 const TEXT: i64 = 1;

@@ -1,7 +1,7 @@
 // Whether a database leaves room for the tables of the last layout.
 ghost use Rattle.std.specs.Prelude.{◌≡◌, ◌↔◌, IsTrue, false};
 ghost use Rattle.sqlite.specs.Change.{is_used};
-ghost use Rattle.store_edition_sql.specs.PartTable.{part};
+ghost use Rattle.store_sql.specs.PartTable.{part};
 ghost use Rattle.store_tables.specs.Room.{LeavesRoom, is_referred};
 ghost use Rattle.store_holdings.specs.Holds.{HasPlace};
 ghost use Rattle.store_holdings.specs.Room.{HasPartRoom};

@@ -1,7 +1,7 @@
 -- Where a part of a migration fails: the places of a call, out of those of the calls that it makes.
 use Rattle.std.proofs.Common.{◌≡◌, ◌∙◌, ◌++◌, ◌+◌, ◌<◌, ℕ, ℤ, List, [], ◌∷◌, map, take, drop, length, get_or, refl, sym, ap, subst, inl, inr, IsPermutation, ◌⊎◌, true}
 use Rattle.std.proofs.lemmas.List.{take_more, map-append}
-use Rattle.store_sql.proofs.AddedLemmas.{one_added}
+use Rattle.store_tables.proofs.AddedLemmas.{one_added}
 use Rattle.store_older_sql.proofs.CopyLemmas.{split_at, rows_at}
 use Rattle.store_migration.specs.MigrationParts.{MigrationPart, FailsBy, FailsToWriteIndex, dropping, writing}
 use Rattle.store_migration.specs.FailurePlaces.{FailurePlace, Behind, InEdition, InEditions, Putting, Dropping, InIndex}
@@ -11,7 +11,7 @@ use Rattle.sqlite.specs.State.{IsUnchanged}
 use Rattle.sqlite.specs.declared.error.Error.{Error}
 use Rattle.sqlite.proofs.StateLemmas.{survives_then}
 use Rattle.sqlite_trees.specs.declared.store.Store.{Ghosts}
-use Rattle.store_sql.specs.Drops.{FailsToDrop}
+use Rattle.store_older_sql.specs.Drops.{FailsToDrop}
 use Rattle.store_sql.specs.declared.records.ReadError.{ReadError}
 use Rattle.store_sql.specs.declared.records.ReadError.TheVariants.{NoRecord, Store}
 use Rattle.dict_catalogue.specs.Items.{edition_numbers}

@@ -17,19 +17,19 @@ pub use Rattle.store_tables.specs.Definitions.{IsDefinition}
 pub use Rattle.store_tables.specs.Found.{HasOwn}
 pub use Rattle.store_tables.specs.Tables.{mark, item, member, kept, edition, table_of}
 pub use Rattle.store_tables.proofs.MadeLemmas.{store_defined, name_in, tree_in}
-pub use Rattle.store_sql.specs.Added.{AreAdded}
-pub use Rattle.store_sql.specs.Creates.{IsFree, IsMade, MadeInTurn}
-pub use Rattle.store_sql.specs.Effects.{seen, rows_of, IsAdded, SameOthers, HasApartRowids, equals_number}
-pub use Rattle.store_sql.proofs.Callers.{apart_none, own_has, still_has}
-pub use Rattle.store_sql.proofs.DroppedLemmas.{own_in}
-pub use Rattle.store_sql.proofs.MakeLemmas.{one_keeps, one_own, one_rows, keeps_then, goes_keeps}
+pub use Rattle.store_tables.specs.Added.{AreAdded}
+pub use Rattle.store_tables.specs.Creates.{IsFree, IsMade, MadeInTurn}
+pub use Rattle.store_tables.specs.Effects.{seen, rows_of, IsAdded, SameOthers, HasApartRowids, equals_number}
+pub use Rattle.store_tables.proofs.Callers.{apart_none, own_has, still_has}
+pub use Rattle.store_older_sql.proofs.DroppedLemmas.{own_in}
+pub use Rattle.store_tables.proofs.MakeLemmas.{one_keeps, one_own, one_rows, keeps_then, goes_keeps}
 pub use Rattle.store_sql.proofs.StreamLemmas.{passed_on}
 pub use Rattle.store_sql.specs.Encodings.{mark_row, edition_row}
-pub use Rattle.store_edition_sql.specs.HeaderTable.{header}
-pub use Rattle.store_edition_sql.proofs.HeaderDefinitionLemmas.{header_defined}
-pub use Rattle.store_edition_sql.specs.PartTable.{part}
-pub use Rattle.store_edition_sql.proofs.PartDefinitionLemmas.{part_defined}
-pub use Rattle.store_edition_sql.specs.PartRecords.{part_row, lent_part}
+pub use Rattle.store_sql.specs.HeaderTable.{header}
+pub use Rattle.store_sql.proofs.HeaderDefinitionLemmas.{header_defined}
+pub use Rattle.store_sql.specs.PartTable.{part}
+pub use Rattle.store_sql.proofs.PartDefinitionLemmas.{part_defined}
+pub use Rattle.store_sql.specs.PartRecords.{part_row, lent_part}
 pub use Rattle.store_older_sql.specs.Entries.{entry_table_of}
 pub use Rattle.store_older_sql.proofs.CopyLemmas.{keeps_none, none_more, unchanged_keeps, list_keeps}
 pub use Rattle.store_older_sql.proofs.MigrationDefinitionLemmas.{form_defined, word_defined, gram_defined}

@@ -12,12 +12,12 @@ use Rattle.store_tables.specs.Room.{LeavesRoom}
 use Rattle.store_tables.specs.declared.tables.StoreTable.{StoreTable}
 use Rattle.store_tables.specs.declared.tables.StoreTable.TheVariants.{Mark, Item, Member, Edition, Kept}
 use Rattle.store_tables.proofs.MadeLemmas.{room_for}
-use Rattle.store_sql.specs.Creates.{AreApart, AreMade}
+use Rattle.store_tables.specs.Creates.{AreApart, AreMade}
 use Rattle.store_sql.specs.Statements as sql
 use Rattle.store_sql.specs.Statements.{Statement}
-use Rattle.store_sql.proofs.MakeLemmas.{all_made, one_leaves, turn_counted, turn_leaves, turn_sound}
-use Rattle.store_edition_sql.proofs.HeaderDefinitionLemmas.{apart_as}
-use Rattle.store_edition_sql.proofs.PartDefinitionLemmas.{from_store as part_apart}
+use Rattle.store_tables.proofs.MakeLemmas.{all_made, one_leaves, turn_counted, turn_leaves, turn_sound}
+use Rattle.store_sql.proofs.HeaderDefinitionLemmas.{apart_as}
+use Rattle.store_sql.proofs.PartDefinitionLemmas.{from_store as part_apart}
 use Rattle.store_rows.specs.Tables.{Tables}
 use Rattle.store_rows.specs.Versions.{Parted, known}
 use Rattle.store_holdings.specs.AllTables.{with_derived}

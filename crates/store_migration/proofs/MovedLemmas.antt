@@ -8,7 +8,7 @@ use Rattle.dict_catalogue.specs.Steps.{Catalogue}
 use Rattle.store_tables.specs.Records as spec
 use Rattle.store_tables.specs.declared.tables.StoreTable.TheVariants as store
 use Rattle.store_sql.specs.Deletes.{HasToRemove}
-use Rattle.store_edition_sql.specs.HeaderRecords.{header_row}
+use Rattle.store_sql.specs.HeaderRecords.{header_row}
 use Rattle.store_rows.specs.Tables.{Tables}
 use Rattle.store_rows.specs.Stands.{Stands}
 use Rattle.store_rows.specs.Versions.{Parted, layout_of, known}

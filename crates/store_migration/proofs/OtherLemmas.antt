@@ -10,9 +10,9 @@ use Rattle.store_tables.specs.declared.tables.StoreTable.TheVariants as store
 use Rattle.store_tables.proofs.MadeLemmas.{found_is}
 use Rattle.store_tables.proofs.PlaceLemmas.{found}
 use Rattle.store_tables.proofs.UsedLemmas.{find_kept}
-use Rattle.store_sql.specs.Drops.{IsDropped}
-use Rattle.store_sql.specs.Effects.{table_in}
-use Rattle.store_sql.proofs.MakeLemmas.{found_later}
+use Rattle.store_older_sql.specs.Drops.{IsDropped}
+use Rattle.store_tables.specs.Effects.{table_in}
+use Rattle.store_tables.proofs.MakeLemmas.{found_later}
 use Rattle.store_older_sql.specs.declared.entries.EntryForm.{EntryForm}
 use Rattle.store_older_sql.specs.declared.entries.EntryForm.TheVariants as form
 use Rattle.store_rows.proofs.TakenLemmas.{nat_itself}

@@ -15,7 +15,7 @@ use Rattle.store_tables.specs.declared.keyed_records.OldEntry.{OldEntry as Typed
 use Rattle.store_tables.specs.declared.records.EditionRecord.{EditionRecord as TypedEdition}
 use Rattle.store_tables.specs.declared.records.EntryRecord.{EntryRecord as TypedEntry}
 use Rattle.store_tables.specs.declared.records.StoredRow.{StoredRow}
-use Rattle.store_edition_sql.specs.HeaderRecords.{header_row}
+use Rattle.store_sql.specs.HeaderRecords.{header_row}
 use Rattle.store_sql.specs.Encodings.{stored_edition, stored_entry}
 use Rattle.store_sql.specs.Keyed.{stored_keyed_entry, stored_old_entry}
 use Rattle.store_sql.specs.Reads.{IsSelection, by_columns}

@@ -10,7 +10,7 @@ use Rattle.sqlite.specs.declared.types.Value.TheVariants.{Int}
 use Rattle.sqlite_trees.proofs.ListLemmas.{IsPermutation-filter}
 use Rattle.dict_text.proofs.AllLemmas.{all_filter}
 use Rattle.store_tables.specs.Records.{ShowsHeadword}
-use Rattle.store_sql.specs.Effects.{same_value}
+use Rattle.store_tables.specs.Effects.{same_value}
 use Rattle.store_sql.specs.Encodings.{entry_row}
 use Rattle.store_older_sql.proofs.NamedLemmas.{ints, ints_back, behind, filter_map}
 use Rattle.store_rows.specs.Tables.{Tables, same_number, editions_numbered, entries_of}

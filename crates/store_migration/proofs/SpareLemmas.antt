@@ -6,12 +6,12 @@ use Rattle.sqlite_schema.specs.Names.{same_name}
 use Rattle.store_tables.specs.Definitions.{names_of}
 use Rattle.store_tables.specs.Room.{LeavesRoom}
 use Rattle.store_tables.specs.declared.tables.StoreTable.TheVariants as store
-use Rattle.store_sql.specs.Drops.{IsDropped}
-use Rattle.store_sql.proofs.DroppedLemmas.{drop_counted, drop_keeps, drop_rows}
+use Rattle.store_older_sql.specs.Drops.{IsDropped}
+use Rattle.store_older_sql.proofs.DroppedLemmas.{drop_counted, drop_keeps, drop_rows}
 use Rattle.store_older_sql.specs.declared.entries.EntryForm.{EntryForm}
 use Rattle.store_older_sql.specs.declared.entries.EntryForm.TheVariants as form
 use Rattle.store_older_sql.proofs.FreedLemmas.{room_again}
-use Rattle.store_edition_sql.proofs.HeaderDefinitionLemmas.{same_names}
+use Rattle.store_sql.proofs.HeaderDefinitionLemmas.{same_names}
 use Rattle.store_migration.specs.Older.{DroppedInTurn, gone_names, gone_tables, gone_with, keyed_tables, plain_tables, form_of}
 use Rattle.store_migration.specs.declared.older.Older.{Older}
 use Rattle.store_migration.specs.declared.older.Older.TheVariants.{Plain, Keyed, Shown}

@@ -3,15 +3,15 @@ use Rattle.std.specs.Prelude.{◌≡◌, ◌⊎◌, ◌++◌, ℕ, ℤ, true, Li
 use Rattle.sqlite.specs.Effect.{Database}
 use Rattle.sqlite.specs.Order.{Row}
 use Rattle.store_tables.specs.Records.{EditionRecord, EntryRecord, HeaderRecord}
-use Rattle.store_sql.specs.Added.{AreAdded}
+use Rattle.store_tables.specs.Added.{AreAdded}
 use Rattle.store_sql.specs.Columns.{edition_columns}
-use Rattle.store_sql.specs.Creates.{IsMade}
-use Rattle.store_sql.specs.Effects.{IsRemoved}
+use Rattle.store_tables.specs.Creates.{IsMade}
+use Rattle.store_tables.specs.Effects.{IsRemoved}
 use Rattle.store_sql.specs.Encodings.{mark_row}
-use Rattle.store_edition_sql.specs.HeaderRecords.{header_row}
-use Rattle.store_edition_sql.specs.HeaderTable.{header}
-use Rattle.store_edition_sql.specs.PartRecords.{part_row}
-use Rattle.store_edition_sql.specs.PartTable.{part}
+use Rattle.store_sql.specs.HeaderRecords.{header_row}
+use Rattle.store_sql.specs.HeaderTable.{header}
+use Rattle.store_sql.specs.PartRecords.{part_row}
+use Rattle.store_sql.specs.PartTable.{part}
 use Rattle.store_holdings.specs.Files.{index_octets, parts_under}
 use Rattle.store_rows.specs.Versions.{known}
 use Rattle.store_rows.specs.Written.{mark_record}

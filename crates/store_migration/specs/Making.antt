@@ -8,12 +8,12 @@ use Rattle.sqlite.specs.declared.error.Error.{Error}
 use Rattle.sqlite_trees.specs.declared.store.Store.{Ghosts}
 use Rattle.store_tables.specs.declared.tables.StoreTable.{StoreTable}
 use Rattle.store_tables.specs.declared.tables.StoreTable.TheVariants.{Mark, Item, Member, Kept}
-use Rattle.store_sql.specs.Creates.{Makes, FailsToMake}
+use Rattle.store_tables.specs.Creates.{Makes, FailsToMake}
 use Rattle.store_sql.specs.Encodings.{mark_row}
 use Rattle.store_sql.specs.Statements as sql
 use Rattle.store_sql.specs.Statements.{Statement, make, add}
-use Rattle.store_edition_sql.specs.HeaderTable.{header}
-use Rattle.store_edition_sql.specs.PartTable.{part}
+use Rattle.store_sql.specs.HeaderTable.{header}
+use Rattle.store_sql.specs.PartTable.{part}
 use Rattle.store_rows.specs.Written.{mark_record}
 use Rattle.dict_desk.specs.declared.fault.Fault.{Fault}
 use Rattle.dict_desk.specs.declared.fault.Fault.TheVariants.{Disk}

@@ -7,13 +7,13 @@ use Rattle.sqlite.specs.State.{State}
 use Rattle.sqlite.specs.declared.error.Error.TheVariants.{SqliteFailure}
 use Rattle.sqlite.specs.declared.error.ErrorCode.TheVariants.{OutOfMemory}
 use Rattle.store_tables.specs.Records.{EditionRecord, EntryRecord}
-use Rattle.store_edition_sql.specs.HeaderTable.{header}
-use Rattle.store_edition_sql.specs.PartTable.{part}
+use Rattle.store_sql.specs.HeaderTable.{header}
+use Rattle.store_sql.specs.PartTable.{part}
 use Rattle.store_sql.specs.Columns.{Content}
-use Rattle.store_sql.specs.Creates.{FailsToMake}
+use Rattle.store_tables.specs.Creates.{FailsToMake}
 use Rattle.store_sql.specs.Deletes.{FailsToRemove}
-use Rattle.store_sql.specs.Drops.{FailsToDrop}
-use Rattle.store_sql.specs.Effects.{equals_number, rows_of}
+use Rattle.store_older_sql.specs.Drops.{FailsToDrop}
+use Rattle.store_tables.specs.Effects.{equals_number, rows_of}
 use Rattle.store_sql.specs.Inserts.{FailsToInsert}
 use Rattle.store_sql.specs.Reads.{FailsToList}
 use Rattle.store_sql.specs.declared.records.ReadError.{ReadError}

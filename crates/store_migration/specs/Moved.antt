@@ -3,13 +3,13 @@ use Rattle.std.specs.Prelude.{ℕ, ℤ, true, IsTrue, List, codes, map, Option, 
 use Rattle.sqlite.specs.Effect.{Database}
 use Rattle.sqlite.specs.State.{State}
 use Rattle.store_tables.specs.Records.{HeaderRecord}
-use Rattle.store_sql.specs.Added.{AreAdded}
-use Rattle.store_sql.specs.Creates.{IsMade}
-use Rattle.store_sql.specs.Effects.{IsAdded, IsRemoved}
+use Rattle.store_tables.specs.Added.{AreAdded}
+use Rattle.store_tables.specs.Creates.{IsMade}
+use Rattle.store_tables.specs.Effects.{IsAdded, IsRemoved}
 use Rattle.store_sql.specs.Encodings.{mark_row}
-use Rattle.store_edition_sql.specs.HeaderRecords.{header_row}
-use Rattle.store_edition_sql.specs.HeaderTable.{header}
-use Rattle.store_edition_sql.specs.PartTable.{part}
+use Rattle.store_sql.specs.HeaderRecords.{header_row}
+use Rattle.store_sql.specs.HeaderTable.{header}
+use Rattle.store_sql.specs.PartTable.{part}
 use Rattle.store_rows.specs.Versions.{known}
 use Rattle.store_rows.specs.Written.{mark_record}
 use Rattle.store_migration.specs.declared.older.Older.{Older}

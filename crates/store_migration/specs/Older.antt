@@ -7,8 +7,8 @@ use Rattle.store_tables.specs.Records.{EntryRecord}
 use Rattle.store_tables.specs.Keyed.{word, gram}
 use Rattle.store_tables.specs.Tables.{edition}
 use Rattle.store_sql.specs.Columns.{Content, entry_columns}
-use Rattle.store_sql.specs.Drops.{IsDropped}
-use Rattle.store_sql.specs.Effects.{HasApartRowids, rows_of}
+use Rattle.store_older_sql.specs.Drops.{IsDropped}
+use Rattle.store_tables.specs.Effects.{HasApartRowids, rows_of}
 use Rattle.store_sql.specs.Encodings.{entry_row}
 use Rattle.store_sql.specs.Keyed.{old_entry_columns, keyed_entry_columns}
 use Rattle.store_older_sql.specs.Entries.{entry_table_of}

@@ -6,7 +6,7 @@ use Rattle.sqlite.specs.Table.{Table}
 use Rattle.sqlite_schema.specs.Names.{same_name}
 use Rattle.store_tables.specs.Definitions.{IsDefinition}
 use Rattle.store_tables.specs.Found.{HasOwn}
-use Rattle.store_sql.specs.Effects.{rows_of, table_in}
+use Rattle.store_tables.specs.Effects.{rows_of, table_in}
 
 -- the name is none of the tables that are dropped or made, in letters of either case
 pub record IsBeside (name : List ℕ) : Type 0 where

@@ -4,14 +4,14 @@ use Rattle.sqlite.specs.Does.{lacks_sequence}
 use Rattle.sqlite.specs.Effect.{Database, IsDatabase}
 use Rattle.sqlite.specs.Order.{Row}
 use Rattle.store_tables.specs.Records.{EditionRecord, EntryRecord, HeaderRecord, header_of}
-use Rattle.store_sql.specs.Added.{AreAdded}
-use Rattle.store_sql.specs.Effects.{Has, equals_number, rows_of}
+use Rattle.store_tables.specs.Added.{AreAdded}
+use Rattle.store_tables.specs.Effects.{Has, equals_number, rows_of}
 use Rattle.store_sql.specs.Encodings.{edition_row}
 use Rattle.store_tables.specs.Room.{LeavesRoom}
 use Rattle.store_tables.specs.Tables.{edition}
-use Rattle.store_edition_sql.specs.HeaderTable.{header}
-use Rattle.store_edition_sql.specs.PartRecords.{part_row}
-use Rattle.store_edition_sql.specs.PartTable.{part}
+use Rattle.store_sql.specs.HeaderTable.{header}
+use Rattle.store_sql.specs.PartRecords.{part_row}
+use Rattle.store_sql.specs.PartTable.{part}
 use Rattle.store_older_sql.specs.Entries.{entry_table_of}
 use Rattle.store_rows.specs.Stored.{IsColumn}
 use Rattle.store_rows.specs.Order.{InOrder}

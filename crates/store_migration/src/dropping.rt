@@ -3,7 +3,7 @@ ghost use Rattle.std.specs.Prelude.{◌≡◌, true, IfErr, OnOk};
 ghost use Rattle.std.specs.List.{AllByRecursion};
 ghost use Rattle.sqlite.specs.State.{HasCleanDisk, KeepsCommit, Survives};
 ghost use Rattle.store_tables.specs.Found.{HasOwn};
-ghost use Rattle.store_sql.specs.Effects.{WhileOpen, seen};
+ghost use Rattle.store_tables.specs.Effects.{WhileOpen, seen};
 ghost use Rattle.store_sql.specs.declared.records.ReadError.TheVariants.{Store};
 ghost use Rattle.store_migration.specs.Failing.{MigrationFailsInside};
 ghost use Rattle.store_migration.specs.Older.{DroppedInTurn, gone_names, gone_tables, keyed_names, keyed_tables, plain_names, plain_tables};

@@ -4,7 +4,7 @@ ghost use Rattle.sqlite.specs.State.{HasCleanDisk, IsUnchanged, KeepsCommit, Sur
 ghost use Rattle.store_tables.specs.Records.{header_of};
 ghost use Rattle.store_tables.specs.Typed.{owned_edition, owned_header};
 ghost use Rattle.store_tables.specs.Tables.{edition as edition_table};
-ghost use Rattle.store_sql.specs.Effects.{Has, WhileOpen, seen};
+ghost use Rattle.store_tables.specs.Effects.{Has, WhileOpen, seen};
 ghost use Rattle.store_migration.specs.Failing.{MigrationFailsInside};
 ghost use Rattle.store_migration.specs.FailurePlaces.{InEdition, InEditions, InRecord};
 ghost use Rattle.store_migration.specs.Steps.{AreParted, HasThree, IsEditionOf, IsPartedOne};

@@ -2,10 +2,10 @@
 ghost use Rattle.std.specs.Prelude.{◌≡◌, ◌≤◌, ◌<◌, [], codes, length, map, true, slice_index_or, IfErr, OnOk};
 ghost use Rattle.sqlite.specs.State.{HasCleanDisk, KeepsCommit, Survives};
 ghost use Rattle.store_rows.specs.Parts.{parts_of};
-ghost use Rattle.store_edition_sql.specs.PartRecords.{lent_part, part_row};
-ghost use Rattle.store_edition_sql.specs.PartTable.{part as part_table};
-ghost use Rattle.store_sql.specs.Added.{AreAdded};
-ghost use Rattle.store_sql.specs.Effects.{Has, WhileOpen, seen};
+ghost use Rattle.store_sql.specs.PartRecords.{lent_part, part_row};
+ghost use Rattle.store_sql.specs.PartTable.{part as part_table};
+ghost use Rattle.store_tables.specs.Added.{AreAdded};
+ghost use Rattle.store_tables.specs.Effects.{Has, WhileOpen, seen};
 ghost use Rattle.store_sql.specs.declared.records.ReadError.TheVariants.{Store};
 ghost use Rattle.store_holdings.specs.Files.{part_at};
 ghost use Rattle.store_migration.specs.Failing.{MigrationFailsInside};
@@ -13,8 +13,9 @@ ghost use Rattle.store_migration.specs.FailurePlaces.{Putting};
 ghost use Rattle.store_migration.specs.Written.{parts_in};
 
 use sqlite::{Alter, Error, Transaction};
-use store_edition_sql::{Part, insert_part};
 use store_rows::{PART_SIZE, part};
+use store_sql::part_records::Part;
+use store_sql::part_statements::insert_part;
 
 // An index has file 0 of its edition, and a text file 1.
 const INDEX: i64 = 0;

@@ -2,10 +2,10 @@
 ghost use Rattle.std.specs.Prelude.{◌≡◌, codes, map, true, IfErr, OnOk};
 ghost use Rattle.sqlite.specs.State.{HasCleanDisk, KeepsCommit, Survives};
 ghost use Rattle.store_tables.specs.Typed.{owned_header};
-ghost use Rattle.store_edition_sql.specs.HeaderRecords.{header_row};
-ghost use Rattle.store_edition_sql.specs.HeaderTable.{header as header_table};
-ghost use Rattle.store_sql.specs.Added.{AreAdded};
-ghost use Rattle.store_sql.specs.Effects.{Has, WhileOpen, seen};
+ghost use Rattle.store_sql.specs.HeaderRecords.{header_row};
+ghost use Rattle.store_sql.specs.HeaderTable.{header as header_table};
+ghost use Rattle.store_tables.specs.Added.{AreAdded};
+ghost use Rattle.store_tables.specs.Effects.{Has, WhileOpen, seen};
 ghost use Rattle.store_sql.specs.declared.records.ReadError.TheVariants.{Store};
 ghost use Rattle.store_migration.specs.Failing.{MigrationFailsInside};
 ghost use Rattle.store_migration.specs.Moved.{AreHeaded};
@@ -13,7 +13,7 @@ ghost use Rattle.store_migration.specs.FailurePlaces.{InHeads, Putting};
 ghost use Rattle.store_migration.specs.Steps.{MayBeHeaded};
 
 use sqlite::{Alter, Error, Transaction};
-use store_edition_sql::{create_header_table, insert_header};
+use store_sql::header_statements::{create_header_table, insert_header};
 use store_tables::HeaderRecord;
 
 // Puts these headers in, one after the other.

@@ -1,7 +1,7 @@
 // The index of an edition of an older version: its entries are read, and their lines are written.
 ghost use Rattle.std.specs.Prelude.{◌≡◌, IfOk, IfErr};
 ghost use Rattle.sqlite.specs.State.{HasCleanDisk, IsUnchanged, KeepsCommit, Survives};
-ghost use Rattle.store_sql.specs.Effects.{Has, WhileOpen, seen};
+ghost use Rattle.store_tables.specs.Effects.{Has, WhileOpen, seen};
 ghost use Rattle.store_older_sql.specs.Entries.{entry_table_of};
 ghost use Rattle.store_migration.specs.Failing.{MigrationFailsInside};
 ghost use Rattle.store_migration.specs.Older.{form_of};

@@ -3,8 +3,8 @@ ghost use Rattle.std.specs.Prelude.{◌≡◌, ◌≢◌, ◌↔◌, map, true, 
 ghost use Rattle.sqlite.specs.Effect.{IsDatabase};
 ghost use Rattle.sqlite.specs.State.{HasCleanDisk, IsLive, KeepsCommit, Survives};
 ghost use Rattle.sqlite.specs.Held.{state};
-ghost use Rattle.store_sql.specs.Creates.{AreApart, IsReady, MadeInTurn};
-ghost use Rattle.store_sql.specs.Effects.{WhileOpen, seen};
+ghost use Rattle.store_tables.specs.Creates.{AreApart, IsReady, MadeInTurn};
+ghost use Rattle.store_tables.specs.Effects.{WhileOpen, seen};
 ghost use Rattle.store_sql.specs.Statements as sql;
 ghost use Rattle.store_sql.specs.Statements.{make};
 ghost use Rattle.store_rows.specs.Versions.{known};
@@ -18,13 +18,14 @@ ghost use Rattle.store_migration.specs.Spared.{SparesOthers};
 
 use dict_desk::Fault;
 use sqlite::{Alter, Connection, Error, Transaction};
-use store_edition_sql::{create_header_table, create_part_table};
 use store_holdings::{fault_of, has_place};
 use store_rows::{KNOWN_VERSION, mark_row};
-use store_sql::commit::commit;
-use store_sql::create::create_table;
+use store_sql::header_statements::create_header_table;
 use store_sql::insert::insert_mark;
+use store_sql::part_statements::create_part_table;
 use store_tables::StoreTable;
+use store_tables::commit::commit;
+use store_tables::create::create_table;
 
 // Makes these tables, one after the other.
 fn make_each<S: Alter>(tx: &mut Transaction<'_, S>, tables: &[StoreTable]) -> Result<(), Error>

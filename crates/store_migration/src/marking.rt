@@ -3,7 +3,7 @@ ghost use Rattle.std.specs.Prelude.{◌≡◌, ◌≤◌, true, IsTrue, IfErr, O
 ghost use Rattle.sqlite.specs.State.{HasCleanDisk, KeepsCommit, Survives};
 ghost use Rattle.store_tables.specs.Tables.{mark};
 ghost use Rattle.store_sql.specs.Deletes.{HasToRemove};
-ghost use Rattle.store_sql.specs.Effects.{WhileOpen, seen};
+ghost use Rattle.store_tables.specs.Effects.{WhileOpen, seen};
 ghost use Rattle.store_migration.specs.Moved.{IsMarkedAnew};
 ghost use Rattle.store_sql.specs.declared.records.ReadError.TheVariants.{Store};
 ghost use Rattle.store_migration.specs.FailurePlaces.{InMark};

@@ -10,7 +10,7 @@ ghost use Rattle.dict_catalogue.specs.Views.{summary_shown};
 ghost use Rattle.dict_desk.specs.Faults.{is_disk};
 ghost use Rattle.store_tables.specs.Typed.{owned_header};
 ghost use Rattle.store_rows.specs.Versions.{layout_of, known};
-ghost use Rattle.store_sql.specs.Effects.{WhileOpen, seen};
+ghost use Rattle.store_tables.specs.Effects.{WhileOpen, seen};
 ghost use Rattle.store_holdings.specs.Holds.{Holds, IsLeftAs, Rests};
 ghost use Rattle.store_holdings.specs.Writing.{StaysCommitted};
 ghost use Rattle.store_migration.specs.Migrated.{IsMigrated, MayMigrate};
@@ -32,11 +32,11 @@ use dict_catalogue::{Summary, edition_numbers};
 use dict_desk::Fault;
 use sqlite::{Alter, Connection, Transaction};
 use std::alloc::Global;
-use store_edition_sql::create_part_table;
 use store_holdings::fault_of_read;
-use store_sql::commit::commit;
+use store_sql::part_statements::create_part_table;
 use store_sql::records::ReadError;
 use store_tables::HeaderRecord;
+use store_tables::commit::commit;
 
 /// The greatest number that a column holds.
 const MAX_NUMBER: u64 = 9_223_372_036_854_775_807;

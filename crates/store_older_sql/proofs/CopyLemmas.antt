@@ -6,7 +6,8 @@ use Rattle.sqlite.specs.Order.{Row}
 use Rattle.sqlite.specs.State.{State, KeepsCommit, Survives, IsUnchanged}
 use Rattle.sqlite.specs.declared.error.Error.{Error}
 use Rattle.store_sql.specs.Columns.{Content}
-use Rattle.store_sql.specs.Reads.{FailsToRead, FailsToList}
+use Rattle.store_sql.specs.Reads.{FailsToList}
+use Rattle.store_tables.specs.Effects.{FailsToRead}
 use Rattle.store_sql.specs.declared.records.ReadError.{ReadError}
 use Rattle.store_sql.specs.declared.records.ReadError.TheVariants.{NoRecord, Store}
 

@@ -5,11 +5,11 @@ use Rattle.sqlite.specs.declared.error.Error.{Error}
 use Rattle.sqlite.specs.Compile.{first}
 use Rattle.sqlite_tied.specs.Compute.{everything}
 use Rattle.sqlite_syntax.specs.declared.statement.Parsed.{Parsed}
-use Rattle.store_sql.specs.Effects.{Has}
-use Rattle.store_sql.specs.Drops.{IsDropped}
-use Rattle.store_sql.specs.Refusals.{RefusesToDrop}
-use Rattle.store_sql.proofs.TextLemmas.{parsed_or}
-use Rattle.store_sql.proofs.DropLemmas.{ReadsDrop, drops, fails}
+use Rattle.store_tables.specs.Effects.{Has}
+use Rattle.store_older_sql.specs.Drops.{IsDropped}
+use Rattle.store_tables.specs.Refusals.{RefusesToDrop}
+use Rattle.store_tables.proofs.TextLemmas.{parsed_or}
+use Rattle.store_older_sql.proofs.DropLemmas.{ReadsDrop, drops, fails}
 use Rattle.store_tables.specs.Keyed.{entry_with_keys, word, gram, keyed_table_of}
 use Rattle.store_older_sql.specs.Texts.{keyed_drop_text}
 use Rattle.store_tables.specs.declared.keyed.KeyedTable.{KeyedTable}

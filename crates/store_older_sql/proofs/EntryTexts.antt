@@ -14,17 +14,17 @@ use Rattle.sqlite_tied.specs.Compute.{everything}
 use Rattle.sqlite_syntax.specs.declared.statement.Parsed.{Parsed}
 use Rattle.store_tables.specs.Definitions.{names_of}
 use Rattle.store_tables.specs.Tables.{needed}
-use Rattle.store_sql.specs.Drops.{IsDropped}
-use Rattle.store_sql.specs.Effects.{Has, equals_number, shown}
-use Rattle.store_sql.specs.Refusals.{RefusesToDrop}
-use Rattle.store_sql.proofs.CompareLemmas.{and_true, equals_is}
-use Rattle.store_sql.proofs.DeleteLemmas.{column_expr, parameter_expr, equals_expr, tests_equals}
-use Rattle.store_sql.proofs.DropLemmas.{ReadsDrop, drops, fails}
-use Rattle.store_sql.proofs.ListLemmas.{passes}
+use Rattle.store_older_sql.specs.Drops.{IsDropped}
+use Rattle.store_tables.specs.Effects.{Has, equals_number, shown}
+use Rattle.store_tables.specs.Refusals.{RefusesToDrop}
+use Rattle.store_tables.proofs.CompareLemmas.{and_true, equals_is}
+use Rattle.store_tables.proofs.DeleteLemmas.{column_expr, parameter_expr, equals_expr, tests_equals}
+use Rattle.store_older_sql.proofs.DropLemmas.{ReadsDrop, drops, fails}
+use Rattle.store_tables.proofs.ListLemmas.{passes}
 use Rattle.store_sql.proofs.ReadFaults.{Takes, a_number}
-use Rattle.store_sql.proofs.ReadLemmas.{rowid_expr, rowid_shown, all_shown, source_of, core_with, select_with, outputs_of}
+use Rattle.store_tables.proofs.ReadLemmas.{rowid_expr, rowid_shown, all_shown, source_of, core_with, select_with, outputs_of}
 use Rattle.store_sql.proofs.ReadTexts.{ReadsTable, key_at, sort_by, of_column}
-use Rattle.store_sql.proofs.TextLemmas.{parsed_or}
+use Rattle.store_tables.proofs.TextLemmas.{parsed_or}
 use Rattle.store_tables.specs.Tables as first_tables
 use Rattle.store_tables.specs.Keyed.{old_entry, entry_with_keys as shown_entry}
 use Rattle.store_older_sql.specs.Entries.{entry_table_of, entry_drop_text, entry_select_text}

@@ -17,8 +17,8 @@ use Rattle.store_tables.specs.Definitions.{IsDefinition, names_of}
 use Rattle.store_tables.specs.Found.{HasOwn}
 use Rattle.store_tables.specs.Room.{LeavesRoom, is_referred}
 use Rattle.store_tables.proofs.MadeLemmas.{name_in, tree_in}
-use Rattle.store_sql.specs.Drops.{IsDropped}
-use Rattle.store_sql.proofs.DroppedLemmas.{own_in, drop_unreferred}
+use Rattle.store_older_sql.specs.Drops.{IsDropped}
+use Rattle.store_older_sql.proofs.DroppedLemmas.{own_in, drop_unreferred}
 use Rattle.store_tables.specs.OwnNames.{is_own_name}
 use Rattle.store_older_sql.proofs.ApartLemmas.{any_none, same_through, other_through, listed, table_index, table_view, index_view, index_index}
 use Rattle.store_tables.proofs.UsedLemmas.{in_lists, used_is, gone_any, kept_any, none_any, any_map, and_false, and_true}

@@ -10,3 +10,5 @@ pub mod ApartLemmas
 pub mod FreedLemmas
 pub mod CopyLemmas
 pub mod MigrationDefinitionLemmas
+pub mod DropLemmas
+pub mod DroppedLemmas

@@ -3,9 +3,9 @@ use Rattle.std.proofs.Common.{List, [], ◌∷◌, subst}
 use Rattle.std.specs.List.Sorted.{IsPermutation}
 use Rattle.sqlite.specs.Effect.{Database}
 use Rattle.sqlite.specs.Order.{Row}
-use Rattle.store_sql.specs.Effects.{rows_of}
+use Rattle.store_tables.specs.Effects.{rows_of}
 use Rattle.store_sql.specs.Reads.{IsListing}
-use Rattle.store_sql.proofs.ListingLemmas.{all_pass}
+use Rattle.store_tables.proofs.RemoveLemmas.{all_pass}
 use Rattle.store_tables.specs.Keyed.{entry_with_keys}
 use Rattle.store_older_sql.specs.Scans.{AreAllOlder}
 use Rattle.store_older_sql.specs.Scans.OlderScan.{ShownByRowid}

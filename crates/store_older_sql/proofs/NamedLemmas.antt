@@ -6,8 +6,8 @@ use Rattle.std.proofs.lemmas.Map.Lookups.{exact_signed}
 use Rattle.std.specs.Ordering.{is_eq, int_cmp}
 use Rattle.sqlite.specs.Order.{Row, column}
 use Rattle.sqlite.specs.declared.types.Value.TheVariants.{Int}
-use Rattle.store_sql.specs.Effects.{same_value}
-use Rattle.store_sql.proofs.KitLemmas.{value_cmp-Int}
+use Rattle.store_tables.specs.Effects.{same_value}
+use Rattle.store_tables.proofs.KitLemmas.{value_cmp-Int}
 
 equal : (o : Ordering) → is_eq o ≡ true → o ≡ Equal
 equal Less h = absurd (let e = h in cc)

@@ -5,9 +5,9 @@ use Rattle.sqlite_tied.specs.Compute.{everything}
 use Rattle.sqlite_resolve.specs.Lowering.{nothing}
 use Rattle.sqlite_syntax.specs.declared.statement.Parsed.{Parsed}
 use Rattle.store_sql.proofs.ReadFaults.{Takes, nothing as no_values}
-use Rattle.store_sql.proofs.ReadLemmas.{rowid_expr, rowid_shown, all_shown, source_of, core_with, select_with}
+use Rattle.store_tables.proofs.ReadLemmas.{rowid_expr, rowid_shown, all_shown, source_of, core_with, select_with}
 use Rattle.store_sql.proofs.ReadTexts.{ReadsTable, reads_table, sort_by, key_at}
-use Rattle.store_sql.proofs.TextLemmas.{parsed_or}
+use Rattle.store_tables.proofs.TextLemmas.{parsed_or}
 use Rattle.store_tables.specs.Keyed.{entry_with_keys, old_entry}
 use Rattle.store_older_sql.specs.Entries.{entry_rowid_text}
 

@@ -1,3 +1,4 @@
 pub mod Scans
 pub mod Texts
 pub mod Entries
+pub mod Drops

@@ -1,5 +1,5 @@
 -- What is read row by row, and what it has given so far.
-use Rattle.std.specs.Prelude.{◌+◌, ℕ, ℤ, Bool, true, List, [], ◌∷◌, ◌++◌, Option, Some, None}
+use Rattle.std.specs.Prelude.{ℕ, ℤ, Bool, true, List, [], ◌∷◌, ◌++◌, Option, Some, None}
 use Rattle.sqlite.specs.declared.types.Value.TheVariants.{Int}
 use Rattle.sqlite.specs.Order.{Row}
 use Rattle.sqlite.specs.Table.{Table}
@@ -7,7 +7,7 @@ use Rattle.sqlite.specs.Effect.{Database}
 use Rattle.sqlite.specs.Held.{Held, state}
 use Rattle.sqlite.specs.Given as kit
 use Rattle.sqlite_trees.specs.declared.store.Store.{Ghosts}
-use Rattle.store_sql.specs.Effects.{Has, equals_number}
+use Rattle.store_tables.specs.Effects.{Has, equals_number}
 use Rattle.store_sql.specs.Reads.{IsSelection}
 use Rattle.store_tables.specs.Keyed.{entry_with_keys, old_entry}
 use Rattle.store_older_sql.specs.Entries.{entry_rowid_text, entry_select_text}

@@ -5,17 +5,17 @@ ghost use Rattle.sqlite.specs.State.{HasCleanDisk, Survives};
 ghost use Rattle.sqlite.specs.Held.{state};
 ghost use Rattle.store_tables.specs.Tables.{edition as edition_table};
 ghost use Rattle.store_sql.specs.Columns.{edition_columns};
-ghost use Rattle.store_sql.specs.Drops.{Drops, FailsToDrop};
-ghost use Rattle.store_sql.specs.Effects.{Has, WhileOpen, equals_number, rows_of};
+ghost use Rattle.store_older_sql.specs.Drops.{Drops, FailsToDrop};
+ghost use Rattle.store_tables.specs.Effects.{Has, WhileOpen, equals_number, rows_of, FailsToRead};
 ghost use Rattle.store_sql.specs.Encodings.{stored_edition};
-ghost use Rattle.store_sql.specs.Reads.{Selects, FailsToRead, FailsToList};
+ghost use Rattle.store_sql.specs.Reads.{Selects, FailsToList};
 
+use crate::drop::drop_table;
 use sqlite::{Alter, Error, Row, params};
 use std::alloc::Global;
-use store_sql::drop::drop_table;
 use store_sql::read::records_of;
 use store_sql::records::ReadError;
-use store_sql::transaction::OpenTransaction;
+use store_tables::transaction::OpenTransaction;
 use store_tables::{EditionRecord, StoreTable, StoredRow};
 
 fn edition_rows<S: Alter, T: OpenTransaction<S>>(tx: &mut T, number: i64) -> Result<Vec<Row>, Error>

@@ -3,12 +3,12 @@
 ghost use Rattle.std.specs.Prelude.{◌≡◌, codes, IfErr, OnOk};
 ghost use Rattle.sqlite.specs.State.{HasCleanDisk, Survives};
 ghost use Rattle.sqlite.specs.Held.{state};
-ghost use Rattle.store_sql.specs.Drops.{Drops, FailsToDrop};
-ghost use Rattle.store_sql.specs.Effects.{Has, WhileOpen};
+ghost use Rattle.store_older_sql.specs.Drops.{Drops, FailsToDrop};
+ghost use Rattle.store_tables.specs.Effects.{Has, WhileOpen};
 ghost use Rattle.store_older_sql.specs.Entries.{entry_table_of};
 
 use sqlite::{Alter, Error};
-use store_sql::transaction::OpenTransaction;
+use store_tables::transaction::OpenTransaction;
 
 /// Which columns the entries have.
 #[derive(Clone, Copy, Debug, PartialEq, Eq)]

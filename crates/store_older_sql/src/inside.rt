@@ -4,16 +4,16 @@ ghost use Rattle.std.specs.Prelude.{◌≡◌, ◌∷◌, [], filter, map, codes
 ghost use Rattle.sqlite.specs.State.{HasCleanDisk, Survives};
 ghost use Rattle.sqlite.specs.Held.{state};
 ghost use Rattle.store_tables.specs.Tables.{entry};
-ghost use Rattle.store_sql.specs.Effects.{Has, WhileOpen, equals_number, rows_of};
+ghost use Rattle.store_tables.specs.Effects.{Has, WhileOpen, equals_number, rows_of, FailsToRead};
 ghost use Rattle.store_sql.specs.Columns.{entry_columns};
 ghost use Rattle.store_sql.specs.Encodings.{stored_entry};
-ghost use Rattle.store_sql.specs.Reads.{Selects, FailsToRead, FailsToList};
+ghost use Rattle.store_sql.specs.Reads.{Selects, FailsToList};
 
 use sqlite::{Alter, Error, Row, params};
 use std::alloc::Global;
 use store_sql::read::records_of;
 use store_sql::records::ReadError;
-use store_sql::transaction::OpenTransaction;
+use store_tables::transaction::OpenTransaction;
 use store_tables::{EntryRecord, StoredRow};
 
 fn entry_rows<S: Alter, T: OpenTransaction<S>>(tx: &mut T, edition: i64) -> Result<Vec<Row>, Error>

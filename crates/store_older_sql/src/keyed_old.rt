@@ -6,7 +6,7 @@ ghost use Rattle.sqlite.specs.Kind.TheVariants.{Integer, Blob};
 ghost use Rattle.sqlite.specs.State.{HasCleanDisk, IsUnchanged, Survives};
 ghost use Rattle.sqlite.specs.Held.{state};
 ghost use Rattle.sqlite.specs.contracts.connection.Connection.{the_row};
-ghost use Rattle.store_sql.specs.Effects.{Has, WhileOpen};
+ghost use Rattle.store_tables.specs.Effects.{Has, WhileOpen};
 ghost use Rattle.store_sql.specs.Streams.{IsNotBegun};
 ghost use Rattle.store_tables.specs.Found.{HasOwn};
 ghost use Rattle.store_tables.specs.Tables.{column_of};

@@ -7,7 +7,7 @@ ghost use Rattle.std.specs.Borrow.{sem, RestsIfErr};
 ghost use Rattle.sqlite.specs.State.{HasCleanDisk, IsUnchanged, Survives};
 ghost use Rattle.sqlite.specs.Held.{state};
 ghost use Rattle.sqlite.specs.contracts.connection.Connection.{the_row};
-ghost use Rattle.store_sql.specs.Effects.{Has, WhileOpen};
+ghost use Rattle.store_tables.specs.Effects.{Has, WhileOpen};
 ghost use Rattle.store_sql.specs.Streams.{IsNotBegun};
 ghost use Rattle.store_tables.specs.Keyed.{entry_with_keys as shown_entry};
 ghost use Rattle.store_older_sql.specs.Scans.{HasGivenOlder};

@@ -4,15 +4,15 @@ ghost use Rattle.std.specs.Prelude.{◌≡◌, ◌∷◌, [], filter, map, codes
 ghost use Rattle.sqlite.specs.State.{HasCleanDisk, Survives};
 ghost use Rattle.sqlite.specs.Held.{state};
 ghost use Rattle.store_tables.specs.Keyed.{entry_with_keys as shown_entry};
-ghost use Rattle.store_sql.specs.Effects.{Has, WhileOpen, equals_number, rows_of};
+ghost use Rattle.store_tables.specs.Effects.{Has, WhileOpen, equals_number, rows_of, FailsToRead};
 ghost use Rattle.store_sql.specs.Keyed.{keyed_entry_columns, stored_keyed_entry};
-ghost use Rattle.store_sql.specs.Reads.{Selects, FailsToRead, FailsToList};
+ghost use Rattle.store_sql.specs.Reads.{Selects, FailsToList};
 
 use sqlite::{Alter, Error, Row, params};
 use std::alloc::Global;
 use store_sql::read::records_of;
 use store_sql::records::ReadError;
-use store_sql::transaction::OpenTransaction;
+use store_tables::transaction::OpenTransaction;
 use store_tables::{KeyedEntry, StoredRow};
 
 fn shown_rows<S: Alter, T: OpenTransaction<S>>(tx: &mut T, edition: i64) -> Result<Vec<Row>, Error>

@@ -12,10 +12,10 @@ use Rattle.dict_text.proofs.AllLemmas.{all_filter, all_weaker}
 use Rattle.store_tables.specs.Records as spec
 use Rattle.store_tables.specs.Records.{header_of}
 use Rattle.dict_index.specs.Line.{Line}
-use Rattle.store_sql.specs.Effects.{rows_of}
+use Rattle.store_tables.specs.Effects.{rows_of}
 use Rattle.store_sql.specs.Encodings.{mark_row, item_row, member_row, kept_row, stored_kept}
 use Rattle.store_sql.specs.Reads.{IsListing}
-use Rattle.store_edition_sql.specs.HeaderRecords.{header_row}
+use Rattle.store_sql.specs.HeaderRecords.{header_row}
 use Rattle.dict_catalogue.specs.Items.{name_of as name_in, editions_of, is_known}
 use Rattle.dict_catalogue.specs.Steps.{Catalogue}
 use Rattle.dict_catalogue.specs.WellFormed.{total, IsEachOnce}

@@ -12,7 +12,7 @@ use Rattle.sqlite.specs.Order.{Row, column, value_cmp}
 use Rattle.sqlite.specs.declared.types.Value.TheVariants.{Int}
 use Rattle.dict_text.proofs.AllLemmas.{all_append, all_filter, all_map, all_of, all_weaker}
 use Rattle.store_tables.specs.Records as spec
-use Rattle.store_sql.specs.Effects.{rows_of, same_value, equals_number}
+use Rattle.store_tables.specs.Effects.{rows_of, same_value, equals_number}
 use Rattle.store_sql.specs.Reads.{by_columns}
 use Rattle.store_rows.specs.Order.{InOrder}
 use Rattle.store_rows.specs.Tables.{Tables, same_number}

@@ -7,9 +7,9 @@ use Rattle.sqlite.specs.Order.{Row, column}
 use Rattle.sqlite.specs.declared.types.Value.TheVariants.{Int}
 use Rattle.store_tables.specs.Records.{EditionRecord, HeaderRecord, Part, header_of}
 use Rattle.dict_index.specs.Line.{Line}
-use Rattle.store_sql.specs.Effects.{rows_of, same_value}
-use Rattle.store_edition_sql.specs.Chosen.{is_of_file}
-use Rattle.store_edition_sql.specs.PartRecords.{part_row}
+use Rattle.store_tables.specs.Effects.{rows_of, same_value}
+use Rattle.store_sql.specs.ChosenParts.{is_of_file}
+use Rattle.store_sql.specs.PartRecords.{part_row}
 use Rattle.store_rows.specs.Stored.{stored_index}
 use Rattle.store_rows.specs.Tables.{Tables, same_number, entries_of, editions_numbered}
 use Rattle.store_rows.specs.Written.{numbered, entry_record}

@@ -15,7 +15,7 @@ use Rattle.store_tables.specs.Typed.{owned_mark}
 use Rattle.store_tables.specs.declared.records as typed
 use Rattle.store_tables.specs.declared.records.StoredRow.{StoredRow}
 use Rattle.store_sql.specs.Columns.{HasColumns, mark_columns}
-use Rattle.store_sql.specs.Effects.{rows_of}
+use Rattle.store_tables.specs.Effects.{rows_of}
 use Rattle.store_sql.specs.Encodings.{mark_row, stored_mark}
 use Rattle.store_sql.specs.Reads.{IsListing, HasNoRecord}
 use Rattle.dict_catalogue.specs.Steps.{Catalogue}

@@ -9,9 +9,9 @@ use Rattle.store_tables.specs.Records as spec
 use Rattle.store_tables.specs.Records.{header_of}
 use Rattle.dict_index.specs.Line.{Line}
 use Rattle.store_sql.specs.Columns.{Content, HasColumns, edition_columns}
-use Rattle.store_sql.specs.Effects.{rows_of, equals_number}
+use Rattle.store_tables.specs.Effects.{rows_of, equals_number}
 use Rattle.store_sql.specs.Encodings.{edition_row}
-use Rattle.store_edition_sql.specs.HeaderRecords.{header_columns, header_row}
+use Rattle.store_sql.specs.HeaderRecords.{header_columns, header_row}
 use Rattle.dict_catalogue.specs.Items.{Item}
 use Rattle.dict_catalogue.specs.Steps.{Catalogue}
 use Rattle.dict_index.specs.Edition.{Edition}

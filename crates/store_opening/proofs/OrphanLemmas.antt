@@ -12,10 +12,10 @@ use Rattle.sqlite.specs.Effect.{Database}
 use Rattle.sqlite.specs.Order.{Row}
 use Rattle.dict_text.proofs.AllLemmas.{all_map, all_weaker}
 use Rattle.store_tables.specs.Records.{Part}
-use Rattle.store_sql.specs.Effects.{rows_of}
-use Rattle.store_sql.proofs.ListingLemmas.{all_pass}
-use Rattle.store_edition_sql.specs.PartRecords.{part_row, stored_part, owned_part}
-use Rattle.store_edition_sql.specs.declared.part_records.StoredPart.{StoredPart}
+use Rattle.store_tables.specs.Effects.{rows_of}
+use Rattle.store_tables.proofs.RemoveLemmas.{all_pass}
+use Rattle.store_sql.specs.PartRecords.{part_row, stored_part, owned_part}
+use Rattle.store_sql.specs.declared.part_records.StoredPart.{StoredPart}
 use Rattle.dict_catalogue.specs.Items.{edition_numbers}
 use Rattle.dict_catalogue.specs.Steps.{Catalogue}
 use Rattle.store_rows.specs.Order.{is_of}

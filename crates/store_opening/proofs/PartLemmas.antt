@@ -9,7 +9,7 @@ use Rattle.std.proofs.Math.Bool.{or-true, or-false}
 use Rattle.std.proofs.lemmas.List.Folds.{list_any-append}
 use Rattle.sqlite.specs.Order.{Row, column}
 use Rattle.sqlite.specs.declared.types.Value.TheVariants.{Int}
-use Rattle.store_sql.specs.Effects.{equals_number}
+use Rattle.store_tables.specs.Effects.{equals_number}
 use Rattle.store_rows.specs.Order.{is_of}
 use Rattle.store_rows.specs.Tables.{same_number}
 use Rattle.store_rows.proofs.SelectionLemmas.{parts_together, filter_alike, of_more}

@@ -13,11 +13,11 @@ use Rattle.sqlite.specs.Effect.{Database}
 use Rattle.sqlite.specs.Order.{Row, column}
 use Rattle.store_tables.specs.Records as spec
 use Rattle.store_tables.specs.Records.{header_of}
-use Rattle.store_sql.specs.Effects.{rows_of, equals_number}
+use Rattle.store_tables.specs.Effects.{rows_of, equals_number}
 use Rattle.store_sql.specs.Encodings.{edition_row, stored_edition}
-use Rattle.store_edition_sql.specs.HeaderRecords.{header_row, stored_header}
-use Rattle.store_edition_sql.specs.Chosen.{is_of_file}
-use Rattle.store_edition_sql.specs.PartRecords.{part_row}
+use Rattle.store_sql.specs.HeaderRecords.{header_row, stored_header}
+use Rattle.store_sql.specs.ChosenParts.{is_of_file}
+use Rattle.store_sql.specs.PartRecords.{part_row}
 use Rattle.dict_catalogue.specs.Steps.{Catalogue}
 use Rattle.store_rows.specs.Stored.{stored_index}
 use Rattle.store_rows.specs.Tables.{Tables, same_number, editions_numbered, entries_of}

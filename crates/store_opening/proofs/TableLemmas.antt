@@ -8,7 +8,7 @@ use Rattle.sqlite_schema.specs.Names.{table_named}
 use Rattle.store_tables.specs.Found.{HasOwn, is_further_key}
 use Rattle.store_tables.specs.Tables.{mark}
 use Rattle.store_tables.proofs.FoundLemmas.{place_of, passes_none}
-use Rattle.store_sql.proofs.ReadLemmas.{CanSelect}
+use Rattle.store_tables.proofs.ReadLemmas.{CanSelect}
 use Rattle.store_opening.specs.Marks.{HasMarkTable}
 
 -- ---- the table of the mark is such a one

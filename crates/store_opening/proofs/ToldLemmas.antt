@@ -13,10 +13,10 @@ use Rattle.store_tables.specs.Records.{header_of}
 use Rattle.store_tables.specs.Typed.{owned_edition, owned_header}
 use Rattle.dict_index.specs.Edition.{Edition}
 use Rattle.dict_index.specs.Line.{Line}
-use Rattle.store_sql.specs.Effects.{rows_of, equals_number}
+use Rattle.store_tables.specs.Effects.{rows_of, equals_number}
 use Rattle.store_sql.specs.Encodings.{edition_row, stored_edition}
 use Rattle.store_sql.specs.Reads.{IsSelection}
-use Rattle.store_edition_sql.specs.HeaderRecords.{header_row, stored_header}
+use Rattle.store_sql.specs.HeaderRecords.{header_row, stored_header}
 use Rattle.dict_catalogue.specs.Items.{Item}
 use Rattle.dict_catalogue.specs.Steps.{Catalogue}
 use Rattle.store_rows.specs.Stored.{stored_index}

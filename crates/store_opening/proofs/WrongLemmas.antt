@@ -26,13 +26,13 @@ use Rattle.store_tables.specs.declared.records as typed
 use Rattle.store_tables.specs.declared.records.StoredRow.{StoredRow as Beside}
 use Rattle.std.specs.declared.alloc.Global.{Global}
 use Rattle.store_sql.specs.Columns.{Content, HasColumns, kept_columns}
-use Rattle.store_sql.specs.Effects.{HasApartRowids, rows_of, same_value, equals_number}
+use Rattle.store_tables.specs.Effects.{HasApartRowids, rows_of, same_value, equals_number}
 use Rattle.store_sql.specs.Encodings.{stored_mark, stored_item, stored_member, stored_kept, member_row, edition_row}
 use Rattle.store_sql.specs.Reads.{IsListing, by_columns}
 use Rattle.store_sql.specs.Streams.Scan.{AllKept, KeptById, ByRowid}
-use Rattle.store_sql.proofs.KitLemmas.{value_cmp_total}
-use Rattle.store_edition_sql.specs.HeaderRecords.{header_row}
-use Rattle.store_edition_sql.specs.PartRecords.{part_row}
+use Rattle.store_tables.proofs.KitLemmas.{value_cmp_total}
+use Rattle.store_sql.specs.HeaderRecords.{header_row}
+use Rattle.store_sql.specs.PartRecords.{part_row}
 use Rattle.dict_catalogue.specs.Items.{Item, edition_numbers}
 use Rattle.dict_catalogue.specs.Steps.{Catalogue}
 use Rattle.dict_catalogue.specs.WellFormed.{total, IsEachOnce}

@@ -11,11 +11,11 @@ use Rattle.store_tables.specs.declared.records as typed
 use Rattle.store_tables.specs.declared.records.StoredRow.{StoredRow}
 use Rattle.store_tables.specs.Found.{HasOwn}
 use Rattle.store_sql.specs.Columns.{Content, edition_columns}
-use Rattle.store_sql.specs.Effects.{HasApartRowids, rows_of, equals_number}
+use Rattle.store_tables.specs.Effects.{HasApartRowids, rows_of, equals_number}
 use Rattle.store_sql.specs.Encodings.{mark_row, item_row, member_row, stored_edition, stored_kept}
 use Rattle.store_sql.specs.Reads.{IsListing, IsSelection, HasNoRecord}
-use Rattle.store_edition_sql.specs.HeaderRecords.{header_columns, stored_header}
-use Rattle.store_edition_sql.specs.declared.header_records.StoredHeader.{StoredHeader}
+use Rattle.store_sql.specs.HeaderRecords.{header_columns, stored_header}
+use Rattle.store_sql.specs.declared.header_records.StoredHeader.{StoredHeader}
 use Rattle.dict_catalogue.specs.Items.{edition_numbers}
 use Rattle.dict_catalogue.specs.Steps.{Catalogue, summary_of}
 use Rattle.dict_catalogue.specs.Tests.{Holdings}

@@ -3,7 +3,7 @@ ghost use Rattle.std.specs.Prelude.{◌≡◌, ◌++◌, ℕ, pos, List, [], map
 ghost use Rattle.sqlite.specs.State.{HasCleanDisk};
 ghost use Rattle.sqlite.specs.Held.{state};
 ghost use Rattle.store_tables.specs.Records.{EntryRecord};
-ghost use Rattle.store_sql.specs.Effects.{WhileOpen};
+ghost use Rattle.store_tables.specs.Effects.{WhileOpen};
 ghost use Rattle.store_rows.specs.Tables.{Tables, entries_of};
 ghost use Rattle.store_rows.specs.Taken.{HasTaken};
 ghost use Rattle.store_rows.specs.Versions.{layout_of as layout_at};

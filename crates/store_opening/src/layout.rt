@@ -4,8 +4,8 @@ ghost use Rattle.std.specs.List.{AllByRecursion};
 ghost use Rattle.store_tables.specs.Found.{HasOwn};
 ghost use Rattle.store_tables.specs.Keyed.{entry_with_keys, old_entry, word, gram};
 ghost use Rattle.store_tables.specs.Tables.{mark, item, member, edition, kept};
-ghost use Rattle.store_edition_sql.specs.HeaderTable.{header};
-ghost use Rattle.store_edition_sql.specs.PartTable.{part};
+ghost use Rattle.store_sql.specs.HeaderTable.{header};
+ghost use Rattle.store_sql.specs.PartTable.{part};
 ghost use Rattle.store_rows.specs.Versions.{Plain, Keyed, Shown, Parted, layout_of};
 ghost use Rattle.store_holdings.specs.Holds.{HasLayout};
 ghost use Rattle.store_holdings.specs.Readings.{tables_of};
@@ -13,9 +13,10 @@ ghost use Rattle.store_opening.specs.Layouts.{layout_in};
 ghost use Rattle.store_opening.specs.Opens.{may_have_orphans};
 
 use sqlite_schema::schema::Schema;
-use store_edition_sql::{has_header_table, has_part_table};
 use store_holdings::has_part_room;
 use store_older_sql::{has_keyed_table, has_old_entry};
+use store_sql::header_found::has_header_table;
+use store_sql::part_found::has_part_table;
 use store_tables::{KeyedTable, StoreTable, has_table};
 
 /// How the tables of a file are laid out.

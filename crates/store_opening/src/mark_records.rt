@@ -3,9 +3,9 @@ ghost use Rattle.std.specs.Prelude.{◌≡◌, false, [], ◌∷◌, map, codes,
 ghost use Rattle.sqlite.specs.State.{HasCleanDisk, Survives};
 ghost use Rattle.sqlite.specs.Held.{state};
 ghost use Rattle.store_sql.specs.Columns.{mark_columns};
-ghost use Rattle.store_sql.specs.Effects.{WhileOpen, rows_of};
+ghost use Rattle.store_tables.specs.Effects.{WhileOpen, rows_of, FailsToRead};
 ghost use Rattle.store_sql.specs.Encodings.{stored_mark};
-ghost use Rattle.store_sql.specs.Reads.{Lists, FailsToRead, FailsToList};
+ghost use Rattle.store_sql.specs.Reads.{Lists, FailsToList};
 ghost use Rattle.store_opening.specs.Marks.{HasMarkTable};
 
 use sqlite::{Alter, Connection, Error, Row};

@@ -2,7 +2,7 @@
 ghost use Rattle.std.specs.Prelude.{◌≡◌, map, codes, [], ◌∷◌, IfOk, IfErr, OnOk};
 ghost use Rattle.sqlite.specs.State.{HasCleanDisk};
 ghost use Rattle.sqlite.specs.Held.{state};
-ghost use Rattle.store_sql.specs.Effects.{WhileOpen};
+ghost use Rattle.store_tables.specs.Effects.{WhileOpen};
 ghost use Rattle.store_sql.specs.Encodings.{stored_mark};
 ghost use Rattle.store_sql.specs.Reads.{IsListing};
 ghost use Rattle.store_rows.specs.Tables.{Tables};

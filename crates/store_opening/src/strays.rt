@@ -2,7 +2,7 @@
 ghost use Rattle.std.specs.Prelude.{◌≡◌, IfErr, OnOk};
 ghost use Rattle.sqlite.specs.State.{HasCleanDisk};
 ghost use Rattle.sqlite.specs.Held.{state};
-ghost use Rattle.store_sql.specs.Effects.{WhileOpen};
+ghost use Rattle.store_tables.specs.Effects.{WhileOpen};
 ghost use Rattle.store_rows.specs.Tables.{Tables};
 ghost use Rattle.store_rows.specs.Taken.{HasTaken};
 ghost use Rattle.store_rows.specs.Versions.{layout_of as layout_at};

@@ -5,11 +5,11 @@ ghost use Rattle.sqlite.specs.Held.{state};
 ghost use Rattle.store_tables.specs.Tables.{edition as edition_table};
 ghost use Rattle.store_tables.specs.Records.{header_of};
 ghost use Rattle.store_tables.specs.Typed.{owned_edition, owned_header};
-ghost use Rattle.store_edition_sql.specs.HeaderRecords.{header_columns, stored_header};
-ghost use Rattle.store_edition_sql.specs.HeaderTable.{header as header_table};
-ghost use Rattle.store_edition_sql.specs.PartTable.{part};
+ghost use Rattle.store_sql.specs.HeaderRecords.{header_columns, stored_header};
+ghost use Rattle.store_sql.specs.HeaderTable.{header as header_table};
+ghost use Rattle.store_sql.specs.PartTable.{part};
 ghost use Rattle.store_sql.specs.Columns.{edition_columns};
-ghost use Rattle.store_sql.specs.Effects.{Has, WhileOpen, equals_number};
+ghost use Rattle.store_tables.specs.Effects.{Has, WhileOpen, equals_number};
 ghost use Rattle.store_sql.specs.Encodings.{stored_edition};
 ghost use Rattle.store_sql.specs.Reads.{IsSelection};
 ghost use Rattle.store_rows.specs.Versions.{Parted};
@@ -20,8 +20,9 @@ ghost use Rattle.store_opening.specs.Opens.{HasTablesOf, HasRecord, HasWholeReco
 use crate::layout::TableLayout;
 use sqlite::{Alter, Connection};
 use std::alloc::Global;
-use store_edition_sql::{StoredHeader, headers_numbered};
 use store_scans::{ReadingFault, TEXT_FILE, fault_of_read, read_file};
+use store_sql::header_one::headers_numbered;
+use store_sql::header_records::StoredHeader;
 use store_sql::read::editions_numbered;
 use store_tables::{EditionRecord, HeaderRecord, StoredRow};
 

@@ -4,7 +4,7 @@ use Rattle.sqlite.specs.Effect.{Database, IsDatabase}
 use Rattle.sqlite.specs.State.{HasCleanDisk, Survives, IsUnchanged, IsLive}
 use Rattle.sqlite.specs.Held.{Held, state}
 use Rattle.sqlite_trees.specs.declared.store.Store.{Ghosts}
-use Rattle.store_sql.specs.Effects.{WhileOpen}
+use Rattle.store_tables.specs.Effects.{WhileOpen}
 use Rattle.store_scans.specs.Cursors.{Cursor, CursorHasGiven}
 use Rattle.store_scans.specs.declared.fault.ReadingFault.{ReadingFault}
 use Rattle.store_scans.specs.declared.fault.ReadingFault.TheVariants.{Damaged}

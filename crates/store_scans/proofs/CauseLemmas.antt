@@ -14,15 +14,15 @@ use Rattle.sqlite_trees.specs.declared.error.StoreError.TheVariants.{OutOfMemory
 use Rattle.store_tables.specs.Tables.{table_of}
 use Rattle.store_tables.specs.declared.tables.StoreTable.TheVariants.{Edition, Entry, Kept}
 use Rattle.store_sql.specs.Columns.{Content}
-use Rattle.store_sql.specs.Reads.{IsSelection, FailsToRead, rowid_and_number}
-use Rattle.store_edition_sql.specs.Chosen.{is_of_file}
+use Rattle.store_sql.specs.Reads.{IsSelection, rowid_and_number}
+use Rattle.store_sql.specs.ChosenParts.{is_of_file}
 use Rattle.store_sql.specs.Streams.{Scan, FailsToMove}
 use Rattle.store_sql.specs.Streams as store
 use Rattle.store_scans.specs.Cursors.{Cursor, CursorHasGiven, IsScannedToEnd, IsFrontOfScan}
 use Rattle.store_scans.specs.Cursors.Cursor.{InStore, ShownEntriesOf, ShownEntriesByRowid, OldEntriesOf, OldEntriesByRowid, PartsOf, PartsByRowid, HeadersByRowid}
 use Rattle.store_scans.proofs.CursorLemmas.{fails_to_move}
 use Rattle.store_sql.specs.Streams.Scan.{EntriesOf, AllKept, KeptById, ByRowid, EditionNumbers}
-use Rattle.store_sql.specs.Effects.{rows_of, equals_number}
+use Rattle.store_tables.specs.Effects.{rows_of, equals_number, FailsToRead}
 use Rattle.store_sql.specs.declared.records.ReadError.{ReadError}
 use Rattle.store_sql.specs.declared.records.ReadError.TheVariants.{NoRecord, Store}
 use Rattle.store_sql.proofs.StreamLemmas.{passed_on}

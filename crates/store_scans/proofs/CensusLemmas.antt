@@ -10,13 +10,13 @@ use Rattle.sqlite.specs.Order.{Row, column}
 use Rattle.sqlite.specs.declared.types.Value.TheVariants.{Int}
 use Rattle.dict_text.proofs.AllLemmas.{all_map}
 use Rattle.store_sql.specs.Columns.{Content, HasColumns, edition_columns, number_columns}
-use Rattle.store_sql.specs.Effects.{HasApartRowids, rows_of, same_value, equals_number}
+use Rattle.store_tables.specs.Effects.{HasApartRowids, rows_of, same_value, equals_number}
 use Rattle.store_sql.specs.Encodings.{stored_number}
 use Rattle.store_sql.specs.Reads.{IsSelection, by_columns, rowid_and_number}
 use Rattle.store_sql.specs.Streams.Scan.{EditionNumbers}
-use Rattle.store_edition_sql.specs.PartRecords.{part_columns, stored_part}
-use Rattle.store_edition_sql.specs.declared.part_records.StoredPart.{StoredPart}
-use Rattle.store_sql.proofs.ListingLemmas.{all_pass}
+use Rattle.store_sql.specs.PartRecords.{part_columns, stored_part}
+use Rattle.store_sql.specs.declared.part_records.StoredPart.{StoredPart}
+use Rattle.store_tables.proofs.RemoveLemmas.{all_pass}
 use Rattle.store_rows.specs.Apart.{HasTakenRowids}
 use Rattle.store_rows.specs.Order.{is_of, InOrder}
 use Rattle.store_rows.specs.Tables.{same_number}

@@ -13,13 +13,13 @@ use Rattle.store_tables.specs.Records as spec
 use Rattle.store_tables.specs.Typed.{owned_mark, owned_item, owned_member, owned_edition, owned_header, owned_kept}
 use Rattle.store_tables.specs.declared.records as typed
 use Rattle.store_tables.specs.declared.records.StoredRow.{StoredRow}
-use Rattle.store_sql.specs.Effects.{rows_of}
+use Rattle.store_tables.specs.Effects.{rows_of}
 use Rattle.store_sql.specs.Encodings.{mark_row, item_row, member_row, edition_row, kept_row, stored_mark, stored_item, stored_member, stored_edition, stored_kept}
 use Rattle.store_sql.specs.Reads.{by_columns}
-use Rattle.store_edition_sql.specs.HeaderRecords.{header_row, stored_header}
-use Rattle.store_edition_sql.specs.declared.header_records.StoredHeader.{StoredHeader}
-use Rattle.store_edition_sql.specs.PartRecords.{part_row, owned_part, stored_part}
-use Rattle.store_edition_sql.specs.declared.part_records.StoredPart.{StoredPart}
+use Rattle.store_sql.specs.HeaderRecords.{header_row, stored_header}
+use Rattle.store_sql.specs.declared.header_records.StoredHeader.{StoredHeader}
+use Rattle.store_sql.specs.PartRecords.{part_row, owned_part, stored_part}
+use Rattle.store_sql.specs.declared.part_records.StoredPart.{StoredPart}
 use Rattle.store_holdings.specs.Holds.{Keeps}
 use Rattle.store_holdings.proofs.ReadLemmas.{sorted_order}
 use Rattle.store_holdings.proofs.OneLemmas.{decode_mark, decode_item, decode_member, decode_edition, decode_header, decode_part, decode_kept, mark_back, item_back, member_back, edition_back, header_back, part_back, kept_back}

@@ -7,18 +7,18 @@ use Rattle.sqlite.specs.Held.{Held, state}
 use Rattle.sqlite.specs.declared.error.Error.{Error}
 use Rattle.sqlite_trees.specs.declared.store.Store.{Ghosts}
 use Rattle.store_sql.specs.Columns.{Content}
-use Rattle.store_sql.specs.Reads.{FailsToRead}
+use Rattle.store_tables.specs.Effects.{FailsToRead}
 use Rattle.store_sql.specs.Streams.{FailsToMove}
 use Rattle.store_sql.specs.declared.records.ReadError.TheVariants.{NoRecord}
 use Rattle.store_sql.proofs.StreamLemmas as store
 use Rattle.store_older_sql.specs.Scans as scans
 use Rattle.store_older_sql.specs.Scans.OlderScan.{ShownOf, ShownByRowid, OldOf, OldByRowid}
 use Rattle.store_older_sql.proofs.ScanLemmas as keyed
-use Rattle.store_edition_sql.specs.HeaderTexts as header_texts
-use Rattle.store_edition_sql.proofs.HeaderScanLemmas as headers
-use Rattle.store_edition_sql.specs.PartScans as part_scans
-use Rattle.store_edition_sql.specs.PartScans.PartScan.{OfFile, ByRowid as PartByRowid}
-use Rattle.store_edition_sql.proofs.PartScanLemmas as parts
+use Rattle.store_sql.specs.HeaderTexts as header_texts
+use Rattle.store_sql.proofs.HeaderScanLemmas as headers
+use Rattle.store_sql.specs.PartScans as part_scans
+use Rattle.store_sql.specs.PartScans.PartScan.{OfFile, ByRowid as PartByRowid}
+use Rattle.store_sql.proofs.PartScanLemmas as parts
 use Rattle.store_scans.specs.Cursors.{Cursor, IsFrontOfScan, CursorHasGiven, CursorGivesOn, GivesNoRecord}
 use Rattle.store_scans.specs.Cursors.Cursor.{InStore, ShownEntriesOf, ShownEntriesByRowid, OldEntriesOf, OldEntriesByRowid, PartsOf, PartsByRowid, HeadersByRowid}
 

@@ -8,7 +8,7 @@ use Rattle.store_tables.specs.Records.{EntryRecord, ShowsHeadword}
 use Rattle.store_tables.specs.Typed.{owned_entry}
 use Rattle.store_tables.specs.Keyed.{entry_with_keys as keyed_entry, old_entry}
 use Rattle.store_sql.specs.Columns.{Content, HasColumns, entry_columns}
-use Rattle.store_sql.specs.Effects.{Has, rows_of, equals_number}
+use Rattle.store_tables.specs.Effects.{Has, rows_of, equals_number}
 use Rattle.store_sql.specs.Encodings.{stored_entry}
 use Rattle.store_sql.specs.Keyed.{keyed_entry_columns, old_entry_columns, stored_keyed_entry, stored_old_entry}
 use Rattle.store_sql.specs.Reads.{IsSelection}

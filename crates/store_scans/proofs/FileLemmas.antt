@@ -14,11 +14,11 @@ use Rattle.sqlite.specs.declared.types.Value.TheVariants.{Int}
 use Rattle.dict_text.proofs.AllLemmas.{all_filter}
 use Rattle.store_tables.specs.Records.{Part}
 use Rattle.store_sql.specs.Columns.{HasColumns}
-use Rattle.store_sql.specs.Effects.{rows_of, equals_number}
+use Rattle.store_tables.specs.Effects.{rows_of, equals_number}
 use Rattle.store_sql.specs.Reads.{by_columns}
-use Rattle.store_edition_sql.specs.Chosen.{is_of_file}
-use Rattle.store_edition_sql.specs.PartRecords.{part_columns, part_row, stored_part, owned_part}
-use Rattle.store_edition_sql.specs.declared.part_records.StoredPart.{StoredPart}
+use Rattle.store_sql.specs.ChosenParts.{is_of_file}
+use Rattle.store_sql.specs.PartRecords.{part_columns, part_row, stored_part, owned_part}
+use Rattle.store_sql.specs.declared.part_records.StoredPart.{StoredPart}
 use Rattle.store_rows.specs.Parts.{parts_of, AreOfSize, AreParts}
 use Rattle.store_rows.specs.Joining.{IsNext}
 use Rattle.store_rows.specs.Order.{InOrder}

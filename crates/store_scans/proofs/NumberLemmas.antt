@@ -7,8 +7,8 @@ use Rattle.std.proofs.lemmas.Map.Lookups.{exact_signed}
 use Rattle.sqlite.specs.Order.{Row, column, value_cmp}
 use Rattle.sqlite.specs.declared.types.Value.{Value}
 use Rattle.sqlite.specs.declared.types.Value.TheVariants.{Int}
-use Rattle.store_sql.specs.Effects.{same_value, equals_number}
-use Rattle.store_sql.proofs.KitLemmas.{value_cmp-Int, value_cmp_total}
+use Rattle.store_tables.specs.Effects.{same_value, equals_number}
+use Rattle.store_tables.proofs.KitLemmas.{value_cmp-Int, value_cmp_total}
 use Rattle.store_rows.specs.Tables.{same_number}
 use Rattle.store_rows.proofs.TakenLemmas.{same_number_is, same_itself}
 use Rattle.store_scans.proofs.RowidLemmas.{value_itself}

@@ -15,12 +15,12 @@ use Rattle.sqlite.specs.Effect.{Database}
 use Rattle.sqlite.specs.Order.{Row, column, value_cmp}
 use Rattle.store_tables.specs.Tables.{table_of}
 use Rattle.store_tables.specs.declared.tables.StoreTable.{StoreTable}
-use Rattle.store_sql.specs.Effects.{HasApartRowids, rows_of, same_value}
+use Rattle.store_tables.specs.Effects.{HasApartRowids, rows_of, same_value}
 use Rattle.store_sql.specs.Reads.{by_columns, rowid_and_number}
 use Rattle.store_sql.specs.Streams.Scan.{ByRowid}
 use Rattle.store_scans.specs.Cursors.Cursor.{InStore}
-use Rattle.store_sql.proofs.KitLemmas.{value_cmp_total}
-use Rattle.store_sql.proofs.Callers.{apart_same, differs}
+use Rattle.store_tables.proofs.KitLemmas.{value_cmp_total}
+use Rattle.store_tables.proofs.Callers.{apart_same, differs}
 use Rattle.store_holdings.proofs.ReadLemmas.{sorted_order, one_le, records_order}
 use Rattle.store_rows.specs.Order.{InOrder}
 use Rattle.store_rows.specs.Apart.{HasTakenRowids}

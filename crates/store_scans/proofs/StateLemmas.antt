@@ -5,8 +5,7 @@ use Rattle.sqlite.specs.State.{State, HasCleanDisk, Survives, IsUnchanged}
 use Rattle.sqlite.proofs.StateLemmas.{survives_then}
 use Rattle.sqlite.specs.declared.error.Error.{Error}
 use Rattle.sqlite.specs.Effect.{Database}
-use Rattle.store_sql.specs.Effects.{WhileOpen}
-use Rattle.store_sql.specs.Reads.{FailsToRead}
+use Rattle.store_tables.specs.Effects.{WhileOpen, FailsToRead}
 use Rattle.store_scans.specs.Reading.{Same, StaysUnlessShut, OnlyReads}
 
 pub same_as : (old new : State) → IsUnchanged old new → Same old new

@@ -5,7 +5,7 @@ use Rattle.sqlite.specs.Order.{Row}
 use Rattle.store_tables.specs.Tables.{table_of}
 use Rattle.store_tables.specs.declared.tables.StoreTable.{StoreTable}
 use Rattle.store_sql.specs.Columns.{Content, kept_columns}
-use Rattle.store_sql.specs.Effects.{HasApartRowids, rows_of}
+use Rattle.store_tables.specs.Effects.{HasApartRowids, rows_of}
 use Rattle.store_sql.specs.Encodings.{stored_kept}
 use Rattle.store_sql.specs.Streams.Scan.{ByRowid, KeptById}
 use Rattle.store_scans.specs.Cursors.Cursor.{InStore}

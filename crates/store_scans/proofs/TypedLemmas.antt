@@ -16,7 +16,7 @@ use Rattle.sqlite_schema.specs.Rules.{is_of, has_affinity, suits, are_typed, are
 use Rattle.store_tables.specs.Tables.{needed}
 use Rattle.store_tables.specs.Keyed.{entry_with_keys, old_entry}
 use Rattle.store_sql.specs.Columns.{HasColumns, entry_columns}
-use Rattle.store_sql.specs.Effects.{Has, rows_of, shown}
+use Rattle.store_tables.specs.Effects.{Has, rows_of, shown}
 use Rattle.store_sql.specs.Keyed.{keyed_entry_columns, old_entry_columns}
 use Rattle.store_rows.specs.Versions.{Keyed, Shown}
 use Rattle.store_holdings.specs.Readings.{IsReadable, contents, shown_columns, without_keys}

@@ -3,9 +3,9 @@ use Rattle.std.specs.Prelude.{◌≡◌, ◌⊎◌, ◌&&◌, ◌||◌, ℕ, ℤ
 use Rattle.std.specs.List.{AllByRecursion, list_any}
 use Rattle.sqlite.specs.Order.{Row}
 use Rattle.sqlite.specs.Effect.{Database}
-use Rattle.store_sql.specs.Effects.{HasApartRowids, rows_of, equals_number}
-use Rattle.store_edition_sql.specs.PartRecords.{stored_part}
-use Rattle.store_edition_sql.specs.declared.part_records.StoredPart.{StoredPart}
+use Rattle.store_tables.specs.Effects.{HasApartRowids, rows_of, equals_number}
+use Rattle.store_sql.specs.PartRecords.{stored_part}
+use Rattle.store_sql.specs.declared.part_records.StoredPart.{StoredPart}
 use Rattle.store_rows.specs.Versions.{Layout, Plain, Keyed, Shown, Parted}
 use Rattle.store_holdings.specs.Readings.{TableReading, contents}
 use Rattle.store_scans.specs.Takers.{takes_rowids, refuses_rowids}

@@ -9,9 +9,9 @@ use Rattle.store_sql.specs.Columns.{Content, HasColumns}
 use Rattle.store_sql.specs.Streams as store
 use Rattle.store_older_sql.specs.Scans as keyed
 use Rattle.store_older_sql.specs.Scans.OlderScan.{ShownOf, ShownByRowid, OldOf, OldByRowid}
-use Rattle.store_edition_sql.specs.HeaderScans as headers
-use Rattle.store_edition_sql.specs.PartScans as parts
-use Rattle.store_edition_sql.specs.PartScans.PartScan.{OfFile, ByRowid as PartByRowid}
+use Rattle.store_sql.specs.HeaderScans as headers
+use Rattle.store_sql.specs.PartScans as parts
+use Rattle.store_sql.specs.PartScans.PartScan.{OfFile, ByRowid as PartByRowid}
 
 -- the rows of a table of schema 1; or the entries of an edition as schema 4 has them, or as schemas 2 and 3 do, or all of them in
 -- the order of their rowids; or the parts of a file of an edition, or all parts, or all headers, in the order of their rowids

@@ -6,7 +6,7 @@ use Rattle.sqlite.specs.Effect.{Database}
 use Rattle.store_tables.specs.Records.{EditionRecord, EntryRecord}
 use Rattle.dict_index.specs.Line.{Line}
 use Rattle.store_sql.specs.Columns.{HasColumns}
-use Rattle.store_sql.specs.Effects.{rows_of, equals_number}
+use Rattle.store_tables.specs.Effects.{rows_of, equals_number}
 use Rattle.store_sql.specs.Encodings.{entry_row}
 use Rattle.store_sql.specs.Reads.{IsSelection}
 use Rattle.store_rows.specs.Stored.{IsStorable, stored_index}

@@ -2,10 +2,10 @@
 use Rattle.std.specs.Prelude.{◌≡◌, ℕ, ℤ, pos, List, ◌++◌, codes, map, drop, filter, length, IsPermutation}
 use Rattle.sqlite.specs.Order.{Row}
 use Rattle.sqlite.specs.Effect.{Database}
-use Rattle.store_sql.specs.Effects.{rows_of}
-use Rattle.store_edition_sql.specs.Chosen.{is_of_file}
-use Rattle.store_edition_sql.specs.PartRecords.{part_row}
-use Rattle.store_edition_sql.specs.declared.part_records.StoredPart.{StoredPart}
+use Rattle.store_tables.specs.Effects.{rows_of}
+use Rattle.store_sql.specs.ChosenParts.{is_of_file}
+use Rattle.store_sql.specs.PartRecords.{part_row}
+use Rattle.store_sql.specs.declared.part_records.StoredPart.{StoredPart}
 use Rattle.store_rows.specs.Parts.{parts_of}
 use Rattle.store_rows.specs.Versions.{Parted}
 use Rattle.store_rows.specs.Written.{numbered}

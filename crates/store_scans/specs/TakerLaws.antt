@@ -8,7 +8,7 @@ use Rattle.store_tables.specs.Records as spec
 use Rattle.store_rows.specs.declared.reader.Reader.{Reader}
 use Rattle.store_rows.specs.declared.apart.IdReader.{IdReader}
 use Rattle.store_rows.specs.declared.apart.RowidReader.{RowidReader}
-use Rattle.store_edition_sql.specs.PartRecords.{stored_part}
+use Rattle.store_sql.specs.PartRecords.{stored_part}
 use Rattle.store_scans.specs.declared.census.Census.{Census}
 use Rattle.store_scans.specs.declared.census.PartCensus.{PartCensus}
 use Rattle.store_scans.specs.declared.indexing_reader.IndexingReader.{IndexingReader}

@@ -2,9 +2,9 @@
 ghost use Rattle.std.specs.Prelude.{◌≡◌, IfOk, IfErr, OnOk};
 ghost use Rattle.sqlite.specs.State.{HasCleanDisk};
 ghost use Rattle.sqlite.specs.Held.{state};
-ghost use Rattle.store_sql.specs.Effects.{Has, WhileOpen};
-ghost use Rattle.store_edition_sql.specs.PartRecords.{part_columns, stored_part};
-ghost use Rattle.store_edition_sql.specs.PartTable.{part};
+ghost use Rattle.store_tables.specs.Effects.{Has, WhileOpen};
+ghost use Rattle.store_sql.specs.PartRecords.{part_columns, stored_part};
+ghost use Rattle.store_sql.specs.PartTable.{part};
 ghost use Rattle.store_scans.specs.Cursors.Cursor.{PartsOf};
 ghost use Rattle.store_scans.specs.Files.{HasFile, HasNoFile, TakesParts, RefusesParts};
 ghost use Rattle.store_scans.specs.Reading.{Same, OnlyReads, IsExcusedReading};
@@ -15,8 +15,9 @@ use crate::fault::{ReadingFault, fault_of_store};
 use crate::scan::{Taker, take_all};
 use sqlite::{Alter, Connection};
 use std::alloc::Global;
-use store_edition_sql::{StoredPart, read_parts_of};
 use store_rows::{Joiner, Refused, RowsFault, number_in};
+use store_sql::part_records::StoredPart;
+use store_sql::part_scan::read_parts_of;
 
 /// The file of an edition that its index is.
 pub const INDEX_FILE: i64 = 0;

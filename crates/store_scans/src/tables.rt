@@ -3,7 +3,7 @@ ghost use Rattle.std.specs.Prelude.{◌≡◌, ◌⊎◌, IfErr, OnOk};
 ghost use Rattle.sqlite.specs.State.{HasCleanDisk};
 ghost use Rattle.sqlite.specs.Held.{state};
 ghost use Rattle.store_tables.specs.Tables.{kept, table_of};
-ghost use Rattle.store_sql.specs.Effects.{Has, HasApartRowids, WhileOpen, rows_of};
+ghost use Rattle.store_tables.specs.Effects.{Has, HasApartRowids, WhileOpen, rows_of};
 ghost use Rattle.store_sql.specs.Columns.{kept_columns};
 ghost use Rattle.store_sql.specs.Encodings.{stored_kept};
 ghost use Rattle.store_sql.specs.Streams.Scan.{AllKept, KeptById, ByRowid};

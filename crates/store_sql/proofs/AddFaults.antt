@@ -31,11 +31,11 @@ use Rattle.sqlite_schema.specs.declared.schema.Constraint.TheVariants.{Datatype,
 use Rattle.sqlite_schema.specs.declared.schema.Keys.TheVariants.{Enforced}
 use Rattle.sqlite_value.specs.declared.keys.Order.{Order}
 use Rattle.store_tables.specs.Tables.{simple}
-use Rattle.store_sql.specs.Effects.{table_in}
-use Rattle.store_sql.specs.Refusals.{IsInterrupted, IsTooBig, RefusesIn, RefusesToAdd, source_by, is_of_keys, with_row}
-use Rattle.store_sql.proofs.KitLemmas.{all_from, all_has, no_works}
-use Rattle.store_sql.proofs.InsertLemmas.{wrote, task}
-use Rattle.store_sql.proofs.FaultLemmas.{failed_step, fails_for, same_refers, same_stop, no_stop}
+use Rattle.store_tables.specs.Effects.{table_in}
+use Rattle.store_tables.specs.Refusals.{IsInterrupted, IsTooBig, RefusesIn, RefusesToAdd, source_by, is_of_keys, with_row}
+use Rattle.store_tables.proofs.KitLemmas.{all_from, all_has, no_works}
+use Rattle.store_tables.proofs.InsertLemmas.{wrote, task}
+use Rattle.store_tables.proofs.FaultLemmas.{failed_step, fails_for, same_refers, same_stop, no_stop}
 
 -- after a step each table has the rows that the step says
 pub with_same : (db next : Trees) (tree : ℕ) (rows : List Row) → next tree ≡ rows → (ts : List Table) → AllByRecursion (λ t. t.tree ≢ tree → next t.tree ≡ db t.tree) ts → AllByRecursion (λ t. next t.tree ≡ with_tree db tree rows t.tree) ts

@@ -31,11 +31,11 @@ use Rattle.sqlite_schema.specs.declared.schema.Reference.{Reference}
 use Rattle.sqlite_schema.specs.declared.program.Program.{Program}
 use Rattle.sqlite_value.specs.declared.keys.Order.{Order}
 use Rattle.store_tables.specs.Found.{HasTable, is_in}
-use Rattle.store_sql.specs.Effects.{HasApartRowids, IsRemoved, SameOthers, count_in, rows_of, table_in, shown, same_value}
-use Rattle.store_sql.proofs.InsertLemmas.{went, same_value as same_ok, same_some}
-use Rattle.store_sql.proofs.DeleteLemmas.{doomed}
-use Rattle.store_sql.proofs.ListLemmas.{lists, passes}
-use Rattle.store_sql.proofs.RemoveLemmas.{removed, all_map}
+use Rattle.store_tables.specs.Effects.{HasApartRowids, IsRemoved, SameOthers, count_in, rows_of, table_in, shown, same_value}
+use Rattle.store_tables.proofs.InsertLemmas.{went, same_value as same_ok, same_some}
+use Rattle.store_tables.proofs.DeleteLemmas.{doomed}
+use Rattle.store_tables.proofs.ListLemmas.{lists, passes}
+use Rattle.store_tables.proofs.RemoveLemmas.{removed, all_map}
 
 -- ---- no foreign key leads into the table, so none acts
 

@@ -24,14 +24,14 @@ use Rattle.sqlite_schema.specs.declared.schema.Among.TheVariants.{All}
 use Rattle.sqlite_schema.specs.declared.schema.Constraint.TheVariants.{Datatype, NotNull, Check, PrimaryKey, Unique, ForeignKey}
 use Rattle.sqlite_schema.specs.declared.schema.Keys.TheVariants.{Enforced}
 use Rattle.store_tables.specs.Found.{HasTable}
-use Rattle.store_sql.specs.Effects.{HasApartRowids, rows_of, table_in, shown}
-use Rattle.store_sql.specs.Refusals.{IsInterrupted, RefusesLoss, RefusesToRemove, without_rows}
+use Rattle.store_tables.specs.Effects.{HasApartRowids, rows_of, table_in, shown}
+use Rattle.store_tables.specs.Refusals.{IsInterrupted, RefusesLoss, RefusesToRemove, without_rows}
 use Rattle.store_sql.proofs.AddFaults.{with_same}
-use Rattle.store_sql.proofs.KitLemmas.{all_has, test_from}
+use Rattle.store_tables.proofs.KitLemmas.{all_has, test_from}
 use Rattle.store_sql.proofs.DeleteEffects.{program, edit, no_works, took, task, left_rows}
 use Rattle.store_tables.proofs.NameLemmas.{not_parent}
-use Rattle.store_sql.proofs.FaultLemmas.{failed_step, fails_for, same_refers, same_stop, no_stop}
-use Rattle.store_sql.proofs.ListLemmas.{passes}
+use Rattle.store_tables.proofs.FaultLemmas.{failed_step, fails_for, same_refers, same_stop, no_stop}
+use Rattle.store_tables.proofs.ListLemmas.{passes}
 
 -- ---- no foreign key leads into the table, so none is against it
 

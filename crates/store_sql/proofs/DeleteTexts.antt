@@ -17,25 +17,25 @@ use Rattle.sqlite_syntax.specs.declared.statement.Parsed.{Parsed}
 use Rattle.store_tables.specs.Tables.{table_of}
 use Rattle.store_tables.proofs.TableLemmas.{name_is}
 use Rattle.store_tables.specs.Found.{HasTable}
-use Rattle.store_sql.specs.Effects.{Has, HasApartRowids, IsRemoved, count_in, rows_of, shown}
+use Rattle.store_tables.specs.Effects.{Has, HasApartRowids, IsRemoved, count_in, rows_of, shown}
 use Rattle.sqlite.specs.State.{State, Executes, ExecutesInside, Fails, IsUnchanged, Writes}
 use Rattle.sqlite.specs.Listing.{understood}
 use Rattle.sqlite.specs.Command.{Command}
 use Rattle.sqlite.specs.Command.TheVariants.{Delete}
 use Rattle.sqlite.proofs.Callers.{statement_of, runs_as}
-use Rattle.store_sql.proofs.ListLemmas.{passes}
+use Rattle.store_tables.proofs.ListLemmas.{passes}
 use Rattle.store_sql.proofs.DeleteEffects.{removes, counts}
 use Rattle.store_sql.specs.Deletes.{clear_text}
-use Rattle.store_sql.proofs.TextLemmas.{parsed_or}
-use Rattle.store_sql.proofs.ReadLemmas.{context_of}
-use Rattle.store_sql.proofs.DeleteLemmas.{doomed, delete_text_is}
+use Rattle.store_tables.proofs.TextLemmas.{parsed_or}
+use Rattle.store_tables.proofs.ReadLemmas.{context_of}
+use Rattle.store_tables.proofs.DeleteLemmas.{doomed, delete_text_is}
 use Rattle.store_tables.specs.declared.tables.StoreTable.{StoreTable}
 use Rattle.store_tables.specs.declared.tables.StoreTable.TheVariants as store
 use Rattle.sqlite.specs.declared.error.Error.{Error}
 use Rattle.sqlite_sql.specs.Program.{ProgramOverflows}
-use Rattle.store_sql.specs.Refusals.{RefusesToRemove}
+use Rattle.store_tables.specs.Refusals.{RefusesToRemove}
 use Rattle.store_sql.proofs.DeleteFaults.{cause}
-use Rattle.store_sql.proofs.FaultLemmas.{faults_inside}
+use Rattle.store_tables.proofs.FaultLemmas.{faults_inside}
 
 -- ---- the texts
 

@@ -6,9 +6,9 @@ use Rattle.sqlite.specs.Source.TheVariants.{Values}
 use Rattle.sqlite.specs.Compile.{first}
 use Rattle.sqlite_tied.specs.Compute.{everything}
 use Rattle.sqlite_syntax.specs.declared.statement.Parsed.{Parsed}
-use Rattle.store_tables.specs.Tables.{mark, item, member, kept, edition}
+use Rattle.store_tables.specs.Tables.{mark, item, member, kept}
 use Rattle.store_sql.specs.Inserts.{insert_mark, insert_item, insert_member, insert_kept}
-use Rattle.store_sql.proofs.TextLemmas.{parsed_or, ReadsInsert, insert_command, insert_plain, insert_is}
+use Rattle.store_tables.proofs.TextLemmas.{parsed_or, ReadsInsert, insert_command, insert_plain, insert_is}
 use Rattle.sqlite.specs.Values.{or_null, bound_value}
 use Rattle.sqlite.specs.Kind.TheVariants.{Integer, Text as OfText}
 use Rattle.sqlite.specs.Cast.{cast, cast_all}
@@ -18,16 +18,16 @@ use Rattle.sqlite.specs.State.{State, Executes, ExecutesInside, Fails, IsUnchang
 use Rattle.sqlite.proofs.Callers.{statement_of, runs_as}
 use Rattle.store_tables.specs.Records.{Mark, ItemRecord, Member, KeptRecord}
 use Rattle.store_sql.specs.Encodings.{number_or_null, text_or_null, mark_row, item_row, member_row, kept_row}
-use Rattle.store_sql.specs.Effects.{Has, IsAdded}
-use Rattle.store_sql.proofs.InsertLemmas.{adds_chosen, adds_given, cast_int, cast_null}
+use Rattle.store_tables.specs.Effects.{Has, IsAdded}
+use Rattle.store_tables.proofs.InsertLemmas.{adds_chosen, adds_given, cast_int, cast_null}
 use Rattle.std.proofs.lemmas.Bool.{and_from}
 use Rattle.sqlite.specs.Edit.{next_rowid}
 use Rattle.sqlite.specs.declared.error.Error.{Error}
 use Rattle.sqlite_schema.specs.Rules.{is_of}
 use Rattle.sqlite_typing.specs.Types.{accepts_terms}
-use Rattle.store_sql.specs.Refusals.{RefusesToAdd, IsTooBig}
+use Rattle.store_tables.specs.Refusals.{RefusesToAdd, IsTooBig}
 use Rattle.store_sql.proofs.AddFaults.{cause}
-use Rattle.store_sql.proofs.FaultLemmas.{faults_inside}
+use Rattle.store_tables.proofs.FaultLemmas.{faults_inside}
 
 abbrev pub mark_terms : List Term
 mark_terms = col 0 0 ∷ lit Null ∷ col 0 1 ∷ col 0 2 ∷ col 0 3 ∷ []

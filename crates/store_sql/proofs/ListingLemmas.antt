@@ -3,6 +3,7 @@ use Rattle.std.proofs.Common.{◌≡◌, ◌≢◌, ◌⊎◌, ◌≤◌, ◌==�
 use Rattle.std.proofs.Common.{◌-◌, Bool, Result, Option, IfOk, ap, ℤ}
 use Rattle.std.proofs.lemmas.Bool.{lt-leb, cases_Bool}
 use Rattle.std.specs.List.Sorted.{IsPermutation, IsSorted}
+use Rattle.std.proofs.lemmas.List.Sorted.{IsPermutation-sym}
 use Rattle.std.specs.Ordering.{is_lt}
 use Rattle.sqlite.specs.Order.{Row, column}
 use Rattle.sqlite.specs.Schema.{Schema}
@@ -33,12 +34,12 @@ use Rattle.sqlite_syntax.specs.declared.statement.Parsed.{Parsed}
 use Rattle.sqlite_typing.specs.Types.{accepts_program}
 use Rattle.sqlite_value.specs.declared.keys.Key.{Key}
 use Rattle.store_tables.specs.Found.{HasTable}
-use Rattle.store_sql.specs.Effects.{Has, rows_of, shown, equals_number, equals_text}
-use Rattle.store_sql.specs.Reads.{FailsToRead, by_columns, IsListing, IsSelection}
-use Rattle.store_sql.proofs.InsertLemmas.{same_value}
-use Rattle.store_sql.proofs.ListLemmas.{lists, sorts, passes}
-use Rattle.store_sql.proofs.ReadLemmas.{CanSelect, can_select, query_with, select_of, out_order, starred, starred_is, understood_is, outputs_of}
-use Rattle.store_sql.proofs.SilentLemmas.{shut_query, commits_none, shown_open}
+use Rattle.store_tables.specs.Effects.{Has, HasApartRowids, rows_of, shown, equals_number, equals_text, FailsToRead}
+use Rattle.store_sql.specs.Reads.{by_columns, IsListing, IsSelection}
+use Rattle.store_tables.proofs.InsertLemmas.{same_value}
+use Rattle.store_tables.proofs.ListLemmas.{lists, sorts, passes}
+use Rattle.store_tables.proofs.ReadLemmas.{CanSelect, can_select, query_with, select_of, out_order, starred, starred_is, understood_is, outputs_of}
+use Rattle.store_tables.proofs.SilentLemmas.{shut_query, commits_none, shown_open}
 use Rattle.std.specs.declared.alloc.Global.{Global}
 use Rattle.std.specs.Prelude.{Vec}
 use Rattle.sqlite.proofs.StateLemmas.{survives_weaker}
@@ -47,7 +48,9 @@ use Rattle.sqlite_resolve.specs.declared.state.Carried.{Carried}
 use Rattle.sqlite_ast.specs.declared.Expr.{Expr}
 use Rattle.sqlite_ast.specs.declared.Sort.{Sort}
 use Rattle.store_tables.specs.Tables.{edition, entry, kept}
-use Rattle.store_sql.proofs.CompareLemmas.{and_true, equals_is, equals_text_is}
+use Rattle.store_tables.proofs.CompareLemmas.{and_true, equals_is, equals_text_is}
+use Rattle.store_tables.proofs.Callers.{apart_same}
+use Rattle.store_tables.proofs.RemoveLemmas.{all_pass}
 use Rattle.store_sql.proofs.ReadTexts.{ReadsTable, test_one_edition, test_some_entries, test_one_kept}
 
 abbrev pub command_with : ℕ → List Output → List Term → List (Term × Key) → Command
@@ -194,10 +197,6 @@ module _ (text : List ℕ) (p : Parsed) (table : ℕ → Table) (outs : ℕ → 
     pub query_fails : (IsTrue old.is_open → Has table old.now) → (e : Error) → FailsToQuery text values old new e → FailsToRead old new e
     query_fails has = read_fails (λ open'. can_read table old.now (has open'))
 
-pub all_pass : {X : Type 0} (rows : List X) → filter (λ _. true) rows ≡ rows
-all_pass [] = refl
-all_pass (r ∷ rows) = ap (λ rest. r ∷ rest) (all_pass rows)
-
 keep_shown : (table : Table) (p q : Row → Bool) → ((r : Row) → p r ≡ q (shown table r)) → (rows : List Row) → map (shown table) (filter p rows) ≡ filter q (map (shown table) rows)
 keep_shown table p q same [] = refl
 keep_shown table p q same (r ∷ rows) = elim (cases_Bool (q (shown table r))) [
@@ -225,9 +224,6 @@ module _ (text : List ℕ) (p : Parsed) (table : ℕ → Table) (condition : Opt
     means = λ schema at tree has. (compiles schema at tree has).0;
     unlisted = λ schema at tree has. (compiles schema at tree has).1;
   }
-
-  pub reads_plain : (schema : Schema) (at tree : ℕ) → HasTable schema at (table tree) → IsPlain (understood schema text)
-  reads_plain = is_plain text p table outs tests' order query
 
   -- the whole answer
   module _ (named : (tree : ℕ) → (table tree).name ≡ (table 0).name) (params : Row) (test : Row → Bool) (tested : (tree : ℕ) (row : Row) → passes params tests' row ≡ test (shown (table tree) row)) (old new : State) where
@@ -259,6 +255,10 @@ pub lists_whole : (name : List ℕ) (columns : List ℕ) (old new : State) (resu
     → IfOk result (λ rows. IsListing name columns old.now rows.items × IsUnchanged old new)
 lists_whole name columns old new (Err e) h = tt
 lists_whole name columns old new (Ok rows) h = (record { same = subst (λ l. IsPermutation l rows.items) (all_pass (rows_of name old.now)) h.0.same; sorted = h.0.sorted }, h.1)
+
+-- a listing has the rows of its table, so what is tested of it holds of them
+pub apart_listed : (name columns : List ℕ) (db : Database) (rows : List Row) → IsListing name columns db rows → HasApartRowids rows → HasApartRowids (rows_of name db)
+apart_listed name columns db rows listing = apart_same rows (rows_of name db) (IsPermutation-sym _ _ listing.same)
 
 pub edition_read : (tree : ℕ) (n : ℤ) (row : Row) → passes (Int n ∷ []) test_one_edition row ≡ equals_number 1 n (shown (edition tree) row)
 edition_read tree n row = and_true _ ∙ equals_is (column row 0) n

@@ -29,14 +29,15 @@ use Rattle.sqlite_schema.specs.declared.schema.Column.{Column}
 use Rattle.sqlite_syntax.specs.declared.statement.Parsed.{Parsed}
 use Rattle.sqlite_typing.specs.Types.{accepts_program}
 use Rattle.store_tables.specs.Tables.{needed, edition}
-use Rattle.store_sql.specs.Effects.{Has, rows_of, shown}
+use Rattle.store_tables.specs.Effects.{Has, rows_of, shown}
 use Rattle.store_sql.specs.Reads.{IsNumbering, rowid_and_number, select_numbers}
-use Rattle.store_sql.proofs.DeleteLemmas.{column_expr, out_column, lower_column}
-use Rattle.store_sql.proofs.ListingLemmas.{all_pass, IsQuery, ShowsRow, command_with, TakesValues, read_rows, shown_answers}
-use Rattle.store_sql.proofs.ReadLemmas.{CanSelect, rowid_expr, rowid_shown, source_of, core_with, select_with, out_rowid, out_one, out_order, lower_rowid, heading_is, rowid_output, context_of, level_of, left_of, plainly}
-use Rattle.store_sql.proofs.ReadLemmas.{query_with, understood_is}
+use Rattle.store_tables.proofs.DeleteLemmas.{column_expr, out_column, lower_column}
+use Rattle.store_sql.proofs.ListingLemmas.{IsQuery, ShowsRow, command_with, TakesValues, read_rows, shown_answers}
+use Rattle.store_tables.proofs.RemoveLemmas.{all_pass}
+use Rattle.store_tables.proofs.ReadLemmas.{CanSelect, rowid_expr, rowid_shown, source_of, core_with, select_with, out_rowid, out_one, out_order, lower_rowid, heading_is, rowid_output, context_of, level_of, left_of, plainly}
+use Rattle.store_tables.proofs.ReadLemmas.{query_with, understood_is}
 use Rattle.store_sql.proofs.ReadTexts.{sort_by, key_at}
-use Rattle.store_sql.proofs.TextLemmas.{parsed_or}
+use Rattle.store_tables.proofs.TextLemmas.{parsed_or}
 
 -- ---- `rowid`, and one column
 

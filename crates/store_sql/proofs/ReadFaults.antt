@@ -5,13 +5,9 @@ use Rattle.sqlite.specs.Order.{Row}
 use Rattle.sqlite.specs.Schema.{Schema}
 use Rattle.sqlite.specs.Table.{Table}
 use Rattle.sqlite.specs.Term.{Term}
-use Rattle.sqlite.specs.Effect.{Database}
 use Rattle.sqlite.specs.declared.types.Value.TheVariants.{Int, Text}
 use Rattle.sqlite.specs.declared.error.Error.{Error}
-use Rattle.sqlite.specs.Listing.{understood}
 use Rattle.sqlite.specs.State.{State, HasCleanDisk, Survives, CommitsShowing, Shown, IsUnchanged, FailsToQuery}
-use Rattle.sqlite.proofs.Callers.{EndsIn}
-use Rattle.sqlite_resolve.specs.declared.compiled.Compiled.{Compiled}
 use Rattle.sqlite_resolve.specs.declared.scope.Output.{Output}
 use Rattle.sqlite_resolve.specs.declared.state.Carried.{Carried}
 use Rattle.sqlite_typing.specs.Types.{accepts_program}
@@ -21,19 +17,18 @@ use Rattle.sqlite_ast.specs.declared.Expr.{Expr}
 use Rattle.sqlite_syntax.specs.declared.statement.Parsed.{Parsed}
 use Rattle.sqlite_tied.specs.Compute.{everything}
 use Rattle.store_tables.specs.Tables.{mark, item, member, edition, entry, kept, table_of}
-use Rattle.store_tables.specs.Found.{HasTable}
-use Rattle.store_sql.specs.Effects.{Has, shown}
-use Rattle.store_sql.specs.Reads.{FailsToRead, IsSelection, select_mark, select_item, select_member, select_kept, select_one_edition, select_some_entries, select_one_kept, select_kept_by_id, select_by_rowid}
-use Rattle.store_sql.proofs.ReadLemmas.{query_over, outputs_of, rowid_expr, rowid_shown, all_shown, source_of, core_with, select_with}
+use Rattle.store_tables.specs.Effects.{Has, shown, FailsToRead}
+use Rattle.store_sql.specs.Reads.{IsSelection, select_mark, select_item, select_member, select_kept, select_one_edition, select_some_entries, select_one_kept, select_kept_by_id, select_by_rowid}
+use Rattle.store_tables.proofs.ReadLemmas.{query_over, outputs_of, rowid_expr, rowid_shown, all_shown, source_of, core_with, select_with}
 use Rattle.store_sql.proofs.ReadTexts.{ReadsTable, key_at, test_one_edition, test_some_entries, test_one_kept, read_mark, read_item, read_member, read_kept, read_one_edition, read_some_entries, read_one_kept}
 use Rattle.store_sql.proofs.ReadTexts.{reads_table, sort_by, of_column}
-use Rattle.store_sql.proofs.ListingLemmas.{IsQuery, TakesValues, CanRead, can_read, ends_in, query_fails, read_fails, query, selects, reads_nothing_else}
-use Rattle.store_sql.proofs.ListLemmas.{passes}
+use Rattle.store_sql.proofs.ListingLemmas.{IsQuery, TakesValues, CanRead, can_read, read_fails, query, selects, reads_nothing_else}
+use Rattle.store_tables.proofs.ListLemmas.{passes}
 use Rattle.sqlite.specs.Compile.{first}
 use Rattle.sqlite_resolve.specs.Lowering.{nothing as none_carried}
 use Rattle.store_tables.specs.declared.tables.StoreTable.{StoreTable}
 use Rattle.store_tables.specs.declared.tables.StoreTable.TheVariants.{Mark, Item, Member, Edition, Entry, Kept}
-use Rattle.store_sql.proofs.TextLemmas.{parsed_or}
+use Rattle.store_tables.proofs.TextLemmas.{parsed_or}
 
 -- the text is one statement, and takes these values
 pub record Takes {X : Type 0} (text : List ℕ) (p : Parsed) (table : ℕ → Table) (tests : List Term) (order : List (Term × Key)) (given : X → Row) : Type 0 where
@@ -87,10 +82,6 @@ module _ (text : List ℕ) (p : Parsed) (table : ℕ → Table) (condition : Opt
   abbrev is_query : IsQuery text p table outs tests' order
   is_query = query text p table condition tests' left sorted order columns rest last r
 
-  -- no recursion is in it
-  pub ends_at : (schema : Schema) → ((at : ℕ) × (tree : ℕ) × HasTable schema at (table tree)) → (c : Compiled) → understood schema text ≡ Ok c → (db : Database) (params : Row) → EndsIn c.command db params
-  ends_at = ends_in text p table outs tests' order is_query
-
   module _ {X : Type 0} (given : X → Row) (w : Takes text p table tests' order given) (x : X) where
     pub takes_values : TakesValues text p table outs tests' order (given x)
     takes_values = record { whole = w.whole; names = w.names x; typed = λ schema at tree alone low. w.typed schema at tree alone low x }
@@ -100,12 +91,8 @@ module _ (text : List ℕ) (p : Parsed) (table : ℕ → Table) (condition : Opt
     list_fails old new has (Ok rows) h = tt
     list_fails old new has (Err e) h = read_fails text p table outs tests' order is_query (given x) takes_values old new has e h
 
-    module _ (old new : State) (has : IsTrue old.is_open → Has table old.now) where
-      pub fails_read : (e : Error) → FailsToQuery text (given x) old new e → FailsToRead old new e
-      fails_read = query_fails text p table outs tests' order is_query (given x) takes_values old new has
-
-      pub fails_to_list : (result : Result (Vec Row Global) Error) → IfErr result (FailsToQuery text (given x) old new) → IfErr result (FailsToRead old new)
-      fails_to_list = list_fails old new (λ open'. can_read table old.now (has open'))
+    pub fails_to_list : (old new : State) → (IsTrue old.is_open → Has table old.now) → (result : Result (Vec Row Global) Error) → IfErr result (FailsToQuery text (given x) old new) → IfErr result (FailsToRead old new)
+    fails_to_list old new has = list_fails old new (λ open'. can_read table old.now (has open'))
 
     -- the rows that pass a test are the answer to a connection that asks for the list, or it is told why there is none; nothing is written
     pub asked : (named : (tree : ℕ) → (table tree).name ≡ (table 0).name) (test : Row → Bool) → ((tree : ℕ) (row : Row) → passes (given x) tests' row ≡ test (shown (table tree) row))

@@ -4,7 +4,7 @@ use Rattle.sqlite.specs.Term.{Term, col, op2, eval_all}
 use Rattle.sqlite_sql.specs.declared.ops.BinaryOp.TheVariants as by
 use Rattle.sqlite_sql.specs.declared.ops.CompareOp.TheVariants as compare
 use Rattle.sqlite.specs.Kind.TheVariants.{Integer, Text}
-use Rattle.store_sql.proofs.DeleteLemmas.{column_expr, parameter_expr, equals_expr, tests_equals}
+use Rattle.store_tables.proofs.DeleteLemmas.{column_expr, parameter_expr, equals_expr, tests_equals}
 use Rattle.sqlite_resolve.specs.Body.{tests}
 use Rattle.sqlite.specs.Compile.{first}
 use Rattle.sqlite.specs.Schema.{Schema}
@@ -24,12 +24,12 @@ use Rattle.sqlite_resolve.specs.Order.{sorts}
 use Rattle.sqlite_resolve.specs.declared.state.Carried.{Carried}
 use Rattle.sqlite_schema.specs.Names.{column_named}
 use Rattle.store_tables.specs.Tables.{needed, mark, item, member, edition, entry, kept}
-use Rattle.store_sql.specs.Effects.{shown}
+use Rattle.store_tables.specs.Effects.{shown}
 use Rattle.store_sql.specs.Reads.{select_mark, select_item, select_member, select_kept, select_one_edition, select_some_entries, select_one_kept, by_columns}
 use Rattle.sqlite.specs.Order.{Row, column}
 use Rattle.sqlite.specs.Query.{key_cmp}
-use Rattle.store_sql.proofs.TextLemmas.{parsed_or}
-use Rattle.store_sql.proofs.ReadLemmas.{rowid_expr, rowid_shown, all_shown, source_of, core_with, select_with, select_of, plainly, outputs_of, context_of, query_over}
+use Rattle.store_tables.proofs.TextLemmas.{parsed_or}
+use Rattle.store_tables.proofs.ReadLemmas.{rowid_expr, rowid_shown, all_shown, source_of, core_with, select_with, select_of, plainly, outputs_of, context_of, query_over}
 
 unfoldable pub sort_by : List ℕ → Sort
 sort_by digits = roll-Sort (record { key = roll-Expr (Expr-F.Integer digits); descending = false; nulls_first = None })

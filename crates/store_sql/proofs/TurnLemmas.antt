@@ -6,7 +6,7 @@ use Rattle.sqlite.specs.Held.{Held, state}
 use Rattle.sqlite.specs.declared.error.Error.{Error}
 use Rattle.sqlite_trees.specs.declared.store.Store.{Ghosts}
 use Rattle.store_sql.specs.Statements.{Statement, Succeeds, FailsTo, RunInTurn, FailsInTurn}
-use Rattle.store_sql.proofs.MakeLemmas.{take_one}
+use Rattle.store_tables.proofs.MakeLemmas.{take_one}
 
 module _ {S : Type 0} (g : Ghosts S) where
   pub run_one : (one : Statement) (old new : Held S) → Succeeds one (state g old) (state g new) → Survives (state g old) (state g new) (λ _. ⊥) → RunInTurn g (one ∷ []) old new

@@ -5,8 +5,8 @@ use Rattle.sqlite.specs.Table.{Table}
 use Rattle.sqlite.specs.Effect.{Database}
 use Rattle.sqlite.specs.State.{State}
 use Rattle.sqlite.specs.declared.error.Error.{Error}
-use Rattle.store_sql.specs.Effects.{Has, HasApartRowids, rows_of, IsRemoved, FailsIn, GoesOn}
-use Rattle.store_sql.specs.Refusals.{RefusesToRemove}
+use Rattle.store_tables.specs.Effects.{Has, HasApartRowids, rows_of, IsRemoved, FailsIn, GoesOn}
+use Rattle.store_tables.specs.Refusals.{RefusesToRemove}
 use Rattle.store_tables.specs.declared.tables.StoreTable.{StoreTable}
 use Rattle.store_tables.specs.declared.tables.StoreTable.TheVariants.{Mark, Item, Member, Edition, Entry, Kept}
 

@@ -3,8 +3,8 @@ use Rattle.std.specs.Prelude.{ℕ, List, codes}
 use Rattle.sqlite.specs.Order.{Row}
 use Rattle.sqlite.specs.State.{State}
 use Rattle.sqlite.specs.declared.error.Error.{Error}
-use Rattle.store_sql.specs.Effects.{IsAdded, FailsIn, GoesOn}
-use Rattle.store_sql.specs.Refusals.{RefusesToAdd, IsTooBig}
+use Rattle.store_tables.specs.Effects.{IsAdded, FailsIn, GoesOn}
+use Rattle.store_tables.specs.Refusals.{RefusesToAdd, IsTooBig}
 
 abbrev pub insert_mark : List ℕ
 insert_mark = codes "INSERT INTO mark (id, magic, version, installs) VALUES (?1, ?2, ?3, ?4)"

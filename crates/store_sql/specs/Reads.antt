@@ -1,18 +1,17 @@
 -- The texts that read a table, in which order its rows come, and why it isn't read.
-use Rattle.std.specs.Prelude.{◌≡◌, ◌⊎◌, ℕ, List, [], ◌∷◌, codes, Bool, filter, map, IsSome, IsPermutation, IsSorted}
+use Rattle.std.specs.Prelude.{◌≡◌, ◌⊎◌, ℕ, List, [], ◌∷◌, codes, Bool, filter, map, IsPermutation, IsSorted}
 use Rattle.std.specs.List.{Contains}
 use Rattle.std.specs.declared.cmp.Ordering.{Ordering}
 use Rattle.std.specs.declared.cmp.Ordering.TheVariants.{Equal}
 use Rattle.std.specs.Ordering.{ordering_then}
 use Rattle.sqlite.specs.Order.{Row, column, value_cmp}
 use Rattle.sqlite.specs.Effect.{Database}
-use Rattle.sqlite.specs.State.{State, IsUnchanged, Fails}
-use Rattle.sqlite.specs.declared.error.Error.{Error}
+use Rattle.sqlite.specs.State.{State, IsUnchanged}
 use Rattle.sqlite.specs.declared.error.Error.TheVariants.{SqliteFailure}
-use Rattle.sqlite.specs.declared.error.ErrorCode.TheVariants.{OutOfMemory, OperationInterrupted}
+use Rattle.sqlite.specs.declared.error.ErrorCode.TheVariants.{OutOfMemory}
 use Rattle.store_tables.specs.declared.tables.StoreTable.{StoreTable}
 use Rattle.store_tables.specs.declared.tables.StoreTable.TheVariants.{Mark, Item, Member, Edition, Entry, Kept}
-use Rattle.store_sql.specs.Effects.{rows_of}
+use Rattle.store_tables.specs.Effects.{rows_of, FailsToRead}
 use Rattle.store_sql.specs.Columns.{Content, HasColumns}
 use Rattle.store_sql.specs.declared.records.ReadError.{ReadError}
 use Rattle.store_sql.specs.declared.records.ReadError.TheVariants.{NoRecord, Store}
@@ -85,10 +84,6 @@ Lists name columns old new rows = IsListing name columns old.now rows × IsUncha
 -- those that pass the test were, and nothing has changed
 abbrev pub Selects : List ℕ → (Row → Bool) → List ℕ → State → State → List Row → Type 0
 Selects name test columns old new rows = IsSelection name test columns old.now rows × IsUnchanged old new
-
--- The store failed, and the transaction is undone; or the limit on steps was met, and nothing has changed.
-abbrev pub FailsToRead : State → State → Error → Type 0
-FailsToRead old new e = Fails old new ⊥ e ⊎ ((e ≡ SqliteFailure OperationInterrupted) × IsSome old.step_limit × IsUnchanged old new)
 
 -- one of the rows stands for no record of these columns
 abbrev pub HasNoRecord : List Content → List Row → Type 0

@@ -7,7 +7,7 @@ use Rattle.sqlite.specs.declared.error.Error.{Error}
 use Rattle.sqlite_trees.specs.declared.store.Store.{Ghosts}
 use Rattle.store_tables.specs.declared.tables.StoreTable.{StoreTable}
 use Rattle.store_tables.specs.Tables.{table_of}
-use Rattle.store_sql.specs.Creates.{Makes, FailsToMake}
+use Rattle.store_tables.specs.Creates.{Makes, FailsToMake}
 use Rattle.store_sql.specs.Inserts.{Inserts, FailsToInsert}
 use Rattle.store_sql.specs.Deletes.{Removes, FailsToRemove}
 

@@ -13,11 +13,11 @@ use Rattle.sqlite.specs.Given as kit
 use Rattle.sqlite_trees.specs.declared.store.Store.{Ghosts}
 use Rattle.store_tables.specs.declared.tables.StoreTable.{StoreTable}
 use Rattle.store_tables.specs.Tables.{edition, entry, kept, table_of}
-use Rattle.store_sql.specs.Effects.{Has, equals_number}
+use Rattle.store_tables.specs.Effects.{Has, equals_number, FailsToRead}
 use Rattle.store_sql.specs.Columns.{Content, HasColumns}
 use Rattle.store_sql.specs.declared.records.ReadError.{ReadError}
 use Rattle.store_sql.specs.declared.records.ReadError.TheVariants.{NoRecord, Store}
-use Rattle.store_sql.specs.Reads.{IsListing, IsSelection, IsNumbering, FailsToRead, select_some_entries, select_kept, select_kept_by_id, select_by_rowid, select_numbers}
+use Rattle.store_sql.specs.Reads.{IsListing, IsSelection, IsNumbering, select_some_entries, select_kept, select_kept_by_id, select_by_rowid, select_numbers}
 
 -- which rows of a large table are read, one at a time
 pub data Scan : Type 0 where

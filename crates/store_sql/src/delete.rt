@@ -4,12 +4,12 @@ ghost use Rattle.std.specs.Prelude.{◌≡◌, true, IfErr, IfOk, OnOk};
 ghost use Rattle.sqlite.specs.State.{HasCleanDisk, Survives};
 ghost use Rattle.sqlite.specs.Held.{state};
 ghost use Rattle.store_tables.specs.Tables.{table_of};
-ghost use Rattle.store_sql.specs.Effects.{WhileOpen, count_in};
+ghost use Rattle.store_tables.specs.Effects.{WhileOpen, count_in};
 ghost use Rattle.store_sql.specs.Deletes.{HasToRemove, Removes, FailsToRemove, clear_text};
 
-use crate::transaction::OpenTransaction;
 use sqlite::{Alter, Error};
 use store_tables::StoreTable;
+use store_tables::transaction::OpenTransaction;
 
 fn text_of(table: StoreTable) -> &'static str
     ensures { result.now ≡ clear_text table }

@@ -6,11 +6,11 @@ ghost use Rattle.sqlite.specs.Held.{state};
 ghost use Rattle.store_tables.specs.Tables.{mark, item, member, edition, kept};
 ghost use Rattle.store_tables.specs.Typed.{lent_mark, lent_item, lent_member, lent_kept};
 ghost use Rattle.store_sql.specs.Encodings.{mark_row, item_row, member_row, kept_row};
-ghost use Rattle.store_sql.specs.Effects.{Has, WhileOpen};
+ghost use Rattle.store_tables.specs.Effects.{Has, WhileOpen};
 ghost use Rattle.store_sql.specs.Inserts.{Inserts, FailsToInsert};
 
-use crate::transaction::OpenTransaction;
 use sqlite::{Alter, Error, params};
+use store_tables::transaction::OpenTransaction;
 use store_tables::{ItemRecord, KeptRecord, Mark, Member};
 
 /// Inserts the mark. It answers the count of written rows that `sqlite` reports.

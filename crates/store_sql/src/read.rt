@@ -6,8 +6,8 @@ ghost use Rattle.sqlite.specs.Held.{state};
 ghost use Rattle.store_tables.specs.Tables.{item, member, edition as edition_table, kept};
 ghost use Rattle.store_sql.specs.Encodings.{stored_item, stored_member, stored_edition, stored_kept};
 ghost use Rattle.store_sql.specs.Columns.{item_columns, member_columns, edition_columns, kept_columns};
-ghost use Rattle.store_sql.specs.Effects.{Has, WhileOpen, equals_number, equals_text, rows_of};
-ghost use Rattle.store_sql.specs.Reads.{Lists, Selects, FailsToRead, FailsToList, FailsToDecodeAll};
+ghost use Rattle.store_tables.specs.Effects.{Has, WhileOpen, equals_number, equals_text, rows_of, FailsToRead};
+ghost use Rattle.store_sql.specs.Reads.{Lists, Selects, FailsToList, FailsToDecodeAll};
 
 use crate::records::{ReadError, Record};
 use sqlite::{Alter, Connection, Error, Row, params};

@@ -11,7 +11,7 @@ ghost use Rattle.sqlite.specs.Given.{IsEnded, Advances};
 ghost use Rattle.sqlite.specs.contracts.connection.Connection.{the_row};
 ghost use Rattle.store_tables.specs.Tables.{edition as edition_table, entry, kept, table_of};
 ghost use Rattle.store_sql.specs.Reads.{select_by_rowid};
-ghost use Rattle.store_sql.specs.Effects.{Has, WhileOpen};
+ghost use Rattle.store_tables.specs.Effects.{Has, WhileOpen};
 ghost use Rattle.store_sql.specs.Streams.{Scan, HasGiven, GivesOn, FailsToGive, FailsToMove, IsNotBegun};
 ghost use Rattle.store_sql.specs.Streams.Scan.{EntriesOf, AllKept, KeptById, ByRowid, EditionNumbers};
 

@@ -3,9 +3,9 @@ use Rattle.std.proofs.Common.{ℕ, false, Ok, Err, Result, IsTrue, OnOk, List, s
 use Rattle.sqlite.specs.Effect.{Database}
 use Rattle.sqlite.specs.Table.{Table}
 use Rattle.sqlite.specs.State.{State, Shows}
-use Rattle.store_sql.specs.Creates.{IsMade}
-use Rattle.store_sql.specs.Effects.{HasApartRowids, rows_of}
-use Rattle.store_sql.proofs.Callers.{apart_none}
+use Rattle.store_tables.specs.Creates.{IsMade}
+use Rattle.store_tables.specs.Effects.{HasApartRowids, rows_of}
+use Rattle.store_tables.proofs.Callers.{apart_none}
 
 pub apart_made : (table : Table) (old new : Database) → IsMade table old new → HasApartRowids (rows_of table.name new)
 apart_made table old new made = subst HasApartRowids (sym made.empty) apart_none

@@ -3,9 +3,9 @@
 ghost use Rattle.std.specs.Prelude.{OnOk};
 ghost use Rattle.sqlite.specs.State.{HasCleanDisk};
 ghost use Rattle.sqlite.specs.Held.{state};
-ghost use Rattle.store_sql.specs.Effects.{HasApartRowids, WhileOpen, rows_of};
+ghost use Rattle.store_tables.specs.Effects.{HasApartRowids, WhileOpen, rows_of};
 ghost use Rattle.store_sql.specs.Deletes.{HasToRemove};
-ghost use Rattle.store_edition_sql.specs.HeaderTable.{header};
+ghost use Rattle.store_sql.specs.HeaderTable.{header};
 
 use crate::checks::{holds, same_text};
 use crate::rest::rest;
@@ -14,13 +14,15 @@ use sqlite::{Alter, Connection, Error};
 use std::alloc::Global;
 use std::process::Abort;
 use std::test::Fail;
-use store_edition_sql::{
-    StoredHeader, create_header_table, delete_header, has_header_table, headers_numbered,
-    infos_numbered, insert_header, read_headers_by_rowid,
-};
-use store_sql::commit::commit;
+use store_sql::header_found::has_header_table;
+use store_sql::header_one::headers_numbered;
+use store_sql::header_records::StoredHeader;
+use store_sql::header_scan::read_headers_by_rowid;
+use store_sql::header_statements::{create_header_table, delete_header, insert_header};
+use store_sql::infos::infos_numbered;
 use store_sql::records::ReadError;
-use store_sql::transaction::OpenTransaction;
+use store_tables::commit::commit;
+use store_tables::transaction::OpenTransaction;
 use store_tables::{HeaderRecord, StoreTable, has_table, is_name_used, lacks_counting_table};
 
 const FIRST: &str =

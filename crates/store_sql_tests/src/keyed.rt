@@ -8,8 +8,8 @@ use std::alloc::Global;
 use std::process::Abort;
 use std::test::Fail;
 use store_older_sql::{drop_keyed_table, has_keyed_table, read_shown_by_rowid, read_shown_rows_of};
-use store_sql::commit::commit;
 use store_sql::records::ReadError;
+use store_tables::commit::commit;
 use store_tables::{KeyedEntry, KeyedTable, StoredRow, is_name_used};
 
 // What `.dump` of stock `sqlite3` writes of these tables, with an index over the entries and a table of another's.

@@ -7,8 +7,8 @@ use std::alloc::Global;
 use std::process::Abort;
 use std::test::Fail;
 use store_older_sql::{drop_old_edition, editions_inside, has_keyed_table, shown_entries_inside};
-use store_sql::commit::commit;
 use store_sql::records::ReadError;
+use store_tables::commit::commit;
 use store_tables::{KeyedTable, StoreTable, has_table, is_name_used};
 
 const EDITIONS: &str =

@@ -3,9 +3,9 @@
 ghost use Rattle.std.specs.Prelude.{OnOk};
 ghost use Rattle.sqlite.specs.State.{HasCleanDisk};
 ghost use Rattle.sqlite.specs.Held.{state};
-ghost use Rattle.store_sql.specs.Effects.{HasApartRowids, WhileOpen, rows_of};
+ghost use Rattle.store_tables.specs.Effects.{HasApartRowids, WhileOpen, rows_of};
 ghost use Rattle.store_sql.specs.Deletes.{HasToRemove};
-ghost use Rattle.store_edition_sql.specs.PartTable.{part};
+ghost use Rattle.store_sql.specs.PartTable.{part};
 
 use crate::checks::holds;
 use reads::look;
@@ -13,11 +13,11 @@ use sqlite::{Alter, Connection, Error};
 use std::alloc::Global;
 use std::process::Abort;
 use std::test::Fail;
-use store_edition_sql::{
-    Part, create_part_table, delete_parts, delete_parts_from, has_part_table, insert_part,
-};
-use store_sql::commit::commit;
-use store_sql::transaction::OpenTransaction;
+use store_sql::part_found::has_part_table;
+use store_sql::part_records::Part;
+use store_sql::part_statements::{create_part_table, delete_parts, delete_parts_from, insert_part};
+use store_tables::commit::commit;
+use store_tables::transaction::OpenTransaction;
 use store_tables::{is_name_used, lacks_counting_table};
 
 mod reads;

@@ -7,3 +7,17 @@ pub mod NameLemmas
 pub mod MadeLemmas
 pub mod DroppedLemmas
 pub mod UsedLemmas
+pub mod TextLemmas
+pub mod InsertLemmas
+pub mod FaultLemmas
+pub mod StateLemmas
+pub mod RemoveLemmas
+pub mod Callers
+pub mod AddedLemmas
+pub mod CreateLemmas
+pub mod MakeLemmas
+pub mod ListLemmas
+pub mod ReadLemmas
+pub mod CompareLemmas
+pub mod DeleteLemmas
+pub mod SilentLemmas

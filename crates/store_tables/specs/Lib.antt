@@ -8,3 +8,8 @@ pub mod OwnNames
 pub mod Records
 pub mod Typed
 pub mod KeyedRecords
+pub mod Effects
+pub mod Refusals
+pub mod Creates
+pub mod Added
+pub mod Transactions

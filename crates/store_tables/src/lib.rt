@@ -1,7 +1,10 @@
-//! The tables of the store and the records of their rows: what they are, and whether a schema that is found has the tables or leaves room
-//! for them.
+//! The tables of the store and the records of their rows: what they are, whether a schema that is found has the tables or leaves room for
+//! them, and how they are made inside a transaction, which is committed.
 #![tactic(auto)]
 
+pub mod commit;
+pub mod create;
+pub mod database_laws;
 mod found;
 mod headers;
 mod keyed;
@@ -11,6 +14,7 @@ mod names;
 mod records;
 mod room;
 mod tables;
+pub mod transaction;
 
 pub use found::{
     find_table, has_table, is_column, is_mark, is_only_key, is_only_plain_order, is_plain,

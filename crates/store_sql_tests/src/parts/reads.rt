@@ -7,9 +7,10 @@ use sqlite::{Alter, Connection, Error, Rows};
 use std::alloc::Global;
 use std::process::Abort;
 use std::test::Fail;
-use store_edition_sql::{
-    StoredPart, has_part_table, parts_numbered, read_parts_by_rowid, read_parts_of,
-};
+use store_sql::part_found::has_part_table;
+use store_sql::part_one::parts_numbered;
+use store_sql::part_records::StoredPart;
+use store_sql::part_scan::{read_parts_by_rowid, read_parts_of};
 use store_sql::records::ReadError;
 
 // What is read.

@@ -2,14 +2,14 @@
 
 ghost use Rattle.store_tables.specs.Tables.{table_of};
 ghost use Rattle.sqlite.specs.Held.{state};
-ghost use Rattle.store_sql.specs.Effects.{Has, WhileOpen};
+ghost use Rattle.store_tables.specs.Effects.{Has, WhileOpen};
 
 use sqlite::{Alter, Connection, Error};
-use store_sql::commit::commit;
-use store_sql::create::create_table;
-use store_sql::drop::drop_table;
+use store_older_sql::drop_table;
 use store_sql::insert::{insert_item, insert_kept, insert_mark, insert_member};
-use store_sql::transaction::OpenTransaction;
+use store_tables::commit::commit;
+use store_tables::create::create_table;
+use store_tables::transaction::OpenTransaction;
 use store_tables::{
     ItemRecord, KeptRecord, Mark, Member, StoreTable, has_table, is_name_used, lacks_counting_table,
 };

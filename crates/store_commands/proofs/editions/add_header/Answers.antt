@@ -1,7 +1,7 @@
 use Rattle.std.proofs.Common.{◌≡◌, codes, [], ◌∷◌, refl, map, Some, None, rules, ◌∙◌}
 use Rattle.std.specs.Prelude.{option_map, option_copied}
 use Rattle.sqlite.specs.Held.{state}
-use Rattle.store_edition_sql.specs.HeaderRecords.{header_row}
+use Rattle.store_sql.specs.HeaderRecords.{header_row}
 use Rattle.store_tables.specs.Records.{EditionRecord}
 use Rattle.store_tables.specs.Typed.{lent_header}
 use Rattle.store_sql.proofs.StreamLemmas.{passed_on}

@@ -2,7 +2,7 @@ use Rattle.std.proofs.Common.{codes, pos}
 use mir.Val.{to_z}
 use mir.Syntax.{w64}
 use Rattle.sqlite.specs.Held.{state}
-use Rattle.store_sql.specs.Effects.{equals_number}
+use Rattle.store_tables.specs.Effects.{equals_number}
 use Rattle.store_sql.proofs.StreamLemmas.{passed_on}
 use Rattle.store_commands.specs.Statements.{taking}
 use Rattle.store_commands.specs.Writes.{FailsToWrite}

@@ -2,7 +2,7 @@
 use Rattle.std.proofs.Common.{◌≡◌, take}
 use Rattle.std.specs.Prelude.{flat_map}
 use Rattle.sqlite.specs.Held.{state}
-use Rattle.store_sql.specs.Effects.{WhileOpen}
+use Rattle.store_tables.specs.Effects.{WhileOpen}
 use Rattle.store_commands.specs.Changes.{without_editions}
 use Rattle.store_commands.specs.KeptRecords.{IsUsable}
 use Rattle.store_commands.specs.Statements.{taking}

@@ -4,7 +4,7 @@ use Rattle.std.proofs.lemmas.List.{take_all}
 use mir.Val.{to_z, SFits}
 use mir.Syntax.{w64}
 use Rattle.sqlite.specs.Held.{state}
-use Rattle.store_sql.specs.Effects.{equals_number}
+use Rattle.store_tables.specs.Effects.{equals_number}
 use Rattle.store_sql.proofs.StreamLemmas.{passed_on}
 use Rattle.store_commands.specs.Statements.{taking_from, taking_parts}
 use Rattle.store_commands.specs.Writes.{WroteStatements, FailsToWrite}

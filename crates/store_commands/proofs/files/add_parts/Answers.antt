@@ -3,7 +3,7 @@ use Rattle.std.specs.Prelude.{slice_range}
 use Rattle.sqlite.specs.Held.{state}
 use Rattle.store_sql.proofs.StreamLemmas.{passed_on}
 use Rattle.store_tables.specs.Records.{Part}
-use Rattle.store_edition_sql.specs.PartRecords.{lent_part, part_row}
+use Rattle.store_sql.specs.PartRecords.{lent_part, part_row}
 use Rattle.store_commands.specs.Changes.{with_more_parts}
 use Rattle.store_commands.specs.Filing.{parts_of_files}
 use Rattle.store_commands.specs.Statements.{adding_part}

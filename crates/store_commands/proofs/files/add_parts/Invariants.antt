@@ -2,7 +2,7 @@
 use Rattle.std.proofs.Common.{◌≡◌, take, map}
 use Rattle.std.specs.Prelude.{slice_range}
 use Rattle.sqlite.specs.Held.{state}
-use Rattle.store_sql.specs.Effects.{WhileOpen}
+use Rattle.store_tables.specs.Effects.{WhileOpen}
 use Rattle.store_commands.specs.KeptRecords.{IsUsable}
 use Rattle.store_commands.specs.Changes.{with_more_parts}
 use Rattle.store_commands.specs.Filing.{parts_of_files}

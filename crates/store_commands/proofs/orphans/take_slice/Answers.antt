@@ -6,7 +6,7 @@ use mir.Val.{to_z, SFits}
 use mir.Syntax.{w64}
 use Rattle.sqlite.specs.Held.{state}
 use Rattle.sqlite.specs.State.{HasCleanDisk}
-use Rattle.store_sql.specs.Effects.{equals_number}
+use Rattle.store_tables.specs.Effects.{equals_number}
 use Rattle.store_sql.proofs.StreamLemmas.{passed_on}
 use Rattle.store_tables.specs.Records.{Part}
 use Rattle.store_rows.specs.After.{is_gone}

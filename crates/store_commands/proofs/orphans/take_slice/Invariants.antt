@@ -2,7 +2,7 @@
 use Rattle.std.proofs.Common.{◌≡◌, ◌+◌, ◌≤◌, take}
 use Rattle.sqlite.specs.Held.{state}
 use Rattle.sqlite.specs.State.{HasCleanDisk}
-use Rattle.store_sql.specs.Effects.{WhileOpen}
+use Rattle.store_tables.specs.Effects.{WhileOpen}
 use Rattle.store_commands.specs.KeptRecords.{IsUsable}
 use Rattle.store_commands.specs.Orphans.{parts_under}
 use Rattle.store_commands.specs.Writes.{WroteStatements, CommitsNothing}

@@ -10,7 +10,7 @@ use Rattle.store_commands.specs.FiledParts.{FilesUpTo}
 use Rattle.store_holdings.specs.Committed.{IsCommitted, IsTreesOf}
 use Rattle.store_commands.specs.Committed.{StaysCommitted}
 use Rattle.sqlite.proofs.Callers.{survives_begin}
-use Rattle.store_sql.proofs.StateLemmas.{commit_counts}
+use Rattle.store_tables.proofs.StateLemmas.{commit_counts}
 use Rattle.store_sql.specs.Statements.{RunInTurn, FailsInTurn}
 use Rattle.store_commands.proofs.FaultLemmas.{told_counts, told_more}
 use Rattle.store_commands.proofs.parts.commit_parts.Goals as goal

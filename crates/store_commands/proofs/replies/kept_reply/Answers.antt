@@ -2,7 +2,7 @@ use Rattle.std.proofs.Common.{arith, sym, string_bytes, ◌≤◌, length, subst
 use Rattle.dict_catalogue.specs.Views.{kept_shown}
 use Rattle.store_commands.proofs.KeptLemmas.{kept_alone, holds_replies, none_told, first_told, reply_told}
 use Rattle.sqlite.specs.Held.{state}
-use Rattle.store_sql.specs.Effects.{equals_text}
+use Rattle.store_tables.specs.Effects.{equals_text}
 use Rattle.store_holdings.specs.Faults.{FailsToReadCatalogue}
 use Rattle.store_commands.proofs.KeptLemmas.{replies_fail}
 use Rattle.store_commands.proofs.UnreadLemmas.{refused_memory}

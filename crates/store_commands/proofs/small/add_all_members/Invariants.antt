@@ -1,7 +1,7 @@
 -- what was written so far
 use Rattle.std.proofs.Common.{◌≡◌, take, map}
 use Rattle.sqlite.specs.Held.{state}
-use Rattle.store_sql.specs.Effects.{WhileOpen}
+use Rattle.store_tables.specs.Effects.{WhileOpen}
 use Rattle.store_commands.specs.KeptRecords.{IsUsable}
 use Rattle.store_commands.specs.Writes.{WroteStatements, CommitsNothing}
 use Rattle.dict_catalogue.specs.Views.{item_shown}

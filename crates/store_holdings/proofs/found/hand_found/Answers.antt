@@ -3,8 +3,8 @@ use Rattle.std.specs.Prelude.{Ok}
 use Rattle.std.proofs.lemmas.List.{take_all}
 use Rattle.std.proofs.lemmas.Result.{err_from_is_err_and}
 use Rattle.sqlite.specs.Held.{state}
-use Rattle.store_sql.specs.Effects.{Has}
-use Rattle.store_edition_sql.specs.PartTable.{part as part_table}
+use Rattle.store_tables.specs.Effects.{Has}
+use Rattle.store_sql.specs.PartTable.{part as part_table}
 use Rattle.dict_desk.specs.Shown.{Row}
 use Rattle.dict_desk.specs.declared.fault.Fault.{Fault}
 use Rattle.dict_desk.specs.declared.sink.Demand.TheVariants.{More, Stop}

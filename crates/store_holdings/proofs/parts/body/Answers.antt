@@ -1,7 +1,7 @@
 use Rattle.std.proofs.Common.{◌≡◌, ◌+◌, ◌-◌, ◌++◌, inl, ℕ, drop, length, take, refl, subst, arith, rules}
 use Rattle.sqlite.specs.Held.{state}
-use Rattle.store_sql.specs.Effects.{Has}
-use Rattle.store_edition_sql.specs.PartTable.{part as part_table}
+use Rattle.store_tables.specs.Effects.{Has}
+use Rattle.store_sql.specs.PartTable.{part as part_table}
 use Rattle.store_rows.proofs.IntervalLemmas.{cut_further}
 use Rattle.dict_desk.specs.declared.fault.Fault.{Fault}
 use Rattle.store_holdings.specs.CutTexts.{FailsToFind}

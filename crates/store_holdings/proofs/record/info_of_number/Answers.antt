@@ -1,6 +1,6 @@
 use Rattle.std.proofs.Common.{ap, sym, subst, length, map, ◌∙◌, Some, string_bytes, option_map}
 use Rattle.std.specs.Prelude.{ℤ, pos}
-use Rattle.store_edition_sql.specs.Infos.{headers_with, informed, info_columns}
+use Rattle.store_sql.specs.Infos.{headers_with, informed, info_columns}
 use Rattle.store_sql.specs.Reads.{FailsToList}
 use Rattle.store_holdings.specs.Searches.{FailsToLookUp, number_in_column}
 use Rattle.store_holdings.specs.Taken.{more_taken}

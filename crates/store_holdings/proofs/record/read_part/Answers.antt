@@ -1,9 +1,9 @@
 use Rattle.std.proofs.Common.{ap, refl, sym, subst, codes, filter, length, map, ◌∙◌}
 use Rattle.std.specs.Prelude.{pos}
 use Rattle.sqlite.specs.Held.{state}
-use Rattle.store_sql.specs.Effects.{rows_of}
-use Rattle.store_edition_sql.specs.Chosen.{is_numbered}
-use Rattle.store_edition_sql.specs.PartRecords.{part_columns, stored_part}
+use Rattle.store_tables.specs.Effects.{rows_of}
+use Rattle.store_sql.specs.ChosenParts.{is_numbered}
+use Rattle.store_sql.specs.PartRecords.{part_columns, stored_part}
 use Rattle.store_holdings.specs.Searches.{FailsToLookUp, number_in_column}
 use Rattle.store_holdings.specs.Taken.{more_taken}
 use Rattle.store_holdings.proofs.LookupLemmas.{list_fails}

@@ -1,6 +1,6 @@
 use Rattle.std.proofs.Common.{◌∙◌, ◌<◌, ◌≤◌, map, length, refl, ap, subst, arith, codes}
 use Rattle.std.proofs.lemmas.List.{take_all}
-use Rattle.store_sql.proofs.AddedLemmas.{none_added}
+use Rattle.store_tables.proofs.AddedLemmas.{none_added}
 use Rattle.store_migration.specs.Written.{parts_in}
 use Rattle.store_migration.proofs.KitLemmas.{HasCleanDisk, part as part_table, AreAdded, seen, still_has, goes_keeps, keeps_then, passed_on, keeps_none, none_more, was_clean, two_survive, lent_part, part_row}
 use Rattle.store_migration.proofs.FailLemmas.{fails_by, row_placed, row_more, putting}

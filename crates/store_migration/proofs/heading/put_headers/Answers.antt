@@ -1,8 +1,8 @@
 use Rattle.std.proofs.Common.{◌∙◌, List, map, refl, sym, ap, subst, codes}
 use Rattle.std.proofs.lemmas.List.{take_all}
-use Rattle.store_edition_sql.specs.HeaderRecords.{header_row}
+use Rattle.store_sql.specs.HeaderRecords.{header_row}
 use Rattle.store_sql.specs.Inserts.{FailsToInsert}
-use Rattle.store_sql.proofs.AddedLemmas.{none_added}
+use Rattle.store_tables.proofs.AddedLemmas.{none_added}
 use Rattle.store_migration.specs.FailurePlaces.{Putting}
 use Rattle.store_migration.proofs.KitLemmas.{state, HasCleanDisk, header, AreAdded, IsAdded, seen, still_has, goes_keeps, keeps_then, passed_on, keeps_none, none_more, was_clean, two_survive, Row, HeaderRecord}
 use Rattle.store_migration.proofs.FailLemmas.{fails_by, row_placed, row_more, putting}

@@ -2,7 +2,7 @@ use Rattle.std.proofs.Common.{◌∙◌, get_or, map, subst}
 use Rattle.std.proofs.lemmas.List.{take_all}
 use Rattle.store_tables.specs.declared.tables.StoreTable.TheVariants.{Mark}
 use Rattle.store_sql.specs.Statements.{make, RunInTurn, FailsInTurn}
-use Rattle.store_sql.proofs.MakeLemmas.{got, next_free, next_made, goes_then}
+use Rattle.store_tables.proofs.MakeLemmas.{got, next_free, next_made, goes_then}
 use Rattle.store_sql.proofs.TurnLemmas.{run_next, fails_next}
 use Rattle.store_migration.proofs.KitLemmas.{HasCleanDisk, seen, keeps_then, goes_keeps, passed_on, was_clean, two_survive}
 use Rattle.store_migration.proofs.making.make_each.Goals as goal

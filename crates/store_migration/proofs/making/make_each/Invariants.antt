@@ -1,5 +1,5 @@
 use Rattle.std.proofs.Common.{◌≡◌, ◌<◌, IsTrue, take, map}
-use Rattle.store_sql.specs.Effects.{GoesOn}
+use Rattle.store_tables.specs.Effects.{GoesOn}
 use Rattle.store_sql.specs.Statements.{make, RunInTurn}
 use Rattle.store_migration.proofs.KitLemmas.{HasCleanDisk, Survives, KeepsCommit, seen, MadeInTurn}
 use Rattle.store_migration.proofs.making.make_each.Given as goal

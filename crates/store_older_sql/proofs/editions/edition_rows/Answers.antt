@@ -2,13 +2,13 @@ use Rattle.std.proofs.Common.{[], ◌∷◌, refl, arith}
 use Rattle.sqlite.specs.declared.types.Value.TheVariants.{Int}
 use Rattle.sqlite.specs.Held.{state}
 use Rattle.store_tables.specs.Tables.{edition}
-use Rattle.store_sql.specs.Effects.{equals_number}
+use Rattle.store_tables.specs.Effects.{equals_number}
 use Rattle.store_sql.specs.Reads.{select_one_edition}
 use Rattle.store_sql.proofs.NumberLemmas.{bound_int}
 use Rattle.store_sql.proofs.ReadTexts.{read_one_edition, reads_one_edition}
 use Rattle.store_sql.proofs.ListingLemmas.{selects, edition_read}
 use Rattle.store_sql.proofs.ReadFaults.{a_number, takes_one_edition, fails_to_list}
-use Rattle.store_sql.proofs.SilentLemmas.{shows_no_write}
+use Rattle.store_tables.proofs.SilentLemmas.{shows_no_write}
 use Rattle.store_older_sql.proofs.editions.edition_rows.Goals as goal
 
 pub query_all-requires : goal.query_all-requires

@@ -1,6 +1,6 @@
 use Rattle.std.proofs.Common.{[], codes}
 use Rattle.sqlite.specs.Held.{state}
-use Rattle.store_sql.proofs.StateLemmas.{stated, drops_aside}
+use Rattle.store_tables.proofs.StateLemmas.{stated, drops_aside}
 use Rattle.store_older_sql.specs.Entries.{entry_drop_text}
 use Rattle.store_older_sql.proofs.EntryTexts.{drops_entry, drop_fails_in}
 use Rattle.store_older_sql.proofs.entries.drop_entry.Goals as goal

@@ -1,14 +1,14 @@
 use Rattle.std.proofs.Common.{[], ◌∷◌, refl, arith}
 use Rattle.sqlite.specs.declared.types.Value.TheVariants.{Int}
 use Rattle.sqlite.specs.Held.{state}
-use Rattle.store_sql.specs.Effects.{equals_number}
+use Rattle.store_tables.specs.Effects.{equals_number}
 use Rattle.store_sql.proofs.NumberLemmas.{bound_int}
 use Rattle.store_sql.proofs.ListingLemmas.{selects}
 use Rattle.store_sql.proofs.ReadFaults.{a_number, fails_to_list}
 use Rattle.store_tables.specs.Keyed.{old_entry}
 use Rattle.store_older_sql.specs.Entries.{entry_select_text}
 use Rattle.store_older_sql.proofs.EntryTexts.{read_select, reads_select, takes_select, old_read}
-use Rattle.store_sql.proofs.SilentLemmas.{shows_no_write}
+use Rattle.store_tables.proofs.SilentLemmas.{shows_no_write}
 use Rattle.store_older_sql.proofs.migration_old.old_rows.Goals as goal
 
 pub query_all-requires : goal.query_all-requires

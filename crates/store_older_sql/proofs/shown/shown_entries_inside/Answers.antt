@@ -2,7 +2,7 @@ use Rattle.std.proofs.Common.{codes, filter, subst, IsPermutation}
 use Rattle.std.proofs.lemmas.Int.{to_z-of_z}
 use mir.Syntax.{w64}
 use Rattle.sqlite.specs.Held.{state}
-use Rattle.store_sql.specs.Effects.{equals_number, rows_of}
+use Rattle.store_tables.specs.Effects.{equals_number, rows_of}
 use Rattle.store_sql.specs.Keyed.{keyed_entry_columns}
 use Rattle.store_sql.proofs.StreamLemmas.{fails_to_read_into}
 use Rattle.store_older_sql.proofs.shown.shown_entries_inside.Goals as goal

@@ -4,7 +4,7 @@ use Rattle.sqlite.specs.Held.{state}
 use Rattle.store_rows.specs.Given.{marks_given, items_given, members_given}
 use Rattle.store_rows.specs.Taken.{begun}
 use Rattle.store_sql.specs.Columns.{item_columns, member_columns}
-use Rattle.store_sql.specs.Effects.{rows_of}
+use Rattle.store_tables.specs.Effects.{rows_of}
 use Rattle.store_holdings.proofs.ReadableLemmas.{held_readable}
 use Rattle.store_scans.proofs.ScanLemmas.{rows_damaged}
 use Rattle.store_scans.proofs.StateLemmas.{clean_before}

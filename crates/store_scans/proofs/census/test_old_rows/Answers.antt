@@ -2,7 +2,7 @@ use Rattle.std.proofs.Common.{rules}
 use Rattle.std.proofs.lemmas.Result.{on_ok_weaker}
 use Rattle.sqlite.specs.Held.{state}
 use Rattle.store_tables.specs.Keyed.{old_entry}
-use Rattle.store_sql.specs.Effects.{Has}
+use Rattle.store_tables.specs.Effects.{Has}
 use Rattle.store_scans.specs.Scans.{TakesAll, IsWrong}
 use Rattle.std.proofs.Common.{codes}
 use Rattle.store_sql.specs.Keyed.{old_entry_columns, stored_old_entry}

@@ -2,7 +2,7 @@ use Rattle.std.proofs.Common.{rules}
 use Rattle.std.proofs.lemmas.Result.{on_ok_weaker}
 use Rattle.sqlite.specs.Held.{state}
 use Rattle.store_tables.specs.Keyed.{entry_with_keys}
-use Rattle.store_sql.specs.Effects.{Has}
+use Rattle.store_tables.specs.Effects.{Has}
 use Rattle.store_scans.specs.Scans.{TakesAll, IsWrong}
 use Rattle.std.proofs.Common.{codes}
 use Rattle.store_sql.specs.Keyed.{keyed_entry_columns, stored_keyed_entry}

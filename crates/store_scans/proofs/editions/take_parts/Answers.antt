@@ -1,7 +1,7 @@
 use Rattle.std.proofs.Common.{rules}
 use Rattle.sqlite.specs.Held.{state}
 use Rattle.store_scans.specs.Scans.{TakesAll, IsWrong}
-use Rattle.store_edition_sql.specs.PartRecords.{part_columns, stored_part}
+use Rattle.store_sql.specs.PartRecords.{part_columns, stored_part}
 use Rattle.store_scans.specs.Cursors.Cursor.{PartsByRowid}
 use Rattle.store_scans.specs.Census.{TakesPartCensus, refuses_part_census}
 use Rattle.store_scans.proofs.BeginLemmas.{reads_on, whole_on, damaged_on, cause_on}

@@ -3,7 +3,7 @@ use Rattle.std.proofs.lemmas.Result.{on_ok_weaker}
 use Rattle.sqlite.specs.Held.{state}
 use Rattle.store_scans.specs.Scans.{TakesAll, IsWrong}
 use Rattle.std.proofs.Common.{codes}
-use Rattle.store_edition_sql.specs.HeaderRecords.{header_columns, stored_header}
+use Rattle.store_sql.specs.HeaderRecords.{header_columns, stored_header}
 use Rattle.store_scans.specs.Cursors.Cursor.{HeadersByRowid}
 use Rattle.store_scans.proofs.CensusLemmas.{census_whole, census_wrong}
 use Rattle.std.proofs.Common.{refl}

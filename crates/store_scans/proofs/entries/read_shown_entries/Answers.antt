@@ -4,7 +4,7 @@ use Rattle.std.proofs.lemmas.Int.{to_z-of_z}
 use mir.Syntax.{w64}
 use Rattle.sqlite.specs.Held.{state}
 use Rattle.store_tables.specs.Keyed.{entry_with_keys}
-use Rattle.store_sql.specs.Effects.{Has}
+use Rattle.store_tables.specs.Effects.{Has}
 use Rattle.store_scans.specs.Scans.{TakesAll, IsWrong}
 use Rattle.store_sql.specs.Keyed.{keyed_entry_columns, stored_keyed_entry}
 use Rattle.store_scans.specs.Cursors.Cursor.{ShownEntriesOf}

@@ -3,7 +3,7 @@ use Rattle.std.proofs.lemmas.Int.{to_z-of_z}
 use mir.Syntax.{w64}
 use Rattle.sqlite.specs.Held.{state}
 use Rattle.store_scans.specs.Scans.{TakesAll, IsWrong}
-use Rattle.store_edition_sql.specs.PartRecords.{part_columns, stored_part}
+use Rattle.store_sql.specs.PartRecords.{part_columns, stored_part}
 use Rattle.store_scans.specs.Cursors.Cursor.{PartsOf}
 use Rattle.store_scans.specs.Files.{TakesParts, RefusesParts}
 use Rattle.store_scans.proofs.BeginLemmas.{reads_on, whole_on, damaged_on, cause_on}

@@ -4,7 +4,7 @@ use mir.Syntax.{w64}
 use mir.Val.{to_z, of_z}
 use Rattle.sqlite.specs.Held.{state}
 use Rattle.store_sql.proofs.StreamLemmas.{passed_on}
-use Rattle.store_edition_sql.specs.PartRecords.{part_columns, stored_part}
+use Rattle.store_sql.specs.PartRecords.{part_columns, stored_part}
 use Rattle.store_scans.specs.Cursors.Cursor.{PartsOf}
 use Rattle.store_scans.specs.Files.{HasFile, HasNoFile, TakesParts, RefusesParts}
 use Rattle.store_scans.specs.Scans.{TakesAll, IsWrong}

@@ -1,6 +1,6 @@
 use Rattle.std.proofs.Common.{true, []}
 use Rattle.sqlite.specs.Held.{state}
-use Rattle.store_sql.proofs.StateLemmas.{counted, stated, removes_aside}
+use Rattle.store_tables.proofs.StateLemmas.{counted, stated, removes_aside}
 use Rattle.store_tables.specs.Tables.{table_of}
 use Rattle.store_sql.specs.Deletes.{clear_text}
 use Rattle.store_sql.proofs.DeleteTexts.{clear_fails, clears_rows, counts_cleared}

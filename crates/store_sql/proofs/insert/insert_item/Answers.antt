@@ -5,7 +5,7 @@ use Rattle.store_tables.specs.Typed.{lent_item}
 use Rattle.store_sql.specs.Inserts.{insert_item}
 use Rattle.store_sql.specs.Encodings.{item_row}
 use Rattle.store_sql.proofs.NumberLemmas.{bound_int}
-use Rattle.store_sql.proofs.StateLemmas.{stated, adds_aside}
+use Rattle.store_tables.proofs.StateLemmas.{stated, adds_aside}
 use Rattle.store_sql.proofs.InsertTexts.{item_fails, adds_item, bound_number, bound_text}
 use Rattle.store_sql.proofs.insert.insert_item.Goals as goal
 

@@ -5,7 +5,7 @@ use Rattle.store_tables.specs.Typed.{lent_kept}
 use Rattle.store_sql.specs.Inserts.{insert_kept}
 use Rattle.store_sql.specs.Encodings.{kept_row}
 use Rattle.store_sql.proofs.NumberLemmas.{bound_int}
-use Rattle.store_sql.proofs.StateLemmas.{stated, adds_aside}
+use Rattle.store_tables.proofs.StateLemmas.{stated, adds_aside}
 use Rattle.store_sql.proofs.InsertTexts.{kept_fails, adds_kept, bound_number}
 use Rattle.store_sql.proofs.insert.insert_kept.Goals as goal
 

@@ -5,7 +5,7 @@ use Rattle.store_tables.specs.Typed.{lent_mark}
 use Rattle.store_sql.specs.Inserts.{insert_mark}
 use Rattle.store_sql.specs.Encodings.{mark_row}
 use Rattle.store_sql.proofs.NumberLemmas.{bound_int}
-use Rattle.store_sql.proofs.StateLemmas.{stated, adds_aside}
+use Rattle.store_tables.proofs.StateLemmas.{stated, adds_aside}
 use Rattle.store_sql.proofs.InsertTexts.{mark_fails, adds_mark}
 use Rattle.store_sql.proofs.insert.insert_mark.Goals as goal
 

@@ -5,7 +5,7 @@ use Rattle.store_tables.specs.Typed.{lent_member}
 use Rattle.store_sql.specs.Inserts.{insert_member}
 use Rattle.store_sql.specs.Encodings.{member_row}
 use Rattle.store_sql.proofs.NumberLemmas.{bound_int}
-use Rattle.store_sql.proofs.StateLemmas.{stated, adds_aside}
+use Rattle.store_tables.proofs.StateLemmas.{stated, adds_aside}
 use Rattle.store_sql.proofs.InsertTexts.{member_fails, adds_member}
 use Rattle.store_sql.proofs.insert.insert_member.Goals as goal
 

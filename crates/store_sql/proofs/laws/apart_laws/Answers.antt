@@ -1,4 +1,5 @@
-use Rattle.store_sql.proofs.Callers.{apart_none, apart_added, apart_removed, apart_listed}
+use Rattle.store_tables.proofs.Callers.{apart_none, apart_added, apart_removed}
+use Rattle.store_sql.proofs.ListingLemmas.{apart_listed}
 use Rattle.store_sql.proofs.laws.apart_laws.Goals as goal
 
 pub returns-clause-none : goal.returns-clause-none

@@ -1,6 +1,6 @@
 use Rattle.std.proofs.Common.{codes, filter}
 use Rattle.sqlite.specs.Held.{state}
-use Rattle.store_sql.specs.Effects.{equals_text, rows_of}
+use Rattle.store_tables.specs.Effects.{equals_text, rows_of}
 use Rattle.store_sql.specs.Columns.{kept_columns}
 use Rattle.store_sql.proofs.StreamLemmas.{fails_to_read_into}
 use Rattle.store_sql.proofs.read.kept_replies_of.Goals as goal

@@ -1,6 +1,6 @@
 use Rattle.std.proofs.Common.{codes}
 use Rattle.sqlite.specs.Held.{state}
-use Rattle.store_sql.specs.Effects.{rows_of}
+use Rattle.store_tables.specs.Effects.{rows_of}
 use Rattle.store_sql.specs.Columns.{member_columns}
 use Rattle.store_sql.proofs.StreamLemmas.{fails_to_read_into}
 use Rattle.store_sql.proofs.read.members.Goals as goal

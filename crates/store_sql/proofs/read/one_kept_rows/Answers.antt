@@ -1,7 +1,7 @@
 use Rattle.std.proofs.Common.{refl}
 use Rattle.sqlite.specs.Held.{state}
 use Rattle.store_tables.specs.Tables.{kept}
-use Rattle.store_sql.specs.Effects.{equals_text}
+use Rattle.store_tables.specs.Effects.{equals_text}
 use Rattle.store_sql.specs.Reads.{select_one_kept}
 use Rattle.store_sql.proofs.ReadTexts.{read_one_kept, reads_one_kept}
 use Rattle.store_sql.proofs.ListingLemmas.{kept_read}

@@ -1,8 +1,8 @@
 use Rattle.std.proofs.Common.{arith, codes}
 use Rattle.sqlite.specs.State.{HasCleanDisk}
 use Rattle.sqlite.specs.Held.{state}
-use Rattle.store_sql.proofs.Callers.{still_has, apart_added}
-use Rattle.store_edition_sql.specs.HeaderTable.{header}
+use Rattle.store_tables.proofs.Callers.{still_has, apart_added}
+use Rattle.store_sql.specs.HeaderTable.{header}
 use Rattle.store_sql_tests.proofs.headers.put.Goals as goal
 
 pub returns : goal.returns

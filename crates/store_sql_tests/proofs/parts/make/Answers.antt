@@ -1,9 +1,9 @@
 use Rattle.std.proofs.Common.{◌≡◌, OnOk, arith, rules, subst, sym}
 use Rattle.sqlite.specs.State.{HasCleanDisk}
 use Rattle.sqlite.specs.Held.{state}
-use Rattle.store_sql.specs.Effects.{HasApartRowids, rows_of}
+use Rattle.store_tables.specs.Effects.{HasApartRowids, rows_of}
 use Rattle.store_sql_tests.proofs.CommitLemmas.{after_commit, apart_made}
-use Rattle.store_edition_sql.specs.PartTable.{part}
+use Rattle.store_sql.specs.PartTable.{part}
 use Rattle.store_sql_tests.proofs.parts.make.Goals as goal
 
 pub returns : goal.returns

@@ -1,7 +1,7 @@
 use Rattle.std.proofs.Common.{◌≡◌, ◌<◌, ◌≤◌, ◌+◌, ◌-◌, pos, length, slice_index_or, [], arith, sym, subst, ◌∙◌}
 use Rattle.store_holdings.specs.Files.{part_at, parts_under}
 use Rattle.store_rows.specs.Parts.{parts_of}
-use Rattle.store_edition_sql.specs.PartRecords.{lent_part}
+use Rattle.store_sql.specs.PartRecords.{lent_part}
 use Rattle.store_holdings.proofs.FilePlaceLemmas.{both_length, first_at, second_at}
 use Rattle.store_commands.proofs.files.EditionFiles.part.Goals as goal
 
