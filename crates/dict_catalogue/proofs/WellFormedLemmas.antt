@@ -13,7 +13,7 @@ use Rattle.dict_text.specs.Names.{is_name, is_request_id}
 use Rattle.dict_catalogue.specs.Items.{Stored, Item, regular, virtual, name_of, is_regular, is_virtual, members_of, editions_of, is_named, lists, is_among, is_known, names_regular, names_virtual, is_listed}
 use Rattle.dict_catalogue.specs.Items.{current_number, numbers_of, edition_numbers}
 use Rattle.dict_catalogue.specs.Commands.{Command, install, rollback, retire, put_virtual, place, target, verb_of}
-use Rattle.dict_catalogue.specs.Tests.{Holdings, tests_of, has_room, has_turn}
+use Rattle.dict_catalogue.specs.Tests.{Holdings, tests_of, refusal_of, has_room, has_turn}
 use Rattle.dict_catalogue.specs.Effects.{installed, swapped, put_anew, changed_in_place, others_than, moved, items_after, installs_after, effect, reply_to, edition_told}
 use Rattle.dict_catalogue.specs.Steps.{KeptFor, Catalogue, Outcome, holdings, kept_under, with_effect, step, AllHold, IsStep, id_unlawful, id_kept, test_failed, none_failed}
 use Rattle.dict_catalogue.specs.WellFormed.{IsEachOnce, IsLawfulItem, HasWellFormedEditions, HasKnownMembers, IsLawfulCommand, tells_edition, IsLawfulReply, IsNumberedFrom, is_install, IsWellFormed}
@@ -22,7 +22,7 @@ use Rattle.dict_text.proofs.AsciiLemmas.{name_utf8}
 use Rattle.dict_catalogue.proofs.ListLemmas.{sum_append, any_moved, any_append_left, any_append_right, any_filter, none_passes, by_test}
 use Rattle.dict_catalogue.proofs.ItemLemmas.{same_text, text_itself, known_turned, regular_named_turned, virtual_named_turned, current_there, all_after}
 use Rattle.dict_catalogue.proofs.CountLemmas.{once_added, tested_once, tested_regular, tested_later, names_after, limit_after, numbers_after}
-use Rattle.dict_catalogue.proofs.StepLemmas.{step_is}
+use Rattle.dict_catalogue.proofs.StepLemmas.{all_hold, step_is}
 
 -- lawful items
 
@@ -277,15 +277,25 @@ named_lawful (retire name) before tests = tests.0
 named_lawful (put_virtual name title members) before tests = tests.0
 named_lawful (place name at) before tests = tests.0
 
-room_turn : (before : Holdings Edition) (name : List ℕ) → has_room before name ≡ true → has_turn before ≡ true
+room_turn : {A : Type 0} (before : Holdings A) (name : List ℕ) → has_room before name ≡ true → has_turn before ≡ true
 room_turn before name h = (and_parts (is_known before.items name || nat_lt (length before.items) 64) (has_turn before) h).1
 
-turned_in_time : (command : Command Edition) (before : Holdings Edition) → AllHold (tests_of before command) → has_turn before ≡ true
+turned_in_time : {A : Type 0} (command : Command A) (before : Holdings A) → AllHold (tests_of before command) → has_turn before ≡ true
 turned_in_time (install name content) before tests = room_turn before name tests.1.1.0
 turned_in_time (rollback name) before tests = tests.1.1.1.1.0
 turned_in_time (retire name) before tests = tests.1.1.1.0
 turned_in_time (put_virtual name title members) before tests = room_turn before name (tested_later before.items [] members _ tests.1.1.1.1).0
 turned_in_time (place name at) before tests = tests.1.1.1.0
+
+-- a command that isn't refused has its turn
+pub has_its_turn : {A : Type 0} (before : Holdings A) (command : Command A) → refusal_of before command ≡ None → has_turn before ≡ true
+has_its_turn before command passed = turned_in_time command before (all_hold (tests_of before command) passed)
+
+-- an install that isn't refused is of no virtual item
+pub installs_no_virtual : {A : Type 0} (before : Holdings A) (name : List ℕ) (content : A) → refusal_of before (install name content) ≡ None → names_virtual before.items name ≡ false
+installs_no_virtual before name content passed =
+    let tests : AllHold (tests_of before (install name content)) = all_hold (tests_of before (install name content)) passed in
+    not-true (names_virtual before.items name) tests.1.0
 
 below_most : (accepted : ℕ) → nat_lt accepted 9223372036854775807 ≡ true → accepted + 1 ≤ 9223372036854775807
 below_most accepted h = grind (arith, nat_tests)

@@ -27,7 +27,7 @@ use Rattle.dict_desk.specs.declared.lookup.What.TheVariants.{Entries, Headwords}
 use Rattle.dict_proto.specs.Replies.{no_match_octets, definition_count_octets, match_count_octets, list_end_octets, done_octets}
 use Rattle.dict_session.specs.Answers.{definition_of, definitions_answer, match_line, matches_answer}
 use Rattle.dict_session.specs.Places.{IsHeading}
-use Rattle.dict_session.specs.Rows.{row_octets, octets_in, count_in, regular_as, at_place, octets_at_place, count_at, first_counted, count_octets, end_octets, counted_octets, found_octets, giving, IsCounted}
+use Rattle.dict_session.specs.Rows.{row_octets, octets_in, found_count, regular_as, at_place, octets_at_place, count_at, first_counted, count_octets, end_octets, counted_octets, found_octets, giving, IsCounted}
 use Rattle.dict_session.specs.declared.found.CountedRows.{CountedRows}
 use Rattle.dict_session.specs.declared.query.Query.{Query}
 use Rattle.dict_session.specs.declared.asked.Heading.{Heading}
@@ -40,8 +40,8 @@ at_places items places = flat_map (at_place items) places
 -- the answer that rows of these databases make
 abbrev pub answer_over : Query → List Database → List ℕ
 answer_over query dbs =
-    if total (count_in query) dbs == 0 then no_match_octets
-    else count_octets query.what (total (count_in query) dbs) ++ (flat_map (octets_in query) dbs ++ end_octets query.what)
+    if total (found_count query) dbs == 0 then no_match_octets
+    else count_octets query.what (total (found_count query) dbs) ++ (flat_map (octets_in query) dbs ++ end_octets query.what)
 
 flat_map-flat_map : {X Y : Type 0} (f : Y → List ℕ) (g : X → List Y) (xs : List X) → flat_map f (flat_map g xs) ≡ flat_map (λ x. flat_map f (g x)) xs
 flat_map-flat_map f g [] = refl
@@ -49,8 +49,8 @@ flat_map-flat_map f g (x ∷ xs) = flat_map-append f (g x) (flat_map g xs) ∙ a
 
 pub found_over : (query : Query) (items : List (Item Edition)) (places : List ℕ) → found_octets query items places ≡ answer_over query (at_places items places)
 found_over query items places =
-    ap (λ (n : ℕ). if n == 0 then no_match_octets else count_octets query.what n ++ (flat_map (octets_at_place query items) places ++ end_octets query.what)) (sym (sum_flat_map (count_in query) (at_place items) places))
-    ∙ ap (λ (l : List ℕ). if total (count_in query) (at_places items places) == 0 then no_match_octets else count_octets query.what (total (count_in query) (at_places items places)) ++ (l ++ end_octets query.what))
+    ap (λ (n : ℕ). if n == 0 then no_match_octets else count_octets query.what n ++ (flat_map (octets_at_place query items) places ++ end_octets query.what)) (sym (sum_flat_map (found_count query) (at_place items) places))
+    ∙ ap (λ (l : List ℕ). if total (found_count query) (at_places items places) == 0 then no_match_octets else count_octets query.what (total (found_count query) (at_places items places)) ++ (l ++ end_octets query.what))
     (sym (flat_map-flat_map (octets_in query) (at_place items) places))
 
 -- ---- the first database in which an entry is found
@@ -80,15 +80,15 @@ first_over query items (place ∷ places) = by_item (slice_get items place) refl
     by_item : (o : Option (Item Edition)) → slice_get items place ≡ o → at_places items (first_counted (count_at query items) places) ≡ first_finding query.strategy query.key (at_places items places)
         → at_places items (if count_at query items place == 0 then first_counted (count_at query items) places else place ∷ []) ≡ first_finding query.strategy query.key (at_place items place ++ at_places items places)
     by_item None e h =
-        ap (λ (l : List Database). at_places items (if total (count_in query) l == 0 then first_counted (count_at query items) places else place ∷ [])) (ap regular_as e)
+        ap (λ (l : List Database). at_places items (if total (found_count query) l == 0 then first_counted (count_at query items) places else place ∷ [])) (ap regular_as e)
         ∙ (h ∙ sym (ap (λ (l : List Database). first_finding query.strategy query.key (l ++ at_places items places)) (ap regular_as e)))
     by_item (Some (virtual name title members)) e h =
-        ap (λ (l : List Database). at_places items (if total (count_in query) l == 0 then first_counted (count_at query items) places else place ∷ [])) (ap regular_as e)
+        ap (λ (l : List Database). at_places items (if total (found_count query) l == 0 then first_counted (count_at query items) places else place ∷ [])) (ap regular_as e)
         ∙ (h ∙ sym (ap (λ (l : List Database). first_finding query.strategy query.key (l ++ at_places items places)) (ap regular_as e)))
     by_item (Some (regular name current former)) e h =
         let db : Database = record { name = name; edition = current.content } in
         let at : at_place items place ≡ db ∷ [] = ap regular_as e in
-        ap (λ (l : List Database). at_places items (if total (count_in query) l == 0 then first_counted (count_at query items) places else place ∷ [])) at
+        ap (λ (l : List Database). at_places items (if total (found_count query) l == 0 then first_counted (count_at query items) places else place ∷ [])) at
         ∙ (ap (λ (b : Bool). at_places items (if b then first_counted (count_at query items) places else place ∷ [])) (none_found query.what query.strategy query.key current.content)
         ∙ (by_count (length (found query.strategy query.key current.content) == 0) db at h
         ∙ sym (ap (λ (l : List Database). first_finding query.strategy query.key (l ++ at_places items places)) at)))
@@ -114,14 +114,14 @@ module _ (key : List ℕ) where
   definitions_same : (db : Database) → flat_map definition_of (definitions_in key db) ≡ octets_in for_definitions db
   definitions_same db = flat_map-map definition_of _ (found Exact key db.edition) ∙ sym (flat_map-map (row_octets Entries db.name db.edition.title) row_of (found Exact key db.edition))
 
-  definitions_count : (db : Database) → length (definitions_in key db) ≡ count_in for_definitions db
+  definitions_count : (db : Database) → length (definitions_in key db) ≡ found_count for_definitions db
   definitions_count db = length-map (found Exact key db.edition) _
 
   pub definitions_over : (dbs : List Database) → definitions_answer (flat_map (definitions_in key) dbs) ≡ answer_over for_definitions dbs
   definitions_over dbs =
       ap (λ (n : ℕ). if n == 0 then no_match_octets else count_octets Entries n ++ (flat_map definition_of (flat_map (definitions_in key) dbs) ++ end_octets Entries))
-      (length-flat_map (definitions_in key) (count_in for_definitions) definitions_count dbs)
-      ∙ ap (λ (l : List ℕ). if total (count_in for_definitions) dbs == 0 then no_match_octets else count_octets Entries (total (count_in for_definitions) dbs) ++ (l ++ end_octets Entries))
+      (length-flat_map (definitions_in key) (found_count for_definitions) definitions_count dbs)
+      ∙ ap (λ (l : List ℕ). if total (found_count for_definitions) dbs == 0 then no_match_octets else count_octets Entries (total (found_count for_definitions) dbs) ++ (l ++ end_octets Entries))
       (flat_map-flat_map definition_of (definitions_in key) dbs ∙ flat_map-same _ _ definitions_same dbs)
 
 module _ (strategy : Strategy) (key : List ℕ) where
@@ -131,14 +131,14 @@ module _ (strategy : Strategy) (key : List ℕ) where
   matches_same : (db : Database) → flat_map match_line (matches_in strategy key db) ≡ octets_in for_matches db
   matches_same db = flat_map-map match_line _ (headwords (found strategy key db.edition)) ∙ sym (flat_map-map (row_octets Headwords db.name db.edition.title) (λ shown. row shown []) (headwords (found strategy key db.edition)))
 
-  matches_count : (db : Database) → length (matches_in strategy key db) ≡ count_in for_matches db
+  matches_count : (db : Database) → length (matches_in strategy key db) ≡ found_count for_matches db
   matches_count db = length-map (headwords (found strategy key db.edition)) _
 
   pub matches_over : (dbs : List Database) → matches_answer (flat_map (matches_in strategy key) dbs) ≡ answer_over for_matches dbs
   matches_over dbs =
       ap (λ (n : ℕ). if n == 0 then no_match_octets else count_octets Headwords n ++ (flat_map match_line (flat_map (matches_in strategy key) dbs) ++ end_octets Headwords))
-      (length-flat_map (matches_in strategy key) (count_in for_matches) matches_count dbs)
-      ∙ ap (λ (l : List ℕ). if total (count_in for_matches) dbs == 0 then no_match_octets else count_octets Headwords (total (count_in for_matches) dbs) ++ (l ++ end_octets Headwords))
+      (length-flat_map (matches_in strategy key) (found_count for_matches) matches_count dbs)
+      ∙ ap (λ (l : List ℕ). if total (found_count for_matches) dbs == 0 then no_match_octets else count_octets Headwords (total (found_count for_matches) dbs) ++ (l ++ end_octets Headwords))
       (flat_map-flat_map match_line (matches_in strategy key) dbs ∙ flat_map-same _ _ matches_same dbs)
 
 -- ---- how many rows a place gives
@@ -173,7 +173,7 @@ current_well name current (Some other) h = h.0
 count_few : (query : Query) (M : Catalogue) (place : ℕ) → IsWellFormed M → count_at query M.items place ≤ most_entries
 count_few query M place w = by_item (slice_get M.items place) refl
   where
-    by_item : (o : Option (Item Edition)) → slice_get M.items place ≡ o → total (count_in query) (regular_as o) ≤ most_entries
+    by_item : (o : Option (Item Edition)) → slice_get M.items place ≡ o → total (found_count query) (regular_as o) ≤ most_entries
     by_item None e = omega arith
     by_item (Some (virtual name title members)) e = omega arith
     by_item (Some (regular name current former)) e =
@@ -230,7 +230,7 @@ module _ (M : Catalogue) (place : ℕ) where
   count_here query heading r is told = by_item (slice_get M.items place) refl (subst (IsHeading (Some heading)) (shown_item M place) is)
     where
       by_item : (o : Option (Item Edition)) → slice_get M.items place ≡ o → IsHeading (Some heading) (option_map (item_as (λ (edition : Edition). edition.title)) o)
-          → IfOk r (λ n. n ≡ total (count_in query) (regular_as o))
+          → IfOk r (λ n. n ≡ total (found_count query) (regular_as o))
       by_item None e h = absurd h
       by_item (Some (virtual name title members)) e h = absurd h
       by_item (Some (regular name current former)) e h =
@@ -294,7 +294,7 @@ none_by Headwords strategy key edition e =
 none_at : (query : Query) (items : List (Item Edition)) (place : ℕ) → count_at query items place ≡ 0 → octets_at_place query items place ≡ []
 none_at query items place e = by_item (slice_get items place) e
   where
-    by_item : (o : Option (Item Edition)) → total (count_in query) (regular_as o) ≡ 0 → flat_map (octets_in query) (regular_as o) ≡ []
+    by_item : (o : Option (Item Edition)) → total (found_count query) (regular_as o) ≡ 0 → flat_map (octets_in query) (regular_as o) ≡ []
     by_item None f = refl
     by_item (Some (virtual name title members)) f = refl
     by_item (Some (regular name current former)) f =

@@ -24,8 +24,8 @@ row_octets Headwords name title row = list_line_octets name row.shown
 abbrev pub octets_in : Query → Database → List ℕ
 octets_in query database = flat_map (row_octets query.what database.name database.edition.title) (rows_given query.what query.strategy query.key database.edition)
 
-abbrev pub count_in : Query → Database → ℕ
-count_in query database = count_of query.what query.strategy query.key database.edition
+abbrev pub found_count : Query → Database → ℕ
+found_count query database = count_of query.what query.strategy query.key database.edition
 
 -- the database at a place, if a regular item stands there
 abbrev pub regular_as : Option (Item Edition) → List Database
@@ -40,7 +40,7 @@ abbrev pub octets_at_place : Query → List (Item Edition) → ℕ → List ℕ
 octets_at_place query items place = flat_map (octets_in query) (at_place items place)
 
 abbrev pub count_at : Query → List (Item Edition) → ℕ → ℕ
-count_at query items place = total (count_in query) (at_place items place)
+count_at query items place = total (found_count query) (at_place items place)
 
 -- the first place with a count, alone, or none
 abbrev pub first_counted : (ℕ → ℕ) → List ℕ → List ℕ

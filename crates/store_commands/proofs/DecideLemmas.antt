@@ -1,8 +1,7 @@
 -- What is planned over a summary can be written, and is the change that the command makes.
-use Rattle.std.proofs.Common.{◌≡◌, ℕ, ◌+◌, ◌≤◌, ◌||◌, Bool, true, false, List, [], ◌∷◌, ◌++◌, length, map, not, nat_lt, Option, Some, None, refl, sym, ap, subst, ◌∙◌, arith}
+use Rattle.std.proofs.Common.{◌≡◌, ℕ, ◌+◌, ◌≤◌, true, List, [], ◌∷◌, ◌++◌, map, nat_lt, Option, Some, None, refl, sym, ap, subst, ◌∙◌, arith}
 use Rattle.std.specs.Prelude.{IfSome}
 use Rattle.std.specs.List.{AllByRecursion}
-use Rattle.std.proofs.lemmas.Bool.{and_parts}
 use Rattle.std.proofs.lemmas.Bool.Decides.{nat_tests}
 use Rattle.dict_text.proofs.AllLemmas.{all_weaker, all_filter, all_map, all_flat_map, all_flat_map_parts}
 use Rattle.dict_index.specs.Edition.{Edition}
@@ -10,11 +9,9 @@ use Rattle.dict_index.specs.Line.{Line}
 use Rattle.dict_index.specs.Views.{line_of, LiesIn}
 use Rattle.dict_index.specs.declared.entry.Entry.{Entry}
 use Rattle.store_rows.specs.Stands.{IsWithin}
-use Rattle.dict_catalogue.specs.Items.{Stored, Item, regular, virtual, is_named, is_known, names_regular, names_virtual, names_former, is_listed, editions_of, numbers_of, edition_numbers, current_of, current_number, item_as}
+use Rattle.dict_catalogue.specs.Items.{Stored, Item, regular, virtual, is_named, editions_of, numbers_of, edition_numbers, current_of, current_number, item_as}
 use Rattle.dict_catalogue.specs.Commands.{Command, install, rollback, retire, put_virtual, place}
-use Rattle.dict_catalogue.specs.Tests.{Test, Holdings, wants, first_failing, refusal_of, has_turn, has_room, has_member_count, member_tests}
-use Rattle.dict_catalogue.specs.declared.fault.CommandRefusal.TheVariants.{BadName, Unknown, IsVirtual, NoFormer, Listed, CatalogueFull, MemberCount, BadTitle, BadPlace, IsRegular}
-use Rattle.dict_text.specs.Names.{is_name, is_title}
+use Rattle.dict_catalogue.specs.Tests.{Holdings}
 use Rattle.dict_catalogue.specs.Effects.{effect, items_after, installs_after, edition_told}
 use Rattle.dict_catalogue.specs.Steps.{Catalogue, holdings, summary_of}
 use Rattle.dict_catalogue.specs.WellFormed.{IsWellFormed}
@@ -24,42 +21,13 @@ use Rattle.dict_catalogue.specs.declared.commands.Command.TheVariants.{Install, 
 use Rattle.dict_catalogue.specs.declared.planning.PlannedChange.{PlannedChange as Planned}
 use Rattle.dict_catalogue.proofs.ListLemmas.{by_test}
 use Rattle.dict_catalogue.proofs.SummaryLemmas.{effect_with, editions_gone_as, reply_to_as}
-use Rattle.dict_catalogue.proofs.WellFormedLemmas.{EachEdition, IfInstalled, each_after}
+use Rattle.dict_catalogue.proofs.WellFormedLemmas.{EachEdition, IfInstalled, each_after, has_its_turn}
 use Rattle.store_rows.specs.After as after
 use Rattle.store_commands.specs.KeptRecords.{FitsColumn, AreStorable}
 use Rattle.store_commands.specs.Changes.{IsWritable, IsInRange, installed_by, change_by}
 use Rattle.store_commands.specs.Decided.{LiesWithin}
 
--- ---- a command that is not refused has its turn
-
-passed : (test : Test) (tests : List Test) → first_failing (test ∷ tests) ≡ None → (test.holds ≡ true) × (first_failing tests ≡ None)
-passed test tests h = by test.holds refl h
-  where
-    by : (b : Bool) → test.holds ≡ b → Rattle.std.specs.Prelude.cond b (first_failing tests) (Some test.refusal) ≡ None → (test.holds ≡ true) × (first_failing tests ≡ None)
-    by true e k = (e, k)
-    by false e k = absurd (cc)
-
-last_passed : (tests : List Test) (last : Test) → first_failing (tests ++ last ∷ []) ≡ None → last.holds ≡ true
-last_passed [] last h = (passed last [] h).0
-last_passed (test ∷ tests) last h = last_passed tests last (passed test (tests ++ last ∷ []) h).1
-
 module _ {A : Type 0} where
-  room_turn : (before : Holdings A) (name : List ℕ) → has_room before name ≡ true → has_turn before ≡ true
-  room_turn before name h = (and_parts (is_known before.items name || nat_lt (length before.items) 64) (has_turn before) h).1
-
-  turned : (before : Holdings A) (command : Command A) → refusal_of before command ≡ None → has_turn before ≡ true
-  turned before (install name content) h =
-      room_turn before name (last_passed (wants (is_name name) BadName ∷ wants (not (names_virtual before.items name)) IsVirtual ∷ []) (wants (has_room before name) CatalogueFull) h)
-  turned before (rollback name) h =
-      last_passed (wants (is_name name) BadName ∷ wants (is_known before.items name) Unknown ∷ wants (not (names_virtual before.items name)) IsVirtual ∷ wants (names_former before.items name) NoFormer ∷ [])
-      (wants (has_turn before) CatalogueFull) h
-  turned before (retire name) h = last_passed (wants (is_name name) BadName ∷ wants (is_known before.items name) Unknown ∷ wants (not (is_listed before.items name)) Listed ∷ []) (wants (has_turn before) CatalogueFull) h
-  turned before (put_virtual name title members) h =
-      room_turn before name
-      (last_passed (wants (is_name name) BadName ∷ wants (not (names_regular before.items name)) IsRegular ∷ wants (is_title title) BadTitle ∷ wants (has_member_count members) MemberCount ∷ member_tests before.items [] members)
-      (wants (has_room before name) CatalogueFull) h)
-  turned before (place name at) h = last_passed (wants (is_name name) BadName ∷ wants (is_known before.items name) Unknown ∷ wants (nat_lt at (length before.items)) BadPlace ∷ []) (wants (has_turn before) CatalogueFull) h
-
   -- ---- numbers stay in their range
 
   to_editions : (most : ℕ) (editions : List (Stored A)) → AllByRecursion (λ number. number ≤ most) (map (λ (stored : Stored A). stored.number) editions) → AllByRecursion (λ (stored : Stored A). stored.number ≤ most) editions
@@ -131,7 +99,7 @@ from_shown P f (x ∷ xs) h = (h.0, from_shown P f xs h.1)
 
 module _ (before : Holdings (List ℕ)) (command : Command (List ℕ)) (planned : Planned) (range : IsInRange before) (is : IsChange before command planned) where
   few : before.accepted + 1 ≤ 9223372036854775807
-  few = let t = turned before command is.0 in below before.accepted t
+  few = let t = has_its_turn before command is.0 in below before.accepted t
     where
       below : (accepted : ℕ) → nat_lt accepted 9223372036854775807 ≡ true → accepted + 1 ≤ 9223372036854775807
       below accepted h = grind (arith, nat_tests)

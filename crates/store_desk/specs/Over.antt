@@ -18,8 +18,8 @@ use Rattle.store_desk.specs.Opened.{IsNotLeft}
 use Rattle.store_desk.specs.declared.last.LastCall.{LastCall}
 
 -- a reader or a writer was left alone
-abbrev pub IsUntouched : StreamChange → Type 0
-IsUntouched change = change.new ≡ change.old
+abbrev pub IsUnmoved : StreamChange → Type 0
+IsUnmoved change = change.new ≡ change.old
 
 -- how a desk stands whose last call ended so
 abbrev pub condition_by : LastCall → Condition

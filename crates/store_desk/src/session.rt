@@ -7,7 +7,7 @@ ghost use Rattle.dict_catalogue.specs.Steps.{Catalogue};
 ghost use Rattle.dict_proto.specs.Streams.{change};
 ghost use Rattle.store_desk.specs.Adopted.{IsNotAdopted, FailsToOpen};
 ghost use Rattle.store_desk.specs.Desk.{KeepsBeside, LeavesOneOf};
-ghost use Rattle.store_desk.specs.Over.{HasRun, IsUntouched, ConnectionKeepsBeside, ConnectionLeavesOneOf, TellsNoLeft};
+ghost use Rattle.store_desk.specs.Over.{HasRun, IsUnmoved, ConnectionKeepsBeside, ConnectionLeavesOneOf, TellsNoLeft};
 
 use crate::adopting::is_whole;
 use crate::desk::Desk;
@@ -35,13 +35,13 @@ pub fn session_over<S: Alter + Drop, R: Source, K: Sink>(
     requires { connection.in_transaction ≡ false }
     ensures ran { IfOk result (λ ran. HasCleanDisk (state S.Store ran.0.conn) → HasRun S.Store connection ran.0 host.now number ran.1
         (change R.stream reader.old reader.new) (change K.stream writer.old writer.new)) }
-    ensures memory { IfOk result (λ ran. ran.1 ≡ Err SessionFault.Memory → IsUntouched (change R.stream reader.old reader.new) × IsUntouched (change K.stream writer.old writer.new)) }
+    ensures memory { IfOk result (λ ran. ran.1 ≡ Err SessionFault.Memory → IsUnmoved (change R.stream reader.old reader.new) × IsUnmoved (change K.stream writer.old writer.new)) }
     ensures leaves { IfOk result (λ ran. (ms : List (Option Catalogue)) → ConnectionLeavesOneOf S.Store connection ms → LeavesOneOf S.Store ran.0 ms) }
     ensures beside { IfOk result (λ ran. (db : Database) → ConnectionKeepsBeside S.Store connection db → KeepsBeside S.Store ran.0 db) }
     ensures unopened { IfErr result (λ left. IsNotAdopted S.Store connection left.0 left.1) }
     ensures failed { IfErr result (λ left. HasCleanDisk (state S.Store left.0) → left.1 ≡ Fault.Disk → FailsToOpen S.Store (record connection { step_limit = None }) left.0) }
     ensures not_left { IfErr result (λ left. TellsNoLeft S.Store connection left.0 left.1) }
-    ensures untouched { IfErr result (λ _. IsUntouched (change R.stream reader.old reader.new) × IsUntouched (change K.stream writer.old writer.new)) }
+    ensures untouched { IfErr result (λ _. IsUnmoved (change R.stream reader.old reader.new) × IsUnmoved (change K.stream writer.old writer.new)) }
     ensures leaves_unopened { IfErr result (λ left. (ms : List (Option Catalogue)) → ConnectionLeavesOneOf S.Store connection ms → ConnectionLeavesOneOf S.Store left.0 ms) }
     ensures beside_unopened { IfErr result (λ left. (db : Database) → ConnectionKeepsBeside S.Store connection db → ConnectionKeepsBeside S.Store left.0 db) }
     ensures autocommit { IfErr result (λ left. left.0.in_transaction ≡ false) }

@@ -11,14 +11,13 @@ use Rattle.dict_index.specs.Edition.{Edition, edition_of}
 use Rattle.dict_text.specs.Names.{is_request_id}
 use Rattle.dict_catalogue.specs.Items.{Stored, Item, name_of, editions_of, numbers_of, edition_numbers, is_known, names_virtual}
 use Rattle.dict_catalogue.specs.Commands.{Command, install, rollback, retire, put_virtual, place}
-use Rattle.dict_catalogue.specs.Tests.{tests_of, refusal_of}
+use Rattle.dict_catalogue.specs.Tests.{refusal_of}
 use Rattle.dict_catalogue.specs.Effects.{items_after, effect, reply_to}
 use Rattle.dict_catalogue.specs.Steps.{Catalogue, holdings, with_effect, kept_under, answered, decided, refused, step}
 use Rattle.dict_catalogue.specs.declared.fault.CommandRefusal.TheVariants.{BadRequestId}
 use Rattle.dict_catalogue.specs.WellFormed.{IsLawfulCommand, IsWellFormed}
 use Rattle.dict_catalogue.proofs.ItemLemmas.{all_after}
-use Rattle.dict_catalogue.proofs.StepLemmas.{all_hold}
-use Rattle.dict_catalogue.proofs.WellFormedLemmas.{step_well_formed}
+use Rattle.dict_catalogue.proofs.WellFormedLemmas.{installs_no_virtual, step_well_formed}
 use Rattle.store_rows.specs.Tables.{Tables, same_number, editions_numbered, entries_of}
 use Rattle.store_rows.specs.Written.{numbered, mark_record, item_record, edition_record, entry_record, kept_record}
 use Rattle.store_rows.specs.Stands.{HoldsMembers, IsWithin, HoldsEdition, HoldsEditions, has_number, Stands}
@@ -241,8 +240,7 @@ there : (number : ℕ) (command : Command Edition) (edition : Option Installed) 
 unfolding IsThere
 there number (install name content) None M passed h = absurd h
 there number (install name content) (Some new) M passed h =
-    let tests = all_hold (tests_of (holdings M) (install name content)) passed in
-    let plain : names_virtual M.items name ≡ false = not-true (names_virtual M.items name) tests.1.0 in
+    let plain : names_virtual M.items name ≡ false = installs_no_virtual (holdings M) name content passed in
     subst (λ (n : ℕ). list_any (λ one. same_number (pos one) (pos n)) (edition_numbers (items_after number (install name content) M.items)) ≡ true) (sym h.1) (new_there number name content M.items plain)
 there number (rollback name) edition M passed h = there_none _ edition h
 there number (retire name) edition M passed h = there_none _ edition h
