@@ -1,5 +1,5 @@
 -- What comes of a session over a database.
-use Rattle.std.specs.Prelude.{◌≡◌, ℕ, IsTrue, List, Option, Result}
+use Rattle.std.specs.Prelude.{◌≡◌, ℕ, false, IsTrue, List, Option, Result}
 use Rattle.sqlite.specs.Effect.{Database}
 use Rattle.sqlite.specs.State.{HasCleanDisk}
 use Rattle.sqlite.specs.Tree.{Trees}
@@ -11,6 +11,7 @@ use Rattle.store_holdings.specs.Holds.{IsHeld, IsLeft}
 use Rattle.dict_proto.specs.Streams.{StreamChange}
 use Rattle.dict_session.specs.Desks.{Condition}
 use Rattle.dict_session.specs.Run.{Ends}
+use Rattle.dict_session.specs.Through.{EndsThrough}
 use Rattle.dict_session.specs.declared.session.run.SessionEnd.{SessionEnd}
 use Rattle.dict_session.specs.declared.session.run.SessionFault.{SessionFault}
 use Rattle.store_desk.specs.Desk.{DeskState, HasBeside, IsOneOf, Shows, has_failed, is_closed}
@@ -26,9 +27,11 @@ abbrev pub condition_by : LastCall → Condition
 condition_by last = record { failed = has_failed last; closed = is_closed last }
 
 module _ {S : Type 0} (g : Ghosts S) where
-  -- A session over this catalogue ended so, greeted under this host and number, and left the desk, which shows it still.
+  -- A session over this catalogue ended so, greeted under this host and number, and left the desk, which shows it still. What was written
+  -- answers each line by how the desk stood before it: it was open before the first.
   pub record EndsOver (desk : DeskState S) (host : List ℕ) (number : ℕ) (end : Result SessionEnd SessionFault) (reader writer : StreamChange) (M : Catalogue) : Type 0 where
     pub ended : Ends M host number (condition_by desk.last) end reader writer
+    pub through : EndsThrough M host number false (condition_by desk.last) end reader writer
     pub shown : Shows g desk M
 
   -- The database that was committed holds a catalogue, and whichever it holds, the session is one over that; so it is where a

@@ -1,4 +1,9 @@
-use Rattle.std.proofs.Common.{ap}
+use Rattle.std.proofs.Common.{◌≡◌, false, ap, subst}
+use Rattle.dict_catalogue.specs.Steps.{Catalogue}
+use Rattle.dict_proto.specs.Streams.{change}
+use Rattle.dict_session.specs.Through.{EndsThrough}
+use Rattle.store_desk.specs.Desk.{Shows, is_closed}
+use Rattle.store_desk.specs.Over.{EndsOver, condition_by}
 use Rattle.store_desk.proofs.OverLemmas.{beside_after, leaves_after}
 use Rattle.store_desk.proofs.session.session_over.Goals as goal
 
@@ -6,11 +11,19 @@ pub returns-clause-ran : goal.returns-clause-ran
 returns-clause-ran g c = λ clean.
     let opened = c.run-end.ensures.desk.trust clean in
     let is = c.in-Ok.ensures.adopted.shows opened in
+    let open : is_closed c.in-Ok.desk.last ≡ false = ap is_closed c.in-Ok.ensures.adopted.fine in
+    let spoken : (M : Catalogue) → Shows g.S.Store c.in-Ok.desk M → EndsOver g.S.Store c.run-end.new.desk c.args.host.now c.args.number c.run-end.result (change g.R.Source.stream c.args.reader.now c.run-end.new.reader)
+        (change g.K.Sink.stream c.args.writer.now c.run-end.new.writer) M = λ M shown. record {
+      ended = c.run-end.ensures.answers clean M shown;
+      through = subst (λ b. EndsThrough M c.args.host.now c.args.number b (condition_by c.run-end.new.desk.last) c.run-end.result (change g.R.Source.stream c.args.reader.now c.run-end.new.reader)
+          (change g.K.Sink.stream c.args.writer.now c.run-end.new.writer)) open (c.run-end.ensures.through clean M shown);
+      shown = c.run-end.ensures.desk.shows clean M shown;
+    } in
     record {
       catalogue = is.0;
       held = (c.in-Ok.ensures.adopted.same opened is.0).1 is.1.holds;
-      over = λ M held. let shown = c.in-Ok.ensures.held opened M held in record { ended = c.run-end.ensures.answers clean M shown; shown = c.run-end.ensures.desk.shows clean M shown };
-      left = λ M left. let shown = c.in-Ok.ensures.left opened M left in record { ended = c.run-end.ensures.answers clean M shown; shown = c.run-end.ensures.desk.shows clean M shown };
+      over = λ M held. spoken M (c.in-Ok.ensures.held opened M held);
+      left = λ M left. spoken M (c.in-Ok.ensures.left opened M left);
     }
 
 pub returns-clause-memory : goal.returns-clause-memory
