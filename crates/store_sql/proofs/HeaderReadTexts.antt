@@ -1,4 +1,4 @@
--- The texts that read headers: all of them, and one.
+-- The texts that read headers: all of them, also row by row, and one.
 use Rattle.std.proofs.Common.{◌≡◌, ℕ, ℤ, List, [], ◌∷◌, codes, Some, None, refl, ◌∙◌, lit≤}
 use Rattle.sqlite.specs.declared.types.Value.TheVariants.{Int}
 use Rattle.sqlite.specs.Order.{Row, column}
@@ -22,6 +22,8 @@ use Rattle.store_sql.proofs.ReadTexts.{ReadsTable, reads_table, key_at, sort_by}
 use Rattle.store_tables.proofs.TextLemmas.{parsed_or}
 use Rattle.store_sql.specs.HeaderTable.{header}
 use Rattle.store_sql.specs.HeaderTexts.{header_one_text, header_rowid_text}
+use Rattle.store_sql.specs.HeaderScans.{header_query}
+use Rattle.store_sql.proofs.ScanLemmas.{ReadsScan, listing_scan}
 
 -- ---- all
 
@@ -37,6 +39,9 @@ reads_by_rowid = reads_table refl (λ tree. refl) refl (λ tree. refl) (λ at tr
 pub takes_by_rowid : Takes header_rowid_text read_by_rowid header [] (key_at 0 ∷ []) no_values
 unfolding everything read_by_rowid
 takes_by_rowid = record { whole = lit≤ tt; names = λ x. refl; typed = λ schema at tree alone low x. rw (low, alone) refl }
+
+pub reads : ReadsScan header_query
+reads = listing_scan header_rowid_text read_by_rowid header _ _ _ _ _ _ _ _ reads_by_rowid no_values takes_by_rowid tt (λ tree. refl) (λ tree row. refl)
 
 -- ---- one
 

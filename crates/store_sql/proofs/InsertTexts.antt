@@ -1,33 +1,109 @@
 -- The INSERT statements of the store: their texts, what they do, and why they are refused.
-use Rattle.std.proofs.Common.{List, [], ◌∷◌, refl, ◌≡◌, ℕ, codes, Option, Some, None, Ok, option_map, ℤ, ◌⊎◌, ◌≤◌, length, true, Err, lit≤}
+use Rattle.std.proofs.Common.{List, [], ◌∷◌, refl, ap, ◌∙◌, ◌≡◌, ◌/◌, ℕ, codes, Option, Some, None, Ok, option_map, ℤ, ◌⊎◌, ◌≤◌, length, true, false, Err, Result, IfErr, OnOk, IsTrue, lit≤}
 use Rattle.sqlite.specs.declared.types.Value.TheVariants.{Null, Int, Text}
 use Rattle.sqlite.specs.Term.{Term, lit, col}
 use Rattle.sqlite.specs.Source.TheVariants.{Values}
 use Rattle.sqlite.specs.Compile.{first}
 use Rattle.sqlite_tied.specs.Compute.{everything}
 use Rattle.sqlite_syntax.specs.declared.statement.Parsed.{Parsed}
-use Rattle.store_tables.specs.Tables.{mark, item, member, kept}
-use Rattle.store_sql.specs.Inserts.{insert_mark, insert_item, insert_member, insert_kept}
+use Rattle.store_tables.specs.Tables.{simple, mark, item, member, kept}
+use Rattle.store_sql.specs.Inserts.{Inserts, FailsToInsert, insert_mark, insert_item, insert_member, insert_kept}
 use Rattle.store_tables.proofs.TextLemmas.{parsed_or, ReadsInsert, insert_command, insert_plain, insert_is}
 use Rattle.sqlite.specs.Values.{or_null, bound_value}
 use Rattle.sqlite.specs.Kind.TheVariants.{Integer, Text as OfText}
 use Rattle.sqlite.specs.Cast.{cast, cast_all}
 use Rattle.sqlite.specs.Command.TheVariants.{Insert}
 use Rattle.sqlite.specs.Listing.{understood}
-use Rattle.sqlite.specs.State.{State, Executes, ExecutesInside, Fails, IsUnchanged}
+use Rattle.sqlite.specs.State.{State, HasCleanDisk, Survives, Executes, ExecutesInside, Fails, IsUnchanged, Writes}
 use Rattle.sqlite.proofs.Callers.{statement_of, runs_as}
 use Rattle.store_tables.specs.Records.{Mark, ItemRecord, Member, KeptRecord}
 use Rattle.store_sql.specs.Encodings.{number_or_null, text_or_null, mark_row, item_row, member_row, kept_row}
-use Rattle.store_tables.specs.Effects.{Has, IsAdded}
+use Rattle.store_tables.specs.Effects.{Has, IsAdded, WhileOpen, shown}
 use Rattle.store_tables.proofs.InsertLemmas.{adds_chosen, adds_given, cast_int, cast_null}
 use Rattle.std.proofs.lemmas.Bool.{and_from}
-use Rattle.sqlite.specs.Edit.{next_rowid}
+use Rattle.sqlite.specs.Edit.{edit_of, next_rowid}
+use Rattle.sqlite.specs.Rowids.TheVariants.{Chosen}
+use Rattle.sqlite.specs.Effect.{value_rows}
+use Rattle.sqlite.specs.Order.{Row}
+use Rattle.sqlite.specs.Table.{Table}
+use Rattle.sqlite.specs.Held.{Held, state}
+use Rattle.sqlite_trees.specs.declared.store.Store.{Ghosts}
+use Rattle.sqlite_schema.specs.declared.schema.Column.{Column}
+use Rattle.sqlite_value.specs.declared.keys.Order.{Order}
 use Rattle.sqlite.specs.declared.error.Error.{Error}
-use Rattle.sqlite_schema.specs.Rules.{is_of}
+use Rattle.sqlite.specs.declared.error.Error.TheVariants.{SqliteFailure}
+use Rattle.sqlite.specs.declared.error.ErrorCode.TheVariants.{TransactionState}
+use Rattle.sqlite_schema.specs.Rules.{are_present, are_typed, is_of}
 use Rattle.sqlite_typing.specs.Types.{accepts_terms}
-use Rattle.store_tables.specs.Refusals.{RefusesToAdd, IsTooBig}
+use Rattle.store_tables.specs.Refusals.{RefusesToAdd, IsTooBig, source_by}
 use Rattle.store_sql.proofs.AddFaults.{cause}
 use Rattle.store_tables.proofs.FaultLemmas.{faults_inside}
+use Rattle.store_tables.proofs.StateLemmas.{stated, adds_aside}
+
+-- ---- any text that writes one row
+
+-- given the columns of a row, the text adds it to the table, or says why it doesn't
+pub record AddsRow (text : List ℕ) (table : ℕ → Table) (row : Row) : Type 1 where
+  pub adds : (old new : State) (count : ℕ) → Has table old.now → Executes text row old new (Ok count) → IsAdded (table 0).name row old.now new.now
+  pub fails : (old new : State) (e : Error) → Has table old.now → ExecutesInside 0 text row old new (Err e) → (RefusesToAdd (table 0).name row old e × IsUnchanged old new) ⊎ Fails old new (IsTooBig (table 0).name row old.now) e
+
+module _ (text : List ℕ) (p : Parsed) (name : List ℕ) (columns : List Column) (key : Option ℕ) (primary : List ℕ) (uniques : List (List ℕ)) (orders : List Order) (terms : List Term) (width : ℕ)
+    (r : ReadsInsert text p (λ tree. simple name tree columns key primary uniques orders) (Values terms width)) (row : Row) (whole : (length text ≤ p.tail) × (length row ≡ length p.names))
+    (one : value_rows row width (length terms / width) terms ≡ source_by key row ∷ []) (accepts : accepts_terms terms row ≡ true)
+  where
+    abbrev table : ℕ → Table
+    table tree = simple name tree columns key primary uniques orders
+
+    module _ (old new : State) (has : Has table old.now) where
+      abbrev stored_as : ℤ → Row → Type 0
+      stored_as id rest = (edit_of old.now.trees (table has.1) [] Chosen 0 (source_by key row ∷ [])).news ≡ (Int id ∷ rest) ∷ []
+
+      writes : (count : ℕ) → Executes text row old new (Ok count) → Writes old new None (Insert has.0 (Values terms width)) (statement_of text (understood old.now.schema text)) row count
+      writes count runs =
+          let s = old.now.schema in
+          runs_as text row old new s refl (Insert has.0 (Values terms width)) (insert_command text p table (Values terms width) r s has.0 has.1 has.2) (insert_plain text p table (Values terms width) r s has.0 has.1 has.2) count runs
+
+      refused : (id : ℤ) (rest : Row) → stored_as id rest → are_typed key 0 columns rest ≡ true → are_present key 0 columns (Int id ∷ rest) ≡ true → (e : Error) → ExecutesInside 0 text row old new (Err e)
+          → (RefusesToAdd name row old e × IsUnchanged old new) ⊎ Fails old new (IsTooBig name row old.now) e
+      refused id rest stored typed present e runs =
+          cause old new has.0 name has.1 columns key primary uniques orders has.2.named has.2.is terms width text row row one accepts id rest stored typed present e
+          (faults_inside text p (Insert has.0 (Values terms width)) row old new e (insert_is text p table (Values terms width) r old.now.schema has.0 has.1 has.2) whole.0 whole.1 refl refl runs)
+
+      given_so : (id : ℤ) (values : Row) → source_by key row ≡ Int id ∷ values → stored_as id (cast_all columns values)
+      given_so id values given = ap (λ r. (edit_of old.now.trees (table has.1) [] Chosen 0 (r ∷ [])).news) given ∙ rw (cast_int id) refl
+
+      chosen_so : source_by key row ≡ Null ∷ row → stored_as (next_rowid (old.now.trees has.1)) (cast_all columns row)
+      chosen_so null = ap (λ r. (edit_of old.now.trees (table has.1) [] Chosen 0 (r ∷ [])).news) null ∙ rw cast_null refl
+
+    -- the key is the rowid
+    pub given_row : (id : ℤ) (values : Row) → source_by key row ≡ Int id ∷ values → ((tree : ℕ) → shown (table tree) (Int id ∷ cast_all columns values) ≡ Int id ∷ row) → are_typed key 0 columns (cast_all columns values) ≡ true
+        → are_present key 0 columns (Int id ∷ cast_all columns values) ≡ true → AddsRow text table row
+    given_row id values given shows typed present = record {
+      adds = λ old new count has runs. adds_given old new has.0 name has.1 columns key primary uniques orders has.2.named has.2.is terms width (statement_of text (understood old.now.schema text)) row (source_by key row) count one
+          id values row given (shows has.1) (writes old new has count runs);
+      fails = λ old new e has runs. refused old new has id (cast_all columns values) (given_so old new has id values given) typed present e runs;
+    }
+
+    -- the rowid is chosen
+    pub chosen_row : source_by key row ≡ Null ∷ row → ((tree : ℕ) (id : ℤ) → shown (table tree) (Int id ∷ cast_all columns row) ≡ Int id ∷ row) → are_typed key 0 columns (cast_all columns row) ≡ true
+        → ((id : ℤ) → are_present key 0 columns (Int id ∷ cast_all columns row) ≡ true) → AddsRow text table row
+    chosen_row null shows typed present = record {
+      adds = λ old new count has runs. adds_chosen old new has.0 name has.1 columns key primary uniques orders has.2.named has.2.is terms width (statement_of text (understood old.now.schema text)) row (source_by key row) count one
+          row row null (shows has.1) (writes old new has count runs);
+      fails = λ old new e has runs. let id = next_rowid (old.now.trees has.1) in refused old new has id (cast_all columns row) (chosen_so old new has null) typed (present id) e runs;
+    }
+
+-- as a statement of a transaction
+pub adds_row : {S : Type 0} {text : List ℕ} {table : ℕ → Table} {row : Row} → AddsRow text table row → (g : Ghosts S) (before after : Held S) (result : Result ℕ Error) → WhileOpen (state g before) (Has table)
+    → ((state g before).in_transaction ≡ false → (result ≡ Err (SqliteFailure TransactionState)) × (after ≡ before))
+    → (HasCleanDisk (state g after) → IsTrue (state g before).in_transaction → ExecutesInside 0 text row (state g before) (state g after) result) → Survives (state g before) (state g after) (λ _. ⊥)
+    → HasCleanDisk (state g after) → OnOk result (Inserts (table 0).name row (state g before) (state g after)) × IfErr result (FailsToInsert (table 0).name row (state g before) (state g after))
+adds_row {text} {table} {row} a g before after result has ended runs alone =
+    let old = state g before in
+    let new = state g after in
+    stated g before after text row result _ _ (adds_aside (table 0).name row old) has ended runs alone (a.adds old new) (a.fails old new)
+
+-- ---- the texts
 
 abbrev pub mark_terms : List Term
 mark_terms = col 0 0 ∷ lit Null ∷ col 0 1 ∷ col 0 2 ∷ col 0 3 ∷ []
@@ -90,53 +166,6 @@ pub bound_text : {X : Type 0} (f : X → List ℕ) (o : Option X) → bound_valu
 bound_text f None = refl
 bound_text f (Some t) = refl
 
-pub adds_mark : (old new : State) (m : Mark) (count : ℕ) → Has mark old.now → Executes insert_mark (mark_row m) old new (Ok count) → IsAdded (codes "mark") (mark_row m) old.now new.now
-adds_mark old new m count has h =
-    let at = has.0 in
-    let tree = has.1 in
-    let s = old.now.schema in
-    let w = runs_as insert_mark (mark_row m) old new s refl (Insert at (Values mark_terms 5)) (insert_command insert_mark read_mark mark (Values mark_terms 5) reads_mark s at tree has.2)
-    (insert_plain insert_mark read_mark mark (Values mark_terms 5) reads_mark s at tree has.2) count h in
-    adds_given old new at (codes "mark") tree (mark tree).columns (mark tree).key (mark tree).primary (mark tree).uniques (mark tree).orders has.2.named has.2.is mark_terms 5 (statement_of insert_mark (understood s insert_mark))
-    (mark_row m)
-    (Int m.id ∷ Null ∷ Text m.magic ∷ Int m.version ∷ Int m.installs ∷ []) count refl m.id (Null ∷ Text m.magic ∷ Int m.version ∷ Int m.installs ∷ []) (mark_row m) refl (rw (cast_int m.version, cast_int m.installs) refl) w
-
-pub adds_item : (old new : State) (i : ItemRecord) (count : ℕ) → Has item old.now → Executes insert_item (item_row i) old new (Ok count) → IsAdded (codes "item") (item_row i) old.now new.now
-adds_item old new i count has h =
-    let at = has.0 in
-    let tree = has.1 in
-    let s = old.now.schema in
-    let w = runs_as insert_item (item_row i) old new s refl (Insert at (Values item_terms 7)) (insert_command insert_item read_item item (Values item_terms 7) reads_item s at tree has.2)
-    (insert_plain insert_item read_item item (Values item_terms 7) reads_item s at tree has.2) count h in
-    adds_given old new at (codes "item") tree (item tree).columns (item tree).key (item tree).primary (item tree).uniques (item tree).orders has.2.named has.2.is item_terms 7 (statement_of insert_item (understood s insert_item))
-    (item_row i)
-    (Int i.place ∷ Null ∷ Text i.name ∷ Int i.kind ∷ text_or_null i.title ∷ number_or_null i.current ∷ number_or_null i.former ∷ []) count refl i.place
-    (Null ∷ Text i.name ∷ Int i.kind ∷ text_or_null i.title ∷ number_or_null i.current ∷ number_or_null i.former ∷ []) (item_row i) refl
-    (rw (cast_int i.kind, cast_text i.title, cast_number i.current, cast_number i.former) refl) w
-
-pub adds_member : (old new : State) (m : Member) (count : ℕ) → Has member old.now → Executes insert_member (member_row m) old new (Ok count) → IsAdded (codes "member") (member_row m) old.now new.now
-adds_member old new m count has h =
-    let at = has.0 in
-    let tree = has.1 in
-    let s = old.now.schema in
-    let w = runs_as insert_member (member_row m) old new s refl (Insert at (Values member_terms 4)) (insert_command insert_member read_member member (Values member_terms 4) reads_member s at tree has.2)
-    (insert_plain insert_member read_member member (Values member_terms 4) reads_member s at tree has.2) count h in
-    adds_chosen old new at (codes "member") tree (member tree).columns (member tree).key (member tree).primary (member tree).uniques (member tree).orders has.2.named has.2.is member_terms 4
-    (statement_of insert_member (understood s insert_member)) (member_row m)
-    (Null ∷ Text m.owner ∷ Int m.ord ∷ Text m.name ∷ []) count refl (Text m.owner ∷ Int m.ord ∷ Text m.name ∷ []) (member_row m) refl (λ id. (rw (cast_int m.ord) refl)) w
-
-pub adds_kept : (old new : State) (k : KeptRecord) (count : ℕ) → Has kept old.now → Executes insert_kept (kept_row k) old new (Ok count) → IsAdded (codes "kept") (kept_row k) old.now new.now
-adds_kept old new k count has h =
-    let at = has.0 in
-    let tree = has.1 in
-    let s = old.now.schema in
-    let w = runs_as insert_kept (kept_row k) old new s refl (Insert at (Values kept_terms 6)) (insert_command insert_kept read_kept kept (Values kept_terms 6) reads_kept s at tree has.2)
-    (insert_plain insert_kept read_kept kept (Values kept_terms 6) reads_kept s at tree has.2) count h in
-    adds_chosen old new at (codes "kept") tree (kept tree).columns (kept tree).key (kept tree).primary (kept tree).uniques (kept tree).orders has.2.named has.2.is kept_terms 6 (statement_of insert_kept (understood s insert_kept))
-    (kept_row k)
-    (Null ∷ Text k.id ∷ Int k.number ∷ Text k.verb ∷ Text k.name ∷ number_or_null k.edition ∷ []) count refl (Text k.id ∷ Int k.number ∷ Text k.verb ∷ Text k.name ∷ number_or_null k.edition ∷ []) (kept_row k) refl
-    (λ id. (rw (cast_int k.number, cast_number k.edition) refl)) w
-
 number_suits : (o : Option ℤ) → is_of Integer (number_or_null o) ≡ true
 number_suits None = refl
 number_suits (Some n) = refl
@@ -161,70 +190,45 @@ kept_accepts : (id : List ℕ) (number : ℤ) (verb name : List ℕ) (edition : 
 kept_accepts id number verb name None = refl
 kept_accepts id number verb name (Some x) = refl
 
--- ---- mark
+-- ---- what they do
 
 whole_mark : (length insert_mark ≤ read_mark.tail) × (4 ≡ length read_mark.names)
 unfolding everything read_mark
 whole_mark = (lit≤ tt, refl)
 
-pub mark_fails : (old new : State) (m : Mark) (e : Error) → Has mark old.now → ExecutesInside 0 insert_mark (mark_row m) old new (Err e)
-    → (RefusesToAdd (codes "mark") (mark_row m) old e × IsUnchanged old new) ⊎ Fails old new (IsTooBig (codes "mark") (mark_row m) old.now) e
-mark_fails old new m e has h =
-    let at = has.0 in
-    let tree = has.1 in
-    cause old new at (codes "mark") tree (mark tree).columns (mark tree).key (mark tree).primary (mark tree).uniques (mark tree).orders has.2.named has.2.is mark_terms 5 insert_mark (mark_row m) (mark_row m) refl refl
-    m.id (cast_all (mark tree).columns (Null ∷ Text m.magic ∷ Int m.version ∷ Int m.installs ∷ [])) (rw (cast_int m.id) refl)
-    (rw (cast_null, cast_int m.version, cast_int m.installs) (refl)) (rw (cast_int m.version, cast_int m.installs) (refl)) e
-    (faults_inside insert_mark read_mark (Insert at (Values mark_terms 5)) (mark_row m) old new e (insert_is insert_mark read_mark mark (Values mark_terms 5) reads_mark old.now.schema at tree has.2) whole_mark.0 whole_mark.1 refl refl h)
-
--- ---- item
+pub adds_mark : (m : Mark) → AddsRow insert_mark mark (mark_row m)
+adds_mark m =
+    given_row insert_mark read_mark (codes "mark") (mark 0).columns (mark 0).key (mark 0).primary (mark 0).uniques (mark 0).orders mark_terms 5 reads_mark (mark_row m) whole_mark refl refl
+    m.id (Null ∷ Text m.magic ∷ Int m.version ∷ Int m.installs ∷ []) refl (λ tree. rw (cast_int m.version, cast_int m.installs) refl)
+    (rw (cast_null, cast_int m.version, cast_int m.installs) refl) (rw (cast_int m.version, cast_int m.installs) refl)
 
 whole_item : (length insert_item ≤ read_item.tail) × (6 ≡ length read_item.names)
 unfolding everything read_item
 whole_item = (lit≤ tt, refl)
 
-pub item_fails : (old new : State) (i : ItemRecord) (e : Error) → Has item old.now → ExecutesInside 0 insert_item (item_row i) old new (Err e)
-    → (RefusesToAdd (codes "item") (item_row i) old e × IsUnchanged old new) ⊎ Fails old new (IsTooBig (codes "item") (item_row i) old.now) e
-item_fails old new i e has h =
-    let at = has.0 in
-    let tree = has.1 in
-    cause old new at (codes "item") tree (item tree).columns (item tree).key (item tree).primary (item tree).uniques (item tree).orders has.2.named has.2.is item_terms 7 insert_item (item_row i) (item_row i) refl
-    (item_accepts i.place i.name i.kind i.title i.current i.former)
-    i.place (cast_all (item tree).columns (Null ∷ Text i.name ∷ Int i.kind ∷ text_or_null i.title ∷ number_or_null i.current ∷ number_or_null i.former ∷ [])) (rw (cast_int i.place) refl)
+pub adds_item : (i : ItemRecord) → AddsRow insert_item item (item_row i)
+adds_item i =
+    given_row insert_item read_item (codes "item") (item 0).columns (item 0).key (item 0).primary (item 0).uniques (item 0).orders item_terms 7 reads_item (item_row i) whole_item refl
+    (item_accepts i.place i.name i.kind i.title i.current i.former) i.place (Null ∷ Text i.name ∷ Int i.kind ∷ text_or_null i.title ∷ number_or_null i.current ∷ number_or_null i.former ∷ []) refl
+    (λ tree. rw (cast_int i.kind, cast_text i.title, cast_number i.current, cast_number i.former) refl)
     (rw (cast_null, cast_int i.kind, cast_text i.title, cast_number i.current, cast_number i.former)
-    (and_from _ _ refl (and_from _ _ refl (and_from _ _ refl (and_from _ _ (text_suits i.title) (and_from _ _ (number_suits i.current) (and_from _ _ (number_suits i.former) refl))))))) (rw (cast_int i.kind) (refl)) e
-    (faults_inside insert_item read_item (Insert at (Values item_terms 7)) (item_row i) old new e (insert_is insert_item read_item item (Values item_terms 7) reads_item old.now.schema at tree has.2) whole_item.0 whole_item.1 refl refl h)
-
--- ---- member
+    (and_from _ _ refl (and_from _ _ refl (and_from _ _ refl (and_from _ _ (text_suits i.title) (and_from _ _ (number_suits i.current) (and_from _ _ (number_suits i.former) refl))))))) (rw (cast_int i.kind) refl)
 
 whole_member : (length insert_member ≤ read_member.tail) × (3 ≡ length read_member.names)
 unfolding everything read_member
 whole_member = (lit≤ tt, refl)
 
-pub member_fails : (old new : State) (m : Member) (e : Error) → Has member old.now → ExecutesInside 0 insert_member (member_row m) old new (Err e)
-    → (RefusesToAdd (codes "member") (member_row m) old e × IsUnchanged old new) ⊎ Fails old new (IsTooBig (codes "member") (member_row m) old.now) e
-member_fails old new m e has h =
-    let at = has.0 in
-    let tree = has.1 in
-    cause old new at (codes "member") tree (member tree).columns (member tree).key (member tree).primary (member tree).uniques (member tree).orders has.2.named has.2.is member_terms 4 insert_member (member_row m) (member_row m) refl refl
-    (next_rowid (old.now.trees tree)) (cast_all (member tree).columns (Text m.owner ∷ Int m.ord ∷ Text m.name ∷ [])) (rw cast_null refl)
-    (rw (cast_int m.ord) (refl)) (rw (cast_int m.ord) (refl)) e
-    (faults_inside insert_member read_member (Insert at (Values member_terms 4)) (member_row m) old new e (insert_is insert_member read_member member (Values member_terms 4) reads_member old.now.schema at tree has.2) whole_member.0
-    whole_member.1 refl refl h)
-
--- ---- kept
+pub adds_member : (m : Member) → AddsRow insert_member member (member_row m)
+adds_member m =
+    chosen_row insert_member read_member (codes "member") (member 0).columns (member 0).key (member 0).primary (member 0).uniques (member 0).orders member_terms 4 reads_member (member_row m) whole_member refl refl
+    refl (λ tree id. rw (cast_int m.ord) refl) (rw (cast_int m.ord) refl) (λ id. rw (cast_int m.ord) refl)
 
 whole_kept : (length insert_kept ≤ read_kept.tail) × (5 ≡ length read_kept.names)
 unfolding everything read_kept
 whole_kept = (lit≤ tt, refl)
 
-pub kept_fails : (old new : State) (k : KeptRecord) (e : Error) → Has kept old.now → ExecutesInside 0 insert_kept (kept_row k) old new (Err e)
-    → (RefusesToAdd (codes "kept") (kept_row k) old e × IsUnchanged old new) ⊎ Fails old new (IsTooBig (codes "kept") (kept_row k) old.now) e
-kept_fails old new k e has h =
-    let at = has.0 in
-    let tree = has.1 in
-    cause old new at (codes "kept") tree (kept tree).columns (kept tree).key (kept tree).primary (kept tree).uniques (kept tree).orders has.2.named has.2.is kept_terms 6 insert_kept (kept_row k) (kept_row k) refl
-    (kept_accepts k.id k.number k.verb k.name k.edition)
-    (next_rowid (old.now.trees tree)) (cast_all (kept tree).columns (Text k.id ∷ Int k.number ∷ Text k.verb ∷ Text k.name ∷ number_or_null k.edition ∷ [])) (rw cast_null refl)
-    (rw (cast_int k.number, cast_number k.edition) (and_from _ _ refl (and_from _ _ refl (and_from _ _ refl (and_from _ _ refl (and_from _ _ (number_suits k.edition) refl)))))) (rw (cast_int k.number) (refl)) e
-    (faults_inside insert_kept read_kept (Insert at (Values kept_terms 6)) (kept_row k) old new e (insert_is insert_kept read_kept kept (Values kept_terms 6) reads_kept old.now.schema at tree has.2) whole_kept.0 whole_kept.1 refl refl h)
+pub adds_kept : (k : KeptRecord) → AddsRow insert_kept kept (kept_row k)
+adds_kept k =
+    chosen_row insert_kept read_kept (codes "kept") (kept 0).columns (kept 0).key (kept 0).primary (kept 0).uniques (kept 0).orders kept_terms 6 reads_kept (kept_row k) whole_kept refl
+    (kept_accepts k.id k.number k.verb k.name k.edition) refl (λ tree id. rw (cast_int k.number, cast_number k.edition) refl)
+    (rw (cast_int k.number, cast_number k.edition) (and_from _ _ refl (and_from _ _ refl (and_from _ _ refl (and_from _ _ refl (and_from _ _ (number_suits k.edition) refl)))))) (λ id. rw (cast_int k.number) refl)

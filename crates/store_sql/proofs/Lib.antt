@@ -17,11 +17,9 @@ pub mod ValueLemmas
 pub mod PartTexts
 pub mod PartReadTexts
 pub mod PartDeleteTexts
-pub mod PartScanLemmas
 pub mod PartDefinitionLemmas
 pub mod HeaderTexts
 pub mod HeaderReadTexts
 pub mod InfoTexts
 pub mod InfoLemmas
-pub mod HeaderScanLemmas
 pub mod HeaderDefinitionLemmas

@@ -1,10 +1,8 @@
 -- The texts that take out parts, what they do, and why they are refused.
-use Rattle.std.proofs.Common.{◌≡◌, ◌⊎◌, ℕ, ℤ, List, [], ◌∷◌, codes, true, false, Some, None, Ok, Err, refl, ◌∙◌, lit≤, slice_get}
+use Rattle.std.proofs.Common.{◌≡◌, ℕ, ℤ, List, [], ◌∷◌, codes, true, false, Some, None, Ok, refl, ◌∙◌, lit≤, slice_get}
 use Rattle.sqlite.specs.Kind.TheVariants.{Integer}
 use Rattle.sqlite.specs.declared.types.Value.TheVariants.{Int}
-use Rattle.sqlite.specs.Order.{Row, column}
-use Rattle.sqlite.specs.State.{State, Executes, ExecutesInside, Fails, IsUnchanged}
-use Rattle.sqlite.specs.declared.error.Error.{Error}
+use Rattle.sqlite.specs.Order.{column}
 use Rattle.sqlite.specs.Schema.{Schema}
 use Rattle.sqlite.specs.Term.{Term, col, op2}
 use Rattle.sqlite.specs.Compile.{first}
@@ -20,12 +18,10 @@ use Rattle.sqlite_syntax.specs.declared.statement.Parsed.{Parsed}
 use Rattle.sqlite_ast.specs.declared.Expr.{Expr}
 use Rattle.sqlite_ast.specs.declared.Binary.TheVariants as binary
 use Rattle.store_tables.specs.Tables.{needed}
-use Rattle.store_tables.specs.Effects.{Has, HasApartRowids, IsRemoved, count_in, equals_number, rows_of, shown}
-use Rattle.store_tables.specs.Refusals.{RefusesToRemove}
+use Rattle.store_tables.specs.Effects.{equals_number}
 use Rattle.store_tables.proofs.CompareLemmas.{and_true, equals_is}
 use Rattle.store_tables.proofs.DeleteLemmas.{column_expr, parameter_expr, equals_expr, tests_equals}
-use Rattle.store_sql.proofs.DeleteTexts.{Takes, remove_fails, ReadsDelete, removes_rows, counts_rows}
-use Rattle.store_tables.proofs.ListLemmas.{passes}
+use Rattle.store_sql.proofs.DeleteTexts.{Takes, ReadsDelete, TakesOut}
 use Rattle.store_tables.proofs.ReadLemmas.{context_of}
 use Rattle.store_tables.proofs.TextLemmas.{parsed_or}
 use Rattle.store_sql.specs.ChosenParts.{is_part_from}
@@ -58,23 +54,17 @@ takes_delete : (n : ℤ) → Takes part_delete_text read_delete part test_editio
 unfolding everything read_delete
 takes_delete n = record { whole = lit≤ tt; names = refl; typed = λ schema tree alone low. rw (low, alone) refl }
 
-part_goes : (tree : ℕ) (n : ℤ) (row : Row) → passes (Int n ∷ []) test_edition row ≡ equals_number 1 n (shown (part tree) row)
-part_goes tree n row = and_true _ ∙ equals_is (column row 1) n
-
-pub removes_parts : (old new : State) (n : ℤ) (count : ℕ) → Has part old.now → HasApartRowids (rows_of (codes "dictcat_part") old.now) → Executes part_delete_text (Int n ∷ []) old new (Ok count)
-    → IsRemoved (codes "dictcat_part") (equals_number 1 n) old.now new.now
-removes_parts old new n count =
-    removes_rows part_delete_text read_delete part (Some (equals_expr (codes "edition"))) test_edition 99997 reads_delete (λ tree. refl) (Int n ∷ []) (equals_number 1 n) (λ tree row. part_goes tree n row) old new count
-
-pub counts_parts : (old new : State) (n : ℤ) (count : ℕ) → Has part old.now → HasApartRowids (rows_of (codes "dictcat_part") old.now) → Executes part_delete_text (Int n ∷ []) old new (Ok count)
-    → count ≡ count_in (codes "dictcat_part") (equals_number 1 n) old.now
-counts_parts old new n count =
-    counts_rows part_delete_text read_delete part (Some (equals_expr (codes "edition"))) test_edition 99997 reads_delete (λ tree. refl) (Int n ∷ []) (equals_number 1 n) (λ tree row. part_goes tree n row) old new count
-
-pub parts_stay : (old new : State) (n : ℤ) (e : Error) → Has part old.now → HasApartRowids (rows_of (codes "dictcat_part") old.now) → ExecutesInside 0 part_delete_text (Int n ∷ []) old new (Err e)
-    → (RefusesToRemove (codes "dictcat_part") (equals_number 1 n) old e × IsUnchanged old new) ⊎ Fails old new ⊥ e
-parts_stay old new n e =
-    remove_fails part_delete_text read_delete part (Some (equals_expr (codes "edition"))) test_edition 99997 reads_delete (λ tree. refl) (Int n ∷ []) (takes_delete n) (equals_number 1 n) (λ tree row. part_goes tree n row) old new e
+pub parts_go : (n : ℤ) → TakesOut part_delete_text (Int n ∷ []) part (equals_number 1 n)
+parts_go n = record {
+  parsed = read_delete;
+  condition = Some (equals_expr (codes "edition"));
+  filter = test_edition;
+  left = 99997;
+  reads = reads_delete;
+  takes = takes_delete n;
+  named = λ tree. refl;
+  tested = λ tree row. and_true _ ∙ equals_is (column row 1) n;
+}
 
 -- ---- of a file of it, from a number on
 
@@ -160,20 +150,14 @@ takes_from : (n f m : ℤ) → Takes delete_from_text read_from part test_from (
 unfolding everything read_from
 takes_from n f m = record { whole = lit≤ tt; names = refl; typed = λ schema tree alone low. rw (low, alone) refl }
 
-from_goes : (tree : ℕ) (n f m : ℤ) (row : Row) → passes (Int n ∷ Int f ∷ Int m ∷ []) test_from row ≡ is_part_from n f m (shown (part tree) row)
-from_goes tree n f m row = three_same _ _ _ _ _ _ (equals_is (column row 1) n) (equals_is (column row 2) f) (from_number (column row 3) m)
-
-pub removes_from : (old new : State) (n f m : ℤ) (count : ℕ) → Has part old.now → HasApartRowids (rows_of (codes "dictcat_part") old.now) → Executes delete_from_text (Int n ∷ Int f ∷ Int m ∷ []) old new (Ok count)
-    → IsRemoved (codes "dictcat_part") (is_part_from n f m) old.now new.now
-removes_from old new n f m count =
-    removes_rows delete_from_text read_from part (Some from_number_on) test_from 99989 reads_from (λ tree. refl) (Int n ∷ Int f ∷ Int m ∷ []) (is_part_from n f m) (λ tree row. from_goes tree n f m row) old new count
-
-pub counts_from : (old new : State) (n f m : ℤ) (count : ℕ) → Has part old.now → HasApartRowids (rows_of (codes "dictcat_part") old.now) → Executes delete_from_text (Int n ∷ Int f ∷ Int m ∷ []) old new (Ok count)
-    → count ≡ count_in (codes "dictcat_part") (is_part_from n f m) old.now
-counts_from old new n f m count =
-    counts_rows delete_from_text read_from part (Some from_number_on) test_from 99989 reads_from (λ tree. refl) (Int n ∷ Int f ∷ Int m ∷ []) (is_part_from n f m) (λ tree row. from_goes tree n f m row) old new count
-
-pub from_stay : (old new : State) (n f m : ℤ) (e : Error) → Has part old.now → HasApartRowids (rows_of (codes "dictcat_part") old.now) → ExecutesInside 0 delete_from_text (Int n ∷ Int f ∷ Int m ∷ []) old new (Err e)
-    → (RefusesToRemove (codes "dictcat_part") (is_part_from n f m) old e × IsUnchanged old new) ⊎ Fails old new ⊥ e
-from_stay old new n f m e =
-    remove_fails delete_from_text read_from part (Some from_number_on) test_from 99989 reads_from (λ tree. refl) (Int n ∷ Int f ∷ Int m ∷ []) (takes_from n f m) (is_part_from n f m) (λ tree row. from_goes tree n f m row) old new e
+pub rest_goes : (n f m : ℤ) → TakesOut delete_from_text (Int n ∷ Int f ∷ Int m ∷ []) part (is_part_from n f m)
+rest_goes n f m = record {
+  parsed = read_from;
+  condition = Some from_number_on;
+  filter = test_from;
+  left = 99989;
+  reads = reads_from;
+  takes = takes_from n f m;
+  named = λ tree. refl;
+  tested = λ tree row. three_same _ _ _ _ _ _ (equals_is (column row 1) n) (equals_is (column row 2) f) (from_number (column row 3) m);
+}

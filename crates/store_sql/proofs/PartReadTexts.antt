@@ -1,4 +1,4 @@
--- The texts that read parts: all of them, those of a file, and one.
+-- The texts that read parts: all of them, those of a file, and one; what is read row by row.
 use Rattle.std.proofs.Common.{◌≡◌, ℕ, ℤ, List, [], ◌∷◌, codes, true, false, Some, None, Ok, refl, lit≤, slice_get}
 use Rattle.sqlite.specs.declared.types.Value.TheVariants.{Int}
 use Rattle.sqlite.specs.Order.{Row, column}
@@ -27,7 +27,10 @@ use Rattle.store_tables.proofs.TextLemmas.{parsed_or}
 use Rattle.store_sql.specs.ChosenParts.{is_of_file, is_numbered}
 use Rattle.store_sql.specs.PartTable.{part}
 use Rattle.store_sql.specs.PartTexts.{part_rowid_text, file_text, part_one_text}
+use Rattle.store_sql.specs.PartScans.{PartScan, part_query}
+use Rattle.store_sql.specs.PartScans.PartScan.{ByRowid, OfFile}
 use Rattle.store_sql.proofs.ConditionLemmas.{name_expr, given_expr, binary_expr, compare_expr, and_expr, Names, Combines, lower_compare, lower_and}
+use Rattle.store_sql.proofs.ScanLemmas.{ReadsScan, selection_scan}
 use Rattle.store_sql.proofs.ValueLemmas.{two_same, three_same}
 
 abbrev pub of_column : Carried
@@ -191,3 +194,9 @@ takes_one = record { whole = lit≤ tt; names = λ x. refl; typed = λ schema at
 
 pub one_read : (tree : ℕ) (n f m : ℤ) (row : Row) → passes (Int n ∷ Int f ∷ Int m ∷ []) test_one row ≡ is_numbered n f m (shown (part tree) row)
 one_read tree n f m row = three_same _ _ _ _ _ _ (equals_is (column row 1) n) (equals_is (column row 2) f) (equals_is (column row 3) m)
+
+-- ---- row by row
+
+pub reads : (what : PartScan) → ReadsScan (part_query what)
+reads ByRowid = selection_scan part_rowid_text read_by_rowid part _ _ _ _ _ _ _ _ reads_by_rowid no_values takes_by_rowid tt (λ tree. refl) (λ _. true) (λ tree row. refl)
+reads (OfFile n f) = selection_scan file_text read_file part _ _ _ _ _ _ _ _ reads_file a_file takes_file (n, f) (λ tree. refl) (is_of_file n f) (λ tree row. file_read tree n f row)

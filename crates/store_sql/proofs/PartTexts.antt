@@ -2,28 +2,21 @@
 use Rattle.std.proofs.Common.{◌≡◌, ◌⊎◌, ◌≤◌, ℕ, List, [], ◌∷◌, codes, length, Ok, Err, refl, inl, inr, lit≤}
 use Rattle.sqlite.specs.State.{State, Executes, ExecutesInside, Fails, IsUnchanged}
 use Rattle.sqlite.specs.declared.error.Error.{Error}
-use Rattle.sqlite.specs.declared.types.Value.TheVariants.{Null, Int, Blob}
+use Rattle.sqlite.specs.declared.types.Value.TheVariants.{Null}
 use Rattle.sqlite.specs.Term.{Term, lit, col}
-use Rattle.sqlite.specs.Cast.{cast_all}
-use Rattle.sqlite.specs.Edit.{next_rowid}
 use Rattle.sqlite.specs.Source.TheVariants.{Values}
-use Rattle.sqlite.specs.Command.TheVariants.{Insert}
 use Rattle.sqlite.specs.Compile.{first}
-use Rattle.sqlite.specs.Listing.{understood}
-use Rattle.sqlite.proofs.Callers.{statement_of, runs_as}
 use Rattle.sqlite_tied.specs.Compute.{everything}
 use Rattle.sqlite_trees.specs.Sound.{fits_kind, is_free_name, begins, same_name}
 use Rattle.sqlite_value.specs.Order.{value_cmp}
 use Rattle.sqlite_syntax.specs.declared.statement.Parsed.{Parsed}
 use Rattle.store_tables.specs.Records.{Part}
 use Rattle.store_tables.specs.Creates.{IsFree, IsMade}
-use Rattle.store_tables.specs.Effects.{Has, IsAdded}
-use Rattle.store_tables.specs.Refusals.{RefusesToMake, RefusesToAdd, IsTooBig}
-use Rattle.store_sql.proofs.AddFaults.{cause}
+use Rattle.store_tables.specs.Refusals.{RefusesToMake}
+use Rattle.store_sql.proofs.InsertTexts.{AddsRow, chosen_row}
 use Rattle.store_tables.proofs.CreateLemmas.{ReadsCreate, makes, Stands, make_fails}
-use Rattle.store_tables.proofs.FaultLemmas.{faults_inside}
-use Rattle.store_tables.proofs.InsertLemmas.{adds_chosen, cast_int, cast_null}
-use Rattle.store_tables.proofs.TextLemmas.{parsed_or, ReadsInsert, insert_is, insert_command, insert_plain}
+use Rattle.store_tables.proofs.InsertLemmas.{cast_int}
+use Rattle.store_tables.proofs.TextLemmas.{parsed_or, ReadsInsert}
 use Rattle.store_sql.specs.PartRecords.{part_row}
 use Rattle.store_sql.specs.PartTable.{part}
 use Rattle.store_sql.specs.PartTexts.{part_create_text, part_insert_text}
@@ -66,25 +59,7 @@ whole_insert : (length part_insert_text ≤ read_insert.tail) × (4 ≡ length r
 unfolding everything read_insert
 whole_insert = (lit≤ tt, refl)
 
-pub adds_part : (old new : State) (r : Part) (count : ℕ) → Has part old.now → Executes part_insert_text (part_row r) old new (Ok count) → IsAdded (codes "dictcat_part") (part_row r) old.now new.now
-adds_part old new r count has h =
-    let at = has.0 in
-    let tree = has.1 in
-    let s = old.now.schema in
-    let w = runs_as part_insert_text (part_row r) old new s refl (Insert at (Values part_terms 5)) (insert_command part_insert_text read_insert part (Values part_terms 5) reads_insert s at tree has.2)
-    (insert_plain part_insert_text read_insert part (Values part_terms 5) reads_insert s at tree has.2) count h in
-    adds_chosen old new at (codes "dictcat_part") tree (part tree).columns (part tree).key (part tree).primary (part tree).uniques (part tree).orders has.2.named has.2.is part_terms 5
-    (statement_of part_insert_text (understood s part_insert_text)) (part_row r)
-    (Null ∷ Int r.edition ∷ Int r.file ∷ Int r.number ∷ Blob r.octets ∷ []) count refl (Int r.edition ∷ Int r.file ∷ Int r.number ∷ Blob r.octets ∷ []) (part_row r) refl
-    (λ id. (rw (cast_int r.edition, cast_int r.file, cast_int r.number) refl)) w
-
-pub part_fails : (old new : State) (r : Part) (e : Error) → Has part old.now → ExecutesInside 0 part_insert_text (part_row r) old new (Err e)
-    → (RefusesToAdd (codes "dictcat_part") (part_row r) old e × IsUnchanged old new) ⊎ Fails old new (IsTooBig (codes "dictcat_part") (part_row r) old.now) e
-part_fails old new r e has h =
-    let at = has.0 in
-    let tree = has.1 in
-    cause old new at (codes "dictcat_part") tree (part tree).columns (part tree).key (part tree).primary (part tree).uniques (part tree).orders has.2.named has.2.is part_terms 5 part_insert_text (part_row r) (part_row r) refl refl
-    (next_rowid (old.now.trees tree)) (cast_all (part tree).columns (Int r.edition ∷ Int r.file ∷ Int r.number ∷ Blob r.octets ∷ [])) (rw cast_null refl)
-    (rw (cast_int r.edition, cast_int r.file, cast_int r.number) (refl)) (rw (cast_int r.edition, cast_int r.file, cast_int r.number) (refl)) e
-    (faults_inside part_insert_text read_insert (Insert at (Values part_terms 5)) (part_row r) old new e (insert_is part_insert_text read_insert part (Values part_terms 5) reads_insert old.now.schema at tree has.2) whole_insert.0
-    whole_insert.1 refl refl h)
+pub adds_part : (r : Part) → AddsRow part_insert_text part (part_row r)
+adds_part r =
+    chosen_row part_insert_text read_insert (codes "dictcat_part") (part 0).columns (part 0).key (part 0).primary (part 0).uniques (part 0).orders part_terms 5 reads_insert (part_row r) whole_insert refl refl
+    refl (λ tree id. rw (cast_int r.edition, cast_int r.file, cast_int r.number) refl) (rw (cast_int r.edition, cast_int r.file, cast_int r.number) refl) (λ id. rw (cast_int r.edition, cast_int r.file, cast_int r.number) refl)

@@ -1,47 +1,36 @@
 -- What follows of the rows of the tables without keys that are read one at a time.
-use Rattle.std.proofs.Common.{◌≡◌, ◌++◌, List, [], ◌∷◌, Ok, Err, Some, None, Option, Result, IfErr, IsErrAnd, inr, refl, sym, subst}
+use Rattle.std.proofs.Common.{◌≡◌, List, [], ◌∷◌, Ok, Err, Some, Result, IfErr, IsErrAnd, inr, refl, sym, subst}
 use Rattle.std.proofs.lemmas.List.Sorted.{IsPermutation-sym, Contains-permutation}
 use Rattle.std.specs.List.Sorted.{IsPermutation}
 use Rattle.std.specs.List.{Contains}
 use Rattle.sqlite.specs.Order.{Row}
-use Rattle.sqlite.specs.declared.error.Error.{Error}
 use Rattle.sqlite.specs.State.{State, IsUnchanged}
 use Rattle.sqlite.specs.Held.{Held, state}
 use Rattle.sqlite.specs.Given as kit
 use Rattle.sqlite_trees.specs.declared.store.Store.{Ghosts}
 use Rattle.store_tables.specs.Tables.{entry, kept, table_of}
 use Rattle.store_tables.proofs.TableLemmas.{name_is}
-use Rattle.store_tables.specs.Effects.{equals_number, FailsToRead}
+use Rattle.store_tables.specs.Effects.{equals_number}
 use Rattle.store_sql.specs.Columns.{Content}
 use Rattle.store_sql.specs.declared.records.ReadError.{ReadError}
 use Rattle.store_sql.specs.declared.records.ReadError.TheVariants.{NoRecord, Store}
 use Rattle.store_sql.specs.Reads.{FailsToList, FailsToDecode, FailsToDecodeAll, HasNoRecord, select_some_entries, select_kept, select_kept_by_id, select_by_rowid}
-use Rattle.store_sql.specs.Streams.{Scan, scan_table, scan_text, scan_values, IsWhole, HasGiven, GivesOn, PassesRow, FailsToGive, FailsToMove}
+use Rattle.store_sql.specs.Streams.{Scan, scan_query, PassesRow, FailsToGive, FailsToMove}
 use Rattle.store_sql.specs.Streams.Scan.{EntriesOf, AllKept, KeptById, ByRowid, EditionNumbers}
 use Rattle.store_sql.proofs.NumberTexts.{read_numbers, numbers_of, query_numbers, takes_numbers, shows_numbering}
 use Rattle.store_sql.proofs.ListingLemmas.{entry_read}
 use Rattle.store_sql.proofs.ReadTexts.{key_at, read_some_entries, reads_some_entries, read_kept, reads_kept}
 use Rattle.store_sql.proofs.ReadFaults.{nothing, a_number, takes_some_entries, takes_kept, read_kept_by_id, reads_kept_by_id, takes_kept_by_id, read_by_rowid, reads_by_rowid, takes_by_rowid}
-use Rattle.store_sql.proofs.ScanLemmas.{ReadsScan, selection_scan, listing_scan, HasGivenOf, fails_to_read, gives_one, gives_all}
+use Rattle.store_sql.proofs.ScanLemmas.{ReadsScan, selection_scan, listing_scan}
 
-pub reads : (what : Scan) → ReadsScan (scan_text what) (scan_values what) (scan_table what) (IsWhole what)
+pub reads : (what : Scan) → ReadsScan (scan_query what)
 reads (EntriesOf n) = selection_scan select_some_entries read_some_entries entry _ _ _ _ _ _ _ _ reads_some_entries a_number takes_some_entries n (λ tree. refl) (equals_number 1 n) (λ tree row. entry_read tree n row)
 reads AllKept = listing_scan select_kept read_kept kept _ _ _ _ _ _ _ _ reads_kept nothing takes_kept tt (λ tree. refl) (λ tree row. refl)
 reads KeptById = listing_scan select_kept_by_id read_kept_by_id kept _ _ _ _ _ _ _ _ reads_kept_by_id nothing takes_kept_by_id tt (λ tree. refl) (λ tree row. refl)
 reads (ByRowid t) = listing_scan (select_by_rowid t) (read_by_rowid t) (table_of t) _ _ _ _ _ _ _ _ (reads_by_rowid t) nothing (takes_by_rowid t) tt (name_is t) (λ tree row. refl)
-reads EditionNumbers = record { parsed = read_numbers; outs = numbers_of; tests = []; order = key_at 0 ∷ []; query = query_numbers; takes = takes_numbers; shows = shows_numbering }
+reads EditionNumbers = record { parsed = read_numbers; outs = numbers_of; tests = []; order = key_at 0 ∷ []; is_query = query_numbers; takes = takes_numbers; shows = shows_numbering }
 
 module _ {S : Type 0} (g : Ghosts S) (what : Scan) where
-  pub has_given : (h : Held S) (given : List Row) → HasGivenOf (scan_text what) (scan_values what) (scan_table what) (IsWhole what) g h given → HasGiven g what h given
-  has_given h given it = record { runs = it.runs; has = it.has; front = it.front }
-
-  pub gives_on : (old new : Held S) (given : List Row) (row : Option Row) → IsUnchanged (state g old) (state g new) → HasGiven g what old given → kit.Advances g old new row → GivesOn g what new given row
-  gives_on old new given None same h moved = gives_all (reads what) g old new given same h.has h.runs moved
-  gives_on old new given (Some row) same h moved = has_given new (given ++ row ∷ []) (gives_one (reads what) g old new given row same h.has h.runs moved)
-
-  pub fails_to_advance : (old new : Held S) (given : List Row) (e : Error) → HasGiven g what old given → kit.FailsToAdvance g old new e → FailsToRead (state g old) (state g new) e
-  fails_to_advance old new given e h failed = fails_to_read (reads what) (state g old) (state g new) (λ _. h.has) e (failed (scan_text what) (scan_values what) given h.runs)
-
   pub fails_to_decode : (columns : List Content) (old new : Held S) (given : List Row) (row : Row) (e : ReadError) → PassesRow g what old new given row → FailsToDecode columns row e → FailsToGive g columns what old new given e
   fails_to_decode columns old new given row NoRecord passed none = (row, passed, none)
   fails_to_decode columns old new given row (Store e) passed refused = inr (refused, row, passed)

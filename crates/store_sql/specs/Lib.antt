@@ -2,6 +2,7 @@ pub mod Inserts
 pub mod Encodings
 pub mod Columns
 pub mod Reads
+pub mod RowQueries
 pub mod Streams
 pub mod Deletes
 pub mod Keyed

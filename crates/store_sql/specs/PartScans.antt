@@ -1,55 +1,24 @@
 -- Parts that are read row by row, and what has been given so far.
-use Rattle.std.specs.Prelude.{ℕ, ℤ, Bool, true, List, [], ◌∷◌, ◌++◌, codes, Option, Some, None}
+use Rattle.std.specs.Prelude.{ℤ, true, List, [], ◌∷◌}
 use Rattle.sqlite.specs.declared.types.Value.TheVariants.{Int}
 use Rattle.sqlite.specs.Order.{Row}
-use Rattle.sqlite.specs.Effect.{Database}
-use Rattle.sqlite.specs.Held.{Held, state}
-use Rattle.sqlite.specs.Given as kit
+use Rattle.sqlite.specs.Held.{Held}
 use Rattle.sqlite_trees.specs.declared.store.Store.{Ghosts}
-use Rattle.store_tables.specs.Effects.{Has}
-use Rattle.store_sql.specs.Reads.{IsSelection}
 use Rattle.store_sql.specs.PartTable.{part}
 use Rattle.store_sql.specs.ChosenParts.{is_of_file}
 use Rattle.store_sql.specs.PartTexts.{part_rowid_text, file_text}
+use Rattle.store_sql.specs.RowQueries.{RowQuery, selection_query, HasGivenRows}
 
 -- which parts are read: all, in the order of their rowids; or those of a file
 pub data PartScan : Type 0 where
   ByRowid : PartScan
   OfFile : (edition file : ℤ) → PartScan
 
-abbrev pub part_scan_text : PartScan → List ℕ
-part_scan_text ByRowid = part_rowid_text
-part_scan_text (OfFile edition file) = file_text
+-- the query that reads them
+abbrev pub part_query : PartScan → RowQuery
+part_query ByRowid = selection_query part_rowid_text [] part (λ _. true) (0 ∷ [])
+part_query (OfFile edition file) = selection_query file_text (Int edition ∷ Int file ∷ []) part (is_of_file edition file) (3 ∷ [])
 
-abbrev pub part_scan_values : PartScan → Row
-part_scan_values (OfFile edition file) = Int edition ∷ Int file ∷ []
-part_scan_values _ = []
-
-abbrev pub part_scan_test : PartScan → Row → Bool
-part_scan_test (OfFile edition file) = is_of_file edition file
-part_scan_test _ = λ _. true
-
--- the columns that order them, where the rowid is column 0
-abbrev pub part_scan_order : PartScan → List ℕ
-part_scan_order ByRowid = 0 ∷ []
-part_scan_order (OfFile edition file) = 3 ∷ []
-
--- all rows that are read, in their order
-abbrev pub AreAllParts : PartScan → Database → List Row → Type 0
-AreAllParts what db rows = IsSelection (codes "dictcat_part") (part_scan_test what) (part_scan_order what) db rows
-
--- the first of these rows
-abbrev pub IsFrontOfParts : PartScan → Database → List Row → Type 0
-IsFrontOfParts what db rows = (tail : List Row) × AreAllParts what db (rows ++ tail)
-
-module _ {S : Type 0} (g : Ghosts S) where
-  -- the connection reads this, and has given these rows
-  pub record HasGivenParts (what : PartScan) (h : Held S) (given : List Row) : Type 0 where
-    pub runs : kit.HasGiven g (part_scan_text what) (part_scan_values what) h given
-    pub has : Has part (state g h).now
-    pub front : IsFrontOfParts what (state g h).now given
-
-  -- one more row is given, or those so far are all
-  abbrev pub GivesOnParts : PartScan → Held S → List Row → Option Row → Type 0
-  GivesOnParts what new given (Some row) = HasGivenParts what new (given ++ row ∷ [])
-  GivesOnParts what new given None = AreAllParts what (state g new).now given
+-- the connection reads these, and has given these rows
+abbrev pub HasGivenParts : {S : Type 0} → Ghosts S → PartScan → Held S → List Row → Type 0
+HasGivenParts g what h given = HasGivenRows g (part_query what) h given

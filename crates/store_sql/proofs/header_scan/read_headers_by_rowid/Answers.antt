@@ -1,12 +1,11 @@
 use Rattle.std.proofs.Common.{refl}
-use Rattle.store_sql.specs.HeaderScans.{HasGivenHeaders}
 use Rattle.store_sql.proofs.ScanLemmas.{begins, begins_alone, not_begun}
-use Rattle.store_sql.proofs.HeaderScanLemmas.{reads, has_given}
+use Rattle.store_sql.proofs.HeaderReadTexts.{reads}
 use Rattle.store_sql.proofs.header_scan.read_headers_by_rowid.Goals as goal
 
 pub returns : goal.returns
 returns g c =
-    let begun = begins reads g.S.Store c.args.conn.now c.requires (HasGivenHeaders g.S.Store) (has_given g.S.Store) c.query.result (λ rows. rows.conn.now) c.query.ensures.survives c.query.ensures.begun in
+    let begun = begins reads g.S.Store c.args.conn.now c.requires c.query.result (λ rows. rows.conn.now) c.query.ensures.survives c.query.ensures.begun in
     let alone = begins_alone reads g.S.Store c.args.conn.now c.requires c.query.result (λ rows. rows.conn.now) c.query.ensures.survives in (
       (refl, c.query.follows.holds, not_begun reads g.S.Store c.args.conn.now c.requires c.query.result c.query.follows.lender-at-none c.query.follows.holds-at-none),
       record { refused = tt; same_reference = c.query.ensures.same_reference; begun = begun; mode = c.query.ensures.mode; survives = alone },

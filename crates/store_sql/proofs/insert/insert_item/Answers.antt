@@ -1,18 +1,12 @@
-use Rattle.std.proofs.Common.{codes, rules}
-use Rattle.sqlite.specs.Held.{state}
+use Rattle.std.proofs.Common.{rules}
 use Rattle.store_tables.specs.Records.{ItemRecord}
 use Rattle.store_tables.specs.Typed.{lent_item}
-use Rattle.store_sql.specs.Inserts.{insert_item}
-use Rattle.store_sql.specs.Encodings.{item_row}
 use Rattle.store_sql.proofs.NumberLemmas.{bound_int}
-use Rattle.store_tables.proofs.StateLemmas.{stated, adds_aside}
-use Rattle.store_sql.proofs.InsertTexts.{item_fails, adds_item, bound_number, bound_text}
+use Rattle.store_sql.proofs.InsertTexts.{adds_row, adds_item, bound_number, bound_text}
 use Rattle.store_sql.proofs.insert.insert_item.Goals as goal
 
 pub returns : goal.returns
 returns g c =
-    let old = state g.S.Store (g.T.OpenTransaction.held c.args.tx.now) in
-    let new = state g.S.Store (g.T.OpenTransaction.held c.execute.new.self) in
     let given : ItemRecord = lent_item c.args.given.now in
     let runs = rw (
       bound_int _ c.args.given.now.place (search rules) c.params-to_sql.ensures,
@@ -25,7 +19,5 @@ returns g c =
       bound_number c.args.given.now.current,
       bound_number c.args.given.now.former,
     ) at c.execute.ensures.runs in
-    let ran =
-    stated g.S.Store _ _ insert_item (item_row given) c.execute.result _ _ (adds_aside (codes "item") (item_row given) old) c.requires c.execute.ensures.ended runs c.execute.ensures.survives
-    (adds_item old new given) (item_fails old new given) in
+    let ran = adds_row (adds_item given) g.S.Store _ _ c.execute.result c.requires c.execute.ensures.ended runs c.execute.ensures.survives in
     record { same_reference = c.execute.ensures.same_reference; added = λ clean. (ran clean).0; failed = λ clean. (ran clean).1; survives = c.execute.ensures.survives }

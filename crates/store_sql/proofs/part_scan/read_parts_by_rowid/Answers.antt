@@ -1,14 +1,13 @@
 use Rattle.std.proofs.Common.{refl}
 use Rattle.store_sql.specs.PartScans.PartScan.{ByRowid}
-use Rattle.store_sql.specs.PartScans.{HasGivenParts}
 use Rattle.store_sql.proofs.ScanLemmas.{begins, begins_alone, not_begun}
-use Rattle.store_sql.proofs.PartScanLemmas.{reads, has_given}
+use Rattle.store_sql.proofs.PartReadTexts.{reads}
 use Rattle.store_sql.proofs.part_scan.read_parts_by_rowid.Goals as goal
 
 pub returns : goal.returns
 returns g c =
     let what = ByRowid in
-    let begun = begins (reads what) g.S.Store c.args.conn.now c.requires (HasGivenParts g.S.Store what) (has_given g.S.Store what) c.query.result (λ rows. rows.conn.now) c.query.ensures.survives c.query.ensures.begun in
+    let begun = begins (reads what) g.S.Store c.args.conn.now c.requires c.query.result (λ rows. rows.conn.now) c.query.ensures.survives c.query.ensures.begun in
     let alone = begins_alone (reads what) g.S.Store c.args.conn.now c.requires c.query.result (λ rows. rows.conn.now) c.query.ensures.survives in (
       (refl, c.query.follows.holds, not_begun (reads what) g.S.Store c.args.conn.now c.requires c.query.result c.query.follows.lender-at-none c.query.follows.holds-at-none),
       record { refused = tt; same_reference = c.query.ensures.same_reference; begun = begun; mode = c.query.ensures.mode; survives = alone },

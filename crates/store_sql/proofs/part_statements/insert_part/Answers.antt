@@ -1,17 +1,13 @@
-use Rattle.std.proofs.Common.{codes, rules}
-use Rattle.sqlite.specs.Held.{state}
+use Rattle.std.proofs.Common.{rules}
 use Rattle.store_tables.specs.Records.{Part}
 use Rattle.store_sql.proofs.NumberLemmas.{bound_int}
-use Rattle.store_tables.proofs.StateLemmas.{stated, adds_aside}
-use Rattle.store_sql.specs.PartRecords.{lent_part, part_row}
-use Rattle.store_sql.specs.PartTexts.{part_insert_text}
-use Rattle.store_sql.proofs.PartTexts.{adds_part, part_fails}
+use Rattle.store_sql.specs.PartRecords.{lent_part}
+use Rattle.store_sql.proofs.InsertTexts.{adds_row}
+use Rattle.store_sql.proofs.PartTexts.{adds_part}
 use Rattle.store_sql.proofs.part_statements.insert_part.Goals as goal
 
 pub returns : goal.returns
 returns g c =
-    let old = state g.S.Store (g.T.OpenTransaction.held c.args.tx.now) in
-    let new = state g.S.Store (g.T.OpenTransaction.held c.execute.new.self) in
     let given : Part = lent_part c.args.given.now in
     let runs = rw (
       bound_int _ c.args.given.now.edition (search rules) c.params-to_sql.ensures,
@@ -19,7 +15,5 @@ returns g c =
       bound_int _ c.args.given.now.number (search rules) c.params-to_sql-3.ensures,
       c.params-to_sql-4.ensures,
     ) at c.execute.ensures.runs in
-    let ran =
-    stated g.S.Store _ _ part_insert_text (part_row given) c.execute.result _ _ (adds_aside (codes "dictcat_part") (part_row given) old) c.requires c.execute.ensures.ended runs c.execute.ensures.survives
-    (adds_part old new given) (part_fails old new given) in
+    let ran = adds_row (adds_part given) g.S.Store _ _ c.execute.result c.requires c.execute.ensures.ended runs c.execute.ensures.survives in
     record { same_reference = c.execute.ensures.same_reference; added = λ clean. (ran clean).0; failed = λ clean. (ran clean).1; survives = c.execute.ensures.survives }

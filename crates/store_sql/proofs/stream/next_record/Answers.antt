@@ -2,7 +2,8 @@ use Rattle.std.proofs.Common.{List, [], ◌∷◌, ◌++◌, Some, None, inl, sy
 use Rattle.sqlite.specs.Order.{Row}
 use Rattle.sqlite.specs.Given as kit
 use Rattle.store_sql.specs.Streams.{Scan, HasGiven, FailsToGive, FailsToMove}
-use Rattle.store_sql.proofs.StreamLemmas.{gives_on, fails_to_advance, fails_to_decode, stops_at, passed_on}
+use Rattle.store_sql.proofs.ScanLemmas.{gives_on, fails_to_advance}
+use Rattle.store_sql.proofs.StreamLemmas.{reads, fails_to_decode, stops_at, passed_on}
 use Rattle.store_sql.specs.declared.records.ReadError.TheVariants.{Store}
 use Rattle.store_sql.proofs.stream.next_record.Goals as goal
 
@@ -13,7 +14,7 @@ returns-in_err-advance-clause-failed g c clean =
     let e = c.in_err-advance.field-0.0 in
     let why = c.in_err-advance.ensures in
     let fails : (what : Scan) (given : List Row) → HasGiven g.S.Store what old given → FailsToGive g.S.Store g.R.Record.columns what old new given (Store e) = λ what given h.
-    inl (fails_to_advance g.S.Store what old new given e h (why.err clean), why.ends why.failed) in
+    inl (fails_to_advance (reads what) g.S.Store old new given e h (why.err clean), why.ends why.failed) in
     passed_on (λ e. (what : Scan) (given : List Row) → HasGiven g.S.Store what old given → FailsToGive g.S.Store g.R.Record.columns what old new given e) (Store e) c.from_residual.result c.from_residual.ensures.1 fails
 
 pub returns-in_err-from_row-in-Some-clause-failed : goal.returns-in_err-from_row-in-Some-clause-failed
@@ -25,7 +26,7 @@ returns-in_err-from_row-in-Some-clause-failed g c clean =
     let same = c.in_ok-advance.ensures.same clean in
     let moved = subst (kit.Advances g.S.Store old new) (sym c.in-Some.ensures) (c.in_ok-advance.ensures.ok clean) in
     let fails : (what : Scan) (given : List Row) → HasGiven g.S.Store what old given → FailsToGive g.S.Store g.R.Record.columns what old new given e =
-    λ what given h. fails_to_decode g.S.Store what g.R.Record.columns old new given row e (same, gives_on g.S.Store what old new given (Some row) same h moved) c.in_err-from_row-in-Some.ensures.refused in
+    λ what given h. fails_to_decode g.S.Store what g.R.Record.columns old new given row e (same, gives_on (reads what) g.S.Store old new given (Some row) same h moved) c.in_err-from_row-in-Some.ensures.refused in
     passed_on (λ e. (what : Scan) (given : List Row) → HasGiven g.S.Store what old given → FailsToGive g.S.Store g.R.Record.columns what old new given e) e c.from_residual-in_err-from_row-in-Some.result
     c.from_residual-in_err-from_row-in-Some.ensures.1 fails
 
@@ -34,13 +35,13 @@ returns-in_ok-from_row-in-Some-clause-given g c clean what given h =
     let old = c.args.rows.now.conn.now in
     let new = c.advance.new.self.conn.now in
     let moved = subst (kit.Advances g.S.Store old new) (sym c.in-Some.ensures) (c.in_ok-advance.ensures.ok clean) in
-    subst (λ r. HasGiven g.S.Store what new (given ++ r ∷ [])) c.in_ok-from_row-in-Some.ensures.read (gives_on g.S.Store what old new given (Some c.in-Some.row.now) (c.in_ok-advance.ensures.same clean) h moved)
+    subst (λ r. HasGiven g.S.Store what new (given ++ r ∷ [])) c.in_ok-from_row-in-Some.ensures.read (gives_on (reads what) g.S.Store old new given (Some c.in-Some.row.now) (c.in_ok-advance.ensures.same clean) h moved)
 
 pub returns-in-None-clause-given : goal.returns-in-None-clause-given
 returns-in-None-clause-given g c clean what given h =
     let old = c.args.rows.now.conn.now in
     let new = c.advance.new.self.conn.now in
-    gives_on g.S.Store what old new given None (c.in_ok-advance.ensures.same clean) h (subst (kit.Advances g.S.Store old new) (sym c.in-None.ensures) (c.in_ok-advance.ensures.ok clean))
+    gives_on (reads what) g.S.Store old new given None (c.in_ok-advance.ensures.same clean) h (subst (kit.Advances g.S.Store old new) (sym c.in-None.ensures) (c.in_ok-advance.ensures.ok clean))
 
 pub returns-in_err-advance-clause-stopped : goal.returns-in_err-advance-clause-stopped
 returns-in_err-advance-clause-stopped g c clean =
