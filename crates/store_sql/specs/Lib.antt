@@ -5,6 +5,7 @@ pub mod Reads
 pub mod Streams
 pub mod Deletes
 pub mod Keyed
+pub mod Turns
 pub mod Statements
 pub mod PartTable
 pub mod PartRecords
