@@ -87,12 +87,12 @@ module _ {S : Type 0} (g : Ghosts S) where
         → WroteStatements g (one ∷ []) f old new
     wrote_one f did = record {
       turns = λ clean. (did clean).2;
-      ran = λ clean. run_one g one old new (did clean).0 survives;
+      ran = λ clean. run_one g Succeeds one old new (did clean).0 survives;
       inside = λ clean begun. (did clean).1.mode;
     }
 
     pub failed_one : (e : Error) → (HasCleanDisk (state g new) → FailsTo one (state g old) (state g new) e) → FailsToWrite g (one ∷ []) old new e
-    failed_one e h = λ clean. fails_one g one old new e (h clean) survives
+    failed_one e h = λ clean. fails_one g Succeeds FailsTo one old new e (h clean) survives
 
   module _ (name : List ℕ) (row : Row) (old new : Held S) (survives : Survives (state g old) (state g new) (λ _. ⊥)) where
     pub wrote_added : (f : AllTables → AllTables) → ((a b : Database) → IsAdded name row a b → TurnsRecords f a b) → (HasCleanDisk (state g new) → Inserts name row (state g old) (state g new))
@@ -148,7 +148,7 @@ module _ {S : Type 0} (g : Ghosts S) where
         let first = one.turns (clean_before (state g mid) (state g new) spares.survives clean) all it in
         let second = two.turns clean (f all) first.0 in
         (second.0, others_then (state g old).now (state g mid).now (state g new).now first.1 second.1);
-    ran = λ clean. run_then g front back old mid new (one.ran (clean_before (state g mid) (state g new) spares.survives clean)) (two.ran clean);
+    ran = λ clean. run_then g Succeeds front back old mid new (one.ran (clean_before (state g mid) (state g new) spares.survives clean)) (two.ran clean);
     inside = λ clean begun. two.inside clean (one.inside (clean_before (state g mid) (state g new) spares.survives clean) begun);
   }
 
@@ -159,12 +159,12 @@ module _ {S : Type 0} (g : Ghosts S) where
 
   -- more would have come after what failed
   pub failed_before : (front back : List Statement) (old new : Held S) (e : Error) → FailsToWrite g front old new e → FailsToWrite g (front ++ back) old new e
-  failed_before front back old new e h = λ clean. fails_before g front back old new e (h clean)
+  failed_before front back old new e h = λ clean. fails_before g Succeeds FailsTo front back old new e (h clean)
 
   -- others ran before it
   pub failed_after : (front back : List Statement) (f : AllTables → AllTables) (old mid new : Held S) (e : Error) → WroteStatements g front f old mid → CommitsNothing g mid new → FailsToWrite g back mid new e
       → FailsToWrite g (front ++ back) old new e
-  failed_after front back f old mid new e one spares h = λ clean. fails_after g front back old mid new e (one.ran (clean_before (state g mid) (state g new) spares.survives clean)) (h clean)
+  failed_after front back f old mid new e one spares h = λ clean. fails_after g Succeeds FailsTo front back old mid new e (one.ran (clean_before (state g mid) (state g new) spares.survives clean)) (h clean)
 
   -- ---- a call, and the run behind it
 

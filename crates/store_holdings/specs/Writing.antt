@@ -17,30 +17,34 @@ pub record StaysCommitted (old new : State) : Type 0 where
   pub settled : IsTrue new.is_open → old.now ≡ old.committed → new.now ≡ new.committed
 
 module _ {S : Type 0} (g : Ghosts S) where
-  -- A transaction was begun, and one of these statements failed, where those before it had done what they say; then it was
-  -- rolled back. The fault is that of the error.
-  pub record FailsBefore (statements : List Statement) (old new : Held S) (fault : Fault) : Type 0 where
-    pub error : Error
-    pub told : fault ≡ fault_of error
+  -- A transaction was begun, and a part of it failed within it; then it was rolled back. The fault is what the error is told as.
+  pub record FailsBefore {E : Type 0} (tell : E → Fault) (FailsWithin : Held S → Held S → E → Type 0) (old new : Held S) (fault : Fault) : Type 0 where
+    pub error : E
+    pub told : fault ≡ tell error
     pub last : Held S
-    pub within : FailsInTurn g statements (record old { in_transaction = true }) last error
+    pub within : FailsWithin (record old { in_transaction = true }) last error
     pub after : Survives (state g last) (state g new) (λ _. ⊥)
     pub undone : IsRolledBack (state g last) (state g new)
 
-  -- A transaction was begun, and these statements all did what they say, so that P holds of the database; then its commit
-  -- failed, for whatever cause. The fault is `Disk`.
-  pub record FailsAtLast (statements : List Statement) (P : Database → Type 0) (old new : Held S) (fault : Fault) : Type 0 where
+  -- A transaction was begun, and all of it ran, so that P holds of the database; then its commit failed, for whatever cause. The
+  -- fault is `Disk`.
+  pub record FailsAtLast (Runs : Held S → Held S → Type 0) (P : Database → Type 0) (old new : Held S) (fault : Fault) : Type 0 where
     pub told : fault ≡ Disk
     pub last : Held S
-    pub ran : RunInTurn g statements (record old { in_transaction = true }) last
+    pub ran : Runs (record old { in_transaction = true }) last
     pub before : Survives (state g old) (state g last) (λ _. ⊥)
     pub written : P (state g last).now
     pub error : Error
     pub fails : Fails (state g last) (state g new) ⊥ error
 
   -- either
+  abbrev pub TransactionFailsToEnd : {E : Type 0} → (E → Fault) → (Held S → Held S → E → Type 0) → (Held S → Held S → Type 0) → (Database → Type 0) → Held S → Held S → Fault → Type 0
+  TransactionFailsToEnd tell FailsWithin Runs P old new fault = FailsBefore tell FailsWithin old new fault ⊎ FailsAtLast Runs P old new fault
+
+  -- A transaction was begun, and one of these statements failed, where those before it had done what they say, and it was rolled
+  -- back; or they all did, so that P holds of the database, and its commit failed.
   abbrev pub FailsToEnd : List Statement → (Database → Type 0) → Held S → Held S → Fault → Type 0
-  FailsToEnd statements P old new fault = FailsBefore statements old new fault ⊎ FailsAtLast statements P old new fault
+  FailsToEnd statements P = TransactionFailsToEnd fault_of (FailsInTurn g statements) (RunInTurn g statements) P
 
 -- a fault of a creation
 abbrev pub IsOfCreation : Fault → Type 0

@@ -1,9 +1,10 @@
--- The rows of entries with keys, column by column.
+-- The rows of entries with keys, column by column, and the entries without their keys.
 use Rattle.std.specs.Prelude.{ℕ, List, [], ◌∷◌, String, Vec}
 use Rattle.std.specs.declared.alloc.Global.{Global}
 use Rattle.sqlite.specs.declared.types.Value.TheVariants.{Int, Text as Words, Blob as Bytes}
 use Rattle.sqlite.specs.Order.{Row}
 use Rattle.store_tables.specs.KeyedRecords.{KeyedEntry, OldEntry, owned_keyed_entry, owned_old_entry}
+use Rattle.store_tables.specs.Records.{EntryRecord}
 use Rattle.store_tables.specs.Typed.{stored_row_as}
 use Rattle.store_tables.specs.declared.records.StoredRow.{StoredRow}
 use Rattle.store_tables.specs.declared.keyed_records as typed
@@ -15,6 +16,10 @@ keyed_entry_row e = Int e.edition ∷ Int e.ord ∷ Words e.headword ∷ Int e.s
 
 abbrev pub old_entry_row : OldEntry → Row
 old_entry_row e = Int e.edition ∷ Int e.ord ∷ Words e.headword ∷ Int e.start ∷ Int e.length ∷ Bytes e.key ∷ Bytes e.reversed ∷ []
+
+-- an entry of schema 4 without what was derived of it
+abbrev pub entry_without_keys : KeyedEntry → EntryRecord
+entry_without_keys e = record { edition = e.edition; ord = e.ord; headword = e.headword; start = e.start; length = e.length; shown = e.shown }
 
 -- The rowid stands first.
 

@@ -6,6 +6,7 @@ pub mod RowQueries
 pub mod Streams
 pub mod Deletes
 pub mod Keyed
+pub mod Turns
 pub mod Statements
 pub mod PartTable
 pub mod PartRecords

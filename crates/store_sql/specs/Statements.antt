@@ -1,8 +1,8 @@
 -- The statements of a transaction, one after the other.
-use Rattle.std.specs.Prelude.{◌≡◌, ◌⊎◌, ℕ, Bool, List, [], ◌∷◌}
+use Rattle.std.specs.Prelude.{ℕ, Bool, List}
 use Rattle.sqlite.specs.Order.{Row}
-use Rattle.sqlite.specs.State.{State, Survives}
-use Rattle.sqlite.specs.Held.{Held, state}
+use Rattle.sqlite.specs.State.{State}
+use Rattle.sqlite.specs.Held.{Held}
 use Rattle.sqlite.specs.declared.error.Error.{Error}
 use Rattle.sqlite_trees.specs.declared.store.Store.{Ghosts}
 use Rattle.store_tables.specs.declared.tables.StoreTable.{StoreTable}
@@ -10,6 +10,7 @@ use Rattle.store_tables.specs.Tables.{table_of}
 use Rattle.store_tables.specs.Creates.{Makes, FailsToMake}
 use Rattle.store_sql.specs.Inserts.{Inserts, FailsToInsert}
 use Rattle.store_sql.specs.Deletes.{Removes, FailsToRemove}
+use Rattle.store_sql.specs.Turns.{DoneInTurn, FailedInTurn}
 
 -- a statement that writes: it makes a table, adds a row to the table of this name, or takes out those rows of it that pass a test
 pub data Statement : Type 0 where
@@ -32,12 +33,8 @@ FailsTo (remove name test) old new e = FailsToRemove name test old new e
 module _ {S : Type 0} (g : Ghosts S) where
   -- Each has done what it says, one after the other, and a stop leaves what it left before.
   abbrev pub RunInTurn : List Statement → Held S → Held S → Type 0
-  RunInTurn [] old new = new ≡ old
-  RunInTurn (one ∷ rest) old new = (mid : Held S) × (Succeeds one (state g old) (state g mid) × Survives (state g old) (state g mid) (λ _. ⊥)) × RunInTurn rest mid new
+  RunInTurn = DoneInTurn g Succeeds
 
   -- One of them failed, where those before it had done what they say.
   abbrev pub FailsInTurn : List Statement → Held S → Held S → Error → Type 0
-  FailsInTurn [] old new e = ⊥
-  FailsInTurn (one ∷ rest) old new e =
-      (FailsTo one (state g old) (state g new) e × Survives (state g old) (state g new) (λ _. ⊥))
-      ⊎ ((mid : Held S) × (Succeeds one (state g old) (state g mid) × Survives (state g old) (state g mid) (λ _. ⊥)) × FailsInTurn rest mid new e)
+  FailsInTurn = FailedInTurn g Succeeds FailsTo
