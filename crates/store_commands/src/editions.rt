@@ -191,8 +191,7 @@ pub(crate) fn add_files<S: Alter, T: OpenTransaction<S>>(
     ensures spares { CommitsNothing S.Store (T.held tx.old) (T.held tx.new) }
 {
     take_parts(tx, files.number, LAST_PARTS)?;
-    add_parts(tx, files, 0, to)?;
-    Ok(())
+    add_parts(tx, files, 0, to)
 }
 
 /// Adds all parts of the edition that the command installs, if it installs one, under its number, where its index is these octets.
