@@ -1,8 +1,9 @@
-use Rattle.std.proofs.Common.{◌<◌, ◌≡◌, rules}
+use Rattle.std.proofs.Common.{◌<◌, ◌≡◌, inr, refl, rules}
 use Rattle.sqlite.specs.Effect.{Database}
 use Rattle.sqlite.specs.Held.{state}
 use Rattle.store_commands.specs.KeptRecords.{TurnsRecords}
 use Rattle.store_commands.specs.Orphans.{LosesParts, HasNoParts, parts_under, with_parts_that}
+use Rattle.store_commands.specs.Statements.{last_parts, taking_parts}
 use Rattle.store_commands.proofs.TakingLemmas.{none_has}
 use Rattle.store_commands.proofs.EndLemmas.{spans, clean_inside, clean_first, made_by, made_open, leaves_made, commits_made, uncommitted_stays, uncommitted_faults, uncommitted_run, undone_run, undone_faults}
 use Rattle.store_commands.proofs.orphans.commit_slice.Goals as goal
@@ -59,11 +60,11 @@ pub returns-in-Err-clause-failed : goal.returns-in-Err-clause-failed
 returns-in-Err-clause-failed g c clean =
     let same : c.drop-tx.new.self.0 ≡ c.conn-1.given.0 = search rules in
     let tx = spans g.S.Store c.args.conn.now c.transaction-tx.ensures.begun c.take_slice.ensures.spares same c.drop-tx.ensures.survives in
-    let it = c.in-Err.ensures.failed in
-    record { statements = it.0; are = it.1; fails = undone_run tx c.drop-tx.ensures.undone it.0 c.in-Err.error it.2 c.fault_filed.ensures.is clean }
+    let all = taking_parts c.args.number last_parts in
+    record { statements = all; are = inr refl; fails = undone_run tx c.drop-tx.ensures.undone all c.in-Err.error c.in-Err.ensures.failed c.fault_filed.ensures.is clean }
 
 pub returns-in-Err-clause-faulted : goal.returns-in-Err-clause-faulted
 returns-in-Err-clause-faulted g c =
     let same : c.drop-tx.new.self.0 ≡ c.conn-1.given.0 = search rules in
     let tx = spans g.S.Store c.args.conn.now c.transaction-tx.ensures.begun c.take_slice.ensures.spares same c.drop-tx.ensures.survives in
-    undone_faults tx c.drop-tx.ensures.undone c.in-Err.ensures.failed.0 c.in-Err.error c.in-Err.ensures.failed.2 c.fault_filed.ensures.disk
+    undone_faults tx c.drop-tx.ensures.undone (taking_parts c.args.number last_parts) c.in-Err.error c.in-Err.ensures.failed c.fault_filed.ensures.disk
