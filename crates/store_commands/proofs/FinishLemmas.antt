@@ -3,9 +3,9 @@ use Rattle.std.proofs.Common.{◌≡◌, ℕ, true, false, List, IsTrue, None, R
 use Rattle.std.specs.Prelude.{OnOk, IfErr}
 use Rattle.std.proofs.lemmas.Bool.{false≢true}
 use Rattle.sqlite.specs.Effect.{Database, IsDatabase}
+use Rattle.sqlite.specs.Tree.{Trees}
 use Rattle.sqlite.specs.State.{State, HasCleanDisk, IsUnchanged, Survives}
 use Rattle.sqlite.specs.Held.{Held, state}
-use Rattle.sqlite.proofs.Callers.{survives_begin}
 use Rattle.sqlite.proofs.StateLemmas.{survives_then, survives_weaker}
 use Rattle.sqlite_trees.specs.declared.store.Store.{Ghosts}
 use Rattle.dict_desk.specs.Faults.{is_disk, is_failure}
@@ -42,6 +42,7 @@ use Rattle.store_commands.specs.declared.applied.Applied.{Applied}
 use Rattle.store_commands.specs.declared.applied.Applied.TheVariants.{Done}
 use Rattle.store_commands.proofs.AboveLemmas.{above_committed, grows_by, none_refused}
 use Rattle.store_commands.proofs.ApplyLemmas.{acted_answers, ends_weaker, failed_answers, holds_after, holds_again, holds_now, is_planned, left_after, not_shut, others_spared, rests_unchanged, store_shut}
+use Rattle.store_commands.proofs.EndLemmas.{Spans, clean_first, made_open}
 use Rattle.store_commands.proofs.FilingLemmas.{awaits_rest}
 use Rattle.store_commands.proofs.WriteLemmas.{clean_before}
 
@@ -99,7 +100,7 @@ rest_turns change old db awaits turns = λ all it.
     (awaits all it db after.0, after.1)
 
 -- it was written behind the begin of a transaction
-module _ {S : Type 0} (g : Ghosts S) (change : TableChange) (old begun mid : Held S) (is : begun ≡ record old { in_transaction = true }) (spares : Survives (state g begun) (state g mid) (λ _. ⊥))
+module _ {S : Type 0} {g : Ghosts S} {old begun mid end new : Held S} {Commits : Trees → Type 0} (tx : Spans g old begun mid end new Commits) (change : TableChange)
     (awaits : HasCleanDisk (state g old) → IsTrue (state g old).is_open → AwaitsRest change (state g old).now) (wrote : WroteStatements g (finishing known change) (finished change) begun mid)
     (sound : HasCleanDisk (state g mid) → IsDatabase (state g mid).now) where
   -- where the first statement ran, the store was open
@@ -108,10 +109,8 @@ module _ {S : Type 0} (g : Ghosts S) (change : TableChange) (old begun mid : Hel
 
   pub rest_made : HasCleanDisk (state g mid) → (IsTrue (state g old).is_open × TurnsRecords (all_after known change) (state g old).now (state g mid).now) × IsDatabase (state g mid).now
   rest_made clean =
-      let begins : Survives (state g old) (state g mid) (λ _. ⊥) = survives_begin g old (state g mid) (λ _. ⊥) (subst (λ (h : Held S). Survives (state g h) (state g mid) (λ _. ⊥)) is spares) in
-      let live : IsTrue (state g old).is_open = subst (λ (h : Held S). IsTrue (state g h).is_open) is (open_before begun (wrote.ran clean)) in
-      let turns : TurnsRecords (finished change) (state g old).now (state g mid).now = subst (λ (h : Held S). TurnsRecords (finished change) (state g h).now (state g mid).now) is (wrote.turns clean) in
-      ((live, rest_turns change (state g old).now (state g mid).now (awaits (clean_before (state g old) (state g mid) begins clean) live) turns), sound clean)
+      let it = made_open tx (TurnsRecords (finished change)) (λ clean. open_before begun (wrote.ran clean)) wrote.turns sound clean in
+      ((it.0.0, rest_turns change (state g old).now (state g mid).now (awaits (clean_first tx clean) it.0.0) it.0.1), it.1)
 
 store_applies : (fault : Fault) → IsOfStore fault → IsOfApply fault
 store_applies (Refused refusal) h = tt

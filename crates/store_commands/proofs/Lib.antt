@@ -12,6 +12,7 @@ pub mod TextLemmas
 pub mod LineLemmas
 pub mod AddLemmas
 pub mod FaultLemmas
+pub mod EndLemmas
 pub mod FilingLemmas
 pub mod FinishLemmas
 pub mod DraftLemmas

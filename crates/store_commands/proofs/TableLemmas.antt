@@ -3,7 +3,7 @@ use Rattle.std.proofs.Common.{◌≡◌, ◌≢◌, ◌⊎◌, inl, inr, ℕ, Li
 use Rattle.std.specs.List.{AllByRecursion}
 use Rattle.std.specs.List.Sorted.{IsPermutation}
 use Rattle.std.proofs.lemmas.Bool.{false≢true}
-use Rattle.std.proofs.lemmas.List.Sorted.{IsPermutation-trans}
+use Rattle.std.proofs.lemmas.List.Sorted.{IsPermutation-refl, IsPermutation-trans}
 use Rattle.std.proofs.lemmas.Slice.Eq.{bytes_eq-Decides}
 use Rattle.sqlite.specs.Effect.{Database}
 use Rattle.sqlite.specs.Table.{Table}
@@ -24,6 +24,7 @@ use Rattle.store_sql.specs.PartRecords.{part_row}
 use Rattle.store_tables.specs.Records.{Mark, ItemRecord, Member, EditionRecord, EntryRecord, Part, KeptRecord, header_of}
 use Rattle.store_rows.specs.Versions.{Parted}
 use Rattle.store_holdings.specs.AllTables.{AllTables}
+use Rattle.store_holdings.specs.Readings as reading
 use Rattle.store_holdings.specs.Readings.{TableReading, table_name_of, readings, KeepsRows}
 use Rattle.store_holdings.specs.Holds.{Keeps, HasLayout}
 use Rattle.store_holdings.proofs.KeepLemmas.{unmoved, keeps_added}
@@ -85,151 +86,68 @@ module _ (old new : Database) (all : AllTables) (it : HasRecords old all) (schem
   owns : AreOwn new.schema
   owns = subst AreOwn (sym schema) it.own
 
+  -- the table of this name has changed, and what each reading tells then is given: of all but its own, that it is of another table
+  module _ (a : ℕ → Table) (name : List ℕ) (turned : AllTables) (names : (t : ℕ) → (a t).name ≡ name) (trees : (t : ℕ) → (a t).tree ≡ t) (own : HasOwn old.schema a) (rest : SameOthers name old new)
+      (pick : (t : Table) → IsOther old.schema t → (found : Table) → found_table old.schema name ≡ Some found → t.tree ≢ found.tree) where
+    abbrev Tells : TableReading → Type 0
+    Tells q = IsAnother name all turned q ⊎ KeepsRows q new turned
+
+    table_turned : Tells reading.marks → Tells reading.items → Tells reading.members → Tells reading.kept_replies → Tells (reading.editions Parted) → Tells (reading.contents Parted)
+        → HasRecords new turned × SparesTablesOfOthers old new
+    table_turned marks items members kept editions parts = (
+      record {
+        own = owns;
+        keeps = all_turned a name old new all turned names trees own schema rest (readings Parted) it.own.tables (marks, (items, (members, (kept, (editions, (parts, tt)))))) it.keeps;
+      },
+      spared a name old new all turned names trees own schema rest pick,
+    )
+
   pub marks_turned : (records : List Mark) → SameOthers (codes "mark") old new → Keeps (codes "mark") mark_row new records → HasRecords new (record all { marks = records }) × SparesTablesOfOthers old new
-  marks_turned records rest k = (
-    record {
-      own = owns;
-      keeps = all_turned mark (codes "mark") old new all (record all { marks = records }) (λ t. refl) (λ t. refl) it.own.tables.0 schema rest (readings Parted) it.own.tables (
-        inr (record { rows = k.rows; apart = k.apart }),
-        (
-          inl (record { apart = refl; named = λ t. refl; same = refl }),
-          (
-            inl (record { apart = refl; named = λ t. refl; same = refl }),
-            (
-              inl (record { apart = refl; named = λ t. refl; same = refl }),
-              (
-                inl (record { apart = refl; named = λ t. refl; same = refl }),
-                (inl (record { apart = refl; named = λ t. refl; same = refl }), tt),
-              ),
-            ),
-          ),
-        ),
-      ) it.keeps;
-    },
-    spared mark (codes "mark") old new all all (λ t. refl) (λ t. refl) it.own.tables.0 schema rest (λ t other. other.0),
-  )
+  marks_turned records rest k =
+      table_turned mark (codes "mark") (record all { marks = records }) (λ t. refl) (λ t. refl) it.own.tables.0 rest (λ t other. other.0)
+      (inr (record { rows = k.rows; apart = k.apart })) (inl (record { apart = refl; named = λ t. refl; same = refl })) (inl (record { apart = refl; named = λ t. refl; same = refl }))
+      (inl (record { apart = refl; named = λ t. refl; same = refl })) (inl (record { apart = refl; named = λ t. refl; same = refl })) (inl (record { apart = refl; named = λ t. refl; same = refl }))
 
   pub items_turned : (records : List ItemRecord) → SameOthers (codes "item") old new → Keeps (codes "item") item_row new records → HasRecords new (record all { items = records }) × SparesTablesOfOthers old new
-  items_turned records rest k = (
-    record {
-      own = owns;
-      keeps = all_turned item (codes "item") old new all (record all { items = records }) (λ t. refl) (λ t. refl) it.own.tables.1.0 schema rest (readings Parted) it.own.tables (
-        inl (record { apart = refl; named = λ t. refl; same = refl }),
-        (
-          inr (record { rows = k.rows; apart = k.apart }),
-          (
-            inl (record { apart = refl; named = λ t. refl; same = refl }),
-            (
-              inl (record { apart = refl; named = λ t. refl; same = refl }),
-              (
-                inl (record { apart = refl; named = λ t. refl; same = refl }),
-                (inl (record { apart = refl; named = λ t. refl; same = refl }), tt),
-              ),
-            ),
-          ),
-        ),
-      ) it.keeps;
-    },
-    spared item (codes "item") old new all all (λ t. refl) (λ t. refl) it.own.tables.1.0 schema rest (λ t other. other.1.0),
-  )
+  items_turned records rest k =
+      table_turned item (codes "item") (record all { items = records }) (λ t. refl) (λ t. refl) it.own.tables.1.0 rest (λ t other. other.1.0)
+      (inl (record { apart = refl; named = λ t. refl; same = refl })) (inr (record { rows = k.rows; apart = k.apart })) (inl (record { apart = refl; named = λ t. refl; same = refl }))
+      (inl (record { apart = refl; named = λ t. refl; same = refl })) (inl (record { apart = refl; named = λ t. refl; same = refl })) (inl (record { apart = refl; named = λ t. refl; same = refl }))
 
   pub members_turned : (records : List Member) → SameOthers (codes "member") old new → Keeps (codes "member") member_row new records → HasRecords new (record all { members = records }) × SparesTablesOfOthers old new
-  members_turned records rest k = (
-    record {
-      own = owns;
-      keeps = all_turned member (codes "member") old new all (record all { members = records }) (λ t. refl) (λ t. refl) it.own.tables.1.1.0 schema rest (readings Parted) it.own.tables (
-        inl (record { apart = refl; named = λ t. refl; same = refl }),
-        (
-          inl (record { apart = refl; named = λ t. refl; same = refl }),
-          (
-            inr (record { rows = k.rows; apart = k.apart }),
-            (
-              inl (record { apart = refl; named = λ t. refl; same = refl }),
-              (
-                inl (record { apart = refl; named = λ t. refl; same = refl }),
-                (inl (record { apart = refl; named = λ t. refl; same = refl }), tt),
-              ),
-            ),
-          ),
-        ),
-      ) it.keeps;
-    },
-    spared member (codes "member") old new all all (λ t. refl) (λ t. refl) it.own.tables.1.1.0 schema rest (λ t other. other.1.1.0),
-  )
+  members_turned records rest k =
+      table_turned member (codes "member") (record all { members = records }) (λ t. refl) (λ t. refl) it.own.tables.1.1.0 rest (λ t other. other.1.1.0)
+      (inl (record { apart = refl; named = λ t. refl; same = refl })) (inl (record { apart = refl; named = λ t. refl; same = refl })) (inr (record { rows = k.rows; apart = k.apart }))
+      (inl (record { apart = refl; named = λ t. refl; same = refl })) (inl (record { apart = refl; named = λ t. refl; same = refl })) (inl (record { apart = refl; named = λ t. refl; same = refl }))
 
   pub kept_turned : (records : List KeptRecord) → SameOthers (codes "kept") old new → Keeps (codes "kept") kept_row new records → HasRecords new (record all { kept = records }) × SparesTablesOfOthers old new
-  kept_turned records rest k = (
-    record {
-      own = owns;
-      keeps = all_turned kept (codes "kept") old new all (record all { kept = records }) (λ t. refl) (λ t. refl) it.own.tables.1.1.1.0 schema rest (readings Parted) it.own.tables (
-        inl (record { apart = refl; named = λ t. refl; same = refl }),
-        (
-          inl (record { apart = refl; named = λ t. refl; same = refl }),
-          (
-            inl (record { apart = refl; named = λ t. refl; same = refl }),
-            (
-              inr (record { rows = k.rows; apart = k.apart }),
-              (
-                inl (record { apart = refl; named = λ t. refl; same = refl }),
-                (inl (record { apart = refl; named = λ t. refl; same = refl }), tt),
-              ),
-            ),
-          ),
-        ),
-      ) it.keeps;
-    },
-    spared kept (codes "kept") old new all all (λ t. refl) (λ t. refl) it.own.tables.1.1.1.0 schema rest (λ t other. other.1.1.1.0),
-  )
+  kept_turned records rest k =
+      table_turned kept (codes "kept") (record all { kept = records }) (λ t. refl) (λ t. refl) it.own.tables.1.1.1.0 rest (λ t other. other.1.1.1.0)
+      (inl (record { apart = refl; named = λ t. refl; same = refl })) (inl (record { apart = refl; named = λ t. refl; same = refl })) (inl (record { apart = refl; named = λ t. refl; same = refl }))
+      (inr (record { rows = k.rows; apart = k.apart })) (inl (record { apart = refl; named = λ t. refl; same = refl })) (inl (record { apart = refl; named = λ t. refl; same = refl }))
 
   pub editions_turned : (records : List EditionRecord) → SameOthers (codes "edition") old new → Keeps (codes "edition") edition_row new records → HasRecords new (record all { editions = records }) × SparesTablesOfOthers old new
-  editions_turned records rest k = (
-    record {
-      own = owns;
-      keeps = all_turned header (codes "edition") old new all (record all { editions = records }) (λ t. refl) (λ t. refl) it.own.tables.1.1.1.1.0 schema rest (readings Parted) it.own.tables (
-        inl (record { apart = refl; named = λ t. refl; same = refl }),
-        (
-          inl (record { apart = refl; named = λ t. refl; same = refl }),
-          (
-            inl (record { apart = refl; named = λ t. refl; same = refl }),
-            (
-              inl (record { apart = refl; named = λ t. refl; same = refl }),
-              (
-                inr (record { rows = k.rows; apart = k.apart }),
-                (inl (record { apart = refl; named = λ t. refl; same = refl }), tt),
-              ),
-            ),
-          ),
-        ),
-      ) it.keeps;
-    },
-    spared header (codes "edition") old new all all (λ t. refl) (λ t. refl) it.own.tables.1.1.1.1.0 schema rest (λ t other. other.1.1.1.1.0),
-  )
+  editions_turned records rest k =
+      table_turned header (codes "edition") (record all { editions = records }) (λ t. refl) (λ t. refl) it.own.tables.1.1.1.1.0 rest (λ t other. other.1.1.1.1.0)
+      (inl (record { apart = refl; named = λ t. refl; same = refl })) (inl (record { apart = refl; named = λ t. refl; same = refl })) (inl (record { apart = refl; named = λ t. refl; same = refl }))
+      (inl (record { apart = refl; named = λ t. refl; same = refl })) (inr (record { rows = k.rows; apart = k.apart })) (inl (record { apart = refl; named = λ t. refl; same = refl }))
 
   pub parts_turned : (records : List Part) → SameOthers (codes "dictcat_part") old new → Keeps (codes "dictcat_part") part_row new records → HasRecords new (record all { parts = records }) × SparesTablesOfOthers old new
-  parts_turned records rest k = (
-    record {
-      own = owns;
-      keeps = all_turned part (codes "dictcat_part") old new all (record all { parts = records }) (λ t. refl) (λ t. refl) it.own.tables.1.1.1.1.1.0 schema rest (readings Parted) it.own.tables (
-        inl (record { apart = refl; named = λ t. refl; same = refl }),
-        (
-          inl (record { apart = refl; named = λ t. refl; same = refl }),
-          (
-            inl (record { apart = refl; named = λ t. refl; same = refl }),
-            (
-              inl (record { apart = refl; named = λ t. refl; same = refl }),
-              (
-                inl (record { apart = refl; named = λ t. refl; same = refl }),
-                (inr (record { rows = k.rows; apart = k.apart }), tt),
-              ),
-            ),
-          ),
-        ),
-      ) it.keeps;
-    },
-    spared part (codes "dictcat_part") old new all all (λ t. refl) (λ t. refl) it.own.tables.1.1.1.1.1.0 schema rest (λ t other. other.1.1.1.1.1.0),
-  )
+  parts_turned records rest k =
+      table_turned part (codes "dictcat_part") (record all { parts = records }) (λ t. refl) (λ t. refl) it.own.tables.1.1.1.1.1.0 rest (λ t other. other.1.1.1.1.1.0)
+      (inl (record { apart = refl; named = λ t. refl; same = refl })) (inl (record { apart = refl; named = λ t. refl; same = refl })) (inl (record { apart = refl; named = λ t. refl; same = refl }))
+      (inl (record { apart = refl; named = λ t. refl; same = refl })) (inl (record { apart = refl; named = λ t. refl; same = refl })) (inr (record { rows = k.rows; apart = k.apart }))
 
 -- ---- what each keeps
+
+-- so it keeps other records of the same rows
+same_kept : (db : Database) (all turned : AllTables) (qs : List TableReading) → AllByRecursion (λ q. IsPermutation (q.rows turned) (q.rows all)) qs → AllByRecursion (λ q. KeepsRows q db all) qs
+    → AllByRecursion (λ q. KeepsRows q db turned) qs
+same_kept db all turned [] same k = tt
+same_kept db all turned (q ∷ qs) same k = (
+  record { rows = IsPermutation-trans (q.rows turned) (q.rows all) (map (λ row. drop 1 (q.looked row)) (rows_of (table_name_of q) db)) same.0 k.0.rows; apart = k.0.apart },
+  same_kept db all turned qs same.1 k.1,
+)
 
 module _ (db : Database) (all : AllTables) (it : HasRecords db all) where
   pub marks_kept : Keeps (codes "mark") mark_row db all.marks
@@ -254,50 +172,14 @@ module _ (db : Database) (all : AllTables) (it : HasRecords db all) where
   pub other_entries : (entries : List EntryRecord) → HasRecords db (record all { entries = entries })
   other_entries entries = record {
     own = it.own;
-    keeps = (
-      record { rows = it.keeps.0.rows; apart = it.keeps.0.apart },
-      (
-        record { rows = it.keeps.1.0.rows; apart = it.keeps.1.0.apart },
-        (
-          record { rows = it.keeps.1.1.0.rows; apart = it.keeps.1.1.0.apart },
-          (
-            record { rows = it.keeps.1.1.1.0.rows; apart = it.keeps.1.1.1.0.apart },
-            (
-              record { rows = it.keeps.1.1.1.1.0.rows; apart = it.keeps.1.1.1.1.0.apart },
-              (record { rows = it.keeps.1.1.1.1.1.0.rows; apart = it.keeps.1.1.1.1.1.0.apart }, tt),
-            ),
-          ),
-        ),
-      ),
-    );
+    keeps = same_kept db all (record all { entries = entries }) (readings Parted) (IsPermutation-refl _, (IsPermutation-refl _, (IsPermutation-refl _, (IsPermutation-refl _, (IsPermutation-refl _, (IsPermutation-refl _, tt)))))) it.keeps;
   }
 
   -- nor which of the parts of the same rows
   pub other_parts : (parts : List Part) → IsPermutation (map part_row parts) (map part_row all.parts) → HasRecords db (record all { parts = parts })
   other_parts parts same = record {
     own = it.own;
-    keeps = (
-      record { rows = it.keeps.0.rows; apart = it.keeps.0.apart },
-      (
-        record { rows = it.keeps.1.0.rows; apart = it.keeps.1.0.apart },
-        (
-          record { rows = it.keeps.1.1.0.rows; apart = it.keeps.1.1.0.apart },
-          (
-            record { rows = it.keeps.1.1.1.0.rows; apart = it.keeps.1.1.1.0.apart },
-            (
-              record { rows = it.keeps.1.1.1.1.0.rows; apart = it.keeps.1.1.1.1.0.apart },
-              (
-                record {
-                  rows = IsPermutation-trans (map part_row parts) (map part_row all.parts) (map (drop 1) (rows_of (codes "dictcat_part") db)) same parts_kept.rows;
-                  apart = it.keeps.1.1.1.1.1.0.apart;
-                },
-                tt,
-              ),
-            ),
-          ),
-        ),
-      ),
-    );
+    keeps = same_kept db all (record all { parts = parts }) (readings Parted) (IsPermutation-refl _, (IsPermutation-refl _, (IsPermutation-refl _, (IsPermutation-refl _, (IsPermutation-refl _, (same, tt)))))) it.keeps;
   }
 
 -- ---- the statements can use the tables

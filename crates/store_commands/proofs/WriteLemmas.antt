@@ -1,5 +1,5 @@
 -- What one statement has written, and what two calls have, one after the other.
-use Rattle.std.proofs.Common.{◌≡◌, ◌++◌, ℕ, ℤ, Bool, List, [], ◌∷◌, inl, refl, arith, ◌∙◌, subst}
+use Rattle.std.proofs.Common.{◌≡◌, ◌++◌, ℕ, ℤ, Bool, true, List, [], ◌∷◌, inl, refl, arith, ◌∙◌, subst}
 use Rattle.std.specs.Prelude.{Result, Ok, Err, IfErr, OnOk}
 use Rattle.std.proofs.lemmas.Result.{on_ok_weaker, IfErr-weaker}
 use Rattle.sqlite.specs.Effect.{Database}
@@ -77,6 +77,12 @@ module _ {S : Type 0} (g : Ghosts S) where
       let some = ready (clean_before (state g old) (state g new) spares.survives clean) ((spares.keeps clean).was_open lives) in
       (f some.0, (wrote.turns clean some.0 some.1).0)
 
+  -- These statements were to be run, and the call that ran them, or calls one after the other, ended so.
+  pub record Ends {X : Type 0} (statements : List Statement) (f : AllTables → AllTables) (old new : Held S) (result : Result X Error) : Type 0 where
+    pub wrote : OnOk result (WroteStatements g statements f old new)
+    pub failed : IfErr result (FailsToWrite g statements old new)
+    pub spares : CommitsNothing g old new
+
   -- ---- nothing, and one statement
 
   pub wrote_none : (a : Held S) → WroteStatements g [] (λ all. all) a a
@@ -130,6 +136,12 @@ module _ {S : Type 0} (g : Ghosts S) where
     pub failed_record : (e : Error) → (HasCleanDisk (state g new) → FailsToInsert name (encode given) (state g old) (state g new) e) → FailsToWrite g (add name (encode wanted) ∷ []) old new e
     failed_record e h = subst (λ r. FailsToWrite g (add name (encode r) ∷ []) old new e) is (failed_one (add name (encode given)) old new survives e h)
 
+    pub ends_record : {X : Type 0} → ((r : R) (a b : Database) → IsAdded name (encode r) a b → TurnsRecords (f r) a b) → (result : Result X Error)
+        → (HasCleanDisk (state g new) → OnOk result (Inserts name (encode given) (state g old) (state g new))) → (HasCleanDisk (state g new) → IfErr result (FailsToInsert name (encode given) (state g old) (state g new)))
+        → Ends (add name (encode wanted) ∷ []) (f wanted) old new result
+    ends_record {X} turns (Ok x) on off = record { wrote = wrote_record turns on; failed = tt; spares = spares_added name (encode given) old new survives (Ok x) on off }
+    ends_record {X} turns (Err e) on off = record { wrote = tt; failed = failed_record e off; spares = spares_added name (encode given) old new survives {X = X} (Err e) on off }
+
   -- rows that were taken out by a number, as it is
   module _ (name : List ℕ) (test : ℤ → Row → Bool) (given wanted : ℤ) (is : given ≡ wanted) (old new : Held S) (survives : Survives (state g old) (state g new) (λ _. ⊥)) where
     pub wrote_taken : (f : AllTables → AllTables) → ((a b : Database) → IsRemoved name (test wanted) a b → TurnsRecords f a b) → (HasCleanDisk (state g new) → Removes name (test given) (state g old) (state g new)) → WroteStatements g
@@ -168,12 +180,6 @@ module _ {S : Type 0} (g : Ghosts S) where
 
   -- ---- a call, and the run behind it
 
-  -- These statements were to be run, and the call that ran them, or calls one after the other, ended so.
-  pub record Ends {X : Type 0} (statements : List Statement) (f : AllTables → AllTables) (old new : Held S) (result : Result X Error) : Type 0 where
-    pub wrote : OnOk result (WroteStatements g statements f old new)
-    pub failed : IfErr result (FailsToWrite g statements old new)
-    pub spares : CommitsNothing g old new
-
   -- it failed, and more would have come
   pub cut : (front back : List Statement) (old new : Held S) (e : Error) → FailsToWrite g front old new e → CommitsNothing g old new → Ends {X = Unit {0}} (front ++ back) (λ all. all) old new (Err e)
   cut front back old new e failed spares = record { wrote = tt; failed = failed_before front back old new e failed; spares = spares }
@@ -187,3 +193,18 @@ module _ {S : Type 0} (g : Ghosts S) where
       failed = IfErr-weaker result (FailsToWrite g back mid new) (FailsToWrite g (front ++ back) old new) (λ e failed. failed_after front back f old mid new e one rest.spares failed) rest.failed;
       spares = spares_then old mid new first rest.spares;
     }
+
+  -- a table was cleared before it
+  module _ (name : List ℕ) (f : AllTables → AllTables) (old mid : Held S) (survives : Survives (state g old) (state g mid) (λ _. ⊥)) (turns : (a b : Database) → IsRemoved name (λ _. true) a b → TurnsRecords f a b)
+      (did : HasCleanDisk (state g mid) → Removes name (λ _. true) (state g old) (state g mid)) where
+    cleared : WroteStatements g (remove name (λ _. true) ∷ []) f old mid
+    cleared = wrote_removed name (λ _. true) old mid survives f turns did
+
+    spares_cleared : CommitsNothing g old mid
+    spares_cleared = record { keeps = λ clean. kept_on (state g old) (state g mid) (did clean).1; survives = survives }
+
+    pub usable_cleared : WhileOpen (state g old) IsUsable → WhileOpen (state g mid) IsUsable
+    usable_cleared ready = usable_then (remove name (λ _. true) ∷ []) f old mid ready cleared spares_cleared
+
+    pub behind_cleared : {X : Type 0} {back : List Statement} {h : AllTables → AllTables} {new : Held S} {result : Result X Error} → Ends back h mid new result → Ends (remove name (λ _. true) ∷ back) (λ all. h (f all)) old new result
+    behind_cleared rest = behind cleared spares_cleared rest

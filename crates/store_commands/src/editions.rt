@@ -1,5 +1,7 @@
 // The editions that go, and the one that is installed.
-ghost use Rattle.std.specs.Prelude.{◌≡◌, ◌≤◌, [], ◌∷◌, IfErr, OnOk, Option, flat_map, length, map, option_copied, option_map, slice_range};
+ghost use Rattle.std.specs.Prelude.{◌≡◌, ◌≤◌, ◌<◌, true, false, [], ◌∷◌, None, IsTrue, IfErr, IfOk, IfSome, OnOk, Option, flat_map, length, map, option_copied, option_map, slice_range};
+ghost use Rattle.sqlite.specs.Effect.{IsDatabase};
+ghost use Rattle.sqlite.specs.State.{HasCleanDisk};
 ghost use Rattle.sqlite.specs.Held.{state};
 ghost use Rattle.store_tables.specs.Effects.{WhileOpen};
 ghost use Rattle.store_tables.specs.Records.{header_of};
@@ -11,6 +13,7 @@ ghost use Rattle.store_commands.specs.KeptRecords.{IsUsable, FitsColumn, AreStor
 ghost use Rattle.store_commands.specs.Statements.{taking, taking_parts, parts_anew, filing_of, adding_edition};
 ghost use Rattle.store_commands.specs.Changes.{without_parts, with_parts_anew, without_editions, with_more_editions, with_files, installed_header, installed_by, index_by};
 ghost use Rattle.store_commands.specs.Filing.{parts_of_files};
+ghost use Rattle.store_commands.specs.Orphans.{TakesOut};
 ghost use Rattle.store_commands.specs.Writes.{WroteStatements, FailsToWrite, CommitsNothing};
 
 use crate::files::{EditionFiles, add_parts};
@@ -65,6 +68,52 @@ pub(crate) const LAST_PARTS: &[(i64, i64)] = &[
     (0, 128),
 ];
 
+// Whether so many parts are enough at a time. None are where no count is given.
+fn are_enough(taken: usize, enough: Option<usize>) -> bool
+    requires { IfSome enough (λ least. 0 < least) }
+    ensures some { IsTrue result → 0 < taken }
+    ensures none { enough ≡ None → result ≡ false }
+{
+    match enough {
+        Some(least) => taken >= least,
+        None => false,
+    }
+}
+
+/// Takes out the parts of a file of this number from one of these bounds on after the other, until they are enough, as far as the store tells; or
+/// all parts of the number. Whether there may be more.
+pub(crate) fn take_slice<S: Alter, T: OpenTransaction<S>>(
+    tx: &mut T,
+    number: u64,
+    bounds: &[(i64, i64)],
+    enough: Option<usize>,
+) -> Result<bool, Error>
+    requires number { FitsColumn number }
+    requires enough { IfSome enough (λ least. 0 < least) }
+    requires usable { WhileOpen (state S.Store (T.held tx.old)) IsUsable }
+    ensures same_reference { T.reference tx.new ≡ T.reference tx.old }
+    ensures taken { IfOk result (λ more. TakesOut S.Store number bounds.now more (T.held tx.old) (T.held tx.new)) }
+    ensures all { IfOk result (λ more. more ≡ false → WroteStatements S.Store (taking_parts number bounds.now) (without_parts (number ∷ [])) (T.held tx.old) (T.held tx.new)) }
+    ensures whole { enough ≡ None → IfOk result (λ more. more ≡ false) }
+    ensures usable { OnOk result (WhileOpen (state S.Store (T.held tx.new)) IsUsable) }
+    ensures lives { HasCleanDisk (state S.Store (T.held tx.new)) → OnOk result (IsTrue (state S.Store (T.held tx.old)).is_open) }
+    ensures sound { HasCleanDisk (state S.Store (T.held tx.new)) → OnOk result (IsDatabase (state S.Store (T.held tx.new)).now) }
+    ensures inside { HasCleanDisk (state S.Store (T.held tx.new)) → OnOk result ((state S.Store (T.held tx.new)).in_transaction ≡ true) }
+    ensures failed { IfErr result (FailsToWrite S.Store (taking_parts number bounds.now) (T.held tx.old) (T.held tx.new)) }
+    ensures spares { CommitsNothing S.Store (T.held tx.old) (T.held tx.new) }
+{
+    let mut all = 0usize;
+    'each: for (file, from) in bounds {
+        let taken = delete_parts_from(tx, number as i64, *file, *from)?;
+        all = all.saturating_add(taken);
+        if are_enough(all, enough) {
+            return Ok(true);
+        }
+    }
+    delete_parts(tx, number as i64)?;
+    Ok(false)
+}
+
 /// Takes out the parts of this number: those of a file from each of these on, one after the other, and then the rest.
 pub(crate) fn take_parts<S: Alter, T: OpenTransaction<S>>(
     tx: &mut T,
@@ -79,10 +128,7 @@ pub(crate) fn take_parts<S: Alter, T: OpenTransaction<S>>(
     ensures failed { IfErr result (FailsToWrite S.Store (taking_parts number parts.now) (T.held tx.old) (T.held tx.new)) }
     ensures spares { CommitsNothing S.Store (T.held tx.old) (T.held tx.new) }
 {
-    'each: for (file, from) in parts {
-        delete_parts_from(tx, number as i64, *file, *from)?;
-    }
-    delete_parts(tx, number as i64)?;
+    take_slice(tx, number, parts, None)?;
     Ok(())
 }
 
@@ -191,8 +237,7 @@ pub(crate) fn add_files<S: Alter, T: OpenTransaction<S>>(
     ensures spares { CommitsNothing S.Store (T.held tx.old) (T.held tx.new) }
 {
     take_parts(tx, files.number, LAST_PARTS)?;
-    add_parts(tx, files, 0, to)?;
-    Ok(())
+    add_parts(tx, files, 0, to)
 }
 
 /// Adds all parts of the edition that the command installs, if it installs one, under its number, where its index is these octets.

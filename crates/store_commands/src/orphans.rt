@@ -2,7 +2,6 @@
 ghost use Rattle.std.specs.Prelude.{◌≡◌, ◌≢◌, ◌<◌, true, false, IsTrue, Some, IfErr, IfOk, IfSome, OnErr, OnOk};
 ghost use Rattle.std.specs.List.{AllByRecursion};
 ghost use Rattle.sqlite.specs.Disk.{MoreFaults};
-ghost use Rattle.sqlite.specs.Effect.{IsDatabase};
 ghost use Rattle.sqlite.specs.State.{HasCleanDisk, Survives};
 ghost use Rattle.sqlite.specs.Held.{state};
 ghost use Rattle.store_tables.specs.Effects.{WhileOpen};
@@ -12,19 +11,15 @@ ghost use Rattle.store_commands.specs.KeptRecords.{IsUsable, FitsColumn};
 ghost use Rattle.store_holdings.specs.Committed.{IsCommitted, IsTreesOf};
 ghost use Rattle.store_commands.specs.Committed.{IsOfStore, StaysCommitted};
 ghost use Rattle.store_commands.specs.Answers.{HoldsBy};
-ghost use Rattle.store_commands.specs.FiledParts.{FailsAmong};
 ghost use Rattle.store_commands.specs.Marking.{Remains};
-ghost use Rattle.store_commands.specs.Orphans.{AreTakingOut, LosesParts, HasNoParts, TakesOut, FailsToTakeOut, FailsToTakeOrphans, parts_under};
-ghost use Rattle.store_commands.specs.Writes.{CommitsNothing};
+ghost use Rattle.store_commands.specs.Orphans.{LosesParts, HasNoParts, FailsToTakeOut, FailsToTakeOrphans, parts_under};
 
-use crate::editions::LAST_PARTS;
+use crate::editions::{LAST_PARTS, take_slice};
 use crate::parts::fault_filed;
 use dict_catalogue::{Item, Summary};
 use dict_desk::Fault;
-use sqlite::{Alter, Connection, Error};
-use store_sql::part_statements::{delete_parts, delete_parts_from};
+use sqlite::{Alter, Connection};
 use store_tables::commit::commit;
-use store_tables::transaction::OpenTransaction;
 
 // One commit takes out so many parts at least, where there are as many, and 128 more at most.
 const ENOUGH: usize = 64;
@@ -58,35 +53,6 @@ fn has_number(items: &[Item], number: u64) -> bool
     false
 }
 
-// Takes out the parts of a file of this number from one of these bounds on after the other, until they are enough, as far as the store tells; or
-// all parts of the number. Whether there may be more.
-fn take_slice<S: Alter, T: OpenTransaction<S>>(
-    tx: &mut T,
-    number: u64,
-    bounds: &[(i64, i64)],
-) -> Result<bool, Error>
-    requires number { FitsColumn number }
-    requires usable { WhileOpen (state S.Store (T.held tx.old)) IsUsable }
-    ensures same_reference { T.reference tx.new ≡ T.reference tx.old }
-    ensures taken { IfOk result (λ more. TakesOut S.Store number bounds.now more (T.held tx.old) (T.held tx.new)) }
-    ensures lives { HasCleanDisk (state S.Store (T.held tx.new)) → OnOk result (IsTrue (state S.Store (T.held tx.old)).is_open) }
-    ensures sound { HasCleanDisk (state S.Store (T.held tx.new)) → OnOk result (IsDatabase (state S.Store (T.held tx.new)).now) }
-    ensures inside { HasCleanDisk (state S.Store (T.held tx.new)) → OnOk result ((state S.Store (T.held tx.new)).in_transaction ≡ true) }
-    ensures failed { IfErr result (FailsAmong S.Store (AreTakingOut number bounds.now) (T.held tx.old) (T.held tx.new)) }
-    ensures spares { CommitsNothing S.Store (T.held tx.old) (T.held tx.new) }
-{
-    let mut all = 0usize;
-    'each: for (file, from) in bounds {
-        let taken = delete_parts_from(tx, number as i64, *file, *from)?;
-        all = all.saturating_add(taken);
-        if all >= ENOUGH {
-            return Ok(true);
-        }
-    }
-    delete_parts(tx, number as i64)?;
-    Ok(false)
-}
-
 // Takes out a slice of the parts of this number by one commit.
 fn commit_slice<S: Alter>(conn: &mut Connection<S>, number: u64) -> Result<bool, Option<Fault>>
     requires autocommit { conn.old.in_transaction ≡ false }
@@ -104,7 +70,7 @@ fn commit_slice<S: Alter>(conn: &mut Connection<S>, number: u64) -> Result<bool,
     ensures crash { Survives (state S.Store conn.old) (state S.Store conn.new) (IsTreesOf (λ db. IsTrue (state S.Store conn.old).is_open × LosesParts number (state S.Store conn.old).now db)) }
 {
     let mut tx = conn.transaction();
-    let more = match take_slice(&mut tx, number, LAST_PARTS) {
+    let more = match take_slice(&mut tx, number, LAST_PARTS, Some(ENOUGH)) {
         Ok(more) => more,
         Err(error) => return Err(fault_filed(error)),
     };

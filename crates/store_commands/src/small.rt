@@ -75,8 +75,7 @@ pub(crate) fn write_items<S: Alter, T: OpenTransaction<S>>(
     ensures spares { CommitsNothing S.Store (T.held tx.old) (T.held tx.new) }
 {
     clear_table(tx, StoreTable::Item)?;
-    add_items(tx, items)?;
-    Ok(())
+    add_items(tx, items)
 }
 
 // Adds the records of the members of this owner, each at its place.
@@ -142,6 +141,5 @@ pub(crate) fn write_members<S: Alter, T: OpenTransaction<S>>(
     ensures spares { CommitsNothing S.Store (T.held tx.old) (T.held tx.new) }
 {
     clear_table(tx, StoreTable::Member)?;
-    add_all_members(tx, items)?;
-    Ok(())
+    add_all_members(tx, items)
 }

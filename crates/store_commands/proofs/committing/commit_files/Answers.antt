@@ -1,114 +1,47 @@
-use Rattle.std.proofs.Common.{◌≡◌, rules, sym, ap, subst, ◌∙◌, inl, inr, refl, arith}
-use Rattle.sqlite.specs.Effect.{Database, IsDatabase}
-use Rattle.sqlite.specs.State.{HasCleanDisk, Survives, Fails, IsRolledBack}
-use Rattle.sqlite.specs.Held.{state}
+use Rattle.std.proofs.Common.{◌≡◌, rules, sym}
+use Rattle.std.proofs.lemmas.Bool.{false≢true}
 use Rattle.store_holdings.specs.AllTables.{all_after}
 use Rattle.store_rows.specs.Versions.{known}
-use Rattle.store_holdings.proofs.CommitLemmas.{leaves, done, only_left, commit_fails, keeps_begun, stays_undone}
 use Rattle.store_commands.specs.KeptRecords.{TurnsRecords}
 use Rattle.store_commands.specs.Changes.{change_by}
-use Rattle.store_holdings.specs.Committed.{IsCommitted, IsTreesOf}
-use Rattle.store_commands.specs.Committed.{StaysCommitted}
-use Rattle.sqlite.proofs.Callers.{survives_begin}
-use Rattle.store_sql.specs.Statements.{RunInTurn, FailsInTurn}
 use Rattle.store_commands.specs.Statements.{statements_of}
+use Rattle.store_commands.proofs.EndLemmas.{spans, made_by, leaves_made, commits_made, uncommitted_stays, uncommitted_end, undone_end}
 use Rattle.store_commands.proofs.committing.commit_files.Goals as goal
 
 pub returns-in-Ok-clause-made : goal.returns-in-Ok-clause-made
-returns-in-Ok-clause-made g c clean =
-    let old = c.args.conn.now in
-    let begun = c.transaction-tx.result.conn.now in
-    let mid = c.write_all.new.tx.conn.now in
-    let end = c.commit.new.tx.0 in
-    let same : end ≡ c.conn-2-1.given.0 = search rules in
+returns-in-Ok-clause-made g c =
     let f = all_after known (change_by c.args.id.now c.args.command.now c.args.change.now) in
-    let made : HasCleanDisk (state g.S.Store mid) → TurnsRecords f (state g.S.Store old).now (state g.S.Store mid).now × IsDatabase (state g.S.Store mid).now =
-    λ clean. (subst (λ d. TurnsRecords f d (state g.S.Store mid).now) (ap (λ h. (state g.S.Store h).now) c.transaction-tx.ensures.begun) (c.in_default.ensures.wrote.turns clean), c.in_default.ensures.sound clean) in
-    let late : HasCleanDisk (state g.S.Store end) = subst (λ h. HasCleanDisk (state g.S.Store h)) (sym same) clean in
-    let shown = (c.in-Ok.ensures.committed late).1 in
-    let P = λ (db : Database). TurnsRecords f (state g.S.Store old).now db in
-    let settled : IsCommitted P (state g.S.Store end) = record {
-      is_open = shown.is_open;
-      settled = shown.now_is ∙ sym shown.committed_is;
-      holds = done g.S.Store old begun mid end P c.transaction-tx.ensures.begun c.write_all.ensures.spares.survives c.commit.ensures.survives made late shown;
-      only = only_left g.S.Store old begun mid end P c.transaction-tx.ensures.begun c.write_all.ensures.spares.survives c.commit.ensures.survives made late shown (c.in-Ok.ensures.only late);
-    } in
-    subst (λ h. IsCommitted P (state g.S.Store h)) same settled
+    let same : c.commit.new.tx.0 ≡ c.conn-2-1.given.0 = search rules in
+    let tx = spans g.S.Store c.args.conn.now c.transaction-tx.ensures.begun c.write_all.ensures.spares same c.commit.ensures.survives in
+    commits_made tx _ (made_by tx (TurnsRecords f) c.in_default.ensures.wrote.turns c.in_default.ensures.sound) c.in-Ok.ensures.committed c.in-Ok.ensures.only
 
 pub returns-in-Ok-clause-crash : goal.returns-in-Ok-clause-crash
 returns-in-Ok-clause-crash g c =
-    let old = c.args.conn.now in
-    let begun = c.transaction-tx.result.conn.now in
-    let mid = c.write_all.new.tx.conn.now in
-    let end = c.commit.new.tx.0 in
-    let same : end ≡ c.conn-2-1.given.0 = search rules in
     let f = all_after known (change_by c.args.id.now c.args.command.now c.args.change.now) in
-    let made : HasCleanDisk (state g.S.Store mid) → TurnsRecords f (state g.S.Store old).now (state g.S.Store mid).now × IsDatabase (state g.S.Store mid).now =
-    λ clean. (subst (λ d. TurnsRecords f d (state g.S.Store mid).now) (ap (λ h. (state g.S.Store h).now) c.transaction-tx.ensures.begun) (c.in_default.ensures.wrote.turns clean), c.in_default.ensures.sound clean) in
-    let P = λ (db : Database). TurnsRecords f (state g.S.Store old).now db in
-    let there = leaves g.S.Store old begun mid end P c.transaction-tx.ensures.begun c.write_all.ensures.spares.survives c.commit.ensures.survives made in
-    subst (λ h. Survives (state g.S.Store old) (state g.S.Store h) (IsTreesOf P)) same there
+    let same : c.commit.new.tx.0 ≡ c.conn-2-1.given.0 = search rules in
+    let tx = spans g.S.Store c.args.conn.now c.transaction-tx.ensures.begun c.write_all.ensures.spares same c.commit.ensures.survives in
+    leaves_made tx _ (made_by tx (TurnsRecords f) c.in_default.ensures.wrote.turns c.in_default.ensures.sound)
 
-pub returns-in-Err-commit-clause-crash : goal.returns-in-Err-commit-clause-crash
-returns-in-Err-commit-clause-crash g c =
-    let old = c.args.conn.now in
-    let begun = c.transaction-tx.result.conn.now in
-    let mid = c.write_all.new.tx.conn.now in
-    let end = c.commit.new.tx.0 in
-    let same : end ≡ c.conn-2-1.given.0 = search rules in
+pub returns-in-Err-commit : goal.returns-in-Err-commit
+returns-in-Err-commit g c =
     let f = all_after known (change_by c.args.id.now c.args.command.now c.args.change.now) in
-    let made : HasCleanDisk (state g.S.Store mid) → TurnsRecords f (state g.S.Store old).now (state g.S.Store mid).now × IsDatabase (state g.S.Store mid).now =
-    λ clean. (subst (λ d. TurnsRecords f d (state g.S.Store mid).now) (ap (λ h. (state g.S.Store h).now) c.transaction-tx.ensures.begun) (c.in_default.ensures.wrote.turns clean), c.in_default.ensures.sound clean) in
-    let P = λ (db : Database). TurnsRecords f (state g.S.Store old).now db in
-    let there = leaves g.S.Store old begun mid end P c.transaction-tx.ensures.begun c.write_all.ensures.spares.survives c.commit.ensures.survives made in
-    subst (λ h. Survives (state g.S.Store old) (state g.S.Store h) (IsTreesOf P)) same there
+    let same : c.commit.new.tx.0 ≡ c.conn-2-1.given.0 = search rules in
+    let tx = spans g.S.Store c.args.conn.now c.transaction-tx.ensures.begun c.write_all.ensures.spares same c.commit.ensures.survives in
+    let made = made_by tx (TurnsRecords f) c.in_default.ensures.wrote.turns c.in_default.ensures.sound in
+    let stays = uncommitted_stays tx c.in_default.ensures.inside c.in-Err-commit.ensures.failed in
+    record {
+      made = λ clean. tt;
+      lives = λ clean. (stays clean).was_open;
+      stays = stays;
+      adds_none = λ no. absurd (false≢true (sym no));
+      failed = uncommitted_end tx c.in_default.ensures.inside c.in-Err-commit.ensures.failed c.in_default.ensures.wrote _ made;
+      kinds = tt;
+      autocommit = search rules;
+      crash = leaves_made tx _ made;
+    }
 
 pub returns-in-Err-clause-failed : goal.returns-in-Err-clause-failed
-returns-in-Err-clause-failed g c clean =
-    let mid = c.write_all.new.tx.conn.now in
-    let end = c.drop-tx.new.self.0 in
-    let same : end ≡ c.conn-1.given.0 = search rules in
-    let late : HasCleanDisk (state g.S.Store end) = subst (λ h. HasCleanDisk (state g.S.Store h)) (sym same) clean in
-    let early : HasCleanDisk (state g.S.Store mid) = omega (arith, c.drop-tx.ensures.survives.clean, late) in
-    inl (record {
-      error = c.in-Err.error;
-      told = c.fault_of.ensures;
-      last = mid;
-      within = subst (λ h. FailsInTurn g.S.Store (statements_of known (change_by c.args.id.now c.args.command.now c.args.change.now)) h mid c.in-Err.error) c.transaction-tx.ensures.begun (c.in-Err.ensures.failed early);
-      after = subst (λ h. Survives (state g.S.Store mid) (state g.S.Store h) (λ _. ⊥)) same c.drop-tx.ensures.survives;
-      undone = subst (λ h. IsRolledBack (state g.S.Store mid) (state g.S.Store h)) same (c.drop-tx.ensures.undone late);
-    })
-
-pub returns-in-Err-commit-clause-failed : goal.returns-in-Err-commit-clause-failed
-returns-in-Err-commit-clause-failed g c clean =
-    let old = c.args.conn.now in
-    let begun = c.transaction-tx.result.conn.now in
-    let mid = c.write_all.new.tx.conn.now in
-    let end = c.commit.new.tx.0 in
-    let same : end ≡ c.conn-2-1.given.0 = search rules in
-    let late : HasCleanDisk (state g.S.Store end) = subst (λ h. HasCleanDisk (state g.S.Store h)) (sym same) clean in
-    let early : HasCleanDisk (state g.S.Store mid) = omega (arith, c.commit.ensures.survives.clean, late) in
-    let f = all_after known (change_by c.args.id.now c.args.command.now c.args.change.now) in
-    inr (record {
-      told = refl;
-      last = mid;
-      ran = subst (λ h. RunInTurn g.S.Store (statements_of known (change_by c.args.id.now c.args.command.now c.args.change.now)) h mid) c.transaction-tx.ensures.begun (c.in_default.ensures.wrote.ran early);
-      before = survives_begin g.S.Store old (state g.S.Store mid) (λ _. ⊥) (subst (λ h. Survives (state g.S.Store h) (state g.S.Store mid) (λ _. ⊥)) c.transaction-tx.ensures.begun c.write_all.ensures.spares.survives);
-      written = subst (λ d. TurnsRecords f d (state g.S.Store mid).now) (ap (λ h. (state g.S.Store h).now) c.transaction-tx.ensures.begun) (c.in_default.ensures.wrote.turns early);
-      error = c.in-Err-commit.field-0;
-      fails = subst (λ h. Fails (state g.S.Store mid) (state g.S.Store h) ⊥ c.in-Err-commit.field-0) same
-          (commit_fails (state g.S.Store mid) (state g.S.Store end) c.in-Err-commit.field-0 (c.in_default.ensures.inside early) (c.in-Err-commit.ensures.failed late));
-    })
-
-pub returns-in-Err-commit-clause-stays : goal.returns-in-Err-commit-clause-stays
-returns-in-Err-commit-clause-stays g c clean =
-    let old = c.args.conn.now in
-    let begun = c.transaction-tx.result.conn.now in
-    let mid = c.write_all.new.tx.conn.now in
-    let end = c.commit.new.tx.0 in
-    let same : end ≡ c.conn-2-1.given.0 = search rules in
-    let late : HasCleanDisk (state g.S.Store end) = subst (λ h. HasCleanDisk (state g.S.Store h)) (sym same) clean in
-    let early : HasCleanDisk (state g.S.Store mid) = omega (arith, c.commit.ensures.survives.clean, late) in
-    subst (λ h. StaysCommitted (state g.S.Store old) (state g.S.Store h)) same (stays_undone (state g.S.Store old) (state g.S.Store mid) (state g.S.Store end)
-    (keeps_begun g.S.Store old begun (state g.S.Store mid) c.transaction-tx.ensures.begun (c.write_all.ensures.spares.keeps early))
-    (commit_fails (state g.S.Store mid) (state g.S.Store end) c.in-Err-commit.field-0 (c.in_default.ensures.inside early) (c.in-Err-commit.ensures.failed late)).3)
+returns-in-Err-clause-failed g c =
+    let same : c.drop-tx.new.self.0 ≡ c.conn-1.given.0 = search rules in
+    let tx = spans g.S.Store c.args.conn.now c.transaction-tx.ensures.begun c.write_all.ensures.spares same c.drop-tx.ensures.survives in
+    undone_end tx c.drop-tx.ensures.undone (statements_of known (change_by c.args.id.now c.args.command.now c.args.change.now)) c.in-Err.error c.in-Err.ensures.failed _ c.fault_of.ensures

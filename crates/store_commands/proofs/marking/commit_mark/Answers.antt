@@ -1,154 +1,49 @@
-use Rattle.std.proofs.Common.{◌≡◌, true, rules, sym, ap, subst, ◌∙◌, inl, inr, arith}
-use Rattle.std.specs.Prelude.{IsTrue}
-use Rattle.sqlite.specs.Disk.{MoreFaults}
-use Rattle.sqlite.specs.Effect.{Database, IsDatabase}
-use Rattle.sqlite.specs.State.{HasCleanDisk, Survives, Fails, IsRolledBack}
-use Rattle.sqlite.specs.Held.{Held, state}
+use Rattle.std.proofs.Common.{◌≡◌, rules}
 use Rattle.store_rows.specs.Versions.{known}
-use Rattle.store_holdings.proofs.CommitLemmas.{leaves, done, only_left, commit_fails, keeps_begun, stays_undone}
 use Rattle.store_commands.specs.KeptRecords.{TurnsRecords}
 use Rattle.store_commands.specs.Changes.{with_mark}
-use Rattle.store_holdings.specs.Committed.{IsCommitted, IsTreesOf}
-use Rattle.store_commands.specs.Committed.{StaysCommitted}
-use Rattle.sqlite.proofs.Callers.{survives_begin}
-use Rattle.store_tables.proofs.StateLemmas.{commit_counts}
-use Rattle.store_sql.specs.Statements.{RunInTurn, FailsInTurn}
 use Rattle.store_commands.specs.Statements.{mark_anew}
-use Rattle.store_commands.proofs.FaultLemmas.{told_counts, told_more}
+use Rattle.store_commands.proofs.EndLemmas.{spans, made_open, leaves_made, commits_made, uncommitted_stays, uncommitted_faults, uncommitted_run, undone_run, undone_faults}
 use Rattle.store_commands.proofs.marking.commit_mark.Goals as goal
 
 pub returns-in-Ok-clause-made : goal.returns-in-Ok-clause-made
-returns-in-Ok-clause-made g c clean =
-    let old = c.args.conn.now in
-    let begun = c.transaction-tx.result.conn.now in
-    let mid = c.write_mark.new.tx.conn.now in
-    let end = c.commit.new.tx.0 in
-    let same : end ≡ c.conn-2-1.given.0 = search rules in
-    let P = λ (db : Database). IsTrue (state g.S.Store old).is_open × TurnsRecords (with_mark c.args.installs) (state g.S.Store old).now db in
-    let made : HasCleanDisk (state g.S.Store mid) → P (state g.S.Store mid).now × IsDatabase (state g.S.Store mid).now = λ clean. (
-      (
-        subst (λ h. IsTrue (state g.S.Store h).is_open) c.transaction-tx.ensures.begun (c.in_default.ensures.wrote.ran clean).1.0.1.was_open,
-        subst (λ d. TurnsRecords (with_mark c.args.installs) d (state g.S.Store mid).now) (ap (λ h. (state g.S.Store h).now) c.transaction-tx.ensures.begun) (c.in_default.ensures.wrote.turns clean),
-      ),
-      c.in_default.ensures.sound clean,
-    ) in
-    let late : HasCleanDisk (state g.S.Store end) = subst (λ h. HasCleanDisk (state g.S.Store h)) (sym same) clean in
-    let shown = (c.in-Ok.ensures.committed late).1 in
-    let settled : IsCommitted P (state g.S.Store end) = record {
-      is_open = shown.is_open;
-      settled = shown.now_is ∙ sym shown.committed_is;
-      holds = done g.S.Store old begun mid end P c.transaction-tx.ensures.begun c.write_mark.ensures.spares.survives c.commit.ensures.survives made late shown;
-      only = only_left g.S.Store old begun mid end P c.transaction-tx.ensures.begun c.write_mark.ensures.spares.survives c.commit.ensures.survives made late shown (c.in-Ok.ensures.only late);
-    } in
-    subst (λ h. IsCommitted P (state g.S.Store h)) same settled
+returns-in-Ok-clause-made g c =
+    let same : c.commit.new.tx.0 ≡ c.conn-2-1.given.0 = search rules in
+    let tx = spans g.S.Store c.args.conn.now c.transaction-tx.ensures.begun c.write_mark.ensures.spares same c.commit.ensures.survives in
+    commits_made tx _ (made_open tx (TurnsRecords (with_mark c.args.installs)) (λ clean. (c.in_default.ensures.wrote.ran clean).1.0.1.was_open) c.in_default.ensures.wrote.turns c.in_default.ensures.sound)
+    c.in-Ok.ensures.committed c.in-Ok.ensures.only
 
 pub returns-in-Ok-clause-crash : goal.returns-in-Ok-clause-crash
 returns-in-Ok-clause-crash g c =
-    let old = c.args.conn.now in
-    let begun = c.transaction-tx.result.conn.now in
-    let mid = c.write_mark.new.tx.conn.now in
-    let end = c.commit.new.tx.0 in
-    let same : end ≡ c.conn-2-1.given.0 = search rules in
-    let P = λ (db : Database). IsTrue (state g.S.Store old).is_open × TurnsRecords (with_mark c.args.installs) (state g.S.Store old).now db in
-    let made : HasCleanDisk (state g.S.Store mid) → P (state g.S.Store mid).now × IsDatabase (state g.S.Store mid).now = λ clean. (
-      (
-        subst (λ h. IsTrue (state g.S.Store h).is_open) c.transaction-tx.ensures.begun (c.in_default.ensures.wrote.ran clean).1.0.1.was_open,
-        subst (λ d. TurnsRecords (with_mark c.args.installs) d (state g.S.Store mid).now) (ap (λ h. (state g.S.Store h).now) c.transaction-tx.ensures.begun) (c.in_default.ensures.wrote.turns clean),
-      ),
-      c.in_default.ensures.sound clean,
-    ) in
-    let there = leaves g.S.Store old begun mid end P c.transaction-tx.ensures.begun c.write_mark.ensures.spares.survives c.commit.ensures.survives made in
-    subst (λ h. Survives (state g.S.Store old) (state g.S.Store h) (IsTreesOf P)) same there
+    let same : c.commit.new.tx.0 ≡ c.conn-2-1.given.0 = search rules in
+    let tx = spans g.S.Store c.args.conn.now c.transaction-tx.ensures.begun c.write_mark.ensures.spares same c.commit.ensures.survives in
+    leaves_made tx _ (made_open tx (TurnsRecords (with_mark c.args.installs)) (λ clean. (c.in_default.ensures.wrote.ran clean).1.0.1.was_open) c.in_default.ensures.wrote.turns c.in_default.ensures.sound)
 
-pub returns-in-Err-commit-clause-crash : goal.returns-in-Err-commit-clause-crash
-returns-in-Err-commit-clause-crash g c =
-    let old = c.args.conn.now in
-    let begun = c.transaction-tx.result.conn.now in
-    let mid = c.write_mark.new.tx.conn.now in
-    let end = c.commit.new.tx.0 in
-    let same : end ≡ c.conn-2-1.given.0 = search rules in
-    let P = λ (db : Database). IsTrue (state g.S.Store old).is_open × TurnsRecords (with_mark c.args.installs) (state g.S.Store old).now db in
-    let made : HasCleanDisk (state g.S.Store mid) → P (state g.S.Store mid).now × IsDatabase (state g.S.Store mid).now = λ clean. (
-      (
-        subst (λ h. IsTrue (state g.S.Store h).is_open) c.transaction-tx.ensures.begun (c.in_default.ensures.wrote.ran clean).1.0.1.was_open,
-        subst (λ d. TurnsRecords (with_mark c.args.installs) d (state g.S.Store mid).now) (ap (λ h. (state g.S.Store h).now) c.transaction-tx.ensures.begun) (c.in_default.ensures.wrote.turns clean),
-      ),
-      c.in_default.ensures.sound clean,
-    ) in
-    let there = leaves g.S.Store old begun mid end P c.transaction-tx.ensures.begun c.write_mark.ensures.spares.survives c.commit.ensures.survives made in
-    subst (λ h. Survives (state g.S.Store old) (state g.S.Store h) (IsTreesOf P)) same there
+pub returns-in-Err-commit : goal.returns-in-Err-commit
+returns-in-Err-commit g c =
+    let same : c.commit.new.tx.0 ≡ c.conn-2-1.given.0 = search rules in
+    let tx = spans g.S.Store c.args.conn.now c.transaction-tx.ensures.begun c.write_mark.ensures.spares same c.commit.ensures.survives in
+    let stays = uncommitted_stays tx c.in_default.ensures.inside c.in-Err-commit.ensures.failed in
+    record {
+      made = λ clean. tt;
+      stays = stays;
+      lives = λ clean. (stays clean).was_open;
+      failed = uncommitted_run tx c.in_default.ensures.inside c.in-Err-commit.ensures.failed c.in_default.ensures.wrote c.fault_filed-in-Err-commit.ensures.is;
+      faulted = uncommitted_faults tx c.in_default.ensures.inside c.in-Err-commit.ensures.failed c.fault_filed-in-Err-commit.ensures.disk;
+      kinds = c.fault_filed-in-Err-commit.ensures.kind;
+      autocommit = search rules;
+      crash = leaves_made tx _
+          (made_open tx (TurnsRecords (with_mark c.args.installs)) (λ clean. (c.in_default.ensures.wrote.ran clean).1.0.1.was_open) c.in_default.ensures.wrote.turns c.in_default.ensures.sound);
+    }
 
 pub returns-in-Err-clause-failed : goal.returns-in-Err-clause-failed
-returns-in-Err-clause-failed g c clean =
-    let mid = c.write_mark.new.tx.conn.now in
-    let end = c.drop-tx.new.self.0 in
-    let same : end ≡ c.conn-1.given.0 = search rules in
-    let late : HasCleanDisk (state g.S.Store end) = subst (λ h. HasCleanDisk (state g.S.Store h)) (sym same) clean in
-    let early : HasCleanDisk (state g.S.Store mid) = omega (arith, c.drop-tx.ensures.survives.clean, late) in
-    record {
-      error = c.in-Err.error;
-      told = c.fault_filed.ensures.is;
-      last = mid;
-      cause = inl (
-        subst (λ h. FailsInTurn g.S.Store (mark_anew known c.args.installs) h mid c.in-Err.error) c.transaction-tx.ensures.begun (c.in-Err.ensures.failed early),
-        subst (λ h. IsRolledBack (state g.S.Store mid) (state g.S.Store h)) same (c.drop-tx.ensures.undone late),
-      );
-    }
+returns-in-Err-clause-failed g c =
+    let same : c.drop-tx.new.self.0 ≡ c.conn-1.given.0 = search rules in
+    let tx = spans g.S.Store c.args.conn.now c.transaction-tx.ensures.begun c.write_mark.ensures.spares same c.drop-tx.ensures.survives in
+    undone_run tx c.drop-tx.ensures.undone (mark_anew known c.args.installs) c.in-Err.error c.in-Err.ensures.failed c.fault_filed.ensures.is
 
 pub returns-in-Err-clause-faulted : goal.returns-in-Err-clause-faulted
-returns-in-Err-clause-faulted g c clean told =
-    let old = c.args.conn.now in
-    let mid = c.write_mark.new.tx.conn.now in
-    let end = c.drop-tx.new.self.0 in
-    let same : end ≡ c.conn-1.given.0 = search rules in
-    let late : HasCleanDisk (state g.S.Store end) = subst (λ h. HasCleanDisk (state g.S.Store h)) (sym same) clean in
-    let early : HasCleanDisk (state g.S.Store mid) = omega (arith, c.drop-tx.ensures.survives.clean, late) in
-    let within = subst (λ (h : Held _). FailsInTurn g.S.Store (mark_anew known c.args.installs) h mid c.in-Err.error) c.transaction-tx.ensures.begun (c.in-Err.ensures.failed early) in
-    subst (λ (h : Held _). MoreFaults (state g.S.Store old).faults (state g.S.Store h).faults) same
-    (told_more (state g.S.Store old) (state g.S.Store mid) (state g.S.Store end)
-    (told_counts g.S.Store (mark_anew known c.args.installs) (record old { in_transaction = true }) mid c.in-Err.error within (c.fault_filed.ensures.disk told)) c.drop-tx.ensures.survives.counts)
-
-pub returns-in-Err-commit-clause-failed : goal.returns-in-Err-commit-clause-failed
-returns-in-Err-commit-clause-failed g c clean =
-    let mid = c.write_mark.new.tx.conn.now in
-    let end = c.commit.new.tx.0 in
-    let same : end ≡ c.conn-2-1.given.0 = search rules in
-    let late : HasCleanDisk (state g.S.Store end) = subst (λ h. HasCleanDisk (state g.S.Store h)) (sym same) clean in
-    let early : HasCleanDisk (state g.S.Store mid) = omega (arith, c.commit.ensures.survives.clean, late) in
-    record {
-      error = c.in-Err-commit.error;
-      told = c.fault_filed-in-Err-commit.ensures.is;
-      last = mid;
-      cause = inr (
-        subst (λ h. RunInTurn g.S.Store (mark_anew known c.args.installs) h mid) c.transaction-tx.ensures.begun (c.in_default.ensures.wrote.ran early),
-        subst (λ h. Fails (state g.S.Store mid) (state g.S.Store h) ⊥ c.in-Err-commit.error) same
-            (commit_fails (state g.S.Store mid) (state g.S.Store end) c.in-Err-commit.error (c.in_default.ensures.inside early) (c.in-Err-commit.ensures.failed late)),
-      );
-    }
-
-pub returns-in-Err-commit-clause-faulted : goal.returns-in-Err-commit-clause-faulted
-returns-in-Err-commit-clause-faulted g c clean told =
-    let old = c.args.conn.now in
-    let begun = c.transaction-tx.result.conn.now in
-    let mid = c.write_mark.new.tx.conn.now in
-    let end = c.commit.new.tx.0 in
-    let same : end ≡ c.conn-2-1.given.0 = search rules in
-    let late : HasCleanDisk (state g.S.Store end) = subst (λ h. HasCleanDisk (state g.S.Store h)) (sym same) clean in
-    let more : MoreFaults (state g.S.Store mid).faults (state g.S.Store end).faults =
-    commit_counts (state g.S.Store mid) (state g.S.Store end) c.in-Err-commit.error (c.in-Err-commit.ensures.failed late) (c.fault_filed-in-Err-commit.ensures.disk told) in
-    let begins : Survives (state g.S.Store old) (state g.S.Store mid) (λ _. ⊥) = survives_begin g.S.Store old (state g.S.Store mid) (λ _. ⊥)
-    (subst (λ h. Survives (state g.S.Store h) (state g.S.Store mid) (λ _. ⊥)) c.transaction-tx.ensures.begun c.write_mark.ensures.spares.survives) in
-    subst (λ (h : Held _). MoreFaults (state g.S.Store old).faults (state g.S.Store h).faults) same (omega (arith, begins.counts, more))
-
-pub returns-in-Err-commit-clause-stays : goal.returns-in-Err-commit-clause-stays
-returns-in-Err-commit-clause-stays g c clean =
-    let old = c.args.conn.now in
-    let begun = c.transaction-tx.result.conn.now in
-    let mid = c.write_mark.new.tx.conn.now in
-    let end = c.commit.new.tx.0 in
-    let same : end ≡ c.conn-2-1.given.0 = search rules in
-    let late : HasCleanDisk (state g.S.Store end) = subst (λ h. HasCleanDisk (state g.S.Store h)) (sym same) clean in
-    let early : HasCleanDisk (state g.S.Store mid) = omega (arith, c.commit.ensures.survives.clean, late) in
-    subst (λ h. StaysCommitted (state g.S.Store old) (state g.S.Store h)) same (stays_undone (state g.S.Store old) (state g.S.Store mid) (state g.S.Store end)
-    (keeps_begun g.S.Store old begun (state g.S.Store mid) c.transaction-tx.ensures.begun (c.write_mark.ensures.spares.keeps early))
-    (commit_fails (state g.S.Store mid) (state g.S.Store end) c.in-Err-commit.error (c.in_default.ensures.inside early) (c.in-Err-commit.ensures.failed late)).3)
+returns-in-Err-clause-faulted g c =
+    let same : c.drop-tx.new.self.0 ≡ c.conn-1.given.0 = search rules in
+    let tx = spans g.S.Store c.args.conn.now c.transaction-tx.ensures.begun c.write_mark.ensures.spares same c.drop-tx.ensures.survives in
+    undone_faults tx c.drop-tx.ensures.undone (mark_anew known c.args.installs) c.in-Err.error c.in-Err.ensures.failed c.fault_filed.ensures.disk

@@ -4,25 +4,21 @@ use Rattle.sqlite.specs.Effect.{Database}
 use Rattle.sqlite.specs.Held.{state}
 use Rattle.sqlite.proofs.StateLemmas.{survives_weaker}
 use Rattle.dict_catalogue.specs.Views.{summary_shown}
-use Rattle.store_holdings.specs.AllTables.{with_derived}
 use Rattle.store_commands.specs.KeptRecords.{TurnsRecords}
 use Rattle.store_commands.specs.Changes.{with_mark}
 use Rattle.store_commands.specs.Statements.{mark_anew}
 use Rattle.store_rows.specs.Versions.{known}
 use Rattle.store_holdings.specs.Committed.{IsCommitted}
 use Rattle.store_commands.specs.Marking.{Remains, FailsToCommitRun, FailsToMark}
-use Rattle.store_commands.proofs.ApplyLemmas.{holds_now}
 use Rattle.store_commands.proofs.DraftLemmas.{on_ok}
 use Rattle.store_commands.proofs.LoopLemmas.{each_err}
+use Rattle.store_commands.proofs.FinishLemmas.{usable_by}
 use Rattle.store_commands.proofs.WriteLemmas.{clean_before}
 use Rattle.store_commands.proofs.MarkingLemmas.{remains_by, committed_wider}
 use Rattle.store_commands.proofs.marking.write_mark_again.Goals as goal
 
 pub commit_mark-requires-clause-usable : goal.commit_mark-requires-clause-usable
-commit_mark-requires-clause-usable g c = λ clean live.
-    let it = c.requires.holds clean live in
-    let held = holds_now (state g.S.Store c.args.conn.now) it.0 it.1 in
-    (with_derived held.orphans held.tables, record { own = held.own; keeps = held.keeps })
+commit_mark-requires-clause-usable g c = usable_by (summary_shown c.args.summary.now) (state g.S.Store c.args.conn.now) c.requires.holds
 
 pub returns-clause-made : goal.returns-clause-made
 returns-clause-made g c clean =

@@ -6,23 +6,19 @@ use Rattle.sqlite.specs.Held.{state}
 use Rattle.sqlite.proofs.StateLemmas.{survives_weaker}
 use Rattle.dict_catalogue.specs.Items.{edition_numbers}
 use Rattle.dict_catalogue.specs.Views.{summary_shown}
-use Rattle.store_holdings.specs.AllTables.{with_derived}
 use Rattle.store_holdings.specs.Committed.{IsCommitted}
 use Rattle.store_commands.specs.Marking.{Remains}
 use Rattle.store_commands.specs.Orphans.{LosesParts, FailsToTakeOut, FailsToTakeOrphans, parts_under}
-use Rattle.store_commands.proofs.ApplyLemmas.{holds_now}
 use Rattle.store_commands.proofs.DraftLemmas.{on_ok}
 use Rattle.store_commands.proofs.LoopLemmas.{each_err}
+use Rattle.store_commands.proofs.FinishLemmas.{usable_by}
 use Rattle.store_commands.proofs.WriteLemmas.{clean_before}
 use Rattle.store_commands.proofs.MarkingLemmas.{committed_wider}
 use Rattle.store_commands.proofs.TakingLemmas.{HasNotNumber, none_of_items, remains_without, with_ok}
 use Rattle.store_commands.proofs.orphans.take_orphans.Goals as goal
 
 pub commit_slice-requires-clause-usable : goal.commit_slice-requires-clause-usable
-commit_slice-requires-clause-usable g c = λ clean live.
-    let it = c.requires.holds clean live in
-    let held = holds_now (state g.S.Store c.args.conn.now) it.0 it.1 in
-    (with_derived held.orphans held.tables, record { own = held.own; keeps = held.keeps })
+commit_slice-requires-clause-usable g c = usable_by (summary_shown c.args.summary.now) (state g.S.Store c.args.conn.now) c.requires.holds
 
 pub returns-clause-made : goal.returns-clause-made
 returns-clause-made g c clean =

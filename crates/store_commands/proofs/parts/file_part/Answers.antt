@@ -12,14 +12,12 @@ use Rattle.store_commands.proofs.ApplyLemmas.{holds_now}
 use Rattle.store_commands.proofs.FilingLemmas.{filed_on}
 use Rattle.store_commands.proofs.MarkingLemmas.{committed_wider}
 use Rattle.store_commands.proofs.TakingLemmas.{remains_filed}
+use Rattle.store_commands.proofs.FinishLemmas.{usable_by}
 use Rattle.store_commands.proofs.WriteLemmas.{clean_before}
 use Rattle.store_commands.proofs.parts.file_part.Goals as goal
 
 pub commit_parts-requires-clause-usable : goal.commit_parts-requires-clause-usable
-commit_parts-requires-clause-usable g c = λ clean live.
-    let it = c.requires.holds clean live in
-    let held = holds_now (state g.S.Store c.args.conn.now) it.0 it.1 in
-    (with_derived held.orphans held.tables, record { own = held.own; keeps = held.keeps })
+commit_parts-requires-clause-usable g c = usable_by (summary_shown c.args.summary.now) (state g.S.Store c.args.conn.now) c.requires.holds
 
 pub returns-clause-made : goal.returns-clause-made
 returns-clause-made g c clean =

@@ -1,5 +1,4 @@
-use Rattle.std.proofs.Common.{sym, ◌≡◌, length, arith, ap, ◌∙◌}
-use Rattle.std.proofs.lemmas.Bool.{false≢true}
+use Rattle.std.proofs.Common.{◌≡◌, length, arith, ap, ◌∙◌}
 use Rattle.store_sql.proofs.StreamLemmas.{passed_on}
 use Rattle.store_commands.specs.Filing.{parts_of_filing, parts_of_files, AreOfSomePart}
 use Rattle.store_commands.specs.FiledParts.{FailsAmong}
@@ -8,29 +7,24 @@ use Rattle.store_commands.proofs.parts.write_parts.Goals as goal
 
 -- ---- it has begun
 
-pub returns-then-filing-clause-wrote : goal.returns-then-filing-clause-wrote
-returns-then-filing-clause-wrote g c =
-    let long : c.part_count-all.result ≡ length (parts_of_filing c.args.filing.now) = c.part_count-all.ensures ∙ ap length c.files-files.ensures.parts in
-    next_wrote g.S.Store c.args.filing.now c.part_end-to.result (g.T.OpenTransaction.held c.args.tx.now) (g.T.OpenTransaction.held c.add_parts.new.tx) (parts_of_files c.files-files.result) c.files-files.ensures.parts c.if-filing.true
-    (c.part_end-to.ensures.more (omega (arith, c.requires.rest c.if-filing.true, long))) c.in_ok-add_parts.ensures.wrote
-
-pub returns-then-filing-clause-lives : goal.returns-then-filing-clause-lives
-returns-then-filing-clause-lives g c clean =
-    let long : c.part_count-all.result ≡ length (parts_of_filing c.args.filing.now) = c.part_count-all.ensures ∙ ap length c.files-files.ensures.parts in
-    (wrote_well g.S.Store c.args.filing.now c.part_end-to.result (g.T.OpenTransaction.held c.args.tx.now) (g.T.OpenTransaction.held c.add_parts.new.tx) c.part_count-all.result long c.part_end-to.ensures.within.1
-    (returns-then-filing-clause-wrote g c).goes_on (returns-then-filing-clause-wrote g c) clean).0
-
-pub returns-then-filing-clause-sound : goal.returns-then-filing-clause-sound
-returns-then-filing-clause-sound g c clean =
-    let long : c.part_count-all.result ≡ length (parts_of_filing c.args.filing.now) = c.part_count-all.ensures ∙ ap length c.files-files.ensures.parts in
-    (wrote_well g.S.Store c.args.filing.now c.part_end-to.result (g.T.OpenTransaction.held c.args.tx.now) (g.T.OpenTransaction.held c.add_parts.new.tx) c.part_count-all.result long c.part_end-to.ensures.within.1
-    (returns-then-filing-clause-wrote g c).goes_on (returns-then-filing-clause-wrote g c) clean).1
-
-pub returns-then-filing-clause-inside : goal.returns-then-filing-clause-inside
-returns-then-filing-clause-inside g c clean =
-    let long : c.part_count-all.result ≡ length (parts_of_filing c.args.filing.now) = c.part_count-all.ensures ∙ ap length c.files-files.ensures.parts in
-    (wrote_well g.S.Store c.args.filing.now c.part_end-to.result (g.T.OpenTransaction.held c.args.tx.now) (g.T.OpenTransaction.held c.add_parts.new.tx) c.part_count-all.result long c.part_end-to.ensures.within.1
-    (returns-then-filing-clause-wrote g c).goes_on (returns-then-filing-clause-wrote g c) clean).2
+pub returns-then-filing : goal.returns-then-filing
+returns-then-filing g c =
+    let f = c.args.filing.now in
+    let old = (g.T.OpenTransaction.held c.args.tx.now) in
+    let new = (g.T.OpenTransaction.held c.add_parts.new.tx) in
+    let long : c.part_count-all.result ≡ length (parts_of_filing f) = c.part_count-all.ensures ∙ ap length c.files-files.ensures.parts in
+    let wrote = next_wrote g.S.Store f c.part_end-to.result old new (parts_of_files c.files-files.result) c.files-files.ensures.parts c.if-filing.true
+    (c.part_end-to.ensures.more (omega (arith, c.requires.rest c.if-filing.true, long))) c.in_ok-add_parts.ensures.wrote in
+    let well = wrote_well g.S.Store f c.part_end-to.result old new c.part_count-all.result long c.part_end-to.ensures.within.1 wrote.goes_on wrote in
+    record {
+      same_reference = c.add_parts.ensures.same_reference;
+      wrote = wrote;
+      lives = λ clean. (well clean).0;
+      sound = λ clean. (well clean).1;
+      inside = λ clean. (well clean).2;
+      failed = tt;
+      spares = c.add_parts.ensures.spares;
+    }
 
 pub returns-in_err-add_parts-clause-failed : goal.returns-in_err-add_parts-clause-failed
 returns-in_err-add_parts-clause-failed g c =
@@ -51,25 +45,21 @@ returns-in_err-add_files-clause-failed g c =
     (first_failed g.S.Store c.args.filing.now c.part_end-to-2.result first new (parts_of_files c.files-files.result) c.files-files.ensures.parts c.files-files.result.number c.files-files.ensures.number c.if-filing.false e
     c.in_err-add_files.ensures.failed)
 
-pub returns-clause-wrote : goal.returns-clause-wrote
-returns-clause-wrote g c =
-    first_wrote g.S.Store c.args.filing.now c.part_end-to-2.result (g.T.OpenTransaction.held c.args.tx.now) (g.T.OpenTransaction.held c.add_files.new.tx) (parts_of_files c.files-files.result) c.files-files.ensures.parts
-    c.files-files.result.number c.files-files.ensures.number c.if-filing.false c.in_ok-add_files.ensures.wrote
-
-pub returns-clause-lives : goal.returns-clause-lives
-returns-clause-lives g c clean =
-    let long : c.part_count-all.result ≡ length (parts_of_filing c.args.filing.now) = c.part_count-all.ensures ∙ ap length c.files-files.ensures.parts in
-    (wrote_well g.S.Store c.args.filing.now c.part_end-to-2.result (g.T.OpenTransaction.held c.args.tx.now) (g.T.OpenTransaction.held c.add_files.new.tx) c.part_count-all.result long c.part_end-to-2.ensures.within.1
-    (λ is. absurd (false≢true (sym c.if-filing.false ∙ is))) (returns-clause-wrote g c) clean).0
-
-pub returns-clause-sound : goal.returns-clause-sound
-returns-clause-sound g c clean =
-    let long : c.part_count-all.result ≡ length (parts_of_filing c.args.filing.now) = c.part_count-all.ensures ∙ ap length c.files-files.ensures.parts in
-    (wrote_well g.S.Store c.args.filing.now c.part_end-to-2.result (g.T.OpenTransaction.held c.args.tx.now) (g.T.OpenTransaction.held c.add_files.new.tx) c.part_count-all.result long c.part_end-to-2.ensures.within.1
-    (λ is. absurd (false≢true (sym c.if-filing.false ∙ is))) (returns-clause-wrote g c) clean).1
-
-pub returns-clause-inside : goal.returns-clause-inside
-returns-clause-inside g c clean =
-    let long : c.part_count-all.result ≡ length (parts_of_filing c.args.filing.now) = c.part_count-all.ensures ∙ ap length c.files-files.ensures.parts in
-    (wrote_well g.S.Store c.args.filing.now c.part_end-to-2.result (g.T.OpenTransaction.held c.args.tx.now) (g.T.OpenTransaction.held c.add_files.new.tx) c.part_count-all.result long c.part_end-to-2.ensures.within.1
-    (λ is. absurd (false≢true (sym c.if-filing.false ∙ is))) (returns-clause-wrote g c) clean).2
+pub returns : goal.returns
+returns g c =
+    let f = c.args.filing.now in
+    let old = (g.T.OpenTransaction.held c.args.tx.now) in
+    let new = (g.T.OpenTransaction.held c.add_files.new.tx) in
+    let long : c.part_count-all.result ≡ length (parts_of_filing f) = c.part_count-all.ensures ∙ ap length c.files-files.ensures.parts in
+    let wrote = first_wrote g.S.Store f c.part_end-to-2.result old new (parts_of_files c.files-files.result) c.files-files.ensures.parts c.files-files.result.number c.files-files.ensures.number c.if-filing.false
+    c.in_ok-add_files.ensures.wrote in
+    let well = wrote_well g.S.Store f c.part_end-to-2.result old new c.part_count-all.result long c.part_end-to-2.ensures.within.1 wrote.goes_on wrote in
+    record {
+      same_reference = c.add_files.ensures.same_reference;
+      wrote = wrote;
+      lives = λ clean. (well clean).0;
+      sound = λ clean. (well clean).1;
+      inside = λ clean. (well clean).2;
+      failed = tt;
+      spares = c.add_files.ensures.spares;
+    }

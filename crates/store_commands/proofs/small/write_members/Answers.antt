@@ -1,59 +1,33 @@
-use Rattle.std.proofs.Common.{codes, [], ◌∷◌, map, true}
+use Rattle.std.proofs.Common.{codes, map, ◌∙◌}
 use Rattle.sqlite.specs.Held.{state}
-use Rattle.store_sql.proofs.StreamLemmas.{passed_on}
-use Rattle.store_tables.specs.declared.tables.StoreTable.TheVariants as table
 use Rattle.dict_catalogue.specs.Views.{item_shown}
 use Rattle.store_rows.specs.After.{all_members}
 use Rattle.store_commands.specs.Changes.{without_members, with_more_members}
-use Rattle.store_commands.specs.Statements.{clearing, adding_member, members_anew}
-use Rattle.store_commands.specs.Writes.{FailsToWrite}
+use Rattle.store_commands.specs.Statements.{adding_member}
 use Rattle.store_commands.proofs.TableLemmas.{members_to_remove, members_cleared}
-use Rattle.store_commands.proofs.WriteLemmas.{wrote_removed, wrote_then, failed_after, spares_removed, spares_then, usable_then}
+use Rattle.store_commands.proofs.WriteLemmas.{Ends, behind_cleared, usable_cleared}
 use Rattle.store_commands.proofs.small.write_members.Goals as goal
 
 pub clear_table-requires : goal.clear_table-requires
 clear_table-requires g c = λ clean lives. members_to_remove (state g.S.Store (g.T.OpenTransaction.held c.args.tx.now)).now (c.requires.usable clean lives)
 
 pub add_all_members-requires : goal.add_all_members-requires
-add_all_members-requires g c =
-    let old = (g.T.OpenTransaction.held c.args.tx.now) in
+add_all_members-requires g c = record {
+  usable = usable_cleared g.S.Store (codes "member") without_members (g.T.OpenTransaction.held c.args.tx.now) (g.T.OpenTransaction.held c.clear_table.new.tx) c.clear_table.ensures.survives members_cleared
+      c.in_ok-clear_table.ensures.removed c.requires.usable;
+}
+
+pub returns : goal.returns
+returns g c =
+    let rows = all_members (map item_shown c.args.items.now) in
     let mid = (g.T.OpenTransaction.held c.clear_table.new.tx) in
+    let rest : Ends g.S.Store (map adding_member rows) (with_more_members rows) mid (g.T.OpenTransaction.held c.add_all_members.new.tx) c.add_all_members.result =
+    record { wrote = c.add_all_members.ensures.wrote; failed = c.add_all_members.ensures.failed; spares = c.add_all_members.ensures.spares } in
+    let all = behind_cleared g.S.Store (codes "member") without_members (g.T.OpenTransaction.held c.args.tx.now) mid c.clear_table.ensures.survives members_cleared c.in_ok-clear_table.ensures.removed rest in
     record {
-      usable = usable_then g.S.Store (clearing table.Member ∷ []) without_members old mid c.requires.usable
-          (wrote_removed g.S.Store (codes "member") (λ _. true) old mid c.clear_table.ensures.survives without_members members_cleared c.in_ok-clear_table.ensures.removed)
-          (spares_removed g.S.Store (codes "member") (λ _. true) old mid c.clear_table.ensures.survives c.clear_table.result c.clear_table.ensures.removed c.clear_table.ensures.failed);
+      same_reference = c.add_all_members.ensures.same_reference ∙ c.clear_table.ensures.same_reference;
+      wrote = all.wrote;
+      usable = c.add_all_members.ensures.usable;
+      failed = all.failed;
+      spares = all.spares;
     }
-
-pub returns-clause-wrote : goal.returns-clause-wrote
-returns-clause-wrote g c =
-    let old = (g.T.OpenTransaction.held c.args.tx.now) in
-    let mid = (g.T.OpenTransaction.held c.clear_table.new.tx) in
-    let new = (g.T.OpenTransaction.held c.add_all_members.new.tx) in
-    let rows = all_members (map item_shown c.args.items.now) in
-    let one = wrote_removed g.S.Store (codes "member") (λ _. true) old mid c.clear_table.ensures.survives without_members members_cleared c.in_ok-clear_table.ensures.removed in
-    wrote_then g.S.Store (clearing table.Member ∷ []) (map adding_member rows) without_members (with_more_members rows) old mid new one c.in_ok-add_all_members.ensures.wrote c.add_all_members.ensures.spares
-
-pub returns-clause-spares : goal.returns-clause-spares
-returns-clause-spares g c =
-    let old = (g.T.OpenTransaction.held c.args.tx.now) in
-    let mid = (g.T.OpenTransaction.held c.clear_table.new.tx) in
-    spares_then g.S.Store old mid (g.T.OpenTransaction.held c.add_all_members.new.tx)
-    (spares_removed g.S.Store (codes "member") (λ _. true) old mid c.clear_table.ensures.survives c.clear_table.result c.clear_table.ensures.removed c.clear_table.ensures.failed) c.add_all_members.ensures.spares
-
-pub returns-in_err-add_all_members-clause-spares : goal.returns-in_err-add_all_members-clause-spares
-returns-in_err-add_all_members-clause-spares g c =
-    let old = (g.T.OpenTransaction.held c.args.tx.now) in
-    let mid = (g.T.OpenTransaction.held c.clear_table.new.tx) in
-    spares_then g.S.Store old mid (g.T.OpenTransaction.held c.add_all_members.new.tx)
-    (spares_removed g.S.Store (codes "member") (λ _. true) old mid c.clear_table.ensures.survives c.clear_table.result c.clear_table.ensures.removed c.clear_table.ensures.failed) c.add_all_members.ensures.spares
-
-pub returns-in_err-add_all_members-clause-failed : goal.returns-in_err-add_all_members-clause-failed
-returns-in_err-add_all_members-clause-failed g c =
-    let old = (g.T.OpenTransaction.held c.args.tx.now) in
-    let mid = (g.T.OpenTransaction.held c.clear_table.new.tx) in
-    let new = (g.T.OpenTransaction.held c.add_all_members.new.tx) in
-    let rows = all_members (map item_shown c.args.items.now) in
-    let e = c.in_err-add_all_members.field-0.0 in
-    let one = wrote_removed g.S.Store (codes "member") (λ _. true) old mid c.clear_table.ensures.survives without_members members_cleared c.in_ok-clear_table.ensures.removed in
-    passed_on (FailsToWrite g.S.Store (members_anew (map item_shown c.args.items.now)) old new) e c.from_residual-in_err-add_all_members.result c.from_residual-in_err-add_all_members.ensures.1
-    (failed_after g.S.Store (clearing table.Member ∷ []) (map adding_member rows) without_members old mid new e one c.add_all_members.ensures.spares c.in_err-add_all_members.ensures.failed)

@@ -1,43 +1,37 @@
-use Rattle.std.proofs.Common.{map, ◌++◌}
-use Rattle.std.specs.Prelude.{flat_map}
+use Rattle.std.proofs.Common.{◌≡◌, map, ◌++◌, ◌∙◌}
+use Rattle.std.specs.Prelude.{flat_map, Option, option_map, option_copied}
 use Rattle.dict_catalogue.specs.Steps.{KeptFor}
 use Rattle.dict_catalogue.specs.Views.{item_shown, kept_shown}
-use Rattle.store_rows.specs.After.{installed_editions}
+use Rattle.store_tables.specs.Typed.{lent_header}
+use Rattle.store_rows.specs.After.{Installed, installed_editions}
 use Rattle.store_rows.specs.Versions.{known}
-use Rattle.store_commands.specs.Changes.{without_editions, with_reply}
+use Rattle.store_commands.specs.Changes.{installed_header, without_editions, with_reply}
 use Rattle.store_commands.specs.Statements.{summary_anew, taking, adding_edition, replying}
 use Rattle.store_commands.specs.Writes.{WroteStatements}
 use Rattle.store_commands.proofs.WriteLemmas.{Ends, behind, cut, failed_before, spares_then}
 use Rattle.store_commands.proofs.writing.write_rest.Goals as goal
 
-pub returns-clause-wrote : goal.returns-clause-wrote
-returns-clause-wrote g c = λ edition is.
-    let kept : KeptFor = record { id = c.args.id.now; reply = kept_shown c.args.change.now.kept } in
-    let gone : WroteStatements g.S.Store (flat_map taking c.args.change.now.gone.items) (without_editions c.args.change.now.gone.items) (g.T.OpenTransaction.held c.write_summary.new.tx)
-    (g.T.OpenTransaction.held c.take_editions.new.tx) = rw c.deref.ensures.value at c.in_default-take_editions.ensures.wrote in
-    let last : Ends g.S.Store (replying kept) (with_reply kept) (g.T.OpenTransaction.held c.add_header.new.tx) (g.T.OpenTransaction.held c.add_reply.new.tx) c.add_reply.result =
-    record { wrote = c.add_reply.ensures.wrote; failed = c.add_reply.ensures.failed; spares = c.add_reply.ensures.spares } in
-    (behind g.S.Store c.in_default.ensures.wrote c.write_summary.ensures.spares (behind g.S.Store gone c.take_editions.ensures.spares
-    (behind g.S.Store (c.in_default-add_header.ensures.wrote edition is) c.add_header.ensures.spares last))).wrote
-
-pub returns-clause-failed : goal.returns-clause-failed
-returns-clause-failed g c = λ edition is.
-    let kept : KeptFor = record { id = c.args.id.now; reply = kept_shown c.args.change.now.kept } in
-    let gone : WroteStatements g.S.Store (flat_map taking c.args.change.now.gone.items) (without_editions c.args.change.now.gone.items) (g.T.OpenTransaction.held c.write_summary.new.tx)
-    (g.T.OpenTransaction.held c.take_editions.new.tx) = rw c.deref.ensures.value at c.in_default-take_editions.ensures.wrote in
-    let last : Ends g.S.Store (replying kept) (with_reply kept) (g.T.OpenTransaction.held c.add_header.new.tx) (g.T.OpenTransaction.held c.add_reply.new.tx) c.add_reply.result =
-    record { wrote = c.add_reply.ensures.wrote; failed = c.add_reply.ensures.failed; spares = c.add_reply.ensures.spares } in
-    (behind g.S.Store c.in_default.ensures.wrote c.write_summary.ensures.spares (behind g.S.Store gone c.take_editions.ensures.spares
-    (behind g.S.Store (c.in_default-add_header.ensures.wrote edition is) c.add_header.ensures.spares last))).failed
-
-pub returns-clause-spares : goal.returns-clause-spares
-returns-clause-spares g c =
+pub returns : goal.returns
+returns g c =
     let s0 = (g.T.OpenTransaction.held c.write_summary.new.tx) in
     let s1 = (g.T.OpenTransaction.held c.take_editions.new.tx) in
     let s2 = (g.T.OpenTransaction.held c.add_header.new.tx) in
     let s3 = (g.T.OpenTransaction.held c.add_reply.new.tx) in
-    spares_then g.S.Store (g.T.OpenTransaction.held c.args.tx.now) s0 s3 c.write_summary.ensures.spares
-    (spares_then g.S.Store s0 s1 s3 c.take_editions.ensures.spares (spares_then g.S.Store s1 s2 s3 c.add_header.ensures.spares c.add_reply.ensures.spares))
+    let kept : KeptFor = record { id = c.args.id.now; reply = kept_shown c.args.change.now.kept } in
+    let numbers = c.args.change.now.gone.items in
+    let gone : WroteStatements g.S.Store (flat_map taking numbers) (without_editions numbers) s0 s1 = rw c.deref.ensures.value at c.in_default-take_editions.ensures.wrote in
+    let last : Ends g.S.Store (replying kept) (with_reply kept) s2 s3 c.add_reply.result = record { wrote = c.add_reply.ensures.wrote; failed = c.add_reply.ensures.failed; spares = c.add_reply.ensures.spares } in
+    let all = λ (edition : Option Installed) (is : installed_header edition ≡ option_map lent_header (option_copied c.args.header)). behind g.S.Store c.in_default.ensures.wrote c.write_summary.ensures.spares
+    (behind g.S.Store gone c.take_editions.ensures.spares (behind g.S.Store (c.in_default-add_header.ensures.wrote edition is) c.add_header.ensures.spares last)) in
+    record {
+      same_reference = c.add_reply.ensures.same_reference ∙ (c.add_header.ensures.same_reference ∙ (c.take_editions.ensures.same_reference ∙ c.write_summary.ensures.same_reference));
+      wrote = λ edition is. (all edition is).wrote;
+      sound = c.add_reply.ensures.sound;
+      inside = c.add_reply.ensures.inside;
+      failed = λ edition is. (all edition is).failed;
+      spares = spares_then g.S.Store (g.T.OpenTransaction.held c.args.tx.now) s0 s3 c.write_summary.ensures.spares
+          (spares_then g.S.Store s0 s1 s3 c.take_editions.ensures.spares (spares_then g.S.Store s1 s2 s3 c.add_header.ensures.spares c.add_reply.ensures.spares));
+    }
 
 -- ---- one of them failed
 

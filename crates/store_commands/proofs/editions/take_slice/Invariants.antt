@@ -7,7 +7,7 @@ use Rattle.store_commands.specs.KeptRecords.{IsUsable}
 use Rattle.store_commands.specs.Orphans.{parts_under}
 use Rattle.store_commands.specs.Writes.{WroteStatements, CommitsNothing}
 use Rattle.store_commands.proofs.PartLemmas.{behind, last_ones}
-use Rattle.store_commands.proofs.orphans.take_slice.Given as goal
+use Rattle.store_commands.proofs.editions.take_slice.Given as goal
 
 abbrev pub invariant-each : goal.invariant-each
 invariant-each g l =
