@@ -14,13 +14,13 @@ use Rattle.sqlite_trees.specs.declared.error.StoreError.TheVariants.{OutOfMemory
 use Rattle.store_tables.specs.Tables.{table_of}
 use Rattle.store_tables.specs.declared.tables.StoreTable.TheVariants.{Edition, Entry, Kept}
 use Rattle.store_sql.specs.Columns.{Content}
-use Rattle.store_sql.specs.Reads.{IsSelection, rowid_and_number}
+use Rattle.store_sql.specs.Reads.{IsListing, IsSelection, rowid_and_number}
 use Rattle.store_sql.specs.ChosenParts.{is_of_file}
-use Rattle.store_sql.specs.Streams.{Scan, FailsToMove}
-use Rattle.store_sql.specs.Streams as store
+use Rattle.store_sql.specs.Streams.{FailsToMove}
 use Rattle.store_scans.specs.Cursors.{Cursor, CursorHasGiven, IsScannedToEnd, IsFrontOfScan}
 use Rattle.store_scans.specs.Cursors.Cursor.{InStore, ShownEntriesOf, ShownEntriesByRowid, OldEntriesOf, OldEntriesByRowid, PartsOf, PartsByRowid, HeadersByRowid}
-use Rattle.store_scans.proofs.CursorLemmas.{fails_to_move}
+use Rattle.store_scans.proofs.CursorLemmas.{reads}
+use Rattle.store_sql.proofs.ScanLemmas.{fails_to_advance}
 use Rattle.store_sql.specs.Streams.Scan.{EntriesOf, AllKept, KeptById, ByRowid, EditionNumbers}
 use Rattle.store_tables.specs.Effects.{rows_of, equals_number, FailsToRead}
 use Rattle.store_sql.specs.declared.records.ReadError.{ReadError}
@@ -51,7 +51,7 @@ told_cause old new e fault is failed = subst (IsExcusedReading old new) (sym is)
 pub next_cause : {S : Type 0} (g : Ghosts S) (columns : List Content) (what : Cursor) (old new : Held S) (given : List Row) (e : ReadError) → CursorHasGiven g what old given → FailsToMove g columns old new e
     → IsExcusedReading (state g old) (state g new) (reading_fault_of e)
 next_cause g columns what old new given NoRecord h m = tt
-next_cause g columns what old new given (Store e) h (inl fails) = store_cause (state g old) (state g new) e (fails_to_move g what old new given e h fails.0)
+next_cause g columns what old new given (Store e) h (inl fails) = store_cause (state g old) (state g new) e (fails_to_advance (reads what) g old new given e h fails.0)
 next_cause g columns what old new given (Store e) h (inr refused) = subst (λ e. IsExcusedReading (state g old) (state g new) (fault_of_store e)) (sym refused.0) tt
 
 pub rows_cause : (old new : State) (fault : RowsFault) → IsExcusedReading old new (fault_of_rows fault)
@@ -77,33 +77,27 @@ few_passed test (x ∷ xs) = by_test (test x) (few_passed test xs)
     by_test true few = omega (arith, few)
     by_test false few = omega (arith, few)
 
-store_vast : (what : Scan) (db : Database) (rows : List Row) → store.IsWhole what db rows → 18446744073709551615 ≤ length rows → IsVast db
-store_vast (EntriesOf number) db rows whole many =
-    inl (Entry, let size = length_permutation (filter (equals_number 1 number) (rows_of (codes "entry") db)) rows whole.same in let few = few_passed (equals_number 1 number) (rows_of (codes "entry") db) in omega (arith, size, few, many))
-store_vast AllKept db rows whole many = inl (Kept, let size = length_permutation (rows_of (codes "kept") db) rows whole.same in omega (arith, size, many))
-store_vast KeptById db rows whole many = inl (Kept, let size = length_permutation (rows_of (codes "kept") db) rows whole.same in omega (arith, size, many))
-store_vast (ByRowid table) db rows whole many = inl (table, let size = length_permutation (rows_of (table_of table 0).name db) rows whole.same in omega (arith, size, many))
-store_vast EditionNumbers db rows whole many =
-    inl (Edition, let size = length_permutation (map rowid_and_number (rows_of (codes "edition") db)) rows whole.same in let each = length-map (rows_of (codes "edition") db) rowid_and_number in omega (arith, size, each, many))
+-- those of a query that shows some rows of a table, or all of them
+selected_vast : (name : List ℕ) (test : Row → Bool) (order : List ℕ) (db : Database) (rows : List Row) → IsSelection name test order db rows → 18446744073709551615 ≤ length rows → 18446744073709551615 ≤ length (rows_of name db)
+selected_vast name test order db rows whole many = let size = length_permutation (filter test (rows_of name db)) rows whole.same in let few = few_passed test (rows_of name db) in omega (arith, size, few, many)
 
--- some of the rows of a table of entries, or of parts
-entries_vast : (test : Row → Bool) (order : List ℕ) (db : Database) (rows : List Row) → IsSelection (codes "entry") test order db rows → 18446744073709551615 ≤ length rows → IsVast db
-entries_vast test order db rows whole many =
-    inl (Entry, let size = length_permutation (filter test (rows_of (codes "entry") db)) rows whole.same in let few = few_passed test (rows_of (codes "entry") db) in omega (arith, size, few, many))
-
-parts_vast : (test : Row → Bool) (order : List ℕ) (db : Database) (rows : List Row) → IsSelection (codes "dictcat_part") test order db rows → 18446744073709551615 ≤ length rows → IsVast db
-parts_vast test order db rows whole many =
-    inr (let size = length_permutation (filter test (rows_of (codes "dictcat_part") db)) rows whole.same in let few = few_passed test (rows_of (codes "dictcat_part") db) in omega (arith, size, few, many))
+listed_vast : (name : List ℕ) (order : List ℕ) (db : Database) (rows : List Row) → IsListing name order db rows → 18446744073709551615 ≤ length rows → 18446744073709551615 ≤ length (rows_of name db)
+listed_vast name order db rows whole many = let size = length_permutation (rows_of name db) rows whole.same in omega (arith, size, many)
 
 whole_vast : (what : Cursor) (db : Database) (rows : List Row) → IsScannedToEnd what db rows → 18446744073709551615 ≤ length rows → IsVast db
-whole_vast (InStore scan) db rows whole many = store_vast scan db rows whole many
-whole_vast (ShownEntriesOf edition) db rows whole many = entries_vast (equals_number 1 edition) (2 ∷ []) db rows whole many
-whole_vast ShownEntriesByRowid db rows whole many = entries_vast (λ _. true) (0 ∷ []) db rows whole many
-whole_vast (OldEntriesOf edition) db rows whole many = entries_vast (equals_number 1 edition) (2 ∷ []) db rows whole many
-whole_vast OldEntriesByRowid db rows whole many = entries_vast (λ _. true) (0 ∷ []) db rows whole many
-whole_vast (PartsOf edition file) db rows whole many = parts_vast (is_of_file edition file) (3 ∷ []) db rows whole many
-whole_vast PartsByRowid db rows whole many = parts_vast (λ _. true) (0 ∷ []) db rows whole many
-whole_vast HeadersByRowid db rows whole many = inl (Edition, let size = length_permutation (rows_of (codes "edition") db) rows whole.same in omega (arith, size, many))
+whole_vast (InStore (EntriesOf number)) db rows whole many = inl (Entry, selected_vast (codes "entry") (equals_number 1 number) (2 ∷ []) db rows whole many)
+whole_vast (InStore AllKept) db rows whole many = inl (Kept, listed_vast (codes "kept") (2 ∷ []) db rows whole many)
+whole_vast (InStore KeptById) db rows whole many = inl (Kept, listed_vast (codes "kept") (1 ∷ []) db rows whole many)
+whole_vast (InStore (ByRowid table)) db rows whole many = inl (table, listed_vast (table_of table 0).name (0 ∷ []) db rows whole many)
+whole_vast (InStore EditionNumbers) db rows whole many =
+    inl (Edition, let size = length_permutation (map rowid_and_number (rows_of (codes "edition") db)) rows whole.same in let each = length-map (rows_of (codes "edition") db) rowid_and_number in omega (arith, size, each, many))
+whole_vast (ShownEntriesOf edition) db rows whole many = inl (Entry, selected_vast (codes "entry") (equals_number 1 edition) (2 ∷ []) db rows whole many)
+whole_vast ShownEntriesByRowid db rows whole many = inl (Entry, selected_vast (codes "entry") (λ _. true) (0 ∷ []) db rows whole many)
+whole_vast (OldEntriesOf edition) db rows whole many = inl (Entry, selected_vast (codes "entry") (equals_number 1 edition) (2 ∷ []) db rows whole many)
+whole_vast OldEntriesByRowid db rows whole many = inl (Entry, selected_vast (codes "entry") (λ _. true) (0 ∷ []) db rows whole many)
+whole_vast (PartsOf edition file) db rows whole many = inr (selected_vast (codes "dictcat_part") (is_of_file edition file) (3 ∷ []) db rows whole many)
+whole_vast PartsByRowid db rows whole many = inr (selected_vast (codes "dictcat_part") (λ _. true) (0 ∷ []) db rows whole many)
+whole_vast HeadersByRowid db rows whole many = inl (Edition, listed_vast (codes "edition") (0 ∷ []) db rows whole many)
 
 pub front_vast : (what : Cursor) (db : Database) (rows : List Row) → IsFrontOfScan what db rows → 18446744073709551615 ≤ length rows → IsVast db
 front_vast what db rows front many = whole_vast what db (rows ++ front.0) front.1 (let size = length-append rows front.0 in omega (arith, size, many))
@@ -117,5 +111,5 @@ cause_passed old new fault result is h = passed_on (IsExcusedReading old new) fa
 pub move_stays : {S : Type 0} (g : Ghosts S) (columns : List Content) (what : Cursor) (old new : Held S) (given : List Row) (e : ReadError) → CursorHasGiven g what old given → FailsToMove g columns old new e
     → StaysUnlessShut (state g old) (state g new)
 move_stays g columns what old new given NoRecord h (row, same, moved, none) = same_stays (state g old) (state g new) (same_as (state g old) (state g new) same)
-move_stays g columns what old new given (Store e) h (inl fails) = failed_stays (state g old) (state g new) e (fails_to_move g what old new given e h fails.0)
+move_stays g columns what old new given (Store e) h (inl fails) = failed_stays (state g old) (state g new) e (fails_to_advance (reads what) g old new given e h fails.0)
 move_stays g columns what old new given (Store e) h (inr (refused, row, same, moved)) = same_stays (state g old) (state g new) (same_as (state g old) (state g new) same)

@@ -1,5 +1,5 @@
 -- What follows where a record of a scan isn't taken.
-use Rattle.std.proofs.Common.{◌≡◌, List, [], ◌∷◌, ◌++◌, map, inr, sym, subst}
+use Rattle.std.proofs.Common.{◌≡◌, List, [], ◌∷◌, ◌++◌, map, Some, inr, sym, subst}
 use Rattle.std.proofs.lemmas.List.{map-append}
 use Rattle.sqlite.specs.Order.{Row}
 use Rattle.sqlite.specs.Effect.{Database}
@@ -8,7 +8,8 @@ use Rattle.sqlite.specs.Held.{Held, state}
 use Rattle.sqlite_trees.specs.declared.store.Store.{Ghosts}
 use Rattle.store_sql.specs.Columns.{Content}
 use Rattle.store_scans.specs.Cursors.{Cursor, CursorHasGiven, IsFrontOfScan}
-use Rattle.store_scans.proofs.CursorLemmas.{front_of, no_record}
+use Rattle.store_scans.proofs.CursorLemmas.{reads}
+use Rattle.store_sql.proofs.ScanLemmas.{gives_on}
 use Rattle.store_sql.specs.Streams.{FailsToMove}
 use Rattle.store_sql.specs.declared.records.ReadError.{ReadError}
 use Rattle.store_sql.specs.declared.records.ReadError.TheVariants.{NoRecord, Store}
@@ -31,7 +32,7 @@ refused_next g stored columns refuses what first given r old new same gave wrong
     inr (
       given ++ r ∷ [],
       subst (IsFrontOfScan what (state g old).now) (sym (map-append stored given (r ∷ [])))
-          (subst (λ (d : Database). IsFrontOfScan what d (map stored given ++ stored r ∷ [])) same.0.now_is (front_of g what new (map stored given ++ stored r ∷ []) gave)),
+          (subst (λ (d : Database). IsFrontOfScan what d (map stored given ++ stored r ∷ [])) same.0.now_is gave.front),
       wrong,
     )
 
@@ -43,9 +44,9 @@ no_damage e is = absurd (cc)
 
 pub no_record_next : {S R : Type 0} (g : Ghosts S) (stored : R → Row) (columns : List Content) (what : Cursor) (given : List R) (old new : Held S) (e : ReadError) → reading_fault_of e ≡ Damaged
     → CursorHasGiven g what old (map stored given) → FailsToMove g columns old new e → HasNoRecordIn stored columns what (state g old).now
-no_record_next g stored columns what given old new NoRecord is h moved =
-    let it = no_record g old new (map stored given) columns what h moved in
-    (given, it.0, subst (λ (d : Database). IsFrontOfScan what d (map stored given ++ it.0 ∷ [])) it.1.0.now_is (front_of g what new (map stored given ++ it.0 ∷ []) it.2), it.3)
+no_record_next g stored columns what given old new NoRecord is h (row, same, moved, none) =
+    let gave = gives_on (reads what) g old new (map stored given) (Some row) same h moved in
+    (given, row, subst (λ (d : Database). IsFrontOfScan what d (map stored given ++ row ∷ [])) same.0.now_is gave.front, none)
 no_record_next g stored columns what given old new (Store e) is h moved = absurd (no_damage e is)
 
 pub taken_more : {S R T : Type 0} (g : Ghosts S) (stored : R → Row) (takes : T → List R → T → Type 0) (what : Cursor) (first : T) (given : List R) (r : R) (new : Held S) (last : T)

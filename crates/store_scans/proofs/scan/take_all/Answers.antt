@@ -3,7 +3,6 @@ use Rattle.sqlite.specs.Effect.{Database}
 use Rattle.sqlite.specs.State.{HasCleanDisk}
 use Rattle.sqlite.specs.Held.{state}
 use Rattle.store_scans.specs.Cursors.{Cursor, CursorHasGiven, IsScannedToEnd}
-use Rattle.store_scans.proofs.CursorLemmas.{front_of}
 use Rattle.store_sql.proofs.StreamLemmas.{passed_on}
 use Rattle.store_scans.specs.declared.fault.ReadingFault.{ReadingFault}
 use Rattle.store_scans.specs.declared.fault.ReadingFault.TheVariants.{Damaged}
@@ -75,4 +74,4 @@ returns-clause-failed g c clean what h =
     let size = length-map had.0 g.R.Record.stored in
     let turns = had.2 in
     inr (inr (inr (subst IsVast (c.rows.invariant.same clean).now (front_vast what (state g.S.Store c.rows.rows.conn.now).now (map g.R.Record.stored had.0)
-    (front_of g.S.Store what c.rows.rows.conn.now (map g.R.Record.stored had.0) had.1.given_are) (omega (arith, size, turns))))))
+    had.1.given_are.front (omega (arith, size, turns))))))
