@@ -1,27 +1,30 @@
 -- A migration that failed behind a reading, told of the database as it was before.
-use Rattle.std.proofs.Common.{◌≡◌, ◌⊎◌, inl, inr, ℕ, true, List, sym, ap, subst, refl}
+use Rattle.std.proofs.Common.{◌≡◌, ◌⊎◌, inl, inr, ℕ, true, List, map, pos, sym, ap, subst, refl}
 use Rattle.std.proofs.lemmas.Bool.{false≢true}
 use Rattle.sqlite.specs.Effect.{Database}
 use Rattle.sqlite.specs.Held.{Held, state}
 use Rattle.sqlite.specs.State.{Survives}
 use Rattle.sqlite.proofs.StateLemmas.{survives_then}
 use Rattle.sqlite_trees.specs.declared.store.Store.{Ghosts}
-use Rattle.dict_catalogue.specs.Steps.{Catalogue}
+use Rattle.dict_catalogue.specs.Items.{edition_numbers}
 use Rattle.dict_catalogue.specs.Tests.{Holdings}
 use Rattle.dict_desk.specs.Faults.{is_disk}
 use Rattle.dict_desk.specs.declared.fault.Fault.{Fault}
 use Rattle.dict_desk.specs.declared.fault.Fault.TheVariants.{Disk}
+use Rattle.store_holdings.specs.Faults.{fault_of_read}
 use Rattle.store_holdings.specs.Holds.{Holds}
-use Rattle.store_migration.specs.Failing.{MigrationFailsAtLast, MigrationFailsBefore, FailsToMigrate, FailsToMoveEditions, IsBeyond}
+use Rattle.store_holdings.specs.Writing.{FailsBefore}
+use Rattle.store_migration.specs.Failing.{MigrationFailsInside, FailsToMigrate, FailsToMoveEditions, IsBeyond}
 use Rattle.store_migration.specs.FailurePlaces.{FailurePlace}
-use Rattle.store_rows.specs.Versions.{known}
+use Rattle.store_migration.specs.Moved.{IsRenewed}
 
 module _ {S : Type 0} (g : Ghosts S) (conn read left : Held S) (survives : Survives (state g conn) (state g read) (λ _. ⊥)) where
   -- the same, where a transaction was begun on both
   begun : Survives (state g (record conn { in_transaction = true })) (state g (record read { in_transaction = true })) (λ _. ⊥)
   begun = record { clean = survives.clean; shield = survives.shield; counts = survives.counts; limit = survives.limit; closes = survives.closes; crash = survives.crash }
 
-  before_read : (P : FailurePlace) (fault : Fault) → (state g read).now ≡ (state g conn).now → MigrationFailsBefore g P read left fault → MigrationFailsBefore g P conn left fault
+  before_read : (P : FailurePlace) (fault : Fault) → (state g read).now ≡ (state g conn).now → FailsBefore g fault_of_read (MigrationFailsInside g P) read left fault
+      → FailsBefore g fault_of_read (MigrationFailsInside g P) conn left fault
   before_read P fault same h = record {
     error = h.error;
     told = h.told;
@@ -38,17 +41,6 @@ module _ {S : Type 0} (g : Ghosts S) (conn read left : Held S) (survives : Survi
     undone = h.undone;
   }
 
-  at_last_read : (version : ℕ) (fault : Fault) → (state g read).committed ≡ (state g conn).committed → MigrationFailsAtLast g (λ db. (M : Catalogue) → Holds version (state g read).committed M → Holds known db M) read left fault
-      → MigrationFailsAtLast g (λ db. (M : Catalogue) → Holds version (state g conn).committed M → Holds known db M) conn left fault
-  at_last_read version fault committed h = record {
-    told = h.told;
-    last = h.last;
-    before = survives_then (state g conn) (state g read) (state g h.last) (λ _. ⊥) (λ _. ⊥) (λ _. ⊥) (λ _ db none. none) (λ _ db none. none) survives h.before;
-    written = λ M held. h.written M (subst (λ (d : Database). Holds version d M) (sym committed) held);
-    error = h.error;
-    fails = h.fails;
-  }
-
   moves_read : (version : ℕ) (summary : Holdings (List ℕ)) (fault : Fault) → (state g read).now ≡ (state g conn).now → (state g read).committed ≡ (state g conn).committed
       → FailsToMoveEditions g version summary read left fault → FailsToMoveEditions g version summary conn left fault
   moves_read version summary fault same committed h = record {
@@ -56,7 +48,15 @@ module _ {S : Type 0} (g : Ghosts S) (conn read left : Held S) (survives : Survi
     layout = h.layout;
     why = elim h.why [
       | inl before ↦ inl (before_read _ fault same before)
-      | inr last ↦ inr (at_last_read version fault committed last)
+      | inr l ↦ inr (record {
+        told = l.told;
+        last = l.last;
+        ran = subst (λ (db : Database). IsRenewed h.older (map pos (edition_numbers summary.items)) summary.installs db (state g l.last).now) same l.ran;
+        before = survives_then (state g conn) (state g read) (state g l.last) (λ _. ⊥) (λ _. ⊥) (λ _. ⊥) (λ _ db none. none) (λ _ db none. none) survives l.before;
+        written = λ M held. l.written M (subst (λ (d : Database). Holds version d M) (sym committed) held);
+        error = l.error;
+        fails = l.fails;
+      })
     ];
   }
 

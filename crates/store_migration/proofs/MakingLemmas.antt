@@ -1,9 +1,7 @@
 -- The empty tables of the known version, made one after the other.
-use Rattle.std.proofs.Common.{◌≡◌, ◌++◌, ◌∙◌, ℕ, false, true, List, [], ◌∷◌, map, drop, codes, inl, inr, refl, sym, subst, rules}
+use Rattle.std.proofs.Common.{◌≡◌, ◌∙◌, ℕ, false, true, List, [], ◌∷◌, map, drop, codes, refl, sym, subst, rules}
 use Rattle.std.specs.List.Sorted.{IsPermutation}
 use Rattle.std.proofs.lemmas.List.Sorted.{IsPermutation-refl}
-use Rattle.sqlite.specs.declared.error.Error.{Error}
-use Rattle.sqlite_trees.specs.declared.store.Store.{Ghosts}
 use Rattle.sqlite_schema.specs.Names.{same_name}
 use Rattle.dict_catalogue.specs.Steps.{empty_catalogue}
 use Rattle.dict_catalogue.proofs.WellFormedLemmas.{empty_well_formed}
@@ -13,8 +11,6 @@ use Rattle.store_tables.specs.declared.tables.StoreTable.{StoreTable}
 use Rattle.store_tables.specs.declared.tables.StoreTable.TheVariants.{Mark, Item, Member, Edition, Kept}
 use Rattle.store_tables.proofs.MadeLemmas.{room_for}
 use Rattle.store_tables.specs.Creates.{AreApart, AreMade}
-use Rattle.store_sql.specs.Statements as sql
-use Rattle.store_sql.specs.Statements.{Statement}
 use Rattle.store_tables.proofs.MakeLemmas.{all_made, one_leaves, turn_counted, turn_leaves, turn_sound}
 use Rattle.store_sql.proofs.HeaderDefinitionLemmas.{apart_as}
 use Rattle.store_sql.proofs.PartDefinitionLemmas.{from_store as part_apart}
@@ -25,27 +21,10 @@ use Rattle.store_holdings.specs.Readings.{TableReading, KeepsRows, table_name_of
 use Rattle.store_holdings.specs.Holds.{HasPlace, Holds}
 use Rattle.store_holdings.proofs.KeepLemmas.{keeps_added, keeps_none}
 use Rattle.store_holdings.proofs.OrphanLemmas.{no_orphans}
-use Rattle.store_migration.specs.Making.{CreationStep, one, StepsRunInTurn, StepsFailInTurn, lasting_tables}
-use Rattle.store_migration.proofs.KitLemmas.{Database, IsDatabase, Held, Table, IsDefinition, HasOwn, mark, item, member, kept, table_of, store_defined, IsFree, IsMade, MadeInTurn, HasApartRowids, IsAdded, rows_of, apart_none, own_in}
+use Rattle.store_migration.specs.Making.{lasting_tables}
+use Rattle.store_migration.proofs.KitLemmas.{Database, IsDatabase, Table, IsDefinition, HasOwn, mark, item, member, kept, table_of, store_defined, IsFree, IsMade, MadeInTurn, HasApartRowids, IsAdded, rows_of, apart_none, own_in}
 use Rattle.store_migration.proofs.KitLemmas.{one_keeps, one_own, one_rows, header, header_defined, part, part_defined, mark_row, mark_record}
 use Rattle.store_migration.proofs.SpareLemmas.{apart_mark, others_rows, own_still}
-
--- ---- steps, one after the other
-
--- statements are steps, before others
-module _ {S : Type 0} (g : Ghosts S) (back : List CreationStep) where
-  pub ones_run : (statements : List Statement) (old mid new : Held S) → sql.RunInTurn g statements old mid → StepsRunInTurn g back mid new → StepsRunInTurn g (map one statements ++ back) old new
-  ones_run [] old mid new ran rest = subst (λ h. StepsRunInTurn g back h new) ran rest
-  ones_run (s ∷ ss) old mid new ran rest = (ran.0, ran.1, ones_run ss ran.0 mid new ran.2 rest)
-
-  pub ones_fail : (statements : List Statement) (old new : Held S) (e : Error) → sql.FailsInTurn g statements old new e → StepsFailInTurn g (map one statements ++ back) old new e
-  ones_fail [] old new e h = absurd h
-  ones_fail (s ∷ ss) old new e (inl h) = inl h
-  ones_fail (s ∷ ss) old new e (inr h) = inr (h.0, h.1, ones_fail ss h.0 new e h.2)
-
-  pub fails_behind : (statements : List Statement) (old mid new : Held S) (e : Error) → sql.RunInTurn g statements old mid → StepsFailInTurn g back mid new e → StepsFailInTurn g (map one statements ++ back) old new e
-  fails_behind [] old mid new e ran h = subst (λ s. StepsFailInTurn g back s new e) ran h
-  fails_behind (s ∷ ss) old mid new e ran h = inr (ran.0, ran.1, fails_behind ss ran.0 mid new e ran.2 h)
 
 -- ---- what is made first leaves room for the others
 

@@ -17,7 +17,7 @@ use Rattle.store_tables.specs.declared.records.EntryRecord.{EntryRecord as Typed
 use Rattle.store_tables.specs.declared.records.StoredRow.{StoredRow}
 use Rattle.store_sql.specs.HeaderRecords.{header_row}
 use Rattle.store_sql.specs.Encodings.{stored_edition, stored_entry}
-use Rattle.store_sql.specs.Keyed.{stored_keyed_entry, stored_old_entry}
+use Rattle.store_sql.specs.Keyed.{entry_without_keys, stored_keyed_entry, stored_old_entry}
 use Rattle.store_sql.specs.Reads.{IsSelection, by_columns}
 use Rattle.store_holdings.specs.Readings.{AreShownIn}
 use Rattle.store_holdings.proofs.ReadingLemmas.{map_twice}
@@ -27,7 +27,6 @@ use Rattle.store_holdings.proofs.ReadLemmas.{sorted_order, one_le, records_order
 use Rattle.store_migration.specs.Older.{older_entry_cells, layout_as, looked_at}
 use Rattle.store_migration.specs.MigrationParts.{HasNotOne}
 use Rattle.store_migration.specs.Steps.{AreEntriesOf, IsEditionOf, edition_rows, entry_rows}
-use Rattle.store_migration.specs.Written.{shown_entry}
 use Rattle.store_migration.specs.declared.older.Older.{Older}
 use Rattle.store_migration.specs.declared.older.Older.TheVariants.{Plain, Keyed, Shown}
 use Rattle.store_migration.proofs.KitLemmas.{Database, equals_number, Row, EditionRecord, EntryRecord, edition_row}
@@ -64,7 +63,7 @@ abbrev pub keyed_of : KeyedRow → EntryRecord
 keyed_of row = plain_entry (owned_old_entry row.value)
 
 abbrev pub shown_of : ShownRow → EntryRecord
-shown_of row = shown_entry (owned_keyed_entry row.value)
+shown_of row = entry_without_keys (owned_keyed_entry row.value)
 
 -- each of those whose headword is shown
 headwords : {X : Type 0} (entry : X → EntryRecord) → ((x : X) → ShowsHeadword (entry x)) → (all : List X) → AllByRecursion ShowsHeadword (map entry all)

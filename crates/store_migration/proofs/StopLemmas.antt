@@ -1,9 +1,9 @@
 -- What a migration makes, and what a stop in it leaves.
-use Rattle.std.proofs.Common.{◌≡◌, ◌↔◌, ℕ, List, [], sym, subst, inl, inr, arith, ◌∙◌, ◌<◌, ◌≤◌, ℤ, pos, true, false, map, Some, None, ap}
+use Rattle.std.proofs.Common.{◌≡◌, ◌↔◌, ℕ, List, [], refl, sym, subst, inl, inr, arith, ◌∙◌, ◌<◌, ◌≤◌, ℤ, pos, true, false, map, Some, None, ap}
 use Rattle.std.specs.Prelude.{IsTrue, Option, Some, None}
 use Rattle.std.specs.List.{Contains}
 use Rattle.sqlite.specs.Tree.{Trees}
-use Rattle.sqlite.specs.State.{Shows, Fails, IsLive}
+use Rattle.sqlite.specs.State.{Shows, Fails, IsLive, IsRolledBack}
 use Rattle.dict_catalogue.specs.Steps.{Catalogue, summary_of}
 use Rattle.store_rows.specs.Versions.{known, IsVersion, Layout, layout_of}
 use Rattle.store_holdings.specs.AllTables.{as_version, with_derived}
@@ -23,7 +23,9 @@ use Rattle.dict_index.specs.Edition.{Edition}
 use Rattle.dict_catalogue.specs.Items.{edition_numbers}
 use Rattle.dict_catalogue.specs.Tests.{Holdings}
 use Rattle.store_holdings.specs.Committed.{IsCommitted, IsTreesOf}
-use Rattle.store_holdings.specs.Writing.{StaysCommitted}
+use Rattle.dict_desk.specs.declared.fault.Fault.{Fault}
+use Rattle.dict_desk.specs.declared.fault.Fault.TheVariants.{Disk}
+use Rattle.store_holdings.specs.Writing.{StaysCommitted, FailsBefore, FailsAtLast}
 use Rattle.store_holdings.proofs.CommitLemmas.{leaves, done, only_left, commit_fails, keeps_begun, stays_undone}
 use Rattle.store_migration.specs.Moved.{IsOutcome}
 use Rattle.store_migration.specs.Older.{IsOld, layout_before}
@@ -134,14 +136,28 @@ module _ {version : ℕ} {older : Option Older} (is : layout_of version ≡ layo
       let it = start made.was_open in
       subst (λ (d : Database). SparesOthers d new) it.1.settled (others_renewed older numbers summary.installs s.now new (is_old version older is s it.0 it.1 (live made.was_open).0) made.moved)
 
+-- ---- a transaction of which a part failed, rolled back
+
+pub ends_undone : {S E : Type 0} (g : Ghosts S) (tell : E → Fault) (FailsWithin : Held S → Held S → E → Type 0) (old mid : Held S) {begun end new : Held S} (e : E) {fault : Fault} → begun ≡ record old { in_transaction = true }
+    → Survives (state g mid) (state g end) (λ _. ⊥) → (HasCleanDisk (state g end) → IsRolledBack (state g mid) (state g end)) → end ≡ new → fault ≡ tell e → (HasCleanDisk (state g mid) → FailsWithin begun mid e)
+    → HasCleanDisk (state g new) → FailsBefore g tell FailsWithin old new fault
+ends_undone g tell FailsWithin old mid e {fault = fault} begins after undone same told within = subst (λ h. HasCleanDisk (state g h) → FailsBefore g tell FailsWithin old h fault) same (λ clean. record {
+  error = e;
+  told = told;
+  last = mid;
+  within = subst (λ h. FailsWithin h mid e) begins (within (was_clean after clean));
+  after = after;
+  undone = undone clean;
+})
+
 -- ---- the commit of a transaction, which leaves one state at its end
 
 module _ {S : Type 0} (g : Ghosts S) (P : Database → Type 0) (old mid : Held S) {begun end new : Held S} (begins : begun ≡ record old { in_transaction = true }) (one : Survives (state g begun) (state g mid) (λ _. ⊥))
     (two : Survives (state g mid) (state g end) (λ trees. trees ≡ (state g mid).now.trees)) (same : end ≡ new) where
-  pub ends_before : HasCleanDisk (state g new) → HasCleanDisk (state g mid)
+  ends_before : HasCleanDisk (state g new) → HasCleanDisk (state g mid)
   ends_before clean = was_clean two (subst (λ h. HasCleanDisk (state g h)) (sym same) clean)
 
-  pub begins_before : Survives (state g old) (state g mid) (λ _. ⊥)
+  begins_before : Survives (state g old) (state g mid) (λ _. ⊥)
   begins_before = survives_begin g old (state g mid) (λ _. ⊥) (subst (λ h. Survives (state g h) (state g mid) (λ _. ⊥)) begins one)
 
   module _ (made : HasCleanDisk (state g mid) → P (state g mid).now × IsDatabase (state g mid).now) where
@@ -158,8 +174,19 @@ module _ {S : Type 0} (g : Ghosts S) (P : Database → Type 0) (old mid : Held S
     })
 
   module _ {e : Error} (inside : HasCleanDisk (state g mid) → (state g mid).in_transaction ≡ true) (failed : HasCleanDisk (state g end) → FailsToCommit (state g mid) (state g end) e) where
-    pub ends_failed : HasCleanDisk (state g new) → Fails (state g mid) (state g new) ⊥ e
+    ends_failed : HasCleanDisk (state g new) → Fails (state g mid) (state g new) ⊥ e
     ends_failed = subst (λ h. HasCleanDisk (state g h) → Fails (state g mid) (state g h) ⊥ e) same (λ clean. commit_fails (state g mid) (state g end) e (inside (was_clean two clean)) (failed clean))
+
+    pub ends_at_last : (Runs : Held S → Held S → Type 0) → (HasCleanDisk (state g mid) → Runs begun mid) → (HasCleanDisk (state g mid) → P (state g mid).now) → HasCleanDisk (state g new) → FailsAtLast g Runs P old new Disk
+    ends_at_last Runs ran written clean = record {
+      told = refl;
+      last = mid;
+      ran = subst (λ h. Runs h mid) begins (ran (ends_before clean));
+      before = begins_before;
+      written = written (ends_before clean);
+      error = e;
+      fails = ends_failed clean;
+    }
 
     pub ends_stays : (HasCleanDisk (state g mid) → KeepsCommit (state g begun) (state g mid)) → HasCleanDisk (state g new) → StaysCommitted (state g old) (state g new)
     ends_stays keeps clean = stays_undone (state g old) (state g mid) (state g new) (keeps_begun g old begun (state g mid) begins (keeps (ends_before clean))) (ends_failed clean).3

@@ -1,10 +1,9 @@
 -- Why nothing comes of a migration.
-use Rattle.std.specs.Prelude.{◌≡◌, ◌⊎◌, ◌≤◌, ℕ, true, List, map, pos, Option}
+use Rattle.std.specs.Prelude.{◌≡◌, ◌⊎◌, ◌≤◌, ℕ, ℤ, true, List, map, pos, Option}
 use Rattle.std.specs.List.{AllByRecursion}
 use Rattle.sqlite.specs.Effect.{Database}
-use Rattle.sqlite.specs.State.{Survives, Fails, IsRolledBack}
+use Rattle.sqlite.specs.State.{Survives}
 use Rattle.sqlite.specs.Held.{Held, state}
-use Rattle.sqlite.specs.declared.error.Error.{Error}
 use Rattle.sqlite.specs.declared.error.Error.TheVariants.{SqliteFailure}
 use Rattle.sqlite.specs.declared.error.ErrorCode.TheVariants.{OutOfMemory}
 use Rattle.sqlite_trees.specs.declared.store.Store.{Ghosts}
@@ -18,10 +17,12 @@ use Rattle.dict_catalogue.specs.Tests.{Holdings}
 use Rattle.store_rows.specs.Versions.{known, layout_of}
 use Rattle.store_holdings.specs.Faults.{fault_of_read}
 use Rattle.store_holdings.specs.Holds.{Holds}
+use Rattle.store_holdings.specs.Writing.{TransactionFailsToEnd}
 use Rattle.store_migration.specs.declared.older.Older.{Older}
 use Rattle.store_migration.specs.Older.{layout_before}
 use Rattle.store_migration.specs.MigrationParts.{MigrationPart, FailsBy}
 use Rattle.store_migration.specs.FailurePlaces.{FailurePlace, InRenewal}
+use Rattle.store_migration.specs.Moved.{IsRenewed}
 
 -- one of the numbers is above all that a column holds, or a growth was refused
 abbrev pub FailsToSign : List ℕ → ReadError → Type 0
@@ -43,28 +44,11 @@ module _ {S : Type 0} (g : Ghosts S) where
     pub place : P part (state g old).now (state g at).now
     pub fails : FailsBy part (state g at) (state g new) e
 
-  -- A transaction was begun, and a part of it failed at one of these places; then it was rolled back. The fault is that of the error.
-  pub record MigrationFailsBefore (P : FailurePlace) (old new : Held S) (fault : Fault) : Type 0 where
-    pub error : ReadError
-    pub told : fault ≡ fault_of_read error
-    pub last : Held S
-    pub within : MigrationFailsInside P (record old { in_transaction = true }) last error
-    pub after : Survives (state g last) (state g new) (λ _. ⊥)
-    pub undone : IsRolledBack (state g last) (state g new)
-
-  -- A transaction was begun, and all was done, so that P holds of the database; then its commit failed, for whatever cause. The
-  -- fault is `Disk`.
-  pub record MigrationFailsAtLast (P : Database → Type 0) (old new : Held S) (fault : Fault) : Type 0 where
-    pub told : fault ≡ Disk
-    pub last : Held S
-    pub before : Survives (state g old) (state g last) (λ _. ⊥)
-    pub written : P (state g last).now
-    pub error : Error
-    pub fails : Fails (state g last) (state g new) ⊥ error
-
-  -- either
-  abbrev pub MigrationFailsToEnd : FailurePlace → (Database → Type 0) → Held S → Held S → Fault → Type 0
-  MigrationFailsToEnd P W old new fault = MigrationFailsBefore P old new fault ⊎ MigrationFailsAtLast W old new fault
+  -- A transaction was begun, and a part of the renewal of these editions failed in it, and it was rolled back; or all was renewed, so
+  -- that P holds of the database, and its commit failed.
+  abbrev pub MigrationFailsToEnd : Option Older → List ℤ → ℕ → (Database → Type 0) → Held S → Held S → Fault → Type 0
+  MigrationFailsToEnd older numbers installs P =
+      TransactionFailsToEnd g fault_of_read (MigrationFailsInside (InRenewal older numbers installs)) (λ begun last. IsRenewed older numbers installs (state g begun).now (state g last).now) P
 
   -- Nothing was begun: a growth was refused, or a number of the summary is above all that a column holds.
   pub record MigrationIsNotBegun (summary : Holdings (List ℕ)) (old new : Held S) (fault : Fault) : Type 0 where
@@ -77,7 +61,7 @@ module _ {S : Type 0} (g : Ghosts S) where
   pub record FailsToMoveEditions (version : ℕ) (summary : Holdings (List ℕ)) (old new : Held S) (fault : Fault) : Type 0 where
     pub older : Option Older
     pub layout : layout_of version ≡ layout_before older
-    pub why : MigrationFailsToEnd (InRenewal older (map pos (edition_numbers summary.items)) summary.installs) (λ db. (M : Catalogue) → Holds version (state g old).committed M → Holds known db M) old new fault
+    pub why : MigrationFailsToEnd older (map pos (edition_numbers summary.items)) summary.installs (λ db. (M : Catalogue) → Holds version (state g old).committed M → Holds known db M) old new fault
 
   -- either
   abbrev pub FailsToMigrate : ℕ → Holdings (List ℕ) → Held S → Held S → Fault → Type 0

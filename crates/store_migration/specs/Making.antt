@@ -1,8 +1,8 @@
 -- The statements by which the empty tables of the known version are made, and why nothing comes of them.
-use Rattle.std.specs.Prelude.{◌≡◌, ◌⊎◌, ◌++◌, ℕ, true, List, [], ◌∷◌, codes, map}
+use Rattle.std.specs.Prelude.{◌++◌, ℕ, List, [], ◌∷◌, codes, map}
 use Rattle.sqlite.specs.Effect.{Database}
-use Rattle.sqlite.specs.State.{State, Survives, Fails, IsRolledBack}
-use Rattle.sqlite.specs.Held.{Held, state}
+use Rattle.sqlite.specs.State.{State}
+use Rattle.sqlite.specs.Held.{Held}
 use Rattle.sqlite.specs.Table.{Table}
 use Rattle.sqlite.specs.declared.error.Error.{Error}
 use Rattle.sqlite_trees.specs.declared.store.Store.{Ghosts}
@@ -10,14 +10,15 @@ use Rattle.store_tables.specs.declared.tables.StoreTable.{StoreTable}
 use Rattle.store_tables.specs.declared.tables.StoreTable.TheVariants.{Mark, Item, Member, Kept}
 use Rattle.store_tables.specs.Creates.{Makes, FailsToMake}
 use Rattle.store_sql.specs.Encodings.{mark_row}
+use Rattle.store_sql.specs.Turns.{DoneInTurn, FailedInTurn}
 use Rattle.store_sql.specs.Statements as sql
 use Rattle.store_sql.specs.Statements.{Statement, make, add}
 use Rattle.store_sql.specs.HeaderTable.{header}
 use Rattle.store_sql.specs.PartTable.{part}
 use Rattle.store_rows.specs.Written.{mark_record}
 use Rattle.dict_desk.specs.declared.fault.Fault.{Fault}
-use Rattle.dict_desk.specs.declared.fault.Fault.TheVariants.{Disk}
 use Rattle.store_holdings.specs.Faults.{fault_of}
+use Rattle.store_holdings.specs.Writing.{TransactionFailsToEnd}
 
 -- the tables of which no version has another form
 abbrev pub lasting_tables : List StoreTable
@@ -45,37 +46,13 @@ creation version = map one (map make lasting_tables) ++ making (header 0) ∷ ma
 module _ {S : Type 0} (g : Ghosts S) where
   -- Each has done what it says, one after the other, and a stop leaves what it left before.
   abbrev pub StepsRunInTurn : List CreationStep → Held S → Held S → Type 0
-  StepsRunInTurn [] old new = new ≡ old
-  StepsRunInTurn (step ∷ rest) old new = (mid : Held S) × (StepSucceeds step (state g old) (state g mid) × Survives (state g old) (state g mid) (λ _. ⊥)) × StepsRunInTurn rest mid new
+  StepsRunInTurn = DoneInTurn g StepSucceeds
 
   -- One of them failed, where those before it had done what they say.
   abbrev pub StepsFailInTurn : List CreationStep → Held S → Held S → Error → Type 0
-  StepsFailInTurn [] old new e = ⊥
-  StepsFailInTurn (step ∷ rest) old new e =
-      (StepFails step (state g old) (state g new) e × Survives (state g old) (state g new) (λ _. ⊥))
-      ⊎ ((mid : Held S) × (StepSucceeds step (state g old) (state g mid) × Survives (state g old) (state g mid) (λ _. ⊥)) × StepsFailInTurn rest mid new e)
+  StepsFailInTurn = FailedInTurn g StepSucceeds StepFails
 
-  -- A transaction was begun, and one of these steps failed, where those before it had done what they say; then it was rolled
-  -- back. The fault is that of the error.
-  pub record CreationFailsBefore (steps : List CreationStep) (old new : Held S) (fault : Fault) : Type 0 where
-    pub error : Error
-    pub told : fault ≡ fault_of error
-    pub last : Held S
-    pub within : StepsFailInTurn steps (record old { in_transaction = true }) last error
-    pub after : Survives (state g last) (state g new) (λ _. ⊥)
-    pub undone : IsRolledBack (state g last) (state g new)
-
-  -- A transaction was begun, and these steps all did what they say, so that P holds of the database; then its commit failed,
-  -- for whatever cause. The fault is `Disk`.
-  pub record CreationFailsAtLast (steps : List CreationStep) (P : Database → Type 0) (old new : Held S) (fault : Fault) : Type 0 where
-    pub told : fault ≡ Disk
-    pub last : Held S
-    pub ran : StepsRunInTurn steps (record old { in_transaction = true }) last
-    pub before : Survives (state g old) (state g last) (λ _. ⊥)
-    pub written : P (state g last).now
-    pub error : Error
-    pub fails : Fails (state g last) (state g new) ⊥ error
-
-  -- either
+  -- A transaction was begun, and one of these steps failed, where those before it had done what they say, and it was rolled back;
+  -- or they all did, so that P holds of the database, and its commit failed.
   abbrev pub CreationFailsToEnd : List CreationStep → (Database → Type 0) → Held S → Held S → Fault → Type 0
-  CreationFailsToEnd steps P old new fault = CreationFailsBefore steps old new fault ⊎ CreationFailsAtLast steps P old new fault
+  CreationFailsToEnd steps P = TransactionFailsToEnd g fault_of (StepsFailInTurn steps) (StepsRunInTurn steps) P

@@ -1,16 +1,11 @@
 -- What is written of the records of an edition.
 use Rattle.std.specs.Prelude.{List}
-use Rattle.store_tables.specs.KeyedRecords.{KeyedEntry}
 use Rattle.store_tables.specs.Records.{EntryRecord, Part}
 use Rattle.dict_index.specs.Line.{Line}
 use Rattle.store_rows.specs.Stored.{saying}
 use Rattle.store_holdings.specs.Files.{natural, parts_under}
 use Rattle.store_migration.specs.declared.files.EditionFiles.{EditionFiles}
 use Rattle.store_migration.specs.declared.lines.LineToWrite.{LineToWrite}
-
--- an entry of version 4 without what was derived of it
-abbrev pub shown_entry : KeyedEntry → EntryRecord
-shown_entry e = record { edition = e.edition; ord = e.ord; headword = e.headword; start = e.start; length = e.length; shown = e.shown }
 
 -- the entry as this is said of it
 abbrev pub said_of : EntryRecord → LineToWrite → EntryRecord

@@ -3,12 +3,13 @@ ghost use Rattle.std.specs.Prelude.{◌≡◌, ◌++◌, ◌∷◌, [], map, IfO
 ghost use Rattle.store_tables.specs.KeyedRecords.{owned_old_entry, owned_keyed_entry, plain_entry};
 ghost use Rattle.store_tables.specs.Records.{EntryRecord as TheEntry};
 ghost use Rattle.store_tables.specs.Typed.{owned_entry};
+ghost use Rattle.store_sql.specs.Keyed.{entry_without_keys};
 ghost use Rattle.dict_index.specs.Cuts.{HasNo};
 ghost use Rattle.store_rows.specs.Stored.{IsColumn, stored_line};
 ghost use Rattle.store_holdings.specs.Files.{index_octets};
 ghost use Rattle.store_migration.specs.MigrationParts.{FailsToWriteIndex};
 ghost use Rattle.store_migration.specs.Steps.{HasLine, HasSixDigits};
-ghost use Rattle.store_migration.specs.Written.{line_to_write, said_of, shown_entry};
+ghost use Rattle.store_migration.specs.Written.{line_to_write, said_of};
 
 use std::alloc::Global;
 use store_rows::write_line;
@@ -64,7 +65,7 @@ impl IndexedRecord for StoredRow<OldEntry<String, Vec<u8>>> {
 }
 
 impl IndexedRecord for StoredRow<KeyedEntry<String, Vec<u8>>> {
-    ghost entry = { λ stored. shown_entry (owned_keyed_entry stored.value) };
+    ghost entry = { λ stored. entry_without_keys (owned_keyed_entry stored.value) };
 
     fn said(&self) -> LineToWrite<'_> {
         LineToWrite {

@@ -1,10 +1,11 @@
 // The empty catalogue is made in a database.
-ghost use Rattle.std.specs.Prelude.{◌≡◌, ◌≢◌, ◌↔◌, map, true, false, IsTrue, IfErr, OnOk, OnErr, Err};
+ghost use Rattle.std.specs.Prelude.{◌≡◌, ◌≢◌, ◌↔◌, true, false, IsTrue, IfErr, OnOk, OnErr, Err};
 ghost use Rattle.sqlite.specs.Effect.{IsDatabase};
 ghost use Rattle.sqlite.specs.State.{HasCleanDisk, IsLive, KeepsCommit, Survives};
 ghost use Rattle.sqlite.specs.Held.{state};
 ghost use Rattle.store_tables.specs.Creates.{AreApart, IsReady, MadeInTurn};
 ghost use Rattle.store_tables.specs.Effects.{WhileOpen, seen};
+ghost use Rattle.store_sql.specs.Turns.{DoneInTurn, FailedInTurn};
 ghost use Rattle.store_sql.specs.Statements as sql;
 ghost use Rattle.store_sql.specs.Statements.{make};
 ghost use Rattle.store_rows.specs.Versions.{known};
@@ -33,8 +34,8 @@ fn make_each<S: Alter>(tx: &mut Transaction<'_, S>, tables: &[StoreTable]) -> Re
     requires ready { WhileOpen (seen S.Store tx.old) IsReady }
     ensures same_reference { tx.new.conn.ghost_name ≡ tx.old.conn.ghost_name }
     ensures made { HasCleanDisk (seen S.Store tx.new) → OnOk result (MadeInTurn tables.now (seen S.Store tx.old).now (seen S.Store tx.new).now) }
-    ensures ran { HasCleanDisk (seen S.Store tx.new) → OnOk result (sql.RunInTurn S.Store (map make tables.now) tx.old.conn.now tx.new.conn.now) }
-    ensures failed { HasCleanDisk (seen S.Store tx.new) → IfErr result (sql.FailsInTurn S.Store (map make tables.now) tx.old.conn.now tx.new.conn.now) }
+    ensures ran { HasCleanDisk (seen S.Store tx.new) → OnOk result (DoneInTurn S.Store (λ table. sql.Succeeds (make table)) tables.now tx.old.conn.now tx.new.conn.now) }
+    ensures failed { HasCleanDisk (seen S.Store tx.new) → IfErr result (FailedInTurn S.Store (λ table. sql.Succeeds (make table)) (λ table. sql.FailsTo (make table)) tables.now tx.old.conn.now tx.new.conn.now) }
     ensures keeps { HasCleanDisk (seen S.Store tx.new) → KeepsCommit (seen S.Store tx.old) (seen S.Store tx.new) }
     ensures survives { Survives (seen S.Store tx.old) (seen S.Store tx.new) (λ _. ⊥) }
 {

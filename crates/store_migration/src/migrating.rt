@@ -126,7 +126,7 @@ fn migrate_from<S: Alter>(
     ensures made { HasCleanDisk (state S.Store conn.new) → OnOk result (IsCommitted (IsOutcome layout numbers.now installs (state S.Store conn.old)) (state S.Store conn.new)) }
     ensures stays { HasCleanDisk (state S.Store conn.new) → OnErr result (StaysCommitted (state S.Store conn.old) (state S.Store conn.new)) }
     ensures adds_none { IfErr result (λ fault. is_disk fault ≡ false → Survives (state S.Store conn.old) (state S.Store conn.new) (λ _. ⊥)) }
-    ensures failed { HasCleanDisk (state S.Store conn.new) → IfErr result (MigrationFailsToEnd S.Store (InRenewal layout numbers.now installs) (IsOutcome layout numbers.now installs (state S.Store conn.old)) conn.old conn.new) }
+    ensures failed { HasCleanDisk (state S.Store conn.new) → IfErr result (MigrationFailsToEnd S.Store layout numbers.now installs (IsOutcome layout numbers.now installs (state S.Store conn.old)) conn.old conn.new) }
     ensures kinds { IfErr result IsOfStore }
     ensures autocommit { (state S.Store conn.new).in_transaction ≡ false }
     ensures crash { Survives (state S.Store conn.old) (state S.Store conn.new) (IsTreesOf (IsOutcome layout numbers.now installs (state S.Store conn.old))) }

@@ -3,10 +3,11 @@ use Rattle.std.specs.Prelude.{◌≡◌, ℕ, List, ◌++◌, map, String, Vec}
 use Rattle.std.specs.declared.alloc.Global.{Global}
 use Rattle.dict_index.specs.Line.{Line}
 use Rattle.store_tables.specs.Records.{EntryRecord}
-use Rattle.store_tables.specs.KeyedRecords.{KeyedEntry, owned_keyed_entry, owned_old_entry, plain_entry}
+use Rattle.store_tables.specs.KeyedRecords.{owned_keyed_entry, owned_old_entry, plain_entry}
 use Rattle.store_tables.specs.declared.keyed_records as typed
 use Rattle.store_tables.specs.declared.records as plain_typed
 use Rattle.store_tables.specs.declared.records.StoredRow.{StoredRow}
+use Rattle.store_sql.specs.Keyed.{entry_without_keys}
 use Rattle.store_rows.specs.Given.{entries_given}
 use Rattle.store_search.specs.Entries.{entry_of}
 use Rattle.store_scans.specs.Entries.{AreTaken, AreNotTaken, AreLinesTaken}
@@ -23,9 +24,6 @@ abbrev pub OldRow : Type 0
 OldRow = StoredRow (typed.OldEntry.OldEntry (String Global) (Vec ℕ Global))
 
 -- the entry of a row, without what is derived of its headword
-
-abbrev pub entry_without_keys : KeyedEntry → EntryRecord
-entry_without_keys e = record { edition = e.edition; ord = e.ord; headword = e.headword; start = e.start; length = e.length; shown = e.shown }
 
 abbrev pub shown_entry_in : ShownRow → EntryRecord
 shown_entry_in row = entry_without_keys (owned_keyed_entry row.value)

@@ -3,9 +3,10 @@ ghost use Rattle.std.specs.Prelude.{◌≡◌, ◌∷◌, [], IfErr, OnOk, strin
 ghost use Rattle.store_tables.specs.KeyedRecords.{owned_keyed_entry, owned_old_entry, plain_entry};
 ghost use Rattle.store_tables.specs.Records.{shown_as};
 ghost use Rattle.store_tables.specs.Typed.{owned_entry};
+ghost use Rattle.store_sql.specs.Keyed.{entry_without_keys};
 ghost use Rattle.store_rows.specs.Views.{columns_line};
 ghost use Rattle.store_scans.specs.Entries.{AreNotTaken, AreNoLines};
-ghost use Rattle.store_scans.specs.IndexingReader.{entry_without_keys, takes_plain, refuses_plain, takes_old, refuses_old, takes_shown, refuses_shown};
+ghost use Rattle.store_scans.specs.IndexingReader.{takes_plain, refuses_plain, takes_old, refuses_old, takes_shown, refuses_shown};
 ghost use Rattle.store_scans.specs.TakerLaws.{no_plain, no_old, no_shown};
 
 use crate::indexing::EditionIndex;

@@ -1,10 +1,11 @@
-use Rattle.std.proofs.Common.{◌≡◌, inl, inr, refl, rules, sym, subst}
-use Rattle.sqlite.specs.State.{IsRolledBack, KeepsCommit}
+use Rattle.std.proofs.Common.{◌≡◌, inl, inr, rules, sym, subst}
+use Rattle.sqlite.specs.State.{KeepsCommit}
 use Rattle.dict_catalogue.specs.Steps.{empty_catalogue}
+use Rattle.store_holdings.specs.Faults.{fault_of}
 use Rattle.store_holdings.specs.Holds.{Holds}
 use Rattle.store_migration.specs.Making.{creation, StepsRunInTurn, StepsFailInTurn}
-use Rattle.store_migration.proofs.KitLemmas.{HasCleanDisk, Survives, state, was_clean}
-use Rattle.store_migration.proofs.StopLemmas.{ends_before, begins_before, ends_survives, ends_made, ends_failed, ends_stays}
+use Rattle.store_migration.proofs.KitLemmas.{HasCleanDisk, state, was_clean}
+use Rattle.store_migration.proofs.StopLemmas.{ends_undone, ends_survives, ends_made, ends_at_last, ends_stays}
 use Rattle.store_migration.proofs.making.commit_tables.Goals as goal
 use Rattle.store_rows.specs.Versions.{known}
 use Rattle.store_migration.specs.Spared.{SparesOthers}
@@ -66,34 +67,15 @@ returns-in-Err-commit-clause-beside g c =
 
 pub returns-in-Err-clause-failed : goal.returns-in-Err-clause-failed
 returns-in-Err-clause-failed g c clean =
-    let mid = c.make_all.new.tx.conn.now in
     let same : c.drop-tx.new.self.0 ≡ c.conn-1.given.0 = search rules in
-    let late = subst (λ h. HasCleanDisk (state g.S.Store h)) (sym same) clean in
-    inl (record {
-      error = c.in-Err.error;
-      told = c.fault_of.ensures;
-      last = mid;
-      within = subst (λ h. StepsFailInTurn g.S.Store (creation known) h mid c.in-Err.error) c.transaction-tx.ensures.begun (c.in-Err.ensures.failed (was_clean c.drop-tx.ensures.survives late));
-      after = subst (λ h. Survives (state g.S.Store mid) (state g.S.Store h) (λ _. ⊥)) same c.drop-tx.ensures.survives;
-      undone = subst (λ h. IsRolledBack (state g.S.Store mid) (state g.S.Store h)) same (c.drop-tx.ensures.undone late);
-    })
+    inl (ends_undone g.S.Store fault_of (StepsFailInTurn g.S.Store (creation known)) c.args.conn.now c.make_all.new.tx.conn.now c.in-Err.error c.transaction-tx.ensures.begun c.drop-tx.ensures.survives c.drop-tx.ensures.undone same
+    c.fault_of.ensures c.in-Err.ensures.failed clean)
 
 pub returns-in-Err-commit-clause-failed : goal.returns-in-Err-commit-clause-failed
 returns-in-Err-commit-clause-failed g c clean =
-    let old = c.args.conn.now in
-    let mid = c.make_all.new.tx.conn.now in
     let same : c.commit.new.tx.0 ≡ c.conn-2-1.given.0 = search rules in
-    let inside = c.make_all.ensures.survives in
-    let early = ends_before g.S.Store (λ _. ⊥) old mid c.transaction-tx.ensures.begun inside c.commit.ensures.survives same clean in
-    inr (record {
-      told = refl;
-      last = mid;
-      ran = subst (λ h. StepsRunInTurn g.S.Store (creation known) h mid) c.transaction-tx.ensures.begun (c.in_default.ensures.ran early);
-      before = begins_before g.S.Store (λ _. ⊥) old mid c.transaction-tx.ensures.begun inside c.commit.ensures.survives same;
-      written = (c.in_default.ensures.made early).0;
-      error = c.in-Err-commit.field-0;
-      fails = ends_failed g.S.Store (λ _. ⊥) old mid c.transaction-tx.ensures.begun inside c.commit.ensures.survives same c.in_default.ensures.inside c.in-Err-commit.ensures.failed clean;
-    })
+    inr (ends_at_last g.S.Store (λ db. Holds known db empty_catalogue) c.args.conn.now c.make_all.new.tx.conn.now c.transaction-tx.ensures.begun c.make_all.ensures.survives c.commit.ensures.survives same c.in_default.ensures.inside
+    c.in-Err-commit.ensures.failed (StepsRunInTurn g.S.Store (creation known)) c.in_default.ensures.ran (λ early. (c.in_default.ensures.made early).0) clean)
 
 pub returns-in-Err-commit-clause-stays : goal.returns-in-Err-commit-clause-stays
 returns-in-Err-commit-clause-stays g c =

@@ -2,14 +2,18 @@ use Rattle.std.proofs.Common.{List, [], ◌∷◌, codes, map, inl, inr, refl, s
 use Rattle.store_sql.specs.Inserts.{Inserts, FailsToInsert}
 use Rattle.store_sql.specs.Statements.{make, add}
 use Rattle.store_rows.specs.Versions.{known}
-use Rattle.store_migration.specs.Making.{CreationStep, one, making, lasting_tables, creation, StepsFailInTurn, StepsRunInTurn}
+use Rattle.store_sql.proofs.TurnLemmas.{run_then, fails_before, fails_after}
+use Rattle.store_migration.specs.Making.{CreationStep, one, making, lasting_tables, creation, StepSucceeds, StepFails, StepsFailInTurn, StepsRunInTurn}
 use Rattle.store_migration.proofs.KitLemmas.{state, IsAdded, seen, own_has, passed_on, header, part, two_survive, three_survive, was_clean, Mark, mark_row, mark_record}
-use Rattle.store_migration.proofs.MakingLemmas.{ones_run, ones_fail, fails_behind, lasting_apart, headers_free, parts_free, mark_there, empty_held}
+use Rattle.store_migration.proofs.MakingLemmas.{lasting_apart, headers_free, parts_free, mark_there, empty_held}
 use Rattle.store_migration.proofs.OtherLemmas.{others_created}
 use Rattle.store_migration.proofs.making.make_all.Goals as goal
 
 abbrev marking : CreationStep
 marking = one (add (codes "mark") (mark_row (mark_record known 0)))
+
+abbrev first : List CreationStep
+first = map one (map make lasting_tables)
 
 abbrev later : List CreationStep
 later = making (header 0) ∷ making (part 0) ∷ marking ∷ []
@@ -78,18 +82,18 @@ returns-clause-ran g c clean =
     let ran = c.in_ok-make_each.ensures.ran (was_clean c.create_header_table.ensures.survives clean2) in
     let put = subst (λ (m : Mark). Inserts (codes "mark") (mark_row m) (state g.S.Store h3) (state g.S.Store h4)) c.mark_row-mark.ensures (c.in_ok-insert_mark.ensures.added clean) in
     let rest : StepsRunInTurn g.S.Store (making (part 0) ∷ marking ∷ []) h2 h4 = (h3, (c.in_ok-create_part_table.ensures.made clean3, c.create_part_table.ensures.survives), (h4, (put, c.insert_mark.ensures.survives), refl)) in
-    ones_run g.S.Store later (map make lasting_tables) c.args.tx.now.conn.now c.make_each.new.tx.conn.now h4 ran
+    run_then g.S.Store StepSucceeds first later c.args.tx.now.conn.now c.make_each.new.tx.conn.now h4 ran
     (h2, (c.in_ok-create_header_table.ensures.made clean2, c.create_header_table.ensures.survives), rest)
 
 pub returns-in_err-make_each-clause-failed : goal.returns-in_err-make_each-clause-failed
 returns-in_err-make_each-clause-failed g c clean =
-    passed_on _ _ _ c.from_residual.ensures.1 (ones_fail g.S.Store later (map make lasting_tables) c.args.tx.now.conn.now c.make_each.new.tx.conn.now _ (c.in_err-make_each.ensures.failed clean))
+    passed_on _ _ _ c.from_residual.ensures.1 (fails_before g.S.Store StepSucceeds StepFails first later c.args.tx.now.conn.now c.make_each.new.tx.conn.now _ (c.in_err-make_each.ensures.failed clean))
 
 pub returns-in_err-create_header_table-clause-failed : goal.returns-in_err-create_header_table-clause-failed
 returns-in_err-create_header_table-clause-failed g c clean =
     let ran = c.in_ok-make_each.ensures.ran (was_clean c.create_header_table.ensures.survives clean) in
     passed_on (StepsFailInTurn g.S.Store (creation known) c.args.tx.now.conn.now c.create_header_table.new.tx.conn.now) _ _ c.from_residual-in_err-create_header_table.ensures.1
-    (fails_behind g.S.Store later (map make lasting_tables) c.args.tx.now.conn.now c.make_each.new.tx.conn.now c.create_header_table.new.tx.conn.now _ ran
+    (fails_after g.S.Store StepSucceeds StepFails first later c.args.tx.now.conn.now c.make_each.new.tx.conn.now c.create_header_table.new.tx.conn.now _ ran
     (inl (c.in_err-create_header_table.ensures.failed clean, c.create_header_table.ensures.survives)))
 
 pub returns-in_err-create_part_table-clause-failed : goal.returns-in_err-create_part_table-clause-failed
@@ -98,7 +102,7 @@ returns-in_err-create_part_table-clause-failed g c clean =
     let clean2 = was_clean c.create_part_table.ensures.survives clean in
     let ran = c.in_ok-make_each.ensures.ran (was_clean c.create_header_table.ensures.survives clean2) in
     passed_on (StepsFailInTurn g.S.Store (creation known) c.args.tx.now.conn.now c.create_part_table.new.tx.conn.now) _ _ c.from_residual-in_err-create_part_table.ensures.1
-    (fails_behind g.S.Store later (map make lasting_tables) c.args.tx.now.conn.now c.make_each.new.tx.conn.now c.create_part_table.new.tx.conn.now _ ran
+    (fails_after g.S.Store StepSucceeds StepFails first later c.args.tx.now.conn.now c.make_each.new.tx.conn.now c.create_part_table.new.tx.conn.now _ ran
     (inr (h2, (c.in_ok-create_header_table.ensures.made clean2, c.create_header_table.ensures.survives), inl (c.in_err-create_part_table.ensures.failed clean, c.create_part_table.ensures.survives))))
 
 pub returns-in_err-insert_mark-clause-failed : goal.returns-in_err-insert_mark-clause-failed
@@ -110,7 +114,7 @@ returns-in_err-insert_mark-clause-failed g c clean =
     let ran = c.in_ok-make_each.ensures.ran (was_clean c.create_header_table.ensures.survives clean2) in
     let put = subst (λ (m : Mark). FailsToInsert (codes "mark") (mark_row m) (state g.S.Store h3) (state g.S.Store h4) c.in_err-insert_mark.field-0.0) c.mark_row-mark.ensures (c.in_err-insert_mark.ensures.failed clean) in
     passed_on (StepsFailInTurn g.S.Store (creation known) c.args.tx.now.conn.now h4) _ _ c.from_residual-in_err-insert_mark.ensures.1
-    (fails_behind g.S.Store later (map make lasting_tables) c.args.tx.now.conn.now c.make_each.new.tx.conn.now h4 _ ran
+    (fails_after g.S.Store StepSucceeds StepFails first later c.args.tx.now.conn.now c.make_each.new.tx.conn.now h4 _ ran
     (inr (
       c.create_header_table.new.tx.conn.now,
       (c.in_ok-create_header_table.ensures.made clean2, c.create_header_table.ensures.survives),

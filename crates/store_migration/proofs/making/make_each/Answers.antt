@@ -1,7 +1,8 @@
-use Rattle.std.proofs.Common.{◌∙◌, get_or, map, subst}
+use Rattle.std.proofs.Common.{◌∙◌, get_or, subst}
 use Rattle.std.proofs.lemmas.List.{take_all}
 use Rattle.store_tables.specs.declared.tables.StoreTable.TheVariants.{Mark}
-use Rattle.store_sql.specs.Statements.{make, RunInTurn, FailsInTurn}
+use Rattle.store_sql.specs.Turns.{DoneInTurn, FailedInTurn}
+use Rattle.store_sql.specs.Statements.{make, Succeeds, FailsTo}
 use Rattle.store_tables.proofs.MakeLemmas.{got, next_free, next_made, goes_then}
 use Rattle.store_sql.proofs.TurnLemmas.{run_next, fails_next}
 use Rattle.store_migration.proofs.KitLemmas.{HasCleanDisk, seen, keeps_then, goes_keeps, passed_on, was_clean, two_survive}
@@ -18,13 +19,13 @@ returns-in_err-create_table-clause-failed g c clean =
     let new = c.create_table.new.tx.conn.now in
     let ts = c.args.tables.now in
     let i = c.each.table-index in
-    passed_on (FailsInTurn g.S.Store (map make ts) c.args.tx.now.conn.now new) _ _ c.from_residual.ensures.1
-    (fails_next g.S.Store make ts i (get_or ts i Mark) (got ts i Mark c.each-test.true) c.args.tx.now.conn.now c.each.tx.conn.now new _ (c.each.invariant.ran (was_clean c.create_table.ensures.survives clean))
-    (c.in_err-create_table.ensures.failed clean) c.create_table.ensures.survives)
+    passed_on (FailedInTurn g.S.Store (λ table. Succeeds (make table)) (λ table. FailsTo (make table)) ts c.args.tx.now.conn.now new) _ _ c.from_residual.ensures.1
+    (fails_next g.S.Store (λ table. Succeeds (make table)) (λ table. FailsTo (make table)) ts i (get_or ts i Mark) (got ts i Mark c.each-test.true) c.args.tx.now.conn.now c.each.tx.conn.now new _
+    (c.each.invariant.ran (was_clean c.create_table.ensures.survives clean)) (c.in_err-create_table.ensures.failed clean) c.create_table.ensures.survives)
 
 pub returns-clause-ran : goal.returns-clause-ran
 returns-clause-ran g c clean =
-    subst (λ l. RunInTurn g.S.Store (map make l) c.args.tx.now.conn.now c.each.tx.conn.now) (take_all c.each.table-index c.args.tables.now c.each-test.false) (c.each.invariant.ran clean)
+    subst (λ l. DoneInTurn g.S.Store (λ table. Succeeds (make table)) l c.args.tx.now.conn.now c.each.tx.conn.now) (take_all c.each.table-index c.args.tables.now c.each-test.false) (c.each.invariant.ran clean)
 
 pub each-preserved : goal.each-preserved
 each-preserved g c =
@@ -35,7 +36,7 @@ each-preserved g c =
       same_reference = c.create_table.ensures.same_reference ∙ c.each.invariant.same_reference;
       made = λ clean. next_made ts i (get_or ts i Mark) (got ts i Mark c.each-test.true) c.requires.apart _ _ (c.requires.ready (was_clean c.each.invariant.survives (was clean)))
           (c.each.invariant.keeps (was clean)) (c.each.invariant.made (was clean)) (seen g.S.Store c.create_table.new.tx) (c.in_ok-create_table.ensures.made clean).0;
-      ran = λ clean. run_next g.S.Store make ts i (get_or ts i Mark) (got ts i Mark c.each-test.true) c.args.tx.now.conn.now c.each.tx.conn.now c.create_table.new.tx.conn.now
+      ran = λ clean. run_next g.S.Store (λ table. Succeeds (make table)) ts i (get_or ts i Mark) (got ts i Mark c.each-test.true) c.args.tx.now.conn.now c.each.tx.conn.now c.create_table.new.tx.conn.now
           (c.each.invariant.ran (was clean)) (c.in_ok-create_table.ensures.made clean) c.create_table.ensures.survives;
       goes = λ clean _. goes_then _ _ _ (c.each.invariant.keeps (was clean)) (c.in_ok-create_table.ensures.made clean).1;
       mode = λ clean _. (c.in_ok-create_table.ensures.made clean).1.mode;

@@ -1,14 +1,16 @@
 use Rattle.std.proofs.Common.{◌∙◌, ℤ, List, inl, inr, refl, subst}
-use Rattle.std.specs.Prelude.{IsTrue, Result, Ok, Err, IfErr, OnErr, OnOk}
-use Rattle.std.proofs.lemmas.Result.{on_ok_weaker}
+use Rattle.std.specs.Prelude.{IsTrue, Result, Ok, Err, OnErr, OnOk}
+use Rattle.std.proofs.lemmas.Result.{IfErr-weaker, on_ok_weaker}
 use Rattle.sqlite.proofs.StateLemmas.{survives_weaker}
 use Rattle.dict_catalogue.specs.Views.{summary_shown}
 use Rattle.store_migration.specs.FailurePlaces.{InRenewal}
-use Rattle.store_migration.specs.Failing.{MigrationFailsBefore, MigrationFailsToEnd, FailsToMigrate}
+use Rattle.store_migration.specs.Failing.{MigrationFailsInside, MigrationFailsToEnd, FailsToMigrate}
 use Rattle.store_migration.proofs.KitLemmas.{Database, state, was_clean}
 use Rattle.store_migration.proofs.FailLemmas.{why_not_begun}
 use Rattle.store_migration.specs.Migrated.{MayMigrate}
 use Rattle.store_holdings.specs.Committed.{IsTreesOf}
+use Rattle.store_holdings.specs.Faults.{fault_of_read}
+use Rattle.store_holdings.specs.Writing.{FailsBefore}
 use Rattle.store_migration.specs.Moved.{IsRenewed, IsOutcome}
 use Rattle.store_migration.proofs.StopLemmas.{is_old, outcome_holds, outcome_left, outcome_may, outcome_migrated, outcome_spares}
 use Rattle.store_migration.specs.Spared.{SparesOthers}
@@ -79,10 +81,6 @@ pub returns-in-Err-clause-failed : goal.returns-in-Err-clause-failed
 returns-in-Err-clause-failed g c clean =
     inl (record { same = refl; why = why_not_begun (summary_shown c.args.summary.now) c.in-Err.error c.fault_of_read.result c.fault_of_read.ensures.is c.in-Err.ensures.failed })
 
-each_err : {X E : Type 0} (result : Result X E) (P Q : E → Type 0) → ((e : E) → P e → Q e) → IfErr result P → IfErr result Q
-each_err (Ok x) P Q f h = h
-each_err (Err e) P Q f h = f e h
-
 pub returns-clause-failed : goal.returns-clause-failed
 returns-clause-failed g c clean =
     let new = c.migrate_from.new.conn in
@@ -90,16 +88,17 @@ returns-clause-failed g c clean =
     let installs = c.args.summary.now.installs in
     let start = c.requires.holds (was_clean c.migrate_from.ensures.crash clean) in
     let numbers = c.deref.ensures.value ∙ c.in-Ok.ensures.same in
-    each_err c.migrate_from.result (MigrationFailsToEnd g.S.Store (InRenewal older c.deref.result.now installs) (IsOutcome older c.deref.result.now installs (state g.S.Store c.args.conn.now)) c.args.conn.now new)
+    IfErr-weaker c.migrate_from.result (MigrationFailsToEnd g.S.Store older c.deref.result.now installs (IsOutcome older c.deref.result.now installs (state g.S.Store c.args.conn.now)) c.args.conn.now new)
     (FailsToMigrate g.S.Store c.args.version (summary_shown c.args.summary.now) c.args.conn.now new)
     (λ fault h. inr (record {
       older = older;
       layout = c.older_layout.ensures;
       why = elim h [
-        | inl before ↦ inl (subst (λ (l : List ℤ). MigrationFailsBefore g.S.Store (InRenewal older l installs) c.args.conn.now new fault) numbers before)
+        | inl before ↦ inl (subst (λ (l : List ℤ). FailsBefore g.S.Store fault_of_read (MigrationFailsInside g.S.Store (InRenewal older l installs)) c.args.conn.now new fault) numbers before)
         | inr last ↦
             let written = outcome_holds c.older_layout.ensures c.requires.older.1 start c.is_live.ensures numbers _ last.written in
-            inr (record { told = last.told; last = last.last; before = last.before; written = written; error = last.error; fails = last.fails })
+            let ran = subst (λ (l : List ℤ). IsRenewed older l installs (state g.S.Store c.args.conn.now).now (state g.S.Store last.last).now) numbers last.ran in
+            inr (record { told = last.told; last = last.last; ran = ran; before = last.before; written = written; error = last.error; fails = last.fails })
       ];
     }))
     (c.migrate_from.ensures.failed clean)
