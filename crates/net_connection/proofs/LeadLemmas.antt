@@ -51,9 +51,10 @@ led_none same holds = record {
 pub led_still : {T : Type 0} {S : Catalogue → Type 0} {L : List (Option Catalogue) → Type 0} {a : Hub} {P : List Accepted → Type 0} → P [] → HasLedOn T S L S L a a P
 led_still holds = led_none (λ state at. at) holds
 
-pub led_as : {T : Type 0} {S0 S1 : Catalogue → Type 0} {L0 L1 : List (Option Catalogue) → Type 0} {a b : Hub} {P Q : List Accepted → Type 0}
-    → HasLedOn T S0 L0 S1 L1 a b P → ((es : List Accepted) → P es → Q es) → HasLedOn T S0 L0 S1 L1 a b Q
-led_as led so = record {
+-- by where they lead
+pub led_at : {T : Type 0} {S0 S1 : Catalogue → Type 0} {L0 L1 : List (Option Catalogue) → Type 0} {a b : Hub} {P Q : List Accepted → Type 0} → HasLedOn T S0 L0 S1 L1 a b P
+    → ((es : List Accepted) (origin : State) (start : Standing) (state : State) (stands : Standing) → IsAt a origin → Leads origin start es state stands → IsAt b state → P es → Q es) → HasLedOn T S0 L0 S1 L1 a b Q
+led_at led so = record {
   led = λ trusted origin start at shown left.
       let one = led.led trusted origin start at shown left in
       record {
@@ -64,6 +65,10 @@ led_as led so = record {
         is_at = one.is_at;
         shows = one.shows;
         leaves = one.leaves;
-        holds = so one.events one.holds;
+        holds = so one.events origin start one.state one.stands at one.leads one.is_at one.holds;
       };
 }
+
+pub led_as : {T : Type 0} {S0 S1 : Catalogue → Type 0} {L0 L1 : List (Option Catalogue) → Type 0} {a b : Hub} {P Q : List Accepted → Type 0}
+    → HasLedOn T S0 L0 S1 L1 a b P → ((es : List Accepted) → P es → Q es) → HasLedOn T S0 L0 S1 L1 a b Q
+led_as led so = led_at led (λ es origin start state stands at leads is. so es)

@@ -2,6 +2,7 @@ pub mod CallLemmas
 pub mod PassLemmas
 pub mod EventLemmas
 pub mod LeadLemmas
+pub mod LeaveLemmas
 pub mod OrderLemmas
 pub mod TellLemmas
 pub mod StuckLemmas

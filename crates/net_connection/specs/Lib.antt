@@ -4,6 +4,7 @@ pub mod Events
 pub mod Leading
 pub mod Ordering
 pub mod Telling
+pub mod Leaving
 pub mod Causes
 pub mod Opening
 pub mod Pieces

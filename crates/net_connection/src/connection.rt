@@ -1,5 +1,5 @@
 // One connection.
-ghost use Rattle.std.specs.Prelude.{◌≡◌, ◌≤◌, ◌<◌, ◌==◌, ◌||◌, List, [], ◌∷◌, Option, take, length, vec_capacity, IfSome, MatchOption, true, false, ⊤, Ok};
+ghost use Rattle.std.specs.Prelude.{◌≡◌, ◌≤◌, ◌<◌, ◌==◌, ◌||◌, List, [], ◌∷◌, Option, take, length, vec_capacity, IfSome, MatchOption, true, false, ⊤, None, Ok};
 ghost use Rattle.std.specs.Io.KnownBytes.{Consumes, Keeps};
 ghost use Rattle.dict_session.specs.Desks.{condition};
 ghost use Rattle.net_connection.specs.Leading.{HasLedOn};
@@ -42,6 +42,8 @@ impl<T: Transport> Connection<T> {
     ghost use Rattle.http_service.specs.Foreseeing.{IsToldAnew};
     ghost use Rattle.net_connection.specs.Handing.{held_for, held_in, is_held_back};
     ghost use Rattle.net_connection.specs.Causes.{AreCausedBy, IsRefused};
+    ghost use Rattle.net_hub.specs.Hubs.{HasHolding};
+    ghost use Rattle.net_connection.specs.Leaving.{KeepsOnlyOpen};
     ghost use Rattle.net_connection.specs.Foreseen.{AreCommand, AreToldOf, HoldsBack, HoldsStill, IsNoCommand, KeepsOrder};
     ghost use Rattle.net_connection.specs.Opening.{IsConnectionUnopened};
     ghost use Rattle.net_connection.specs.Pieces.{behind_piece};
@@ -165,7 +167,7 @@ impl<T: Transport> Connection<T> {
     ) -> bool
         ensures led { HasLedOn (K.is_trusted desk.new) (K.shows desk.old) (K.leaves_one_of desk.old) (K.shows desk.new) (K.leaves_one_of desk.new) hub.old hub.new
             (λ events. Turns T.taken T.coming T.made (IsRefused O.refuses hub.old) self.old self.new result events × AreCausedBy (condition K.has_failed K.is_closed desk.new) self.old self.new events × StaysForReader self.old.held.kind hub.old desk.old desk.new events
-            × KeepsOrder is_behind self.old.held.kind hub.old events) }
+            × KeepsOrder is_behind self.old.held.kind hub.old events × KeepsOnlyOpen hub.old hub.new self.old self.new) }
         ensures prepared { HoldsBack (IsToldAnew K.shows K.leaves_one_of K.keeps_beside K.is_trusted K.has_failed K.is_closed K.expects) K.prepares is_behind hub.old desk.old desk.new self.old self.new }
         ensures trust { K.is_trusted desk.new → K.is_trusted desk.old }
         ensures beside { (beside : K.Beside) → K.keeps_beside desk.old beside → K.keeps_beside desk.new beside }
@@ -237,7 +239,7 @@ impl<T: Transport> Connection<T> {
         requires { held_in self.old.held ≡ [] }
         ensures led { HasLedOn (K.is_trusted desk.new) (K.shows desk.old) (K.leaves_one_of desk.old) (K.shows desk.new) (K.leaves_one_of desk.new) hub.old hub.new
             (λ events. ReadsOnce T.taken T.coming T.made (IsRefused O.refuses hub.old) self.old self.new result events × AreCausedBy (condition K.has_failed K.is_closed desk.new) self.old self.new events × StaysForReader self.old.held.kind hub.old desk.old desk.new events
-            × KeepsOrder is_behind self.old.held.kind hub.old events) }
+            × KeepsOrder is_behind self.old.held.kind hub.old events × KeepsOnlyOpen hub.old hub.new self.old self.new) }
         ensures prepared { is_open self.new.stage ≡ true → is_held_back self.new.held ≡ true → HoldsStill (IsToldAnew K.shows K.leaves_one_of K.keeps_beside K.is_trusted K.has_failed K.is_closed K.expects) K.prepares is_behind false 0 0 hub.old desk.old desk.new self.old.id self.new.held }
         ensures trust { K.is_trusted desk.new → K.is_trusted desk.old }
         ensures beside { (beside : K.Beside) → K.keeps_beside desk.old beside → K.keeps_beside desk.new beside }
@@ -285,7 +287,7 @@ impl<T: Transport> Connection<T> {
             (λ events. HandsOver T.taken T.coming T.made (held_in self.old.held) self.old self.new events
             × LeadsByPiece (IsRefused O.refuses hub.old) (held_in self.old.held) self.old self.new events
             × AreCausedBy (condition K.has_failed K.is_closed desk.new) self.old self.new events × StaysForReader self.old.held.kind hub.old desk.old desk.new events
-            × KeepsOrder is_behind self.old.held.kind hub.old events) }
+            × KeepsOrder is_behind self.old.held.kind hub.old events × KeepsOnlyOpen hub.old hub.new self.old self.new) }
         ensures kind { self.new.held.kind ≡ self.old.held.kind }
         ensures back { is_open self.new.stage ≡ true → is_held_back self.new.held ≡ true → HoldsStill (IsToldAnew K.shows K.leaves_one_of K.keeps_beside K.is_trusted K.has_failed K.is_closed K.expects) K.prepares is_behind self.old.held.is_foreseen self.old.held.turns_left self.old.held.waited hub.old desk.old desk.new self.old.id self.new.held }
         ensures trust { K.is_trusted desk.new → K.is_trusted desk.old }
@@ -350,7 +352,8 @@ impl<T: Transport> Connection<T> {
         ensures led { HasLedOn (K.is_trusted desk.new) (K.shows desk.old) (K.leaves_one_of desk.old) (K.shows desk.new) (K.leaves_one_of desk.new) hub.old hub.new
             (λ events. HandsOver T.taken T.coming T.made (held_in self.old.held) self.old self.new events
             × LeadsByPiece (IsRefused O.refuses hub.old) (held_in self.old.held) self.old self.new events
-            × AreCausedBy (condition K.has_failed K.is_closed desk.new) self.old self.new events × StaysForReader self.old.held.kind hub.old desk.old desk.new events) }
+            × AreCausedBy (condition K.has_failed K.is_closed desk.new) self.old self.new events × StaysForReader self.old.held.kind hub.old desk.old desk.new events
+            × KeepsOnlyOpen hub.old hub.new self.old self.new) }
         ensures kind { self.new.held.kind ≡ self.old.held.kind }
         ensures back { is_open self.new.stage ≡ true → is_held_back self.new.held ≡ true → (self.old.held.is_foreseen ≡ true) × (self.new.held.is_foreseen ≡ true) × (self.new.held.turns_left < self.old.held.turns_left)
             × (self.new.held.waited ≡ min (self.old.held.waited + 1) (2 ^ 64 - 1)) × (held_in self.new.held ≡ held_in self.old.held) × K.prepares desk.old (Ok true) desk.new }
@@ -412,7 +415,8 @@ impl<T: Transport> Connection<T> {
     fn hand<K: Preparer, O: Opening>(&mut self, opening: &O, hub: &mut Hub, desk: &mut K)
         ensures led { HasLedOn (K.is_trusted desk.new) (K.shows desk.old) (K.leaves_one_of desk.old) (K.shows desk.new) (K.leaves_one_of desk.new) hub.old hub.new
             (λ events. HandsOver T.taken T.coming T.made (held_in self.old.held) self.old self.new events × LeadsByAnswer (IsRefused O.refuses hub.old) (held_in self.old.held) self.old self.new events
-            × AreCausedBy (condition K.has_failed K.is_closed desk.new) self.old self.new events × StaysForReader self.old.held.kind hub.old desk.old desk.new events) }
+            × AreCausedBy (condition K.has_failed K.is_closed desk.new) self.old self.new events × StaysForReader self.old.held.kind hub.old desk.old desk.new events
+            × KeepsOnlyOpen hub.old hub.new self.old self.new) }
         ensures kind { self.new.held.kind ≡ self.old.held.kind }
         ensures whole { is_open self.new.stage ≡ true → held_in self.new.held ≡ behind_piece self.old.held.kind (held_in self.old.held) }
         ensures trust { K.is_trusted desk.new → K.is_trusted desk.old }
@@ -439,7 +443,7 @@ impl<T: Transport> Connection<T> {
     fn end_input<K: Preparer>(&mut self, hub: &mut Hub, desk: &mut K)
         ensures led { HasLedOn (K.is_trusted desk.new) (K.shows desk.old) (K.leaves_one_of desk.old) (K.shows desk.new) (K.leaves_one_of desk.new) hub.old hub.new
             (λ events. HandsToHub [] self.old self.new events × LeadsByEnd (parted (is_clear self.new.queue)) self.old self.new events
-            × AreCausedBy (condition K.has_failed K.is_closed desk.new) self.old self.new events) }
+            × AreCausedBy (condition K.has_failed K.is_closed desk.new) self.old self.new events × HasHolding hub.new self.old.id None) }
         ensures held { self.new.held ≡ self.old.held }
         ensures trust { K.is_trusted desk.new → K.is_trusted desk.old }
         ensures beside { (beside : K.Beside) → K.keeps_beside desk.old beside → K.keeps_beside desk.new beside }
@@ -455,7 +459,8 @@ impl<T: Transport> Connection<T> {
     // Nothing more comes, and nothing more is sent.
     fn end<K: Preparer>(&mut self, hub: &mut Hub, desk: &mut K)
         ensures led { HasLedOn (K.is_trusted desk.new) (K.shows desk.old) (K.leaves_one_of desk.old) (K.shows desk.new) (K.leaves_one_of desk.new) hub.old hub.new
-            (λ events. HandsToHub [] self.old self.new events × IsOnly (ended self.old.id) events × AreCausedBy (condition K.has_failed K.is_closed desk.new) self.old self.new events) }
+            (λ events. HandsToHub [] self.old self.new events × IsOnly (ended self.old.id) events × AreCausedBy (condition K.has_failed K.is_closed desk.new) self.old self.new events
+            × HasHolding hub.new self.old.id None) }
         ensures trust { K.is_trusted desk.new → K.is_trusted desk.old }
         ensures beside { (beside : K.Beside) → K.keeps_beside desk.old beside → K.keeps_beside desk.new beside }
         ensures closed { K.is_closed desk.old ≡ true → K.is_closed desk.new ≡ true }

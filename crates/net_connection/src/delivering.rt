@@ -5,6 +5,7 @@ ghost use Rattle.net_hub.specs.Events.{asks_desk, came, happening, id_of};
 ghost use Rattle.net_outlet.specs.Queues.{counts_of};
 ghost use Rattle.net_connection.specs.Causes.{AreCaused};
 ghost use Rattle.net_connection.specs.Leading.{HasLedOn};
+ghost use Rattle.net_connection.specs.Leaving.{HasLost};
 ghost use Rattle.net_connection.specs.Quiet.{StaysIfQuiet};
 ghost use Rattle.net_connection.specs.Telling.{IsTold, IsToldThrough, KeepsOthers, MayRefuse, answer_of};
 
@@ -23,7 +24,8 @@ pub fn deliver<K: Preparer>(
     queue: &mut Queue,
 ) -> Option<Out>
     ensures led { HasLedOn (K.is_trusted desk.new) (K.shows desk.old) (K.leaves_one_of desk.old) (K.shows desk.new) (K.leaves_one_of desk.new) hub.old hub.new
-        (λ events. IsTold (happening event.entry) result queue.old queue.new events × AreCaused (condition K.has_failed K.is_closed desk.new) queue.old queue.new events) }
+        (λ events. IsTold (happening event.entry) result queue.old queue.new events × AreCaused (condition K.has_failed K.is_closed desk.new) queue.old queue.new events
+        × HasLost (happening event.entry) hub.new) }
     ensures trust { K.is_trusted desk.new → K.is_trusted desk.old }
     ensures beside { (beside : K.Beside) → K.keeps_beside desk.old beside → K.keeps_beside desk.new beside }
     ensures closed { K.is_closed desk.old ≡ true → K.is_closed desk.new ≡ true }

@@ -1,4 +1,4 @@
-use Rattle.std.proofs.Common.{◌∙◌, ℕ, List, true, false, sym, subst}
+use Rattle.std.proofs.Common.{◌∙◌, ℕ, List, sym, subst}
 use Rattle.net_hub.specs.Foreseen.{MakeCommand}
 use Rattle.net_connection.specs.Handing.{held_in}
 use Rattle.net_connection.proofs.BackLemmas.{back_never, editor_piece}

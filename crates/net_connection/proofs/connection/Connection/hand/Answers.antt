@@ -9,7 +9,8 @@ use Rattle.net_connection.specs.Telling.{IsToldThrough, answer_of}
 use Rattle.net_connection.specs.Stages.{is_open}
 use Rattle.net_connection.proofs.BackLemmas.{over_closed}
 use Rattle.net_connection.proofs.CauseLemmas.{caused_by, caused_refused}
-use Rattle.net_connection.proofs.LeadLemmas.{led_as, led_joined}
+use Rattle.net_connection.proofs.LeadLemmas.{led_at, led_joined}
+use Rattle.net_connection.proofs.LeaveLemmas.{only_answered, only_ended}
 use Rattle.net_connection.proofs.PieceLemmas.{piece_dropped, piece_within}
 use Rattle.net_connection.proofs.QuietLemmas.{quiet_none}
 use Rattle.net_connection.proofs.TurnLemmas.{answered_open, hands_refused, hands_told, leads_answered}
@@ -20,7 +21,7 @@ pass-requires g c = rw c.next_piece-piece.ensures.value (piece_within c.args.sel
 
 pub returns-in-Ok-clause-led : goal.returns-in-Ok-clause-led
 returns-in-Ok-clause-led g c =
-    led_as c.deliver_through.ensures.led (λ events told.
+    led_at c.deliver_through.ensures.led (λ events origin start state stands at leads is told.
     let old = c.args.self.now in
     let octets = held_in old.held in
     let piece = c.next_piece-piece.result.now in
@@ -34,6 +35,7 @@ returns-in-Ok-clause-led g c =
       leads_answered (IsRefused g.O.Opening.refuses c.args.hub.now) old new octets piece c.in-Ok.out events first rest c.answered-self.ensures answer.answered,
       caused_by (condition g.K.Lookup.has_failed g.K.Lookup.is_closed c.deliver_through.new.desk) old new events told.1,
       λ reader. told.2,
+      only_answered c.args.hub.now c.deliver_through.new.hub old new piece c.in-Ok.out origin start events state stands at leads is answer.answered refl c.answered-self.ensures,
     ))
 
 pub returns-in-Err-clause-led : goal.returns-in-Err-clause-led
@@ -52,6 +54,7 @@ returns-in-Err-clause-led g c =
       both.1,
       caused_refused _ _ old _ _ es fs none.answered told.1 refl ended.2,
       λ reader quiet. c.end.ensures.unasked ∙ quiet_none c.args.hub.now c.args.desk.now c.deliver_through.new.desk es none.answered told.2,
+      only_ended c.args.hub.now c.end.new.hub old c.end.new.self c.end.ensures.id ended.3,
     ))
 
 pub returns-in-Err-clause-others : goal.returns-in-Err-clause-others

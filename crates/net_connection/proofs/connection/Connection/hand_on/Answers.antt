@@ -8,6 +8,7 @@ use Rattle.net_connection.proofs.CauseLemmas.{caused_from, caused_still}
 use Rattle.net_connection.proofs.CommandLemmas.{answered_no_command}
 use Rattle.net_connection.proofs.HoldLemmas.{answer_over, back_once, handed_over, hands_none, led_behind, led_quiet, refused_over}
 use Rattle.net_connection.proofs.QuietLemmas.{quiet_kept}
+use Rattle.net_connection.proofs.LeaveLemmas.{only_from, only_still}
 use Rattle.net_connection.proofs.connection.Connection.hand_on.Goals as goal
 
 pub returns-then-not-is_behind-clause-led : goal.returns-then-not-is_behind-clause-led
@@ -23,6 +24,7 @@ returns-then-not-is_behind-clause-led g c =
       caused_from _ c.args.self.now c.foresee.new.self c.hand_prepared.new.self events (ap (λ it. it.queue.failures) told.same) told.kind handed.2,
       λ reader quiet. handed.3 (ap is_of_editor told.kind ∙ reader) (quiet_kept c.args.hub.now c.foresee.new.hub told.kept events quiet) ∙ told.reader reader,
       λ is editor. back_never _ c.if-not-is_behind.true is,
+      only_from c.args.hub.now c.foresee.new.hub c.hand_prepared.new.hub c.args.self.now c.foresee.new.self c.hand_prepared.new.self (ap (λ it. it.id) told.same) (ap (λ it. it.stage) told.same) told.kept handed.4,
     ))
 
 pub returns-then-asks_change-clause-led : goal.returns-then-asks_change-clause-led
@@ -35,6 +37,7 @@ returns-then-asks_change-clause-led g c =
       caused_still _ old new refl,
       λ reader quiet. refl,
       λ is editor. tt,
+      only_still c.args.hub.now c.asks_change.new.hub old new refl refl c.asks_change.ensures.kept,
     )
 
 pub returns-clause-led : goal.returns-clause-led
@@ -49,6 +52,7 @@ returns-clause-led g c =
       handed.2,
       λ reader quiet. handed.3 reader (quiet_kept c.args.hub.now c.asks_change.new.hub kept.kept events quiet),
       λ is editor. answered_no_command (IsRefused g.O.Opening.refuses c.asks_change.new.hub) c.args.hub.now old c.hand.new.self events editor (kept.no c.if-asks_change.false editor) handed.1,
+      only_from c.args.hub.now c.asks_change.new.hub c.hand.new.hub old old c.hand.new.self refl refl kept.kept handed.4,
     ))
 
 pub returns-then-not-is_behind-clause-back : goal.returns-then-not-is_behind-clause-back

@@ -6,6 +6,7 @@ use Rattle.net_connection.proofs.CauseLemmas.{caused_behind, caused_from, caused
 use Rattle.net_connection.proofs.BackLemmas.{back_never, rest_back}
 use Rattle.net_connection.specs.Handing.{held_in}
 use Rattle.net_connection.proofs.HoldLemmas.{back_once, handed_from, hands_none, led_before, led_behind, led_quiet}
+use Rattle.net_connection.proofs.LeaveLemmas.{only_from, only_still}
 use Rattle.net_connection.proofs.connection.Connection.hand_prepared.Goals as goal
 
 pub returns-then-prepare-clause-led : goal.returns-then-prepare-clause-led
@@ -17,6 +18,7 @@ returns-then-prepare-clause-led g c =
       back_once (IsRefused g.O.Opening.refuses c.args.hub.now) old c.prepare.new.self kept.same kept.octets (kept.fewer c.if-prepare.true).0,
       caused_still _ old c.prepare.new.self (ap (λ it. it.queue.failures) kept.same),
       λ reader quiet. kept.reader reader,
+      only_still c.args.hub.now c.args.hub.now old c.prepare.new.self (ap (λ it. it.id) kept.same) (ap (λ it. it.stage) kept.same) (λ other held has. has),
     )
 
 pub returns-clause-led : goal.returns-clause-led
@@ -37,6 +39,7 @@ returns-clause-led g c =
       λ reader quiet.
           gone.reader (ap is_of_editor (c.hand.ensures.kind ∙ kept.kind) ∙ reader)
           ∙ handed.3 (ap is_of_editor kept.kind ∙ reader) quiet ∙ kept.reader reader,
+      only_from c.args.hub.now c.args.hub.now c.hand.new.hub old c.prepare.new.self c.hand.new.self (ap (λ it. it.id) kept.same) (ap (λ it. it.stage) kept.same) (λ other held has. has) handed.4,
     )))
     (led_quiet gone.shows gone.leaves (λ state at. at) refl) gone.trust
 

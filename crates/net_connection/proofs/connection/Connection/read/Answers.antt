@@ -13,6 +13,7 @@ use Rattle.net_connection.proofs.CommandLemmas.{only_no_command}
 use Rattle.net_connection.proofs.HoldLemmas.{reads_octets}
 use Rattle.net_hub.specs.Events.{ended, is_of_editor}
 use Rattle.net_connection.proofs.TurnLemmas.{reads_none, reads_still}
+use Rattle.net_connection.proofs.LeaveLemmas.{only_ended, only_from, only_still}
 use Rattle.net_connection.proofs.connection.Connection.read.Goals as goal
 
 pub returns-then-not-self-clause-led : goal.returns-then-not-self-clause-led
@@ -23,6 +24,7 @@ returns-then-not-self-clause-led g c =
       caused_still _ c.args.self.now c.args.self.now refl,
       λ reader quiet. refl,
       λ is editor. tt,
+      only_still c.args.hub.now c.args.hub.now c.args.self.now c.args.self.now refl refl (λ other held has. has),
     )
 
 pub returns-in-Octets-clause-led : goal.returns-in-Octets-clause-led
@@ -38,6 +40,7 @@ returns-in-Octets-clause-led g c =
       caused_from _ c.args.self.now filled c.hand_on.new.self events (ap (λ it. it.queue.failures) same) kind handed.2,
       λ reader. handed.3 (ap is_of_editor kind ∙ reader),
       λ is editor. handed.4 is (ap is_of_editor kind ∙ editor),
+      only_from c.args.hub.now c.args.hub.now c.hand_on.new.hub c.args.self.now filled c.hand_on.new.self (ap (λ it. it.id) same) (ap (λ it. it.stage) same) (λ other held has. has) handed.5,
     ))
 
 pub returns-in-End-clause-led : goal.returns-in-End-clause-led
@@ -50,6 +53,8 @@ returns-in-End-clause-led g c =
       caused_from _ c.args.self.now c.receive-received.new.self c.end_input.new.self events (ap (λ it. it.queue.failures) c.receive-received.ensures.same) (ap (λ it. it.held.kind) c.receive-received.ensures.same) handed.2,
       λ reader quiet. c.end_input.ensures.unasked,
       λ is editor. only_no_command c.args.hub.now (ended c.receive-received.new.self.id) events tt handed.1.0,
+      only_from c.args.hub.now c.args.hub.now c.end_input.new.hub c.args.self.now c.receive-received.new.self c.end_input.new.self (ap (λ it. it.id) c.receive-received.ensures.same) (ap (λ it. it.stage) c.receive-received.ensures.same)
+          (λ other held has. has) (only_ended c.args.hub.now c.end_input.new.hub c.receive-received.new.self c.end_input.new.self c.end_input.ensures.id handed.3),
     ))
 
 pub returns-in-Failed-clause-led : goal.returns-in-Failed-clause-led
@@ -62,6 +67,8 @@ returns-in-Failed-clause-led g c =
       caused_from _ c.args.self.now c.receive-received.new.self c.end.new.self events (ap (λ it. it.queue.failures) c.receive-received.ensures.same) (ap (λ it. it.held.kind) c.receive-received.ensures.same) handed.2,
       λ reader quiet. c.end.ensures.unasked,
       λ is editor. only_no_command c.args.hub.now (ended c.receive-received.new.self.id) events tt handed.1,
+      only_from c.args.hub.now c.args.hub.now c.end.new.hub c.args.self.now c.receive-received.new.self c.end.new.self (ap (λ it. it.id) c.receive-received.ensures.same) (ap (λ it. it.stage) c.receive-received.ensures.same)
+          (λ other held has. has) (only_ended c.args.hub.now c.end.new.hub c.receive-received.new.self c.end.new.self c.end.ensures.id handed.3),
     ))
 
 pub returns-in-Interrupted-clause-led : goal.returns-in-Interrupted-clause-led
@@ -76,6 +83,7 @@ returns-in-Interrupted-clause-led g c =
       caused_still _ c.args.self.now c.receive-received.new.self (ap (λ it. it.queue.failures) same),
       λ reader quiet. refl,
       λ is editor. tt,
+      only_still c.args.hub.now c.args.hub.now c.args.self.now c.receive-received.new.self (ap (λ it. it.id) same) (ap (λ it. it.stage) same) (λ other held has. has),
     )
 
 pub returns-in-Nothing-clause-led : goal.returns-in-Nothing-clause-led
@@ -90,6 +98,7 @@ returns-in-Nothing-clause-led g c =
       caused_still _ c.args.self.now (record c.receive-received.new.self { may_receive = false }) (ap (λ it. it.queue.failures) same),
       λ reader quiet. refl,
       λ is editor. tt,
+      only_still c.args.hub.now c.args.hub.now c.args.self.now (record c.receive-received.new.self { may_receive = false }) (ap (λ it. it.id) same) (ap (λ it. it.stage) same) (λ other held has. has),
     )
 
 pub returns-in-Nothing-clause-idle : goal.returns-in-Nothing-clause-idle

@@ -8,6 +8,7 @@ use Rattle.net_connection.proofs.CommandLemmas.{only_no_command}
 use Rattle.net_connection.proofs.LeadLemmas.{led_as}
 use Rattle.net_connection.proofs.PieceLemmas.{none_held}
 use Rattle.net_connection.proofs.TurnLemmas.{failed_is, nothing_came, turns_failed, turns_handed, turns_read, well_isnt}
+use Rattle.net_connection.proofs.LeaveLemmas.{only_ended, only_from}
 use Rattle.net_connection.proofs.connection.Connection.turn.Goals as goal
 
 pub returns-then-has_failed-clause-led : goal.returns-then-has_failed-clause-led
@@ -19,6 +20,8 @@ returns-then-has_failed-clause-led g c =
       caused_from _ c.args.self.now c.send-sent.new.self c.end.new.self events c.send-sent.ensures.failures (ap (λ h. h.kind) c.send-sent.ensures.held) over.2,
       λ reader quiet. c.end.ensures.unasked,
       λ is editor. only_no_command c.args.hub.now (ended c.send-sent.new.self.id) events tt over.1,
+      only_from c.args.hub.now c.args.hub.now c.end.new.hub c.args.self.now c.send-sent.new.self c.end.new.self c.send-sent.ensures.id c.send-sent.ensures.stage (λ other held has. has)
+          (only_ended c.args.hub.now c.end.new.hub c.send-sent.new.self c.end.new.self c.end.ensures.id over.3),
     ))
 
 pub returns-then-not-is_empty-clause-led : goal.returns-then-not-is_empty-clause-led
@@ -30,6 +33,7 @@ returns-then-not-is_empty-clause-led g c =
       caused_from _ c.args.self.now c.send-sent.new.self c.hand_on.new.self events c.send-sent.ensures.failures (ap (λ h. h.kind) c.send-sent.ensures.held) handed.2,
       λ reader. handed.3 (ap (λ h. is_of_editor h.kind) c.send-sent.ensures.held ∙ reader),
       λ is editor. handed.4 is (ap (λ h. is_of_editor h.kind) c.send-sent.ensures.held ∙ editor),
+      only_from c.args.hub.now c.args.hub.now c.hand_on.new.hub c.args.self.now c.send-sent.new.self c.hand_on.new.self c.send-sent.ensures.id c.send-sent.ensures.stage (λ other held has. has) handed.5,
     ))
 
 pub read-received-requires : goal.read-received-requires
@@ -44,6 +48,7 @@ returns-clause-led g c =
       caused_from _ c.args.self.now c.send-sent.new.self c.read-received.new.self events c.send-sent.ensures.failures (ap (λ h. h.kind) c.send-sent.ensures.held) reads.1,
       λ reader. reads.2 (ap (λ h. is_of_editor h.kind) c.send-sent.ensures.held ∙ reader),
       λ is editor. reads.3 is (ap (λ h. is_of_editor h.kind) c.send-sent.ensures.held ∙ editor),
+      only_from c.args.hub.now c.args.hub.now c.read-received.new.hub c.args.self.now c.send-sent.new.self c.read-received.new.self c.send-sent.ensures.id c.send-sent.ensures.stage (λ other held has. has) reads.4,
     ))
 
 pub returns-clause-idle : goal.returns-clause-idle
