@@ -53,8 +53,8 @@ reading_shapes =
     ∷ leaf (codes "session") (codes "FILE" ∷ []) ∷ []
 
 -- what changes the databases of a file's catalogue
-abbrev pub changes : List Shape
-changes =
+abbrev pub change_shapes : List Shape
+change_shapes =
     leaf (codes "install") (codes "FILE" ∷ codes "NAME" ∷ codes "ID" ∷ codes "INDEX" ∷ codes "DICT" ∷ [])
     ∷ leaf (codes "rollback") (codes "FILE" ∷ codes "NAME" ∷ codes "ID" ∷ [])
     ∷ leaf (codes "retire") (codes "FILE" ∷ codes "NAME" ∷ codes "ID" ∷ []) ∷ []
@@ -81,7 +81,7 @@ required = record (new_shape (codes "dictcat")) { has_version = true; subcommand
 
 -- the command line that the program reads
 unfoldable pub command_line : App
-command_line = with_all (with_all (with_all (with_all (alone required) reading_shapes) changes) arrangements) servers
+command_line = with_all (with_all (with_all (with_all (alone required) reading_shapes) change_shapes) arrangements) servers
 
 -- what clap reads by this command is what the app says
 abbrev pub Reads : App → Command → Type 0

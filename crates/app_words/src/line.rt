@@ -2,7 +2,7 @@
 ghost use Rattle.std.specs.Prelude.{◌≡◌, IfOk, false, map};
 ghost use Rattle.clap.specs.Simple.{App, with_rule, with_subcommand};
 ghost use Rattle.clap.specs.Walk.{Rule, rule_of};
-ghost use Rattle.app_words.specs.Line.{word_rule, several, number, setting, count, leaf, alone, required, command_line, with_all, reading_shapes, changes, grouping, placing, arrangements, Reads};
+ghost use Rattle.app_words.specs.Line.{word_rule, several, number, setting, count, leaf, alone, required, command_line, with_all, reading_shapes, change_shapes, grouping, placing, arrangements, Reads};
 
 use crate::help;
 use crate::version::VERSION;
@@ -164,7 +164,7 @@ fn with_changes<'w>(
     alloc: Global,
     line: Result<Command<'w>, AllocError>,
 ) -> Result<Command<'w>, AllocError>
-    ensures { IfOk line.entry (Reads (with_all (alone required) reading_shapes)) → IfOk result (Reads (with_all (with_all (alone required) reading_shapes) changes)) }
+    ensures { IfOk line.entry (Reads (with_all (alone required) reading_shapes)) → IfOk result (Reads (with_all (with_all (alone required) reading_shapes) change_shapes)) }
 {
     let words = &[FILE, NAME, ID, INDEX, DICT];
     let line = with_leaf(alloc, line, "install", help::INSTALL, words);
@@ -203,7 +203,7 @@ fn with_arrangements<'w>(
     alloc: Global,
     line: Result<Command<'w>, AllocError>,
 ) -> Result<Command<'w>, AllocError>
-    ensures { IfOk line.entry (Reads (with_all (with_all (alone required) reading_shapes) changes)) → IfOk result (Reads (with_all (with_all (with_all (alone required) reading_shapes) changes) arrangements)) }
+    ensures { IfOk line.entry (Reads (with_all (with_all (alone required) reading_shapes) change_shapes)) → IfOk result (Reads (with_all (with_all (with_all (alone required) reading_shapes) change_shapes) arrangements)) }
 {
     with_place(alloc, with_group(alloc, line))
 }
@@ -213,7 +213,7 @@ fn with_server<'w>(
     alloc: Global,
     line: Result<Command<'w>, AllocError>,
 ) -> Result<Command<'w>, AllocError>
-    ensures { IfOk line.entry (Reads (with_all (with_all (with_all (alone required) reading_shapes) changes) arrangements)) → IfOk result (Reads command_line) }
+    ensures { IfOk line.entry (Reads (with_all (with_all (with_all (alone required) reading_shapes) change_shapes) arrangements)) → IfOk result (Reads command_line) }
 {
     let server = leaf(alloc, "serve", help::SERVE, &[FILE]);
     let help = "The address for readers, as 127.0.0.1:2628";

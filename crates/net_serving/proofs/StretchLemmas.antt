@@ -6,7 +6,7 @@ use Rattle.dict_catalogue.specs.Steps.{Catalogue}
 use Rattle.dict_desk.specs.Expected.{Expected}
 use Rattle.net_driver.specs.declared.driver.Driver.{Driver}
 use Rattle.app_words.specs.declared.fault.ProgramFault.{ProgramFault}
-use Rattle.net_serving.specs.Serving.{AreLeft, AreServed, CannotWait, Follows, HasGivenOut, HasShut, IsFirst, IsNew, IsOpenBehind, IsOver, Stretch, WasOpened}
+use Rattle.net_serving.specs.Serving.{AreRoundsLeft, AreServed, CannotWait, Follows, HasGivenOut, HasShut, IsFirstStretch, IsNew, IsOpenBehind, IsOver, Stretch, WasOpened}
 
 -- rounds are left, so it is the other
 pub where_left : {A B : Type 0} (left : ℕ) → (A × (left ≡ 0)) ⊎ B → 0 < left → B
@@ -21,10 +21,10 @@ module _ {K Beside : Type 0} (Shows : K → Catalogue → Type 0) (Leaves : K �
   -- a desk comes after these stretches: it is the first, or was opened again after the last of them
   abbrev pub GoesOn : ℕ → K → List (Stretch K) → K → ℕ → Type 0
   GoesOn rounds desk [] next left = (next ≡ desk) × (left ≡ rounds)
-  GoesOn rounds desk (one ∷ []) next left = (is_closed one.left ≡ true) × Follows Shows Leaves Keeps Trusted one.left next × Opened (Some one.left) next × AreLeft one.ended left
+  GoesOn rounds desk (one ∷ []) next left = (is_closed one.left ≡ true) × Follows Shows Leaves Keeps Trusted one.left next × Opened (Some one.left) next × AreRoundsLeft one.ended left
   GoesOn rounds desk (one ∷ other ∷ others) next left = GoesOn rounds desk (other ∷ others) next left
 
-  pub goes_more : (rounds : ℕ) (desk : K) (stretches : List (Stretch K)) (one : Stretch K) (next : K) (left : ℕ) → is_closed one.left ≡ true → Follows Shows Leaves Keeps Trusted one.left next → Opened (Some one.left) next → AreLeft
+  pub goes_more : (rounds : ℕ) (desk : K) (stretches : List (Stretch K)) (one : Stretch K) (next : K) (left : ℕ) → is_closed one.left ≡ true → Follows Shows Leaves Keeps Trusted one.left next → Opened (Some one.left) next → AreRoundsLeft
       one.ended left
       → GoesOn rounds desk (stretches ++ one ∷ []) next left
   goes_more rounds desk [] one next left closed follows again are = (closed, follows, again, are)
@@ -32,13 +32,13 @@ module _ {K Beside : Type 0} (Shows : K → Catalogue → Type 0) (Leaves : K �
   goes_more rounds desk (other ∷ another ∷ stretches) one next left closed follows again are = goes_more rounds desk (another ∷ stretches) one next left closed follows again are
 
   pub open_more : (desk : K) (stretches : List (Stretch K)) (one : Stretch K) (next : K) (left : ℕ)
-      → (next ≡ one.left) ⊎ ((is_closed one.left ≡ true) × Follows Shows Leaves Keeps Trusted one.left next × Opened (Some one.left) next × AreLeft one.ended left)
+      → (next ≡ one.left) ⊎ ((is_closed one.left ≡ true) × Follows Shows Leaves Keeps Trusted one.left next × Opened (Some one.left) next × AreRoundsLeft one.ended left)
       → IsOpenBehind Shows Leaves Keeps Trusted Opened is_closed desk (stretches ++ one ∷ []) next left
   open_more desk [] one next left is = is
   open_more desk (other ∷ []) one next left is = is
   open_more desk (other ∷ another ∷ stretches) one next left is = open_more desk (another ∷ stretches) one next left is
 
-  pub first_goes : (rounds : ℕ) (desk : K) (stretches : List (Stretch K)) (one : Stretch K) → IsFirst rounds desk stretches → GoesOn rounds desk stretches one.opened one.asked → IsFirst rounds desk (stretches ++ one ∷ [])
+  pub first_goes : (rounds : ℕ) (desk : K) (stretches : List (Stretch K)) (one : Stretch K) → IsFirstStretch rounds desk stretches → GoesOn rounds desk stretches one.opened one.asked → IsFirstStretch rounds desk (stretches ++ one ∷ [])
   first_goes rounds desk [] one first goes = goes
   first_goes rounds desk (other ∷ stretches) one first goes = first
 

@@ -30,8 +30,8 @@ pub record Stretch (K : Type 0) : Type 0 where
   pub ended : Result RoundsEnd Error
 
 -- rounds ended since the store of the desk had failed, and so many were left
-abbrev pub AreLeft : Result RoundsEnd Error → ℕ → Type 0
-AreLeft ended left = ended ≡ Ok (Closed left)
+abbrev pub AreRoundsLeft : Result RoundsEnd Error → ℕ → Type 0
+AreRoundsLeft ended left = ended ≡ Ok (Closed left)
 
 -- the faults of a file and of its catalogue: the file can't be read, or its catalogue can't be had, or memory ran out. No refusal is one
 abbrev pub IsOfFile : ProgramFault → Type 0
@@ -78,9 +78,9 @@ abbrev pub IsOpen : {K : Type 0} → (K → Bool) → (K → Type 0) → K → T
 IsOpen is_closed IsOpened desk = IsOpened desk ⊎ (is_closed desk ≡ false)
 
 -- the first stretch, if there is one, is over this desk, and so many rounds were to be made over it
-abbrev pub IsFirst : {K : Type 0} → ℕ → K → List (Stretch K) → Type 0
-IsFirst rounds desk [] = ⊤
-IsFirst rounds desk (one ∷ others) = (one.opened ≡ desk) × (one.asked ≡ rounds)
+abbrev pub IsFirstStretch : {K : Type 0} → ℕ → K → List (Stretch K) → Type 0
+IsFirstStretch rounds desk [] = ⊤
+IsFirstStretch rounds desk (one ∷ others) = (one.opened ≡ desk) × (one.asked ≡ rounds)
 
 -- A desk shows one of the catalogues that a stop could have left of another, this is told where what it stands on has returned what was
 -- written to it; and what was beside that catalogue is kept
@@ -118,7 +118,7 @@ module _ {K Beside : Type 0} (Shows : K → Catalogue → Type 0) (LeavesOneOf :
   abbrev pub IsOpenBehind : K → List (Stretch K) → K → ℕ → Type 0
   IsOpenBehind desk [] next left = next ≡ desk
   IsOpenBehind desk (one ∷ []) next left =
-      (next ≡ one.left) ⊎ ((is_closed one.left ≡ true) × Follows Shows LeavesOneOf KeepsBeside IsTrusted one.left next × IsOpened (Some one.left) next × AreLeft one.ended left)
+      (next ≡ one.left) ⊎ ((is_closed one.left ≡ true) × Follows Shows LeavesOneOf KeepsBeside IsTrusted one.left next × IsOpened (Some one.left) next × AreRoundsLeft one.ended left)
   IsOpenBehind desk (one ∷ other ∷ others) next left = IsOpenBehind desk (other ∷ others) next left
 
 -- By what a desk shows, what a stop may leave of it, what is beside the catalogue, that what it stands on has returned what was written, that it was opened, whether
@@ -141,7 +141,7 @@ module _ {K Beside : Type 0} (Shows : K → Catalogue → Type 0) (LeavesOneOf :
   -- catalogues that a stop could have left of that, and over it the rounds are to be made that were left
   abbrev pub GaveWay : Stretch K → List (Stretch K) → Type 0
   GaveWay one [] = ⊤
-  GaveWay one (other ∷ others) = (is_closed one.left ≡ true) × Follows Shows LeavesOneOf KeepsBeside IsTrusted one.left other.opened × IsOpened (Some one.left) other.opened × AreLeft one.ended other.asked
+  GaveWay one (other ∷ others) = (is_closed one.left ≡ true) × Follows Shows LeavesOneOf KeepsBeside IsTrusted one.left other.opened × IsOpened (Some one.left) other.opened × AreRoundsLeft one.ended other.asked
 
   -- one stretch after the other, each from where the one before it left the hub and the connections, and each but the first because
   -- the store of the one before it had failed
@@ -164,7 +164,7 @@ module _ {K Beside : Type 0} (Shows : K → Catalogue → Type 0) (LeavesOneOf :
     pub no_round : first.event_loop.rounds ≡ 0
     pub no_failure : first.event_loop.failure ≡ None
     pub stretches : List (Stretch K)
-    pub over : IsFirst (rounds_of rounds) desk stretches
+    pub over : IsFirstStretch (rounds_of rounds) desk stretches
     pub served : AreServed stretches first last
     pub made : MakesAll (rounds_of rounds) result last.event_loop.rounds
     pub ends : EndsServing is_closed Shut Unreopened stretches last result

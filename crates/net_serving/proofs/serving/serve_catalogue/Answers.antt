@@ -3,7 +3,7 @@ use Rattle.std.specs.Prelude.{None, Some, Ok, Err}
 use Rattle.net_driver.specs.Serving.{rounds_of}
 use Rattle.std.proofs.lemmas.Result.{err_from_is_err_and}
 use Rattle.net_serving.specs.Deeds.{WasShut}
-use Rattle.net_serving.specs.Serving.{IsFirst, IsOpenBehind}
+use Rattle.net_serving.specs.Serving.{IsFirstStretch, IsOpenBehind}
 use Rattle.net_serving.proofs.DeedLemmas.{does_both, does_none, was_done}
 use Rattle.net_serving.proofs.StretchLemmas.{was_opened}
 use Rattle.net_serving.proofs.serving.serve_catalogue.Goals as goal
@@ -53,7 +53,7 @@ returns-in_err-desk-2 g c =
           no_round = c.in-Ok.ensures.rounds;
           no_failure = c.in-Ok.ensures.failure;
           stretches = served.0;
-          over = subst (λ n. IsFirst n c.in_ok-desk.desk served.0) asked served.2;
+          over = subst (λ n. IsFirstStretch n c.in_ok-desk.desk served.0) asked served.2;
           served = served.1;
           made = made;
           ends = served.3;
@@ -93,7 +93,7 @@ returns g c =
           no_round = c.in-Ok.ensures.rounds;
           no_failure = c.in-Ok.ensures.failure;
           stretches = served.0;
-          over = subst (λ n. IsFirst n c.in_ok-desk.desk served.0) asked served.2;
+          over = subst (λ n. IsFirstStretch n c.in_ok-desk.desk served.0) asked served.2;
           served = served.1;
           made = made;
           ends = tt;
