@@ -12,13 +12,13 @@ use Rattle.store_holdings.specs.Holds.{Holds, Rests, IsLeftAs, HasPlace}
 use Rattle.store_migration.specs.Making.{creation, CreationFailsToEnd}
 use Rattle.store_holdings.specs.Committed.{IsTreesOf}
 use Rattle.store_migration.specs.Spared.{SparesOthers}
-use Rattle.store_opening.specs.Reading.{HasFailedToRead}
+use Rattle.store_opening.specs.Reading.{IsOfOpening, HasFailedToRead}
 use Rattle.store_rows.specs.Versions.{known}
 use Rattle.dict_proto.specs.Streams.{StreamChange}
 use Rattle.dict_session.specs.declared.session.run.SessionEnd.{SessionEnd}
 use Rattle.dict_session.specs.declared.session.run.SessionFault.{SessionFault}
 use Rattle.dict_session.specs.declared.session.run.SessionFault.TheVariants as session_faults
-use Rattle.store_desk.specs.Desk.{DeskState, KeepsBeside, Shows, LeavesOneOf}
+use Rattle.store_desk.specs.Desk.{DeskState, KeepsBeside, Shows, LeavesOneOf, is_closed}
 use Rattle.store_desk.specs.Opened.{TellsOfDatabase, IsNotHeld}
 use Rattle.store_desk.specs.Over.{HasRun, ConnectionKeepsBeside, ConnectionLeavesOneOf}
 use Rattle.app_words.specs.Faults.{told_of}
@@ -71,10 +71,11 @@ module _ {S : Type 0} (g : Ghosts S) where
   abbrev pub IsSound : DeskState S → Type 0
   IsSound new = HasCleanDisk (state g new.conn) → (M : Catalogue) × Rests known (state g new.conn) M
 
-  -- what is committed was read, and the fault, as the program tells it, is what that holds instead; or it couldn't be read, since its store failed or memory ran out
+  -- What is committed was read, and the fault, as the program tells it, is what that holds instead; or it couldn't be read, since its store
+  -- failed or memory ran out. Of a desk that is open it is one of the faults of an opening.
   abbrev pub IsUnsound : DeskState S → DeskState S → ProgramFault → Type 0
   IsUnsound old new fault =
-      (why : DeskFault) × (fault ≡ told_of why) × (HasCleanDisk (state g new.conn) → TellsOfDatabase (state g old.conn).committed why × IsNotHeld (state g old.conn).committed why
+      (why : DeskFault) × (fault ≡ told_of why) × (is_closed old.last ≡ false → IsOfOpening why) × (HasCleanDisk (state g new.conn) → TellsOfDatabase (state g old.conn).committed why × IsNotHeld (state g old.conn).committed why
       × (why ≡ Disk → HasFailedToRead (state g old.conn) (state g new.conn)))
 
   -- A session over the catalogue of an opened database ended so, and left this desk of it.
