@@ -1,5 +1,5 @@
 -- Each row of a database that holds a catalogue stands for a record.
-use Rattle.std.proofs.Common.{◌≡◌, ◌⊎◌, inl, inr, ℕ, ◌+◌, ℤ, pos, true, ◌&&◌, List, [], ◌∷◌, ◌++◌, map, drop, take, codes, Option, Some, None, refl, sym, subst, ◌∙◌}
+use Rattle.std.proofs.Common.{◌≡◌, ◌⊎◌, inl, inr, ℕ, ℤ, pos, true, ◌&&◌, List, [], ◌∷◌, ◌++◌, map, drop, take, codes, Option, Some, None, refl, sym, subst, ◌∙◌}
 use Rattle.std.specs.Prelude.{bytes_eq, IsTrue, option_map}
 use Rattle.std.specs.List.{AllByRecursion, list_any}
 use Rattle.std.specs.Str.{IsUtf8}

@@ -1,8 +1,8 @@
 -- The texts of editions, which the entries of an index cut, and those of their parts that are kept in memory beside a database.
-use Rattle.std.specs.Prelude.{◌≡◌, ◌⊎◌, ◌≤◌, ◌<◌, ◌^◌, ℕ, false, IsTrue, List, [], map, length, slice_index_or}
+use Rattle.std.specs.Prelude.{◌≡◌, ◌⊎◌, ◌≤◌, ◌<◌, ◌^◌, ℕ, IsTrue, List, [], map, length, slice_index_or}
 use Rattle.std.specs.List.{AllByRecursion}
 use Rattle.sqlite.specs.Held.{Held, state}
-use Rattle.sqlite.specs.State.{State, HasCleanDisk, IsUnchanged, Survives}
+use Rattle.sqlite.specs.State.{State, HasCleanDisk}
 use Rattle.sqlite_trees.specs.declared.store.Store.{Ghosts}
 use Rattle.dict_index.specs.Line.{Line}
 use Rattle.dict_index.specs.Edition.{Edition, entry_in}
@@ -12,7 +12,7 @@ use Rattle.store_search.specs.Entries.{Indexed, entry_of}
 use Rattle.store_holdings.specs.KeptTexts.{PartNumbers, with_text}
 use Rattle.dict_desk.specs.declared.fault.Fault.{Fault}
 use Rattle.dict_desk.specs.declared.fault.Fault.TheVariants.{Memory}
-use Rattle.store_holdings.specs.Searches.{FailsToLookUp, number_in_column}
+use Rattle.store_holdings.specs.Searches.{IsReadFrom, FailsToReadUnder}
 
 -- The entries of the index are those of lines that cut the edition's entries out of the text, which is as short as each that is stored.
 pub record Cuts (index : List Indexed) (edition : Edition) (text : List ℕ) : Type 0 where
@@ -48,18 +48,15 @@ pub record HasText (s : State) (number : ℕ) (text : List ℕ) (texts : List (P
 module _ {S : Type 0} (g : Ghosts S) where
   -- the connection wasn't asked, or was read from
   abbrev pub IsAtMostRead : Held S → Held S → Type 0
-  IsAtMostRead old new = (new ≡ old) ⊎ IsUnchanged (state g old) (state g new)
-
-  -- Between two states parts of the text of an edition were asked for, whether they were given or not: the connection survives; what is
-  -- kept under a number are parts of each text of which they were before, and which the database has where it is this number; and the
-  -- numbers are those of installs.
-  pub record AsksForParts (installs number : ℕ) (old new : Held S) (before after : List (PartNumbers × List ℕ)) : Type 0 where
-    pub mode : old.in_transaction ≡ false → new.in_transaction ≡ false
-    pub survives : Survives (state g old) (state g new) (λ _. ⊥)
-    pub texts : HasCleanDisk (state g new) → (other : ℕ) (text : List ℕ) → ArePartsOf other text before → (other ≡ number → IsTrue (state g old).is_open → HoldsText (state g old).now other text) → ArePartsOf other text after
-    pub made : AreOfInstalls installs before → AreOfInstalls installs after
+  IsAtMostRead old new = (new ≡ old) ⊎ IsReadFrom g old new
 
   -- Entries weren't handed out with their texts: a growth was refused, and nothing has changed; or what is to be read under the number
   -- wasn't read.
   abbrev pub FailsToFind : ℕ → Held S → Held S → Fault → Type 0
-  FailsToFind number old new fault = ((fault ≡ Memory) × (new ≡ old)) ⊎ FailsToLookUp (number_in_column number) (state g old) (state g new) fault
+  FailsToFind number old new fault = ((fault ≡ Memory) × (new ≡ old)) ⊎ FailsToReadUnder g number old new fault
+
+  -- Between two states parts of the text of an edition were asked for, whether they were given or not. What is kept under a number are
+  -- parts of each text of which they were before, and which the database has where it is this number; and the numbers are those of installs.
+  pub record KeepsParts (installs number : ℕ) (old new : Held S) (before after : List (PartNumbers × List ℕ)) : Type 0 where
+    pub texts : HasCleanDisk (state g new) → (other : ℕ) (text : List ℕ) → ArePartsOf other text before → (other ≡ number → IsTrue (state g old).is_open → HoldsText (state g old).now other text) → ArePartsOf other text after
+    pub made : AreOfInstalls installs before → AreOfInstalls installs after

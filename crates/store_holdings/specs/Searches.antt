@@ -1,9 +1,11 @@
 -- What a lookup asks of a database, what it reads there, and how it leaves it.
-use Rattle.std.specs.Prelude.{◌≡◌, ◌⊎◌, ◌≤◌, IsSome, IsPermutation, nat_le, if◌then◌else◌, ℕ, pos, List, [], ◌∷◌, codes, filter}
+use Rattle.std.specs.Prelude.{◌≡◌, ◌⊎◌, ◌≤◌, IsSome, IsPermutation, nat_le, if◌then◌else◌, ℕ, pos, false, List, [], ◌∷◌, codes, filter, Result, OnOk, IfErr}
 use Rattle.std.specs.List.{AllByRecursion}
 use Rattle.sqlite.specs.declared.error.Error.{Error}
 use Rattle.sqlite.specs.Effect.{Database}
-use Rattle.sqlite.specs.State.{State, IsUnchanged, Fails}
+use Rattle.sqlite.specs.Held.{Held, state}
+use Rattle.sqlite.specs.State.{State, HasCleanDisk, IsUnchanged, Fails, Survives}
+use Rattle.sqlite_trees.specs.declared.store.Store.{Ghosts}
 use Rattle.store_tables.specs.Records.{header_of}
 use Rattle.store_tables.specs.Effects.{Has, equals_number, rows_of}
 use Rattle.store_sql.specs.Columns.{HasColumns}
@@ -58,3 +60,24 @@ IsUnreadEdition number old NewerSchema = ⊥
 -- shows what was committed; or nothing has changed, and the store did not fail.
 abbrev pub FailsToLookUp : ℕ → State → State → Fault → Type 0
 FailsToLookUp number old new fault = (IsUnchanged old new × IsUnreadEdition number old fault) ⊎ ((e : Error) × (fault ≡ fault_of e) × Fails old new ⊥ e)
+
+-- ---- what it leaves of a connection
+
+module _ {S : Type 0} (g : Ghosts S) where
+  -- the connection was read from, and nothing has changed
+  abbrev pub IsReadFrom : Held S → Held S → Type 0
+  IsReadFrom old new = IsUnchanged (state g old) (state g new)
+
+  -- what is to be read under this number wasn't read
+  abbrev pub FailsToReadUnder : ℕ → Held S → Held S → Fault → Type 0
+  FailsToReadUnder number old new fault = FailsToLookUp (number_in_column number) (state g old) (state g new) fault
+
+  -- How a lookup ends, and what it leaves of a connection. Where no disk has failed, the connection behind it is to that before it as the one
+  -- relation says if it gave something, and as the other says of its fault if it failed. The fault is one of the store's. No transaction has
+  -- begun, and a stop may leave nothing that it couldn't leave before.
+  pub record ReadsStore {T : Type 0} (Reads : Held S → Held S → Type 0) (FailsToRead : Held S → Held S → Fault → Type 0) (old new : Held S) (result : Result T Fault) : Type 0 where
+    pub same : HasCleanDisk (state g new) → OnOk result (Reads old new)
+    pub failed : HasCleanDisk (state g new) → IfErr result (FailsToRead old new)
+    pub kinds : IfErr result IsOfStore
+    pub mode : old.in_transaction ≡ false → new.in_transaction ≡ false
+    pub survives : Survives (state g old) (state g new) (λ _. ⊥)

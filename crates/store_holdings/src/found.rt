@@ -1,5 +1,5 @@
 // What is found in an index, handed out.
-ghost use Rattle.std.specs.Prelude.{◌≡◌, ◌<◌, ◌^◌, ℕ, List, [], ◌∷◌, map, length, Ok, IfErr, OnOk, OnErr};
+ghost use Rattle.std.specs.Prelude.{◌≡◌, ◌<◌, ◌^◌, ℕ, List, [], ◌∷◌, map, length, Ok, OnOk, OnErr};
 ghost use Rattle.sqlite.specs.State.{HasCleanDisk};
 ghost use Rattle.sqlite.specs.Held.{state};
 ghost use Rattle.store_tables.specs.Effects.{Has, WhileOpen};
@@ -7,8 +7,8 @@ ghost use Rattle.store_sql.specs.PartTable.{part as part_table};
 ghost use Rattle.dict_desk.specs.Shown.{Row as ShownRow};
 ghost use Rattle.dict_desk.specs.Handing.{Hands};
 ghost use Rattle.store_search.specs.Entries.{entry_at, entries_at, row_in, headword_row, indexed_shown};
-ghost use Rattle.store_holdings.specs.Searches.{IsOfStore};
-ghost use Rattle.store_holdings.specs.CutTexts.{HasText, IsAtMostRead, AsksForParts, FailsToFind};
+ghost use Rattle.store_holdings.specs.Searches.{ReadsStore};
+ghost use Rattle.store_holdings.specs.CutTexts.{HasText, IsAtMostRead, FailsToFind, KeepsParts};
 ghost use Rattle.store_holdings.specs.Taken.{more_taken};
 
 use crate::parts::body;
@@ -31,15 +31,13 @@ fn hand_entry<S: Alter, T: RowSink>(
     rows_taken: &mut u64,
 ) -> Result<Demand, Fault>
     requires { WhileOpen (state S.Store conn.old) (Has part_table) }
-    ensures asks { AsksForParts S.Store installs number conn.old conn.new texts.old texts.new }
     ensures more { HasCleanDisk (state S.Store conn.new) → (text : List ℕ) → length text < 64 ^ 6 → HasText (state S.Store conn.old) number text texts.old → result ≡ Ok Demand.More → T.takes sink.old (row_in text (entry_at index.now place) ∷ []) sink.new }
     ensures stop { HasCleanDisk (state S.Store conn.new) → (text : List ℕ) → length text < 64 ^ 6 → HasText (state S.Store conn.old) number text texts.old → result ≡ Ok Demand.Stop → T.stops sink.old (row_in text (entry_at index.now place) ∷ []) sink.new }
     ensures handed { (row : ShownRow) × (result ≡ Ok Demand.More → T.takes sink.old (row ∷ []) sink.new) × (result ≡ Ok Demand.Stop → T.stops sink.old (row ∷ []) sink.new) }
     ensures none { OnErr result (sink.new ≡ sink.old) }
     ensures counted { OnOk result ((read : ℕ) × (rows_taken.new ≡ more_taken rows_taken.old read)) }
-    ensures same { HasCleanDisk (state S.Store conn.new) → OnOk result (IsAtMostRead S.Store conn.old conn.new) }
-    ensures failed { HasCleanDisk (state S.Store conn.new) → IfErr result (FailsToFind S.Store number conn.old conn.new) }
-    ensures kinds { IfErr result IsOfStore }
+    ensures reads { ReadsStore S.Store (IsAtMostRead S.Store) (FailsToFind S.Store number) conn.old conn.new result }
+    ensures keeps { KeepsParts S.Store installs number conn.old conn.new texts.old texts.new }
 {
     let entry = index.entry(place);
     match body(
@@ -74,13 +72,11 @@ pub(crate) fn hand_found<S: Alter, T: RowSink>(
     rows_taken: &mut u64,
 ) -> Result<End, Fault>
     requires { WhileOpen (state S.Store conn.old) (Has part_table) }
-    ensures asks { AsksForParts S.Store installs number conn.old conn.new texts.old texts.new }
     ensures value { HasCleanDisk (state S.Store conn.new) → (text : List ℕ) → length text < 64 ^ 6 → HasText (state S.Store conn.old) number text texts.old → Hands T.takes T.stops sink.old sink.new (map (row_in text) (entries_at index.now places.now)) result }
     ensures handed { (rows : List ShownRow) × Hands T.takes T.stops sink.old sink.new rows result }
     ensures counted { OnOk result ((read : ℕ) × (rows_taken.new ≡ more_taken rows_taken.old read)) }
-    ensures same { HasCleanDisk (state S.Store conn.new) → OnOk result (IsAtMostRead S.Store conn.old conn.new) }
-    ensures failed { HasCleanDisk (state S.Store conn.new) → IfErr result (FailsToFind S.Store number conn.old conn.new) }
-    ensures kinds { IfErr result IsOfStore }
+    ensures reads { ReadsStore S.Store (IsAtMostRead S.Store) (FailsToFind S.Store number) conn.old conn.new result }
+    ensures keeps { KeepsParts S.Store installs number conn.old conn.new texts.old texts.new }
 {
     let _taken = *rows_taken;
     for place in places {

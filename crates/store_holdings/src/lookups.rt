@@ -1,6 +1,6 @@
 // What is asked of an edition.
 ghost use Rattle.std.specs.Prelude.{◌≡◌, ◌+◌, ◌≤◌, ℕ, false, List, IsTrue, Ok, IfOk, IfErr, IsErr, OnOk, OnErr};
-ghost use Rattle.sqlite.specs.State.{HasCleanDisk, IsUnchanged, Survives};
+ghost use Rattle.sqlite.specs.State.{HasCleanDisk};
 ghost use Rattle.sqlite.specs.Held.{state};
 ghost use Rattle.store_tables.specs.Effects.{WhileOpen};
 ghost use Rattle.dict_index.specs.Edition.{Edition, ReadEdition, edition_of};
@@ -8,8 +8,8 @@ ghost use Rattle.dict_desk.specs.Shown.{Row as ShownRow, found_rows, headword_ro
 ghost use Rattle.dict_desk.specs.Handing.{Hands};
 ghost use Rattle.store_search.specs.Found.{count_selected};
 ghost use Rattle.store_holdings.specs.HeldTexts.{HoldsText};
-ghost use Rattle.store_holdings.specs.Searches.{HasLookupTables, HoldsOne, FailsToLookUp, IsOfStore, number_in_column};
-ghost use Rattle.store_holdings.specs.CutTexts.{Cuts, IsIndexOf, ArePartsOf, AreOfInstalls, IsAtMostRead, FailsToFind};
+ghost use Rattle.store_holdings.specs.Searches.{HasLookupTables, HoldsOne, ReadsStore, IsReadFrom, FailsToReadUnder};
+ghost use Rattle.store_holdings.specs.CutTexts.{Cuts, IsIndexOf, ArePartsOf, IsAtMostRead, FailsToFind, KeepsParts};
 ghost use Rattle.store_holdings.specs.Taken.{more_taken, LooksAt};
 
 use crate::found::{hand_found, hand_headwords};
@@ -38,12 +38,8 @@ pub fn info<S: Alter, T: RowSink>(
     ensures value { HasCleanDisk (state S.Store conn.new) → (reading : ReadEdition) → HoldsOne (state S.Store conn.old).now number reading → Hands T.takes T.stops sink.old sink.new (info_rows (edition_of reading)) result }
     ensures taken { HasCleanDisk (state S.Store conn.new) → (reading : ReadEdition) → HoldsOne (state S.Store conn.old).now number reading → OnOk result (rows_taken.new ≡ more_taken rows_taken.old 1) }
     ensures handed { (rows : List ShownRow) × Hands T.takes T.stops sink.old sink.new rows result }
-    ensures same { HasCleanDisk (state S.Store conn.new) → OnOk result (IsUnchanged (state S.Store conn.old) (state S.Store conn.new)) }
-    ensures failed { HasCleanDisk (state S.Store conn.new) → IfErr result (FailsToLookUp (number_in_column number) (state S.Store conn.old) (state S.Store conn.new)) }
+    ensures reads { ReadsStore S.Store (IsReadFrom S.Store) (FailsToReadUnder S.Store number) conn.old conn.new result }
     ensures shut { HasCleanDisk (state S.Store conn.new) → (state S.Store conn.old).is_open ≡ false → IsErr result × (sink.new ≡ sink.old) }
-    ensures kinds { IfErr result IsOfStore }
-    ensures mode { conn.old.in_transaction ≡ false → conn.new.in_transaction ≡ false }
-    ensures survives { Survives (state S.Store conn.old) (state S.Store conn.new) (λ _. ⊥) }
 {
     let Some(info) = info_of_number(alloc, conn, number, rows_taken)? else {
         return Ok(End::All);
@@ -83,16 +79,11 @@ pub fn find<S: Alter, T: RowSink>(
 ) -> Result<End, Fault>
     requires { WhileOpen (state S.Store conn.old) HasLookupTables }
     ensures value { HasCleanDisk (state S.Store conn.new) → (edition : Edition) (text : List ℕ) → Cuts index.now edition text → ArePartsOf number text texts.old → (IsTrue (state S.Store conn.old).is_open → HoldsText (state S.Store conn.old).now number text) → Hands T.takes T.stops sink.old sink.new (found_rows strategy query.now edition) result }
-    ensures texts { HasCleanDisk (state S.Store conn.new) → (other : ℕ) (text : List ℕ) → ArePartsOf other text texts.old → (other ≡ number → IsTrue (state S.Store conn.old).is_open → HoldsText (state S.Store conn.old).now other text) → ArePartsOf other text texts.new }
-    ensures made { AreOfInstalls installs texts.old → AreOfInstalls installs texts.new }
     ensures handed { (rows : List ShownRow) × Hands T.takes T.stops sink.old sink.new rows result }
     ensures taken { result ≡ Ok End.All → (read : ℕ) × (rows_taken.new ≡ more_taken rows_taken.old (count_selected strategy query.now index.now + read)) }
     ensures looks { (edition : Edition) → IsIndexOf index.now edition → result ≡ Ok End.All → LooksAt rows_taken.old rows_taken.new (count_of What.Entries strategy query.now edition) }
-    ensures same { HasCleanDisk (state S.Store conn.new) → OnOk result (IsAtMostRead S.Store conn.old conn.new) }
-    ensures failed { HasCleanDisk (state S.Store conn.new) → IfErr result (FailsToFind S.Store number conn.old conn.new) }
-    ensures kinds { IfErr result IsOfStore }
-    ensures mode { conn.old.in_transaction ≡ false → conn.new.in_transaction ≡ false }
-    ensures survives { Survives (state S.Store conn.old) (state S.Store conn.new) (λ _. ⊥) }
+    ensures reads { ReadsStore S.Store (IsAtMostRead S.Store) (FailsToFind S.Store number) conn.old conn.new result }
+    ensures keeps { KeepsParts S.Store installs number conn.old conn.new texts.old texts.new }
 {
     edition_laws();
     let found = index.find(alloc, strategy, query.as_bytes())?;

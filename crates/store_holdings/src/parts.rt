@@ -1,15 +1,15 @@
 // The text of an entry, out of the parts of the text of its edition: those that are kept, and the others in the database.
-ghost use Rattle.std.specs.Prelude.{◌≡◌, ◌<◌, ◌≤◌, ◌+◌, ◌-◌, ◌^◌, ◌++◌, ℕ, [], List, length, take, drop, slice_index_or, false, IfOk, IfErr, OnOk};
+ghost use Rattle.std.specs.Prelude.{◌≡◌, ◌<◌, ◌≤◌, ◌+◌, ◌-◌, ◌^◌, ◌++◌, ℕ, [], List, length, take, drop, slice_index_or, IfOk, OnOk};
 ghost use Rattle.std.specs.Map.{lookup, remove_entry};
-ghost use Rattle.sqlite.specs.State.{HasCleanDisk, Survives};
+ghost use Rattle.sqlite.specs.State.{HasCleanDisk};
 ghost use Rattle.sqlite.specs.Held.{state};
 ghost use Rattle.store_tables.specs.Effects.{Has, WhileOpen};
 ghost use Rattle.store_sql.specs.PartTable.{part as part_table};
 ghost use Rattle.store_rows.specs.Parts.{parts_of};
 ghost use Rattle.store_holdings.specs.HeldTexts.{HoldsText};
 ghost use Rattle.store_holdings.specs.KeptTexts.{same_key};
-ghost use Rattle.store_holdings.specs.Searches.{FailsToLookUp, IsOfStore, number_in_column};
-ghost use Rattle.store_holdings.specs.CutTexts.{HasText, MayKeep, IsAtMostRead, AsksForParts, FailsToFind};
+ghost use Rattle.store_holdings.specs.Searches.{ReadsStore, FailsToReadUnder};
+ghost use Rattle.store_holdings.specs.CutTexts.{HasText, MayKeep, IsAtMostRead, FailsToFind, KeepsParts};
 ghost use Rattle.store_holdings.specs.Taken.{more_taken, rows_read_for};
 
 use crate::record::read_part;
@@ -46,11 +46,7 @@ fn take_part<S: Alter>(
     ensures left { texts.new ≡ remove_entry (same_key (number, part)) texts.old }
     ensures taken { HasCleanDisk (state S.Store conn.new) → (text : List ℕ) → HoldsText (state S.Store conn.old).now number text → part < length (parts_of text) → OnOk result (rows_taken.new ≡ more_taken rows_taken.old (rows_read_for (lookup (same_key (number, part)) texts.old))) }
     ensures counted { OnOk result ((read : ℕ) × (rows_taken.new ≡ more_taken rows_taken.old read)) }
-    ensures same { HasCleanDisk (state S.Store conn.new) → OnOk result (IsAtMostRead S.Store conn.old conn.new) }
-    ensures failed { HasCleanDisk (state S.Store conn.new) → IfErr result (FailsToLookUp (number_in_column number) (state S.Store conn.old) (state S.Store conn.new)) }
-    ensures kinds { IfErr result IsOfStore }
-    ensures mode { conn.old.in_transaction ≡ false → conn.new.in_transaction ≡ false }
-    ensures survives { Survives (state S.Store conn.old) (state S.Store conn.new) (λ _. ⊥) }
+    ensures reads { ReadsStore S.Store (IsAtMostRead S.Store) (FailsToReadUnder S.Store number) conn.old conn.new result }
 {
     let _taken = *rows_taken;
     if let Some(octets) = texts.take((number, part)) {
@@ -88,15 +84,13 @@ fn put_part<S: Alter>(
     rows_taken: &mut u64,
 ) -> Result<(), Fault>
     requires { WhileOpen (state S.Store conn.old) (Has part_table) }
-    ensures asks { AsksForParts S.Store installs number conn.old conn.new texts.old texts.new }
     ensures put { HasCleanDisk (state S.Store conn.new) → (text : List ℕ) → HasText (state S.Store conn.old) number text texts.old → OnOk result (to.new.items ≡ to.old.items ++ take (length to.new.items - length to.old.items) (drop place text)) }
     ensures ended { HasCleanDisk (state S.Store conn.new) → (text : List ℕ) → HasText (state S.Store conn.old) number text texts.old → 1 ≤ most → OnOk result (length to.new.items ≡ length to.old.items → length text ≤ place) }
     ensures more { OnOk result (length to.old.items ≤ length to.new.items) }
     ensures most { OnOk result (length to.new.items ≤ length to.old.items + most) }
     ensures counted { OnOk result ((read : ℕ) × (rows_taken.new ≡ more_taken rows_taken.old read)) }
-    ensures same { HasCleanDisk (state S.Store conn.new) → OnOk result (IsAtMostRead S.Store conn.old conn.new) }
-    ensures failed { HasCleanDisk (state S.Store conn.new) → IfErr result (FailsToFind S.Store number conn.old conn.new) }
-    ensures kinds { IfErr result IsOfStore }
+    ensures reads { ReadsStore S.Store (IsAtMostRead S.Store) (FailsToFind S.Store number) conn.old conn.new result }
+    ensures keeps { KeepsParts S.Store installs number conn.old conn.new texts.old texts.new }
 {
     let part = place / PART_SIZE as u64;
     match take_part(alloc, conn, texts, number, part, rows_taken) {
@@ -127,12 +121,10 @@ pub(crate) fn body<S: Alter>(
     rows_taken: &mut u64,
 ) -> Result<Vec<u8>, Fault>
     requires { WhileOpen (state S.Store conn.old) (Has part_table) }
-    ensures asks { AsksForParts S.Store installs number conn.old conn.new texts.old texts.new }
     ensures value { HasCleanDisk (state S.Store conn.new) → (text : List ℕ) → length text < 64 ^ 6 → HasText (state S.Store conn.old) number text texts.old → IfOk result (λ octets. octets.items ≡ take size (drop start text)) }
     ensures counted { OnOk result ((read : ℕ) × (rows_taken.new ≡ more_taken rows_taken.old read)) }
-    ensures same { HasCleanDisk (state S.Store conn.new) → OnOk result (IsAtMostRead S.Store conn.old conn.new) }
-    ensures failed { HasCleanDisk (state S.Store conn.new) → IfErr result (FailsToFind S.Store number conn.old conn.new) }
-    ensures kinds { IfErr result IsOfStore }
+    ensures reads { ReadsStore S.Store (IsAtMostRead S.Store) (FailsToFind S.Store number) conn.old conn.new result }
+    ensures keeps { KeepsParts S.Store installs number conn.old conn.new texts.old texts.new }
 {
     let _taken = *rows_taken;
     let Ok(mut octets) = Vec::with_capacity(alloc, size) else {

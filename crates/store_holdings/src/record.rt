@@ -1,7 +1,7 @@
 // What the database has of one edition: its info, and a part of its text.
-ghost use Rattle.std.specs.Prelude.{◌≡◌, ◌<◌, ◌-◌, ◌^◌, ℕ, pos, [], List, length, slice_index_or, String, string_bytes, false, Some, option_map, IfOk, IfErr, IsErr, OnOk};
+ghost use Rattle.std.specs.Prelude.{◌≡◌, ◌<◌, ◌-◌, ◌^◌, ℕ, pos, [], List, length, slice_index_or, String, string_bytes, false, Some, option_map, IfOk, IsErr, OnOk};
 ghost use Rattle.std.specs.declared.alloc.Global.{Global};
-ghost use Rattle.sqlite.specs.State.{HasCleanDisk, IsUnchanged, Survives};
+ghost use Rattle.sqlite.specs.State.{HasCleanDisk};
 ghost use Rattle.sqlite.specs.Held.{state};
 ghost use Rattle.store_tables.specs.Effects.{Has, WhileOpen};
 ghost use Rattle.store_sql.specs.HeaderTable.{header};
@@ -10,7 +10,7 @@ ghost use Rattle.store_sql.specs.declared.part_records.StoredPart.{StoredPart as
 ghost use Rattle.store_rows.specs.Parts.{parts_of};
 ghost use Rattle.dict_index.specs.Edition.{ReadEdition};
 ghost use Rattle.store_holdings.specs.HeldTexts.{HoldsText};
-ghost use Rattle.store_holdings.specs.Searches.{HoldsOne, FailsToLookUp, IsOfStore, number_in_column};
+ghost use Rattle.store_holdings.specs.Searches.{HoldsOne, number_in_column, ReadsStore, IsReadFrom, FailsToReadUnder};
 ghost use Rattle.store_holdings.specs.Taken.{more_taken};
 
 use crate::fault::fault_of_read;
@@ -52,12 +52,8 @@ pub(crate) fn info_of_number<S: Alter>(
     requires { WhileOpen (state S.Store conn.old) (Has header) }
     ensures value { HasCleanDisk (state S.Store conn.new) → IfOk result (λ found. (reading : ReadEdition) → HoldsOne (state S.Store conn.old).now number reading → option_map string_bytes found ≡ Some reading.info) }
     ensures taken { HasCleanDisk (state S.Store conn.new) → (reading : ReadEdition) → HoldsOne (state S.Store conn.old).now number reading → OnOk result (rows_taken.new ≡ more_taken rows_taken.old 1) }
-    ensures same { HasCleanDisk (state S.Store conn.new) → OnOk result (IsUnchanged (state S.Store conn.old) (state S.Store conn.new)) }
-    ensures failed { HasCleanDisk (state S.Store conn.new) → IfErr result (FailsToLookUp (number_in_column number) (state S.Store conn.old) (state S.Store conn.new)) }
+    ensures reads { ReadsStore S.Store (IsReadFrom S.Store) (FailsToReadUnder S.Store number) conn.old conn.new result }
     ensures shut { HasCleanDisk (state S.Store conn.new) → (state S.Store conn.old).is_open ≡ false → IsErr result }
-    ensures kinds { IfErr result IsOfStore }
-    ensures mode { conn.old.in_transaction ≡ false → conn.new.in_transaction ≡ false }
-    ensures survives { Survives (state S.Store conn.old) (state S.Store conn.new) (λ _. ⊥) }
 {
     match infos_numbered(alloc, conn, column_number(number)) {
         Ok(mut infos) => {
@@ -96,11 +92,7 @@ pub(crate) fn read_part<S: Alter>(
     ensures value { HasCleanDisk (state S.Store conn.new) → IfOk result (λ octets. (text : List ℕ) → HoldsText (state S.Store conn.old).now number text → octets.items ≡ slice_index_or (parts_of text) part []) }
     ensures taken { HasCleanDisk (state S.Store conn.new) → (text : List ℕ) → HoldsText (state S.Store conn.old).now number text → part < length (parts_of text) → OnOk result (rows_taken.new ≡ more_taken rows_taken.old 1) }
     ensures counted { OnOk result ((read : ℕ) × (rows_taken.new ≡ more_taken rows_taken.old read)) }
-    ensures same { HasCleanDisk (state S.Store conn.new) → OnOk result (IsUnchanged (state S.Store conn.old) (state S.Store conn.new)) }
-    ensures failed { HasCleanDisk (state S.Store conn.new) → IfErr result (FailsToLookUp (number_in_column number) (state S.Store conn.old) (state S.Store conn.new)) }
-    ensures kinds { IfErr result IsOfStore }
-    ensures mode { conn.old.in_transaction ≡ false → conn.new.in_transaction ≡ false }
-    ensures survives { Survives (state S.Store conn.old) (state S.Store conn.new) (λ _. ⊥) }
+    ensures reads { ReadsStore S.Store (IsReadFrom S.Store) (FailsToReadUnder S.Store number) conn.old conn.new result }
 {
     match parts_numbered(alloc, conn, column_number(number), TEXT, part as i64) {
         Ok(mut parts) => {

@@ -54,18 +54,6 @@ returns-in-Ok-clause-looks g c edition is all =
     let most : count_of Entries c.args.strategy c.args.query.now edition ≤ c.looked_at-looked.result = subst (λ n. count_of Entries c.args.strategy c.args.query.now edition ≤ n) (sym (c.looked_at-looked.ensures (ap end_of all))) few in
     looks_more c.args.rows_taken.now c.hand_found.new.rows_taken _ c.looked_at-looked.result _ read.0 read.1 most c.saturating_add.ensures
 
-pub returns-in-Ok-clause-texts : goal.returns-in-Ok-clause-texts
-returns-in-Ok-clause-texts g c = c.hand_found.ensures.asks.texts
-
-pub returns-in-Ok-clause-made : goal.returns-in-Ok-clause-made
-returns-in-Ok-clause-made g c = c.hand_found.ensures.asks.made
-
-pub returns-in-Ok-clause-mode : goal.returns-in-Ok-clause-mode
-returns-in-Ok-clause-mode g c = c.hand_found.ensures.asks.mode
-
-pub returns-in-Ok-clause-survives : goal.returns-in-Ok-clause-survives
-returns-in-Ok-clause-survives g c = c.hand_found.ensures.asks.survives
-
 -- ---- a text wasn't there
 
 pub returns-clause-value : goal.returns-clause-value
@@ -84,15 +72,3 @@ pub returns-clause-handed : goal.returns-clause-handed
 returns-clause-handed g c =
     let handed = c.hand_found.ensures.handed in
     (handed.0, subst (Hands g.T.RowSink.takes g.T.RowSink.stops c.args.sink.now c.hand_found.new.sink handed.0) c.in-Err.is handed.1)
-
-pub returns-clause-texts : goal.returns-clause-texts
-returns-clause-texts g c = c.hand_found.ensures.asks.texts
-
-pub returns-clause-made : goal.returns-clause-made
-returns-clause-made g c = c.hand_found.ensures.asks.made
-
-pub returns-clause-mode : goal.returns-clause-mode
-returns-clause-mode g c = c.hand_found.ensures.asks.mode
-
-pub returns-clause-survives : goal.returns-clause-survives
-returns-clause-survives g c = c.hand_found.ensures.asks.survives

@@ -1,38 +1,35 @@
-use Rattle.std.proofs.Common.{◌≡◌, ◌++◌, ◌/◌, ◌%◌, inr, List, drop, take, ap, ◌∙◌}
+use Rattle.std.proofs.Common.{◌≡◌, ◌++◌, ◌/◌, ◌%◌, inr, List, Err, drop, take, refl, ap, ◌∙◌}
 use Rattle.std.specs.Prelude.{ℕ}
-use Rattle.store_holdings.proofs.AskLemmas.{asks_kept, asks_left, memory_fails}
+use Rattle.dict_desk.specs.declared.fault.Fault.TheVariants.{Memory}
+use Rattle.store_holdings.proofs.AskLemmas.{keeps_kept, keeps_left, reads_none, reads_then}
 use Rattle.store_holdings.proofs.CutLemmas.{put_ends, put_is, put_more, put_most}
 use Rattle.store_holdings.proofs.parts.put_part.Goals as goal
 
 -- ---- the part wasn't given
 
-pub returns-in-Err-clause-asks : goal.returns-in-Err-clause-asks
-returns-in-Err-clause-asks g c =
-    let took = c.take_part.ensures in
-    asks_left g.S.Store c.args.installs c.args.number (c.args.place / 16384) c.args.conn.now c.take_part.new.conn c.args.texts.now c.take_part.new.texts took.mode took.survives took.left
+pub returns-in-Err-clause-reads : goal.returns-in-Err-clause-reads
+returns-in-Err-clause-reads g c =
+    let took = c.in-Err.ensures.reads in
+    record { same = λ clean. tt; failed = λ clean. inr (took.failed clean); kinds = took.kinds; mode = took.mode; survives = took.survives }
 
-pub returns-in-Err-clause-failed : goal.returns-in-Err-clause-failed
-returns-in-Err-clause-failed g c clean = inr (c.in-Err.ensures.failed clean)
+pub returns-in-Err-clause-keeps : goal.returns-in-Err-clause-keeps
+returns-in-Err-clause-keeps g c = keeps_left (c.args.place / 16384) c.take_part.ensures.left
 
 -- ---- no memory was
 
-pub returns-in_default-clause-asks : goal.returns-in_default-clause-asks
-returns-in_default-clause-asks g c =
-    let took = c.take_part.ensures in
-    asks_left g.S.Store c.args.installs c.args.number (c.args.place / 16384) c.args.conn.now c.take_part.new.conn c.args.texts.now c.take_part.new.texts took.mode took.survives took.left
+pub returns-in_default-clause-reads : goal.returns-in_default-clause-reads
+returns-in_default-clause-reads g c = reads_then c.args.number c.in-Ok.ensures.reads (reads_none c.args.number c.take_part.new.conn (Err Memory) refl)
 
-pub returns-in_default-clause-failed : goal.returns-in_default-clause-failed
-returns-in_default-clause-failed g c clean = memory_fails g.S.Store c.args.number c.args.conn.now c.take_part.new.conn (c.in-Ok.ensures.same clean)
+pub returns-in_default-clause-keeps : goal.returns-in_default-clause-keeps
+returns-in_default-clause-keeps g c = keeps_left (c.args.place / 16384) c.take_part.ensures.left
 
 -- ---- it was put
 
-pub returns-in-Ok-put_front-clause-asks : goal.returns-in-Ok-put_front-clause-asks
-returns-in-Ok-put_front-clause-asks g c =
-    let took = c.take_part.ensures in
+pub returns-in-Ok-put_front-clause-keeps : goal.returns-in-Ok-put_front-clause-keeps
+returns-in-Ok-put_front-clause-keeps g c =
     let part : ℕ = c.args.place / 16384 in
-    let first = asks_left g.S.Store c.args.installs c.args.number part c.args.conn.now c.take_part.new.conn c.args.texts.now c.take_part.new.texts took.mode took.survives took.left in
-    asks_kept g.S.Store c.args.installs c.args.number part c.args.conn.now c.take_part.new.conn c.args.texts.now c.take_part.new.texts c.keep.new.texts c.in-Ok.octets.items first c.keep.ensures
-    (λ clean text has. c.in-Ok.ensures.value clean text has)
+    keeps_kept c.args.installs c.args.number part c.args.conn.now c.take_part.new.conn c.args.texts.now c.take_part.new.texts c.keep.new.texts c.in-Ok.octets.items
+    (keeps_left part c.take_part.ensures.left) c.keep.ensures (λ clean text has. c.in-Ok.ensures.value clean text has)
 
 pub returns-in-Ok-put_front-clause-put : goal.returns-in-Ok-put_front-clause-put
 returns-in-Ok-put_front-clause-put g c clean text has =

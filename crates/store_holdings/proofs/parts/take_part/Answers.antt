@@ -1,4 +1,4 @@
-use Rattle.std.proofs.Common.{◌≡◌, inr, ℕ, List, [], get_or, sym, subst, arith}
+use Rattle.std.proofs.Common.{◌≡◌, ℕ, List, [], get_or, sym, subst, arith}
 use Rattle.std.specs.Prelude.{Option, OnOk, Vec}
 use Rattle.std.specs.Map.{lookup}
 use Rattle.std.specs.declared.alloc.Global.{Global}
@@ -7,10 +7,9 @@ use Rattle.sqlite.specs.State.{IsUnchanged}
 use Rattle.store_rows.specs.Parts.{parts_of}
 use Rattle.store_holdings.specs.HeldTexts.{HoldsText}
 use Rattle.store_holdings.specs.KeptTexts.{same_key}
-use Rattle.store_holdings.specs.CutTexts.{IsAtMostRead}
 use Rattle.store_holdings.specs.Taken.{more_taken, rows_read_for}
-use Rattle.store_holdings.proofs.AskLemmas.{part_kept}
-use Rattle.store_holdings.proofs.StateLemmas.{each_ok_with, on_ok}
+use Rattle.store_holdings.proofs.AskLemmas.{part_kept, reads_most}
+use Rattle.store_holdings.proofs.StateLemmas.{each_ok_with}
 use Rattle.store_holdings.proofs.TakenLemmas.{none_kept, none_more}
 use Rattle.store_holdings.proofs.parts.take_part.Goals as goal
 
@@ -32,7 +31,7 @@ pub returns-clause-value : goal.returns-clause-value
 returns-clause-value g c clean text has =
     let old = state g.S.Store c.args.conn.now in
     each_ok_with c.read_part.result (IsUnchanged old (state g.S.Store c.read_part.new.conn)) (λ (octets : Vec ℕ Global). (t : List ℕ) → HoldsText old.now c.args.number t → octets.items ≡ get_or (parts_of t) c.args.part [])
-    (λ (octets : Vec ℕ Global). octets.items ≡ get_or (parts_of text) c.args.part []) (c.read_part.ensures.same clean) (λ same octets h. h text (has.held same.0.was_open)) (c.read_part.ensures.value clean)
+    (λ (octets : Vec ℕ Global). octets.items ≡ get_or (parts_of text) c.args.part []) (c.read_part.ensures.reads.same clean) (λ same octets h. h text (has.held same.0.was_open)) (c.read_part.ensures.value clean)
 
 pub returns-clause-taken : goal.returns-clause-taken
 returns-clause-taken g c clean text holds below =
@@ -40,8 +39,5 @@ returns-clause-taken g c clean text holds below =
     subst (λ (kept : Option (List ℕ)). OnOk c.read_part.result (c.read_part.new.rows_taken ≡ more_taken c.args.rows_taken.now (rows_read_for kept)))
     (sym (none_kept c.take.result kept c.in_default.not-Some c.take.ensures.text)) (c.read_part.ensures.taken clean text holds below)
 
-pub returns-clause-same : goal.returns-clause-same
-returns-clause-same g c clean =
-    let old = c.args.conn.now in
-    let new = c.read_part.new.conn in
-    on_ok c.read_part.result (IsUnchanged (state g.S.Store old) (state g.S.Store new)) (IsAtMostRead g.S.Store old new) (λ same. inr same) (c.read_part.ensures.same clean)
+pub returns-clause-reads : goal.returns-clause-reads
+returns-clause-reads g c = reads_most c.read_part.ensures.reads (λ fault h. h)

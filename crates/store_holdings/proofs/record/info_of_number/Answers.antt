@@ -8,6 +8,7 @@ use Rattle.store_holdings.proofs.LookupLemmas.{list_fails}
 use Rattle.store_holdings.proofs.RecordLemmas.{info_told, last_told, informed_rows, column_back, column_is}
 use Rattle.store_holdings.proofs.record.info_of_number.Goals as goal
 use Rattle.sqlite.specs.Held.{state}
+use Rattle.sqlite.specs.State.{HasCleanDisk}
 
 pub returns-in-Ok-clause-value : goal.returns-in-Ok-clause-value
 returns-in-Ok-clause-value g c clean reading one =
@@ -15,15 +16,17 @@ returns-in-Ok-clause-value g c clean reading one =
     let read = info_told (state g.S.Store c.args.conn.now).now c.args.number reading one c.in-Ok.infos.items _ column (c.in-Ok.ensures.selected clean).0 in
     ap (option_map string_bytes) (last_told c.in-Ok.infos.items read.0 c.last_info.result read.1 c.last_info.ensures) ∙ ap Some read.2
 
-pub returns-in-Err-clause-failed : goal.returns-in-Err-clause-failed
-returns-in-Err-clause-failed g c clean =
+pub returns-in-Err-clause-reads : goal.returns-in-Err-clause-reads
+returns-in-Err-clause-reads g c =
     let old = state g.S.Store c.args.conn.now in
     let new = state g.S.Store c.infos_numbered.new.conn in
     let column = column_back c.args.number c.column_number.result c.column_number.ensures in
-    let failed = subst (λ (z : ℤ). FailsToList info_columns (map informed (headers_with z old.now)) old new c.in-Err.error) column (c.in-Err.ensures.failed clean) in
+    let failed : HasCleanDisk new → FailsToLookUp (number_in_column c.args.number) old new c.fault_of_read.result = λ clean.
     subst (FailsToLookUp (number_in_column c.args.number) old new) (sym c.fault_of_read.ensures.is)
     (list_fails (number_in_column c.args.number) (λ db. map informed (headers_with (pos (number_in_column c.args.number)) db)) info_columns old new
-    (λ h. informed_rows (headers_with (pos (number_in_column c.args.number)) old.now) h.headers) c.in-Err.error failed)
+    (λ h. informed_rows (headers_with (pos (number_in_column c.args.number)) old.now) h.headers) c.in-Err.error
+    (subst (λ (z : ℤ). FailsToList info_columns (map informed (headers_with z old.now)) old new c.in-Err.error) column (c.in-Err.ensures.failed clean))) in
+    record { same = λ clean. tt; failed = failed; kinds = c.fault_of_read.ensures.kind; mode = c.infos_numbered.ensures.mode; survives = c.infos_numbered.ensures.survives }
 
 pub returns-in-Ok-clause-taken : goal.returns-in-Ok-clause-taken
 returns-in-Ok-clause-taken g c clean reading one =

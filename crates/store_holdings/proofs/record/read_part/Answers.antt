@@ -1,6 +1,7 @@
 use Rattle.std.proofs.Common.{ap, refl, sym, subst, codes, filter, length, map, ◌∙◌}
 use Rattle.std.specs.Prelude.{pos}
 use Rattle.sqlite.specs.Held.{state}
+use Rattle.sqlite.specs.State.{HasCleanDisk}
 use Rattle.store_tables.specs.Effects.{rows_of}
 use Rattle.store_sql.specs.ChosenParts.{is_numbered}
 use Rattle.store_sql.specs.PartRecords.{part_columns, stored_part}
@@ -29,12 +30,14 @@ returns-in-Ok-clause-taken g c clean text holds below =
 pub returns-in-Ok-clause-counted : goal.returns-in-Ok-clause-counted
 returns-in-Ok-clause-counted g c = (length c.in-Ok.parts.items, c.saturating_add.ensures ∙ ap (more_taken c.args.rows_taken.now) (ap length c.as_slice.ensures.value))
 
-pub returns-in-Err-clause-failed : goal.returns-in-Err-clause-failed
-returns-in-Err-clause-failed g c clean =
+pub returns-in-Err-clause-reads : goal.returns-in-Err-clause-reads
+returns-in-Err-clause-reads g c =
     let old = state g.S.Store c.args.conn.now in
     let new = state g.S.Store c.parts_numbered.new.conn in
     let column = column_back c.args.number c.column_number.result c.column_number.ensures in
-    let failed = failed_as _ _ _ (number_in_column c.args.number) c.args.part column refl (part_back c.args.part _ c.requires.few refl) old new c.in-Err.error (c.in-Err.ensures.failed clean) in
+    let failed : HasCleanDisk new → FailsToLookUp (number_in_column c.args.number) old new c.fault_of_read.result = λ clean.
+    let told = failed_as _ _ _ (number_in_column c.args.number) c.args.part column refl (part_back c.args.part _ c.requires.few refl) old new c.in-Err.error (c.in-Err.ensures.failed clean) in
     subst (FailsToLookUp (number_in_column c.args.number) old new) (sym c.fault_of_read.ensures.is)
     (list_fails (number_in_column c.args.number) (λ db. filter (is_numbered (pos (number_in_column c.args.number)) (pos 1) (pos c.args.part)) (rows_of (codes "dictcat_part") db)) part_columns old new
-    (λ h. part_readable (number_in_column c.args.number) c.args.part old.now h) c.in-Err.error failed)
+    (λ h. part_readable (number_in_column c.args.number) c.args.part old.now h) c.in-Err.error told) in
+    record { same = λ clean. tt; failed = failed; kinds = c.fault_of_read.ensures.kind; mode = c.parts_numbered.ensures.mode; survives = c.parts_numbered.ensures.survives }
