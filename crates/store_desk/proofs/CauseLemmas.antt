@@ -18,7 +18,8 @@ use Rattle.store_rows.specs.Versions.{known}
 use Rattle.store_holdings.specs.Faults.{fault_of, IsUnreadCatalogue, FailsToReadCatalogue}
 use Rattle.store_holdings.specs.Holds.{Holds}
 use Rattle.store_holdings.specs.Searches as search
-use Rattle.store_holdings.specs.Searches.{IsOfStore}
+use Rattle.store_holdings.specs.Searches.{IsOfStore, ReadsStore}
+use Rattle.store_holdings.specs.CutTexts.{IsAtMostRead, FailsToFind}
 use Rattle.store_holdings.proofs.HeldLemmas.{held_readable}
 use Rattle.store_commands.specs.Answers.{IsOfApply}
 use Rattle.store_commands.proofs.ApplyLemmas.{holds_now}
@@ -66,26 +67,14 @@ module _ {S : Type 0} (g : Ghosts S) (first last : DeskState S) (old : Held S) (
   given : (fault : Fault) → Gives old fault → GivesWay g first last fault
   given fault h = subst (λ (c : Held S). Gives c fault) from h
 
-  rows_give : (number : ℕ) → HasCleanDisk (state g last.conn) → (fault : Fault) → IsOfStore fault → search.FailsToLookUp (search.number_in_column number) (state g old) (state g last.conn) fault → Gives old fault
-  rows_give number clean = fails_for (search.IsUnreadEdition (search.number_in_column number) (state g old)) (rows_read number clean)
-
-  pub lookup_gives_way : {T : Type 0} (number : ℕ) (result : Result T Fault) → IfErr result IsOfStore
-      → (HasCleanDisk (state g last.conn) → IfErr result (search.FailsToLookUp (search.number_in_column number) (state g old) (state g last.conn)))
-      → HasCleanDisk (state g last.conn) → IfErr result (GivesWay g first last)
-  lookup_gives_way number (Ok value) kind failed clean = tt
-  lookup_gives_way number (Err fault) kind failed clean = given fault (rows_give number clean fault kind (failed clean))
-
-  -- and of a lookup that asks the store for a text at most
-  found_for : (number : ℕ) → HasCleanDisk (state g last.conn) → (fault : Fault) → IsOfStore fault
-      → ((fault ≡ Memory) × (last.conn ≡ old)) ⊎ search.FailsToLookUp (search.number_in_column number) (state g old) (state g last.conn) fault → Gives old fault
+  -- a lookup that reads from the store at most
+  found_for : (number : ℕ) → HasCleanDisk (state g last.conn) → (fault : Fault) → IsOfStore fault → FailsToFind g number old last.conn fault → Gives old fault
   found_for number clean fault kind (inl h) = subst (Gives old) (sym h.0) (inl h.1)
-  found_for number clean fault kind (inr h) = rows_give number clean fault kind h
+  found_for number clean fault kind (inr h) = fails_for (search.IsUnreadEdition (search.number_in_column number) (state g old)) (rows_read number clean) fault kind h
 
-  pub found_gives_way : {T : Type 0} (number : ℕ) (result : Result T Fault) → IfErr result IsOfStore
-      → (HasCleanDisk (state g last.conn) → IfErr result (λ fault. ((fault ≡ Memory) × (last.conn ≡ old)) ⊎ search.FailsToLookUp (search.number_in_column number) (state g old) (state g last.conn) fault))
-      → HasCleanDisk (state g last.conn) → IfErr result (GivesWay g first last)
-  found_gives_way number (Ok value) kind failed clean = tt
-  found_gives_way number (Err fault) kind failed clean = given fault (found_for number clean fault kind (failed clean))
+  pub found_gives_way : {T : Type 0} (number : ℕ) (result : Result T Fault) → ReadsStore g (IsAtMostRead g) (FailsToFind g number) old last.conn result → HasCleanDisk (state g last.conn) → IfErr result (GivesWay g first last)
+  found_gives_way number (Ok value) reads clean = tt
+  found_gives_way number (Err fault) reads clean = given fault (found_for number clean fault reads.kinds (reads.failed clean))
 
   pub reply_gives_way : {T : Type 0} (result : Result T Fault) → IfErr result IsOfStore → (HasCleanDisk (state g last.conn) → IfErr result (FailsToReadCatalogue (state g old) (state g last.conn)))
       → HasCleanDisk (state g last.conn) → IfErr result (GivesWay g first last)

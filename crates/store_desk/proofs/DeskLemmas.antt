@@ -1,5 +1,5 @@
 -- What a lookup leaves of a desk.
-use Rattle.std.proofs.Common.{◌≡◌, ◌⊎◌, inl, inr, ℕ, Bool, true, false, List, [], ◌∷◌, refl, sym, subst, ◌∙◌, arith}
+use Rattle.std.proofs.Common.{◌≡◌, inl, inr, ℕ, Bool, true, false, List, [], ◌∷◌, refl, sym, subst, ◌∙◌, arith}
 use Rattle.std.specs.Prelude.{IsTrue, Option, Some, None, Contains, Result, Ok, Err, OnOk, IfErr, IsErr}
 use Rattle.std.proofs.lemmas.Bool.{false≢true}
 use Rattle.sqlite.specs.Effect.{Database, IsDatabase}
@@ -14,13 +14,12 @@ use Rattle.dict_catalogue.specs.Steps.{Catalogue}
 use Rattle.dict_desk.specs.Shown.{Row}
 use Rattle.dict_desk.specs.Handing.{Hands}
 use Rattle.dict_desk.specs.declared.fault.Fault.{Fault}
-use Rattle.dict_desk.specs.declared.fault.Fault.TheVariants.{Memory}
 use Rattle.dict_desk.specs.declared.lookup.End.{End}
 use Rattle.dict_desk.proofs.HandingLemmas.{hands_front}
 use Rattle.store_holdings.specs.Faults as reading
 use Rattle.store_holdings.specs.Holds.{Holds, IsLeft}
-use Rattle.store_holdings.specs.Searches.{FailsToLookUp}
-use Rattle.store_holdings.specs.CutTexts.{ArePartsOf, AreOfInstalls, IsAtMostRead}
+use Rattle.store_holdings.specs.Searches.{ReadsStore}
+use Rattle.store_holdings.specs.CutTexts.{ArePartsOf, AreOfInstalls, IsAtMostRead, FailsToFind}
 use Rattle.store_holdings.specs.KeptTexts.{PartNumbers}
 use Rattle.store_commands.specs.Committed.{StaysCommitted}
 use Rattle.store_commands.specs.Filing.{HasFiledParts}
@@ -46,21 +45,20 @@ unchanged_stays old new same = record { was_open = λ live. same.0.was_open; com
 pub rolled_stays : (old new : State) → IsRolledBack old new → StaysCommitted old new
 rolled_stays old new back = record { was_open = back.was_open; committed = λ live. (back.undone live).1; settled = λ live was. (back.undone live).0 ∙ sym (back.undone live).1 }
 
-fails_stay : (number : ℕ) (old new : State) (fault : Fault) → FailsToLookUp number old new fault → StaysCommitted old new
-fails_stay number old new fault (inl same) = unchanged_stays old new same.0
-fails_stay number old new fault (inr h) = rolled_stays old new h.2.3
+-- of a lookup that reads from the store at most
+module _ {S : Type 0} (g : Ghosts S) (number : ℕ) (old new : Held S) where
+  asked_stays : IsAtMostRead g old new → StaysCommitted (state g old) (state g new)
+  asked_stays (inl same) = subst (λ (h : Held S). StaysCommitted (state g old) (state g h)) (sym same) (same_stays (state g old))
+  asked_stays (inr same) = unchanged_stays (state g old) (state g new) same
 
-pub lookup_stays : {T : Type 0} (number : ℕ) (old new : State) (result : Result T Fault) → OnOk result (IsUnchanged old new) → IfErr result (FailsToLookUp number old new) → StaysCommitted old new
-lookup_stays number old new (Ok value) same failed = unchanged_stays old new same
-lookup_stays number old new (Err fault) same failed = fails_stay number old new fault failed
+  unfound_stays : (fault : Fault) → FailsToFind g number old new fault → StaysCommitted (state g old) (state g new)
+  unfound_stays fault (inl h) = asked_stays (inl h.1)
+  unfound_stays fault (inr (inl same)) = asked_stays (inr same.0)
+  unfound_stays fault (inr (inr h)) = rolled_stays (state g old) (state g new) h.2.3
 
--- of a lookup that asks the store for a text at most
-pub found_stays : {S T : Type 0} (g : Ghosts S) (number : ℕ) (old new : Held S) (result : Result T Fault) → OnOk result (IsAtMostRead g old new)
-    → IfErr result (λ fault. ((fault ≡ Memory) × (new ≡ old)) ⊎ FailsToLookUp number (state g old) (state g new) fault) → StaysCommitted (state g old) (state g new)
-found_stays g number old new (Ok value) (inl same) failed = subst (λ (h : Held _). StaysCommitted (state g old) (state g h)) (sym same) (same_stays (state g old))
-found_stays g number old new (Ok value) (inr same) failed = unchanged_stays (state g old) (state g new) same
-found_stays g number old new (Err fault) same (inl h) = subst (λ (h : Held _). StaysCommitted (state g old) (state g h)) (sym h.1) (same_stays (state g old))
-found_stays g number old new (Err fault) same (inr h) = fails_stay number (state g old) (state g new) fault h
+  pub found_stays : {T : Type 0} (result : Result T Fault) → ReadsStore g (IsAtMostRead g) (FailsToFind g number) old new result → HasCleanDisk (state g new) → StaysCommitted (state g old) (state g new)
+  found_stays (Ok value) reads clean = asked_stays (reads.same clean)
+  found_stays (Err fault) reads clean = unfound_stays fault (reads.failed clean)
 
 pub reply_stays : (old new : State) (fault : Fault) → reading.FailsToReadCatalogue old new fault → StaysCommitted old new
 reply_stays old new fault (inl same) = unchanged_stays old new same.0

@@ -1,20 +1,22 @@
 use Rattle.std.proofs.Common.{◌≡◌, ℕ, List, false, sym, ap, subst, refl, rules}
+use Rattle.std.specs.Prelude.{IfErr}
 use Rattle.sqlite.specs.Effect.{Database}
 use Rattle.sqlite.specs.State.{HasCleanDisk}
 use Rattle.sqlite.specs.Held.{state}
 use Rattle.dict_catalogue.specs.Views.{summary_shown}
 use Rattle.store_holdings.specs.HeldTexts.{HoldsText}
-use Rattle.store_holdings.specs.Searches.{number_in_column}
 use Rattle.store_holdings.specs.CutTexts.{ArePartsOf}
 use Rattle.dict_desk.specs.Shown.{count_of}
 use Rattle.dict_desk.specs.declared.lookup.What.TheVariants.{Entries}
 use Rattle.store_search.specs.Entries.{Indexed}
+use Rattle.store_holdings.specs.Searches.{IsOfStore}
+use Rattle.store_holdings.proofs.AskLemmas.{clean_first}
 use Rattle.store_holdings.proofs.HeldLemmas.{held_tables}
 use Rattle.store_desk.specs.Desk.{DeskState, Shows, LeavesOneOf, is_closed, KeepsBeside}
 use Rattle.store_desk.specs.Left.{CountsLook, counted}
 use Rattle.store_desk.proofs.CauseLemmas.{found_gives_way}
 use Rattle.store_desk.proofs.BesideLemmas.{beside_on}
-use Rattle.store_desk.proofs.DeskLemmas.{clean_behind, found_stays, leaves_on, desk_on, shows_with, parts_after}
+use Rattle.store_desk.proofs.DeskLemmas.{found_stays, leaves_on, desk_on, shows_with, parts_after}
 use Rattle.store_desk.proofs.SeenLemmas.{own_seen, seen}
 use Rattle.store_desk.proofs.ServedLemmas.{served_one}
 use Rattle.store_desk.proofs.lookups.DeskLookup.find.Goals as goal
@@ -28,9 +30,9 @@ pub invariant_of-self : goal.invariant_of-self
 invariant_of-self g c =
     let before : is_closed c.self.inside.last ≡ false = search rules in
     desk_on g.S.Store c.self.inside.conn c.hand_rows-outcome.new.conn
-    (summary_shown c.self.inside.summary) c.self.inside.filing c.self.inside.last c.last_by-self-inside.result before c.self.invariant.0 c.hand_rows-outcome.ensures.survives
-    (λ clean. found_stays g.S.Store (number_in_column c.args.number) c.self.inside.conn c.hand_rows-outcome.new.conn c.hand_rows-outcome.result (c.hand_rows-outcome.ensures.same clean) (c.hand_rows-outcome.ensures.failed clean))
-    c.hand_rows-outcome.ensures.mode c.hand_rows-outcome.new.texts c.forget_by.new.texts c.forget_by.ensures (c.hand_rows-outcome.ensures.made c.self.invariant.1.made)
+    (summary_shown c.self.inside.summary) c.self.inside.filing c.self.inside.last c.last_by-self-inside.result before c.self.invariant.0 c.hand_rows-outcome.ensures.reads.survives
+    (found_stays g.S.Store c.args.number c.self.inside.conn c.hand_rows-outcome.new.conn c.hand_rows-outcome.result c.hand_rows-outcome.ensures.reads)
+    c.hand_rows-outcome.ensures.reads.mode c.hand_rows-outcome.new.texts c.forget_by.new.texts c.forget_by.ensures (c.hand_rows-outcome.ensures.keeps.made c.self.invariant.1.made)
 
 pub returns-clause-keeps : goal.returns-clause-keeps
 returns-clause-keeps g c =
@@ -51,11 +53,11 @@ returns-clause-keeps g c =
       texts = c.forget_by.new.texts;
       counts = counted c.hand_rows-outcome.new.rows_taken c.self.inside.is_log_long c.self.inside.orphans c.self.inside.draft c.self.inside.filing;
     } in
+    let kinds : IfErr c.hand_rows-outcome.result IsOfStore = c.hand_rows-outcome.ensures.reads.kinds in
     record {
-      trust = λ clean. subst (λ (d : DeskState _). HasCleanDisk (state g.S.Store d.conn)) c.self.view_is
-          (clean_behind (state g.S.Store c.self.inside.conn) (state g.S.Store c.hand_rows-outcome.new.conn) c.hand_rows-outcome.ensures.survives clean);
+      trust = λ clean. subst (λ (d : DeskState _). HasCleanDisk (state g.S.Store d.conn)) c.self.view_is (clean_first c.hand_rows-outcome.ensures.reads clean);
       beside = λ db kept.
-          beside_on g.S.Store old new c.hand_rows-outcome.ensures.survives db (subst (λ (d : DeskState _). KeepsBeside g.S.Store d db) (sym c.self.view_is) kept);
+          beside_on g.S.Store old new c.hand_rows-outcome.ensures.reads.survives db (subst (λ (d : DeskState _). KeepsBeside g.S.Store d db) (sym c.self.view_is) kept);
       shows = λ clean M shown.
           subst (λ (indexes : List (ℕ × List Indexed)). Shows g.S.Store
           (record {
@@ -68,22 +70,22 @@ returns-clause-keeps g c =
           })
           M) (sym c.hand_rows-outcome.ensures.indexes)
           (shows_with g.S.Store c.self.inside.conn c.hand_rows-outcome.new.conn
-          (summary_shown c.self.inside.summary) c.self.inside.filing c.self.inside.last c.last_by-self-inside.result before c.self.invariant.0 c.hand_rows-outcome.ensures.survives
-          (λ clean. found_stays g.S.Store (number_in_column c.args.number) c.self.inside.conn c.hand_rows-outcome.new.conn c.hand_rows-outcome.result (c.hand_rows-outcome.ensures.same clean) (c.hand_rows-outcome.ensures.failed clean))
+          (summary_shown c.self.inside.summary) c.self.inside.filing c.self.inside.last c.last_by-self-inside.result before c.self.invariant.0 c.hand_rows-outcome.ensures.reads.survives
+          (found_stays g.S.Store c.args.number c.self.inside.conn c.hand_rows-outcome.new.conn c.hand_rows-outcome.result c.hand_rows-outcome.ensures.reads)
           c.self.inside.indexes c.self.inside.texts M (subst (λ (d : DeskState _). Shows g.S.Store d M) (sym c.self.view_is) shown) c.forget_by.new.texts
           (λ clean stored one.
-          let honest = clean_behind (state g.S.Store c.self.inside.conn) (state g.S.Store c.hand_rows-outcome.new.conn) c.hand_rows-outcome.ensures.survives clean in
+          let honest = clean_first c.hand_rows-outcome.ensures.reads clean in
           subst (ArePartsOf stored.number one.text) (sym c.forget_by.ensures)
           (parts_after c.last_by-self-inside.result stored.number one.text c.hand_rows-outcome.new.texts
-          (c.hand_rows-outcome.ensures.texts clean stored.number one.text one.kept
+          (c.hand_rows-outcome.ensures.keeps.texts clean stored.number one.text one.kept
           (λ same live. seen g.S.Store c.self.inside.last (summary_shown c.self.inside.summary) c.self.inside.filing c.self.inside.conn before c.self.invariant.0 honest live
           (λ (db : Database). HoldsText db stored.number one.text) (one.held before live))))));
       leaves = λ ms left.
-          leaves_on g.S.Store old new c.hand_rows-outcome.ensures.survives ms (subst (λ (d : DeskState _). LeavesOneOf g.S.Store d ms) (sym c.self.view_is) left);
+          leaves_on g.S.Store old new c.hand_rows-outcome.ensures.reads.survives ms (subst (λ (d : DeskState _). LeavesOneOf g.S.Store d ms) (sym c.self.view_is) left);
       kinds = search rules;
       caused = found_gives_way g.S.Store c.args.self.now new c.self.inside.conn (ap (λ (d : DeskState _). d.conn) c.self.view_is) (summary_shown c.self.inside.summary) c.self.inside.filing
-          c.self.inside.last before c.self.invariant.0 c.hand_rows-outcome.ensures.survives
-          c.args.number c.hand_rows-outcome.result c.hand_rows-outcome.ensures.kinds c.hand_rows-outcome.ensures.failed;
+          c.self.inside.last before c.self.invariant.0 c.hand_rows-outcome.ensures.reads.survives
+          c.args.number c.hand_rows-outcome.result c.hand_rows-outcome.ensures.reads;
       failed = search rules;
       closes = search rules;
       closed = search rules;
@@ -92,7 +94,7 @@ returns-clause-keeps g c =
 pub returns-clause-value : goal.returns-clause-value
 returns-clause-value g c = λ clean M edition shown has.
     let before : is_closed c.self.inside.last ≡ false = search rules in
-    let honest = clean_behind (state g.S.Store c.self.inside.conn) (state g.S.Store c.hand_rows-outcome.new.conn) c.hand_rows-outcome.ensures.survives clean in
+    let honest = clean_first c.hand_rows-outcome.ensures.reads clean in
     let ready = subst (λ (d : DeskState _). Shows g.S.Store d M) (sym c.self.view_is) shown in
     let one = served_one g.S.Store
     (record {
@@ -110,7 +112,7 @@ returns-clause-value g c = λ clean M edition shown has.
 
 pub returns-clause-looks : goal.returns-clause-looks
 returns-clause-looks g c = λ clean M edition shown has all.
-    let honest = clean_behind (state g.S.Store c.self.inside.conn) (state g.S.Store c.hand_rows-outcome.new.conn) c.hand_rows-outcome.ensures.survives clean in
+    let honest = clean_first c.hand_rows-outcome.ensures.reads clean in
     let ready = subst (λ (d : DeskState _). Shows g.S.Store d M) (sym c.self.view_is) shown in
     let one = served_one g.S.Store
     (record {

@@ -1,5 +1,5 @@
-use Rattle.std.proofs.Common.{◌≡◌, ℕ, Bool, false, true, refl, sym, ap, subst, arith, rules}
-use Rattle.std.specs.Prelude.{IsErr, OnOk, Result, Ok, Err}
+use Rattle.std.proofs.Common.{◌≡◌, inr, ℕ, Bool, false, true, refl, sym, ap, subst, arith, rules}
+use Rattle.std.specs.Prelude.{IsErr, IfErr, OnOk, Result, Ok, Err}
 use Rattle.std.proofs.lemmas.Bool.{false≢true}
 use Rattle.sqlite.specs.Effect.{Database}
 use Rattle.dict_index.specs.Edition.{Edition}
@@ -8,13 +8,14 @@ use Rattle.sqlite.specs.Held.{state}
 use Rattle.dict_catalogue.specs.Views.{summary_shown}
 use Rattle.store_holdings.specs.Holds.{Holds}
 use Rattle.store_rows.specs.Versions.{known}
-use Rattle.store_holdings.specs.Searches.{number_in_column}
+use Rattle.store_holdings.specs.Searches.{IsOfStore}
+use Rattle.store_holdings.proofs.AskLemmas.{clean_first, reads_most}
 use Rattle.store_holdings.proofs.HeldLemmas.{held_one, held_tables}
 use Rattle.store_desk.specs.Desk.{DeskState, Shows, LeavesOneOf, is_closed, KeepsBeside}
 use Rattle.store_desk.specs.Left.{CountsLook, counted}
-use Rattle.store_desk.proofs.CauseLemmas.{lookup_gives_way}
+use Rattle.store_desk.proofs.CauseLemmas.{found_gives_way}
 use Rattle.store_desk.proofs.BesideLemmas.{beside_on}
-use Rattle.store_desk.proofs.DeskLemmas.{clean_behind, lookup_stays, leaves_on, desk_on, handed_by, shows_on}
+use Rattle.store_desk.proofs.DeskLemmas.{found_stays, leaves_on, desk_on, handed_by, shows_on}
 use Rattle.store_desk.proofs.SeenLemmas.{own_seen, seen}
 use Rattle.dict_desk.specs.Handing.{Hands}
 use Rattle.dict_desk.specs.Shown.{info_rows}
@@ -32,9 +33,9 @@ info-outcome-requires g c = λ clean live.
 pub invariant_of-self : goal.invariant_of-self
 invariant_of-self g c =
     let before : is_closed c.self.inside.last ≡ false = search rules in
-    desk_on g.S.Store c.self.inside.conn c.info-outcome.new.conn (summary_shown c.self.inside.summary) c.self.inside.filing c.self.inside.last c.last_by-self-inside.result before c.self.invariant.0 c.info-outcome.ensures.survives
-    (λ clean. lookup_stays (number_in_column c.args.number) (state g.S.Store c.self.inside.conn) (state g.S.Store c.info-outcome.new.conn) c.info-outcome.result (c.info-outcome.ensures.same clean) (c.info-outcome.ensures.failed clean))
-    c.info-outcome.ensures.mode c.self.inside.texts c.forget_by.new.texts c.forget_by.ensures c.self.invariant.1.made
+    desk_on g.S.Store c.self.inside.conn c.info-outcome.new.conn (summary_shown c.self.inside.summary) c.self.inside.filing c.self.inside.last c.last_by-self-inside.result before c.self.invariant.0 c.info-outcome.ensures.reads.survives
+    (found_stays g.S.Store c.args.number c.self.inside.conn c.info-outcome.new.conn c.info-outcome.result (reads_most c.info-outcome.ensures.reads (λ fault h. inr h)))
+    c.info-outcome.ensures.reads.mode c.self.inside.texts c.forget_by.new.texts c.forget_by.ensures c.self.invariant.1.made
 
 pub returns-clause-keeps : goal.returns-clause-keeps
 returns-clause-keeps g c =
@@ -55,22 +56,21 @@ returns-clause-keeps g c =
       texts = c.forget_by.new.texts;
       counts = counted c.info-outcome.new.rows_taken c.self.inside.is_log_long c.self.inside.orphans c.self.inside.draft c.self.inside.filing;
     } in
+    let kinds : IfErr c.info-outcome.result IsOfStore = c.info-outcome.ensures.reads.kinds in
     record {
-      trust = λ clean. subst (λ (d : DeskState _). HasCleanDisk (state g.S.Store d.conn)) c.self.view_is
-          (clean_behind (state g.S.Store c.self.inside.conn) (state g.S.Store c.info-outcome.new.conn) c.info-outcome.ensures.survives clean);
+      trust = λ clean. subst (λ (d : DeskState _). HasCleanDisk (state g.S.Store d.conn)) c.self.view_is (clean_first c.info-outcome.ensures.reads clean);
       beside = λ db kept.
-          beside_on g.S.Store old new c.info-outcome.ensures.survives db (subst (λ (d : DeskState _). KeepsBeside g.S.Store d db) (sym c.self.view_is) kept);
+          beside_on g.S.Store old new c.info-outcome.ensures.reads.survives db (subst (λ (d : DeskState _). KeepsBeside g.S.Store d db) (sym c.self.view_is) kept);
       shows = λ clean M shown.
-          shows_on g.S.Store c.self.inside.conn c.info-outcome.new.conn (summary_shown c.self.inside.summary) c.self.inside.filing c.self.inside.last c.last_by-self-inside.result before c.self.invariant.0 c.info-outcome.ensures.survives
-          (λ clean. lookup_stays (number_in_column c.args.number) (state g.S.Store c.self.inside.conn) (state g.S.Store c.info-outcome.new.conn)
-          c.info-outcome.result (c.info-outcome.ensures.same clean) (c.info-outcome.ensures.failed clean))
+          shows_on g.S.Store c.self.inside.conn c.info-outcome.new.conn (summary_shown c.self.inside.summary) c.self.inside.filing c.self.inside.last c.last_by-self-inside.result before c.self.invariant.0
+          c.info-outcome.ensures.reads.survives (found_stays g.S.Store c.args.number c.self.inside.conn c.info-outcome.new.conn c.info-outcome.result (reads_most c.info-outcome.ensures.reads (λ fault h. inr h)))
           c.self.inside.indexes c.self.inside.texts M (subst (λ (d : DeskState _). Shows g.S.Store d M) (sym c.self.view_is) shown) c.forget_by.new.texts c.forget_by.ensures;
       leaves = λ ms left.
-          leaves_on g.S.Store old new c.info-outcome.ensures.survives ms (subst (λ (d : DeskState _). LeavesOneOf g.S.Store d ms) (sym c.self.view_is) left);
+          leaves_on g.S.Store old new c.info-outcome.ensures.reads.survives ms (subst (λ (d : DeskState _). LeavesOneOf g.S.Store d ms) (sym c.self.view_is) left);
       kinds = search rules;
-      caused = lookup_gives_way g.S.Store c.args.self.now new c.self.inside.conn (ap (λ (d : DeskState _). d.conn) c.self.view_is) (summary_shown c.self.inside.summary) c.self.inside.filing
-          c.self.inside.last before c.self.invariant.0 c.info-outcome.ensures.survives
-          c.args.number c.info-outcome.result c.info-outcome.ensures.kinds c.info-outcome.ensures.failed;
+      caused = found_gives_way g.S.Store c.args.self.now new c.self.inside.conn (ap (λ (d : DeskState _). d.conn) c.self.view_is) (summary_shown c.self.inside.summary) c.self.inside.filing
+          c.self.inside.last before c.self.invariant.0 c.info-outcome.ensures.reads.survives
+          c.args.number c.info-outcome.result (reads_most c.info-outcome.ensures.reads (λ fault h. inr h));
       failed = search rules;
       closes = search rules;
       closed = search rules;
@@ -79,7 +79,7 @@ returns-clause-keeps g c =
 pub returns-clause-value : goal.returns-clause-value
 returns-clause-value g c = λ clean M edition shown has.
     let before : is_closed c.self.inside.last ≡ false = search rules in
-    let honest = clean_behind (state g.S.Store c.self.inside.conn) (state g.S.Store c.info-outcome.new.conn) c.info-outcome.ensures.survives clean in
+    let honest = clean_first c.info-outcome.ensures.reads clean in
     let ready = subst (λ (d : DeskState _). Shows g.S.Store d M) (sym c.self.view_is) shown in
     handed_by g.T.RowSink.takes g.T.RowSink.stops c.args.sink.now c.info-outcome.new.sink (info_rows edition) c.info-outcome.result (state g.S.Store c.self.inside.conn).is_open
     (λ live.
@@ -97,7 +97,7 @@ one_taken old new (Err fault) live taken shut all = absurd (let e = all in cc)
 pub returns-clause-looks : goal.returns-clause-looks
 returns-clause-looks g c = λ clean M edition shown has all.
     let before : is_closed c.self.inside.last ≡ false = search rules in
-    let honest = clean_behind (state g.S.Store c.self.inside.conn) (state g.S.Store c.info-outcome.new.conn) c.info-outcome.ensures.survives clean in
+    let honest = clean_first c.info-outcome.ensures.reads clean in
     let ready = subst (λ (d : DeskState _). Shows g.S.Store d M) (sym c.self.view_is) shown in
     let now = counted c.info-outcome.new.rows_taken c.self.inside.is_log_long c.self.inside.orphans c.self.inside.draft c.self.inside.filing in
     subst (λ (d : DeskState _). CountsLook d.counts now 1) c.self.view_is (record {
