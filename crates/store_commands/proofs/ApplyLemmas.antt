@@ -5,6 +5,7 @@ use Rattle.sqlite.specs.Effect.{Database}
 use Rattle.sqlite.specs.Tree.{Trees}
 use Rattle.sqlite.specs.State.{State, HasCleanDisk, IsUnchanged, Survives}
 use Rattle.sqlite.specs.Held.{Held, state}
+use Rattle.sqlite.proofs.StateLemmas.{survives_weaker}
 use Rattle.sqlite_trees.specs.declared.store.Store.{Ghosts}
 use Rattle.dict_desk.specs.Faults.{is_failure}
 use Rattle.dict_index.specs.Edition.{Edition}
@@ -41,6 +42,7 @@ use Rattle.store_sql.specs.Statements.{Statement}
 use Rattle.store_commands.specs.declared.applied.Applied.{Applied}
 use Rattle.store_commands.specs.declared.applied.Applied.TheVariants.{Repeated, Done}
 use Rattle.store_commands.proofs.DecideLemmas.{change_is}
+use Rattle.store_commands.proofs.WriteLemmas.{clean_before}
 
 -- ---- what a command makes of all records
 
@@ -166,6 +168,11 @@ others_spared summary old f holds clean live db turns =
     let it = holds clean live in
     let held = holds_now old it.0 it.1 in
     (turns (with_derived held.orphans held.tables) (record { own = held.own; keeps = held.keeps })).1
+
+pub beside_spared : (summary : Holdings (List ℕ)) (old new : State) (f : AllTables → AllTables) → HoldsBy summary old → Survives old new (IsTreesOf (TurnsRecords f old.now))
+    → Survives old new (λ trees. IsTrue old.is_open → IsTreesOf (SparesTablesOfOthers old.now) trees)
+beside_spared summary old new f holds crash =
+    survives_weaker old new _ _ (λ clean trees it live. (it.0, it.1, it.2, others_spared summary old f holds (clean_before old new crash clean) live it.0 it.3)) crash
 
 pub others_committed : (summary : Holdings (List ℕ)) (old new : State) (f : AllTables → AllTables) → HoldsBy summary old → HasCleanDisk old → IsTrue old.is_open → IsCommitted (TurnsRecords f old.now) new
     → SparesTablesOfOthers old.now new.now

@@ -10,7 +10,8 @@ use Rattle.std.specs.Ordering.{is_lt}
 use Rattle.sqlite.specs.Effect.{Database}
 use Rattle.sqlite.specs.Order.{column, value_cmp}
 use Rattle.sqlite.specs.declared.types.Value.TheVariants.{Int}
-use Rattle.sqlite.specs.State.{State, HasCleanDisk}
+use Rattle.sqlite.specs.State.{State, HasCleanDisk, Survives}
+use Rattle.sqlite.proofs.StateLemmas.{survives_weaker}
 use Rattle.dict_text.proofs.AllLemmas.{all_append, all_of, all_weaker, all_filter, all_flat_map}
 use Rattle.dict_index.specs.Edition.{Edition}
 use Rattle.dict_catalogue.specs.Items.{edition_numbers, numbers_of}
@@ -31,6 +32,7 @@ use Rattle.store_rows.proofs.SelectionLemmas.{filter_filter}
 use Rattle.store_rows.proofs.TakenLemmas.{nat_same, same_number_is, same_itself}
 use Rattle.store_holdings.specs.AllTables.{AllTables, with_derived}
 use Rattle.store_holdings.specs.Files.{all_parts, edition_parts, index_octets}
+use Rattle.store_holdings.specs.Committed.{IsTreesOf}
 use Rattle.store_holdings.specs.Holds.{Holds}
 use Rattle.store_holdings.specs.HeldTexts.{rows_under, text_rows}
 use Rattle.store_holdings.proofs.FileLemmas.{of_under}
@@ -48,6 +50,7 @@ use Rattle.store_commands.proofs.RowLemmas.{filter_map, compared_values}
 use Rattle.store_commands.proofs.PartLemmas.{is_late}
 use Rattle.store_commands.proofs.TableLemmas.{parts_kept, other_parts}
 use Rattle.store_commands.proofs.TextLemmas.{kept_test, left_out, none_found, number_apart, of_text, others_fail, text_asks, text_under}
+use Rattle.store_commands.proofs.WriteLemmas.{clean_before}
 
 -- ---- numbers
 
@@ -238,6 +241,11 @@ pub remains_filed : (summary : Holdings (List ℕ)) (f : Filing) (to : ℕ) → 
     → (db : Database) → FilesUpTo f to old.now db → Remains summary old.committed db
 remains_filed summary f to next old holds clean live db files =
     remains_changed summary f.number (next_apart summary f.number next old holds clean live) old holds clean live db (files_turn f to old.now db f.is_begun files.turns)
+
+pub filed_crash : (summary : Holdings (List ℕ)) (f : Filing) → f.number ≡ summary.installs + 1 → (old new : State) → HoldsBy summary old
+    → Survives old new (IsTreesOf (λ db. IsTrue old.is_open × (to : ℕ) × FilesUpTo f to old.now db)) → Survives old new (λ trees. IsTrue old.is_open × IsTreesOf (Remains summary old.committed) trees)
+filed_crash summary f next old new holds crash = survives_weaker old new _ _
+    (λ clean trees it. (it.3.0, (it.0, it.1, it.2, remains_filed summary f it.3.1 next old holds (clean_before old new crash clean) it.3.0 it.0 it.3.2))) crash
 
 -- ---- none is left
 

@@ -3,8 +3,9 @@ use Rattle.sqlite.specs.Held.{state}
 use Rattle.sqlite.proofs.StateLemmas.{survives_weaker}
 use Rattle.dict_catalogue.specs.Tests.{refusal_of}
 use Rattle.dict_catalogue.specs.Views.{summary_shown, command_shown, command_meant}
-use Rattle.store_commands.proofs.ApplyLemmas.{declined_answers, failed_answers, acted_answers, left_after, declined_fails, commit_fails, is_planned, holds_after, holds_now, others_spared, others_committed}
+use Rattle.store_commands.proofs.ApplyLemmas.{declined_answers, failed_answers, acted_answers, left_after, declined_fails, commit_fails, is_planned, beside_spared, holds_after, holds_now, others_committed}
 use Rattle.store_commands.proofs.AboveLemmas.{above_committed, grows_by, installed_there, none_refused}
+use Rattle.store_commands.proofs.FinishLemmas.{usable_by}
 use Rattle.store_commands.proofs.WriteLemmas.{clean_before}
 use Rattle.std.proofs.Common.{◌≡◌, ◌⊎◌, inl, refl, true, None}
 use Rattle.sqlite.specs.Effect.{Database}
@@ -12,7 +13,7 @@ use Rattle.store_sql.proofs.StreamLemmas.{passed_on}
 use Rattle.dict_catalogue.specs.Steps.{Catalogue, summary_of, kept_under, step}
 use Rattle.dict_desk.specs.Faults.{is_failure}
 use Rattle.dict_desk.specs.declared.fault.Fault.TheVariants.{Memory}
-use Rattle.store_holdings.specs.AllTables.{with_derived, all_after}
+use Rattle.store_holdings.specs.AllTables.{all_after}
 use Rattle.store_rows.specs.Versions.{known}
 use Rattle.store_holdings.specs.Holds.{Holds, Rests}
 use Rattle.store_commands.specs.KeptRecords.{TurnsRecords}
@@ -69,11 +70,7 @@ returns-in-Err-clause-failed g c clean =
     (c.in-Err.ensures.failed clean))
 
 pub commit_change-requires-clause-usable : goal.commit_change-requires-clause-usable
-commit_change-requires-clause-usable g c = λ clean live.
-    let old = state g.S.Store c.args.conn.now in
-    let it = c.requires.holds clean live in
-    let held = holds_now old it.0 it.1 in
-    (with_derived held.orphans held.tables, record { own = held.own; keeps = held.keeps })
+commit_change-requires-clause-usable g c = usable_by (summary_shown c.args.summary.now) (state g.S.Store c.args.conn.now) c.requires.holds
 
 pub returns-clause-others : goal.returns-clause-others
 returns-clause-others g c clean =
@@ -85,31 +82,13 @@ returns-clause-others g c clean =
 
 pub returns-clause-beside : goal.returns-clause-beside
 returns-clause-beside g c =
-    let old = state g.S.Store c.args.conn.now in
-    let new = state g.S.Store c.commit_change.new.conn in
-    survives_weaker old new _ _
-    (λ clean trees it live. (
-      it.0,
-      it.1,
-      it.2,
-      others_spared (summary_shown c.args.summary.now) old (all_after known (change_by c.args.id.now c.args.command.now c.in_ok-change.change)) c.requires.holds
-          (clean_before old new c.commit_change.ensures.crash clean) live it.0 it.3,
-    ))
-    c.commit_change.ensures.crash
+    beside_spared (summary_shown c.args.summary.now) (state g.S.Store c.args.conn.now) (state g.S.Store c.commit_change.new.conn)
+    (all_after known (change_by c.args.id.now c.args.command.now c.in_ok-change.change)) c.requires.holds c.commit_change.ensures.crash
 
 pub returns-in-Err-clause-beside : goal.returns-in-Err-clause-beside
 returns-in-Err-clause-beside g c =
-    let old = state g.S.Store c.args.conn.now in
-    let new = state g.S.Store c.commit_change.new.conn in
-    survives_weaker old new _ _
-    (λ clean trees it live. (
-      it.0,
-      it.1,
-      it.2,
-      others_spared (summary_shown c.args.summary.now) old (all_after known (change_by c.args.id.now c.args.command.now c.in_ok-change.change)) c.requires.holds
-          (clean_before old new c.commit_change.ensures.crash clean) live it.0 it.3,
-    ))
-    c.commit_change.ensures.crash
+    beside_spared (summary_shown c.args.summary.now) (state g.S.Store c.args.conn.now) (state g.S.Store c.commit_change.new.conn)
+    (all_after known (change_by c.args.id.now c.args.command.now c.in_ok-change.change)) c.requires.holds c.commit_change.ensures.crash
 
 pub returns-clause-above : goal.returns-clause-above
 returns-clause-above g c clean =

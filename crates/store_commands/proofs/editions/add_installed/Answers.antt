@@ -8,8 +8,8 @@ use Rattle.store_commands.specs.Writes.{WroteStatements, FailsToWrite}
 use Rattle.store_commands.proofs.AddLemmas.{whole_range, parts_installed, wrote_no_files}
 use Rattle.store_commands.proofs.editions.add_installed.Goals as goal
 
-pub returns-in-Install-clause-wrote : goal.returns-in-Install-clause-wrote
-returns-in-Install-clause-wrote g c =
+pub returns-in-Install : goal.returns-in-Install
+returns-in-Install g c =
     let first = (g.T.OpenTransaction.held c.args.tx.now) in
     let last = (g.T.OpenTransaction.held c.add_files.new.tx) in
     let n = c.args.number in
@@ -17,20 +17,15 @@ returns-in-Install-clause-wrote g c =
     let same : installed_by n c.args.command.now ≡ Some new = search rules in
     let are : slice_range (parts_under (pos n) c.args.index.now c.text.result.now) 0 c.part_count.result ≡ installed_parts (Some new) =
     whole_range (parts_under (pos n) c.args.index.now c.text.result.now) c.part_count.result c.part_count.ensures ∙ parts_installed new c.args.index.now c.text.result.now (search rules) c.text.ensures.value in
-    subst (λ (e : Option Installed). OnOk c.add_files.result (WroteStatements g.S.Store (filing_of e) (with_files e) first last)) (sym same)
-    (subst (λ rows. OnOk c.add_files.result (WroteStatements g.S.Store (parts_anew n rows) (with_parts_anew n rows) first last)) are c.add_files.ensures.wrote)
-
-pub returns-in-Install-clause-failed : goal.returns-in-Install-clause-failed
-returns-in-Install-clause-failed g c =
-    let first = (g.T.OpenTransaction.held c.args.tx.now) in
-    let last = (g.T.OpenTransaction.held c.add_files.new.tx) in
-    let n = c.args.number in
-    let new : Installed = record { owner = c.in-Install.name.now; number = n; reading = c.in-Install.edition.now } in
-    let same : installed_by n c.args.command.now ≡ Some new = search rules in
-    let are : slice_range (parts_under (pos n) c.args.index.now c.text.result.now) 0 c.part_count.result ≡ installed_parts (Some new) =
-    whole_range (parts_under (pos n) c.args.index.now c.text.result.now) c.part_count.result c.part_count.ensures ∙ parts_installed new c.args.index.now c.text.result.now (search rules) c.text.ensures.value in
-    subst (λ (e : Option Installed). IfErr c.add_files.result (FailsToWrite g.S.Store (filing_of e) first last)) (sym same)
-    (subst (λ rows. IfErr c.add_files.result (FailsToWrite g.S.Store (parts_anew n rows) first last)) are c.add_files.ensures.failed)
+    record {
+      same_reference = c.add_files.ensures.same_reference;
+      wrote = subst (λ (e : Option Installed). OnOk c.add_files.result (WroteStatements g.S.Store (filing_of e) (with_files e) first last)) (sym same)
+          (subst (λ rows. OnOk c.add_files.result (WroteStatements g.S.Store (parts_anew n rows) (with_parts_anew n rows) first last)) are c.add_files.ensures.wrote);
+      usable = c.add_files.ensures.usable;
+      failed = subst (λ (e : Option Installed). IfErr c.add_files.result (FailsToWrite g.S.Store (filing_of e) first last)) (sym same)
+          (subst (λ rows. IfErr c.add_files.result (FailsToWrite g.S.Store (parts_anew n rows) first last)) are c.add_files.ensures.failed);
+      spares = c.add_files.ensures.spares;
+    }
 
 pub returns-in-Rollback-clause-wrote : goal.returns-in-Rollback-clause-wrote
 returns-in-Rollback-clause-wrote g c =

@@ -2,7 +2,6 @@ use Rattle.std.proofs.Common.{◌≡◌, false, rules, sym, subst}
 use Rattle.std.specs.Prelude.{IsTrue}
 use Rattle.sqlite.specs.Effect.{Database}
 use Rattle.sqlite.specs.Held.{state}
-use Rattle.sqlite.proofs.StateLemmas.{survives_weaker}
 use Rattle.dict_catalogue.specs.Views.{summary_shown}
 use Rattle.store_holdings.specs.AllTables.{with_derived}
 use Rattle.store_commands.specs.Filing.{HasFiledParts}
@@ -11,7 +10,7 @@ use Rattle.store_commands.specs.Marking.{Remains}
 use Rattle.store_commands.proofs.ApplyLemmas.{holds_now}
 use Rattle.store_commands.proofs.FilingLemmas.{filed_on}
 use Rattle.store_commands.proofs.MarkingLemmas.{committed_wider}
-use Rattle.store_commands.proofs.TakingLemmas.{remains_filed}
+use Rattle.store_commands.proofs.TakingLemmas.{filed_crash, remains_filed}
 use Rattle.store_commands.proofs.FinishLemmas.{usable_by}
 use Rattle.store_commands.proofs.WriteLemmas.{clean_before}
 use Rattle.store_commands.proofs.parts.file_part.Goals as goal
@@ -44,28 +43,12 @@ returns-clause-filed g c = λ clean live begun.
 
 pub returns-clause-crash : goal.returns-clause-crash
 returns-clause-crash g c =
-    let summary = summary_shown c.args.summary.now in
-    let f = c.args.filing.now in
-    let old = state g.S.Store c.args.conn.now in
-    let new = state g.S.Store c.commit_parts.new.conn in
     let number : c.is_other_number.result ≡ false = search rules in
-    survives_weaker old new _ _
-    (λ clean trees it. (
-      it.3.0,
-      (it.0, it.1, it.2, remains_filed summary f it.3.1 (c.is_other_number.ensures.next number) old c.requires.holds (clean_before old new c.commit_parts.ensures.crash clean) it.3.0 it.0 it.3.2),
-    ))
+    filed_crash (summary_shown c.args.summary.now) c.args.filing.now (c.is_other_number.ensures.next number) (state g.S.Store c.args.conn.now) (state g.S.Store c.commit_parts.new.conn) c.requires.holds
     c.commit_parts.ensures.crash
 
 pub returns-in-Err-clause-crash : goal.returns-in-Err-clause-crash
 returns-in-Err-clause-crash g c =
-    let summary = summary_shown c.args.summary.now in
-    let f = c.args.filing.now in
-    let old = state g.S.Store c.args.conn.now in
-    let new = state g.S.Store c.commit_parts.new.conn in
     let number : c.is_other_number.result ≡ false = search rules in
-    survives_weaker old new _ _
-    (λ clean trees it. (
-      it.3.0,
-      (it.0, it.1, it.2, remains_filed summary f it.3.1 (c.is_other_number.ensures.next number) old c.requires.holds (clean_before old new c.commit_parts.ensures.crash clean) it.3.0 it.0 it.3.2),
-    ))
+    filed_crash (summary_shown c.args.summary.now) c.args.filing.now (c.is_other_number.ensures.next number) (state g.S.Store c.args.conn.now) (state g.S.Store c.commit_parts.new.conn) c.requires.holds
     c.commit_parts.ensures.crash
