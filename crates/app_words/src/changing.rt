@@ -46,7 +46,7 @@ pub fn change<K: Preparer, W: Sink>(
     command: &Command,
     writer: &mut W,
 ) -> Result<(), ProgramFault<'static>>
-    ensures changed { IsChanged K.shows K.leaves_one_of K.keeps_beside K.is_trusted desk.old desk.new id.now (command_meant command.now) result (change W.stream writer.old writer.new) }
+    ensures changed { IsChanged K.shows K.leaves_one_of K.keeps_beside K.is_trusted K.is_closed K.fails_to_apply desk.old desk.new id.now (command_meant command.now) result (change W.stream writer.old writer.new) }
     ensures memory { result ≡ Err ProgramFault.Memory → Stays K.shows K.leaves_one_of K.keeps_beside K.is_trusted K.is_closed desk.old desk.new }
 {
     let answer = desk.apply(id, command);

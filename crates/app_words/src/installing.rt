@@ -37,7 +37,7 @@ pub fn install<'w, K: Preparer, I: InputFiles, W: Sink>(
     files: &I,
     writer: &mut W,
 ) -> Result<(), ProgramFault<'w>>
-    ensures installed { InstallEnds K.shows K.leaves_one_of K.keeps_beside K.is_trusted K.is_closed (I.octets files.now) desk.old desk.new wanted.entry.name.now id.now
+    ensures installed { InstallEnds K.shows K.leaves_one_of K.keeps_beside K.is_trusted K.is_closed K.gives_way K.fails_to_apply (I.octets files.now) desk.old desk.new wanted.entry.name.now id.now
         wanted.entry.index.now wanted.entry.text.now result (change W.stream writer.old writer.new) }
     ensures memory { result ≡ Err ProgramFault.Memory → Stays K.shows K.leaves_one_of K.keeps_beside K.is_trusted K.is_closed desk.old desk.new }
     ensures order { IsInOrder (I.reads files.now) (I.refuses files.now) wanted.entry.index.now wanted.entry.text.now result }
@@ -58,7 +58,7 @@ fn install_files<'w, K: Preparer, I: InputFiles, W: Sink>(
     files: &I,
     writer: &mut W,
 ) -> Result<(), ProgramFault<'w>>
-    ensures installed { InstallsFiles K.shows K.leaves_one_of K.keeps_beside K.is_trusted K.is_closed (I.octets files.now) desk.old desk.new wanted.entry.name.now id.now
+    ensures installed { InstallsFiles K.shows K.leaves_one_of K.keeps_beside K.is_trusted K.is_closed K.gives_way K.fails_to_apply (I.octets files.now) desk.old desk.new wanted.entry.name.now id.now
         wanted.entry.index.now wanted.entry.text.now result (change W.stream writer.old writer.new) }
     ensures memory { result ≡ Err ProgramFault.Memory → Stays K.shows K.leaves_one_of K.keeps_beside K.is_trusted K.is_closed desk.old desk.new }
     ensures order { IsInOrder (I.reads files.now) (I.refuses files.now) wanted.entry.index.now wanted.entry.text.now result }
@@ -78,7 +78,7 @@ fn install_octets<K: Preparer, W: Sink>(
     text: Vec<u8>,
     writer: &mut W,
 ) -> Result<(), ProgramFault<'static>>
-    ensures installed { InstallsRead K.shows K.leaves_one_of K.keeps_beside K.is_trusted K.is_closed desk.old desk.new name.now id.now index.items text.items result
+    ensures installed { InstallsRead K.shows K.leaves_one_of K.keeps_beside K.is_trusted K.is_closed K.gives_way K.fails_to_apply desk.old desk.new name.now id.now index.items text.items result
         (change W.stream writer.old writer.new) }
     ensures memory { result ≡ Err ProgramFault.Memory → Stays K.shows K.leaves_one_of K.keeps_beside K.is_trusted K.is_closed desk.old desk.new }
     ensures files { NamesNoFile result }
@@ -98,7 +98,7 @@ fn install_edition<K: Preparer, W: Sink>(
     edition: &Edition,
     writer: &mut W,
 ) -> Result<(), ProgramFault<'static>>
-    ensures changed { IsChanged K.shows K.leaves_one_of K.keeps_beside K.is_trusted desk.old desk.new id.now (install name.now (edition_of edition.now)) result
+    ensures changed { IsChanged K.shows K.leaves_one_of K.keeps_beside K.is_trusted K.is_closed K.fails_to_apply desk.old desk.new id.now (install name.now (edition_of edition.now)) result
         (change W.stream writer.old writer.new) }
     ensures memory { result ≡ Err ProgramFault.Memory → Stays K.shows K.leaves_one_of K.keeps_beside K.is_trusted K.is_closed desk.old desk.new }
     ensures files { NamesNoFile result }

@@ -1,4 +1,5 @@
-use Rattle.std.proofs.Common.{Err, refl, ap, inl, inr}
+use Rattle.std.proofs.Common.{◌≡◌, Err, refl, ap, inl, inr}
+use Rattle.std.proofs.lemmas.Result.{IfErr-at_err}
 use Rattle.app_words.specs.Installing.{InstallEnds}
 use Rattle.app_words.proofs.installing.install.Goals as goal
 
@@ -7,6 +8,7 @@ unfolding InstallEnds
 returns-in-Ok-Some-clause-installed g c = inl (record {
   reply = c.in-Ok-Some.kept;
   kept = rw c.in-Ok-Some.field-0-is at c.in-Ok-Some.ensures.value;
+  answers = g.met.K.Lookup.still_open _ c.in-Ok-Some.ensures.keeps.failed;
   stays = record {
     trust = c.in-Ok-Some.ensures.keeps.trust;
     shows = c.in-Ok-Some.ensures.keeps.shows;
@@ -23,6 +25,7 @@ returns-in-Ok-None-clause-installed g c = inr (inr (
   c.kept.new.self,
   record {
     none = rw c.in-Ok-None.field-0-is at c.in-Ok-None.ensures.value;
+    answers = g.met.K.Lookup.still_open _ c.in-Ok-None.ensures.keeps.failed;
     stays = record {
       trust = c.in-Ok-None.ensures.keeps.trust;
       shows = c.in-Ok-None.ensures.keeps.shows;
@@ -39,6 +42,8 @@ unfolding InstallEnds
 returns-in-Err-clause-installed g c = inr (inl (record {
   fault = c.in-Err.fault;
   kind = c.in-Err.ensures.keeps.kinds;
+  caused = c.in-Err.ensures.keeps.caused;
+  closed = (λ is. c.in-Err.ensures.keeps.closed.0 (ap Err is), λ is. IfErr-at_err (λ fault. c.in-Err.fault ≡ fault) (c.in-Err.ensures.keeps.closed.1 is) refl);
   told = ap Err c.from.ensures;
   stays = record {
     trust = c.in-Err.ensures.keeps.trust;
