@@ -12,7 +12,8 @@ use Rattle.sqlite.specs.declared.types.Value.TheVariants.{Int}
 use Rattle.store_tables.specs.Records as spec
 use Rattle.store_sql.specs.Encodings.{stored_mark, stored_item, stored_kept}
 use Rattle.store_sql.specs.Reads.{IsListing, by_columns}
-use Rattle.store_sql.specs.Streams.{IsFront}
+use Rattle.store_sql.specs.RowQueries.{IsFrontOfRows}
+use Rattle.store_sql.specs.Streams.{scan_query}
 use Rattle.store_sql.specs.Streams.Scan.{AllKept}
 use Rattle.store_holdings.proofs.ReadLemmas.{one_le}
 use Rattle.dict_catalogue.specs.Steps.{Catalogue}
@@ -116,7 +117,7 @@ module _ (n : ℤ) (taken T : Tables) (goes : GoesOnFrom taken T) where
 
 -- ---- the kept replies
 
-pub fits_replies : (version : ℕ) (db : Database) (taken : Tables) → AllGoOnFrom version db taken → taken.kept ≡ [] → (given : List KeptRow) → IsFront AllKept db (map stored_kept given)
+pub fits_replies : (version : ℕ) (db : Database) (taken : Tables) → AllGoOnFrom version db taken → taken.kept ≡ [] → (given : List KeptRow) → IsFrontOfRows (scan_query AllKept) db (map stored_kept given)
     → AllGoOnFrom version db (with_replies taken (kept_given given))
 fits_replies version db taken fits none given front T M K =
     let whole = replies_read version db taken.members T M K (map stored_kept given ++ front.0) front.1 ∙ front_read kept_codec given front.0 in
