@@ -3,7 +3,7 @@ use Rattle.std.proofs.Common.{◌≡◌, ◌≢◌, ◌≤◌, ◌<◌, ℕ, zer
 use Rattle.std.proofs.lemmas.Bool.{ne_eqb}
 use Rattle.std.proofs.lemmas.Bool.Decides.{leb_tells}
 use Rattle.std.specs.List.{AllPairs}
-use Rattle.std.specs.Prelude.{◌&&◌, ◌==◌, None, Option, Some, nat_le, nat_lt, not}
+use Rattle.std.specs.Prelude.{◌&&◌, ◌==◌, None, Option, Some, nat_le, nat_lt}
 use Rattle.net_connection.specs.Handing.{held_for}
 use Rattle.net_connection.specs.declared.connection.Connection.{Connection}
 use Rattle.net_driver.specs.Turning.{IsFirst, first_at, first_of, is_other, longest}

@@ -8,5 +8,6 @@ pub mod SettleLemmas
 pub mod LookLemmas
 pub mod AcceptLemmas
 pub mod LoopLemmas
+pub mod LeaveLemmas
 pub mod ServedLemmas
 pub mod FirstLemmas

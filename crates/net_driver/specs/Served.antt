@@ -19,6 +19,7 @@ use Rattle.net_driver.specs.Looking.{IsIdle, WaitsIf}
 use Rattle.net_driver.specs.Ordering.{AreOfRound}
 use Rattle.net_driver.specs.Rounds.{Moves}
 use Rattle.net_driver.specs.Serving.{IsRoundCounted}
+use Rattle.net_driver.specs.Turning.{KeepsOnlyOpenOf}
 use Rattle.net_driver.specs.declared.event_loop.EventLoop.{EventLoop}
 use Rattle.net_driver.specs.declared.serving.RoundsEnd.{RoundsEnd}
 use Rattle.net_driver.specs.declared.serving.RoundsEnd.TheVariants.{Whole, Closed}
@@ -59,7 +60,8 @@ module _ {K T S Beside : Type 0} {G : transport.Ghosts T} (Shows : K → Catalog
   pub record IsRound (one : Round K T S G) : Type 0 where
     pub led : HasLedOn (IsTrusted one.left) (Shows one.desk) (LeavesOneOf one.desk) (Shows one.left) (LeavesOneOf one.left) one.before.hub one.made.hub
         (λ events. Moves one.before.connections one.made.connections events × AreOfRound events
-        × GoesRound (condition has_failed is_closed) (IsToldAnew Shows LeavesOneOf KeepsBeside IsTrusted has_failed is_closed expects) prepares taken coming made refuses asked told one.result one.desk one.left one.before one.made events)
+        × GoesRound (condition has_failed is_closed) (IsToldAnew Shows LeavesOneOf KeepsBeside IsTrusted has_failed is_closed expects) prepares taken coming made refuses asked told one.result one.desk one.left one.before one.made events
+        × KeepsOnlyOpenOf one.before.hub one.made.hub one.before.connections.opened.items one.made.connections.opened.items)
     pub trust : IsTrusted one.left → IsTrusted one.desk
     pub beside : (beside : Beside) → KeepsBeside one.desk beside → KeepsBeside one.left beside
     pub rounds : IsRoundCounted one.result one.before.rounds one.made.rounds

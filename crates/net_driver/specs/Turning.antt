@@ -1,5 +1,5 @@
 -- What is done to each connection of a list, place by place.
-use Rattle.std.specs.Prelude.{◌≡◌, ◌≢◌, ◌≤◌, ◌<◌, ◌==◌, ◌&&◌, ◌||◌, ℕ, Bool, true, false, not, List, [], ◌∷◌, Option, None, Some, length, max, nat_le, nat_lt, slice_index_or, take, Result, if◌then◌else◌}
+use Rattle.std.specs.Prelude.{◌≡◌, ◌≢◌, ◌≤◌, ◌<◌, ◌==◌, ◌&&◌, ◌||◌, All, ℕ, Bool, true, false, not, List, [], ◌∷◌, Option, None, Some, length, max, nat_le, nat_lt, slice_index_or, take, Result, if◌then◌else◌}
 use Rattle.dict_desk.specs.declared.fault.Fault.{Fault}
 use Rattle.dict_desk.specs.Expected.{Expected}
 use Rattle.dict_session.specs.Desks.{Condition}
@@ -15,6 +15,7 @@ use Rattle.net_connection.specs.Foreseen.{HoldsBack, KeepsOrder}
 use Rattle.net_connection.specs.Handing.{held_for}
 use Rattle.net_connection.specs.Ordering.{AreOfTurns}
 use Rattle.net_connection.specs.Quiet.{StaysForReader}
+use Rattle.net_connection.specs.Stages.{is_open}
 use Rattle.net_driver.specs.Ordering.{ComeById}
 use Rattle.net_connection.specs.Turns.{Departs, Turns, marked}
 use Rattle.net_connection.specs.declared.connection.Connection.{Connection}
@@ -28,6 +29,14 @@ pub record MarkAll {T : Type 0} (is_told : ℕ → Bool) (old new : List (Connec
 abbrev pub KeepsAllBut : {T : Type 0} → List (Connection T) → Hub → Hub → Type 0
 KeepsAllBut {T} all old new =
     (other : ℕ) (held : Option Holding) → ((k : ℕ) (d : Connection T) → k < length all → (slice_index_or all k d).id ≢ other) → HasHolding old other held → HasHolding new other held
+
+-- the hub has no connection but those of these that are open
+abbrev pub HasOnlyOpenOf : {T : Type 0} → Hub → List (Connection T) → Type 0
+HasOnlyOpenOf hub all = (id : ℕ) → All (λ one. is_open one.stage ≡ true → one.id ≢ id) all → HasHolding hub id None
+
+-- so it is after, where it was so before
+abbrev pub KeepsOnlyOpenOf : {T : Type 0} → Hub → Hub → List (Connection T) → List (Connection T) → Type 0
+KeepsOnlyOpenOf from to old new = HasOnlyOpenOf from old → HasOnlyOpenOf to new
 
 -- one of these is so
 abbrev pub any : List Bool → Bool

@@ -57,7 +57,7 @@ impl<T: Transport> Connections<T> {
     ghost use Rattle.net_connection.specs.Telling.{KeepsOthers};
     ghost use Rattle.net_connection.specs.Stages.{is_departing};
     ghost use Rattle.net_connection.specs.Turns.{HasNothingToDo};
-    ghost use Rattle.net_driver.specs.Turning.{KeepsAllBut, MarkAll};
+    ghost use Rattle.net_driver.specs.Turning.{KeepsAllBut, KeepsOnlyOpenOf, MarkAll};
     ghost use Rattle.net_connection.specs.Ordering.{AreOfTurns};
     ghost use Rattle.net_driver.specs.Ordering.{ComeById};
 
@@ -150,7 +150,8 @@ impl<T: Transport> Connections<T> {
         desk: &mut K,
     ) -> bool
         ensures led { HasLedOn (K.is_trusted desk.new) (K.shows desk.old) (K.leaves_one_of desk.old) (K.shows desk.new) (K.leaves_one_of desk.new) hub.old hub.new
-            (λ events. Moves self.old self.new events × AreOfTurns events × ComeById events × TurnEach (condition K.has_failed K.is_closed) (IsToldAnew K.shows K.leaves_one_of K.keeps_beside K.is_trusted K.has_failed K.is_closed K.expects) K.prepares T.taken T.coming T.made O.refuses hub.old desk.old desk.new self.old self.new result events) }
+            (λ events. Moves self.old self.new events × AreOfTurns events × ComeById events × TurnEach (condition K.has_failed K.is_closed) (IsToldAnew K.shows K.leaves_one_of K.keeps_beside K.is_trusted K.has_failed K.is_closed K.expects) K.prepares T.taken T.coming T.made O.refuses hub.old desk.old desk.new self.old self.new result events
+            × KeepsOnlyOpenOf hub.old hub.new self.old.opened.items self.new.opened.items) }
         ensures trust { K.is_trusted desk.new → K.is_trusted desk.old }
         ensures beside { (beside : K.Beside) → K.keeps_beside desk.old beside → K.keeps_beside desk.new beside }
         ensures others { KeepsAllBut self.old.opened.items hub.old hub.new }

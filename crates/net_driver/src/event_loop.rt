@@ -3,7 +3,7 @@ ghost use Rattle.std.specs.Prelude.{◌≡◌, ◌==◌, ◌||◌, ◌≤◌, �
 ghost use Rattle.std.specs.Duration.{as_nanos};
 ghost use Rattle.std.specs.IoError.{error_kind};
 ghost use Rattle.net_driver.specs.Looking.{tells};
-ghost use Rattle.net_driver.specs.Turning.{MarkAll};
+ghost use Rattle.net_driver.specs.Turning.{KeepsOnlyOpenOf, MarkAll};
 
 use crate::connections::Connections;
 use crate::listening::{Listening, listening_by};
@@ -112,7 +112,8 @@ impl<'h, T: Transport, S: Sockets<T>> EventLoop<'h, T, S> {
     /// Whether anything happened; where nothing did, `wait` may come before the next round.
     pub fn round<K: Preparer>(&mut self, desk: &mut K) -> io::Result<bool>
         ensures led { HasLedOn (K.is_trusted desk.new) (K.shows desk.old) (K.leaves_one_of desk.old) (K.shows desk.new) (K.leaves_one_of desk.new) self.old.hub self.new.hub
-            (λ events. Moves self.old.connections self.new.connections events × AreOfRound events × GoesRound (condition K.has_failed K.is_closed) (IsToldAnew K.shows K.leaves_one_of K.keeps_beside K.is_trusted K.has_failed K.is_closed K.expects) K.prepares T.taken T.coming T.made S.refuses S.asked S.told result desk.old desk.new self.old self.new events) }
+            (λ events. Moves self.old.connections self.new.connections events × AreOfRound events × GoesRound (condition K.has_failed K.is_closed) (IsToldAnew K.shows K.leaves_one_of K.keeps_beside K.is_trusted K.has_failed K.is_closed K.expects) K.prepares T.taken T.coming T.made S.refuses S.asked S.told result desk.old desk.new self.old self.new events
+            × KeepsOnlyOpenOf self.old.hub self.new.hub self.old.connections.opened.items self.new.connections.opened.items) }
         ensures trust { K.is_trusted desk.new → K.is_trusted desk.old }
         ensures beside { (beside : K.Beside) → K.keeps_beside desk.old beside → K.keeps_beside desk.new beside }
         ensures closed { K.is_closed desk.old ≡ true → K.is_closed desk.new ≡ true }

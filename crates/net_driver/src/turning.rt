@@ -4,7 +4,7 @@ ghost use Rattle.std.specs.List.{AllPairs};
 ghost use Rattle.dict_session.specs.Desks.{condition};
 ghost use Rattle.http_service.specs.Foreseeing.{IsToldAnew};
 ghost use Rattle.net_connection.specs.Leading.{HasLedOn};
-ghost use Rattle.net_driver.specs.Turning.{DepartAll, KeepsAllBut, MarkAll, TurnAll, first_of, first_since, is_other};
+ghost use Rattle.net_driver.specs.Turning.{DepartAll, KeepsAllBut, KeepsOnlyOpenOf, MarkAll, TurnAll, first_of, first_since, is_other};
 ghost use Rattle.net_connection.specs.Handing.{held_for};
 ghost use Rattle.net_connection.specs.Turns.{HasNothingToDo};
 ghost use Rattle.net_driver.specs.Rounds.{room_of};
@@ -26,7 +26,8 @@ pub fn turn_all<T: Transport, K: Preparer, O: Opening>(
 ) -> bool
     requires { AllPairs (λ a b. a.id < b.id) all.old.items }
     ensures led { HasLedOn (K.is_trusted desk.new) (K.shows desk.old) (K.leaves_one_of desk.old) (K.shows desk.new) (K.leaves_one_of desk.new) hub.old hub.new
-        (λ events. TurnAll (condition K.has_failed K.is_closed) (IsToldAnew K.shows K.leaves_one_of K.keeps_beside K.is_trusted K.has_failed K.is_closed K.expects) K.prepares T.taken T.coming T.made O.refuses hub.old desk.old desk.new all.old.items all.new.items result events) }
+        (λ events. TurnAll (condition K.has_failed K.is_closed) (IsToldAnew K.shows K.leaves_one_of K.keeps_beside K.is_trusted K.has_failed K.is_closed K.expects) K.prepares T.taken T.coming T.made O.refuses hub.old desk.old desk.new all.old.items all.new.items result events
+        × KeepsOnlyOpenOf hub.old hub.new all.old.items all.new.items) }
     ensures trust { K.is_trusted desk.new → K.is_trusted desk.old }
     ensures beside { (beside : K.Beside) → K.keeps_beside desk.old beside → K.keeps_beside desk.new beside }
     ensures others { KeepsAllBut all.old.items hub.old hub.new }

@@ -6,6 +6,7 @@ use Rattle.net_driver.specs.Turning.{first_of, is_other}
 use Rattle.net_driver.proofs.BoolLemmas.{so_still, so_then}
 use Rattle.net_connection.proofs.LeadLemmas.{led_as, led_joined, led_still}
 use Rattle.net_driver.proofs.ListLemmas.{default_free, idle_more, ids_more, ids_same, taken_whole}
+use Rattle.net_driver.proofs.LeaveLemmas.{only_turned}
 use Rattle.net_driver.proofs.RoundLemmas.{keeps_more, keeps_whole, turn_none, turn_more, turn_whole}
 use Rattle.net_driver.proofs.turning.turn_all.Goals.{then-turn, else-turn}
 use Rattle.net_driver.proofs.turning.turn_all.Goals as goal
@@ -19,11 +20,14 @@ loop-one-init g c =
       beside = λ beside kept. kept;
       closed = λ is. is;
       others = λ other held apart has. has;
-      led = led_still (turn_none (condition g.K.Lookup.has_failed g.K.Lookup.is_closed)
-          (IsToldAnew g.K.Lookup.shows g.K.Lookup.leaves_one_of g.K.Lookup.keeps_beside g.K.Lookup.is_trusted g.K.Lookup.has_failed g.K.Lookup.is_closed g.K.Preparer.expects)
-          g.K.Preparer.prepares g.T.Transport.taken g.T.Transport.coming g.T.Transport.made g.O.Opening.refuses c.args.hub.now
-          c.args.desk.now c.args.all.now.items c.first_of-first.result
-          (c.first_of-first.ensures ∙ ap (λ all. first_of all) c.as_slice.ensures.value));
+      led = led_still (
+        turn_none (condition g.K.Lookup.has_failed g.K.Lookup.is_closed)
+            (IsToldAnew g.K.Lookup.shows g.K.Lookup.leaves_one_of g.K.Lookup.keeps_beside g.K.Lookup.is_trusted g.K.Lookup.has_failed g.K.Lookup.is_closed g.K.Preparer.expects)
+            g.K.Preparer.prepares g.T.Transport.taken g.T.Transport.coming g.T.Transport.made g.O.Opening.refuses c.args.hub.now
+            c.args.desk.now c.args.all.now.items c.first_of-first.result
+            (c.first_of-first.ensures ∙ ap (λ all. first_of all) c.as_slice.ensures.value),
+        λ had. had,
+      );
     })
 
 pub loop-one-preserved : goal.loop-one-preserved
@@ -48,22 +52,25 @@ loop-one-preserved g c =
       closed = λ is. c.turn.ensures.closed (c.loop-one.invariant.closed is);
       others = keeps_more c.args.all.now.items i one c.args.hub.now c.loop-one.hub c.turn.new.hub within was c.loop-one.invariant.others c.turn.ensures.others;
       led = led_joined c.loop-one.invariant.led c.turn.ensures.led c.turn.ensures.trust
-          (λ es fs all turns. turn_more (condition g.K.Lookup.has_failed g.K.Lookup.is_closed)
-          (IsToldAnew g.K.Lookup.shows g.K.Lookup.leaves_one_of g.K.Lookup.keeps_beside g.K.Lookup.is_trusted g.K.Lookup.has_failed g.K.Lookup.is_closed g.K.Preparer.expects)
-          g.K.Preparer.prepares g.T.Transport.taken g.T.Transport.coming g.T.Transport.made g.O.Opening.refuses
-          c.args.hub.now c.loop-one.hub c.args.desk.now c.loop-one.desk c.turn.new.desk c.args.all.now.items now i one c.turn.new.self c.loop-one.first _ c.loop-one.has_moved c.turn.result _ es fs c.requires within
-          (default_free now i one c.one-item.result in_now)
-          c.first_since-first.ensures
-          (elim c.if-turn.branch [
-            | then-turn w ↦ so_then _ c.loop-one.has_moved c.turn.result w.has_moved-is w.if-turn.true
-            | else-turn w ↦ so_still _ c.loop-one.has_moved c.turn.result w.has_moved-is w.if-turn.false
-          ])
-          c.loop-one.invariant.others turns.0 turns.1 turns.2
-          (subst (λ b. KeepsOrder b one.held.kind c.loop-one.hub fs) same turns.3) (subst (λ b. HoldsBack
-          (IsToldAnew g.K.Lookup.shows g.K.Lookup.leaves_one_of g.K.Lookup.keeps_beside g.K.Lookup.is_trusted g.K.Lookup.has_failed g.K.Lookup.is_closed g.K.Preparer.expects)
-          g.K.Preparer.prepares b c.loop-one.hub c.loop-one.desk c.turn.new.desk one c.turn.new.self) same
-          c.turn.ensures.prepared)
-          c.turn.ensures.closed all);
+          (λ es fs all turns. (
+            turn_more (condition g.K.Lookup.has_failed g.K.Lookup.is_closed)
+                (IsToldAnew g.K.Lookup.shows g.K.Lookup.leaves_one_of g.K.Lookup.keeps_beside g.K.Lookup.is_trusted g.K.Lookup.has_failed g.K.Lookup.is_closed g.K.Preparer.expects)
+                g.K.Preparer.prepares g.T.Transport.taken g.T.Transport.coming g.T.Transport.made g.O.Opening.refuses
+                c.args.hub.now c.loop-one.hub c.args.desk.now c.loop-one.desk c.turn.new.desk c.args.all.now.items now i one c.turn.new.self c.loop-one.first _ c.loop-one.has_moved c.turn.result _ es fs c.requires within
+                (default_free now i one c.one-item.result in_now)
+                c.first_since-first.ensures
+                (elim c.if-turn.branch [
+                  | then-turn w ↦ so_then _ c.loop-one.has_moved c.turn.result w.has_moved-is w.if-turn.true
+                  | else-turn w ↦ so_still _ c.loop-one.has_moved c.turn.result w.has_moved-is w.if-turn.false
+                ])
+                c.loop-one.invariant.others turns.0 turns.1 turns.2
+                (subst (λ b. KeepsOrder b one.held.kind c.loop-one.hub fs) same turns.3) (subst (λ b. HoldsBack
+                (IsToldAnew g.K.Lookup.shows g.K.Lookup.leaves_one_of g.K.Lookup.keeps_beside g.K.Lookup.is_trusted g.K.Lookup.has_failed g.K.Lookup.is_closed g.K.Preparer.expects)
+                g.K.Preparer.prepares b c.loop-one.hub c.loop-one.desk c.turn.new.desk one c.turn.new.self) same
+                c.turn.ensures.prepared)
+                c.turn.ensures.closed all.0,
+            λ had. only_turned c.loop-one.hub c.turn.new.hub now i one c.turn.new.self in_now (default_free now i one c.one-item.result in_now) c.turn.ensures.id c.turn.ensures.others turns.4 (all.1 had),
+          ));
     }
 
 pub returns-clause-led : goal.returns-clause-led
@@ -73,10 +80,13 @@ returns-clause-led g c =
     let done : length c.args.all.now.items ≤ c.loop-one.one-index = omega (arith, all, c.loop-one-test.false) in
     rw taken_whole
     (led_as c.loop-one.invariant.led
-    (λ events up_to. turn_whole (condition g.K.Lookup.has_failed g.K.Lookup.is_closed)
-    (IsToldAnew g.K.Lookup.shows g.K.Lookup.leaves_one_of g.K.Lookup.keeps_beside g.K.Lookup.is_trusted g.K.Lookup.has_failed g.K.Lookup.is_closed g.K.Preparer.expects)
-    g.K.Preparer.prepares g.T.Transport.taken g.T.Transport.coming g.T.Transport.made g.O.Opening.refuses c.args.hub.now
-    c.args.desk.now _ c.args.all.now.items c.loop-one.one-items c.loop-one.one-index c.loop-one.first c.loop-one.has_moved events done up_to))
+    (λ events up_to. (
+      turn_whole (condition g.K.Lookup.has_failed g.K.Lookup.is_closed)
+          (IsToldAnew g.K.Lookup.shows g.K.Lookup.leaves_one_of g.K.Lookup.keeps_beside g.K.Lookup.is_trusted g.K.Lookup.has_failed g.K.Lookup.is_closed g.K.Preparer.expects)
+          g.K.Preparer.prepares g.T.Transport.taken g.T.Transport.coming g.T.Transport.made g.O.Opening.refuses c.args.hub.now
+          c.args.desk.now _ c.args.all.now.items c.loop-one.one-items c.loop-one.one-index c.loop-one.first c.loop-one.has_moved events done up_to.0,
+      up_to.1,
+    )))
 
 pub returns-clause-others : goal.returns-clause-others
 returns-clause-others g c =

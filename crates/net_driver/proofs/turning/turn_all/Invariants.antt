@@ -5,6 +5,7 @@ use Rattle.net_connection.specs.Leading.{HasLedOn}
 use Rattle.net_connection.specs.Turns.{HasNothingToDo}
 use Rattle.net_driver.proofs.ListLemmas.{HaveSameIds}
 use Rattle.net_driver.proofs.RoundLemmas.{KeepsFrom, TurnUpTo}
+use Rattle.net_driver.specs.Turning.{KeepsOnlyOpenOf}
 use Rattle.net_driver.proofs.turning.turn_all.Given as goal
 
 abbrev pub invariant-loop-one : goal.invariant-loop-one
@@ -19,5 +20,6 @@ invariant-loop-one g l = record {
       (λ events. TurnUpTo (condition g.K.Lookup.has_failed g.K.Lookup.is_closed)
       (IsToldAnew g.K.Lookup.shows g.K.Lookup.leaves_one_of g.K.Lookup.keeps_beside g.K.Lookup.is_trusted g.K.Lookup.has_failed g.K.Lookup.is_closed g.K.Preparer.expects)
       g.K.Preparer.prepares g.T.Transport.taken g.T.Transport.coming g.T.Transport.made g.O.Opening.refuses l.fn.hub l.fn.desk l.desk
-      l.fn.all.items l.one-items l.one-index l.first l.has_moved events);
+      l.fn.all.items l.one-items l.one-index l.first l.has_moved events
+      × KeepsOnlyOpenOf l.fn.hub l.hub l.fn.all.items l.one-items);
 }

@@ -7,6 +7,7 @@ use Rattle.net_connection.specs.Stages.{is_departing, is_held, is_open}
 use Rattle.net_driver.specs.Rounds.{TurnEach, connections_fitting, latest}
 use Rattle.net_connection.specs.Turns.{HasNothingToDo}
 use Rattle.net_connection.proofs.LeadLemmas.{led_as}
+use Rattle.net_driver.proofs.LeaveLemmas.{only_parted}
 use Rattle.net_driver.proofs.ListLemmas.{HaveSameIds, apart_kept, ids_kept, rising_kept}
 use Rattle.net_driver.proofs.RoundLemmas.{depart_ids, departed_closed, moves_turned}
 use Rattle.net_driver.proofs.connections.Connections.turn.Goals as goal
@@ -23,14 +24,19 @@ returns-then-departed-clause-led g c =
       departs = c.depart_all-departed.ensures.departs;
       turned = c.turn_all-turned.new.all.items;
       by_open = c.turn_all-turned.result;
-      turns = turned;
+      turns = turned.0;
       opened = c.settle.ensures.opened;
       departing = c.settle.ensures.departing ∙ ap (λ l. connections_fitting 33554432 (latest 128 (l ++ filter (λ one. is_departing one.stage) c.turn_all-turned.new.all.items)))
           (filter_from_retain _ (λ one. is_held one.stage) (λ p x b q t. search rules) _ _ _ c.retain.ensures.filtered);
       last = c.settle.ensures.last;
       has_moved = rw c.if-departed.true refl;
-    } in
-    (moves_turned c.args.self.now c.settle.new.self c.depart_all-departed.result events each, turned.are_turns, turned.by_id, each))
+    } in (
+      moves_turned c.args.self.now c.settle.new.self c.depart_all-departed.result events each,
+      turned.0.are_turns,
+      turned.0.by_id,
+      each,
+      only_parted c.args.hub.now c.turn_all-turned.new.hub c.args.self.now.opened.items c.turn_all-turned.new.all.items c.settle.new.self.opened.items c.settle.ensures.opened turned.1,
+    ))
 
 pub returns-else-departed-clause-led : goal.returns-else-departed-clause-led
 returns-else-departed-clause-led g c =
@@ -44,14 +50,19 @@ returns-else-departed-clause-led g c =
       departs = c.depart_all-departed.ensures.departs;
       turned = c.turn_all-turned.new.all.items;
       by_open = c.turn_all-turned.result;
-      turns = turned;
+      turns = turned.0;
       opened = c.settle.ensures.opened;
       departing = c.settle.ensures.departing ∙ ap (λ l. connections_fitting 33554432 (latest 128 (l ++ filter (λ one. is_departing one.stage) c.turn_all-turned.new.all.items)))
           (filter_from_retain _ (λ one. is_held one.stage) (λ p x b q t. search rules) _ _ _ c.retain.ensures.filtered);
       last = c.settle.ensures.last;
       has_moved = rw c.if-departed.false refl;
-    } in
-    (moves_turned c.args.self.now c.settle.new.self c.turn_all-turned.result events each, turned.are_turns, turned.by_id, each))
+    } in (
+      moves_turned c.args.self.now c.settle.new.self c.turn_all-turned.result events each,
+      turned.0.are_turns,
+      turned.0.by_id,
+      each,
+      only_parted c.args.hub.now c.turn_all-turned.new.hub c.args.self.now.opened.items c.turn_all-turned.new.all.items c.settle.new.self.opened.items c.settle.ensures.opened turned.1,
+    ))
 
 pub returns-else-departed-clause-idle : goal.returns-else-departed-clause-idle
 returns-else-departed-clause-idle g c = λ still. rw c.settle.ensures.opened (All-filter (λ one. is_open one.stage) (λ one. HasNothingToDo one) c.turn_all-turned.new.all.items (c.turn_all-turned.ensures.idle still))

@@ -10,6 +10,7 @@ use Rattle.net_driver.specs.Looking.{Looks}
 use Rattle.net_driver.specs.Rounds.{Moves, TurnEach}
 use Rattle.net_driver.proofs.BoolLemmas.{none_of}
 use Rattle.net_connection.proofs.LeadLemmas.{led_joined, led_none}
+use Rattle.net_driver.proofs.LeaveLemmas.{only_looked, only_taken}
 use Rattle.net_driver.proofs.LookLemmas.{moves_looked}
 use Rattle.net_driver.proofs.OrderLemmas.{round_none}
 use Rattle.net_driver.proofs.LoopLemmas.{AreTaken, moved_by, round_made, taken_round}
@@ -22,6 +23,7 @@ returns-in-Err-clause-led g c =
       moves_looked (g.S.Sockets.told c.poll.new.self.sockets) c.poll.result c.args.self.now c.poll.new.self c.poll.ensures,
       round_none,
       (refl, refl, subst (λ r. Looks g.S.Sockets.asked 0 (g.S.Sockets.told c.poll.new.self.sockets) r c.args.self.now c.poll.new.self) c.in-Err.is c.poll.ensures),
+      only_looked g.S.Sockets.asked 0 (g.S.Sockets.told c.poll.new.self.sockets) c.poll.result c.args.self.now c.poll.new.self c.poll.ensures,
     )
 
 pub returns-clause-led : goal.returns-clause-led
@@ -60,6 +62,8 @@ returns-clause-led g c =
           (moved_by c.has_any.result c.has_given-is_more.result c.accept_all-by_dict.result c.accept_all-by_http.result c.turn-turned.result _ _ _ c.has_any.ensures
           (c.has_given-is_more.ensures ∙ ap (λ last. nat_lt last c.turn-turned.new.self.last) (c.last_id-last.ensures ∙ c.poll.ensures.last))
           c.accept_all-by_dict.ensures.asked c.accept_all-by_http.ensures.asked),
+      λ had. then.4 (only_taken g.S.Opening.refuses asked c.poll.new.self c.accept_all-by_dict.new.self c.accept_all-by_http.new.self es before.1
+          (only_looked asked 0 (g.S.Sockets.told c.poll.new.self.sockets) c.poll.result self c.poll.new.self c.poll.ensures had)),
     ))
 
 pub returns-clause-idle : goal.returns-clause-idle
