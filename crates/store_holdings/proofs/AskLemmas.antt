@@ -150,4 +150,4 @@ module _ {S : Type 0} {g : Ghosts S} where
   -- the text is there still
   pub has_still : {T : Type 0} {FailsToRead : Held S → Held S → Fault → Type 0} {installs number : ℕ} {a b : Held S} {x y : List (PartNumbers × List ℕ)} {value : T} → ReadsStore g (IsAtMostRead g) FailsToRead a b (Ok value)
       → KeepsParts g installs number a b x y → HasCleanDisk (state g b) → (text : List ℕ) → HasText (state g a) number text x → HasText (state g b) number text y
-  has_still {number = number} {a = a} {b = b} read keeps clean text has = record { kept = keeps.texts clean number text has.kept (λ _. has.held); held = shows_still g (λ (db : Database). HoldsText db number text) a b (read.same clean) has.held }
+  has_still {number} {a} {b} read keeps clean text has = record { kept = keeps.texts clean number text has.kept (λ _. has.held); held = shows_still g (λ (db : Database). HoldsText db number text) a b (read.same clean) has.held }
