@@ -2,6 +2,7 @@
 use Rattle.std.proofs.Common.{◌≡◌, ℕ, ◌≤◌, List, Option, Ok, Err, refl, inl, inr, arith, subst}
 use Rattle.dict_desk.specs.declared.fault.Fault.{Fault}
 use Rattle.std.specs.Prelude.{◌⊎◌, Bool, Result}
+use Rattle.dict_catalogue.specs.Steps.{CommandRequest}
 use Rattle.dict_desk.specs.Plain.{PlainState}
 use Rattle.dict_desk.specs.declared.lookup.Lookup as lookup
 use Rattle.dict_desk.specs.Expected.{Expected}
@@ -102,18 +103,18 @@ spared_other (CannotBind address) reader writer h other = h
 spared_other CannotWait reader writer h other = h
 spared_other Memory reader writer h other = h
 
-module _ {K D B L : Type 0} (k : lookup.Ghosts K) (d : desks.Ghosts D K) (c : catalogues.Ghosts D K) (n : network.Ghosts B L SystemSockets) (expects : K → Expected → K → Type 0) (prepares : K → Result Bool Fault → K → Type 0)
-    (plain : PlainState) (old new : D) where
+module _ {K D B L : Type 0} (k : lookup.Ghosts K) (d : desks.Ghosts D K) (c : catalogues.Ghosts D K) (n : network.Ghosts B L SystemSockets)
+    (fails : K → CommandRequest → K → Fault → Type 0) (expects : K → Expected → K → Type 0) (prepares : K → Result Bool Fault → K → Type 0) (plain : PlainState) (old new : D) where
   -- a status is at most 4
   pub statuses : (files : List ℕ → Option (List ℕ)) (words : List (List ℕ)) (status : ℕ) (reader writer faults : StreamChange)
-      → CommandEnds k d c n expects prepares files plain old new words status reader writer faults → status ≤ 4
+      → CommandEnds k d c n fails expects prepares files plain old new words status reader writer faults → status ≤ 4
   statuses files words status reader writer faults (inl (Ok end, h, closes)) = omega (arith, closes.0)
   statuses files words status reader writer faults (inl (Err fault, h, closes)) = omega (arith, closes.0, status_at_most_4 fault)
   statuses files words status reader writer faults (inr (h, same)) = omega (arith, h.0)
 
   -- with 0 it was done
   pub done : (files : List ℕ → Option (List ℕ)) (words : List (List ℕ)) (reader writer faults : StreamChange)
-      → CommandEnds k d c n expects prepares files plain old new words 0 reader writer faults → IsDone k d c n expects prepares files plain old new words reader writer × IsUntouched faults
+      → CommandEnds k d c n fails expects prepares files plain old new words 0 reader writer faults → IsDone k d c n fails expects prepares files plain old new words reader writer × IsUntouched faults
   done files words reader writer faults (inl (Ok end, inl task, closes)) = (inl task, closes.1)
   done files words reader writer faults (inl (Ok end, inr (inl (asks, r, (text, put)), same), closes)) = (inr (asks, r, (text, put), same), closes.1)
   done files words reader writer faults (inl (Ok end, inr (inr memory, same), closes)) = cc
@@ -122,7 +123,7 @@ module _ {K D B L : Type 0} (k : lookup.Ghosts K) (d : desks.Ghosts D K) (c : ca
 
   -- a refused task touches nothing
   task_refused : (files : List ℕ → Option (List ℕ)) (task : Task) (fault : ProgramFault) (reader writer : StreamChange)
-      → TaskEnds k d c n expects prepares files plain old new task (Err fault) reader writer → 1 ≡ status_of fault → IsUntouched reader × IsUntouched writer
+      → TaskEnds k d c n fails expects prepares files plain old new task (Err fault) reader writer → 1 ≡ status_of fault → IsUntouched reader × IsUntouched writer
   unfolding Rattle.app_commands.specs.Plain.FilesEnd
   task_refused files (Plain name index text) (Line refusal line) reader writer (inl h, same) e = (h.4.1, h.4.2)
   task_refused files (Plain name index text) (Line refusal line) reader writer (inr h, same) e = (h.1, h.2)
@@ -140,13 +141,13 @@ module _ {K D B L : Type 0} (k : lookup.Ghosts K) (d : desks.Ghosts D K) (c : ca
   task_refused files (Create file) fault reader writer h e = (h.1, h.2)
   task_refused files (Lists file) fault reader writer h e = (h.1, spoils_not_3 fault writer (λ f. omega (arith, e, f)) (list_spoils k d file.now old new fault writer h.0))
   task_refused files (Audit file) fault reader writer h e = (h.1, spoils_not_3 fault writer (λ f. omega (arith, e, f)) (audit_spoils k d c file.now old new fault writer h.0))
-  task_refused files (Changes file name id what) fault reader writer h e = (h.1, spoils_not_3 fault writer (λ f. omega (arith, e, f)) (task_spoils k d files old new file.now name.now id.now what fault writer h.0))
+  task_refused files (Changes file name id what) fault reader writer h e = (h.1, spoils_not_3 fault writer (λ f. omega (arith, e, f)) (task_spoils k d fails files old new file.now name.now id.now what fault writer h.0))
   task_refused files (Serves file dict http rounds) fault reader writer h e = (h.1, serves_refused k d n expects prepares old new file.now dict.now http.now rounds fault writer e h.0)
   task_refused files (SpeaksOver file) fault reader writer h e = spared_other fault reader writer h.1 (λ f. omega (arith, e, f))
 
   -- with 1 or 2 nothing was touched
   pub refused : (files : List ℕ → Option (List ℕ)) (words : List (List ℕ)) (reader writer faults : StreamChange)
-      → CommandEnds k d c n expects prepares files plain old new words 1 reader writer faults → IsUntouched reader × IsUntouched writer
+      → CommandEnds k d c n fails expects prepares files plain old new words 1 reader writer faults → IsUntouched reader × IsUntouched writer
   refused files words reader writer faults (inl (Ok end, h, closes)) = absurd (omega (arith, closes.0))
   refused files words reader writer faults (inl (Err fault, inl (task, asks, ends), closes)) = task_refused files task fault reader writer ends closes.0
   refused files words reader writer faults (inl (Err fault, inr (inl shown, same), closes)) = absurd (never_refused fault writer shown.2 closes.0)
@@ -154,7 +155,7 @@ module _ {K D B L : Type 0} (k : lookup.Ghosts K) (d : desks.Ghosts D K) (c : ca
   refused files words reader writer faults (inr (h, same)) = (h.2, h.3)
 
   pub misread : (files : List ℕ → Option (List ℕ)) (words : List (List ℕ)) (reader writer faults : StreamChange)
-      → CommandEnds k d c n expects prepares files plain old new words 2 reader writer faults → IsUntouched reader × IsUntouched writer
+      → CommandEnds k d c n fails expects prepares files plain old new words 2 reader writer faults → IsUntouched reader × IsUntouched writer
   misread files words reader writer faults (inl (Ok end, h, closes)) = absurd (omega (arith, closes.0))
   misread files words reader writer faults (inl (Err fault, h, closes)) = absurd (never_2 fault closes.0)
   misread files words reader writer faults (inr (h, same)) = (h.2, h.3)
@@ -175,7 +176,7 @@ module _ {K D B L : Type 0} (k : lookup.Ghosts K) (d : desks.Ghosts D K) (c : ca
 
   -- a task that failed
   task_failed : (files : List ℕ → Option (List ℕ)) (words : List (List ℕ)) (task : Task) (fault : ProgramFault) (reader writer : StreamChange)
-      → AskForTask words task → TaskEnds k d c n expects prepares files plain old new task (Err fault) reader writer → 3 ≡ status_of fault → IsFailed k d c expects prepares plain old new words reader writer
+      → AskForTask words task → TaskEnds k d c n fails expects prepares files plain old new task (Err fault) reader writer → 3 ≡ status_of fault → IsFailed k d c expects prepares plain old new words reader writer
   unfolding Rattle.app_commands.specs.Plain.FilesEnd
   task_failed files words (Plain name index text) (Line refusal line) reader writer asks h e = absurd (omega (arith, e))
   task_failed files words (Plain name index text) (Edition refusal) reader writer asks h e = absurd (omega (arith, e))
@@ -197,7 +198,7 @@ module _ {K D B L : Type 0} (k : lookup.Ghosts K) (d : desks.Ghosts D K) (c : ca
   task_failed files words (Lists file) fault reader writer asks h e = spoiled_failed k d c expects prepares plain old new words fault reader writer h.1 (list_spoils k d file.now old new fault writer h.0)
   task_failed files words (Audit file) fault reader writer asks h e = spoiled_failed k d c expects prepares plain old new words fault reader writer h.1 (audit_spoils k d c file.now old new fault writer h.0)
   task_failed files words (Changes file name id what) fault reader writer asks h e =
-      spoiled_failed k d c expects prepares plain old new words fault reader writer h.1 (task_spoils k d files old new file.now name.now id.now what fault writer h.0)
+      spoiled_failed k d c expects prepares plain old new words fault reader writer h.1 (task_spoils k d fails files old new file.now name.now id.now what fault writer h.0)
   task_failed files words (Serves file dict http rounds) fault reader writer asks h e =
       serves_failed k d c expects prepares plain old new n words file.now dict.now http.now rounds fault reader writer h.1 e (λ served. (Serves file dict http rounds, asks, served, h.1)) h.0
   task_failed files words (SpeaksOver file) fault reader writer asks h e = spoken_failed words file fault reader writer asks h
@@ -218,7 +219,7 @@ module _ {K D B L : Type 0} (k : lookup.Ghosts K) (d : desks.Ghosts D K) (c : ca
 
   -- with 3 a file, an output or a session failed
   pub failed : (files : List ℕ → Option (List ℕ)) (words : List (List ℕ)) (reader writer faults : StreamChange)
-      → CommandEnds k d c n expects prepares files plain old new words 3 reader writer faults → IsFailed k d c expects prepares plain old new words reader writer
+      → CommandEnds k d c n fails expects prepares files plain old new words 3 reader writer faults → IsFailed k d c expects prepares plain old new words reader writer
   failed files words reader writer faults (inl (Ok end, h, closes)) = absurd (omega (arith, closes.0))
   failed files words reader writer faults (inl (Err fault, inl (task, asks, ends), closes)) =
       task_failed files words task fault reader writer asks ends closes.0
@@ -228,7 +229,7 @@ module _ {K D B L : Type 0} (k : lookup.Ghosts K) (d : desks.Ghosts D K) (c : ca
 
   -- memory ran out in a task
   task_memory : (files : List ℕ → Option (List ℕ)) (words : List (List ℕ)) (task : Task) (fault : ProgramFault) (reader writer : StreamChange)
-      → AskForTask words task → TaskEnds k d c n expects prepares files plain old new task (Err fault) reader writer → 4 ≡ status_of fault
+      → AskForTask words task → TaskEnds k d c n fails expects prepares files plain old new task (Err fault) reader writer → 4 ≡ status_of fault
       → (IsUntouched reader × IsUntouched writer) ⊎ IsCutOff k d c expects prepares old new words Memory reader writer
   unfolding Rattle.app_commands.specs.Plain.FilesEnd
   task_memory files words (Plain name index text) (Line refusal line) reader writer asks h e = absurd (omega (arith, e))
@@ -245,7 +246,7 @@ module _ {K D B L : Type 0} (k : lookup.Ghosts K) (d : desks.Ghosts D K) (c : ca
   task_memory files words (Create file) fault reader writer asks h e = inl (h.1, h.2)
   task_memory files words (Lists file) fault reader writer asks h e = inl (h.1, spoils_not_3 fault writer (λ f. omega (arith, e, f)) (list_spoils k d file.now old new fault writer h.0))
   task_memory files words (Audit file) fault reader writer asks h e = inl (h.1, spoils_not_3 fault writer (λ f. omega (arith, e, f)) (audit_spoils k d c file.now old new fault writer h.0))
-  task_memory files words (Changes file name id what) fault reader writer asks h e = inl (h.1, spoils_not_3 fault writer (λ f. omega (arith, e, f)) (task_spoils k d files old new file.now name.now id.now what fault writer h.0))
+  task_memory files words (Changes file name id what) fault reader writer asks h e = inl (h.1, spoils_not_3 fault writer (λ f. omega (arith, e, f)) (task_spoils k d fails files old new file.now name.now id.now what fault writer h.0))
   task_memory files words (Serves file dict http rounds) fault reader writer asks h e = elim (serves_memory k d n expects prepares old new file.now dict.now http.now rounds fault writer e h.0) [
     | inl untouched ↦ inl (h.1, untouched)
     | inr served ↦ inr (Serves file dict http rounds, asks, served, h.1)
@@ -253,7 +254,7 @@ module _ {K D B L : Type 0} (k : lookup.Ghosts K) (d : desks.Ghosts D K) (c : ca
   task_memory files words (SpeaksOver file) fault reader writer asks h e = inl (spared_other fault reader writer h.1 (λ f. omega (arith, e, f)))
 
   -- a change for which memory ran out was not made
-  change_unchanged : (files : List ℕ → Option (List ℕ)) (path name id : List ℕ) (what : AskedChange) (writer : StreamChange) → ChangeTaskEnds k d files old new path name id what (Err Memory) writer
+  change_unchanged : (files : List ℕ → Option (List ℕ)) (path name id : List ℕ) (what : AskedChange) (writer : StreamChange) → ChangeTaskEnds k d fails files old new path name id what (Err Memory) writer
       → EndsOn k d path (λ desk left closed. DeskStays k.shows k.leaves_one_of k.keeps_beside k.is_trusted k.is_closed desk left) old new (Err Memory) writer
   change_unchanged files path name id (changes.Install index text) writer (inl h) = inl h
   change_unchanged files path name id (changes.Install index text) writer (inr (desk, left, closed, is, does, shut, (made, spared))) = inr (desk, left, closed, is, does, shut, spared refl)
@@ -266,7 +267,7 @@ module _ {K D B L : Type 0} (k : lookup.Ghosts K) (d : desks.Ghosts D K) (c : ca
   change_unchanged files path name id (changes.Place at) writer (inl h) = inl h
   change_unchanged files path name id (changes.Place at) writer (inr (desk, left, closed, is, does, shut, (made, spared))) = inr (desk, left, closed, is, does, shut, spared refl)
 
-  task_unchanged : (files : List ℕ → Option (List ℕ)) (task : Task) (reader writer : StreamChange) → TaskEnds k d c n expects prepares files plain old new task (Err Memory) reader writer
+  task_unchanged : (files : List ℕ → Option (List ℕ)) (task : Task) (reader writer : StreamChange) → TaskEnds k d c n fails expects prepares files plain old new task (Err Memory) reader writer
       → IsUnchanged k d c expects prepares old new task writer
   task_unchanged files (Plain name index text) reader writer h = tt
   task_unchanged files (Create file) reader writer h = tt
@@ -277,7 +278,7 @@ module _ {K D B L : Type 0} (k : lookup.Ghosts K) (d : desks.Ghosts D K) (c : ca
   task_unchanged files (SpeaksOver file) reader writer h = tt
 
   task_exhausted : (files : List ℕ → Option (List ℕ)) (words : List (List ℕ)) (task : Task) (fault : ProgramFault) (reader writer : StreamChange)
-      → AskForTask words task → TaskEnds k d c n expects prepares files plain old new task (Err fault) reader writer → 4 ≡ status_of fault → IsExhausted k d c expects prepares old new words reader writer
+      → AskForTask words task → TaskEnds k d c n fails expects prepares files plain old new task (Err fault) reader writer → 4 ≡ status_of fault → IsExhausted k d c expects prepares old new words reader writer
   task_exhausted files words task fault reader writer asks ends e = elim (task_memory files words task fault reader writer asks ends e) [
     | inl untouched ↦ inl (
       untouched.0,
@@ -286,7 +287,7 @@ module _ {K D B L : Type 0} (k : lookup.Ghosts K) (d : desks.Ghosts D K) (c : ca
         task,
         asks,
         task_unchanged files task reader writer
-            (subst (λ (f : ProgramFault). TaskEnds k d c n expects prepares files plain old new task (Err f) reader writer) (memory_by_status fault e) ends),
+            (subst (λ (f : ProgramFault). TaskEnds k d c n fails expects prepares files plain old new task (Err f) reader writer) (memory_by_status fault e) ends),
       ),
     )
     | inr cut ↦ inr cut
@@ -294,7 +295,7 @@ module _ {K D B L : Type 0} (k : lookup.Ghosts K) (d : desks.Ghosts D K) (c : ca
 
   -- with 4 nothing was touched and no change made, or memory ran out in a server
   pub memory : (files : List ℕ → Option (List ℕ)) (words : List (List ℕ)) (reader writer faults : StreamChange)
-      → CommandEnds k d c n expects prepares files plain old new words 4 reader writer faults → IsExhausted k d c expects prepares old new words reader writer
+      → CommandEnds k d c n fails expects prepares files plain old new words 4 reader writer faults → IsExhausted k d c expects prepares old new words reader writer
   memory files words reader writer faults (inl (Ok end, h, closes)) = absurd (omega (arith, closes.0))
   memory files words reader writer faults (inl (Err fault, inl (task, asks, ends), closes)) =
       task_exhausted files words task fault reader writer asks ends closes.0

@@ -10,7 +10,7 @@ use Rattle.dict_index.specs.Edition.{Edition as AnEdition}
 use Rattle.dict_catalogue.specs.Commands.{Command, rollback, retire, put_virtual, place}
 use Rattle.net_serving.specs.declared.desks.DeskOpener as desks
 use Rattle.dict_catalogue.specs.declared.reply.Kept.{Kept}
-use Rattle.dict_catalogue.specs.Steps.{Catalogue}
+use Rattle.dict_catalogue.specs.Steps.{Catalogue, CommandRequest}
 use Rattle.dict_desk.specs.declared.fault.Fault.{Fault as DeskFault, Fault}
 use Rattle.dict_desk.specs.Expected.{Expected}
 use Rattle.app_words.specs.Faults.{status_of}
@@ -59,9 +59,10 @@ sound_spoils (Ok read) (Ok done) fault writer h = writes_spoils _ fault writer h
 sound_spoils (Ok read) (Err why) fault writer h = inl h.1
 sound_spoils (Err why) closed fault writer h = inl h.1
 
-module _ {D Beside : Type 0} (Shows : D → Catalogue → Type 0) (LeavesOneOf : D → List (Option Catalogue) → Type 0) (KeepsBeside : D → Beside → Type 0) (IsTrusted : D → Type 0) (is_closed : D → Bool) where
+module _ {D Beside : Type 0} (Shows : D → Catalogue → Type 0) (LeavesOneOf : D → List (Option Catalogue) → Type 0) (KeepsBeside : D → Beside → Type 0) (IsTrusted : D → Type 0) (is_closed : D → Bool)
+    (GivesWay : D → D → DeskFault → Type 0) (FailsToApply : D → CommandRequest → D → DeskFault → Type 0) where
   pub install_spoils : (files : List ℕ → Option (List ℕ)) (old new : D) (name id index text : List ℕ) (fault : ProgramFault) (writer : StreamChange)
-      → InstallEnds Shows LeavesOneOf KeepsBeside IsTrusted is_closed files old new name id index text (Err fault) writer → Spoils fault writer
+      → InstallEnds Shows LeavesOneOf KeepsBeside IsTrusted is_closed GivesWay FailsToApply files old new name id index text (Err fault) writer → Spoils fault writer
   unfolding Rattle.app_words.specs.Installing.InstallEnds
   install_spoils files old new name id index text fault writer (inl again) = writes_spoils _ fault writer again.line.0
   install_spoils files old new name id index text fault writer (inr (inl unknown)) = inl unknown.untouched
@@ -74,23 +75,24 @@ module _ {K D : Type 0} (k : lookup.Ghosts K) (d : desks.Ghosts D K) where
   list_spoils path old new fault writer (inl h) = inl h.4
   list_spoils path old new fault writer (inr (desk, left, closed, is, does, shut, (same, listed))) = writes_spoils _ fault writer listed.lines.0
 
-  change_spoils : (path id : List ℕ) (command : Command AnEdition) (old new : D) (fault : ProgramFault) (writer : StreamChange) → ChangeEnds k d path id command old new (Err fault) writer → Spoils fault writer
-  change_spoils path id command old new fault writer (inl h) = inl h.4
-  change_spoils path id command old new fault writer (inr (desk, left, closed, is, does, shut, (changed, spared))) = answer_spoils changed.answer fault writer changed.told
+  change_spoils : (fails : K → CommandRequest → K → Fault → Type 0) (path id : List ℕ) (command : Command AnEdition) (old new : D) (fault : ProgramFault) (writer : StreamChange)
+      → ChangeEnds k d fails path id command old new (Err fault) writer → Spoils fault writer
+  change_spoils fails path id command old new fault writer (inl h) = inl h.4
+  change_spoils fails path id command old new fault writer (inr (desk, left, closed, is, does, shut, (changed, spared))) = answer_spoils changed.answer fault writer changed.told
 
-  installs_spoils : (files : List ℕ → Option (List ℕ)) (path name id index text : List ℕ) (old new : D) (fault : ProgramFault) (writer : StreamChange)
-      → InstallsOn k d files path name id index text old new (Err fault) writer → Spoils fault writer
-  installs_spoils files path name id index text old new fault writer (inl h) = inl h.4
-  installs_spoils files path name id index text old new fault writer (inr (desk, left, closed, is, does, shut, (installed, spared))) =
-      install_spoils k.shows k.leaves_one_of k.keeps_beside k.is_trusted k.is_closed files desk left name id index text fault writer installed
+  installs_spoils : (fails : K → CommandRequest → K → Fault → Type 0) (files : List ℕ → Option (List ℕ)) (path name id index text : List ℕ) (old new : D) (fault : ProgramFault) (writer : StreamChange)
+      → InstallsOn k d fails files path name id index text old new (Err fault) writer → Spoils fault writer
+  installs_spoils fails files path name id index text old new fault writer (inl h) = inl h.4
+  installs_spoils fails files path name id index text old new fault writer (inr (desk, left, closed, is, does, shut, (installed, spared))) =
+      install_spoils k.shows k.leaves_one_of k.keeps_beside k.is_trusted k.is_closed k.gives_way fails files desk left name id index text fault writer installed
 
-  pub task_spoils : (files : List ℕ → Option (List ℕ)) (old new : D) (path name id : List ℕ) (what : Asked) (fault : ProgramFault) (writer : StreamChange)
-      → ChangeTaskEnds k d files old new path name id what (Err fault) writer → Spoils fault writer
-  task_spoils files old new path name id (Install index text) fault writer h = installs_spoils files path name id index.now text.now old new fault writer h
-  task_spoils files old new path name id Rollback fault writer h = change_spoils path id (rollback name) old new fault writer h
-  task_spoils files old new path name id Retire fault writer h = change_spoils path id (retire name) old new fault writer h
-  task_spoils files old new path name id (Virtual title members) fault writer h = change_spoils path id (put_virtual name title.now (words_shown members.items)) old new fault writer h
-  task_spoils files old new path name id (Place at) fault writer h = change_spoils path id (place name at) old new fault writer h
+  pub task_spoils : (fails : K → CommandRequest → K → Fault → Type 0) (files : List ℕ → Option (List ℕ)) (old new : D) (path name id : List ℕ) (what : Asked) (fault : ProgramFault) (writer : StreamChange)
+      → ChangeTaskEnds k d fails files old new path name id what (Err fault) writer → Spoils fault writer
+  task_spoils fails files old new path name id (Install index text) fault writer h = installs_spoils fails files path name id index.now text.now old new fault writer h
+  task_spoils fails files old new path name id Rollback fault writer h = change_spoils fails path id (rollback name) old new fault writer h
+  task_spoils fails files old new path name id Retire fault writer h = change_spoils fails path id (retire name) old new fault writer h
+  task_spoils fails files old new path name id (Virtual title members) fault writer h = change_spoils fails path id (put_virtual name title.now (words_shown members.items)) old new fault writer h
+  task_spoils fails files old new path name id (Place at) fault writer h = change_spoils fails path id (place name at) old new fault writer h
 
   module _ {B L : Type 0} (n : network.Ghosts B L SystemSockets) (expects : K → Expected → K → Type 0) (prepares : K → Result Bool Fault → K → Type 0) (old new : D) where
     serves_spoils : (path dict http : List ℕ) (rounds : Option ℕ) (fault : ProgramFault) (writer : StreamChange) → ServesOn k d n expects prepares path dict http rounds old new (Err fault) writer

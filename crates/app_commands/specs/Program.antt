@@ -5,6 +5,7 @@ use Rattle.clap.specs.Kinds.{IsAmong}
 use Rattle.clap.specs.declared.error.kind.ErrorKind.{ErrorKind}
 use Rattle.clap.specs.declared.error.kind.ErrorKind.TheVariants as kinds
 use Rattle.dict_catalogue.specs.Commands.{rollback, retire, put_virtual, place}
+use Rattle.dict_catalogue.specs.Steps.{CommandRequest}
 use Rattle.dict_desk.specs.Plain.{PlainState}
 use Rattle.dict_desk.specs.declared.lookup.Lookup as lookup
 use Rattle.dict_desk.specs.Expected.{Expected}
@@ -126,18 +127,18 @@ module _ {K D : Type 0} (k : lookup.Ghosts K) (d : desks.Ghosts D K) (c : catalo
       (IsUntouched reader × IsUntouched writer × ((new ≡ old) ⊎ ((task : Task) × AskForTask words task × IsUnchanged old new task writer)))
       ⊎ IsCutOff old new words faults.Memory reader writer
 
--- Over files of these octets, by their paths.
-module _ {K D : Type 0} (k : lookup.Ghosts K) (d : desks.Ghosts D K) (files : List ℕ → Option (List ℕ)) where
+-- By why the desk's commands fail, and over files of these octets, by their paths.
+module _ {K D : Type 0} (k : lookup.Ghosts K) (d : desks.Ghosts D K) (fails : K → CommandRequest → K → Fault → Type 0) (files : List ℕ → Option (List ℕ)) where
   -- a change of a file's catalogue ends so
   abbrev pub ChangeTaskEnds : D → D → List ℕ → List ℕ → List ℕ → AskedChange → Result (Unit {0}) ProgramFault → StreamChange → Type 0
-  ChangeTaskEnds old new file name id (changes.Install index text) end writer = InstallsOn k d files file name id index.now text.now old new end writer
-  ChangeTaskEnds old new file name id changes.Rollback end writer = ChangeEnds k d file id (rollback name) old new end writer
-  ChangeTaskEnds old new file name id changes.Retire end writer = ChangeEnds k d file id (retire name) old new end writer
-  ChangeTaskEnds old new file name id (changes.Virtual title members) end writer = ChangeEnds k d file id (put_virtual name title.now (words_shown members.items)) old new end writer
-  ChangeTaskEnds old new file name id (changes.Place at) end writer = ChangeEnds k d file id (place name at) old new end writer
+  ChangeTaskEnds old new file name id (changes.Install index text) end writer = InstallsOn k d fails files file name id index.now text.now old new end writer
+  ChangeTaskEnds old new file name id changes.Rollback end writer = ChangeEnds k d fails file id (rollback name) old new end writer
+  ChangeTaskEnds old new file name id changes.Retire end writer = ChangeEnds k d fails file id (retire name) old new end writer
+  ChangeTaskEnds old new file name id (changes.Virtual title members) end writer = ChangeEnds k d fails file id (put_virtual name title.now (words_shown members.items)) old new end writer
+  ChangeTaskEnds old new file name id (changes.Place at) end writer = ChangeEnds k d fails file id (place name at) old new end writer
 
-module _ {K D B L : Type 0} (k : lookup.Ghosts K) (d : desks.Ghosts D K) (c : catalogues.Ghosts D K) (n : network.Ghosts B L SystemSockets) (expects : K → Expected → K → Type 0) (prepares : K → Result Bool Fault → K → Type 0)
-    (files : List ℕ → Option (List ℕ)) (plain : PlainState) (old new : D) where
+module _ {K D B L : Type 0} (k : lookup.Ghosts K) (d : desks.Ghosts D K) (c : catalogues.Ghosts D K) (n : network.Ghosts B L SystemSockets)
+    (fails : K → CommandRequest → K → Fault → Type 0) (expects : K → Expected → K → Type 0) (prepares : K → Result Bool Fault → K → Type 0) (files : List ℕ → Option (List ℕ)) (plain : PlainState) (old new : D) where
   -- a task ends so
   abbrev pub TaskEnds : Task → Result (Unit {0}) ProgramFault → StreamChange → StreamChange → Type 0
   TaskEnds (tasks.Plain name index text) end reader writer = FilesEnd (standing plain) files name.now index.now text.now end reader writer × (new ≡ old)
@@ -145,7 +146,7 @@ module _ {K D B L : Type 0} (k : lookup.Ghosts K) (d : desks.Ghosts D K) (c : ca
   TaskEnds (tasks.List file) end reader writer = ListEnds k d file.now old new end writer × IsUntouched reader
   TaskEnds (tasks.Audit file) end reader writer = AuditEnds k d c file.now old new end writer × IsUntouched reader
   TaskEnds (tasks.Session file) end reader writer = SessionEnds k d c file.now old new end reader writer
-  TaskEnds (tasks.Change file name id what) end reader writer = ChangeTaskEnds k d files old new file.now name.now id.now what end writer × IsUntouched reader
+  TaskEnds (tasks.Change file name id what) end reader writer = ChangeTaskEnds k d fails files old new file.now name.now id.now what end writer × IsUntouched reader
   TaskEnds (tasks.Serve file dict http rounds) end reader writer = ServesOn k d n expects prepares file.now dict.now http.now rounds old new end writer × IsUntouched reader
 
   -- what was asked for was done or not: a task, or help or the version, for which no file was opened; or memory ran out before

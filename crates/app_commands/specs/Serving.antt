@@ -19,4 +19,5 @@ abbrev pub IsServedUntil : {K D : Type 0} → lookup.Ghosts K → desks.Ghosts D
 IsServedUntil k d expects prepares path dict http rounds old new fault writer =
     (desk : _) × (served : HasServed k.shows k.leaves_one_of k.keeps_beside k.is_trusted d.is_opened k.has_failed k.is_closed expects prepares desk dict http rounds (Err fault) (WasShutBy k d new)
     (IsNotReopened k.leaves_one_of d.is_unreopened d.still_leaves d.still_keeps new path) writer)
-    × WasDone {A = Unit {0}} (λ last. IsOpenBehind k.shows k.leaves_one_of k.keeps_beside k.is_trusted d.is_opened k.is_closed desk served.stretches last 0) (WasShutBy k d new) (d.history old) (d.history new) path desk served.stretches (Err fault)
+    × WasDone {A = Unit {0}} (λ last. IsOpenBehind k.shows k.leaves_one_of k.keeps_beside k.is_trusted d.is_opened k.is_closed desk served.stretches last 0)
+    (WasShutBy k d new) (d.history old) (d.history new) path desk served.stretches (Err fault)

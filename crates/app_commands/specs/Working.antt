@@ -2,7 +2,7 @@
 use Rattle.std.specs.Prelude.{◌≡◌, ◌⊎◌, false, ℕ, List, [], ◌∷◌, Option, Some, None, MatchOption, Result, Ok, Err, IfOk, MatchResult, codes, ⊤, Bool}
 use Rattle.dict_desk.specs.declared.fault.Fault.{Fault}
 use Rattle.dict_catalogue.specs.Commands.{Command}
-use Rattle.dict_catalogue.specs.Steps.{Catalogue}
+use Rattle.dict_catalogue.specs.Steps.{Catalogue, CommandRequest}
 use Rattle.dict_desk.specs.declared.lookup.Lookup as lookup
 use Rattle.dict_index.specs.Edition.{Edition}
 use Rattle.dict_desk.specs.Expected.{Expected}
@@ -58,15 +58,15 @@ module _ {K D : Type 0} (k : lookup.Ghosts K) (d : desks.Ghosts D K) where
   abbrev pub ListEnds : List ℕ → D → D → Result (Unit {0}) ProgramFault → StreamChange → Type 0
   ListEnds path old new result writer = EndsOn path (λ desk left closed. (left ≡ desk) × IsListed (k.shows desk) result writer) old new result writer
 
-  -- a command was asked for
-  abbrev pub ChangeEnds : List ℕ → List ℕ → Command Edition → D → D → Result (Unit {0}) ProgramFault → StreamChange → Type 0
-  ChangeEnds path id command old new result writer =
-      EndsOn path (λ desk left closed. IsChanged k.shows k.leaves_one_of k.keeps_beside k.is_trusted desk left id command result writer × WasSpared desk left result) old new result writer
+  -- a command was asked for; `fails` names why one of a desk fails
+  abbrev pub ChangeEnds : (K → CommandRequest → K → Fault → Type 0) → List ℕ → List ℕ → Command Edition → D → D → Result (Unit {0}) ProgramFault → StreamChange → Type 0
+  ChangeEnds fails path id command old new result writer =
+      EndsOn path (λ desk left closed. IsChanged k.shows k.leaves_one_of k.keeps_beside k.is_trusted k.is_closed fails desk left id command result writer × WasSpared desk left result) old new result writer
 
   -- an install of two files was asked for
-  abbrev pub InstallsOn : (List ℕ → Option (List ℕ)) → List ℕ → List ℕ → List ℕ → List ℕ → List ℕ → D → D → Result (Unit {0}) ProgramFault → StreamChange → Type 0
-  InstallsOn files path name id index text old new result writer =
-      EndsOn path (λ desk left closed. InstallEnds k.shows k.leaves_one_of k.keeps_beside k.is_trusted k.is_closed files desk left name id index text result writer × WasSpared desk left result) old new result writer
+  abbrev pub InstallsOn : (K → CommandRequest → K → Fault → Type 0) → (List ℕ → Option (List ℕ)) → List ℕ → List ℕ → List ℕ → List ℕ → List ℕ → D → D → Result (Unit {0}) ProgramFault → StreamChange → Type 0
+  InstallsOn fails files path name id index text old new result writer =
+      EndsOn path (λ desk left closed. InstallEnds k.shows k.leaves_one_of k.keeps_beside k.is_trusted k.is_closed k.gives_way fails files desk left name id index text result writer × WasSpared desk left result) old new result writer
 
   -- the catalogue of the file with a path was served at two addresses that a network bound, for so many rounds, or wasn't
   unfoldable pub ServesOn : {B L : Type 0} → network.Ghosts B L SystemSockets → (K → Expected → K → Type 0) → (K → Result Bool Fault → K → Type 0) → List ℕ → List ℕ → List ℕ → Option ℕ → D → D → Result (Unit {0}) ProgramFault

@@ -16,15 +16,15 @@ use net_driver::{Network, SystemSockets};
 /// server that had told its addresses. There is no other status.
 pub fn status_laws<K: Preparer, D: Catalogues<K>, B: Network<TcpListener, SystemSockets>>()
     ensures statuses { (files : List ℕ → Option (List ℕ)) (plain : PlainState) (old new : D) (words : List (List ℕ)) (status : ℕ) (reader writer faults : StreamChange)
-        → CommandEnds K.Lookup D.DeskOpener D.Catalogues.own B.Network K.expects K.prepares files plain old new words status reader writer faults → status ≤ 4 }
+        → CommandEnds K.Lookup D.DeskOpener D.Catalogues.own B.Network K.fails_to_apply K.expects K.prepares files plain old new words status reader writer faults → status ≤ 4 }
     ensures done { (files : List ℕ → Option (List ℕ)) (plain : PlainState) (old new : D) (words : List (List ℕ)) (reader writer faults : StreamChange)
-        → CommandEnds K.Lookup D.DeskOpener D.Catalogues.own B.Network K.expects K.prepares files plain old new words 0 reader writer faults → IsDone K.Lookup D.DeskOpener D.Catalogues.own B.Network K.expects K.prepares files plain old new words reader writer × IsUntouched faults }
+        → CommandEnds K.Lookup D.DeskOpener D.Catalogues.own B.Network K.fails_to_apply K.expects K.prepares files plain old new words 0 reader writer faults → IsDone K.Lookup D.DeskOpener D.Catalogues.own B.Network K.fails_to_apply K.expects K.prepares files plain old new words reader writer × IsUntouched faults }
     ensures refused { (files : List ℕ → Option (List ℕ)) (plain : PlainState) (old new : D) (words : List (List ℕ)) (reader writer faults : StreamChange)
-        → CommandEnds K.Lookup D.DeskOpener D.Catalogues.own B.Network K.expects K.prepares files plain old new words 1 reader writer faults → IsUntouched reader × IsUntouched writer }
+        → CommandEnds K.Lookup D.DeskOpener D.Catalogues.own B.Network K.fails_to_apply K.expects K.prepares files plain old new words 1 reader writer faults → IsUntouched reader × IsUntouched writer }
     ensures misread { (files : List ℕ → Option (List ℕ)) (plain : PlainState) (old new : D) (words : List (List ℕ)) (reader writer faults : StreamChange)
-        → CommandEnds K.Lookup D.DeskOpener D.Catalogues.own B.Network K.expects K.prepares files plain old new words 2 reader writer faults → IsUntouched reader × IsUntouched writer }
+        → CommandEnds K.Lookup D.DeskOpener D.Catalogues.own B.Network K.fails_to_apply K.expects K.prepares files plain old new words 2 reader writer faults → IsUntouched reader × IsUntouched writer }
     ensures failed { (files : List ℕ → Option (List ℕ)) (plain : PlainState) (old new : D) (words : List (List ℕ)) (reader writer faults : StreamChange)
-        → CommandEnds K.Lookup D.DeskOpener D.Catalogues.own B.Network K.expects K.prepares files plain old new words 3 reader writer faults → IsFailed K.Lookup D.DeskOpener D.Catalogues.own K.expects K.prepares plain old new words reader writer }
+        → CommandEnds K.Lookup D.DeskOpener D.Catalogues.own B.Network K.fails_to_apply K.expects K.prepares files plain old new words 3 reader writer faults → IsFailed K.Lookup D.DeskOpener D.Catalogues.own K.expects K.prepares plain old new words reader writer }
     ensures memory { (files : List ℕ → Option (List ℕ)) (plain : PlainState) (old new : D) (words : List (List ℕ)) (reader writer faults : StreamChange)
-        → CommandEnds K.Lookup D.DeskOpener D.Catalogues.own B.Network K.expects K.prepares files plain old new words 4 reader writer faults → IsExhausted K.Lookup D.DeskOpener D.Catalogues.own K.expects K.prepares old new words reader writer }
+        → CommandEnds K.Lookup D.DeskOpener D.Catalogues.own B.Network K.fails_to_apply K.expects K.prepares files plain old new words 4 reader writer faults → IsExhausted K.Lookup D.DeskOpener D.Catalogues.own K.expects K.prepares old new words reader writer }
 {}

@@ -47,7 +47,7 @@ pub fn command<
     writer: &mut W,
     faults: &mut F,
 ) -> u8
-    ensures ends { CommandEnds K.Lookup D.DeskOpener D.Catalogues.own B.Network K.expects K.prepares (I.octets files.now) plain.new desks.old desks.new (map A.text words.now) result
+    ensures ends { CommandEnds K.Lookup D.DeskOpener D.Catalogues.own B.Network K.fails_to_apply K.expects K.prepares (I.octets files.now) plain.new desks.old desks.new (map A.text words.now) result
         (change S.stream reader.old reader.new) (change W.stream writer.old writer.new) (change F.stream faults.old faults.new) }
     ensures order { TellsInOrder D.DeskOpener desks.old desks.new (I.reads files.now) (I.refuses files.now) (map A.text words.now) result (change F.stream faults.old faults.new) }
 {

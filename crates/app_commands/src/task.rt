@@ -39,7 +39,7 @@ pub fn perform<
     reader: &mut S,
     writer: &mut W,
 ) -> Result<(), ProgramFault<'w>>
-    ensures ends { TaskEnds K.Lookup D.DeskOpener D.Catalogues.own B.Network K.expects K.prepares (I.octets files.now) plain.new desks.old desks.new task.now result
+    ensures ends { TaskEnds K.Lookup D.DeskOpener D.Catalogues.own B.Network K.fails_to_apply K.expects K.prepares (I.octets files.now) plain.new desks.old desks.new task.now result
         (change S.stream reader.old reader.new) (change W.stream writer.old writer.new) }
     ensures order { EndsInOrder D.DeskOpener desks.old desks.new (I.reads files.now) (I.refuses files.now) task.now result }
 {
@@ -121,7 +121,7 @@ fn perform_change<'w, K: Preparer + Drop, D: DeskOpener<K>, I: InputFiles, W: Si
     files: &I,
     writer: &mut W,
 ) -> Result<(), ProgramFault<'w>>
-    ensures ends { ChangeTaskEnds K.Lookup D.DeskOpener (I.octets files.now) desks.old desks.new file.entry.now name.entry.now id.entry.now what.now result
+    ensures ends { ChangeTaskEnds K.Lookup D.DeskOpener K.fails_to_apply (I.octets files.now) desks.old desks.new file.entry.now name.entry.now id.entry.now what.now result
         (change W.stream writer.old writer.new) }
     ensures order { ChangesInOrder D.DeskOpener desks.old desks.new (I.reads files.now) (I.refuses files.now) file.entry.now what.now result }
 {
@@ -161,7 +161,7 @@ fn put_virtual_over<'w, K: Preparer + Drop, D: DeskOpener<K>, W: Sink>(
     members: &[&str],
     writer: &mut W,
 ) -> Result<(), ProgramFault<'w>>
-    ensures { ChangeEnds K.Lookup D.DeskOpener file.entry.now id.now (put_virtual name.now title.now (words_shown members.now)) desks.old desks.new result
+    ensures { ChangeEnds K.Lookup D.DeskOpener K.fails_to_apply file.entry.now id.now (put_virtual name.now title.now (words_shown members.now)) desks.old desks.new result
         (change W.stream writer.old writer.new) }
 {
     let command = Command::PutVirtual {

@@ -76,7 +76,7 @@ pub(crate) fn change_over<'w, K: Preparer + Drop, D: DeskOpener<K>, W: Sink>(
     command: &Command,
     writer: &mut W,
 ) -> Result<(), ProgramFault<'w>>
-    ensures { ChangeEnds K.Lookup D.DeskOpener path.entry.now id.now (command_meant command.now) desks.old desks.new result
+    ensures { ChangeEnds K.Lookup D.DeskOpener K.fails_to_apply path.entry.now id.now (command_meant command.now) desks.old desks.new result
         (change W.stream writer.old writer.new) }
 {
     let mut desk = desks.open_for_command(path)?;
@@ -95,7 +95,7 @@ pub(crate) fn install_over<'w, K: Preparer + Drop, D: DeskOpener<K>, I: InputFil
     files: &I,
     writer: &mut W,
 ) -> Result<(), ProgramFault<'w>>
-    ensures ends { InstallsOn K.Lookup D.DeskOpener (I.octets files.now) path.entry.now wanted.entry.name.now id.now wanted.entry.index.now wanted.entry.text.now
+    ensures ends { InstallsOn K.Lookup D.DeskOpener K.fails_to_apply (I.octets files.now) path.entry.now wanted.entry.name.now id.now wanted.entry.index.now wanted.entry.text.now
         desks.old desks.new result (change W.stream writer.old writer.new) }
     ensures order { InstallsInOrder D.DeskOpener desks.old desks.new (I.reads files.now) (I.refuses files.now) path.entry.now wanted.entry.index.now wanted.entry.text.now result }
 {

@@ -8,7 +8,7 @@ use crate::files::CatalogueFiles;
 use crate::opener::FileOpener;
 use app_commands::{Catalogues, command};
 use app_words::InputFiles;
-use dict_desk::{Lookup, PlainDesk, Preparer};
+use dict_desk::{Keeper, Lookup, PlainDesk, Preparer};
 use dict_proto::{Sink, Source};
 use mio::net::TcpListener;
 use net_driver::{Network, System, SystemSockets};
@@ -38,7 +38,7 @@ fn run_any<
     faults: &mut F,
 ) -> u8
     ensures ends { CommandEnds ⟦<Desk<FileStore<D>> as Lookup>⟧ C.DeskOpener C.Catalogues.own ⟦<System as Network<TcpListener, SystemSockets>>⟧
-        ⟦<Desk<FileStore<D>> as Preparer>⟧.expects ⟦<Desk<FileStore<D>> as Preparer>⟧.prepares (I.octets files.now) plain.new desks.old desks.new (map A.text words.now) result
+        ⟦<Desk<FileStore<D>> as Keeper>⟧.fails_to_apply ⟦<Desk<FileStore<D>> as Preparer>⟧.expects ⟦<Desk<FileStore<D>> as Preparer>⟧.prepares (I.octets files.now) plain.new desks.old desks.new (map A.text words.now) result
         (change S.stream reader.old reader.new) (change W.stream writer.old writer.new) (change F.stream faults.old faults.new) }
     ensures order { TellsInOrder C.DeskOpener desks.old desks.new (I.reads files.now) (I.refuses files.now) (map A.text words.now) result (change F.stream faults.old faults.new) }
 {
@@ -68,7 +68,7 @@ pub fn run_over<
     faults: &mut F,
 ) -> u8
     ensures ends { CommandEnds ⟦<Desk<FileStore<D>> as Lookup>⟧ ⟦<CatalogueFiles<'r, D, O> as DeskOpener<Desk<FileStore<D>>>>⟧ (let q = ⟦<CatalogueFiles<'r, D, O> as Catalogues<Desk<FileStore<D>>>>⟧ in record { is_made = q.is_made; is_unmade = q.is_unmade; is_sound = q.is_sound; is_unsound = q.is_unsound; has_spoken = q.has_spoken }) ⟦<System as Network<TcpListener, SystemSockets>>⟧
-        ⟦<Desk<FileStore<D>> as Preparer>⟧.expects ⟦<Desk<FileStore<D>> as Preparer>⟧.prepares (I.octets files.now) plain.new desks.old desks.new (map A.text words.now) result
+        ⟦<Desk<FileStore<D>> as Keeper>⟧.fails_to_apply ⟦<Desk<FileStore<D>> as Preparer>⟧.expects ⟦<Desk<FileStore<D>> as Preparer>⟧.prepares (I.octets files.now) plain.new desks.old desks.new (map A.text words.now) result
         (change S.stream reader.old reader.new) (change W.stream writer.old writer.new) (change F.stream faults.old faults.new) }
     ensures order { TellsInOrder ⟦<CatalogueFiles<'r, D, O> as DeskOpener<Desk<FileStore<D>>>>⟧ desks.old desks.new (I.reads files.now) (I.refuses files.now) (map A.text words.now) result (change F.stream faults.old faults.new) }
 {
