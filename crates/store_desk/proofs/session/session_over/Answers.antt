@@ -11,12 +11,12 @@ pub returns-clause-ran : goal.returns-clause-ran
 returns-clause-ran g c = λ clean.
     let opened = c.run-end.ensures.desk.trust clean in
     let is = c.in-Ok.ensures.adopted.shows opened in
-    let open : is_closed c.in-Ok.desk.last ≡ false = ap is_closed c.in-Ok.ensures.adopted.fine in
+    let unclosed : is_closed c.in-Ok.desk.last ≡ false = ap is_closed c.in-Ok.ensures.adopted.fine in
     let spoken : (M : Catalogue) → Shows g.S.Store c.in-Ok.desk M → EndsOver g.S.Store c.run-end.new.desk c.args.host.now c.args.number c.run-end.result (change g.R.Source.stream c.args.reader.now c.run-end.new.reader)
-        (change g.K.Sink.stream c.args.writer.now c.run-end.new.writer) M = λ M shown. record {
+    (change g.K.Sink.stream c.args.writer.now c.run-end.new.writer) M = λ M shown. record {
       ended = c.run-end.ensures.answers clean M shown;
       through = subst (λ b. EndsThrough M c.args.host.now c.args.number b (condition_by c.run-end.new.desk.last) c.run-end.result (change g.R.Source.stream c.args.reader.now c.run-end.new.reader)
-          (change g.K.Sink.stream c.args.writer.now c.run-end.new.writer)) open (c.run-end.ensures.through clean M shown);
+          (change g.K.Sink.stream c.args.writer.now c.run-end.new.writer)) unclosed (c.run-end.ensures.through clean M shown);
       shown = c.run-end.ensures.desk.shows clean M shown;
     } in
     record {
