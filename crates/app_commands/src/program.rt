@@ -21,24 +21,28 @@ use net_driver::{Network, SystemSockets};
 use std::alloc::Global;
 use std::convert::AsStr;
 use std::io;
+use std::net::Net;
 
 /// Does what the words ask for, of which the first is the program's name, and answers the status to end with: 0
 /// where it is done, 1 for a refusal, 2 for words that it can't make out, 3 for a file, an output or a session
 /// that failed, and 4 where memory ran out. Nothing goes to `faults` where the status is 0, and else one text.
 ///
-/// No catalogue is opened, changed or closed but that of the file that the words name, and this once, as its task says.
+/// No catalogue is opened, changed or closed but that of the file that the words name, and this once, as its task says. A file
+/// can be named to `desks` and `files` alone: nothing else that this is handed opens one.
 pub fn command<
     A: AsStr,
     K: Preparer + Drop,
     D: Catalogues<K>,
     B: Network<TcpListener, SystemSockets>,
+    N: Net,
     I: InputFiles,
     S: Source,
     W: Sink,
     F: Sink,
 >(
-    rt: &HostRuntime,
     network: &B,
+    net: &N,
+    alloc: Global,
     words: &[A],
     desks: &mut D,
     plain: &mut PlainDesk,
@@ -51,15 +55,17 @@ pub fn command<
         (change S.stream reader.old reader.new) (change W.stream writer.old writer.new) (change F.stream faults.old faults.new) }
     ensures order { TellsInOrder D.DeskOpener desks.old desks.new (I.reads files.now) (I.refuses files.now) (map A.text words.now) result (change F.stream faults.old faults.new) }
 {
-    match read_words(rt.alloc(), words) {
+    match read_words(alloc, words) {
         Ok(task) => {
-            let end = perform(rt, network, &task, desks, plain, files, reader, writer);
+            let end = perform(
+                network, net, alloc, &task, desks, plain, files, reader, writer,
+            );
             let status = status_of_end(&end, faults);
             drop(task);
             status
         }
         Err(error) => {
-            let status = answer_words(rt.alloc(), &error, writer, faults);
+            let status = answer_words(alloc, &error, writer, faults);
             drop(error);
             status
         }

@@ -17,6 +17,7 @@ use mio::net::TcpListener;
 use net_driver::{Network, SystemSockets};
 use net_serving::{DeskOpener, ServerOptions, serve_catalogue};
 use std::alloc::Global;
+use std::net::Net;
 
 /// Does a task: opens the catalogue that it names, reads its files, has a network bind a server's sockets, takes a session's octets from the reader, and writes what it
 /// answers. The catalogue of a session over two files is kept in `plain`, which is made anew for it. An index is read before its text,
@@ -26,12 +27,14 @@ pub fn perform<
     K: Preparer + Drop,
     D: Catalogues<K>,
     B: Network<TcpListener, SystemSockets>,
+    N: Net,
     I: InputFiles,
     S: Source,
     W: Sink,
 >(
-    rt: &HostRuntime,
     network: &B,
+    net: &N,
+    alloc: Global,
     task: &Task<'w>,
     desks: &mut D,
     plain: &mut PlainDesk,
@@ -45,16 +48,7 @@ pub fn perform<
 {
     match task {
         Task::Plain { name, index, text } => {
-            run_files(
-                rt.alloc(),
-                plain,
-                name,
-                *index,
-                *text,
-                files,
-                reader,
-                writer,
-            )
+            run_files(alloc, plain, name, *index, *text, files, reader, writer)
         }
         Task::Create { file } => create_over(desks, *file),
         Task::List { file } => list_over(desks, *file, writer),
@@ -65,7 +59,7 @@ pub fn perform<
             name,
             id,
             change,
-        } => perform_change(rt.alloc(), desks, *file, *name, *id, change, files, writer),
+        } => perform_change(alloc, desks, *file, *name, *id, change, files, writer),
         Task::Serve {
             file,
             dict,
@@ -77,16 +71,24 @@ pub fn perform<
                 http: *http,
                 rounds: *rounds,
             };
-            serve(rt, network, desks, *file, &wanted, writer)
+            serve(network, net, alloc, desks, *file, &wanted, writer)
         }
     }
 }
 
 // Serves the catalogue of a file.
 #[tactic(auto, unfolding(crate::specs::Working::ServesOn))]
-fn serve<'w, K: Preparer + Drop, D: DeskOpener<K>, B: Network<TcpListener, SystemSockets>, W: Sink>(
-    rt: &HostRuntime,
+fn serve<
+    'w,
+    K: Preparer + Drop,
+    D: DeskOpener<K>,
+    B: Network<TcpListener, SystemSockets>,
+    N: Net,
+    W: Sink,
+>(
     network: &B,
+    net: &N,
+    alloc: Global,
     desks: &mut D,
     file: &'w str,
     wanted: &ServerOptions<'w>,
@@ -98,8 +100,8 @@ fn serve<'w, K: Preparer + Drop, D: DeskOpener<K>, B: Network<TcpListener, Syste
     let mut driver = None;
     let end = serve_catalogue(
         network,
-        rt,
-        rt.alloc(),
+        net,
+        alloc,
         desks,
         file,
         wanted,

@@ -43,7 +43,16 @@ fn run_any<
     ensures order { TellsInOrder C.DeskOpener desks.old desks.new (I.reads files.now) (I.refuses files.now) (map A.text words.now) result (change F.stream faults.old faults.new) }
 {
     command(
-        rt, &System, words, desks, plain, files, reader, writer, faults,
+        &System,
+        rt,
+        rt.alloc(),
+        words,
+        desks,
+        plain,
+        files,
+        reader,
+        writer,
+        faults,
     )
 }
 
