@@ -113,12 +113,12 @@ EndsServing is_closed Shut Unreopened stretches driver (Err fault) = (CannotWait
 
 module _ {K Beside : Type 0} (Shows : K → Catalogue → Type 0) (LeavesOneOf : K → List (Option Catalogue) → Type 0) (KeepsBeside : K → Beside → Type 0) (IsTrusted : K → Type 0) (IsOpened : Option K → K → Type 0)
     (is_closed : K → Bool) where
-  -- The desk that is open behind stretches, the first over this desk, with so many rounds left: that of the last one, as this left it; or the store of that
-  -- had failed, and the file was opened again after it. Where there is no stretch, it is the first one.
+  -- The desk that is open behind stretches, the first over this desk, with so many rounds left: that of the last one, as this left it, where its store
+  -- hasn't failed; where it has, the desk that its file was opened again as. Where there is no stretch, and so no round, it is the first one.
   abbrev pub IsOpenBehind : K → List (Stretch K) → K → ℕ → Type 0
   IsOpenBehind desk [] next left = next ≡ desk
   IsOpenBehind desk (one ∷ []) next left =
-      (next ≡ one.left) ⊎ ((is_closed one.left ≡ true) × Follows Shows LeavesOneOf KeepsBeside IsTrusted one.left next × IsOpened (Some one.left) next × AreRoundsLeft one.ended left)
+      ((next ≡ one.left) × (is_closed one.left ≡ false)) ⊎ ((is_closed one.left ≡ true) × Follows Shows LeavesOneOf KeepsBeside IsTrusted one.left next × IsOpened (Some one.left) next × AreRoundsLeft one.ended left)
   IsOpenBehind desk (one ∷ other ∷ others) next left = IsOpenBehind desk (other ∷ others) next left
 
 -- By what a desk shows, what a stop may leave of it, what is beside the catalogue, that what it stands on has returned what was written, that it was opened, whether

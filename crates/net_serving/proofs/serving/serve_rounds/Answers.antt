@@ -70,7 +70,7 @@ loop-pending-preserved g c =
             (g.D.DeskOpener.history c.serve_stretch.new.desks) held.4 c.in_ok-pending.pending.desk c.in_ok-pending.pending.left over.5 (λ some. (where_left c.in_ok-pending.pending.left over.4 some).4),
         open_more g.K.Lookup.shows g.K.Lookup.leaves_one_of g.K.Lookup.keeps_beside g.K.Lookup.is_trusted g.D.DeskOpener.is_opened g.K.Lookup.is_closed c.args.desk held.0 one c.in_ok-pending.pending.desk
             c.in_ok-pending.pending.left (elim over.4 [
-              | inl is ↦ inl is.0
+              | inl is ↦ inl (is.0, is.1)
               | inr gave ↦ inr (gave.0, gave.1, gave.2, gave.3)
             ]),
       );
