@@ -42,18 +42,18 @@ module _ {K Beside : Type 0} (Shows : K → Catalogue → Type 0) (Leaves : K �
   first_goes rounds desk [] one first goes = goes
   first_goes rounds desk (other ∷ stretches) one first goes = first
 
-  alone : (has_failed : K → Bool) (expects : K → Expected → K → Type 0) (prepares : K → Result Bool Fault → K → Type 0) (one : Stretch K) (a b c : Driver) → b ≡ a
-      → IsOver Shows Leaves Keeps Trusted Opened has_failed is_closed expects prepares one b c → AreServed Shows Leaves Keeps Trusted Opened has_failed is_closed expects prepares (one ∷ []) a c
-  alone has_failed expects prepares one a b c same over = (c, subst (λ (d : Driver). IsOver Shows Leaves Keeps Trusted Opened has_failed is_closed expects prepares one d c) same over, tt, refl)
+  alone : (has_failed : K → Bool) (expects : K → Expected → K → Type 0) (prepares : K → Result Bool Fault → K → Type 0) (wait : ℕ) (one : Stretch K) (a b c : Driver) → b ≡ a
+      → IsOver Shows Leaves Keeps Trusted Opened has_failed is_closed expects prepares wait one b c → AreServed Shows Leaves Keeps Trusted Opened has_failed is_closed expects prepares wait (one ∷ []) a c
+  alone has_failed expects prepares wait one a b c same over = (c, subst (λ (d : Driver). IsOver Shows Leaves Keeps Trusted Opened has_failed is_closed expects prepares wait one d c) same over, tt, refl)
 
-  pub served_more : (has_failed : K → Bool) (expects : K → Expected → K → Type 0) (prepares : K → Result Bool Fault → K → Type 0) (rounds : ℕ) (desk : K) (stretches : List (Stretch K)) (one : Stretch K) (a b c : Driver)
-      → AreServed Shows Leaves Keeps Trusted Opened has_failed is_closed expects prepares stretches a b
+  pub served_more : (has_failed : K → Bool) (expects : K → Expected → K → Type 0) (prepares : K → Result Bool Fault → K → Type 0) (wait rounds : ℕ) (desk : K) (stretches : List (Stretch K)) (one : Stretch K) (a b c : Driver)
+      → AreServed Shows Leaves Keeps Trusted Opened has_failed is_closed expects prepares wait stretches a b
       → GoesOn rounds desk stretches one.opened one.asked
-      → IsOver Shows Leaves Keeps Trusted Opened has_failed is_closed expects prepares one b c → AreServed Shows Leaves Keeps Trusted Opened has_failed is_closed expects prepares (stretches ++ one ∷ []) a c
-  served_more has_failed expects prepares rounds desk [] one a b c served goes over = alone has_failed expects prepares one a b c served over
-  served_more has_failed expects prepares rounds desk (other ∷ []) one a b c (between, first, gave, served) goes over = (between, first, goes, alone has_failed expects prepares one between b c served over)
-  served_more has_failed expects prepares rounds desk (other ∷ next ∷ stretches) one a b c (between, first, gave, served) goes over =
-      (between, first, gave, served_more has_failed expects prepares rounds desk (next ∷ stretches) one between b c served goes over)
+      → IsOver Shows Leaves Keeps Trusted Opened has_failed is_closed expects prepares wait one b c → AreServed Shows Leaves Keeps Trusted Opened has_failed is_closed expects prepares wait (stretches ++ one ∷ []) a c
+  served_more has_failed expects prepares wait rounds desk [] one a b c served goes over = alone has_failed expects prepares wait one a b c served over
+  served_more has_failed expects prepares wait rounds desk (other ∷ []) one a b c (between, first, gave, served) goes over = (between, first, goes, alone has_failed expects prepares wait one between b c served over)
+  served_more has_failed expects prepares wait rounds desk (other ∷ next ∷ stretches) one a b c (between, first, gave, served) goes over =
+      (between, first, gave, served_more has_failed expects prepares wait rounds desk (next ∷ stretches) one between b c served goes over)
 
   given_out : (Unreopened : K → ProgramFault → Type 0) (stretches : List (Stretch K)) (one : Stretch K) (fault : ProgramFault) → HasGivenOut is_closed Unreopened (one ∷ []) fault
       → HasGivenOut is_closed Unreopened (stretches ++ one ∷ []) fault
