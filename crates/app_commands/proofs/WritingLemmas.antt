@@ -100,9 +100,9 @@ module _ {K D : Type 0} (k : lookup.Ghosts K) (d : desks.Ghosts D K) where
     unfolding Rattle.app_commands.specs.Working.ServesOn
     serves_spoils path dict http rounds fault writer (kept, inl h) = inl (inl h.3)
     serves_spoils path dict http rounds fault writer (kept, inr (desk, opened, inl (other, is, inl h, does, shut, none))) = inl (inl h.3)
-    serves_spoils path dict http rounds fault writer (kept, inr (desk, opened, inl (other, is, inr (dict_bound, http_bound, inl (same, (readers, editors, put))), does, shut, none))) =
+    serves_spoils path dict http rounds fault writer (kept, inr (desk, opened, inl (other, is, inr (driver, binds, inl (same, put)), does, shut, none))) =
         let e : fault ≡ CannotWrite = cc in inl (inr (e, put.failures))
-    serves_spoils path dict http rounds fault writer (kept, inr (desk, opened, inl (other, is, inr (dict_bound, http_bound, inr h), does, shut, none))) = inl (inl h.1)
+    serves_spoils path dict http rounds fault writer (kept, inr (desk, opened, inl (other, is, inr (driver, binds, inr h), does, shut, none))) = inl (inl h.1)
     serves_spoils path dict http rounds fault writer (kept, inr (desk, opened, inr (served, done, same, bound))) = inr (desk, served, done)
 
     -- a server is never refused

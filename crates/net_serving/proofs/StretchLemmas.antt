@@ -1,7 +1,7 @@
 -- Stretches, one behind the others.
 use Rattle.std.proofs.Common.{◌≡◌, ◌⊎◌, ℕ, ◌<◌, List, [], ◌∷◌, ◌++◌, refl, subst, inl, inr, arith}
 use Rattle.dict_desk.specs.declared.fault.Fault.{Fault}
-use Rattle.std.specs.Prelude.{Option, Some, Bool, true, Result}
+use Rattle.std.specs.Prelude.{Option, Some, Bool, true, false, Result}
 use Rattle.dict_catalogue.specs.Steps.{Catalogue}
 use Rattle.dict_desk.specs.Expected.{Expected}
 use Rattle.net_driver.specs.declared.driver.Driver.{Driver}
@@ -9,8 +9,8 @@ use Rattle.app_words.specs.declared.fault.ProgramFault.{ProgramFault}
 use Rattle.net_serving.specs.Serving.{AreRoundsLeft, AreServed, CannotWait, Follows, HasGivenOut, HasShut, IsFirstStretch, IsNew, IsOpenBehind, IsOver, Stretch, WasOpened}
 
 -- rounds are left, so it is the other
-pub where_left : {A B : Type 0} (left : ℕ) → (A × (left ≡ 0)) ⊎ B → 0 < left → B
-where_left left (inl (is, none)) some = absurd (omega (arith, none, some))
+pub where_left : {A B C : Type 0} (left : ℕ) → (A × B × (left ≡ 0)) ⊎ C → 0 < left → C
+where_left left (inl (is, answers, none)) some = absurd (omega (arith, none, some))
 where_left left (inr other) some = other
 
 module _ {K Beside : Type 0} (Shows : K → Catalogue → Type 0) (Leaves : K → List (Option Catalogue) → Type 0) (Keeps : K → Beside → Type 0) (Trusted : K → Type 0) (Opened : Option K → K → Type 0) (is_closed : K → Bool) where
@@ -32,7 +32,7 @@ module _ {K Beside : Type 0} (Shows : K → Catalogue → Type 0) (Leaves : K �
   goes_more rounds desk (other ∷ another ∷ stretches) one next left closed follows again are = goes_more rounds desk (another ∷ stretches) one next left closed follows again are
 
   pub open_more : (desk : K) (stretches : List (Stretch K)) (one : Stretch K) (next : K) (left : ℕ)
-      → (next ≡ one.left) ⊎ ((is_closed one.left ≡ true) × Follows Shows Leaves Keeps Trusted one.left next × Opened (Some one.left) next × AreRoundsLeft one.ended left)
+      → ((next ≡ one.left) × (is_closed one.left ≡ false)) ⊎ ((is_closed one.left ≡ true) × Follows Shows Leaves Keeps Trusted one.left next × Opened (Some one.left) next × AreRoundsLeft one.ended left)
       → IsOpenBehind Shows Leaves Keeps Trusted Opened is_closed desk (stretches ++ one ∷ []) next left
   open_more desk [] one next left is = is
   open_more desk (other ∷ []) one next left is = is
@@ -42,18 +42,18 @@ module _ {K Beside : Type 0} (Shows : K → Catalogue → Type 0) (Leaves : K �
   first_goes rounds desk [] one first goes = goes
   first_goes rounds desk (other ∷ stretches) one first goes = first
 
-  alone : (has_failed : K → Bool) (expects : K → Expected → K → Type 0) (prepares : K → Result Bool Fault → K → Type 0) (one : Stretch K) (a b c : Driver) → b ≡ a
-      → IsOver Shows Leaves Keeps Trusted Opened has_failed is_closed expects prepares one b c → AreServed Shows Leaves Keeps Trusted Opened has_failed is_closed expects prepares (one ∷ []) a c
-  alone has_failed expects prepares one a b c same over = (c, subst (λ (d : Driver). IsOver Shows Leaves Keeps Trusted Opened has_failed is_closed expects prepares one d c) same over, tt, refl)
+  alone : (has_failed : K → Bool) (expects : K → Expected → K → Type 0) (prepares : K → Result Bool Fault → K → Type 0) (wait : ℕ) (one : Stretch K) (a b c : Driver) → b ≡ a
+      → IsOver Shows Leaves Keeps Trusted Opened has_failed is_closed expects prepares wait one b c → AreServed Shows Leaves Keeps Trusted Opened has_failed is_closed expects prepares wait (one ∷ []) a c
+  alone has_failed expects prepares wait one a b c same over = (c, subst (λ (d : Driver). IsOver Shows Leaves Keeps Trusted Opened has_failed is_closed expects prepares wait one d c) same over, tt, refl)
 
-  pub served_more : (has_failed : K → Bool) (expects : K → Expected → K → Type 0) (prepares : K → Result Bool Fault → K → Type 0) (rounds : ℕ) (desk : K) (stretches : List (Stretch K)) (one : Stretch K) (a b c : Driver)
-      → AreServed Shows Leaves Keeps Trusted Opened has_failed is_closed expects prepares stretches a b
+  pub served_more : (has_failed : K → Bool) (expects : K → Expected → K → Type 0) (prepares : K → Result Bool Fault → K → Type 0) (wait rounds : ℕ) (desk : K) (stretches : List (Stretch K)) (one : Stretch K) (a b c : Driver)
+      → AreServed Shows Leaves Keeps Trusted Opened has_failed is_closed expects prepares wait stretches a b
       → GoesOn rounds desk stretches one.opened one.asked
-      → IsOver Shows Leaves Keeps Trusted Opened has_failed is_closed expects prepares one b c → AreServed Shows Leaves Keeps Trusted Opened has_failed is_closed expects prepares (stretches ++ one ∷ []) a c
-  served_more has_failed expects prepares rounds desk [] one a b c served goes over = alone has_failed expects prepares one a b c served over
-  served_more has_failed expects prepares rounds desk (other ∷ []) one a b c (between, first, gave, served) goes over = (between, first, goes, alone has_failed expects prepares one between b c served over)
-  served_more has_failed expects prepares rounds desk (other ∷ next ∷ stretches) one a b c (between, first, gave, served) goes over =
-      (between, first, gave, served_more has_failed expects prepares rounds desk (next ∷ stretches) one between b c served goes over)
+      → IsOver Shows Leaves Keeps Trusted Opened has_failed is_closed expects prepares wait one b c → AreServed Shows Leaves Keeps Trusted Opened has_failed is_closed expects prepares wait (stretches ++ one ∷ []) a c
+  served_more has_failed expects prepares wait rounds desk [] one a b c served goes over = alone has_failed expects prepares wait one a b c served over
+  served_more has_failed expects prepares wait rounds desk (other ∷ []) one a b c (between, first, gave, served) goes over = (between, first, goes, alone has_failed expects prepares wait one between b c served over)
+  served_more has_failed expects prepares wait rounds desk (other ∷ next ∷ stretches) one a b c (between, first, gave, served) goes over =
+      (between, first, gave, served_more has_failed expects prepares wait rounds desk (next ∷ stretches) one between b c served goes over)
 
   given_out : (Unreopened : K → ProgramFault → Type 0) (stretches : List (Stretch K)) (one : Stretch K) (fault : ProgramFault) → HasGivenOut is_closed Unreopened (one ∷ []) fault
       → HasGivenOut is_closed Unreopened (stretches ++ one ∷ []) fault

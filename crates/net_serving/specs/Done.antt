@@ -64,5 +64,6 @@ module _ {K Beside : Type 0} (Shows : K → Catalogue → Type 0) (LeavesOneOf :
       ((fault : ProgramFault) × (result ≡ Err fault) × IsNone (IsUnopened path) fault × IsUntouched writer × Does old new (Opens path None ∷ []) × (kept ≡ None))
       ⊎ ((desk : K) × IsNew Shows LeavesOneOf IsTrusted (IsOpened None) desk
       × (((fault : ProgramFault) × (result ≡ Err fault) × Begins dict http (Err fault) writer × Does old new (Opens path (Some desk) ∷ Closes desk ∷ []) × Shut desk × (kept ≡ None))
-      ⊎ ((served : HasServed Shows LeavesOneOf KeepsBeside IsTrusted IsOpened has_failed is_closed expects prepares desk dict http rounds result Shut (IsUnreopened path) writer) × WasDone (λ last. IsOpenBehind Shows LeavesOneOf KeepsBeside IsTrusted IsOpened is_closed desk served.stretches last 0) Shut old new path desk served.stretches result
+      ⊎ ((served : HasServed Shows LeavesOneOf KeepsBeside IsTrusted IsOpened has_failed is_closed expects prepares desk dict http rounds result Shut (IsUnreopened path) writer)
+      × WasDone (λ last. IsOpenBehind Shows LeavesOneOf KeepsBeside IsTrusted IsOpened is_closed desk served.stretches last 0) Shut old new path desk served.stretches result
       × (kept ≡ Some served.last) × Begins dict http (Ok served.first) writer)))

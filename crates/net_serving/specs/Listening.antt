@@ -7,7 +7,7 @@ use Rattle.std.specs.declared.io.ErrorKind.TheVariants.{OutOfMemory}
 use Rattle.std.specs.declared.net.socket_addr.SocketAddr.{SocketAddr}
 use Rattle.std.specs.Net.Text.{socket_text}
 use Rattle.dict_proto.specs.Streams.{StreamChange, PutsAll, PutsFront}
-use Rattle.net_driver.specs.Binding.{BindsBoth, IsBound}
+use Rattle.net_driver.specs.Binding.{BindsBoth}
 use Rattle.net_driver.specs.Bound.{sockets_of}
 use Rattle.net_driver.specs.declared.binding.Network as network
 use Rattle.net_driver.specs.declared.driver.Driver.{Driver}
@@ -48,12 +48,12 @@ module _ {B L : Type 0} (n : network.Ghosts B L SystemSockets) where
   abbrev pub BindsBy : List ℕ → List ℕ → Result Driver BindFault → Type 0
   BindsBy dict http bound = BindsBoth n.is_bound n.refuses n.is_over n.is_unwatched dict http (sockets_of bound)
 
-  -- Sockets are bound to both, and they are written. Where one is not, the first fault is told, and nothing is written; where the
-  -- writer fails a front is written, and where memory runs out nothing
+  -- Sockets are bound to both, and they are written. Where one is not, the first fault is told, and nothing is written; where they are bound, but
+  -- the writer fails, a front of these is written, and where memory runs out nothing
   abbrev pub Begins : List ℕ → List ℕ → Result Driver ProgramFault → StreamChange → Type 0
   Begins dict http (Ok driver) writer = BindsBy dict http (Ok driver) × PutsAll writer.old writer.new (lines_of driver.addresses.0 driver.addresses.1)
   Begins dict http (Err fault) writer =
       ((why : BindFault) × BindsBy dict http (Err why) × TellsOf dict http why fault × IsUntouched writer)
-      ⊎ (IsBound n.is_bound dict × IsBound n.is_bound http
-      × (((fault ≡ faults.CannotWrite) × ((readers : SocketAddr) × (editors : SocketAddr) × PutsFront writer.old writer.new (lines_of readers editors)))
+      ⊎ ((driver : Driver) × BindsBy dict http (Ok driver)
+      × (((fault ≡ faults.CannotWrite) × PutsFront writer.old writer.new (lines_of driver.addresses.0 driver.addresses.1))
       ⊎ ((fault ≡ faults.Memory) × IsUntouched writer)))

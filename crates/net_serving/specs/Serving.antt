@@ -10,7 +10,7 @@ use Rattle.net_hub.specs.Runs.{IsAt, beginning}
 use Rattle.net_connection.specs.Leading.{HasLedOn}
 use Rattle.net_driver.specs.Rounds.{Moves}
 use Rattle.net_driver.specs.Binding.{IsAddress, AreTold}
-use Rattle.net_driver.specs.Serving.{rounds_of}
+use Rattle.net_driver.specs.Serving.{rounds_of, longest_wait}
 use Rattle.net_driver.specs.Driving.{AreDriven}
 use Rattle.net_driver.specs.declared.driver.Driver.{Driver}
 use Rattle.net_driver.specs.declared.serving.RoundsEnd.{RoundsEnd}
@@ -83,9 +83,10 @@ IsFirstStretch rounds desk [] = ⊤
 IsFirstStretch rounds desk (one ∷ others) = (one.opened ≡ desk) × (one.asked ≡ rounds)
 
 -- A desk shows one of the catalogues that a stop could have left of another, this is told where what it stands on has returned what was
--- written to it; and what was beside that catalogue is kept
+-- written to it; and then what the other stood on had too. What was beside that catalogue is kept
 pub record Follows {K Beside : Type 0} (Shows : K → Catalogue → Type 0) (LeavesOneOf : K → List (Option Catalogue) → Type 0) (KeepsBeside : K → Beside → Type 0) (IsTrusted : K → Type 0) (old new : K) : Type 0 where
   pub shows : IsTrusted new → (ms : List (Option Catalogue)) → LeavesOneOf old ms → ∥ ((M : Catalogue) × Contains ms (Some M) × Shows new M) ∥₁
+  pub trust : IsTrusted new → IsTrusted old
   pub beside : (beside : Beside) → KeepsBeside old beside → KeepsBeside new beside
 
 -- the driver couldn't wait for its sockets
@@ -113,12 +114,12 @@ EndsServing is_closed Shut Unreopened stretches driver (Err fault) = (CannotWait
 
 module _ {K Beside : Type 0} (Shows : K → Catalogue → Type 0) (LeavesOneOf : K → List (Option Catalogue) → Type 0) (KeepsBeside : K → Beside → Type 0) (IsTrusted : K → Type 0) (IsOpened : Option K → K → Type 0)
     (is_closed : K → Bool) where
-  -- The desk that is open behind stretches, the first over this desk, with so many rounds left: that of the last one, as this left it; or the store of that
-  -- had failed, and the file was opened again after it. Where there is no stretch, it is the first one.
+  -- The desk that is open behind stretches, the first over this desk, with so many rounds left: that of the last one, as this left it, where its store
+  -- hasn't failed; where it has, the desk that its file was opened again as. Where there is no stretch, and so no round, it is the first one.
   abbrev pub IsOpenBehind : K → List (Stretch K) → K → ℕ → Type 0
   IsOpenBehind desk [] next left = next ≡ desk
   IsOpenBehind desk (one ∷ []) next left =
-      (next ≡ one.left) ⊎ ((is_closed one.left ≡ true) × Follows Shows LeavesOneOf KeepsBeside IsTrusted one.left next × IsOpened (Some one.left) next × AreRoundsLeft one.ended left)
+      ((next ≡ one.left) × (is_closed one.left ≡ false)) ⊎ ((is_closed one.left ≡ true) × Follows Shows LeavesOneOf KeepsBeside IsTrusted one.left next × IsOpened (Some one.left) next × AreRoundsLeft one.ended left)
   IsOpenBehind desk (one ∷ other ∷ others) next left = IsOpenBehind desk (other ∷ others) next left
 
 -- By what a desk shows, what a stop may leave of it, what is beside the catalogue, that what it stands on has returned what was written, that it was opened, whether
@@ -127,12 +128,13 @@ module _ {K Beside : Type 0} (Shows : K → Catalogue → Type 0) (LeavesOneOf :
     (has_failed is_closed : K → Bool) (expects : K → Expected → K → Type 0) (prepares : K → Result Bool Fault → K → Type 0) where
   -- Over the desk of one opening events led the hub from where it was to where it is, and what waits for each connection is what
   -- waited and what its own events put, without a front that was sent. So many rounds were made more than before, of those that were to be
-  -- made, each from where the one before it ended
-  pub record IsOver (one : Stretch K) (old new : Driver) : Type 0 where
+  -- made, each from where the one before it ended; a wait between them was to last at most so many nanoseconds
+  pub record IsOver (wait : ℕ) (one : Stretch K) (old new : Driver) : Type 0 where
     pub opened : IsNew Shows LeavesOneOf IsTrusted (WasOpened IsOpened) one.opened
     pub led : HasLedOn (IsTrusted one.left) (Shows one.opened) (LeavesOneOf one.opened) (Shows one.left) (LeavesOneOf one.left) old.event_loop.hub new.event_loop.hub
         (λ events. Moves old.event_loop.connections new.event_loop.connections events)
     pub by_rounds : AreDriven Shows LeavesOneOf KeepsBeside IsTrusted has_failed is_closed expects prepares one.asked old one.opened new one.left one.ended
+    pub waits : by_rounds.0 ≡ wait
     pub trust : IsTrusted one.left → IsTrusted one.opened
     pub beside : (beside : Beside) → KeepsBeside one.opened beside → KeepsBeside one.left beside
     pub made : new.event_loop.rounds ≡ old.event_loop.rounds + one.rounds
@@ -144,14 +146,14 @@ module _ {K Beside : Type 0} (Shows : K → Catalogue → Type 0) (LeavesOneOf :
   GaveWay one (other ∷ others) = (is_closed one.left ≡ true) × Follows Shows LeavesOneOf KeepsBeside IsTrusted one.left other.opened × IsOpened (Some one.left) other.opened × AreRoundsLeft one.ended other.asked
 
   -- one stretch after the other, each from where the one before it left the hub and the connections, and each but the first because
-  -- the store of the one before it had failed
-  abbrev pub AreServed : List (Stretch K) → Driver → Driver → Type 0
-  AreServed [] old new = new ≡ old
-  AreServed (one ∷ others) old new = (between : Driver) × IsOver one old between × GaveWay one others × AreServed others between new
+  -- the store of the one before it had failed; a wait between rounds was to last at most so long
+  abbrev pub AreServed : ℕ → List (Stretch K) → Driver → Driver → Type 0
+  AreServed wait [] old new = new ≡ old
+  AreServed wait (one ∷ others) old new = (between : Driver) × IsOver wait one old between × GaveWay one others × AreServed wait others between new
 
   -- Both texts are addresses, and those that were bound for them were told. Stretches, the first over this desk, led from a hub with no
   -- connection, of the host `localhost`, whose first id is to be 1, and from no round and no failed look; and as many rounds as were
-  -- asked for were made by them, or at a fault no more
+  -- asked for were made by them, with waits as long as go with that number, or at a fault no more
   pub record HasServed (desk : K) (dict http : List ℕ) (rounds : Option ℕ) (result : Result (Unit {0}) ProgramFault) (Shut : K → Type 0) (Unreopened : K → ProgramFault → Type 0) (writer : StreamChange) : Type 0 where
     pub first : Driver
     pub last : Driver
@@ -165,6 +167,6 @@ module _ {K Beside : Type 0} (Shows : K → Catalogue → Type 0) (LeavesOneOf :
     pub no_failure : first.event_loop.failure ≡ None
     pub stretches : List (Stretch K)
     pub over : IsFirstStretch (rounds_of rounds) desk stretches
-    pub served : AreServed stretches first last
+    pub served : AreServed (longest_wait rounds) stretches first last
     pub made : MakesAll (rounds_of rounds) result last.event_loop.rounds
     pub ends : EndsServing is_closed Shut Unreopened stretches last result

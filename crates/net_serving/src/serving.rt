@@ -1,5 +1,6 @@
 // Rounds over the desk of a file, which is opened again where its store failed.
-ghost use Rattle.std.specs.Prelude.{◌≡◌, ◌⊎◌, ◌<◌, ◌-◌, true, IfOk, MatchResult, Option, Some, None, Result, List, [], ◌∷◌};
+ghost use Rattle.std.specs.Prelude.{◌≡◌, ◌⊎◌, ◌<◌, ◌-◌, true, false, IfOk, MatchResult, Option, Some, None, Result, List, [], ◌∷◌};
+ghost use Rattle.std.specs.Duration.{as_nanos};
 ghost use Rattle.std.specs.declared.io.Error.{Error};
 ghost use Rattle.net_driver.specs.declared.serving.RoundsEnd.{RoundsEnd};
 ghost use Rattle.dict_proto.specs.Streams.{change};
@@ -77,7 +78,8 @@ pub fn serve_rounds<'w, K: Preparer + Drop, D: DeskOpener<K>>(
 ) -> Result<K, ProgramFault<'w>>
     requires { IsNew K.shows K.leaves_one_of K.is_trusted (WasOpened D.is_opened) desk }
     ensures stands { IfOk result (IsOpen K.is_closed (IsNew K.shows K.leaves_one_of K.is_trusted (WasOpened D.is_opened))) }
-    ensures served { (stretches : List (Stretch K)) × AreServed K.shows K.leaves_one_of K.keeps_beside K.is_trusted D.is_opened K.has_failed K.is_closed K.expects K.prepares stretches driver.old driver.new × IsFirstStretch rounds desk stretches
+    ensures served { (stretches : List (Stretch K)) × AreServed K.shows K.leaves_one_of K.keeps_beside K.is_trusted D.is_opened K.has_failed K.is_closed K.expects K.prepares (as_nanos wait) stretches driver.old driver.new
+        × IsFirstStretch rounds desk stretches
         × EndsServing K.is_closed (WasShut K.shows K.leaves_one_of K.is_trusted D.is_safe D.holds_alone D.still_leaves D.still_keeps D.is_uncopied desks.new) (IsNotReopened K.leaves_one_of D.is_unreopened D.still_leaves D.still_keeps desks.new path.entry.now) stretches driver.new result
         × HasDone path.entry.now desk stretches (got result) (D.history desks.old) (D.history desks.new)
         × IfOk result (λ last. IsOpenBehind K.shows K.leaves_one_of K.keeps_beside K.is_trusted D.is_opened K.is_closed desk stretches last 0) }
@@ -108,10 +110,11 @@ fn serve_stretch<'w, K: Preparer + Drop, D: DeskOpener<K>>(
 ) -> Result<Pending<K>, ProgramFault<'w>>
     requires opened { IsNew K.shows K.leaves_one_of K.is_trusted (WasOpened D.is_opened) pending.desk }
     requires some { 0 < pending.left }
-    ensures served { (left : K) × (ended : Result RoundsEnd Error) × IsOver K.shows K.leaves_one_of K.keeps_beside K.is_trusted D.is_opened K.has_failed K.is_closed K.expects K.prepares
+    ensures served { (left : K) × (ended : Result RoundsEnd Error) × IsOver K.shows K.leaves_one_of K.keeps_beside K.is_trusted D.is_opened K.has_failed K.is_closed K.expects K.prepares (as_nanos wait)
         (record { opened = pending.desk; left = left; asked = pending.left; rounds = driver.new.event_loop.rounds - driver.old.event_loop.rounds; ended = ended }) driver.old driver.new
         × EndsServing K.is_closed (WasShut K.shows K.leaves_one_of K.is_trusted D.is_safe D.holds_alone D.still_leaves D.still_keeps D.is_uncopied desks.new) (IsNotReopened K.leaves_one_of D.is_unreopened D.still_leaves D.still_keeps desks.new path.entry.now) (record { opened = pending.desk; left = left; asked = pending.left; rounds = driver.new.event_loop.rounds - driver.old.event_loop.rounds; ended = ended } ∷ []) driver.new result
-        × IfOk result (λ next. ((next.desk ≡ left) × (next.left ≡ 0)) ⊎ ((K.is_closed left ≡ true) × Follows K.shows K.leaves_one_of K.keeps_beside K.is_trusted left next.desk × D.is_opened (Some left) next.desk × AreRoundsLeft ended next.left
+        × IfOk result (λ next. ((next.desk ≡ left) × (K.is_closed left ≡ false) × (next.left ≡ 0))
+        ⊎ ((K.is_closed left ≡ true) × Follows K.shows K.leaves_one_of K.keeps_beside K.is_trusted left next.desk × D.is_opened (Some left) next.desk × AreRoundsLeft ended next.left
         × HasReopened path.entry.now left next.desk (D.history desks.old) (D.history desks.new)))
         × MatchResult result (λ next. HasTurned path.entry.now left (Some next.desk) (D.history desks.old) (D.history desks.new)) (λ _. HasTurned path.entry.now left None (D.history desks.old) (D.history desks.new)) }
     ensures opened { IfOk result (λ next. 0 < next.left → IsNew K.shows K.leaves_one_of K.is_trusted (WasOpened D.is_opened) next.desk) }

@@ -1,7 +1,11 @@
-use Rattle.std.proofs.Common.{refl, sym, subst}
-use Rattle.sqlite.specs.Files.{over_files}
+use Rattle.std.proofs.Common.{refl, sym, subst, arith}
+use Rattle.std.proofs.Math.Logic.{∥∥₁_elim}
+use native.Mathlib.Nat.{ℕ_set}
+use Rattle.sqlite.specs.Files.{file_state, over_files}
 use Rattle.sqlite.specs.Held.{Held}
+use Rattle.sqlite.specs.State.{HasCleanDisk}
 use Rattle.store_desk.specs.Over.{ConnectionKeepsBeside, ConnectionLeavesOneOf}
+use Rattle.store_desk.proofs.ReopenLemmas.{may}
 use Rattle.dictcat_lib.proofs.UnopenedLemmas.{told_of_file}
 use Rattle.dictcat_lib.proofs.desks.reopen_desk.Goals as goal
 
@@ -20,7 +24,16 @@ returns-in-Ok-clause-opened g c =
     record { opened = c.in-Ok.ensures.reopened; alone = λ clean. let it = adopted.shows clean in (it.0, it.2, adopted.only it.0 it.2) }
 
 pub returns-in-Ok-clause-follows : goal.returns-in-Ok-clause-follows
-returns-in-Ok-clause-follows g c = record { shows = c.in-Ok.ensures.follows; beside = c.in-Ok.ensures.beside }
+returns-in-Ok-clause-follows g c =
+    let again = c.in-Ok.ensures.reopened in
+    let over = again.over in
+    record {
+      shows = c.in-Ok.ensures.follows;
+      trust = λ honest.
+          let first : HasCleanDisk (file_state over.conn) = omega (arith, over.adopted.migrated.clean, honest) in
+          ∥∥₁_elim (may {g = g.D.Disk} g.met.D.Disk.seen_may_stay c.args.desk again.files again.files again.let_go (λ image out. out) (λ clean. clean) over.conn over.opened first) (ℕ_set _ _) (λ both. both.0);
+      beside = c.in-Ok.ensures.beside;
+    }
 
 pub returns-in-Err-clause-opened : goal.returns-in-Err-clause-opened
 returns-in-Err-clause-opened g c =

@@ -3,7 +3,7 @@ use Rattle.std.specs.Prelude.{None, Some, Ok, Err}
 use Rattle.net_driver.specs.Serving.{rounds_of}
 use Rattle.std.proofs.lemmas.Result.{err_from_is_err_and}
 use Rattle.net_serving.specs.Deeds.{WasShut}
-use Rattle.net_serving.specs.Serving.{IsFirstStretch, IsOpenBehind}
+use Rattle.net_serving.specs.Serving.{AreServed, IsFirstStretch, IsOpenBehind}
 use Rattle.net_serving.proofs.DeedLemmas.{does_both, does_none, was_done}
 use Rattle.net_serving.proofs.StretchLemmas.{was_opened}
 use Rattle.net_serving.proofs.serving.serve_catalogue.Goals as goal
@@ -54,7 +54,8 @@ returns-in_err-desk-2 g c =
           no_failure = c.in-Ok.ensures.failure;
           stretches = served.0;
           over = subst (λ n. IsFirstStretch n c.in_ok-desk.desk served.0) asked served.2;
-          served = served.1;
+          served = subst (λ n. AreServed g.K.Lookup.shows g.K.Lookup.leaves_one_of g.K.Lookup.keeps_beside g.K.Lookup.is_trusted g.D.DeskOpener.is_opened g.K.Lookup.has_failed g.K.Lookup.is_closed g.K.Preparer.expects
+              g.K.Preparer.prepares n served.0 c.in-Ok.driver c.serve_rounds-served.new.driver) c.pace-rounds.ensures.wait served.1;
           made = made;
           ends = served.3;
         },
@@ -94,7 +95,8 @@ returns g c =
           no_failure = c.in-Ok.ensures.failure;
           stretches = served.0;
           over = subst (λ n. IsFirstStretch n c.in_ok-desk.desk served.0) asked served.2;
-          served = served.1;
+          served = subst (λ n. AreServed g.K.Lookup.shows g.K.Lookup.leaves_one_of g.K.Lookup.keeps_beside g.K.Lookup.is_trusted g.D.DeskOpener.is_opened g.K.Lookup.has_failed g.K.Lookup.is_closed g.K.Preparer.expects
+              g.K.Preparer.prepares n served.0 c.in-Ok.driver c.serve_rounds-served.new.driver) c.pace-rounds.ensures.wait served.1;
           made = made;
           ends = tt;
         },

@@ -1,6 +1,7 @@
 use Rattle.std.proofs.Common.{◌≡◌, ◌∙◌, ◌-◌, ℕ, [], ◌++◌, ◌∷◌, inl, inr, refl, subst, arith}
 use Rattle.std.proofs.lemmas.Result.{err_from_is_err_and}
 use Rattle.std.specs.Prelude.{None}
+use Rattle.std.specs.Duration.{as_nanos}
 use Rattle.net_serving.specs.Serving.{IsNotReopened, IsOpenBehind, Stretch}
 use Rattle.net_serving.specs.Deeds.{WasShut}
 use Rattle.net_serving.proofs.DeedLemmas.{gone_first, gone_more, turned}
@@ -26,10 +27,8 @@ returns-in_err-pending-clause-served g c =
     } in
     let error = err_from_is_err_and c.from_residual.result c.from_residual.ensures.1 in (
       held.0 ++ one ∷ [],
-      served_more g.K.Lookup.shows g.K.Lookup.leaves_one_of g.K.Lookup.keeps_beside g.K.Lookup.is_trusted g.D.DeskOpener.is_opened g.K.Lookup.is_closed g.K.Lookup.has_failed g.K.Preparer.expects g.K.Preparer.prepares c.args.rounds
-          c.args.desk held.0 one
-          c.args.driver.now c.loop-pending.driver
-          c.serve_stretch.new.driver held.1 goes over.2,
+      served_more g.K.Lookup.shows g.K.Lookup.leaves_one_of g.K.Lookup.keeps_beside g.K.Lookup.is_trusted g.D.DeskOpener.is_opened g.K.Lookup.is_closed g.K.Lookup.has_failed g.K.Preparer.expects g.K.Preparer.prepares
+          (as_nanos c.args.wait) c.args.rounds c.args.desk held.0 one c.args.driver.now c.loop-pending.driver c.serve_stretch.new.driver held.1 goes over.2,
       first_goes g.K.Lookup.shows g.K.Lookup.leaves_one_of g.K.Lookup.keeps_beside g.K.Lookup.is_trusted g.D.DeskOpener.is_opened g.K.Lookup.is_closed c.args.rounds c.args.desk held.0 one held.2 goes,
       rw (error.1, error.2) (ends_more g.K.Lookup.shows g.K.Lookup.leaves_one_of g.K.Lookup.keeps_beside g.K.Lookup.is_trusted g.D.DeskOpener.is_opened g.K.Lookup.is_closed
           (WasShut g.K.Lookup.shows g.K.Lookup.leaves_one_of g.K.Lookup.is_trusted g.D.DeskOpener.is_safe g.D.DeskOpener.holds_alone g.D.DeskOpener.still_leaves g.D.DeskOpener.still_keeps g.D.DeskOpener.is_uncopied
@@ -57,10 +56,8 @@ loop-pending-preserved g c =
     record {
       served = (
         held.0 ++ one ∷ [],
-        served_more g.K.Lookup.shows g.K.Lookup.leaves_one_of g.K.Lookup.keeps_beside g.K.Lookup.is_trusted g.D.DeskOpener.is_opened g.K.Lookup.is_closed g.K.Lookup.has_failed g.K.Preparer.expects g.K.Preparer.prepares c.args.rounds
-            c.args.desk held.0 one
-            c.args.driver.now c.loop-pending.driver
-            c.serve_stretch.new.driver held.1 goes over.2,
+        served_more g.K.Lookup.shows g.K.Lookup.leaves_one_of g.K.Lookup.keeps_beside g.K.Lookup.is_trusted g.D.DeskOpener.is_opened g.K.Lookup.is_closed g.K.Lookup.has_failed g.K.Preparer.expects g.K.Preparer.prepares
+            (as_nanos c.args.wait) c.args.rounds c.args.desk held.0 one c.args.driver.now c.loop-pending.driver c.serve_stretch.new.driver held.1 goes over.2,
         first_goes g.K.Lookup.shows g.K.Lookup.leaves_one_of g.K.Lookup.keeps_beside g.K.Lookup.is_trusted g.D.DeskOpener.is_opened g.K.Lookup.is_closed c.args.rounds c.args.desk held.0 one held.2 goes,
         λ some. (let gave = where_left c.in_ok-pending.pending.left over.4 some in
             goes_more g.K.Lookup.shows g.K.Lookup.leaves_one_of g.K.Lookup.keeps_beside g.K.Lookup.is_trusted g.D.DeskOpener.is_opened g.K.Lookup.is_closed c.args.rounds c.args.desk held.0 one c.in_ok-pending.pending.desk
@@ -70,7 +67,7 @@ loop-pending-preserved g c =
             (g.D.DeskOpener.history c.serve_stretch.new.desks) held.4 c.in_ok-pending.pending.desk c.in_ok-pending.pending.left over.5 (λ some. (where_left c.in_ok-pending.pending.left over.4 some).4),
         open_more g.K.Lookup.shows g.K.Lookup.leaves_one_of g.K.Lookup.keeps_beside g.K.Lookup.is_trusted g.D.DeskOpener.is_opened g.K.Lookup.is_closed c.args.desk held.0 one c.in_ok-pending.pending.desk
             c.in_ok-pending.pending.left (elim over.4 [
-              | inl is ↦ inl is.0
+              | inl is ↦ inl (is.0, is.1)
               | inr gave ↦ inr (gave.0, gave.1, gave.2, gave.3)
             ]),
       );
