@@ -2,10 +2,12 @@ use Rattle.std.proofs.Common.{◌≡◌, [], ◌∷◌, ap, not, sym, subst, ◌
 use Rattle.std.specs.Prelude.{IsTrue, Some, None}
 use Rattle.dict_catalogue.specs.Steps.{empty_catalogue}
 use Rattle.dict_catalogue.proofs.WellFormedLemmas.{empty_well_formed}
+use Rattle.sqlite.specs.Effect.{Database}
 use Rattle.sqlite.specs.State.{HasCleanDisk, Survives}
 use Rattle.sqlite.specs.Held.{state}
-use Rattle.store_holdings.specs.Holds.{Rests}
+use Rattle.store_holdings.specs.Holds.{Holds, Rests}
 use Rattle.store_holdings.specs.Committed.{IsTreesOf}
+use Rattle.store_migration.specs.Making.{creation, CreationFailsToEnd}
 use Rattle.store_migration.specs.Spared.{SparesOthers}
 use Rattle.store_desk.specs.Desk.{DeskState, KeepsBeside, LeavesOneOf}
 use Rattle.store_desk.proofs.DeskLemmas.{alone}
@@ -38,6 +40,10 @@ returns-in-Ok-clause-beside g c =
 pub returns-in-Err-clause-beside_left : goal.returns-in-Err-clause-beside_left
 returns-in-Err-clause-beside_left g c =
     subst (λ conn. Survives (state g.S.Store conn) (state g.S.Store c.create.new.conn) (IsTreesOf (SparesOthers (state g.S.Store conn).now))) c.set_step_limit.ensures c.create.ensures.beside
+
+pub returns-in-Err-clause-failed : goal.returns-in-Err-clause-failed
+returns-in-Err-clause-failed g c = λ clean other.
+    subst (λ conn. CreationFailsToEnd g.S.Store (creation known) (λ (db : Database). Holds known db empty_catalogue) conn c.create.new.conn c.in-Err.fault) c.set_step_limit.ensures (c.in-Err.ensures.failed clean other)
 
 pub returns-in-Ok-clause-keeps : goal.returns-in-Ok-clause-keeps
 returns-in-Ok-clause-keeps g c db keeps =
