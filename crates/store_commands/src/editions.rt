@@ -1,5 +1,5 @@
 // The editions that go, and the one that is installed.
-ghost use Rattle.std.specs.Prelude.{◌≡◌, ◌≤◌, ◌<◌, ◌↔◌, true, false, [], ◌∷◌, None, IsTrue, IfErr, IfOk, IfSome, OnOk, Option, flat_map, length, map, option_copied, option_map, slice_range};
+ghost use Rattle.std.specs.Prelude.{◌≡◌, ◌≤◌, ◌<◌, true, false, [], ◌∷◌, None, IsTrue, IfErr, IfOk, IfSome, OnOk, Option, flat_map, length, map, option_copied, option_map, slice_range};
 ghost use Rattle.sqlite.specs.Effect.{IsDatabase};
 ghost use Rattle.sqlite.specs.State.{HasCleanDisk};
 ghost use Rattle.sqlite.specs.Held.{state};
@@ -71,7 +71,6 @@ pub(crate) const LAST_PARTS: &[(i64, i64)] = &[
 // Whether so many parts are enough at a time. None are where no count is given.
 fn are_enough(taken: usize, enough: Option<usize>) -> bool
     requires { IfSome enough (λ least. 0 < least) }
-    ensures count { IfSome enough (λ least. IsTrue result ↔ (least ≤ taken)) }
     ensures some { IsTrue result → 0 < taken }
     ensures none { enough ≡ None → result ≡ false }
 {
