@@ -17,7 +17,7 @@ import threading
 import time
 
 KIT = os.path.dirname(os.popen("rt doc").read().strip())
-KEPT = os.path.abspath(os.environ["KEPT"])
+KEPT = os.path.abspath(os.environ.get("KEPT", ""))
 sys.path.insert(0, f"{KIT}/bin")
 loader = importlib.machinery.SourceFileLoader("rt_gate", f"{KIT}/bin/rt")
 rt = importlib.util.module_from_spec(importlib.util.spec_from_loader("rt_gate", loader))
@@ -140,7 +140,7 @@ def main(words):
 
 
 if __name__ == "__main__":
-    if len(sys.argv) < 2 or sys.argv[1].startswith("-"):
+    if len(sys.argv) < 2 or sys.argv[1].startswith("-") or not os.environ.get("KEPT"):
         sys.exit(__doc__)
     os.makedirs(KEPT, exist_ok=True)
     sys.exit(main(sys.argv[1:]))
