@@ -13,11 +13,11 @@ abbrev pub is_clear : Queue → Bool
 is_clear queue = length (waiting queue) == 0
 
 -- how many calls of a queue have failed, and how many octets found no room there since memory was short
-pub record Counts : Type 0 where
+pub record QueueCounts : Type 0 where
   pub failures : ℕ
   pub refused : ℕ
 
-abbrev pub counts_of : Queue → Counts
+abbrev pub counts_of : Queue → QueueCounts
 counts_of queue = record { failures = queue.failures; refused = length queue.refused.octets }
 
 -- Octets find no room behind those that wait: more than 1,048,576 would wait; or the room is smaller than they want, and they are

@@ -2,7 +2,7 @@
 ghost use Rattle.std.specs.Prelude.{◌≡◌, ◌+◌, ◌<◌, ◌≤◌, ℕ, List, Option, [], None, length, true, false};
 ghost use Rattle.net_outlet.specs.OutletCalls.{Call};
 ghost use Rattle.net_outlet.specs.Outlets.{Follow, HasTakenOctets, IsStuck, MakesSendings, are_well};
-ghost use Rattle.net_outlet.specs.Queues.{Counts, counts_of, waiting};
+ghost use Rattle.net_outlet.specs.Queues.{QueueCounts, counts_of, waiting};
 
 use crate::calls::{Sent, sent_by};
 use crate::queue::Queue;
@@ -38,7 +38,7 @@ pub trait Beginning {
     ghost made: { Option (List Call) };
 
     /// How many calls of `put` failed before, and how many octets found no room.
-    ghost counts: { Counts };
+    ghost counts: { QueueCounts };
 }
 
 impl Beginning for Brand {

@@ -21,7 +21,7 @@ use Rattle.store_rows.proofs.SelectionLemmas.{filter_filter}
 use Rattle.store_holdings.specs.AllTables.{AllTables}
 use Rattle.store_commands.specs.KeptRecords.{HasRecords, TurnsRecords}
 use Rattle.store_commands.specs.Changes.{without_parts}
-use Rattle.store_commands.specs.Orphans.{parts_under, with_parts_that}
+use Rattle.store_commands.specs.Orphans.{rows_left_under, with_parts_that}
 use Rattle.store_commands.specs.Statements.{taking_of, taking_from, taking_parts}
 use Rattle.store_commands.specs.Writes.{WroteStatements, FailsToWrite, CommitsNothing}
 use Rattle.store_commands.proofs.GoneLemmas.{all_stay, neither, tested}
@@ -172,7 +172,7 @@ late_numbered number bound row h = first_of (equals_number 1 (pos number) row) (
 
 -- as many fewer as a statement tells
 pub late_fewer : (number : ℕ) (bound : ℤ × ℤ) (given file from : ℤ) → given ≡ pos number → file ≡ bound.0 → from ≡ bound.1 → (old new : Database) (count : ℕ) → IsRemoved (codes "dictcat_part") (is_part_from given file from) old new
-    → count ≡ count_in (codes "dictcat_part") (is_part_from given file from) old → parts_under number new + count ≡ parts_under number old
+    → count ≡ count_in (codes "dictcat_part") (is_part_from given file from) old → rows_left_under number new + count ≡ rows_left_under number old
 late_fewer number bound given file from is of at old new count removed counted =
     let test : Row → Bool = is_part_from (pos number) bound.0 bound.1 in
     let same : is_part_from given file from ≡ test = λ i. is_part_from (is i) (of i) (at i) in

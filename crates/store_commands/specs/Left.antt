@@ -23,8 +23,8 @@ abbrev pub draft_left : DraftState → List ℕ
 draft_left d = kind_left d.is_refused ∷ (2 ^ 64 - d.lines) ∷ (2 ^ 64 - d.written) ∷ []
 
 -- the same of what is known of the files, of which none is written meanwhile
-abbrev pub reading_left : Progress → List ℕ
-reading_left p = kind_left (is_refused p) ∷ (2 ^ 64 - lines_read p) ∷ []
+abbrev pub progress_left : Progress → List ℕ
+progress_left p = kind_left (is_refused p) ∷ (2 ^ 64 - lines_read p) ∷ []
 
 -- whether what stood under the number is still to be taken out
 abbrev pub taking_left : Bool → ℕ

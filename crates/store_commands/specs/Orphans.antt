@@ -31,8 +31,8 @@ pub record LosesParts (number : ℕ) (old new : Database) : Type 0 where
   pub turns : TurnsRecords (with_parts_that stays) old new
 
 -- how many parts have this number
-abbrev pub parts_under : ℕ → Database → ℕ
-parts_under number db = count_in (codes "dictcat_part") (equals_number 1 (pos number)) db
+abbrev pub rows_left_under : ℕ → Database → ℕ
+rows_left_under number db = count_in (codes "dictcat_part") (equals_number 1 (pos number)) db
 
 -- no part has this number
 abbrev pub HasNoParts : ℕ → Database → Type 0
@@ -47,7 +47,7 @@ module _ {S : Type 0} (g : Ghosts S) where
     pub stays : Part → Bool
     pub wrote : WroteStatements g statements (with_parts_that stays) old new
     pub others : (part : Part) → same_number (pos number) part.edition ≡ false → stays part ≡ true
-    pub fewer : HasCleanDisk (state g new) → more ≡ true → parts_under number (state g new).now < parts_under number (state g old).now
+    pub fewer : HasCleanDisk (state g new) → more ≡ true → rows_left_under number (state g new).now < rows_left_under number (state g old).now
     pub its : more ≡ false → (part : Part) → same_number (pos number) part.edition ≡ true → stays part ≡ false
 
   -- Such statements, or their commit, failed.

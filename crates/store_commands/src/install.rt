@@ -7,7 +7,7 @@ ghost use Rattle.dict_index.specs.Refused.{IsIndexFault};
 ghost use Rattle.store_rows.specs.Stored.{stored_index, stored_line, IsStorable};
 ghost use Rattle.dict_reading.specs.Reading.{HasRead, IsAtEnd};
 ghost use Rattle.store_commands.specs.Installs.{IsReadSoFar, ReadsSlice, AreFirstLines, AreAllLines, AreKnown, HasFiles, IsShortStep, is_done, is_refused, state_of};
-ghost use Rattle.store_commands.specs.Left.{IsLess, draft_left, reading_left};
+ghost use Rattle.store_commands.specs.Left.{IsLess, draft_left, progress_left};
 
 use dict_index::{EditionRefusal, IndexFault, one_meaning};
 use dict_reading::{EditionReader, Reading};
@@ -67,7 +67,7 @@ fn read_slice(progress: &mut Progress, index: &[u8], text: &[u8]) -> Result<bool
     ensures slice { OnOk result (ReadsSlice index.now progress.old progress.new) }
     ensures none { IfOk result (λ some. some ≡ false → progress.new ≡ progress.old) }
     ensures all { IfOk result (λ some. some ≡ false → (reader : EditionReader) → progress.old ≡ Progress.Reader reader → IsAtEnd index.now reader) }
-    ensures fewer { IfOk result (λ some. IsTrue some → IsLess (reading_left progress.new) (reading_left progress.old)) }
+    ensures fewer { IfOk result (λ some. IsTrue some → IsLess (progress_left progress.new) (progress_left progress.old)) }
 {
     let Progress::Reader(reader) = progress else {
         return Ok(false);

@@ -12,7 +12,7 @@ ghost use Rattle.store_holdings.specs.Committed.{IsCommitted, IsTreesOf};
 ghost use Rattle.store_commands.specs.Committed.{IsOfStore, StaysCommitted};
 ghost use Rattle.store_commands.specs.Answers.{HoldsBy};
 ghost use Rattle.store_commands.specs.Marking.{Remains};
-ghost use Rattle.store_commands.specs.Orphans.{LosesParts, HasNoParts, FailsToTakeOut, FailsToTakeOrphans, parts_under};
+ghost use Rattle.store_commands.specs.Orphans.{LosesParts, HasNoParts, FailsToTakeOut, FailsToTakeOrphans, rows_left_under};
 
 use crate::editions::{LAST_PARTS, take_slice};
 use crate::parts::fault_filed;
@@ -59,7 +59,7 @@ fn commit_slice<S: Alter>(conn: &mut Connection<S>, number: u64) -> Result<bool,
     requires number { FitsColumn number }
     requires usable { WhileOpen (state S.Store conn.old) IsUsable }
     ensures made { HasCleanDisk (state S.Store conn.new) → OnOk result (IsCommitted (λ db. IsTrue (state S.Store conn.old).is_open × LosesParts number (state S.Store conn.old).now db) (state S.Store conn.new)) }
-    ensures fewer { HasCleanDisk (state S.Store conn.new) → IfOk result (λ more. more ≡ true → parts_under number (state S.Store conn.new).committed < parts_under number (state S.Store conn.old).now) }
+    ensures fewer { HasCleanDisk (state S.Store conn.new) → IfOk result (λ more. more ≡ true → rows_left_under number (state S.Store conn.new).committed < rows_left_under number (state S.Store conn.old).now) }
     ensures cleared { HasCleanDisk (state S.Store conn.new) → IfOk result (λ more. more ≡ false → HasNoParts number (state S.Store conn.new).committed) }
     ensures stays { HasCleanDisk (state S.Store conn.new) → OnErr result (StaysCommitted (state S.Store conn.old) (state S.Store conn.new)) }
     ensures lives { HasCleanDisk (state S.Store conn.new) → IsTrue (state S.Store conn.new).is_open → IsTrue (state S.Store conn.old).is_open }
@@ -95,7 +95,7 @@ pub fn take_orphans<S: Alter>(
     requires autocommit { conn.old.in_transaction ≡ false }
     requires holds { HoldsBy (summary_shown summary.now) (state S.Store conn.old) }
     ensures made { HasCleanDisk (state S.Store conn.new) → OnOk result (IsCommitted (Remains (summary_shown summary.now) (state S.Store conn.old).committed) (state S.Store conn.new)) }
-    ensures fewer { HasCleanDisk (state S.Store conn.new) → IfOk result (λ more. more ≡ true → parts_under number (state S.Store conn.new).committed < parts_under number (state S.Store conn.old).committed) }
+    ensures fewer { HasCleanDisk (state S.Store conn.new) → IfOk result (λ more. more ≡ true → rows_left_under number (state S.Store conn.new).committed < rows_left_under number (state S.Store conn.old).committed) }
     ensures cleared { HasCleanDisk (state S.Store conn.new) → IfOk result (λ more. more ≡ false → HasNoParts number (state S.Store conn.new).committed) }
     ensures stays { HasCleanDisk (state S.Store conn.new) → OnErr result (StaysCommitted (state S.Store conn.old) (state S.Store conn.new)) }
     ensures lives { HasCleanDisk (state S.Store conn.new) → IsTrue (state S.Store conn.new).is_open → IsTrue (state S.Store conn.old).is_open }

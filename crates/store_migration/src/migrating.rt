@@ -33,6 +33,7 @@ use dict_desk::Fault;
 use sqlite::{Alter, Connection, Transaction};
 use std::alloc::Global;
 use store_holdings::fault_of_read;
+use store_rows::signed_numbers;
 use store_sql::part_statements::create_part_table;
 use store_sql::records::ReadError;
 use store_tables::HeaderRecord;
@@ -148,28 +149,16 @@ fn is_live<S: Alter>(conn: &Connection<S>)
     let _schema = conn.schema();
 }
 
-// The same numbers as a column holds them. `NoRecord` tells that no column holds one of them.
-fn signed_numbers(alloc: Global, numbers: &[u64]) -> Result<Vec<i64>, ReadError>
-    ensures same { IfOk result (λ signed. signed.items ≡ map pos numbers.now) }
-    ensures failed { IfErr result (FailsToSign numbers.now) }
-{
-    let mut signed = Vec::new(alloc);
-    for number in numbers {
-        if *number > MAX_NUMBER {
-            return Err(ReadError::NoRecord);
-        }
-        signed.push(*number as i64)?;
-    }
-    Ok(signed)
-}
-
-// The numbers of a summary's editions, as a column holds them.
+// The numbers of a summary's editions, as a column holds them. `NoRecord` tells that no column holds one of them.
 fn numbers_of(alloc: Global, summary: &Summary) -> Result<Vec<i64>, ReadError>
     ensures same { IfOk result (λ numbers. numbers.items ≡ map pos (numbers_in (summary_shown summary.now).items)) }
     ensures failed { IfErr result (FailsToSign (numbers_in (summary_shown summary.now).items)) }
 {
     let numbers = edition_numbers(alloc, &summary.items)?;
-    signed_numbers(alloc, &numbers)
+    let Some(signed) = signed_numbers(alloc, &numbers)? else {
+        return Err(ReadError::NoRecord);
+    };
+    Ok(signed)
 }
 
 // How the tables of an older version are laid out; none, where it is as those of the known one.

@@ -24,7 +24,7 @@ fn mark_rows<S: Alter>(conn: &mut Connection<S>) -> Result<Vec<Row>, Error>
     conn.query_all("SELECT rowid, * FROM mark ORDER BY 2", &[])
 }
 
-/// The records of the mark. `store_sql::read::marks` gives the same, of a table to which no foreign key refers.
+/// The records of the mark, in the order of their ids, of a table that a foreign key may refer to.
 pub(crate) fn marks<S: Alter>(
     alloc: Global,
     conn: &mut Connection<S>,

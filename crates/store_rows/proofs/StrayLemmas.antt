@@ -10,11 +10,8 @@ use Rattle.dict_catalogue.specs.Steps.{Catalogue}
 use Rattle.store_rows.specs.Tables.{Tables}
 use Rattle.store_rows.specs.Stands.{HoldsMembers, Stands}
 use Rattle.store_rows.specs.Tests.{is_lawful_item, is_from_one_to, has_lawful_numbers, has_lawful_items, has_known_members, has_names_once, has_numbers_once}
-use Rattle.store_rows.specs.Given.{OnDamage}
 use Rattle.store_rows.specs.Taken.{GoesOnFrom, HasTaken, items_in}
 use Rattle.store_rows.specs.declared.reader.Reader.{Reader}
-use Rattle.store_rows.specs.declared.fault.RowsFault.{RowsFault}
-use Rattle.store_rows.specs.declared.fault.RowsFault.TheVariants.{Damaged, Memory}
 use Rattle.store_rows.proofs.LawfulLemmas.{items_bare, numbers_alike, each_itself}
 
 -- the numbers of a catalogue's items are those of the items that were taken
@@ -32,7 +29,6 @@ numbers_within installs most items le h =
     let n = and_parts (list_all (is_from_one_to installs) (edition_numbers items)) (has_numbers_once (edition_numbers items)) a.1 in
     all_weaker (λ number. is_from_one_to installs number ≡ true) (λ number. number ≤ most) (λ number m. within installs most number le m) (edition_numbers items) (each_itself (is_from_one_to installs) (edition_numbers items) n.0)
 
-pub numbers_fit : (fault : RowsFault) (reader : Reader) → reader.installs ≤ 9223372036854775807 → OnDamage fault (AllByRecursion (λ number. number ≤ 9223372036854775807) (edition_numbers (items_in reader)) → ⊥) →
-    OnDamage fault ((version : ℕ) (taken : Tables) → HasTaken version reader taken → ⊥)
-numbers_fit Damaged reader le wrong = λ version taken h. wrong (numbers_within reader.installs 9223372036854775807 (items_in reader) le h.lawful)
-numbers_fit Memory reader le wrong = tt
+pub numbers_fit : (reader : Reader) → reader.installs ≤ 9223372036854775807 → (AllByRecursion (λ number. number ≤ 9223372036854775807) (edition_numbers (items_in reader)) → ⊥) →
+    (version : ℕ) (taken : Tables) → HasTaken version reader taken → ⊥
+numbers_fit reader le wrong version taken h = wrong (numbers_within reader.installs 9223372036854775807 (items_in reader) le h.lawful)

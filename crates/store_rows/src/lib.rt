@@ -35,4 +35,4 @@ pub use reader::Reader;
 pub use reading::{StoredColumns, read_line};
 pub use replies::verb_in;
 pub use writing::write_line;
-pub use written::{KNOWN_VERSION, item_row, kept_row, mark_row, member_row};
+pub use written::{KNOWN_VERSION, item_row, kept_row, mark_row, member_row, signed_numbers};

@@ -4,7 +4,6 @@ ghost use Rattle.dict_index.specs.Limits.{most_entries};
 ghost use Rattle.store_tables.specs.Records.{shown_as};
 ghost use Rattle.store_tables.specs.Typed.{owned_edition, owned_entry, owned_kept};
 ghost use Rattle.store_rows.specs.Tables.{Tables};
-ghost use Rattle.std.specs.List.{AllByRecursion};
 ghost use Rattle.store_rows.specs.Given.{marks_given, items_given, members_given, OnDamage, IsEntry, IsNoEntry, IsLawfulLine, line_with};
 ghost use Rattle.dict_catalogue.specs.Steps.{Catalogue, summary_of};
 ghost use Rattle.dict_catalogue.specs.Views.{summary_shown};
@@ -17,6 +16,7 @@ use crate::lawful::has_lawful_items;
 use crate::marks::{are_owned, installs_of};
 use crate::replies::{is_install, reply_of};
 use crate::titles::{are_titled, place_of, title_at};
+use crate::written::signed_numbers;
 use dict_catalogue::{Item, MAX_ACCEPTED, Summary, edition_numbers};
 use dict_index::{MAX_LINES, is_edition_text};
 use dict_text::is_title;
@@ -95,21 +95,6 @@ fn add_line(
     Ok(())
 }
 
-/// The same numbers as a column holds them, or `Damaged` where one doesn't fit.
-fn signed_numbers(alloc: Global, numbers: &[u64]) -> Result<Vec<i64>, RowsFault>
-    ensures same { IfOk result (λ signed. signed.items ≡ map pos numbers.now) }
-    ensures damaged { IfErr result (λ fault. OnDamage fault (AllByRecursion (λ number. number ≤ 9223372036854775807) numbers.now → ⊥)) }
-{
-    let mut signed = Vec::new(alloc);
-    for number in numbers {
-        if *number > MAX_ACCEPTED {
-            return Err(RowsFault::Damaged);
-        }
-        signed.push(*number as i64)?;
-    }
-    Ok(signed)
-}
-
 /// A reader of the records of the tables. It holds the items with the titles of the editions that were read, the text
 /// of one edition, and counts.
 #[derive(Drop)]
@@ -165,7 +150,10 @@ impl Reader {
         ensures damaged { IfErr result (λ fault. OnDamage fault ((version : ℕ) (taken : Tables) → HasTaken version self.now taken → ⊥)) }
     {
         let numbers = edition_numbers(alloc, &self.items)?;
-        signed_numbers(alloc, &numbers)
+        let Some(signed) = signed_numbers(alloc, &numbers)? else {
+            return Err(RowsFault::Damaged);
+        };
+        Ok(signed)
     }
 
     /// Lets the text go of the edition that was taken last, all of whose entries were taken, so that it isn't held while the

@@ -1,5 +1,5 @@
 // The records that the parts of a catalogue are written as.
-ghost use Rattle.std.specs.Prelude.{◌≡◌, ◌≤◌, IfSome};
+ghost use Rattle.std.specs.Prelude.{◌≡◌, ◌≤◌, IfSome, IfOk, MatchOption, map, pos};
 ghost use Rattle.std.specs.List.{AllByRecursion};
 ghost use Rattle.store_tables.specs.Typed.{lent_mark, lent_item, lent_member, lent_kept};
 ghost use Rattle.dict_catalogue.specs.Items.{numbers_of};
@@ -7,10 +7,28 @@ ghost use Rattle.dict_catalogue.specs.Views.{item_shown, kept_shown};
 ghost use Rattle.store_rows.specs.Written.{mark_record, item_record, member_record, kept_record, verb_name};
 
 use dict_catalogue::{Item, Kept as Reply, Verb};
+use std::alloc::{AllocError, Global};
 use store_tables::{ItemRecord as ItemRow, KeptRecord, Mark, Member};
 
 /// The version of the tables that is written, and the greatest that is opened.
 pub const KNOWN_VERSION: u64 = 6;
+
+/// The greatest number that a column holds.
+const MAX_NUMBER: u64 = 9_223_372_036_854_775_807;
+
+/// The same numbers as a column holds them; `None` where one is greater than any that it holds.
+pub fn signed_numbers(alloc: Global, numbers: &[u64]) -> Result<Option<Vec<i64>>, AllocError>
+    ensures { IfOk result (λ told. MatchOption told (AllByRecursion (λ number. number ≤ 9223372036854775807) numbers.now → ⊥) (λ signed. signed.items ≡ map pos numbers.now)) }
+{
+    let mut signed = Vec::new(alloc);
+    for number in numbers {
+        if *number > MAX_NUMBER {
+            return Ok(None);
+        }
+        signed.push(*number as i64)?;
+    }
+    Ok(Some(signed))
+}
 
 /// The mark of a file of this version, with the count of installs.
 pub fn mark_row(version: u64, installs: u64) -> Mark<&'static str>

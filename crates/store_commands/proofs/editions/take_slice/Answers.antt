@@ -11,7 +11,7 @@ use Rattle.store_sql.proofs.StreamLemmas.{passed_on}
 use Rattle.store_tables.specs.Records.{Part}
 use Rattle.store_rows.specs.After.{is_gone}
 use Rattle.store_commands.specs.Statements.{taking_from, taking_parts}
-use Rattle.store_commands.specs.Orphans.{parts_under}
+use Rattle.store_commands.specs.Orphans.{rows_left_under}
 use Rattle.store_commands.specs.Writes.{WroteStatements, FailsToWrite}
 use Rattle.store_commands.proofs.GoneLemmas.{handed}
 use Rattle.store_commands.proofs.PartLemmas.{behind, last_ones, late_fewer, sum_fewer, parts_none, late_wrote, late_failed, parts_wrote, parts_failed, all_wrote, all_failed}
@@ -51,10 +51,10 @@ each-preserved g c =
     let file : SFits w64 bound.0 = search rules in
     let from : SFits w64 bound.1 = search rules in
     let one = late_wrote g.S.Store n bound _ _ _ (handed n c.requires.number) (to_z-of_z w64 bound.0 file) (to_z-of_z w64 bound.1 from) mid new c.delete_parts_from.ensures.survives c.in_ok-taken.ensures.removed in
-    let less : HasCleanDisk (state g.S.Store new) → parts_under n (state g.S.Store new).now + c.in_ok-taken.taken ≡ parts_under n (state g.S.Store mid).now = λ clean.
+    let less : HasCleanDisk (state g.S.Store new) → rows_left_under n (state g.S.Store new).now + c.in_ok-taken.taken ≡ rows_left_under n (state g.S.Store mid).now = λ clean.
     late_fewer n bound _ _ _ (handed n c.requires.number) (to_z-of_z w64 bound.0 file) (to_z-of_z w64 bound.1 from) (state g.S.Store mid).now (state g.S.Store new).now _
     (c.in_ok-taken.ensures.removed clean).0 (c.in_ok-taken.ensures.counted clean) in
-    let fewer : HasCleanDisk (state g.S.Store new) → parts_under n (state g.S.Store new).now + c.saturating_add-all.result ≤ parts_under n (state g.S.Store first).now = λ clean.
+    let fewer : HasCleanDisk (state g.S.Store new) → rows_left_under n (state g.S.Store new).now + c.saturating_add-all.result ≤ rows_left_under n (state g.S.Store first).now = λ clean.
     sum_fewer c.each.all c.in_ok-taken.taken c.saturating_add-all.result _ _ _ c.saturating_add-all.ensures (less clean) (c.each.invariant.fewer (omega (arith, c.delete_parts_from.ensures.survives.clean, clean))) in
     record {
       same_reference = c.delete_parts_from.ensures.same_reference ∙ c.each.invariant.same_reference;
@@ -135,10 +135,10 @@ returns-then-are_enough g c =
     let file : SFits w64 bound.0 = search rules in
     let from : SFits w64 bound.1 = search rules in
     let one = late_wrote g.S.Store n bound _ _ _ (handed n c.requires.number) (to_z-of_z w64 bound.0 file) (to_z-of_z w64 bound.1 from) mid new c.delete_parts_from.ensures.survives c.in_ok-taken.ensures.removed in
-    let less : HasCleanDisk (state g.S.Store new) → parts_under n (state g.S.Store new).now + c.in_ok-taken.taken ≡ parts_under n (state g.S.Store mid).now = λ clean.
+    let less : HasCleanDisk (state g.S.Store new) → rows_left_under n (state g.S.Store new).now + c.in_ok-taken.taken ≡ rows_left_under n (state g.S.Store mid).now = λ clean.
     late_fewer n bound _ _ _ (handed n c.requires.number) (to_z-of_z w64 bound.0 file) (to_z-of_z w64 bound.1 from) (state g.S.Store mid).now (state g.S.Store new).now _
     (c.in_ok-taken.ensures.removed clean).0 (c.in_ok-taken.ensures.counted clean) in
-    let fewer : HasCleanDisk (state g.S.Store new) → parts_under n (state g.S.Store new).now + c.saturating_add-all.result ≤ parts_under n (state g.S.Store first).now = λ clean.
+    let fewer : HasCleanDisk (state g.S.Store new) → rows_left_under n (state g.S.Store new).now + c.saturating_add-all.result ≤ rows_left_under n (state g.S.Store first).now = λ clean.
     sum_fewer c.each.all c.in_ok-taken.taken c.saturating_add-all.result _ _ _ c.saturating_add-all.ensures (less clean) (c.each.invariant.fewer (omega (arith, c.delete_parts_from.ensures.survives.clean, clean))) in
     let spares = spares_then g.S.Store first mid new c.each.invariant.spares round in
     record {

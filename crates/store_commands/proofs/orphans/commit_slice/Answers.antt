@@ -2,7 +2,7 @@ use Rattle.std.proofs.Common.{◌<◌, ◌≡◌, inr, refl, rules}
 use Rattle.sqlite.specs.Effect.{Database}
 use Rattle.sqlite.specs.Held.{state}
 use Rattle.store_commands.specs.KeptRecords.{TurnsRecords}
-use Rattle.store_commands.specs.Orphans.{LosesParts, HasNoParts, parts_under, with_parts_that}
+use Rattle.store_commands.specs.Orphans.{LosesParts, HasNoParts, rows_left_under, with_parts_that}
 use Rattle.store_commands.specs.Statements.{last_parts, taking_parts}
 use Rattle.store_commands.proofs.TakingLemmas.{none_has}
 use Rattle.store_commands.proofs.EndLemmas.{spans, clean_inside, clean_first, made_by, made_open, leaves_made, commits_made, uncommitted_stays, uncommitted_faults, uncommitted_run, undone_run, undone_faults}
@@ -13,7 +13,7 @@ returns-in-Ok-commit g c =
     let same : c.commit.new.tx.0 ≡ c.conn-2-1.given.0 = search rules in
     let tx = spans g.S.Store c.args.conn.now c.transaction-tx.ensures.begun c.take_slice.ensures.spares same c.commit.ensures.survives in
     let it = c.in-Ok.ensures.taken in
-    let R = λ (a b : Database). parts_under c.args.number b < parts_under c.args.number a in
+    let R = λ (a b : Database). rows_left_under c.args.number b < rows_left_under c.args.number a in
     let turned = made_open tx (TurnsRecords (with_parts_that it.stays)) c.in-Ok.ensures.lives it.wrote.turns c.in-Ok.ensures.sound in
     let loses = made_open tx (LosesParts c.args.number) c.in-Ok.ensures.lives (λ clean. record { stays = it.stays; others = it.others; turns = it.wrote.turns clean }) c.in-Ok.ensures.sound in
     record {

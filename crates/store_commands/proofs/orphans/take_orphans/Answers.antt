@@ -8,7 +8,7 @@ use Rattle.dict_catalogue.specs.Items.{edition_numbers}
 use Rattle.dict_catalogue.specs.Views.{summary_shown}
 use Rattle.store_holdings.specs.Committed.{IsCommitted}
 use Rattle.store_commands.specs.Marking.{Remains}
-use Rattle.store_commands.specs.Orphans.{LosesParts, FailsToTakeOut, FailsToTakeOrphans, parts_under}
+use Rattle.store_commands.specs.Orphans.{LosesParts, FailsToTakeOut, FailsToTakeOrphans, rows_left_under}
 use Rattle.store_commands.proofs.DraftLemmas.{on_ok}
 use Rattle.store_commands.proofs.LoopLemmas.{each_err}
 use Rattle.store_commands.proofs.FinishLemmas.{usable_by}
@@ -40,10 +40,10 @@ returns-clause-fewer g c clean =
     let old = state g.S.Store c.args.conn.now in
     let new = state g.S.Store c.commit_slice.new.conn in
     let L = IsCommitted (λ db. IsTrue old.is_open × LosesParts number old.now db) new in
-    let less : Database → Bool → Type 0 = λ db more. more ≡ true → parts_under number new.committed < parts_under number db in
+    let less : Database → Bool → Type 0 = λ db more. more ≡ true → rows_left_under number new.committed < rows_left_under number db in
     with_ok c.commit_slice.result L (less old.now) (less old.committed)
     (c.commit_slice.ensures.made clean)
-    (λ made more fewer some. subst (λ db. parts_under number new.committed < parts_under number db) (c.requires.holds (clean_before old new c.commit_slice.ensures.crash clean) made.holds.0).1.settled (fewer some))
+    (λ made more fewer some. subst (λ db. rows_left_under number new.committed < rows_left_under number db) (c.requires.holds (clean_before old new c.commit_slice.ensures.crash clean) made.holds.0).1.settled (fewer some))
     (c.commit_slice.ensures.fewer clean)
 
 pub returns-clause-failed : goal.returns-clause-failed
