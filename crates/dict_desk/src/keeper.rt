@@ -28,7 +28,8 @@ pub trait Keeper: Lookup {
     /// The reply that is kept under the id of a request, if there is one.
     fn kept(&mut self, id: &str) -> Result<Option<Kept>, Fault>
         ensures value { Self.is_trusted self.new → (M : Catalogue) → Self.shows self.old M → IfOk result (λ reply. option_map kept_shown reply ≡ kept_under M.kept id.now) }
-        ensures keeps { KeepsCatalogue Self.shows Self.leaves_one_of Self.keeps_beside Self.is_trusted Self.has_failed Self.is_closed Self.gives_way false self.old self.new result };
+        ensures keeps { KeepsCatalogue Self.shows Self.leaves_one_of Self.keeps_beside Self.is_trusted Self.has_failed Self.is_closed Self.gives_way false self.old self.new result }
+        ensures reads { Self.only_reads self.old self.new };
 
     /// Applies a command under the id of its request: the whole of it, or nothing.
     ///

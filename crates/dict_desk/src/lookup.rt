@@ -1,5 +1,5 @@
 // What finds entries in a catalogue.
-ghost use Rattle.std.specs.Prelude.{◌≡◌, ℕ, Bool, true, false, List, Option, Contains, IsOk, IfOk, Ok, Err};
+ghost use Rattle.std.specs.Prelude.{◌≡◌, ℕ, Bool, true, false, List, Option, Contains, IsOk, IfOk, Ok, Err, ⊤};
 ghost use Rattle.dict_index.specs.Edition.{Edition};
 ghost use Rattle.dict_catalogue.specs.Steps.{Catalogue, summary_of};
 ghost use Rattle.dict_catalogue.specs.Views.{summary_shown};
@@ -55,6 +55,9 @@ pub trait Lookup {
     // Between two of its states it has counted so many looks at least: at entries, and at what was read of its store.
     ghost looks_at: { Self → Self → ℕ → Type 0 };
 
+    // Between two of its states nothing was written to its store, and of a command that may come as much is prepared as was.
+    ghost only_reads: { Self → Self → Type 0 } = { λ _ _. ⊤ };
+
     // Its store failed, and it answers no more.
     ghost is_closed: { Self → Bool };
 
@@ -75,7 +78,8 @@ pub trait Lookup {
         ensures value { is_trusted self.new → (M : Catalogue) (edition : Edition) → shows self.old M → HasEdition M number edition → Hands T.takes T.stops sink.old sink.new (info_rows edition) result }
         ensures looks { is_trusted self.new → (M : Catalogue) (edition : Edition) → shows self.old M → HasEdition M number edition → result ≡ Ok End.All → looks_at self.old self.new 1 }
         ensures handed { (rows : List Row) × Hands T.takes T.stops sink.old sink.new rows result }
-        ensures keeps { KeepsCatalogue shows leaves_one_of keeps_beside is_trusted has_failed is_closed gives_way false self.old self.new result };
+        ensures keeps { KeepsCatalogue shows leaves_one_of keeps_beside is_trusted has_failed is_closed gives_way false self.old self.new result }
+        ensures reads { only_reads self.old self.new };
 
     /// How many entries of the edition the query finds by the strategy, or how many headwords are shown of them.
     fn count(
@@ -87,7 +91,8 @@ pub trait Lookup {
     ) -> Result<u64, Fault>
         ensures value { is_trusted self.new → (M : Catalogue) (edition : Edition) → shows self.old M → HasEdition M number edition → IfOk result (λ count. count ≡ count_of what strategy query.now edition) }
         ensures looks { is_trusted self.new → (M : Catalogue) (edition : Edition) → shows self.old M → HasEdition M number edition → (count : ℕ) → result ≡ Ok count → looks_at self.old self.new (count_of What.Entries strategy query.now edition) }
-        ensures keeps { KeepsCatalogue shows leaves_one_of keeps_beside is_trusted has_failed is_closed gives_way false self.old self.new result };
+        ensures keeps { KeepsCatalogue shows leaves_one_of keeps_beside is_trusted has_failed is_closed gives_way false self.old self.new result }
+        ensures reads { only_reads self.old self.new };
 
     /// Hands the entries of the edition that the query finds by the strategy to the sink, in the order of the index,
     /// each as a row of what is shown of it and its text; or the headwords shown of them, each once, in the order in
@@ -103,7 +108,8 @@ pub trait Lookup {
         ensures value { is_trusted self.new → (M : Catalogue) (edition : Edition) → shows self.old M → HasEdition M number edition → Hands T.takes T.stops sink.old sink.new (rows_given what strategy query.now edition) result }
         ensures looks { is_trusted self.new → (M : Catalogue) (edition : Edition) → shows self.old M → HasEdition M number edition → result ≡ Ok End.All → looks_at self.old self.new (count_of What.Entries strategy query.now edition) }
         ensures handed { (rows : List Row) × Hands T.takes T.stops sink.old sink.new rows result }
-        ensures keeps { KeepsCatalogue shows leaves_one_of keeps_beside is_trusted has_failed is_closed gives_way false self.old self.new result };
+        ensures keeps { KeepsCatalogue shows leaves_one_of keeps_beside is_trusted has_failed is_closed gives_way false self.old self.new result }
+        ensures reads { only_reads self.old self.new };
 
     // A catalogue that is shown keeps all limits and rules.
     ghost well_formed: { (s : Self) (M : Catalogue) → shows s M → IsWellFormed M };

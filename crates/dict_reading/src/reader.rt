@@ -1,5 +1,5 @@
 // How far an edition was read.
-ghost use Rattle.std.specs.Prelude.{◌≡◌, ◌↔◌, ◌+◌, ◌-◌, ◌<◌, ◌^◌, ℕ, List, IfErr, IfOk, OnErr, OnOk, IsTrue, length};
+ghost use Rattle.std.specs.Prelude.{◌≡◌, ◌↔◌, ◌+◌, ◌-◌, ◌<◌, ◌≤◌, ◌^◌, ℕ, List, IfErr, IfOk, OnErr, OnOk, IsTrue, length};
 ghost use Rattle.dict_index.specs.Meaning.{IsReadEdition};
 ghost use Rattle.dict_index.specs.Refused.{IsIndexFault};
 ghost use Rattle.dict_reading.specs.Lines.{line_told_at};
@@ -122,6 +122,7 @@ impl EditionReader {
         ensures read { HasRead index.now text.now self.new }
         ensures left { IfOk result (λ more. IsTrue more ↔ ¬ IsAtEnd index.now self.new) }
         ensures some { OnOk result (¬ IsAtEnd index.now self.old → self.old.number < self.new.number) }
+        ensures forward { self.old.number ≤ self.new.number }
         ensures slice { IsSlice index.now self.old.number (self.new.number - self.old.number) }
         ensures refused { IfErr result (λ fault. IsIndexFault fault index.now text.now) }
     {
