@@ -17,6 +17,7 @@ impl<S: Alter + Drop> Lookup for Desk<S> {
     ghost use Rattle.store_desk.specs.Causes.{GivesWay};
     ghost use Rattle.store_desk.specs.DeskLaws.{open_unless_failed};
     ghost use Rattle.store_desk.specs.Left.{CountsLook};
+    ghost use Rattle.store_desk.specs.OnlyReads.{OnlyReads};
 
     ghost shows = { λ s M. Shows S.Store s M };
 
@@ -29,6 +30,8 @@ impl<S: Alter + Drop> Lookup for Desk<S> {
     ghost is_trusted = { λ s. HasCleanDisk (state S.Store s.conn) };
 
     ghost looks_at = { λ old new few. CountsLook old.counts new.counts few };
+
+    ghost only_reads = { OnlyReads S.Store };
 
     ghost is_closed = { λ s. is_closed s.last };
 

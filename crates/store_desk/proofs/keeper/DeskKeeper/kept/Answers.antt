@@ -7,6 +7,7 @@ use Rattle.dict_catalogue.specs.Views.{summary_shown, kept_shown}
 use Rattle.store_commands.specs.KeptRecords.{HoldsReplies}
 use Rattle.store_desk.specs.Desk.{DeskState, Shows, LeavesOneOf, is_closed, KeepsBeside}
 use Rattle.store_desk.specs.Left.{counted}
+use Rattle.store_desk.specs.OnlyReads.{OnlyReads}
 use Rattle.store_desk.proofs.CauseLemmas.{reply_gives_way}
 use Rattle.store_desk.proofs.BesideLemmas.{beside_on}
 use Rattle.store_desk.proofs.DeskLemmas.{clean_behind, desk_on, leaves_on, replies_stay, shows_on}
@@ -77,3 +78,19 @@ returns-clause-keeps g c =
       closes = search rules;
       closed = search rules;
     }
+
+pub returns-clause-reads : goal.returns-clause-reads
+returns-clause-reads g c =
+    let new : DeskState _ = record {
+      conn = c.kept_reply-outcome.new.conn;
+      summary = summary_shown c.self.inside.summary;
+      last = c.last_by-self-inside.result;
+      indexes = c.self.inside.indexes;
+      texts = c.forget_by.new.texts;
+      counts = counted c.self.inside.rows_taken c.self.inside.is_log_long c.self.inside.orphans c.self.inside.draft c.self.inside.filing;
+    } in
+    subst (λ (d : DeskState _). OnlyReads g.S.Store d new) c.self.view_is (record {
+      survives = c.kept_reply-outcome.ensures.survives;
+      stays = λ clean. replies_stay (state g.S.Store c.self.inside.conn) (state g.S.Store c.kept_reply-outcome.new.conn) c.kept_reply-outcome.result (c.kept_reply-outcome.ensures.same clean) (c.kept_reply-outcome.ensures.failed clean);
+      same = refl;
+    })

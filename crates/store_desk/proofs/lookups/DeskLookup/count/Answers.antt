@@ -1,4 +1,4 @@
-use Rattle.std.proofs.Common.{◌≡◌, ℕ, false, sym, ap, subst, refl, rules}
+use Rattle.std.proofs.Common.{◌≡◌, ℕ, List, false, sym, ap, subst, refl, rules}
 use Rattle.std.specs.Prelude.{Result, OnOk}
 use Rattle.sqlite.specs.State.{HasCleanDisk}
 use Rattle.sqlite.specs.Held.{state}
@@ -7,11 +7,13 @@ use Rattle.dict_desk.specs.Shown.{count_of}
 use Rattle.dict_desk.specs.declared.fault.Fault.{Fault}
 use Rattle.dict_desk.specs.declared.lookup.What.TheVariants.{Entries}
 use Rattle.store_holdings.specs.Taken.{LooksAt}
+use Rattle.store_search.specs.Entries.{Indexed}
 use Rattle.store_desk.specs.Desk.{DeskState, Shows, LeavesOneOf, is_closed, KeepsBeside}
 use Rattle.store_holdings.specs.Indexes.{entries_under}
 use Rattle.store_holdings.proofs.StateLemmas.{each_ok}
+use Rattle.store_desk.specs.OnlyReads.{OnlyReads}
 use Rattle.store_desk.proofs.CauseLemmas.{memory_gives_way}
-use Rattle.store_desk.proofs.DeskLemmas.{texts_keep}
+use Rattle.store_desk.proofs.DeskLemmas.{texts_keep, same_stays, survives_itself}
 use Rattle.store_desk.proofs.PreparingLemmas.{rests_as, shows_as}
 use Rattle.store_desk.proofs.ServedLemmas.{served_one}
 use Rattle.store_desk.specs.KeptParts.{KeepsTexts}
@@ -84,4 +86,20 @@ returns-clause-looks g c = λ clean M edition shown has count all.
       taken = subst (λ (r : Result ℕ Fault). OnOk r (LooksAt c.self.inside.rows_taken c.count_under-outcome.new.rows_taken (count_of Entries c.args.strategy c.args.query.now edition))) all
           (c.count_under-outcome.ensures.looks one.index edition one.stands (one.text, one.cuts));
       same = refl;
+    })
+
+pub returns-clause-reads : goal.returns-clause-reads
+returns-clause-reads g c =
+    let new : DeskState _ = record {
+      conn = c.self.inside.conn;
+      summary = summary_shown c.self.inside.summary;
+      last = c.last_by-self-inside.result;
+      indexes = c.count_under-outcome.new.indexes;
+      texts = c.forget_by.new.texts;
+      counts = counted c.count_under-outcome.new.rows_taken c.self.inside.is_log_long c.self.inside.orphans c.self.inside.draft c.self.inside.filing;
+    } in
+    subst (λ (d : DeskState _). OnlyReads g.S.Store d new) c.self.view_is (record {
+      survives = survives_itself (state g.S.Store c.self.inside.conn) (λ _. ⊥);
+      stays = λ clean. same_stays (state g.S.Store c.self.inside.conn);
+      same = ap (λ (indexes : List (ℕ × List Indexed)). record new { indexes = indexes }) c.count_under-outcome.ensures.indexes;
     })

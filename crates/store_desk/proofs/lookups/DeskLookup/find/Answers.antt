@@ -14,6 +14,7 @@ use Rattle.store_holdings.proofs.AskLemmas.{clean_first}
 use Rattle.store_holdings.proofs.HeldLemmas.{held_tables}
 use Rattle.store_desk.specs.Desk.{DeskState, Shows, LeavesOneOf, is_closed, KeepsBeside}
 use Rattle.store_desk.specs.Left.{CountsLook, counted}
+use Rattle.store_desk.specs.OnlyReads.{OnlyReads}
 use Rattle.store_desk.proofs.CauseLemmas.{found_gives_way}
 use Rattle.store_desk.proofs.BesideLemmas.{beside_on}
 use Rattle.store_desk.proofs.DeskLemmas.{found_stays, leaves_on, desk_on, shows_with, parts_after}
@@ -128,4 +129,20 @@ returns-clause-looks g c = λ clean M edition shown has all.
     subst (λ (d : DeskState _). CountsLook d.counts now (count_of Entries c.args.strategy c.args.query.now edition)) c.self.view_is (record {
       taken = c.hand_rows-outcome.ensures.looks one.index edition one.stands (one.text, one.cuts) all;
       same = refl;
+    })
+
+pub returns-clause-reads : goal.returns-clause-reads
+returns-clause-reads g c =
+    let new : DeskState _ = record {
+      conn = c.hand_rows-outcome.new.conn;
+      summary = summary_shown c.self.inside.summary;
+      last = c.last_by-self-inside.result;
+      indexes = c.hand_rows-outcome.new.indexes;
+      texts = c.forget_by.new.texts;
+      counts = counted c.hand_rows-outcome.new.rows_taken c.self.inside.is_log_long c.self.inside.orphans c.self.inside.draft c.self.inside.filing;
+    } in
+    subst (λ (d : DeskState _). OnlyReads g.S.Store d new) c.self.view_is (record {
+      survives = c.hand_rows-outcome.ensures.reads.survives;
+      stays = found_stays g.S.Store c.args.number c.self.inside.conn c.hand_rows-outcome.new.conn c.hand_rows-outcome.result c.hand_rows-outcome.ensures.reads;
+      same = ap (λ (indexes : List (ℕ × List Indexed)). record new { indexes = indexes }) c.hand_rows-outcome.ensures.indexes;
     })

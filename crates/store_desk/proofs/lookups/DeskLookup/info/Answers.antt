@@ -13,6 +13,7 @@ use Rattle.store_holdings.proofs.AskLemmas.{clean_first, reads_most}
 use Rattle.store_holdings.proofs.HeldLemmas.{held_one, held_tables}
 use Rattle.store_desk.specs.Desk.{DeskState, Shows, LeavesOneOf, is_closed, KeepsBeside}
 use Rattle.store_desk.specs.Left.{CountsLook, counted}
+use Rattle.store_desk.specs.OnlyReads.{OnlyReads}
 use Rattle.store_desk.proofs.CauseLemmas.{found_gives_way}
 use Rattle.store_desk.proofs.BesideLemmas.{beside_on}
 use Rattle.store_desk.proofs.DeskLemmas.{found_stays, leaves_on, desk_on, handed_by, shows_on}
@@ -108,5 +109,21 @@ returns-clause-looks g c = λ clean M edition shown has all.
           let one = held_one (state g.S.Store c.self.inside.conn).now M c.args.number edition holds has in
           c.info-outcome.ensures.taken clean one.0 one.1)
           (λ dead. (c.info-outcome.ensures.shut clean dead).0) all;
+      same = refl;
+    })
+
+pub returns-clause-reads : goal.returns-clause-reads
+returns-clause-reads g c =
+    let new : DeskState _ = record {
+      conn = c.info-outcome.new.conn;
+      summary = summary_shown c.self.inside.summary;
+      last = c.last_by-self-inside.result;
+      indexes = c.self.inside.indexes;
+      texts = c.forget_by.new.texts;
+      counts = counted c.info-outcome.new.rows_taken c.self.inside.is_log_long c.self.inside.orphans c.self.inside.draft c.self.inside.filing;
+    } in
+    subst (λ (d : DeskState _). OnlyReads g.S.Store d new) c.self.view_is (record {
+      survives = c.info-outcome.ensures.reads.survives;
+      stays = found_stays g.S.Store c.args.number c.self.inside.conn c.info-outcome.new.conn c.info-outcome.result (reads_most c.info-outcome.ensures.reads (λ fault h. inr h));
       same = refl;
     })
