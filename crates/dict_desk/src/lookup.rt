@@ -61,7 +61,7 @@ pub trait Lookup {
     // Its store failed, and it answers no more.
     ghost is_closed: { Self → Bool };
 
-    // Its last call by `&mut self` answered a fault from 40 on.
+    // Its last call by `&mut self` answered a fault from 40 on, or one before did, behind which commands were only prepared.
     ghost has_failed: { Self → Bool };
 
     // Between two of its states a call that changes no catalogue failed by this fault, for a cause that this names.

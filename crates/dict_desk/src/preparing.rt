@@ -1,5 +1,5 @@
 // A keeper that prepares a command before it comes.
-ghost use Rattle.std.specs.Prelude.{◌≡◌, ◌↔◌, ◌||◌, Bool, true, false, List, Option, Result, IfErr, Ok, Err, is_some};
+ghost use Rattle.std.specs.Prelude.{◌≡◌, ◌↔◌, ◌||◌, Bool, true, false, List, Option, Result, IfErr, OnOk, Ok, Err, is_some, ⊤};
 ghost use Rattle.dict_index.specs.Edition.{ReadEdition, edition_of};
 ghost use Rattle.dict_index.specs.Meaning.{IsReadEdition, IsFault};
 ghost use Rattle.dict_catalogue.specs.Commands.{install};
@@ -29,6 +29,9 @@ pub trait Preparer: Keeper {
     // Between two of its states it was asked to prepare a part of what it was told of last, and answered so. What holds a command
     // back tells by it that there is more of it to prepare.
     ghost prepares: { Self → Result Bool Failure → Self → Type 0 };
+
+    // Between two of its states it let go of what it was told of, and of all that was prepared of it.
+    ghost forgets: { Self → Self → Type 0 } = { λ _ _. ⊤ };
 
     // Between two of its states a call that prepares failed by this fault, for a cause that this names.
     ghost fails_to_prepare: { Self → Self → Failure → Type 0 };
@@ -86,6 +89,7 @@ pub trait Preparer: Keeper {
 
     /// Lets go of what was noted last, and of what was prepared of it.
     fn forget(&mut self) -> Result<(), Fault>
+        ensures gone { OnOk result (forgets self.old self.new) }
         ensures keeps { KeepsCatalogue Self.shows Self.leaves_one_of Self.keeps_beside Self.is_trusted Self.has_failed Self.is_closed fails_to_prepare (Self.has_failed self.old) self.old self.new result };
 }
 

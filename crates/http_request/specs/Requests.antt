@@ -13,7 +13,7 @@ pub record EditorRequest : Type 0 where
   pub method : List ℕ
   -- the target of the head, octet by octet
   pub target : List ℕ
-  -- the values of the headers `EditorRequest-Id`
+  -- the values of the headers `Request-Id`
   pub ids : List (List ℕ)
   pub body : List ℕ
 

@@ -29,7 +29,7 @@ pub struct EditorRequest<'r> {
     pub method: &'r [u8],
     /// The target, as it stands in the head. Nothing in it is decoded.
     pub target: &'r str,
-    /// The values of the headers `EditorRequest-Id`.
+    /// The values of the headers `Request-Id`.
     pub ids: Values<'r>,
     pub body: &'r [u8],
     /// How many octets head and body have.
