@@ -1,5 +1,5 @@
 // A keeper that prepares a command before it comes.
-ghost use Rattle.std.specs.Prelude.{◌≡◌, ◌↔◌, ◌||◌, Bool, true, false, List, Option, Result, IfErr, OnOk, Ok, Err, is_some, ⊤};
+ghost use Rattle.std.specs.Prelude.{◌≡◌, ◌↔◌, ◌||◌, Bool, true, false, List, Option, Result, IfErr, OnOk, Ok, Err, None, is_some, ⊤};
 ghost use Rattle.dict_index.specs.Edition.{ReadEdition, edition_of};
 ghost use Rattle.dict_index.specs.Meaning.{IsReadEdition, IsFault};
 ghost use Rattle.dict_catalogue.specs.Commands.{install};
@@ -76,6 +76,7 @@ pub trait Preparer: Keeper {
         // it was refused: by the first test that these files don't pass, and nothing was done
         ensures refused { IfRefused result (λ refusal line. IsFault index.now text.now refusal line × (self.new ≡ self.old)) }
         // what was prepared is let go of, by all that holds of `forget`
+        ensures gone { result ≡ Ok None → forgets self.old self.new }
         ensures shows { Self.is_trusted self.new → (M : Catalogue) → Self.shows self.old M → IfLetGo result (λ _. Self.shows self.new M) }
         ensures leaves { (ms : List (Option Catalogue)) → Self.leaves_one_of self.old ms → IfLetGo result (λ _. Self.leaves_one_of self.new ms) }
         ensures kinds { IfErr result IsOfLookup }

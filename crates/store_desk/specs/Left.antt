@@ -73,6 +73,10 @@ recounted old new = record old { left = new.left; filed = new.filed }
 abbrev pub counted : ℕ → Bool → OrphansState → Option DraftState → Option ComingState → Counts
 counted taken is_log_long orphans draft coming = record { taken = taken; left = left_to_prepare is_log_long orphans draft coming; filed = has_filed coming }
 
+-- nothing is noted of a change that may come, and nothing of it is read or filed
+abbrev pub HasForgotten : Counts → Type 0
+HasForgotten counts = (is_log_long : Bool) × (orphans : OrphansState) × (counts ≡ record counts { left = left_to_prepare is_log_long orphans None None; filed = false })
+
 -- a lookup took so many entries and rows at least; what is left to prepare, and whether parts are filed, is as it was
 pub record CountsLook (old new : Counts) (few : ℕ) : Type 0 where
   pub taken : LooksAt old.taken new.taken few

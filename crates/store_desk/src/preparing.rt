@@ -13,7 +13,7 @@ ghost use Rattle.store_holdings.specs.Committed.{IsCommitted, IsTreesOf};
 ghost use Rattle.store_desk.specs.Causes.{FailsToPrepare};
 ghost use Rattle.store_desk.specs.Desk.{HasFiled, has_failed, is_closed};
 ghost use Rattle.store_commands.specs.Left.{IsLess};
-ghost use Rattle.store_desk.specs.Left.{coming_left, install_left, reading_left, recounted};
+ghost use Rattle.store_desk.specs.Left.{HasForgotten, coming_left, install_left, reading_left, recounted};
 ghost use Rattle.store_desk.specs.Prepared.{HasCommittedSame, KeepsDesk, last_behind};
 
 use crate::adopting::is_whole;
@@ -239,6 +239,9 @@ impl<S: Alter + Drop> Preparer for Desk<S> {
     // log was copied, parts of no edition were taken out, or some of the edition that comes were filed, by a commit that changes nothing that is held.
     ghost prepares = { λ old result desk. (result ≡ Ok true → IsLess desk.counts.left old.counts.left)
         × (HasCleanDisk (state S.Store desk.conn) → result ≡ Ok true → (desk ≡ record old { counts = recounted old.counts desk.counts }) ⊎ HasCommittedSame S.Store old desk) };
+
+    // Nothing is left to prepare of what was noted, and nothing of it is filed.
+    ghost forgets = { λ _ desk. HasForgotten desk.counts };
 
     ghost fails_to_prepare = { FailsToPrepare S.Store };
 

@@ -98,30 +98,30 @@ returns-in-Some-finish-clause-closed g c =
 pub returns-clause-trust : goal.returns-clause-trust
 returns-clause-trust g c = λ clean.
     clean_behind (state g.S.Store c.args.self.now.conn) (state g.S.Store c.finish.new.self.conn) (none_by c.finish.result c.in_default-finish.not-Some c.finish.ensures.survives)
-    (subst (λ (d : DeskState _). HasCleanDisk (state g.S.Store d.conn)) c.let_go_of_prepared.ensures clean)
+    (subst (λ (d : DeskState _). HasCleanDisk (state g.S.Store d.conn)) c.let_go_of_prepared.ensures.same clean)
 
 pub returns-clause-shows : goal.returns-clause-shows
 returns-clause-shows g c = λ clean M shown.
-    let mid : HasCleanDisk (state g.S.Store c.finish.new.self.conn) = subst (λ (d : DeskState _). HasCleanDisk (state g.S.Store d.conn)) c.let_go_of_prepared.ensures clean in
-    shows_but_counts g.S.Store c.finish.new.self c.let_go_of_prepared.new.self c.let_go_of_prepared.ensures M (none_by c.finish.result c.in_default-finish.not-Some (c.finish.ensures.shows mid M shown))
+    let mid : HasCleanDisk (state g.S.Store c.finish.new.self.conn) = subst (λ (d : DeskState _). HasCleanDisk (state g.S.Store d.conn)) c.let_go_of_prepared.ensures.same clean in
+    shows_but_counts g.S.Store c.finish.new.self c.let_go_of_prepared.new.self c.let_go_of_prepared.ensures.same M (none_by c.finish.result c.in_default-finish.not-Some (c.finish.ensures.shows mid M shown))
 
 pub returns-clause-leaves : goal.returns-clause-leaves
 returns-clause-leaves g c = λ ms left.
-    subst (λ (d : DeskState _). LeavesOneOf g.S.Store d ms) (sym c.let_go_of_prepared.ensures)
+    subst (λ (d : DeskState _). LeavesOneOf g.S.Store d ms) (sym c.let_go_of_prepared.ensures.same)
     (leaves_on g.S.Store c.args.self.now c.finish.new.self (none_by c.finish.result c.in_default-finish.not-Some c.finish.ensures.survives) ms left)
 
 pub returns-clause-beside : goal.returns-clause-beside
 returns-clause-beside g c = λ db kept.
-    subst (λ (d : DeskState _). KeepsBeside g.S.Store d db) (sym c.let_go_of_prepared.ensures)
+    subst (λ (d : DeskState _). KeepsBeside g.S.Store d db) (sym c.let_go_of_prepared.ensures.same)
     (beside_on g.S.Store c.args.self.now c.finish.new.self (none_by c.finish.result c.in_default-finish.not-Some c.finish.ensures.survives) db kept)
 
 pub returns-clause-failed : goal.returns-clause-failed
 returns-clause-failed g c =
-    ap has_failed (ap (λ (d : DeskState _). d.last) c.let_go_of_prepared.ensures ∙ none_by c.finish.result c.in_default-finish.not-Some c.finish.ensures.last) ∙ sym (or_false (has_failed c.args.self.now.last))
+    ap has_failed (ap (λ (d : DeskState _). d.last) c.let_go_of_prepared.ensures.same ∙ none_by c.finish.result c.in_default-finish.not-Some c.finish.ensures.last) ∙ sym (or_false (has_failed c.args.self.now.last))
 
 pub returns-clause-closes : goal.returns-clause-closes
 returns-clause-closes g c =
-    ap is_closed (ap (λ (d : DeskState _). d.last) c.let_go_of_prepared.ensures ∙ none_by c.finish.result c.in_default-finish.not-Some c.finish.ensures.last) ∙ sym (or_false (is_closed c.args.self.now.last))
+    ap is_closed (ap (λ (d : DeskState _). d.last) c.let_go_of_prepared.ensures.same ∙ none_by c.finish.result c.in_default-finish.not-Some c.finish.ensures.last) ∙ sym (or_false (is_closed c.args.self.now.last))
 
 pub returns-clause-closed : goal.returns-clause-closed
 returns-clause-closed g c =
