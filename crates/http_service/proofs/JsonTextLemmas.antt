@@ -6,27 +6,14 @@ use Rattle.serde_json.specs.View.{items_of}
 use Rattle.serde_json.specs.Written.{compact_text, items_text, has_float, items_have_float}
 use Rattle.serde_json.proofs.OnLiterals.{serde_json_on_literals}
 use Rattle.dict_catalogue.specs.Items.{Stored, Item, regular, virtual}
-use Rattle.dict_catalogue.specs.Effects.{KeptReply}
 use Rattle.dict_catalogue.specs.declared.fault.CommandRefusal.{CommandRefusal}
 use Rattle.dict_index.specs.declared.fault.EditionRefusal as editions
-use Rattle.http_service.specs.Texts.{with_commas, kept_text, refused_command_text, refused_edition_text, item_text, list_text}
-use Rattle.http_service.specs.Values.{texts_value, kept_value, refused_command_value, refused_edition_value, item_value}
-
-kept_parts : (edition : Option ℕ) (kept : KeptReply) → compact_text (kept_value (record kept { edition = edition })) ≡ kept_text (record kept { edition = edition })
-unfolding serde_json_on_literals
-kept_parts (Some n) kept = refl
-kept_parts None kept = refl
-
-kept_no_float : (edition : Option ℕ) (kept : KeptReply) → has_float (kept_value (record kept { edition = edition })) ≡ false
-kept_no_float (Some n) kept = refl
-kept_no_float None kept = refl
+use Rattle.http_service.specs.Texts.{with_commas, refused_command_text, refused_edition_text, item_text, list_text}
+use Rattle.http_service.specs.Values.{texts_value, refused_command_value, refused_edition_value, item_value}
 
 -- the text that is written for a value that is this one
 written : (d e : Data) (s t : List ℕ) → d ≡ e → has_float e ≡ false → compact_text e ≡ t → (has_float d ≡ false → s ≡ compact_text d) → s ≡ t
 written d e s t is none text h = h (ap has_float is ∙ none) ∙ (ap compact_text is ∙ text)
-
-pub kept_written : (kept : KeptReply) (d : Data) (s : List ℕ) → d ≡ kept_value kept → (has_float d ≡ false → s ≡ compact_text d) → s ≡ kept_text kept
-kept_written kept d s is h = written d (kept_value kept) s (kept_text kept) is (kept_no_float kept.edition kept) (kept_parts kept.edition kept) h
 
 command_parts : (refusal : CommandRefusal) → compact_text (refused_command_value refusal) ≡ refused_command_text refusal
 unfolding serde_json_on_literals

@@ -1,5 +1,5 @@
 -- The octets of answers. RFC 9112, section 4; which header fields and bodies there are is this server's.
-use Rattle.std.specs.Prelude.{ℕ, List, [], ◌++◌, length, codes, decimal, string_bytes}
+use Rattle.std.specs.Prelude.{ℕ, List, [], ◌++◌, length, codes, decimal}
 use Rattle.http_request.specs.Statuses.{status_code, reason_phrase}
 use Rattle.http_request.specs.declared.statuses.Status.{Status}
 use Rattle.http_request.specs.declared.statuses.Status.TheVariants.{Ok, BadRequest, NotFound, MethodNotAllowed, Conflict, ContentTooLarge, UnprocessableContent, ServiceUnavailable}
@@ -59,4 +59,4 @@ unavailable_text = response_text (plain ServiceUnavailable)
 
 abbrev pub answer_octets : Answer → List ℕ
 answer_octets (Fixed text) = text.now
-answer_octets (Made text) = string_bytes text
+answer_octets (Made octets) = octets.items

@@ -1,14 +1,12 @@
--- The same as values of `serde_json`.
+-- The texts of refusals and of the list as values of `serde_json`.
 use Rattle.std.specs.Prelude.{ℕ, List, map, option_map, Option, Some, None, codes}
 use Rattle.serde_json.specs.Data.{Data, object, no_members, member, number, unsigned, null, string, array}
 use Rattle.serde_json.specs.View.{items_of}
 use Rattle.dict_catalogue.specs.Items.{Item, regular, virtual}
-use Rattle.dict_catalogue.specs.Effects.{KeptReply}
 use Rattle.dict_catalogue.specs.Refusals.{command_refusal_number, command_refusal_name}
 use Rattle.dict_catalogue.specs.declared.fault.CommandRefusal.{CommandRefusal}
 use Rattle.dict_index.specs.Refusals.{refusal_number as edition_refusal_number, refusal_name as edition_refusal_name}
 use Rattle.dict_index.specs.declared.fault.EditionRefusal as editions
-use Rattle.http_service.specs.Texts.{verb_text}
 
 abbrev pub maybe_number : Option ℕ → Data
 maybe_number (Some n) = number (unsigned n)
@@ -16,11 +14,6 @@ maybe_number None = null
 
 abbrev pub texts_value : List (List ℕ) → Data
 texts_value texts = array (items_of (map string texts))
-
-abbrev pub kept_value : KeptReply → Data
-kept_value kept =
-    object (member (codes "edition") (maybe_number kept.edition) (member (codes "name") (string kept.name)
-    (member (codes "number") (number (unsigned kept.number)) (member (codes "verb") (string (verb_text kept.verb)) no_members))))
 
 abbrev pub refused_command_value : CommandRefusal → Data
 refused_command_value refusal =

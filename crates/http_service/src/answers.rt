@@ -12,7 +12,7 @@ use std::alloc::{AllocError, Global};
 pub enum Answer {
     /// An answer that is the same each time. It takes no memory.
     Fixed(&'static str),
-    Made(String),
+    Made(Vec<u8>),
 }
 
 ghost use Rattle.dict_proto.specs.Streams.{Puts};
@@ -24,7 +24,7 @@ impl Answer {
     {
         match self {
             Answer::Fixed(text) => text.as_bytes(),
-            Answer::Made(text) => text.as_bytes(),
+            Answer::Made(octets) => octets.as_slice(),
         }
     }
 
@@ -96,14 +96,16 @@ pub fn method_not_allowed(route: Route) -> Answer
 }
 
 /// The answer with this status and body.
-pub fn made(alloc: Global, status: Status, body: &str) -> Result<Answer, AllocError>
+pub fn made(alloc: Global, status: Status, body: &[u8]) -> Result<Answer, AllocError>
     ensures { IfOk result (λ answer. answer_octets answer ≡ response_text (with_body status body.now)) }
 {
     let code = status.code();
     let reason = status.reason();
     let len = body.len();
-    let text = format!(in alloc;
-        "HTTP/1.1 {code} {reason}\r\nContent-Type: application/json\r\nContent-Length: {len}\r\nConnection: close\r\n\r\n{body}"
+    let head = format!(in alloc;
+        "HTTP/1.1 {code} {reason}\r\nContent-Type: application/json\r\nContent-Length: {len}\r\nConnection: close\r\n\r\n"
     )?;
-    Ok(Answer::Made(text))
+    let mut octets = head.into_bytes();
+    octets.extend_from_slice(body)?;
+    Ok(Answer::Made(octets))
 }

@@ -16,15 +16,17 @@ use crate::actions::Action;
 use crate::answers::{Answer, bad_request, made, unavailable};
 use crate::bodies::{read_json, read_place, read_virtual};
 use crate::parts::parts_of;
+use crate::putting::put_kept;
 use crate::replies::{refused_command_json, refused_edition_json};
 use dict_catalogue::{Command, CommandRefusal, Kept};
 use dict_desk::{Answered, Fault, Keeper, Preparer};
 use dict_index::{Edition, EditionRefusal, IndexFault, read_edition};
+use dict_proto::OverWrite;
 use http_request::Status;
 use std::alloc::Global;
 
 // The answer with this status and body, or the one for want of memory.
-pub fn with_text(alloc: Global, status: Status, body: &str) -> Answer
+pub fn with_text(alloc: Global, status: Status, body: &[u8]) -> Answer
     ensures { IsAnswer (answer_octets result) (with_body status body.now) }
 {
     match made(alloc, status, body) {
@@ -37,8 +39,9 @@ pub fn with_text(alloc: Global, status: Status, body: &str) -> Answer
 fn kept_answer(alloc: Global, kept: &Kept) -> Answer
     ensures { IsAnswer (answer_octets result) (with_body statuses.Ok (kept_text (kept_shown kept.now))) }
 {
-    match crate::replies::kept_json(alloc, kept) {
-        Ok(body) => with_text(alloc, Status::Ok, body.as_str()),
+    let mut body = OverWrite::new(Vec::new(alloc));
+    match put_kept(&mut body, kept) {
+        Ok(()) => with_text(alloc, Status::Ok, body.into_inner().as_slice()),
         Err(_) => unavailable(),
     }
 }
@@ -48,7 +51,7 @@ fn refused_command(alloc: Global, refusal: CommandRefusal) -> Answer
     ensures { IsAnswer (answer_octets result) (with_body statuses.Conflict (refused_command_text refusal)) }
 {
     match refused_command_json(alloc, refusal) {
-        Ok(body) => with_text(alloc, Status::Conflict, body.as_str()),
+        Ok(body) => with_text(alloc, Status::Conflict, body.as_bytes()),
         Err(_) => unavailable(),
     }
 }
@@ -58,7 +61,7 @@ fn refused_edition(alloc: Global, refusal: EditionRefusal, line: Option<usize>) 
     ensures { IsAnswer (answer_octets result) (with_body statuses.UnprocessableContent (refused_edition_text refusal line)) }
 {
     match refused_edition_json(alloc, refusal, line) {
-        Ok(body) => with_text(alloc, Status::UnprocessableContent, body.as_str()),
+        Ok(body) => with_text(alloc, Status::UnprocessableContent, body.as_bytes()),
         Err(_) => unavailable(),
     }
 }

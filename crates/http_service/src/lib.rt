@@ -24,5 +24,5 @@ pub use items::list_json;
 pub use json_laws::one_body;
 pub use laws::one_answer;
 pub use putting::put_kept;
-pub use replies::{kept_json, refused_command_json, refused_edition_json};
+pub use replies::{refused_command_json, refused_edition_json};
 pub use service::Service;

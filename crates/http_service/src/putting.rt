@@ -12,8 +12,9 @@ use dict_catalogue::Kept;
 use dict_proto::{Sink, SinkFault, put_all};
 use itoa::Buffer;
 
-/// Puts the JSON of the reply to an accepted command, the text that `kept_json` gives. It takes no memory, and is Ok wherever
-/// the sink did not fail; where it failed, a front of this was put.
+/// Puts the JSON of the reply to an accepted command: its number, what it did, its name, and the current edition after
+/// an install or a rollback. It takes no memory, and is Ok wherever the sink did not fail; where it failed, a front of
+/// this was put.
 pub fn put_kept<K: Sink>(sink: &mut K, kept: &Kept) -> Result<(), SinkFault>
     ensures { Puts result (K.stream sink.old) (K.stream sink.new) (kept_text (kept_shown kept.now)) }
 {

@@ -1,11 +1,10 @@
 // What is answered to a command.
 ghost use Rattle.std.specs.Prelude.{◌≡◌, IfOk, string_bytes};
 ghost use Rattle.serde_json.specs.View.{view};
-ghost use Rattle.dict_catalogue.specs.Views.{kept_shown};
-ghost use Rattle.http_service.specs.Texts.{kept_text, verb_text, refused_command_text, refused_edition_text};
-ghost use Rattle.http_service.specs.Values.{kept_value, refused_command_value, refused_edition_value};
+ghost use Rattle.http_service.specs.Texts.{verb_text, refused_command_text, refused_edition_text};
+ghost use Rattle.http_service.specs.Values.{refused_command_value, refused_edition_value};
 
-use dict_catalogue::{CommandRefusal, Kept, Verb};
+use dict_catalogue::{CommandRefusal, Verb};
 use dict_index::EditionRefusal;
 use serde_json::{Value, json};
 use std::alloc::{AllocError, Global};
@@ -21,26 +20,6 @@ pub(crate) fn verb_text(verb: Verb) -> &'static str
         Verb::Virtual => "virtual",
         Verb::Place => "place",
     }
-}
-
-fn kept_value(alloc: Global, kept: &Kept) -> Result<Value, AllocError>
-    ensures { IfOk result (λ value. view value ≡ kept_value (kept_shown kept.now)) }
-{
-    json!(in alloc; {
-        "edition": kept.edition,
-        "name": &kept.name,
-        "number": kept.number,
-        "verb": verb_text(kept.verb)
-    })
-}
-
-/// The JSON of the reply to an accepted command: its number, what it did, its name, and the current edition after an
-/// install or a rollback.
-pub fn kept_json(alloc: Global, kept: &Kept) -> Result<String, AllocError>
-    ensures { IfOk result (λ text. string_bytes text ≡ kept_text (kept_shown kept.now)) }
-{
-    let value = kept_value(alloc, kept)?;
-    value.to_string(alloc)
 }
 
 fn refused_command_value(alloc: Global, refusal: CommandRefusal) -> Result<Value, AllocError>

@@ -45,7 +45,7 @@ fn list<K: Keeper>(alloc: Global, desk: &K) -> Answer
 {
     match desk.summary() {
         Ok(summary) => match list_json(alloc, summary) {
-            Ok(body) => with_text(alloc, Status::Ok, body.as_str()),
+            Ok(body) => with_text(alloc, Status::Ok, body.as_bytes()),
             Err(_) => unavailable(),
         },
         Err(_) => unavailable(),

@@ -2,8 +2,9 @@
 use crate::checks::{same_text, same_text_of};
 use dict_catalogue::{CommandRefusal, Item, Kept, StoredTitle, Summary, Verb};
 use dict_index::EditionRefusal;
+use dict_proto::OverWrite;
 use http_service::{
-    kept_json, list_json, read_json, read_place, read_virtual, refused_command_json,
+    list_json, put_kept, read_json, read_place, read_virtual, refused_command_json,
     refused_edition_json,
 };
 use std::alloc::{AllocError, Global};
@@ -165,12 +166,7 @@ static KEPT: [(u64, Verb, Option<u64>, &str); 5] = [
     ),
 ];
 
-fn told_kept(
-    alloc: Global,
-    number: u64,
-    verb: Verb,
-    edition: Option<u64>,
-) -> Result<String, AllocError> {
+fn told_kept(alloc: Global, number: u64, verb: Verb, edition: Option<u64>) -> Result<String, Fail> {
     let name = String::from_str(alloc, "gem")?;
     let kept = Kept {
         number,
@@ -178,7 +174,9 @@ fn told_kept(
         name,
         edition,
     };
-    kept_json(alloc, &kept)
+    let mut sink = OverWrite::new(Vec::new(alloc));
+    put_kept(&mut sink, &kept)?;
+    Ok(String::from_utf8(sink.into_inner())?)
 }
 
 #[test]
