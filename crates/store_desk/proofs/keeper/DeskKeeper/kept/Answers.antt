@@ -1,4 +1,4 @@
-use Rattle.std.proofs.Common.{◌≡◌, false, sym, ap, subst, rules}
+use Rattle.std.proofs.Common.{◌≡◌, false, refl, sym, ap, subst, rules}
 use Rattle.std.specs.Prelude.{option_map}
 use Rattle.sqlite.specs.State.{HasCleanDisk}
 use Rattle.sqlite.specs.Held.{state}
