@@ -65,7 +65,8 @@ GetsThrough host catalogue before desk Dict octets out old new = RepliesThrough 
 GetsThrough host catalogue before desk Http octets More old new = Unit {0}
 GetsThrough host catalogue before desk Http octets Close old new = PutsUnavailable before catalogue octets old new
 
--- nothing is looked up for these octets: for no line of a reader's, and an editor's are no whole request that changes the catalogue
+-- nothing is looked up for these octets, nor a command asked for: for no line of a reader's, and an editor's are no whole request that
+-- changes the catalogue
 abbrev pub LookNothingUp : Catalogue → Kind → List ℕ → Type 0
 LookNothingUp catalogue Dict octets = All (λ line. looks_up catalogue (meaning line) ≡ false) (cut octets).lines
 LookNothingUp catalogue Http octets = ¬ AsksForCommand octets
