@@ -1,18 +1,22 @@
 -- One answer, and one catalogue after it.
-use Rattle.std.proofs.Common.{◌≡◌, ◌≢◌, ◌⊎◌, inl, inr, ◌+◌, ℕ, List, [], ◌++◌, length, take, get_or, decimal, refl, sym, ap, ◌∙◌, subst, arith}
-use Rattle.std.specs.Prelude.{Option, Some, None, MatchOption}
+use Rattle.std.proofs.Common.{◌≡◌, ◌≢◌, ◌⊎◌, inl, inr, ◌+◌, ℕ, Bool, true, false, List, [], ◌++◌, length, take, get_or, decimal, refl, sym, ap, ◌∙◌, subst, arith}
+use Rattle.std.specs.Prelude.{Option, Some, None, MatchOption, if◌then◌else◌}
 use Rattle.std.proofs.lemmas.Bool.{cases_lt}
 use Rattle.std.proofs.lemmas.Fmt.{decimal_injective}
 use Rattle.std.proofs.lemmas.List.{append_cancel_left}
 use Rattle.std.proofs.Math.Seq.{take-append_seam}
 use Rattle.httparse.specs.Grammar.{RequestHead, print_request}
-use Rattle.dict_index.specs.Edition.{edition_of}
+use Rattle.dict_index.specs.Edition.{Edition, edition_of}
 use Rattle.dict_index.proofs.CutLemmas.{one_cut}
 use Rattle.dict_index.proofs.LawLemmas as editions
 use Rattle.dict_index.proofs.ChoiceLemmas as choice
-use Rattle.dict_catalogue.specs.Commands.{install, place, put_virtual, retire, rollback}
+use Rattle.dict_text.specs.Names.{is_request_id}
+use Rattle.dict_catalogue.specs.Commands.{Command, install, place, put_virtual, retire, rollback}
 use Rattle.dict_catalogue.specs.Effects.{KeptReply}
-use Rattle.dict_catalogue.specs.Steps.{Catalogue, kept_under, summary_of}
+use Rattle.dict_catalogue.specs.Steps.{Catalogue, kept_under, summary_of, holdings, Outcome, refused, decided, answered, step}
+use Rattle.dict_catalogue.specs.Tests.{refusal_of}
+use Rattle.dict_catalogue.specs.declared.fault.CommandRefusal.{CommandRefusal}
+use Rattle.dict_catalogue.specs.declared.fault.CommandRefusal.TheVariants.{BadRequestId}
 use Rattle.http_request.specs.Fields.{framing_of}
 use Rattle.http_request.specs.Heads.{HasHead, headers_of, front_of, IsClosed, Needs, NeedsBody}
 use Rattle.http_request.specs.Requests.{EditorRequest, IsRequest, request_of}
@@ -28,9 +32,9 @@ use Rattle.http_service.proofs.BodyLemmas.{one_place, one_title, one_members}
 use Rattle.http_request.specs.Paths.{IsPath}
 use Rattle.http_request.specs.declared.route_kinds.Route.{Route}
 use Rattle.http_request.proofs.RouteLawLemmas.{one_route, one_name}
-use Rattle.http_service.specs.Answers.{plain, with_body, not_allowed}
+use Rattle.http_service.specs.Answers.{Response, plain, with_body, not_allowed}
 use Rattle.http_service.specs.Actions.{action_of, IsInstallBody, BodyMeaning, command, no_edition, unformed, SaysEdition, Says, IsId}
-use Rattle.http_service.specs.Settling.{Settled, stays, settled_by, SettlesNew, SettlesChange, SettlesIds, SettlesAction, SettlesRoute, SettlesRequest, Settles}
+use Rattle.http_service.specs.Settling.{Settled, stays, is_accepted, settled_by, SettlesNew, SettlesChange, SettlesIds, SettlesAction, SettlesRoute, SettlesRequest, Settles}
 use Rattle.http_service.specs.declared.actions.Action.{Action}
 use Rattle.http_service.specs.declared.actions.Action.TheVariants.{List as Listing, Install, Retire, Rollback, Place, PutVirtual}
 use Rattle.http_service.proofs.PartLemmas.{no_line_feed}
@@ -237,3 +241,57 @@ settled_some M x some k = either ((head : RequestHead) × HasHead x head) (λ d.
     | inr awaits ↦ some (inr (λ head h. none (head, h), inr (awaits, refl)))
   ])
 ])
+
+-- Where no command acted, the catalogue stays.
+
+stays_as : (M : Catalogue) (response : Response) (s : Settled) → s ≡ stays M response → s.catalogue ≡ M
+stays_as M response s is = ap (λ (t : Settled). t.catalogue) is
+
+decided_stays : (M : Catalogue) (id : List ℕ) (asked : Command Edition) (refusal : Option CommandRefusal) → is_accepted (decided M id asked refusal).reply ≡ false → (decided M id asked refusal).catalogue ≡ M
+decided_stays M id asked (Some refusal) isnt = refl
+decided_stays M id asked None isnt = cc isnt
+
+answered_stays : (M : Catalogue) (id : List ℕ) (asked : Command Edition) (kept : Option KeptReply) → is_accepted (answered M id asked kept).reply ≡ false → (answered M id asked kept).catalogue ≡ M
+answered_stays M id asked (Some reply) isnt = refl
+answered_stays M id asked None isnt = decided_stays M id asked (refusal_of (holdings M) asked) isnt
+
+lawful_stays : (M : Catalogue) (id : List ℕ) (asked : Command Edition) (unlawful : Outcome) (lawful : Bool) → unlawful.catalogue ≡ M
+    → is_accepted (if lawful then answered M id asked (kept_under M.kept id) else unlawful).reply ≡ false → (if lawful then answered M id asked (kept_under M.kept id) else unlawful).catalogue ≡ M
+lawful_stays M id asked unlawful true stays isnt = answered_stays M id asked (kept_under M.kept id) isnt
+lawful_stays M id asked unlawful false stays isnt = stays
+
+step_stays : (M : Catalogue) (id : List ℕ) (asked : Command Edition) → is_accepted (step M id asked).reply ≡ false → (step M id asked).catalogue ≡ M
+step_stays M id asked isnt = lawful_stays M id asked (record { reply = refused BadRequestId; catalogue = M }) (is_request_id id) refl isnt
+
+said_stays : (M : Catalogue) (id : List ℕ) (said : BodyMeaning) (s : Settled) → s ≡ settled_by M id said → s.acts ≡ false → s.catalogue ≡ M
+said_stays M id (command asked) s is isnt =
+    ap (λ (t : Settled). t.catalogue) is ∙ step_stays M id asked (sym (ap (λ (t : Settled). t.acts) is) ∙ isnt)
+said_stays M id (no_edition refusal line) s is isnt = stays_as M _ s is
+said_stays M id unformed s is isnt = stays_as M _ s is
+
+change_stays : (M : Catalogue) (id : List ℕ) (action : Action) (name body : List ℕ) (kept : Option KeptReply) (s : Settled)
+    → MatchOption kept (SettlesNew M id action name body s) (λ reply. s ≡ stays M (with_body Ok (kept_text reply))) → s.acts ≡ false → s.catalogue ≡ M
+change_stays M id action name body None s settles isnt = said_stays M id settles.0 s settles.2 isnt
+change_stays M id action name body (Some reply) s settles isnt = stays_as M _ s settles
+
+ids_stay : (M : Catalogue) (ids : List (List ℕ)) (action : Action) (name body : List ℕ) (s : Settled) → SettlesIds M ids action name body s → s.acts ≡ false → s.catalogue ≡ M
+ids_stay M ids action name body s (inl one) isnt = change_stays M one.0 action name body (kept_under M.kept one.0) s one.2 isnt
+ids_stay M ids action name body s (inr none) isnt = stays_as M _ s none.1
+
+action_stays : (M : Catalogue) (asked : EditorRequest) (action : Action) (name : List ℕ) (s : Settled) → SettlesAction M asked action name s → s.acts ≡ false → s.catalogue ≡ M
+action_stays M asked Listing name s settles isnt = stays_as M _ s settles
+action_stays M asked Install name s settles isnt = ids_stay M asked.ids Install name asked.body s settles isnt
+action_stays M asked Retire name s settles isnt = ids_stay M asked.ids Retire name asked.body s settles isnt
+action_stays M asked Rollback name s settles isnt = ids_stay M asked.ids Rollback name asked.body s settles isnt
+action_stays M asked Place name s settles isnt = ids_stay M asked.ids Place name asked.body s settles isnt
+action_stays M asked PutVirtual name s settles isnt = ids_stay M asked.ids PutVirtual name asked.body s settles isnt
+
+route_stays : (M : Catalogue) (asked : EditorRequest) (route : Route) (name : List ℕ) (action : Option Action) (s : Settled)
+    → MatchOption action (s ≡ stays M (not_allowed route)) (λ does. SettlesAction M asked does name s) → s.acts ≡ false → s.catalogue ≡ M
+route_stays M asked route name None s settles isnt = stays_as M _ s settles
+route_stays M asked route name (Some action) s settles isnt = action_stays M asked action name s settles isnt
+
+pub settled_stays : (M : Catalogue) (x : List ℕ) (s : Settled) → Settles M x s → s.acts ≡ false → s.catalogue ≡ M
+settled_stays M x s (inl fault) isnt = stays_as M _ s fault.2
+settled_stays M x s (inr (asked, is, inl found)) isnt = route_stays M asked found.0 found.1 (action_of found.0 asked.method) s found.3 isnt
+settled_stays M x s (inr (asked, is, inr none)) isnt = stays_as M _ s none.1

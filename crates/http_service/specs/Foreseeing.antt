@@ -81,8 +81,9 @@ module _ {K Beside : Type 0} (Shows : K → Catalogue → Type 0) (LeavesOneOf :
     pub was_open : is_closed old ≡ false
     pub is_open : is_closed new ≡ false
 
-  -- so it is, and right behind that it was told of this
+  -- so it is, and right behind that it was told of this, and took note: that call didn't fail
   pub record IsToldAnew (expects : K → Expected → K → Type 0) (old : K) (asked : Expected) (new : K) : Type 0 where
     pub between : K
     pub finds : FindsNoReply old between
     pub told : expects between asked new
+    pub took : has_failed new ≡ false

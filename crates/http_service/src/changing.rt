@@ -6,7 +6,7 @@ ghost use Rattle.dict_catalogue.specs.Steps.{Catalogue, kept_under};
 ghost use Rattle.dict_catalogue.specs.Views.{kept_shown, command_meant};
 ghost use Rattle.http_request.specs.declared.statuses.Status.TheVariants as statuses;
 ghost use Rattle.http_service.specs.Texts.{kept_text, refused_command_text, refused_edition_text};
-ghost use Rattle.http_service.specs.Answers.{answer_octets, with_body};
+ghost use Rattle.http_service.specs.Answers.{answer_octets, with_body, unavailable_text};
 ghost use Rattle.http_service.specs.Settling.{applied, SettlesNew, SettlesChange};
 ghost use Rattle.http_service.specs.Responding.{IsAnswer, RespondsOrFails, Responds};
 ghost use Rattle.http_service.specs.Outcomes.{IsAnswerOf, IsAnswerTo, SettlesFiles};
@@ -89,7 +89,7 @@ fn prepared_answer(alloc: Global, answered: Answered) -> Answer
 
 // Applies a command under a new id.
 fn apply<K: Keeper>(alloc: Global, desk: &mut K, id: &str, command: &Command) -> Answer
-    ensures ends { K.is_trusted desk.new → (M : Catalogue) → K.shows desk.old M → kept_under M.kept id.now ≡ None → RespondsOrFails (K.shows desk.new) (K.leaves_one_of desk.old) (K.leaves_one_of desk.new) M (applied M id.now (command_meant command.now)) (answer_octets result) }
+    ensures ends { K.is_trusted desk.new → (M : Catalogue) → K.shows desk.old M → kept_under M.kept id.now ≡ None → RespondsOrFails (K.is_closed desk.new) (K.shows desk.new) (K.leaves_one_of desk.old) (K.leaves_one_of desk.new) M (applied M id.now (command_meant command.now)) (answer_octets result) }
     ensures trust { K.is_trusted desk.new → K.is_trusted desk.old }
     ensures beside { (beside : K.Beside) → K.keeps_beside desk.old beside → K.keeps_beside desk.new beside }
     ensures closed { K.is_closed desk.old ≡ true → K.is_closed desk.new ≡ true }
@@ -105,7 +105,7 @@ fn install_edition<K: Keeper>(
     name: &str,
     edition: &Edition,
 ) -> Answer
-    ensures ends { K.is_trusted desk.new → (M : Catalogue) → K.shows desk.old M → kept_under M.kept id.now ≡ None → RespondsOrFails (K.shows desk.new) (K.leaves_one_of desk.old) (K.leaves_one_of desk.new) M (applied M id.now (install name.now (edition_of edition.now))) (answer_octets result) }
+    ensures ends { K.is_trusted desk.new → (M : Catalogue) → K.shows desk.old M → kept_under M.kept id.now ≡ None → RespondsOrFails (K.is_closed desk.new) (K.shows desk.new) (K.leaves_one_of desk.old) (K.leaves_one_of desk.new) M (applied M id.now (install name.now (edition_of edition.now))) (answer_octets result) }
     ensures trust { K.is_trusted desk.new → K.is_trusted desk.old }
     ensures beside { (beside : K.Beside) → K.keeps_beside desk.old beside → K.keeps_beside desk.new beside }
     ensures closed { K.is_closed desk.old ≡ true → K.is_closed desk.new ≡ true }
@@ -122,7 +122,7 @@ fn install_read<K: Keeper>(
     index: &[u8],
     text: &[u8],
 ) -> Answer
-    ensures responds { K.is_trusted desk.new → (M : Catalogue) → K.shows desk.old M → kept_under M.kept id.now ≡ None → Responds (K.shows desk.new) (K.leaves_one_of desk.old) (K.leaves_one_of desk.new) M (SettlesFiles M id.now name.now index.now text.now) (answer_octets result) }
+    ensures responds { K.is_trusted desk.new → (M : Catalogue) → K.shows desk.old M → kept_under M.kept id.now ≡ None → Responds (K.is_closed desk.new) (K.shows desk.new) (K.leaves_one_of desk.old) (K.leaves_one_of desk.new) M (SettlesFiles M id.now name.now index.now text.now) (answer_octets result) }
     ensures trust { K.is_trusted desk.new → K.is_trusted desk.old }
     ensures beside { (beside : K.Beside) → K.keeps_beside desk.old beside → K.keeps_beside desk.new beside }
     ensures closed { K.is_closed desk.old ≡ true → K.is_closed desk.new ≡ true }
@@ -143,7 +143,7 @@ fn install_files<K: Preparer>(
     index: &[u8],
     text: &[u8],
 ) -> Answer
-    ensures responds { K.is_trusted desk.new → (M : Catalogue) → K.shows desk.old M → kept_under M.kept id.now ≡ None → Responds (K.shows desk.new) (K.leaves_one_of desk.old) (K.leaves_one_of desk.new) M (SettlesFiles M id.now name.now index.now text.now) (answer_octets result) }
+    ensures responds { K.is_trusted desk.new → (M : Catalogue) → K.shows desk.old M → kept_under M.kept id.now ≡ None → Responds (K.is_closed desk.new) (K.shows desk.new) (K.leaves_one_of desk.old) (K.leaves_one_of desk.new) M (SettlesFiles M id.now name.now index.now text.now) (answer_octets result) }
     ensures trust { K.is_trusted desk.new → K.is_trusted desk.old }
     ensures beside { (beside : K.Beside) → K.keeps_beside desk.old beside → K.keeps_beside desk.new beside }
     ensures closed { K.is_closed desk.old ≡ true → K.is_closed desk.new ≡ true }
@@ -157,7 +157,7 @@ fn install_files<K: Preparer>(
 
 // Installs the edition that a body has.
 fn install<K: Preparer>(alloc: Global, desk: &mut K, id: &str, name: &str, body: &[u8]) -> Answer
-    ensures responds { K.is_trusted desk.new → (M : Catalogue) → K.shows desk.old M → kept_under M.kept id.now ≡ None → Responds (K.shows desk.new) (K.leaves_one_of desk.old) (K.leaves_one_of desk.new) M (SettlesNew M id.now actions.Install name.now body.now) (answer_octets result) }
+    ensures responds { K.is_trusted desk.new → (M : Catalogue) → K.shows desk.old M → kept_under M.kept id.now ≡ None → Responds (K.is_closed desk.new) (K.shows desk.new) (K.leaves_one_of desk.old) (K.leaves_one_of desk.new) M (SettlesNew M id.now actions.Install name.now body.now) (answer_octets result) }
     ensures trust { K.is_trusted desk.new → K.is_trusted desk.old }
     ensures beside { (beside : K.Beside) → K.keeps_beside desk.old beside → K.keeps_beside desk.new beside }
     ensures closed { K.is_closed desk.old ≡ true → K.is_closed desk.new ≡ true }
@@ -170,7 +170,7 @@ fn install<K: Preparer>(alloc: Global, desk: &mut K, id: &str, name: &str, body:
 
 // Puts an item at the place that a body says.
 fn place<K: Keeper>(alloc: Global, desk: &mut K, id: &str, name: &str, body: &[u8]) -> Answer
-    ensures responds { K.is_trusted desk.new → (M : Catalogue) → K.shows desk.old M → kept_under M.kept id.now ≡ None → Responds (K.shows desk.new) (K.leaves_one_of desk.old) (K.leaves_one_of desk.new) M (SettlesNew M id.now actions.Place name.now body.now) (answer_octets result) }
+    ensures responds { K.is_trusted desk.new → (M : Catalogue) → K.shows desk.old M → kept_under M.kept id.now ≡ None → Responds (K.is_closed desk.new) (K.shows desk.new) (K.leaves_one_of desk.old) (K.leaves_one_of desk.new) M (SettlesNew M id.now actions.Place name.now body.now) (answer_octets result) }
     ensures trust { K.is_trusted desk.new → K.is_trusted desk.old }
     ensures beside { (beside : K.Beside) → K.keeps_beside desk.old beside → K.keeps_beside desk.new beside }
     ensures closed { K.is_closed desk.old ≡ true → K.is_closed desk.new ≡ true }
@@ -192,7 +192,7 @@ fn place<K: Keeper>(alloc: Global, desk: &mut K, id: &str, name: &str, body: &[u
 
 // Puts the virtual item that a body says.
 fn put_virtual<K: Keeper>(alloc: Global, desk: &mut K, id: &str, name: &str, body: &[u8]) -> Answer
-    ensures responds { K.is_trusted desk.new → (M : Catalogue) → K.shows desk.old M → kept_under M.kept id.now ≡ None → Responds (K.shows desk.new) (K.leaves_one_of desk.old) (K.leaves_one_of desk.new) M (SettlesNew M id.now actions.PutVirtual name.now body.now) (answer_octets result) }
+    ensures responds { K.is_trusted desk.new → (M : Catalogue) → K.shows desk.old M → kept_under M.kept id.now ≡ None → Responds (K.is_closed desk.new) (K.shows desk.new) (K.leaves_one_of desk.old) (K.leaves_one_of desk.new) M (SettlesNew M id.now actions.PutVirtual name.now body.now) (answer_octets result) }
     ensures trust { K.is_trusted desk.new → K.is_trusted desk.old }
     ensures beside { (beside : K.Beside) → K.keeps_beside desk.old beside → K.keeps_beside desk.new beside }
     ensures closed { K.is_closed desk.old ≡ true → K.is_closed desk.new ≡ true }
@@ -228,7 +228,7 @@ fn change_anew<K: Preparer>(
     body: &[u8],
 ) -> Answer
     requires { action ≢ actions.List }
-    ensures responds { K.is_trusted desk.new → (M : Catalogue) → K.shows desk.old M → kept_under M.kept id.now ≡ None → Responds (K.shows desk.new) (K.leaves_one_of desk.old) (K.leaves_one_of desk.new) M (SettlesNew M id.now action name.now body.now) (answer_octets result) }
+    ensures responds { K.is_trusted desk.new → (M : Catalogue) → K.shows desk.old M → kept_under M.kept id.now ≡ None → Responds (K.is_closed desk.new) (K.shows desk.new) (K.leaves_one_of desk.old) (K.leaves_one_of desk.new) M (SettlesNew M id.now action name.now body.now) (answer_octets result) }
     ensures trust { K.is_trusted desk.new → K.is_trusted desk.old }
     ensures beside { (beside : K.Beside) → K.keeps_beside desk.old beside → K.keeps_beside desk.new beside }
     ensures closed { K.is_closed desk.old ≡ true → K.is_closed desk.new ≡ true }
@@ -253,7 +253,8 @@ pub fn change<K: Preparer>(
     body: &[u8],
 ) -> Answer
     requires { action ≢ actions.List }
-    ensures responds { K.is_trusted desk.new → (M : Catalogue) → K.shows desk.old M → Responds (K.shows desk.new) (K.leaves_one_of desk.old) (K.leaves_one_of desk.new) M (SettlesChange M id.now action name.now body.now) (answer_octets result) }
+    ensures responds { K.is_trusted desk.new → (M : Catalogue) → K.shows desk.old M → Responds (K.is_closed desk.new) (K.shows desk.new) (K.leaves_one_of desk.old) (K.leaves_one_of desk.new) M (SettlesChange M id.now action name.now body.now) (answer_octets result) }
+    ensures shut { K.is_closed desk.old ≡ true → answer_octets result ≡ unavailable_text }
     ensures trust { K.is_trusted desk.new → K.is_trusted desk.old }
     ensures beside { (beside : K.Beside) → K.keeps_beside desk.old beside → K.keeps_beside desk.new beside }
     ensures closed { K.is_closed desk.old ≡ true → K.is_closed desk.new ≡ true }

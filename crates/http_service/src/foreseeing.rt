@@ -40,6 +40,7 @@ fn may_act<K: Keeper>(desk: &mut K, id: &str) -> bool
 // Tells the desk of an install by its files, where a body has them. Whether it took note.
 fn expect_files<K: Preparer>(desk: &mut K, name: &str, body: &[u8]) -> bool
     ensures foreseen { result ≡ true → IsToldOver K.expects (SaysInstall name.now body.now) desk.old desk.new }
+    ensures took { result ≡ true → K.has_failed desk.new ≡ K.has_failed desk.old }
     ensures trust { K.is_trusted desk.new → K.is_trusted desk.old }
     ensures beside { (beside : K.Beside) → K.keeps_beside desk.old beside → K.keeps_beside desk.new beside }
     ensures closed { K.is_closed desk.old ≡ true → K.is_closed desk.new ≡ true }
@@ -55,6 +56,7 @@ fn expect_files<K: Preparer>(desk: &mut K, name: &str, body: &[u8]) -> bool
 // Tells the desk of a command. Whether it took note.
 fn expect_command<K: Preparer>(desk: &mut K, command: &Command) -> bool
     ensures foreseen { result ≡ true → IsToldOver K.expects (λ asked. asked ≡ of_command (command_meant command.now)) desk.old desk.new }
+    ensures took { result ≡ true → K.has_failed desk.new ≡ K.has_failed desk.old }
     ensures trust { K.is_trusted desk.new → K.is_trusted desk.old }
     ensures beside { (beside : K.Beside) → K.keeps_beside desk.old beside → K.keeps_beside desk.new beside }
     ensures closed { K.is_closed desk.old ≡ true → K.is_closed desk.new ≡ true }
@@ -67,6 +69,7 @@ fn expect_command<K: Preparer>(desk: &mut K, command: &Command) -> bool
 // Tells the desk that an item is put at the place that a body says. Whether it took note.
 fn expect_place<K: Preparer>(alloc: Global, desk: &mut K, name: &str, body: &[u8]) -> bool
     ensures foreseen { result ≡ true → IsToldOver K.expects (SaysChange actions.Place name.now body.now) desk.old desk.new }
+    ensures took { result ≡ true → K.has_failed desk.new ≡ K.has_failed desk.old }
     ensures trust { K.is_trusted desk.new → K.is_trusted desk.old }
     ensures beside { (beside : K.Beside) → K.keeps_beside desk.old beside → K.keeps_beside desk.new beside }
     ensures closed { K.is_closed desk.old ≡ true → K.is_closed desk.new ≡ true }
@@ -88,6 +91,7 @@ fn expect_place<K: Preparer>(alloc: Global, desk: &mut K, name: &str, body: &[u8
 // Tells the desk that the virtual item that a body says is put. Whether it took note.
 fn expect_virtual<K: Preparer>(alloc: Global, desk: &mut K, name: &str, body: &[u8]) -> bool
     ensures foreseen { result ≡ true → IsToldOver K.expects (SaysChange actions.PutVirtual name.now body.now) desk.old desk.new }
+    ensures took { result ≡ true → K.has_failed desk.new ≡ K.has_failed desk.old }
     ensures trust { K.is_trusted desk.new → K.is_trusted desk.old }
     ensures beside { (beside : K.Beside) → K.keeps_beside desk.old beside → K.keeps_beside desk.new beside }
     ensures closed { K.is_closed desk.old ≡ true → K.is_closed desk.new ≡ true }
@@ -119,6 +123,7 @@ fn expect_change<K: Preparer>(
     body: &[u8],
 ) -> bool
     ensures foreseen { result ≡ true → IsToldOver K.expects (SaysChange action name.now body.now) desk.old desk.new }
+    ensures took { result ≡ true → K.has_failed desk.new ≡ K.has_failed desk.old }
     ensures trust { K.is_trusted desk.new → K.is_trusted desk.old }
     ensures beside { (beside : K.Beside) → K.keeps_beside desk.old beside → K.keeps_beside desk.new beside }
     ensures closed { K.is_closed desk.old ≡ true → K.is_closed desk.new ≡ true }

@@ -1,16 +1,20 @@
 // The service of editors' requests.
-ghost use Rattle.std.specs.Prelude.{◌≡◌, ◌⊎◌, List, Option, false, true};
+ghost use Rattle.std.specs.Prelude.{◌≡◌, ◌⊎◌, ℕ, List, Option, false, true};
 ghost use Rattle.dict_catalogue.specs.Steps.{Catalogue, summary_of};
 ghost use Rattle.http_request.specs.Fields.{AreValues};
 ghost use Rattle.http_request.specs.Heads.{Needs};
+ghost use Rattle.http_request.specs.Paths.{IsPath};
+ghost use Rattle.http_request.specs.declared.route_kinds.Route.{Route as PathRoute};
 ghost use Rattle.http_request.specs.Requests.{EditorRequest as WholeRequest, TellsRequest};
 ghost use Rattle.http_request.specs.declared.kinds.Need.TheVariants as needs;
 ghost use Rattle.http_request.specs.declared.statuses.Status.TheVariants as statuses;
+ghost use Rattle.http_service.specs.Actions.{action_of, changes};
 ghost use Rattle.http_service.specs.Texts.{list_text};
-ghost use Rattle.http_service.specs.Answers.{answer_octets, plain, with_body, response_text};
+ghost use Rattle.http_service.specs.Answers.{answer_octets, plain, with_body, response_text, unavailable_text};
 ghost use Rattle.http_service.specs.Foreseeing.{IsToldAnew, IsToldOver, AsksAnewForChange, AsksForChange, AsksForCommand};
+ghost use Rattle.http_service.specs.declared.actions.Action.TheVariants as actions;
 ghost use Rattle.http_service.specs.Settling.{Settles, SettlesRequest, SettlesAction};
-ghost use Rattle.http_service.specs.Responding.{IsAnswer, Responds};
+ghost use Rattle.http_service.specs.Responding.{IsAnswer, Responds, Withholds};
 
 use crate::actions::{Action, action_of, changes, one_id};
 use crate::answers::{Answer, bad_request, method_not_allowed, not_found, too_large, unavailable};
@@ -41,7 +45,8 @@ fn refused(status: Status) -> Answer
 
 // The list of the catalogue's items.
 fn list<K: Keeper>(alloc: Global, desk: &K) -> Answer
-    ensures { (M : Catalogue) → K.shows desk.now M → IsAnswer (answer_octets result) (with_body statuses.Ok (list_text (summary_of M).items)) }
+    ensures lists { (M : Catalogue) → K.shows desk.now M → IsAnswer (answer_octets result) (with_body statuses.Ok (list_text (summary_of M).items)) }
+    ensures shut { K.is_closed desk.now ≡ true → answer_octets result ≡ unavailable_text }
 {
     match desk.summary() {
         Ok(summary) => match list_json(alloc, summary) {
@@ -61,7 +66,9 @@ fn act<K: Preparer>(
     name: &str,
     body: &[u8],
 ) -> Answer
-    ensures responds { K.is_trusted desk.new → (M : Catalogue) (asked : WholeRequest) → K.shows desk.old M → AreValues ids.entry asked.ids → body.now ≡ asked.body → Responds (K.shows desk.new) (K.leaves_one_of desk.old) (K.leaves_one_of desk.new) M (SettlesAction M asked action name.now) (answer_octets result) }
+    ensures responds { K.is_trusted desk.new → (M : Catalogue) (asked : WholeRequest) → K.shows desk.old M → AreValues ids.entry asked.ids → body.now ≡ asked.body → Responds (K.is_closed desk.new) (K.shows desk.new) (K.leaves_one_of desk.old) (K.leaves_one_of desk.new) M (SettlesAction M asked action name.now) (answer_octets result) }
+    ensures shut { (M : Catalogue) (asked : WholeRequest) → AreValues ids.entry asked.ids → Withholds (K.is_closed desk.old) (SettlesAction M asked action name.now) (answer_octets result) }
+    ensures quiet { action ≡ actions.List → desk.new ≡ desk.old }
     ensures trust { K.is_trusted desk.new → K.is_trusted desk.old }
     ensures beside { (beside : K.Beside) → K.keeps_beside desk.old beside → K.keeps_beside desk.new beside }
     ensures closed { K.is_closed desk.old ≡ true → K.is_closed desk.new ≡ true }
@@ -89,7 +96,9 @@ impl Service {
         request: EditorRequest<'_>,
         desk: &mut K,
     ) -> Answer
-        ensures responds { K.is_trusted desk.new → (M : Catalogue) (asked : WholeRequest) → K.shows desk.old M → TellsRequest request.entry asked → Responds (K.shows desk.new) (K.leaves_one_of desk.old) (K.leaves_one_of desk.new) M (SettlesRequest M asked) (answer_octets result) }
+        ensures responds { K.is_trusted desk.new → (M : Catalogue) (asked : WholeRequest) → K.shows desk.old M → TellsRequest request.entry asked → Responds (K.is_closed desk.new) (K.shows desk.new) (K.leaves_one_of desk.old) (K.leaves_one_of desk.new) M (SettlesRequest M asked) (answer_octets result) }
+        ensures shut { (M : Catalogue) (asked : WholeRequest) → TellsRequest request.entry asked → Withholds (K.is_closed desk.old) (SettlesRequest M asked) (answer_octets result) }
+        ensures quiet { ((route : PathRoute) (name : List ℕ) → IsPath request.entry.target.now route name → changes (action_of route request.entry.method.now) ≡ false) → desk.new ≡ desk.old }
         ensures trust { K.is_trusted desk.new → K.is_trusted desk.old }
         ensures beside { (beside : K.Beside) → K.keeps_beside desk.old beside → K.keeps_beside desk.new beside }
         ensures closed { K.is_closed desk.old ≡ true → K.is_closed desk.new ≡ true }
@@ -107,10 +116,14 @@ impl Service {
     /// it asks for. Octets of which more is needed have no answer.
     ///
     /// After an answer other than 503 the catalogue is the one that the answer tells of. After 503 it is the one before,
-    /// or the one after the whole command, and the request may be sent again under its id.
+    /// or the one after the whole command, and the request may be sent again under its id. Where a stop may leave the other of the
+    /// two, the desk is closed; and a closed desk tells no more of a catalogue. A request that asks for no command leaves the desk as it
+    /// is.
     pub fn respond<K: Preparer>(&self, alloc: Global, octets: &[u8], desk: &mut K) -> Answer
         requires whole { ¬ Needs octets.now needs.More }
-        ensures responds { K.is_trusted desk.new → (M : Catalogue) → K.shows desk.old M → Responds (K.shows desk.new) (K.leaves_one_of desk.old) (K.leaves_one_of desk.new) M (Settles M octets.now) (answer_octets result) }
+        ensures responds { K.is_trusted desk.new → (M : Catalogue) → K.shows desk.old M → Responds (K.is_closed desk.new) (K.shows desk.new) (K.leaves_one_of desk.old) (K.leaves_one_of desk.new) M (Settles M octets.now) (answer_octets result) }
+        ensures shut { (M : Catalogue) → Withholds (K.is_closed desk.old) (Settles M octets.now) (answer_octets result) }
+        ensures quiet { ¬ AsksForCommand octets.now → desk.new ≡ desk.old }
         ensures trust { K.is_trusted desk.new → K.is_trusted desk.old }
         ensures beside { (beside : K.Beside) → K.keeps_beside desk.old beside → K.keeps_beside desk.new beside }
         ensures closed { K.is_closed desk.old ≡ true → K.is_closed desk.new ≡ true }

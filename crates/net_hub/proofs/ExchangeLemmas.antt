@@ -8,7 +8,7 @@ use Rattle.dict_session.specs.Ending.{Wrote, step_at}
 use Rattle.dict_session.specs.declared.step.Course.{Course}
 use Rattle.dict_session.specs.declared.step.Course.TheVariants as courses
 use Rattle.dict_session.specs.declared.step.Step.TheVariants as steps
-use Rattle.net_hub.specs.Asking.{Awaits, AnswersRequest, IsAwaitedIn}
+use Rattle.net_hub.specs.Asking.{Awaits, AnswersRequest, PutsUnavailable, IsAwaitedIn}
 use Rattle.net_hub.specs.Holding.{Holding, left_by, unanswered}
 use Rattle.net_hub.specs.Lines.{HoldsExchange, IsEditor, HoldsIfOpen}
 use Rattle.net_hub.specs.declared.incoming.Incoming.{Incoming}
@@ -48,17 +48,12 @@ replies_through_from answer looks before desk lines old new courses.SinkFailed C
 replies_through_from answer looks before desk lines old new courses.DeskFailed More goes stays wrote = cc (goes refl)
 replies_through_from answer looks before desk lines old new courses.DeskFailed Close goes stays wrote = inr (inr wrote)
 
--- of an editor's piece no more is said
+-- the same of an editor's piece
 pub through_editor : (host : List ℕ) (catalogue : Catalogue) (before : Bool) (desk : Condition) (kind : Kind) (octets : List ℕ) (old new : Stream) (result : Result Out HubFault)
-    → kind ≡ Http → IfOk result (λ out. GetsThrough host catalogue before desk kind octets out old new)
-through_editor host catalogue before desk kind octets old new (Ok out) is = subst (λ one. GetsThrough host catalogue before desk one octets out old new) (sym is) tt
-through_editor host catalogue before desk kind octets old new (Err fault) is = tt
-
--- what holds of a piece that is awaited further or refused holds of one that isn't answered
-pub unless_answered : {P : Type 0} (result : Result Out HubFault) → (result ≡ Ok More → P) → (result ≡ Ok Close → ⊥) → OnErr result P → P
-unless_answered (Ok More) awaited answered refused = awaited refl
-unless_answered (Ok Close) awaited answered refused = absurd (answered refl)
-unless_answered (Err fault) awaited answered refused = refused
+    → kind ≡ Http → (result ≡ Ok Close → PutsUnavailable before catalogue octets old new) → IfOk result (λ out. GetsThrough host catalogue before desk kind octets out old new)
+through_editor host catalogue before desk kind octets old new (Ok More) is shut = subst (λ one. GetsThrough host catalogue before desk one octets More old new) (sym is) tt
+through_editor host catalogue before desk kind octets old new (Ok Close) is shut = subst (λ one. GetsThrough host catalogue before desk one octets Close old new) (sym is) (shut refl)
+through_editor host catalogue before desk kind octets old new (Err fault) is shut = tt
 
 -- an editor's piece is awaited further, or answered
 pub asks_from : (host : List ℕ) (desk : Condition) (Shows : Catalogue → Type 0) (Before After : List (Option Catalogue) → Type 0) (before : Catalogue)
@@ -66,7 +61,7 @@ pub asks_from : (host : List ℕ) (desk : Condition) (Shows : Catalogue → Type
     → kind ≡ Http
     → (result ≡ Ok More → Awaits octets held old new)
     → (result ≡ Ok More → CatalogueStays Shows Before After before)
-    → (result ≡ Ok Close → AnswersRequest Shows Before After before octets old new)
+    → (result ≡ Ok Close → AnswersRequest desk.closed Shows Before After before octets old new)
     → IfOk result (λ out. Gets host desk Shows Before After before kind octets out old new)
 asks_from host desk Shows Before After before kind octets held old new (Ok More) is awaits stays answers =
     subst (λ one. Gets host desk Shows Before After before one octets More old new) (sym is) ((awaits refl).more, (awaits refl).nothing, stays refl)

@@ -9,7 +9,7 @@ use Rattle.dict_proto.specs.Meaning.{Meaning}
 use Rattle.http_request.specs.Heads.{Needs}
 use Rattle.http_request.specs.declared.kinds.Need.TheVariants.{More as NeedsMore}
 use Rattle.http_service.specs.Answers.{unavailable_text}
-use Rattle.http_service.specs.Responding.RespondsOrFails.{answered, unchanged, unknown}
+use Rattle.http_service.specs.Responding.RespondsOrFails.{answered, unchanged, done, unknown}
 use Rattle.http_service.specs.Responding.Responds.{ended as responded, failed as unresponded}
 use Rattle.http_service.specs.Settling.{Settled, Settles}
 use Rattle.dict_session.specs.Lines.{cut}
@@ -65,7 +65,7 @@ replies_gave law host desk before after octets Close old new same (inr (inr (fai
 
 -- an editor's request
 answers_gave : (host : List ℕ) (desk : Condition) (before after : Catalogue) (l k : List (Option Catalogue)) (octets : List ℕ) (old new : Stream)
-    → AnswersRequest (λ M. M ≡ after) (λ ms. ms ≡ l) (λ ms. ms ≡ k) before octets old new
+    → AnswersRequest desk.closed (λ M. M ≡ after) (λ ms. ms ≡ l) (λ ms. ms ≡ k) before octets old new
     → ((put : List ℕ) × IsServedOctets host before Http octets (record { out = Close; octets = put; catalogue = after }) × PutsAll old new put)
     ⊎ (HasFailed old.failures new.failures ⊎ Lacks host desk before Http octets Close old new)
 answers_gave host desk before after l k octets old new given =
@@ -74,7 +74,8 @@ answers_gave host desk before after l k octets old new given =
       | inl puts ↦ elim given.responds [
         | responded settled is (answered text shows leaves) ↦ inl (given.answer, inr (settled, is, served_as _ _ _ _ _ _ refl text (sym shows)), puts)
         | responded settled is (unchanged text shows leaves) ↦ inr (inr (refl, given.whole, unavailable text puts))
-        | responded settled is (unknown text shows leaves) ↦ inr (inr (refl, given.whole, unavailable text puts))
+        | responded settled is (done text shows leaves) ↦ inr (inr (refl, given.whole, unavailable text puts))
+        | responded settled is (unknown text shut shows leaves) ↦ inr (inr (refl, given.whole, unavailable text puts))
         | unresponded text shows leaves ↦ inr (inr (refl, given.whole, unavailable text puts))
       ]
       | inr front ↦ inr (inl front.failures)

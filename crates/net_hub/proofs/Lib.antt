@@ -5,3 +5,4 @@ pub mod EventLemmas
 pub mod RunLemmas
 pub mod LawLemmas
 pub mod ObservationLemmas
+pub mod DurableLemmas

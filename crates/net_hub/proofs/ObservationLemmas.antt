@@ -8,7 +8,7 @@ use Rattle.dict_catalogue.specs.Effects.{KeptReply}
 use Rattle.http_request.specs.Requests.{EditorRequest as WholeRequest}
 use Rattle.http_service.specs.Answers.{Response}
 use Rattle.http_service.specs.Actions.{BodyMeaning, command as said_command, no_edition, unformed, action_of}
-use Rattle.http_service.specs.Responding.RespondsOrFails.{answered, unchanged, unknown}
+use Rattle.http_service.specs.Responding.RespondsOrFails.{answered, unchanged, done, unknown}
 use Rattle.http_service.specs.Responding.Responds.{ended as responded, failed as unresponded}
 use Rattle.http_service.specs.Responding.{Responds}
 use Rattle.http_service.specs.Settling.{Settled, Settles, SettlesAction, SettlesIds, SettlesNew, SettlesRequest, stays, settled_by}
@@ -72,18 +72,19 @@ by_settled : (before : Catalogue) (octets : List ℕ) (settled : Settled) → Se
 by_settled before octets settled (inl refused) = by_stay before _ settled refused.2
 by_settled before octets settled (inr whole) = by_request before whole.0 settled whole.2
 
-by_responds : (before M : Catalogue) (l k : List (Option Catalogue)) (octets text : List ℕ) → Responds (λ N. N ≡ M) (λ ms. ms ≡ l) (λ ms. ms ≡ k) before (Settles before octets) text → ByCommands before M
-by_responds before M l k octets text (responded settled is (answered e shows leaves)) = subst (λ N. ByCommands before N) shows (by_settled before octets settled is)
-by_responds before M l k octets text (responded settled is (unchanged e shows leaves)) = by_none before M (sym shows)
-by_responds before M l k octets text (responded settled is (unknown e (inl shows) leaves)) = by_none before M (sym shows)
-by_responds before M l k octets text (responded settled is (unknown e (inr shows) leaves)) = subst (λ N. ByCommands before N) shows (by_settled before octets settled is)
-by_responds before M l k octets text (unresponded e shows leaves) = by_none before M (sym shows)
+by_responds : (closed : Bool) (before M : Catalogue) (l k : List (Option Catalogue)) (octets text : List ℕ) → Responds closed (λ N. N ≡ M) (λ ms. ms ≡ l) (λ ms. ms ≡ k) before (Settles before octets) text → ByCommands before M
+by_responds closed before M l k octets text (responded settled is (answered e shows leaves)) = subst (λ N. ByCommands before N) shows (by_settled before octets settled is)
+by_responds closed before M l k octets text (responded settled is (unchanged e shows leaves)) = by_none before M (sym shows)
+by_responds closed before M l k octets text (responded settled is (done e shows leaves)) = subst (λ N. ByCommands before N) shows (by_settled before octets settled is)
+by_responds closed before M l k octets text (responded settled is (unknown e shut (inl shows) leaves)) = by_none before M (sym shows)
+by_responds closed before M l k octets text (responded settled is (unknown e shut (inr shows) leaves)) = subst (λ N. ByCommands before N) shows (by_settled before octets settled is)
+by_responds closed before M l k octets text (unresponded e shows leaves) = by_none before M (sym shows)
 
 by_gets : (host : List ℕ) (desk : Condition) (before M : Catalogue) (l k : List (Option Catalogue)) (kind : Kind) (octets : List ℕ) (out : Out) (old new : Stream)
     → Gets host desk (λ N. N ≡ M) (λ ms. ms ≡ l) (λ ms. ms ≡ k) before kind octets out old new → ByCommands before M
 by_gets host desk before M l k Dict octets out old new gets = by_none before M (sym gets.1.shows)
 by_gets host desk before M l k Http octets More old new gets = by_none before M (sym gets.2.shows)
-by_gets host desk before M l k Http octets Close old new gets = by_responds before M l k octets gets.answer gets.responds
+by_gets host desk before M l k Http octets Close old new gets = by_responds desk.closed before M l k octets gets.answer gets.responds
 
 by_serves : (host : List ℕ) (desk : Condition) (before M : Catalogue) (l k : List (Option Catalogue)) (held : Option Holding) (what : Happening) (out : Out) (old new : Stream)
     → Serves host desk (λ N. N ≡ M) (λ ms. ms ≡ l) (λ ms. ms ≡ k) before held what out old new → ByCommands before M

@@ -6,7 +6,7 @@ use Rattle.dict_proto.specs.Streams.{Stream, StreamChange}
 use Rattle.dict_catalogue.specs.Steps.{Catalogue}
 use Rattle.dict_desk.specs.Applying.{LeavesNoMore}
 use Rattle.http_service.specs.Responding.{RespondsOrFails, Responds}
-use Rattle.http_service.specs.Responding.RespondsOrFails.{answered, unchanged, unknown}
+use Rattle.http_service.specs.Responding.RespondsOrFails.{answered, unchanged, done, unknown}
 use Rattle.http_service.specs.Responding.Responds.{ended as responded, failed as unresponded}
 use Rattle.http_service.specs.Settling.{Settled, Settles}
 use Rattle.std.proofs.lemmas.List.{length_push}
@@ -40,26 +40,29 @@ record Pinned (Shows : Catalogue → Type 0) (After : List (Option Catalogue) �
   leaves : After at.leaves
   holds : P at
 
-pinned_ends : (Shows : Catalogue → Type 0) (Before After : List (Option Catalogue) → Type 0) (before : Catalogue) (l : List (Option Catalogue)) (settled : Settled) (octets : List ℕ) → Before l
-    → RespondsOrFails Shows Before After before settled octets
-    → Pinned Shows After (λ at. RespondsOrFails (λ M. M ≡ at.catalogue) (λ ms. ms ≡ l) (λ ms. ms ≡ at.leaves) before settled octets)
-pinned_ends Shows Before After before l settled octets here (answered is shows leaves) =
+pinned_ends : (closed : Bool) (Shows : Catalogue → Type 0) (Before After : List (Option Catalogue) → Type 0) (before : Catalogue) (l : List (Option Catalogue)) (settled : Settled) (octets : List ℕ) → Before l
+    → RespondsOrFails closed Shows Before After before settled octets
+    → Pinned Shows After (λ at. RespondsOrFails closed (λ M. M ≡ at.catalogue) (λ ms. ms ≡ l) (λ ms. ms ≡ at.leaves) before settled octets)
+pinned_ends closed Shows Before After before l settled octets here (answered is shows leaves) =
     let k = pinned_leaves Before After l settled.acts settled.catalogue here leaves in
     record { at = record { catalogue = settled.catalogue; leaves = k.0 }; shows = shows; leaves = k.1; holds = answered is refl k.2 }
-pinned_ends Shows Before After before l settled octets here (unchanged is shows leaves) =
+pinned_ends closed Shows Before After before l settled octets here (unchanged is shows leaves) =
     record { at = record { catalogue = before; leaves = l }; shows = shows; leaves = leaves l here; holds = unchanged is refl (λ ms e. e) }
-pinned_ends Shows Before After before l settled octets here (unknown is (inl shows) leaves) =
-    record { at = record { catalogue = before; leaves = Some settled.catalogue ∷ l }; shows = shows; leaves = leaves l here; holds = unknown is (inl refl) (λ ms e. ap (λ x. Some settled.catalogue ∷ x) e) }
-pinned_ends Shows Before After before l settled octets here (unknown is (inr shows) leaves) =
-    record { at = record { catalogue = settled.catalogue; leaves = Some settled.catalogue ∷ l }; shows = shows; leaves = leaves l here; holds = unknown is (inr refl) (λ ms e. ap (λ x. Some settled.catalogue ∷ x) e) }
+pinned_ends closed Shows Before After before l settled octets here (done is shows leaves) =
+    let k = pinned_leaves Before After l settled.acts settled.catalogue here leaves in
+    record { at = record { catalogue = settled.catalogue; leaves = k.0 }; shows = shows; leaves = k.1; holds = done is refl k.2 }
+pinned_ends closed Shows Before After before l settled octets here (unknown is shut (inl shows) leaves) =
+    record { at = record { catalogue = before; leaves = Some settled.catalogue ∷ l }; shows = shows; leaves = leaves l here; holds = unknown is shut (inl refl) (λ ms e. ap (λ x. Some settled.catalogue ∷ x) e) }
+pinned_ends closed Shows Before After before l settled octets here (unknown is shut (inr shows) leaves) =
+    record { at = record { catalogue = settled.catalogue; leaves = Some settled.catalogue ∷ l }; shows = shows; leaves = leaves l here; holds = unknown is shut (inr refl) (λ ms e. ap (λ x. Some settled.catalogue ∷ x) e) }
 
-pinned_responds : (Shows : Catalogue → Type 0) (Before After : List (Option Catalogue) → Type 0) (before : Catalogue) (l : List (Option Catalogue)) (Is : Settled → Type 0) (octets : List ℕ) → Before l
-    → Responds Shows Before After before Is octets
-    → Pinned Shows After (λ at. Responds (λ M. M ≡ at.catalogue) (λ ms. ms ≡ l) (λ ms. ms ≡ at.leaves) before Is octets)
-pinned_responds Shows Before After before l Is octets here (responded settled is ends) =
-    let p = pinned_ends Shows Before After before l settled octets here ends in
+pinned_responds : (closed : Bool) (Shows : Catalogue → Type 0) (Before After : List (Option Catalogue) → Type 0) (before : Catalogue) (l : List (Option Catalogue)) (Is : Settled → Type 0) (octets : List ℕ) → Before l
+    → Responds closed Shows Before After before Is octets
+    → Pinned Shows After (λ at. Responds closed (λ M. M ≡ at.catalogue) (λ ms. ms ≡ l) (λ ms. ms ≡ at.leaves) before Is octets)
+pinned_responds closed Shows Before After before l Is octets here (responded settled is ends) =
+    let p = pinned_ends closed Shows Before After before l settled octets here ends in
     record { at = p.at; shows = p.shows; leaves = p.leaves; holds = responded settled is p.holds }
-pinned_responds Shows Before After before l Is octets here (unresponded is shows leaves) =
+pinned_responds closed Shows Before After before l Is octets here (unresponded is shows leaves) =
     record { at = record { catalogue = before; leaves = l }; shows = shows; leaves = leaves l here; holds = unresponded is refl (λ ms e. e) }
 
 pinned_stays : (Shows : Catalogue → Type 0) (Before After : List (Option Catalogue) → Type 0) (before : Catalogue) (l : List (Option Catalogue)) → Before l
@@ -83,7 +86,7 @@ pinned_gets host desk Shows Before After before l Http octets More old new here 
     let p = pinned_stays Shows Before After before l here gets.2 in
     record { at = p.at; shows = p.shows; leaves = p.leaves; holds = (gets.0, gets.1, p.holds) }
 pinned_gets host desk Shows Before After before l Http octets Close old new here gets =
-    let p = pinned_responds Shows Before After before l (Settles before octets) gets.answer here gets.responds in
+    let p = pinned_responds desk.closed Shows Before After before l (Settles before octets) gets.answer here gets.responds in
     record { at = p.at; shows = p.shows; leaves = p.leaves; holds = record { whole = gets.whole; answer = gets.answer; responds = p.holds; puts = gets.puts } }
 
 pinned_serves : (host : List ℕ) (desk : Condition) (Shows : Catalogue → Type 0) (Before After : List (Option Catalogue) → Type 0) (before : Catalogue) (l : List (Option Catalogue)) (held : Option Holding) (what : Happening)
@@ -188,7 +191,7 @@ own_ended hub (Some one) id fault (Ok out) absent known = known one refl
 own_ended hub (Some one) id fault (Err other) absent known = tt
 
 pub on_ok : {T E : Type 0} {P : Type 0} (result : Result T E) → P → OnOk result P
-on_ok (Ok done) p = p
+on_ok (Ok value) p = p
 on_ok (Err fault) p = tt
 
 -- what is refused of octets or an end

@@ -106,23 +106,23 @@ Serves host desk Shows Before After before held (opened id kind) out old new = G
 Serves host desk Shows Before After before held (came id piece) out old new = ServesPiece host desk Shows Before After before held piece out old new
 Serves host desk Shows Before After before held (ended id) out old new = ServesEnd Shows Before After before out old new
 
--- what octets that came put, by how the desk stood before each line
+-- what octets that came put, by how the desk stood before each line, or before an editor's request
 abbrev pub ServesPieceThrough : List ℕ → Catalogue → Bool → Condition → Option Holding → List ℕ → Out → Stream → Stream → Type 0
 ServesPieceThrough host catalogue before desk None piece out old new = ⊥
 ServesPieceThrough host catalogue before desk (Some held) piece out old new = GetsThrough host catalogue before desk held.kind (held.octets ++ piece) out old new
 
--- what the event puts, by how the desk stood before each line
+-- what the event puts, by how the desk stood before each line, or before an editor's request
 abbrev pub ServesThrough : List ℕ → Catalogue → Bool → Condition → Option Holding → Happening → Out → Stream → Stream → Type 0
 ServesThrough host catalogue before desk held (opened id kind) out old new = Unit {0}
 ServesThrough host catalogue before desk held (came id piece) out old new = ServesPieceThrough host catalogue before desk held piece out old new
 ServesThrough host catalogue before desk held (ended id) out old new = Unit {0}
 
--- nothing is looked up for these octets of this connection, nor for those of one that isn't open
+-- nothing is looked up for these octets of this connection, nor a command asked for; of one that isn't open nothing ever is
 abbrev pub IsQuietPiece : Catalogue → Option Holding → List ℕ → Type 0
 IsQuietPiece catalogue None piece = Unit {0}
 IsQuietPiece catalogue (Some held) piece = LookNothingUp catalogue held.kind (held.octets ++ piece)
 
--- nothing is looked up for the event
+-- nothing is looked up for the event, nor a command asked for
 abbrev pub IsQuiet : Catalogue → Option Holding → Happening → Type 0
 IsQuiet catalogue held (opened id kind) = Unit {0}
 IsQuiet catalogue held (came id piece) = IsQuietPiece catalogue held piece

@@ -13,7 +13,8 @@ use Rattle.dict_session.specs.Answers.{answer_to}
 use Rattle.dict_session.specs.Spoken.{Speaks, BreaksOff}
 use Rattle.dict_session.specs.Desks.{Condition}
 use Rattle.dict_session.specs.Through.{SpeaksThrough, BreaksThrough, looks_up}
-use Rattle.net_hub.specs.Asking.{AnswersRequest}
+use Rattle.http_service.specs.Foreseeing.{AsksForCommand}
+use Rattle.net_hub.specs.Asking.{AnswersRequest, PutsUnavailable}
 use Rattle.net_hub.specs.declared.kind.Kind.{Kind}
 use Rattle.net_hub.specs.declared.kind.Kind.TheVariants.{Dict, Http}
 use Rattle.net_hub.specs.declared.incoming.Out.{Out}
@@ -40,15 +41,15 @@ pub record CatalogueStays (Shows : Catalogue → Type 0) (Before After : List (O
   pub leaves : LeavesNoMore Before After
 
 -- an editor's octets are no whole request yet, and nothing is put; or they are answered, and the connection is closed
-abbrev pub AnswersEditor : (Catalogue → Type 0) → (List (Option Catalogue) → Type 0) → (List (Option Catalogue) → Type 0) → Catalogue → List ℕ → Out → Stream → Stream → Type 0
-AnswersEditor Shows Before After before octets More old new = Needs octets NeedsMore × (new ≡ old) × CatalogueStays Shows Before After before
-AnswersEditor Shows Before After before octets Close old new = AnswersRequest Shows Before After before octets old new
+abbrev pub AnswersEditor : Bool → (Catalogue → Type 0) → (List (Option Catalogue) → Type 0) → (List (Option Catalogue) → Type 0) → Catalogue → List ℕ → Out → Stream → Stream → Type 0
+AnswersEditor closed Shows Before After before octets More old new = Needs octets NeedsMore × (new ≡ old) × CatalogueStays Shows Before After before
+AnswersEditor closed Shows Before After before octets Close old new = AnswersRequest closed Shows Before After before octets old new
 
 -- these octets have come on a connection of this kind
 abbrev pub Gets : List ℕ → Condition → (Catalogue → Type 0) → (List (Option Catalogue) → Type 0) → (List (Option Catalogue) → Type 0) → Catalogue → Kind → List ℕ → Out → Stream → Stream → Type 0
 Gets host desk Shows Before After before Dict octets out old new =
     Replies (answer_to before host) desk (cut octets).lines out old new × CatalogueStays Shows Before After before
-Gets host desk Shows Before After before Http octets out old new = AnswersEditor Shows Before After before octets out old new
+Gets host desk Shows Before After before Http octets out old new = AnswersEditor desk.closed Shows Before After before octets out old new
 
 -- the same of these lines of a reader's by how the desk stood before each: it was closed, or not, before the first as `before` tells, and
 -- where nothing is looked up for a line it stands behind it as before
@@ -58,12 +59,14 @@ RepliesThrough answer looks before desk lines Close old new = ((octets : List �
     ⊎ (((octets : List ℕ) × (ended : Bool) × SpeaksThrough answer looks before desk.closed lines octets ended × PutsFront old new octets)
     ⊎ ((desk.failed ≡ true) × ((octets : List ℕ) × BreaksThrough answer looks before desk.closed lines octets × PutsAll old new octets)))
 
--- these octets have come on a connection of this kind; of an editor's no more is said than above
+-- these octets have come on a connection of this kind; where an editor's are answered, by whether the desk was closed before
 abbrev pub GetsThrough : List ℕ → Catalogue → Bool → Condition → Kind → List ℕ → Out → Stream → Stream → Type 0
 GetsThrough host catalogue before desk Dict octets out old new = RepliesThrough (answer_to catalogue host) (looks_up catalogue) before desk (cut octets).lines out old new
-GetsThrough host catalogue before desk Http octets out old new = Unit {0}
+GetsThrough host catalogue before desk Http octets More old new = Unit {0}
+GetsThrough host catalogue before desk Http octets Close old new = PutsUnavailable before catalogue octets old new
 
--- nothing is looked up for these octets: for no line of a reader's, and an editor's are no whole request yet
+-- nothing is looked up for these octets, nor a command asked for: for no line of a reader's, and an editor's are no whole request that
+-- changes the catalogue
 abbrev pub LookNothingUp : Catalogue → Kind → List ℕ → Type 0
 LookNothingUp catalogue Dict octets = All (λ line. looks_up catalogue (meaning line) ≡ false) (cut octets).lines
-LookNothingUp catalogue Http octets = Needs octets NeedsMore
+LookNothingUp catalogue Http octets = ¬ AsksForCommand octets

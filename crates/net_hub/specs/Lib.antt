@@ -9,3 +9,4 @@ pub mod Events
 pub mod Undisturbed
 pub mod Runs
 pub mod Observations
+pub mod Durable

@@ -2,7 +2,7 @@
 ghost use Rattle.std.specs.Prelude.{◌≡◌, ◌+◌, ◌++◌, ◌≤◌, [], false, true, length, List, Option, IfErr, IfOk, OnErr, vec_len, vec_capacity};
 ghost use Rattle.dict_catalogue.specs.Steps.{Catalogue};
 ghost use Rattle.http_service.specs.Foreseeing.{IsToldAnew, IsToldOver, AsksAnewForChange, AsksForChange, AsksForCommand};
-ghost use Rattle.net_hub.specs.Asking.{Awaits, AnswersRequest, IsAwaitedIn};
+ghost use Rattle.net_hub.specs.Asking.{Awaits, AnswersRequest, PutsUnavailable, IsAwaitedIn};
 ghost use Rattle.net_hub.specs.declared.incoming.Out.TheVariants as outs;
 ghost use Rattle.std.specs.Prelude.{Ok};
 ghost use Rattle.net_hub.specs.declared.fault.HubFault.TheVariants.{Memory};
@@ -63,7 +63,9 @@ impl Incoming {
         ensures awaited { IsAwaitedIn self.old.octets.items self.old.awaited → IsAwaitedIn self.new.octets.items self.new.awaited }
         ensures unasked { result ≡ Ok outs.More → desk.new ≡ desk.old }
         ensures answers { result ≡ Ok outs.Close → K.is_trusted desk.new → (M : Catalogue) → K.shows desk.old M
-            → AnswersRequest (K.shows desk.new) (K.leaves_one_of desk.old) (K.leaves_one_of desk.new) M (self.old.octets.items ++ piece.now) (S.stream sink.old) (S.stream sink.new) }
+            → AnswersRequest (K.is_closed desk.new) (K.shows desk.new) (K.leaves_one_of desk.old) (K.leaves_one_of desk.new) M (self.old.octets.items ++ piece.now) (S.stream sink.old) (S.stream sink.new) }
+        ensures shut { result ≡ Ok outs.Close → (M : Catalogue) → PutsUnavailable (K.is_closed desk.old) M (self.old.octets.items ++ piece.now) (S.stream sink.old) (S.stream sink.new) }
+        ensures quiet { ¬ AsksForCommand (self.old.octets.items ++ piece.now) → desk.new ≡ desk.old }
         ensures trust { K.is_trusted desk.new → K.is_trusted desk.old }
         ensures beside { (beside : K.Beside) → K.keeps_beside desk.old beside → K.keeps_beside desk.new beside }
         ensures closed { K.is_closed desk.old ≡ true → K.is_closed desk.new ≡ true }

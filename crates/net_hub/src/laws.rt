@@ -7,6 +7,7 @@ ghost use Rattle.net_hub.specs.Events.{Happening};
 ghost use Rattle.net_hub.specs.Undisturbed.{Served, IsServed};
 ghost use Rattle.net_hub.specs.Runs.{State, Standing, Accepted, Leads, IsServedEvent, IsUndisturbed, HasDisturbance, GoWell, GotSame, event_asked, events_of};
 ghost use Rattle.net_hub.specs.Observations.{Observation, AreObservations};
+ghost use Rattle.net_hub.specs.Durable.{LeavesWhatItShows, StayOpen, OneIsClosed};
 
 use dict_session::spoken_or_unavailable;
 use http_service::one_answer;
@@ -57,3 +58,10 @@ pub fn same_by_turns()
     one_served();
     same_for_both();
 }
+
+/// What was acknowledged is what a stop leaves. Where a stop leaves what a desk shows, and no other catalogue, events behind each of which
+/// the desk is open lead to where that is so again. Where it isn't, the desk is closed behind one of them.
+pub fn acknowledged_is_left()
+    ensures left { (state end : State) (stands ends : Standing) (events : List Accepted) → Leads state stands events end ends → LeavesWhatItShows stands → StayOpen events → LeavesWhatItShows ends }
+    ensures or_closed { (state end : State) (stands ends : Standing) (events : List Accepted) → Leads state stands events end ends → LeavesWhatItShows stands → LeavesWhatItShows ends ⊎ OneIsClosed events }
+{}

@@ -14,4 +14,6 @@ pub use fault::HubFault;
 pub use hub::{Event, Hub};
 pub use incoming::Out;
 pub use kind::Kind;
-pub use laws::{one_served, same_by_turns, same_for_both, undisturbed_or_not};
+pub use laws::{
+    acknowledged_is_left, one_served, same_by_turns, same_for_both, undisturbed_or_not,
+};

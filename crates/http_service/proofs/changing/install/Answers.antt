@@ -9,7 +9,7 @@ use Rattle.http_service.proofs.changing.install.Goals as goal
 
 pub returns-in-Some-clause-responds : goal.returns-in-Some-clause-responds
 returns-in-Some-clause-responds g c = λ trusted M shown none.
-    responds_so _ _ _ M _ _ _ (λ s. settles_files M c.args.id.now c.args.name.now c.args.body.now c.in-Some.index.now c.in-Some.text.now s c.in-Some.ensures)
+    responds_so _ _ _ _ M _ _ _ (λ s. settles_files M c.args.id.now c.args.name.now c.args.body.now c.in-Some.index.now c.in-Some.text.now s c.in-Some.ensures)
     (c.install_files.ensures.responds trusted M shown none)
 
 pub returns-in-None-clause-responds : goal.returns-in-None-clause-responds

@@ -24,4 +24,4 @@ returns-in-Err-Refused-clause-responds g c = λ trusted M shown none.
     let fault = rw c.in-Err-Refused.field-0-is at c.in-Err-Refused.ensures.refused in
     ended (stays M (with_body UnprocessableContent (refused_edition_text refusal line)))
     (no_edition refusal line, inr (refusal, line, fault, refl), refl)
-    (stays_so _ _ M _ _ shown c.refused_edition.ensures)
+    (stays_so _ _ _ M _ _ shown c.refused_edition.ensures)

@@ -1,3 +1,4 @@
+use Rattle.std.proofs.Common.{◌∙◌}
 use Rattle.http_service.proofs.foreseeing.foresee_change.Goals as goal
 
 pub returns-clause-foreseen : goal.returns-clause-foreseen
@@ -6,7 +7,7 @@ returns-clause-foreseen g c = λ taken values are.
     record {
       asked = told.asked;
       asks = record { id = c.in-Some.id.now; one = c.in-Some.ensures values are; lawful = c.may_act.ensures.lawful c.if-not-may_act.false; says = told.asks };
-      told = record { between = c.may_act.new.desk; finds = c.may_act.ensures.finds c.if-not-may_act.false; told = told.told };
+      told = record { between = c.may_act.new.desk; finds = c.may_act.ensures.finds c.if-not-may_act.false; told = told.told; took = c.expect_change.ensures.took taken ∙ (c.may_act.ensures.finds c.if-not-may_act.false).answered };
     }
 
 pub returns-clause-anew : goal.returns-clause-anew
@@ -19,5 +20,5 @@ returns-clause-anew g c = λ taken trusted M shown values are.
         asks = record { id = c.in-Some.id.now; one = c.in-Some.ensures values are; lawful = c.may_act.ensures.lawful c.if-not-may_act.false; says = told.asks };
         anew = c.may_act.ensures.anew c.if-not-may_act.false noted M shown;
       };
-      told = record { between = c.may_act.new.desk; finds = c.may_act.ensures.finds c.if-not-may_act.false; told = told.told };
+      told = record { between = c.may_act.new.desk; finds = c.may_act.ensures.finds c.if-not-may_act.false; told = told.told; took = c.expect_change.ensures.took taken ∙ (c.may_act.ensures.finds c.if-not-may_act.false).answered };
     }

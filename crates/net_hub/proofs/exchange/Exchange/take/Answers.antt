@@ -5,14 +5,13 @@ use Rattle.dict_session.specs.Answers.{answer_to}
 use Rattle.dict_session.specs.Session.{course_of}
 use Rattle.dict_session.specs.Ending.{Wrote}
 use Rattle.dict_session.specs.Through.{WroteThrough, looks_up}
-use Rattle.http_request.specs.Heads.{Needs}
-use Rattle.http_request.specs.declared.kinds.Need.TheVariants.{More as NeedsMore}
-use Rattle.net_hub.specs.Asking.{Awaits, AnswersRequest}
+use Rattle.http_service.specs.Foreseeing.{AsksForCommand}
+use Rattle.net_hub.specs.Asking.{Awaits, AnswersRequest, PutsUnavailable}
 use Rattle.net_hub.specs.Given.{Gets, GetsThrough, LookNothingUp}
 use Rattle.net_hub.specs.Holding.{Holding}
 use Rattle.net_hub.specs.declared.exchange.Exchange.TheVariants.{Editor}
 use Rattle.net_hub.specs.Lines.{HoldsExchange, IsReader, IsEditor}
-use Rattle.net_hub.proofs.ExchangeLemmas.{replies_from, replies_through_from, through_editor, unless_answered, asks_from, held_from, left_from}
+use Rattle.net_hub.proofs.ExchangeLemmas.{replies_from, replies_through_from, through_editor, asks_from, held_from, left_from}
 use Rattle.dict_session.specs.Desks.{condition}
 use Rattle.net_hub.proofs.exchange.Exchange.take.Goals as goal
 
@@ -35,6 +34,7 @@ returns-in-Editor-clause-gets g c = λ trusted M shown host id held holds.
     let h : IsEditor c.in-Editor.incoming held = subst (λ line. HoldsExchange host id line held) c.in-Editor.is holds in
     let old = g.S.Sink.stream c.args.sink.now in
     let new = g.S.Sink.stream c.take.new.sink in
+    let here = c.take.new.desk in
     asks_from host (condition g.K.Lookup.has_failed g.K.Lookup.is_closed c.take.new.desk) (g.K.Lookup.shows c.take.new.desk) (g.K.Lookup.leaves_one_of c.args.desk.now) (g.K.Lookup.leaves_one_of c.take.new.desk) M
     held.kind (held.octets ++ c.args.piece.now) c.take.new.self.octets.items old new c.take.result h.kind
     (λ e. subst (λ (o : List ℕ). Awaits (o ++ c.args.piece.now) c.take.new.self.octets.items old new) h.octets_held (c.take.ensures.awaits e h.awaited))
@@ -42,7 +42,8 @@ returns-in-Editor-clause-gets g c = λ trusted M shown host id held holds.
       shows = subst (λ desk. g.K.Lookup.shows desk M) (sym (c.take.ensures.unasked e)) shown;
       leaves = λ ms before. subst (λ desk. g.K.Lookup.leaves_one_of desk ms) (sym (c.take.ensures.unasked e)) before;
     })
-    (λ e. subst (λ (o : List ℕ). AnswersRequest (g.K.Lookup.shows c.take.new.desk) (g.K.Lookup.leaves_one_of c.args.desk.now) (g.K.Lookup.leaves_one_of c.take.new.desk) M (o ++ c.args.piece.now) old new) h.octets_held
+    (λ e. subst (λ (o : List ℕ). AnswersRequest (g.K.Lookup.is_closed here) (g.K.Lookup.shows here) (g.K.Lookup.leaves_one_of c.args.desk.now) (g.K.Lookup.leaves_one_of here) M (o ++ c.args.piece.now) old new)
+    h.octets_held
     (c.take.ensures.answers e trusted M shown))
 
 pub returns-in-Editor-clause-left : goal.returns-in-Editor-clause-left
@@ -75,6 +76,8 @@ returns-in-Editor-clause-through g c = λ trusted M shown host id held holds.
     let h : IsEditor c.in-Editor.incoming held = subst (λ line. HoldsExchange host id line held) c.in-Editor.is holds in
     through_editor host M (g.K.Lookup.is_closed c.args.desk.now) (condition g.K.Lookup.has_failed g.K.Lookup.is_closed c.take.new.desk) held.kind (held.octets ++ c.args.piece.now)
     (g.S.Sink.stream c.args.sink.now) (g.S.Sink.stream c.take.new.sink) c.take.result h.kind
+    (λ e. subst (λ (o : List ℕ). PutsUnavailable (g.K.Lookup.is_closed c.args.desk.now) M (o ++ c.args.piece.now) (g.S.Sink.stream c.args.sink.now) (g.S.Sink.stream c.take.new.sink)) h.octets_held
+    (c.take.ensures.shut e M))
 
 pub returns-in-Reader-clause-quiet : goal.returns-in-Reader-clause-quiet
 returns-in-Reader-clause-quiet g c = λ trusted M shown host id held holds nothing.
@@ -84,6 +87,5 @@ returns-in-Reader-clause-quiet g c = λ trusted M shown host id held holds nothi
 pub returns-in-Editor-clause-quiet : goal.returns-in-Editor-clause-quiet
 returns-in-Editor-clause-quiet g c = λ trusted M shown host id held holds nothing.
     let h : IsEditor c.in-Editor.incoming held = subst (λ line. HoldsExchange host id line held) c.in-Editor.is holds in
-    let needs : Needs (held.octets ++ c.args.piece.now) NeedsMore = subst (λ kind. LookNothingUp M kind (held.octets ++ c.args.piece.now)) h.kind nothing in
-    let here : Needs (c.in-Editor.incoming.octets.items ++ c.args.piece.now) NeedsMore = subst (λ (o : List ℕ). Needs (o ++ c.args.piece.now) NeedsMore) (sym h.octets_held) needs in
-    unless_answered c.take.result c.take.ensures.unasked (λ e. (c.take.ensures.answers e trusted M shown).whole here) c.take.ensures.desk
+    let none : ¬ AsksForCommand (held.octets ++ c.args.piece.now) = subst (λ kind. LookNothingUp M kind (held.octets ++ c.args.piece.now)) h.kind nothing in
+    c.take.ensures.quiet (subst (λ (o : List ℕ). ¬ AsksForCommand (o ++ c.args.piece.now)) (sym h.octets_held) none)

@@ -2,6 +2,7 @@ use Rattle.std.proofs.Common.{◌≡◌, ◌<◌, ◌++◌, ℕ, List, length, r
 use Rattle.std.specs.Prelude.{◌⊎◌, Result, Ok, Err}
 use Rattle.dict_proto.specs.Streams.{Stream, Puts, PutsAll, PutsFront}
 use Rattle.http_service.specs.Answers.{answer_octets}
+use Rattle.http_service.specs.Foreseeing.{AsksForCommand}
 use Rattle.http_service.specs.Responding.{Responds}
 use Rattle.http_service.specs.Settling.{Settles}
 use Rattle.std.proofs.lemmas.Grind.{common_steps}
@@ -60,10 +61,26 @@ pub returns-clause-answers : goal.returns-clause-answers
 returns-clause-answers g c = λ close trusted M shown.
     let whole : c.extend_from_slice.new.self.items ≡ c.args.self.now.octets.items ++ c.args.piece.now
     = grind (arith, common_steps, c.extend_from_slice.ensures.items, c.reserve.ensures.items, c.if-is_err-2.ensures.value) in
+    let desk = c.respond-answer.new.desk in
     record {
       whole = λ given. needs_no_more c.deref.result.now c.read_request.result c.read_request.ensures c.in_default.not-More (subst (λ o. Needs o needs.More) (sym (c.deref.ensures.value ∙ whole)) given);
       answer = answer_octets c.respond-answer.result;
-      responds = subst (λ o. Responds (g.K.Lookup.shows c.respond-answer.new.desk) (g.K.Lookup.leaves_one_of c.args.desk.now) (g.K.Lookup.leaves_one_of c.respond-answer.new.desk) M (Settles M o) (answer_octets c.respond-answer.result))
+      responds = subst (λ o. Responds (g.K.Lookup.is_closed desk) (g.K.Lookup.shows desk) (g.K.Lookup.leaves_one_of c.args.desk.now) (g.K.Lookup.leaves_one_of desk) M (Settles M o) (answer_octets c.respond-answer.result))
           (c.deref-2.ensures.value ∙ whole) (c.respond-answer.ensures.responds trusted M shown);
       puts = puts_either c.put.result (g.S.Sink.stream c.args.sink.now) (g.S.Sink.stream c.put.new.sink) (answer_octets c.respond-answer.result) c.put.ensures;
     }
+
+pub returns-clause-shut : goal.returns-clause-shut
+returns-clause-shut g c = λ close M shut settled is kind.
+    let whole : c.extend_from_slice.new.self.items ≡ c.args.self.now.octets.items ++ c.args.piece.now
+    = grind (arith, common_steps, c.extend_from_slice.ensures.items, c.reserve.ensures.items, c.if-is_err-2.ensures.value) in
+    let told = c.respond-answer.ensures.shut M shut settled (subst (λ o. Settles M o settled) (sym (c.deref-2.ensures.value ∙ whole)) is) kind in
+    let old = g.S.Sink.stream c.args.sink.now in
+    let new = g.S.Sink.stream c.put.new.sink in
+    subst (λ (o : List ℕ). PutsAll old new o ⊎ PutsFront old new o) told (puts_either c.put.result old new (answer_octets c.respond-answer.result) c.put.ensures)
+
+pub returns-clause-quiet : goal.returns-clause-quiet
+returns-clause-quiet g c = λ none.
+    let whole : c.extend_from_slice.new.self.items ≡ c.args.self.now.octets.items ++ c.args.piece.now
+    = grind (arith, common_steps, c.extend_from_slice.ensures.items, c.reserve.ensures.items, c.if-is_err-2.ensures.value) in
+    c.respond-answer.ensures.quiet (subst (λ (o : List ℕ). ¬ AsksForCommand o) (sym (c.deref-2.ensures.value ∙ whole)) none)
