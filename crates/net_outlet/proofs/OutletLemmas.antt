@@ -32,26 +32,26 @@ taken_same a b c x has same = λ before is. kept (before ++ x) c (subst (λ (o :
 front_within : (before after : List Call) → take (length before) after ≡ before → length before ≤ length after
 front_within before after is = omega (arith, length-take (length before) after, ap length is)
 
-one_sending : (sent : Sent) → All (λ call. is_sending call ≡ true) (sends sent ∷ [])
+one_sending : (sent : Sent) → All (λ call. is_sending call ≡ true) (sends 1048576 sent ∷ [])
 one_sending sent = search rules
 
 some_one : {A : Type 0} (x y : A) → Some x ≡ Some y → x ≡ y
 some_one x y same = cc
 
 more_calls : (before mid : List Call) (c : Option (List Call)) (sent : Sent) → (take (length before) mid ≡ before) × All (λ call. is_sending call ≡ true) (drop (length before) mid)
-    → c ≡ Some (mid ++ sends sent ∷ []) → (c ≢ None) × ((after : List Call) → c ≡ Some after → (take (length before) after ≡ before) × All (λ call. is_sending call ≡ true) (drop (length before) after))
+    → c ≡ Some (mid ++ sends 1048576 sent ∷ []) → (c ≢ None) × ((after : List Call) → c ≡ Some after → (take (length before) after ≡ before) × All (λ call. is_sending call ≡ true) (drop (length before) after))
 more_calls before mid c sent (front, rest) is =
     let n : length before ≤ length mid = front_within before mid front in
-    let tail = All-append (λ call. is_sending call ≡ true) (drop (length before) mid) (sends sent ∷ []) rest (one_sending sent) in
+    let tail = All-append (λ call. is_sending call ≡ true) (drop (length before) mid) (sends 1048576 sent ∷ []) rest (one_sending sent) in
     rw is (
       (λ none. cc),
       λ after whole. subst (λ (l : List Call). (take (length before) l ≡ before) × All (λ call. is_sending call ≡ true) (drop (length before) l)) (some_one _ _ whole) (
-        take-append-le (length before) mid (sends sent ∷ []) n ∙ front,
-        subst (λ (l : List Call). All (λ call. is_sending call ≡ true) l) (sym (drop-append-le (length before) mid (sends sent ∷ []) n)) tail,
+        take-append-le (length before) mid (sends 1048576 sent ∷ []) n ∙ front,
+        subst (λ (l : List Call). All (λ call. is_sending call ≡ true) l) (sym (drop-append-le (length before) mid (sends 1048576 sent ∷ []) n)) tail,
       ),
     )
 
-pub calls_more : (a b c : Option (List Call)) (sent : Sent) → MakesSendings a b → MakesCalls b c (sends sent ∷ []) → MakesSendings a c
+pub calls_more : (a b c : Option (List Call)) (sent : Sent) → MakesSendings a b → MakesCalls b c (sends 1048576 sent ∷ []) → MakesSendings a c
 calls_more a None c sent has makes = λ before is. absurd ((has before is).0 refl)
 calls_more a (Some mid) c sent has makes = λ before is. more_calls before mid c sent ((has before is).1 mid refl) makes
 
@@ -97,11 +97,17 @@ vain_more call vain (x ∷ y ∷ xs) all =
     and_both (is_well x) (end_in_vain ((y ∷ xs) ++ call ∷ [])) (and_first (is_well x) (are_well (y ∷ xs)) all) (vain_more call vain (y ∷ xs) (and_then (is_well x) (are_well (y ∷ xs)) all))
 
 -- a sending that didn't fail follows, or one that took nothing
-pub well_sent : (sent : Sent) (a b c : Option (List Call)) → sending_failed sent ≡ false → Follow are_well a b → MakesCalls b c (sends sent ∷ []) → Follow are_well a c
-well_sent sent a b c well has makes = follow_more are_well are_well (sends sent) a b c (well_more (sends sent) (ap not well)) has makes
+pub well_sent : (sent : Sent) (a b c : Option (List Call)) → sending_failed sent ≡ false → Follow are_well a b → MakesCalls b c (sends 1048576 sent ∷ []) → Follow are_well a c
+well_sent sent a b c well has makes = follow_more are_well are_well (sends 1048576 sent) a b c (well_more (sends 1048576 sent) (ap not well)) has makes
 
-pub sent_in_vain : (sent : Sent) (a b c : Option (List Call)) → is_vain sent ≡ true → Follow are_well a b → MakesCalls b c (sends sent ∷ []) → Follow end_in_vain a c
-sent_in_vain sent a b c vain has makes = follow_more are_well end_in_vain (sends sent) a b c (vain_more (sends sent) vain) has makes
+pub sent_in_vain : (sent : Sent) (a b c : Option (List Call)) → is_vain sent ≡ true → Follow are_well a b → MakesCalls b c (sends 1048576 sent ∷ []) → Follow end_in_vain a c
+sent_in_vain sent a b c vain has makes = follow_more are_well end_in_vain (sends 1048576 sent) a b c (vain_more (sends 1048576 sent) vain) has makes
+
+-- as many were offered as waited
+pub offered : (a b : Option (List Call)) (octets waits : List ℕ) (sent : Sent) (outcome : Result ℕ Error) → octets ≡ waits → length waits ≡ 1048576 → sent ≡ sent_by outcome
+    → MakesCalls a b (sends (length octets) (sent_by outcome) ∷ []) → MakesCalls a b (sends 1048576 sent ∷ [])
+offered a b octets waits sent outcome same full is made =
+    subst (λ (n : ℕ). MakesCalls a b (sends n sent ∷ [])) (ap length same ∙ full) (subst (λ (s : Sent). MakesCalls a b (sends (length octets) s ∷ [])) (sym is) made)
 
 choice_is_well : (none : Bool) → sending_failed (if none then sents.Nothing else sents.Some) ≡ false
 choice_is_well true = refl

@@ -1,5 +1,5 @@
 -- What an event puts, and what is taken of it at once.
-use Rattle.std.specs.Prelude.{◌≡◌, ◌≢◌, ◌≤◌, ◌<◌, ◌+◌, ℕ, Bool, true, false, not, ◌&&◌, All, List, [], ◌∷◌, ◌++◌, take, drop, length, Option, None, Some, vec_capacity}
+use Rattle.std.specs.Prelude.{◌≡◌, ◌≢◌, ◌≤◌, ◌<◌, ◌+◌, ℕ, Bool, true, false, not, ◌==◌, ◌&&◌, All, List, [], ◌∷◌, ◌++◌, take, drop, length, Option, None, Some, vec_capacity}
 use Rattle.std.specs.Io.KnownBytes.{Appends, Keeps}
 use Rattle.dict_proto.specs.Streams.{Stream}
 use Rattle.net_outlet.specs.OutletCalls.{Call, MakesCalls, sends, receives, ends, sending_failed, is_vain}
@@ -15,8 +15,9 @@ carried taken queue = taken.octets ++ waiting queue
 abbrev pub stream_through : Trail → Queue → Stream
 stream_through taken queue = record { octets = Some (carried taken queue); failures = queue.failures }
 
+-- all of the octets that may wait were offered
 abbrev pub is_sending : Call → Bool
-is_sending (sends sent) = true
+is_sending (sends count sent) = count == 1048576
 is_sending (receives room received) = false
 is_sending (ends is_told) = false
 
@@ -24,29 +25,29 @@ is_sending (ends is_told) = false
 abbrev pub HasTakenOctets : Option (List ℕ) → Option (List ℕ) → List ℕ → Type 0
 HasTakenOctets old new octets = (before : List ℕ) → old ≡ Some before → new ≡ Some (before ++ octets)
 
--- sendings were made after the calls before, and no other calls, where the calls are known
+-- such sendings were made after the calls before, and no other calls, where the calls are known
 abbrev pub MakesSendings : Option (List Call) → Option (List Call) → Type 0
 MakesSendings old new = (before : List Call) → old ≡ Some before
     → (new ≢ None) × ((after : List Call) → new ≡ Some after → (take (length before) after ≡ before) × All (λ call. is_sending call ≡ true) (drop (length before) after))
 
--- a sending that didn't fail
+-- such a sending, which didn't fail
 abbrev pub is_well : Call → Bool
-is_well (sends sent) = not (sending_failed sent)
+is_well (sends count sent) = (count == 1048576) && not (sending_failed sent)
 is_well (receives room received) = false
 is_well (ends is_told) = false
 
--- a sending that took nothing
+-- such a sending, which took nothing
 abbrev pub is_in_vain : Call → Bool
-is_in_vain (sends sent) = is_vain sent
+is_in_vain (sends count sent) = (count == 1048576) && is_vain sent
 is_in_vain (receives room received) = false
 is_in_vain (ends is_told) = false
 
--- sendings, of which none failed
+-- such sendings, of which none failed
 abbrev pub are_well : List Call → Bool
 are_well [] = true
 are_well (call ∷ calls) = is_well call && are_well calls
 
--- sendings, of which the last took nothing and no other failed
+-- such sendings, of which the last took nothing and no other failed
 abbrev pub end_in_vain : List Call → Bool
 end_in_vain [] = false
 end_in_vain (call ∷ []) = is_in_vain call
@@ -72,7 +73,7 @@ abbrev pub PutsSome : List ℕ → Trail → Queue → Trail → Queue → Type 
 PutsSome octets taken queue now_taken now = (k : ℕ) × (k ≤ length octets) × (carried now_taken now ≡ carried taken queue ++ take k octets)
 
 -- What waited before and what was put: a front of it is sent, which the transport took, and the rest waits. Of the transport no more
--- was asked than to take octets, and not even that while fewer than 1,048,576 of them were there
+-- was asked than to take octets, 1,048,576 each time, and not even that while fewer of them were there
 pub record PassesOctets {T : Type 0} (taken coming : T → Option (List ℕ)) (made : T → Option (List Call)) (old new : T) (before after put : List ℕ) : Type 0 where
   pub sent : List ℕ
   pub takes : Appends (taken old) (taken new) sent

@@ -191,7 +191,7 @@ impl<T: Transport, B: Beginning> Outlet<T, B> {
         ensures none { is_vain result ≡ true → waiting self.new.queue ≡ waiting self.old.queue }
         ensures failed { self.new.has_failed ≡ sending_failed result }
         ensures refused { self.new.queue.refused ≡ self.old.queue.refused }
-        ensures made { MakesCalls (T.made self.old.transport) (T.made self.new.transport) (sends result ∷ []) }
+        ensures made { MakesCalls (T.made self.old.transport) (T.made self.new.transport) (sends 1048576 result ∷ []) }
         ensures failures { self.new.queue.failures ≡ self.old.queue.failures }
     {
         let octets = self.queue.as_slice();
