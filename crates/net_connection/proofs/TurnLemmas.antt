@@ -417,9 +417,9 @@ calls_of_both a b c count may sents.Failed reading within well first later = abs
 
 -- a sending, and then a reading, where nothing was held
 pub turns_read : {T : Type 0} {refused : ℕ → Kind → Type 0} (taken coming : T → Option (List ℕ)) (made : T → Option (List Call)) (a b c : Connection T) (sending : Sent) (reading : Received) (events : List Accepted) → sending ≢ sents.Failed
-    → is_handed b.held ≡ true → SendsOnce taken coming made a b sending → ReadsOnce taken coming made refused b c reading events → (moved : Bool) → moved ≡ has_moved sending reading
+    → is_handed b.held ≡ true → c.dropped ≡ b.dropped → SendsOnce taken coming made a b sending → ReadsOnce taken coming made refused b c reading events → (moved : Bool) → moved ≡ has_moved sending reading
     → Turns taken coming made refused a c moved events
-turns_read {refused = refused} taken coming made a b c sending reading events well all first later moved is =
+turns_read {refused = refused} taken coming made a b c sending reading events well all stays first later moved is =
     let empty : is_handed a.held ≡ true = ap is_handed (sym first.held) ∙ all in
     let none : held_in a.held ≡ [] = none_held a.held empty in
     let may : may_read a ≡ a.may_receive = ap (λ (e : Bool). e && a.may_receive) empty in
@@ -427,6 +427,7 @@ turns_read {refused = refused} taken coming made a b c sending reading events we
     let whole : later.received ≡ held_in a.held ++ later.received = ap (λ (l : List ℕ). l ++ later.received) (sym none) in
     record {
       has_moved = is ∙ ap (λ (e : Bool). has_turned e sending reading) (sym empty);
+      dropped = stays ∙ first.dropped;
       id = later.id ∙ first.id;
       kind = later.kind ∙ kind;
       was_open = λ still. ap is_open (sym first.stage) ∙ later.was_open still;
@@ -461,15 +462,16 @@ turns_read {refused = refused} taken coming made a b c sending reading events we
 
 -- a sending, and then the next piece of what was held
 pub turns_handed : {T : Type 0} {refused : ℕ → Kind → Type 0} (taken coming : T → Option (List ℕ)) (made : T → Option (List Call)) (a b c : Connection T) (sending : Sent) (events : List Accepted) → sending ≢ sents.Failed
-    → is_handed b.held ≡ false → SendsOnce taken coming made a b sending → HandsOver taken coming made (held_in b.held) b c events × LeadsByPiece refused (held_in b.held) b c events
+    → is_handed b.held ≡ false → c.dropped ≡ b.dropped → SendsOnce taken coming made a b sending → HandsOver taken coming made (held_in b.held) b c events × LeadsByPiece refused (held_in b.held) b c events
     → Turns taken coming made refused a c true events
-turns_handed {refused = refused} taken coming made a b c sending events well some first (hands, leads) =
+turns_handed {refused = refused} taken coming made a b c sending events well some stays first (hands, leads) =
     let left : is_handed a.held ≡ false = ap is_handed (sym first.held) ∙ some in
     let may : may_read a ≡ false = ap (λ (e : Bool). e && a.may_receive) left in
     let kind : b.held.kind ≡ a.held.kind = ap (λ (h : Held). h.kind) first.held in
     let whole : held_in b.held ≡ held_in a.held ++ [] = ap held_in first.held ∙ sym (append-nil (held_in a.held)) in
     record {
       has_moved = ap (λ (e : Bool). has_turned e sending receiveds.Nothing) (sym left);
+      dropped = stays ∙ first.dropped;
       id = hands.id ∙ first.id;
       kind = hands.kind ∙ kind;
       was_open = λ still. ap is_open (sym first.stage) ∙ hands.was_open still;
@@ -511,9 +513,10 @@ turned_failed false = refl
 
 -- a sending that failed, and then the hub was told the end
 pub turns_failed : {T : Type 0} {refused : ℕ → Kind → Type 0} (taken coming : T → Option (List ℕ)) (made : T → Option (List Call)) (a b c : Connection T) (sending : Sent) (events : List Accepted) → sending ≡ sents.Failed
-    → SendsOnce taken coming made a b sending → c.stage ≡ stages.Over → HandsToHub [] b c events × IsOnly (ended b.id) events → Turns taken coming made refused a c true events
-turns_failed taken coming made a b c sending events failed first over (hands, only) = record {
+    → c.dropped ≡ b.dropped → SendsOnce taken coming made a b sending → c.stage ≡ stages.Over → HandsToHub [] b c events × IsOnly (ended b.id) events → Turns taken coming made refused a c true events
+turns_failed taken coming made a b c sending events failed stays first over (hands, only) = record {
   has_moved = turned_failed (is_handed a.held);
+  dropped = stays ∙ first.dropped;
   id = hands.id ∙ first.id;
   kind = ap (λ (h : Held). h.kind) (hands.held ∙ first.held);
   was_open = λ still. ap is_open (sym first.stage) ∙ hands.was_open still;

@@ -164,7 +164,7 @@ pub record ReadsOnce {T : Type 0} (taken coming : T → Option (List ℕ)) (made
   pub unmarked : old.may_receive ≡ false → reading ≡ receiveds.Nothing
   pub leads : LeadsByReading refused reading received old new events
 
--- A turn of an open connection. The events are of this connection alone. What waited and what they put: a front of it is sent, which
+-- A turn of an open connection, by which nothing is dropped. The events are of this connection alone. What waited and what they put: a front of it is sent, which
 -- the transport took, and the rest waits. What was held and what came: its first piece was handed to the hub while the connection is
 -- open, unless it is held back, and else that or none; and the rest is held while it is open. The calls are a sending of all that waits,
 -- where something does, then a reading, where one may give something and nothing was held, and within the event sendings again, once 1,048,576 octets
@@ -196,6 +196,7 @@ pub record Turns {T : Type 0} (taken coming : T → Option (List ℕ)) (made : T
   pub idle : is_clear old.queue ≡ true → sending ≡ sents.Nothing
   pub unmarked : may_read old ≡ false → reading ≡ receiveds.Nothing
   pub leads : LeadsByTurn refused sending reading received old new events
+  pub dropped : new.dropped ≡ old.dropped
   pub has_moved : moved ≡ has_turned (is_handed old.held) sending reading
 
 -- A connection was opened under this id: its stage is that of the hub's answer, the hub has it then as one of which nothing came,
