@@ -37,12 +37,12 @@ pub stuck_from : (a b : Option (List Call)) (p q r : Queue) → q.failures ≡ p
 stuck_from a b p q r failures refused stuck = λ other. subst (λ (n : ℕ). IsStuck a b n r) refused (stuck (λ same. other (same ∙ failures)))
 
 -- behind the calls of a turn
-pub stuck_turned : (a b c : Option (List Call)) (clear may : Bool) (sending : Sent) (reading : Received) (q r : Queue) → sending ≢ sents.Failed → MakesCalls a b (sendings clear sending)
-    → FailsOnlyStuck (calls_behind b (reading_calls may reading)) c q r → FailsOnlyStuck (calls_behind a (calls_of_turn clear may sending reading)) c q r
-stuck_turned a b c clear may sents.Nothing reading q r well makes stuck = stuck_after a b c (sendings clear sents.Nothing) (reading_calls may reading) q r makes stuck
-stuck_turned a b c clear may sents.Interrupted reading q r well makes stuck = stuck_after a b c (sendings clear sents.Interrupted) (reading_calls may reading) q r makes stuck
-stuck_turned a b c clear may sents.Some reading q r well makes stuck = stuck_after a b c (sendings clear sents.Some) (reading_calls may reading) q r makes stuck
-stuck_turned a b c clear may sents.Failed reading q r well makes stuck = absurd (well refl)
+pub stuck_turned : (a b c : Option (List Call)) (count : ℕ) (may : Bool) (sending : Sent) (reading : Received) (q r : Queue) → sending ≢ sents.Failed → MakesCalls a b (sendings count sending)
+    → FailsOnlyStuck (calls_behind b (reading_calls may reading)) c q r → FailsOnlyStuck (calls_behind a (calls_of_turn count may sending reading)) c q r
+stuck_turned a b c count may sents.Nothing reading q r well makes stuck = stuck_after a b c (sendings count sents.Nothing) (reading_calls may reading) q r makes stuck
+stuck_turned a b c count may sents.Interrupted reading q r well makes stuck = stuck_after a b c (sendings count sents.Interrupted) (reading_calls may reading) q r makes stuck
+stuck_turned a b c count may sents.Some reading q r well makes stuck = stuck_after a b c (sendings count sents.Some) (reading_calls may reading) q r makes stuck
+stuck_turned a b c count may sents.Failed reading q r well makes stuck = absurd (well refl)
 
 -- a failure that is counted is of an event that failed
 pub stuck_counted : (a b : Option (List Call)) (n : ℕ) (q r : Queue) (has_failed : Bool) → n ≡ (counts_of q).refused → (has_failed ≡ true → IsStuck a b n r) → (has_failed ≡ false → r.failures ≡ q.failures) → FailsOnlyStuck a b q r

@@ -245,7 +245,7 @@ hands_closed a b c octets events id transport marks held queue closed hands = re
 -- a front of what waited was sent, by one call
 pub sends_once : {T : Type 0} (taken coming : T → Option (List ℕ)) (made : T → Option (List Call)) (a b : Connection T) (outcome : Result ℕ Error)
     → b.id ≡ a.id → b.stage ≡ a.stage → b.may_receive ≡ a.may_receive → b.held ≡ a.held → b.dropped ≡ a.dropped → b.queue.failures ≡ a.queue.failures → b.queue.refused ≡ a.queue.refused → is_clear a.queue ≡ false
-    → Sends outcome a.queue b.queue (taken a.transport) (taken b.transport) → Keeps (coming a.transport) (coming b.transport) → MakesCalls (made a.transport) (made b.transport) (sends (sent_by outcome) ∷ [])
+    → Sends outcome a.queue b.queue (taken a.transport) (taken b.transport) → Keeps (coming a.transport) (coming b.transport) → MakesCalls (made a.transport) (made b.transport) (sends (length (waiting a.queue)) (sent_by outcome) ∷ [])
     → SendsOnce taken coming made a b (sent_by outcome)
 sends_once taken coming made a b (Ok n) id stage marks held dropped failures refused clear took comes calls = record {
   id = id;
@@ -403,23 +403,23 @@ leads_by_turn refused a c sents.Interrupted reading octets events well leads = l
 leads_by_turn refused a c sents.Some reading octets events well leads = leads
 leads_by_turn refused a c sents.Failed reading octets events well leads = absurd (well refl)
 
-pub calls_of_both : (a b c : Option (List Call)) (clear may : Bool) (sending : Sent) (reading : Received) (within : List Call) → sending ≢ sents.Failed → MakesCalls a b (sendings clear sending)
+pub calls_of_both : (a b c : Option (List Call)) (count : ℕ) (may : Bool) (sending : Sent) (reading : Received) (within : List Call) → sending ≢ sents.Failed → MakesCalls a b (sendings count sending)
     → MakesCalls b c (reading_calls may reading ++ within)
-    → MakesCalls a c (calls_of_turn clear may sending reading ++ within)
-calls_of_both a b c clear may sents.Nothing reading within well first later =
-    subst (λ (l : List Call). MakesCalls a c l) (sym (append_assoc (sendings clear sents.Nothing) (reading_calls may reading) within)) (makes_joined a b c (sendings clear sents.Nothing) (reading_calls may reading ++ within) first later)
-calls_of_both a b c clear may sents.Interrupted reading within well first later =
-    subst (λ (l : List Call). MakesCalls a c l) (sym (append_assoc (sendings clear sents.Interrupted) (reading_calls may reading) within))
-    (makes_joined a b c (sendings clear sents.Interrupted) (reading_calls may reading ++ within) first later)
-calls_of_both a b c clear may sents.Some reading within well first later =
-    subst (λ (l : List Call). MakesCalls a c l) (sym (append_assoc (sendings clear sents.Some) (reading_calls may reading) within)) (makes_joined a b c (sendings clear sents.Some) (reading_calls may reading ++ within) first later)
-calls_of_both a b c clear may sents.Failed reading within well first later = absurd (well refl)
+    → MakesCalls a c (calls_of_turn count may sending reading ++ within)
+calls_of_both a b c count may sents.Nothing reading within well first later =
+    subst (λ (l : List Call). MakesCalls a c l) (sym (append_assoc (sendings count sents.Nothing) (reading_calls may reading) within)) (makes_joined a b c (sendings count sents.Nothing) (reading_calls may reading ++ within) first later)
+calls_of_both a b c count may sents.Interrupted reading within well first later =
+    subst (λ (l : List Call). MakesCalls a c l) (sym (append_assoc (sendings count sents.Interrupted) (reading_calls may reading) within))
+    (makes_joined a b c (sendings count sents.Interrupted) (reading_calls may reading ++ within) first later)
+calls_of_both a b c count may sents.Some reading within well first later =
+    subst (λ (l : List Call). MakesCalls a c l) (sym (append_assoc (sendings count sents.Some) (reading_calls may reading) within)) (makes_joined a b c (sendings count sents.Some) (reading_calls may reading ++ within) first later)
+calls_of_both a b c count may sents.Failed reading within well first later = absurd (well refl)
 
 -- a sending, and then a reading, where nothing was held
 pub turns_read : {T : Type 0} {refused : ℕ → Kind → Type 0} (taken coming : T → Option (List ℕ)) (made : T → Option (List Call)) (a b c : Connection T) (sending : Sent) (reading : Received) (events : List Accepted) → sending ≢ sents.Failed
-    → is_handed b.held ≡ true → SendsOnce taken coming made a b sending → ReadsOnce taken coming made refused b c reading events → (moved : Bool) → moved ≡ has_moved sending reading
+    → is_handed b.held ≡ true → c.dropped ≡ b.dropped → SendsOnce taken coming made a b sending → ReadsOnce taken coming made refused b c reading events → (moved : Bool) → moved ≡ has_moved sending reading
     → Turns taken coming made refused a c moved events
-turns_read {refused = refused} taken coming made a b c sending reading events well all first later moved is =
+turns_read {refused = refused} taken coming made a b c sending reading events well all stays first later moved is =
     let empty : is_handed a.held ≡ true = ap is_handed (sym first.held) ∙ all in
     let none : held_in a.held ≡ [] = none_held a.held empty in
     let may : may_read a ≡ a.may_receive = ap (λ (e : Bool). e && a.may_receive) empty in
@@ -427,6 +427,7 @@ turns_read {refused = refused} taken coming made a b c sending reading events we
     let whole : later.received ≡ held_in a.held ++ later.received = ap (λ (l : List ℕ). l ++ later.received) (sym none) in
     record {
       has_moved = is ∙ ap (λ (e : Bool). has_turned e sending reading) (sym empty);
+      dropped = stays ∙ first.dropped;
       id = later.id ∙ first.id;
       kind = later.kind ∙ kind;
       was_open = λ still. ap is_open (sym first.stage) ∙ later.was_open still;
@@ -446,11 +447,11 @@ turns_read {refused = refused} taken coming made a b c sending reading events we
       reading = reading;
       within = later.within;
       sendings = later.sendings;
-      calls = subst (λ (m : Bool). MakesCalls (made a.transport) (made c.transport) (calls_of_turn (is_clear a.queue) m sending reading ++ later.within)) (sym may)
-          (calls_of_both _ _ _ (is_clear a.queue) a.may_receive sending reading later.within well first.calls
+      calls = subst (λ (m : Bool). MakesCalls (made a.transport) (made c.transport) (calls_of_turn (length (waiting a.queue)) m sending reading ++ later.within)) (sym may)
+          (calls_of_both _ _ _ (length (waiting a.queue)) a.may_receive sending reading later.within well first.calls
           (subst (λ (m : Bool). MakesCalls (made b.transport) (made c.transport) (reading_calls m reading ++ later.within)) first.may_receive later.calls));
-      stuck = subst (λ (m : Bool). FailsOnlyStuck (calls_behind (made a.transport) (calls_of_turn (is_clear a.queue) m sending reading)) (made c.transport) a.queue c.queue) (sym may)
-          (stuck_turned _ _ _ (is_clear a.queue) a.may_receive sending reading a.queue c.queue well first.calls (stuck_from _ _ a.queue b.queue c.queue first.failures first.refused
+      stuck = subst (λ (m : Bool). FailsOnlyStuck (calls_behind (made a.transport) (calls_of_turn (length (waiting a.queue)) m sending reading)) (made c.transport) a.queue c.queue) (sym may)
+          (stuck_turned _ _ _ (length (waiting a.queue)) a.may_receive sending reading a.queue c.queue well first.calls (stuck_from _ _ a.queue b.queue c.queue first.failures first.refused
           (subst (λ (m : Bool). FailsOnlyStuck (calls_behind (made b.transport) (reading_calls m reading)) (made c.transport) b.queue c.queue) first.may_receive later.stuck)));
       lazy = λ few. (later.lazy (omega (arith, few, ap length first.order, length-append first.sent (waiting b.queue)))).1;
       idle = first.idle;
@@ -461,15 +462,16 @@ turns_read {refused = refused} taken coming made a b c sending reading events we
 
 -- a sending, and then the next piece of what was held
 pub turns_handed : {T : Type 0} {refused : ℕ → Kind → Type 0} (taken coming : T → Option (List ℕ)) (made : T → Option (List Call)) (a b c : Connection T) (sending : Sent) (events : List Accepted) → sending ≢ sents.Failed
-    → is_handed b.held ≡ false → SendsOnce taken coming made a b sending → HandsOver taken coming made (held_in b.held) b c events × LeadsByPiece refused (held_in b.held) b c events
+    → is_handed b.held ≡ false → c.dropped ≡ b.dropped → SendsOnce taken coming made a b sending → HandsOver taken coming made (held_in b.held) b c events × LeadsByPiece refused (held_in b.held) b c events
     → Turns taken coming made refused a c true events
-turns_handed {refused = refused} taken coming made a b c sending events well some first (hands, leads) =
+turns_handed {refused = refused} taken coming made a b c sending events well some stays first (hands, leads) =
     let left : is_handed a.held ≡ false = ap is_handed (sym first.held) ∙ some in
     let may : may_read a ≡ false = ap (λ (e : Bool). e && a.may_receive) left in
     let kind : b.held.kind ≡ a.held.kind = ap (λ (h : Held). h.kind) first.held in
     let whole : held_in b.held ≡ held_in a.held ++ [] = ap held_in first.held ∙ sym (append-nil (held_in a.held)) in
     record {
       has_moved = ap (λ (e : Bool). has_turned e sending receiveds.Nothing) (sym left);
+      dropped = stays ∙ first.dropped;
       id = hands.id ∙ first.id;
       kind = hands.kind ∙ kind;
       was_open = λ still. ap is_open (sym first.stage) ∙ hands.was_open still;
@@ -489,10 +491,10 @@ turns_handed {refused = refused} taken coming made a b c sending events well som
       reading = receiveds.Nothing;
       within = hands.passes.within;
       sendings = hands.passes.sendings;
-      calls = subst (λ (m : Bool). MakesCalls (made a.transport) (made c.transport) (calls_of_turn (is_clear a.queue) m sending receiveds.Nothing ++ hands.passes.within)) (sym may)
-          (calls_of_both _ _ _ (is_clear a.queue) false sending receiveds.Nothing hands.passes.within well first.calls hands.passes.calls);
-      stuck = subst (λ (m : Bool). FailsOnlyStuck (calls_behind (made a.transport) (calls_of_turn (is_clear a.queue) m sending receiveds.Nothing)) (made c.transport) a.queue c.queue) (sym may)
-          (stuck_turned (made a.transport) (made b.transport) (made c.transport) (is_clear a.queue) false sending receiveds.Nothing a.queue c.queue well first.calls
+      calls = subst (λ (m : Bool). MakesCalls (made a.transport) (made c.transport) (calls_of_turn (length (waiting a.queue)) m sending receiveds.Nothing ++ hands.passes.within)) (sym may)
+          (calls_of_both _ _ _ (length (waiting a.queue)) false sending receiveds.Nothing hands.passes.within well first.calls hands.passes.calls);
+      stuck = subst (λ (m : Bool). FailsOnlyStuck (calls_behind (made a.transport) (calls_of_turn (length (waiting a.queue)) m sending receiveds.Nothing)) (made c.transport) a.queue c.queue) (sym may)
+          (stuck_turned (made a.transport) (made b.transport) (made c.transport) (length (waiting a.queue)) false sending receiveds.Nothing a.queue c.queue well first.calls
           (stuck_behind (made b.transport) (made b.transport) (made c.transport) [] a.queue c.queue (makes_none (made b.transport))
           (stuck_from _ _ a.queue b.queue c.queue first.failures first.refused hands.stuck)));
       lazy = λ few. (hands.passes.lazy (omega (arith, few, ap length first.order, length-append first.sent (waiting b.queue)))).1;
@@ -511,9 +513,10 @@ turned_failed false = refl
 
 -- a sending that failed, and then the hub was told the end
 pub turns_failed : {T : Type 0} {refused : ℕ → Kind → Type 0} (taken coming : T → Option (List ℕ)) (made : T → Option (List Call)) (a b c : Connection T) (sending : Sent) (events : List Accepted) → sending ≡ sents.Failed
-    → SendsOnce taken coming made a b sending → c.stage ≡ stages.Over → HandsToHub [] b c events × IsOnly (ended b.id) events → Turns taken coming made refused a c true events
-turns_failed taken coming made a b c sending events failed first over (hands, only) = record {
+    → c.dropped ≡ b.dropped → SendsOnce taken coming made a b sending → c.stage ≡ stages.Over → HandsToHub [] b c events × IsOnly (ended b.id) events → Turns taken coming made refused a c true events
+turns_failed taken coming made a b c sending events failed stays first over (hands, only) = record {
   has_moved = turned_failed (is_handed a.held);
+  dropped = stays ∙ first.dropped;
   id = hands.id ∙ first.id;
   kind = ap (λ (h : Held). h.kind) (hands.held ∙ first.held);
   was_open = λ still. ap is_open (sym first.stage) ∙ hands.was_open still;
@@ -532,9 +535,9 @@ turns_failed taken coming made a b c sending events failed first over (hands, on
   reading = receiveds.Nothing;
   within = [];
   sendings = All-nil (λ call. is_sending call ≡ true);
-  calls = subst (λ (l : List Call). MakesCalls (made a.transport) (made c.transport) l) (sym (append-nil (sendings (is_clear a.queue) sents.Failed)))
-      (subst (λ t. MakesCalls (made a.transport) (made t) (sendings (is_clear a.queue) sents.Failed)) (sym hands.transport)
-      (subst (λ (s : Sent). MakesCalls (made a.transport) (made b.transport) (sendings (is_clear a.queue) s)) failed first.calls));
+  calls = subst (λ (l : List Call). MakesCalls (made a.transport) (made c.transport) l) (sym (append-nil (sendings (length (waiting a.queue)) sents.Failed)))
+      (subst (λ t. MakesCalls (made a.transport) (made t) (sendings (length (waiting a.queue)) sents.Failed)) (sym hands.transport)
+      (subst (λ (s : Sent). MakesCalls (made a.transport) (made b.transport) (sendings (length (waiting a.queue)) s)) failed first.calls));
   stuck = stuck_none _ _ a.queue c.queue (hands.failures ∙ first.failures);
   lazy = λ few. refl;
   idle = λ is. sym failed ∙ first.idle is;
@@ -576,12 +579,12 @@ not_both false idle = refl
 
 -- a sending that failed was made
 only_failed : {T : Type 0} {taken coming : T → Option (List ℕ)} (made : T → Option (List Call)) (a b : Connection T) (sending : Sent) → sending ≡ sents.Failed → SendsOnce taken coming made a b sending
-    → MakesCalls (made a.transport) (made b.transport) (sends sents.Failed ∷ [])
+    → MakesCalls (made a.transport) (made b.transport) (sends (length (waiting a.queue)) sents.Failed ∷ [])
 only_failed made a b sending failed first =
     let waits : is_clear a.queue ≡ false = not_both (is_clear a.queue) (λ is. sym failed ∙ first.idle is) in
-    let calls : MakesCalls (made a.transport) (made b.transport) (sendings (is_clear a.queue) sents.Failed)
-    = subst (λ (s : Sent). MakesCalls (made a.transport) (made b.transport) (sendings (is_clear a.queue) s)) failed first.calls in
-    subst (λ (e : Bool). MakesCalls (made a.transport) (made b.transport) (sendings e sents.Failed)) waits calls
+    let calls : MakesCalls (made a.transport) (made b.transport) (sendings (length (waiting a.queue)) sents.Failed)
+    = subst (λ (s : Sent). MakesCalls (made a.transport) (made b.transport) (sendings (length (waiting a.queue)) s)) failed first.calls in
+    rw waits at calls
 
 -- a sending that didn't fail, and what comes after it
 pub departs_whole : {T : Type 0} (taken coming : T → Option (List ℕ)) (made : T → Option (List Call)) (a b c d : Connection T) (sending : Sent) (finishing dropping moved : Bool) → sending ≢ sents.Failed

@@ -1,5 +1,5 @@
 -- Which calls of its transport a turn makes.
-use Rattle.std.specs.Prelude.{Bool, true, false, List, [], ◌∷◌, ◌++◌, ◌||◌, Option, None, Some}
+use Rattle.std.specs.Prelude.{ℕ, Bool, true, false, List, [], ◌∷◌, ◌++◌, ◌==◌, ◌||◌, Option, None, Some, if◌then◌else◌}
 use Rattle.net_outlet.specs.OutletCalls.{Call, sends, receives, ends, has_moved}
 use Rattle.net_outlet.specs.declared.calls.Sent.{Sent}
 use Rattle.net_outlet.specs.declared.calls.Sent.TheVariants as sents
@@ -12,22 +12,21 @@ abbrev pub calls_behind : Option (List Call) → List Call → Option (List Call
 calls_behind None calls = None
 calls_behind (Some before) calls = Some (before ++ calls)
 
--- a sending is made where something waits
-abbrev pub sendings : Bool → Sent → List Call
-sendings true sent = []
-sendings false sent = sends sent ∷ []
+-- where so many octets wait and they aren't none, a sending is made, which offers all of them
+abbrev pub sendings : ℕ → Sent → List Call
+sendings count sent = if count == 0 then [] else sends count sent ∷ []
 
 -- a reading is made where one may give something, into a room of 65,536 octets
 abbrev pub reading_calls : Bool → Received → List Call
 reading_calls false received = []
 reading_calls true received = receives 65536 received ∷ []
 
--- the calls of a turn: a sending where something waits, and where it didn't fail a reading where one is to be made
-abbrev pub calls_of_turn : Bool → Bool → Sent → Received → List Call
-calls_of_turn is_clear may_read sents.Failed received = sendings is_clear sents.Failed
-calls_of_turn is_clear may_read sents.Nothing received = sendings is_clear sents.Nothing ++ reading_calls may_read received
-calls_of_turn is_clear may_read sents.Interrupted received = sendings is_clear sents.Interrupted ++ reading_calls may_read received
-calls_of_turn is_clear may_read sents.Some received = sendings is_clear sents.Some ++ reading_calls may_read received
+-- the calls of a turn: a sending of all that waits, where something does, and where it didn't fail a reading where one is to be made
+abbrev pub calls_of_turn : ℕ → Bool → Sent → Received → List Call
+calls_of_turn count may_read sents.Failed received = sendings count sents.Failed
+calls_of_turn count may_read sents.Nothing received = sendings count sents.Nothing ++ reading_calls may_read received
+calls_of_turn count may_read sents.Interrupted received = sendings count sents.Interrupted ++ reading_calls may_read received
+calls_of_turn count may_read sents.Some received = sendings count sents.Some ++ reading_calls may_read received
 
 -- a turn did something, or is to be had again at once: where something was held before; or else the sending or the reading tells so
 abbrev pub has_turned : Bool → Sent → Received → Bool

@@ -121,7 +121,7 @@ LeadsByTurn refused sents.Nothing received octets old new events = LeadsFurther 
 LeadsByTurn refused sents.Interrupted received octets old new events = LeadsFurther (is_handed old.held) refused received octets old new events
 LeadsByTurn refused sents.Some received octets old new events = LeadsFurther (is_handed old.held) refused received octets old new events
 
--- A front of what waits was sent, which the transport took, by one call where something waits; nothing was read
+-- A front of what waits was sent, which the transport took, by one call where something waits, which offers all of it; nothing was read
 pub record SendsOnce {T : Type 0} (taken coming : T → Option (List ℕ)) (made : T → Option (List Call)) (old new : Connection T) (sending : Sent) : Type 0 where
   pub id : new.id ≡ old.id
   pub stage : new.stage ≡ old.stage
@@ -134,12 +134,12 @@ pub record SendsOnce {T : Type 0} (taken coming : T → Option (List ℕ)) (made
   pub takes : Appends (taken old.transport) (taken new.transport) sent
   pub order : sent ++ waiting new.queue ≡ waiting old.queue
   pub comes : Keeps (coming old.transport) (coming new.transport)
-  pub calls : MakesCalls (made old.transport) (made new.transport) (sendings (is_clear old.queue) sending)
+  pub calls : MakesCalls (made old.transport) (made new.transport) (sendings (length (waiting old.queue)) sending)
   pub idle : is_clear old.queue ≡ true → sending ≡ sents.Nothing
 
 -- Of what came, by one call where a reading may give something, the first piece was handed to the hub, or none, and the rest is held
--- while the connection is open; and then the transport was asked no more than to take octets, and not even that while fewer than
--- 1,048,576 of them were there. Where more calls of the sink have failed than before, as many octets wait as may and the transport was
+-- while the connection is open; and then the transport was asked no more than to take octets, 1,048,576 each time, and not even that
+-- while fewer of them were there. Where more calls of the sink have failed than before, as many octets wait as may and the transport was
 -- asked last, behind the reading, and took none, or octets found no room since memory was short
 pub record ReadsOnce {T : Type 0} (taken coming : T → Option (List ℕ)) (made : T → Option (List Call)) (refused : ℕ → Kind → Type 0) (old new : Connection T) (reading : Received) (events : List Accepted) : Type 0 where
   pub id : new.id ≡ old.id
@@ -164,10 +164,10 @@ pub record ReadsOnce {T : Type 0} (taken coming : T → Option (List ℕ)) (made
   pub unmarked : old.may_receive ≡ false → reading ≡ receiveds.Nothing
   pub leads : LeadsByReading refused reading received old new events
 
--- A turn of an open connection. The events are of this connection alone. What waited and what they put: a front of it is sent, which
+-- A turn of an open connection, by which nothing is dropped. The events are of this connection alone. What waited and what they put: a front of it is sent, which
 -- the transport took, and the rest waits. What was held and what came: its first piece was handed to the hub while the connection is
--- open, unless it is held back, and else that or none; and the rest is held while it is open. The calls are a sending, where something
--- waits, then a reading, where one may give something and nothing was held, and within the event sendings again, once 1,048,576 octets
+-- open, unless it is held back, and else that or none; and the rest is held while it is open. The calls are a sending of all that waits,
+-- where something does, then a reading, where one may give something and nothing was held, and within the event sendings again, once 1,048,576 octets
 -- are there; and what the first two came to, and the hub's answer, tells the stage. Where more calls of the sink have failed than before,
 -- as many octets wait as may and the last of those within the event took none, or octets found no room since memory was short. Something
 -- happened, or a turn is to be had again at once, where something was held, and else as it is told by what the two came to
@@ -190,12 +190,13 @@ pub record Turns {T : Type 0} (taken coming : T → Option (List ℕ)) (made : T
   pub reading : Received
   pub within : List Call
   pub sendings : All (λ call. is_sending call ≡ true) within
-  pub calls : MakesCalls (made old.transport) (made new.transport) (calls_of_turn (is_clear old.queue) (may_read old) sending reading ++ within)
-  pub stuck : FailsOnlyStuck (calls_behind (made old.transport) (calls_of_turn (is_clear old.queue) (may_read old) sending reading)) (made new.transport) old.queue new.queue
+  pub calls : MakesCalls (made old.transport) (made new.transport) (calls_of_turn (length (waiting old.queue)) (may_read old) sending reading ++ within)
+  pub stuck : FailsOnlyStuck (calls_behind (made old.transport) (calls_of_turn (length (waiting old.queue)) (may_read old) sending reading)) (made new.transport) old.queue new.queue
   pub lazy : length (waiting old.queue) + length put < 1048576 → within ≡ []
   pub idle : is_clear old.queue ≡ true → sending ≡ sents.Nothing
   pub unmarked : may_read old ≡ false → reading ≡ receiveds.Nothing
   pub leads : LeadsByTurn refused sending reading received old new events
+  pub dropped : new.dropped ≡ old.dropped
   pub has_moved : moved ≡ has_turned (is_handed old.held) sending reading
 
 -- A connection was opened under this id: its stage is that of the hub's answer, the hub has it then as one of which nothing came,
@@ -257,13 +258,13 @@ abbrev pub LeadsOut : {T : Type 0} → (T → Option (List Call)) → Sent → B
 LeadsOut made sending is_told reading old new =
     let between = stage_between (is_clear new.queue) old.stage is_told in
     let is_read = is_dropped between old.may_receive in
-    MakesCalls (made old.transport) (made new.transport) (sendings (is_clear old.queue) sending ++ (endings (is_clear new.queue) old.stage is_told ++ reading_calls is_read reading))
+    MakesCalls (made old.transport) (made new.transport) (sendings (length (waiting old.queue)) sending ++ (endings (is_clear new.queue) old.stage is_told ++ reading_calls is_read reading))
     × (new.stage ≡ stage_drained is_read (84_934_656 - old.dropped) reading between) × (new.dropped ≡ dropped_after is_read reading old.dropped)
     × (new.may_receive ≡ marked_after is_read reading old.may_receive)
 
 -- the same, where the sending may have failed
 abbrev pub LeadsAway : {T : Type 0} → (T → Option (List Call)) → Sent → Bool → Received → Connection T → Connection T → Type 0
-LeadsAway made sents.Failed is_told reading old new = MakesCalls (made old.transport) (made new.transport) (sends sents.Failed ∷ []) × (new.stage ≡ stages.Over)
+LeadsAway made sents.Failed is_told reading old new = MakesCalls (made old.transport) (made new.transport) (sends (length (waiting old.queue)) sents.Failed ∷ []) × (new.stage ≡ stages.Over)
 LeadsAway made sents.Nothing is_told reading old new = LeadsOut made sents.Nothing is_told reading old new
 LeadsAway made sents.Interrupted is_told reading old new = LeadsOut made sents.Interrupted is_told reading old new
 LeadsAway made sents.Some is_told reading old new = LeadsOut made sents.Some is_told reading old new

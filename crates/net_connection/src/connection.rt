@@ -74,6 +74,7 @@ impl<T: Transport> Connection<T> {
         ensures may_receive { IfSome result (λ one. one.may_receive ≡ true) }
         ensures kind { IfSome result (λ one. one.held.kind ≡ kind) }
         ensures held { IfSome result (λ one. held_in one.held ≡ []) }
+        ensures dropped { IfSome result (λ one. one.dropped ≡ 0) }
     {
         let Ok(octets) = opening.room(alloc, hub, id, kind) else {
             return None;
@@ -174,6 +175,7 @@ impl<T: Transport> Connection<T> {
         ensures closed { K.is_closed desk.old ≡ true → K.is_closed desk.new ≡ true }
         ensures others { KeepsOthers self.old.id hub.old hub.new }
         ensures id { self.new.id ≡ self.old.id }
+        ensures dropped { self.new.dropped ≡ self.old.dropped }
         ensures idle { result ≡ false → HasNothingToDo self.new }
     {
         let sent = self.send();
@@ -246,6 +248,7 @@ impl<T: Transport> Connection<T> {
         ensures closed { K.is_closed desk.old ≡ true → K.is_closed desk.new ≡ true }
         ensures others { KeepsOthers self.old.id hub.old hub.new }
         ensures id { self.new.id ≡ self.old.id }
+        ensures dropped { self.new.dropped ≡ self.old.dropped }
         ensures idle { result ≡ Received.Nothing → HasNothingToDo self.new }
     {
         if !self.may_receive {
@@ -295,6 +298,7 @@ impl<T: Transport> Connection<T> {
         ensures closed { K.is_closed desk.old ≡ true → K.is_closed desk.new ≡ true }
         ensures others { KeepsOthers self.old.id hub.old hub.new }
         ensures id { self.new.id ≡ self.old.id }
+        ensures dropped { self.new.dropped ≡ self.old.dropped }
     {
         if !is_behind {
             self.foresee(hub, desk);
@@ -362,6 +366,7 @@ impl<T: Transport> Connection<T> {
         ensures closed { K.is_closed desk.old ≡ true → K.is_closed desk.new ≡ true }
         ensures others { KeepsOthers self.old.id hub.old hub.new }
         ensures id { self.new.id ≡ self.old.id }
+        ensures dropped { self.new.dropped ≡ self.old.dropped }
     {
         if self.prepare(desk) {
             return;
@@ -424,6 +429,7 @@ impl<T: Transport> Connection<T> {
         ensures closed { K.is_closed desk.old ≡ true → K.is_closed desk.new ≡ true }
         ensures others { KeepsOthers self.old.id hub.old hub.new }
         ensures id { self.new.id ≡ self.old.id }
+        ensures dropped { self.new.dropped ≡ self.old.dropped }
     {
         let kind = self.held.kind();
         let piece = self.held.next_piece();
@@ -451,6 +457,7 @@ impl<T: Transport> Connection<T> {
         ensures unasked { desk.new ≡ desk.old }
         ensures others { KeepsOthers self.old.id hub.old hub.new }
         ensures id { self.new.id ≡ self.old.id }
+        ensures dropped { self.new.dropped ≡ self.old.dropped }
     {
         self.end(hub, desk);
         self.stage = parted(self.queue.is_empty());
@@ -467,6 +474,7 @@ impl<T: Transport> Connection<T> {
         ensures unasked { desk.new ≡ desk.old }
         ensures others { KeepsOthers self.old.id hub.old hub.new }
         ensures id { self.new.id ≡ self.old.id }
+        ensures dropped { self.new.dropped ≡ self.old.dropped }
         ensures over { self.new.stage ≡ Stage.Over }
         ensures held { self.new.held ≡ self.old.held }
     {

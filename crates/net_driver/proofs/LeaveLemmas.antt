@@ -110,7 +110,7 @@ same_ones a b old new same keeps had id apart = keeps id None (had id (subst (λ
 module _ {T : Type 0} {G : transport.Ghosts T} (refuses : Hub → ℕ → Kind → Option HubFault → Type 0) where
   by_admitting : (transport : T) (kind : Kind) (from to : Hub) (old new : Connections T G) (events : List Accepted) → Admits refuses transport kind from to old new events → KeepsOnlyOpenOf from to old.opened.items new.opened.items
   by_admitting transport kind from to old new events (inl (none, opened, departing, last, keeps, why)) = same_ones from to old.opened.items new.opened.items opened keeps
-  by_admitting transport kind from to old new events (inr (one, opening, id, same, may, kinds, held, opened, departing, last, keeps)) =
+  by_admitting transport kind from to old new events (inr (one, opening, id, same, may, kinds, held, dropped, opened, departing, last, keeps)) =
       subst (λ l. KeepsOnlyOpenOf from to old.opened.items l) (sym opened) (opened_one from to old.opened.items one (old.last + 1) kind events opening id keeps)
 
   by_taking : (transport : T) (kind : Kind) (from to : Hub) (old new : Connections T G) (calls : List (Asking T)) (events : List Accepted)

@@ -18,7 +18,7 @@ use Rattle.net_driver.proofs.OrderLemmas.{Openings, openings_joined, openings_no
 module _ {T : Type 0} {G : transport.Ghosts T} (refuses : Hub → ℕ → Kind → Option HubFault → Type 0) where
   by_admitting : (transport : T) (kind : Kind) (from to : Hub) (old new : Connections T G) (events : List Accepted) → Admits refuses transport kind from to old new events → Openings kind old.last new.last 1 events
   by_admitting transport kind from to old new events (inl (none, opened, departing, last, keeps, why)) = openings_none kind old.last new.last 1 events last none
-  by_admitting transport kind from to old new events (inr (one, opening, id, same, may, kinds, held, opened, departing, last, keeps)) = openings_one kind old.last new.last opening.0 events opening.1 opening.2 last
+  by_admitting transport kind from to old new events (inr (one, opening, id, same, may, kinds, held, dropped, opened, departing, last, keeps)) = openings_one kind old.last new.last opening.0 events opening.1 opening.2 last
 
   by_taking : (transport : T) (kind : Kind) (from to : Hub) (old new : Connections T G) (calls : List (Asking T)) (events : List Accepted)
       → Takes refuses transport kind from to old new calls events → Openings kind old.last new.last 1 events

@@ -147,6 +147,7 @@ turn_kept taken coming made from to old new moved events keeps turns = record {
   unmarked = turns.unmarked;
   leads = leads_kept from to turns.sending turns.reading turns.received old new events keeps turns.leads;
   has_moved = turns.has_moved;
+  dropped = turns.dropped;
 }
 
 -- and so is why octets are held back, where one hub has all of the connection that another has

@@ -89,11 +89,11 @@ IsFull all = (64 ≤ vec_len all.opened) ⊎ (2 ^ 64 ≤ all.last + 1)
 
 -- No connection was opened, since there is no place for it, or for a cause by which it was refused, and all is as before, what the hub
 -- has of each connection too; or one was, of this transport and kind and with the next id, behind those that are open, nothing was
--- read of it yet, and what the hub has of each other is as before
+-- read or dropped of it yet, and what the hub has of each other is as before
 abbrev pub Admits : {T : Type 0} {G : Ghosts T} → (Hub → ℕ → Kind → Option HubFault → Type 0) → T → Kind → Hub → Hub → Connections T G → Connections T G → List Accepted → Type 0
 Admits {T} refuses transport kind from to old new events =
     ((events ≡ []) × (new.opened.items ≡ old.opened.items) × (new.departing.items ≡ old.departing.items) × (new.last ≡ old.last)
     × KeepsEach from to × (IsFull old ⊎ IsConnectionUnopened refuses from (old.last + 1) kind))
     ⊎ ((one : Connection T) × IsOpened (old.last + 1) kind to one events × (one.id ≡ old.last + 1) × (one.transport ≡ transport) × (one.may_receive ≡ true)
-    × (one.held.kind ≡ kind) × (held_in one.held ≡ []) × (new.opened.items ≡ old.opened.items ++ one ∷ []) × (new.departing.items ≡ old.departing.items) × (new.last ≡ old.last + 1)
+    × (one.held.kind ≡ kind) × (held_in one.held ≡ []) × (one.dropped ≡ 0) × (new.opened.items ≡ old.opened.items ++ one ∷ []) × (new.departing.items ≡ old.departing.items) × (new.last ≡ old.last + 1)
     × KeepsOthers (old.last + 1) from to)

@@ -40,10 +40,10 @@ count_received (receiveds.Octets n) = n
 count_received receiveds.End = 0
 count_received receiveds.Failed = 0
 
--- octets were to be sent, octets were to be received into a room of so many, or the peer was to be told that nothing more is sent, which
--- succeeded or didn't
+-- so many octets were offered to be sent, octets were to be received into a room of so many, or the peer was to be told that nothing more
+-- is sent, which succeeded or didn't
 pub data Call : Type 0 where
-  sends : Sent → Call
+  sends : ℕ → Sent → Call
   receives : ℕ → Received → Call
   ends : Bool → Call
 

@@ -1,7 +1,7 @@
 // What an event puts, and what its connection's transport takes of it at once.
 ghost use Rattle.std.specs.Prelude.{◌≡◌, ◌+◌, ◌<◌, ◌≤◌, ℕ, List, Option, [], None, length, true, false};
 ghost use Rattle.net_outlet.specs.OutletCalls.{Call};
-ghost use Rattle.net_outlet.specs.Outlets.{Follow, HasTakenOctets, IsStuck, MakesSendings, are_well};
+ghost use Rattle.net_outlet.specs.Outlets.{Follow, HasTakenOctets, IsStuck, MakesSendings, gives_up, leave_tries, tries_after};
 ghost use Rattle.net_outlet.specs.Queues.{QueueCounts, counts_of, waiting};
 
 use crate::calls::{Sent, sent_by};
@@ -23,6 +23,27 @@ const PAUSED_TRIES: u16 = 64;
 fn pause(tries: u16) {
     if tries % PAUSED_TRIES == 0 {
         yield_now();
+    }
+}
+
+// Whether an event gives up after a sending that came to this, where so many more might have been made in vain.
+fn gives_up(tries: u16, sent: Sent) -> bool
+    ensures { result ≡ gives_up tries sent }
+{
+    match sent {
+        Sent::Some => false,
+        Sent::Failed => true,
+        Sent::Nothing | Sent::Interrupted => tries == 0,
+    }
+}
+
+// How many more may be made in vain after it.
+fn tries_after(tries: u16, sent: Sent) -> u16
+    ensures { result ≡ tries_after tries sent }
+{
+    match sent {
+        Sent::Some => tries,
+        Sent::Nothing | Sent::Interrupted | Sent::Failed => tries.saturating_sub(1),
     }
 }
 
@@ -67,7 +88,7 @@ pub struct Outlet<T: Transport, B: Beginning> {
     ghost takes: { HasTakenOctets B.taken (T.taken transport) taken.octets },
     ghost keeps: { HasTakenOctets B.coming (T.coming transport) [] },
     ghost makes: { MakesSendings B.made (T.made transport) },
-    ghost asks: { has_failed ≡ false → Follow are_well B.made (T.made transport) },
+    ghost asks: { has_failed ≡ false → Follow (leave_tries tries) B.made (T.made transport) },
     ghost stuck: { has_failed ≡ true → IsStuck B.made (T.made transport) B.counts.refused queue },
     ghost counts: { has_failed ≡ false → queue.failures ≡ B.counts.failures },
     ghost room: { has_failed ≡ false → length queue.refused.octets ≡ B.counts.refused },
@@ -76,7 +97,7 @@ pub struct Outlet<T: Transport, B: Beginning> {
 
 impl<T: Transport, B: Beginning> Outlet<T, B> {
     ghost use Rattle.std.specs.Prelude.{◌++◌, ◌∷◌, ◌⊎◌, ◌^◌, ◌-◌, MatchResult, OnOk, OnErr, not};
-    ghost use Rattle.net_outlet.specs.OutletCalls.{MakesCalls, sending_failed, is_vain, sends};
+    ghost use Rattle.net_outlet.specs.OutletCalls.{MakesCalls, is_vain, sends};
     ghost use Rattle.net_outlet.specs.Outlets.{carried, PutsSome};
 
     /// An event begins.
@@ -173,31 +194,30 @@ impl<T: Transport, B: Beginning> Outlet<T, B> {
                 Sent::Failed => return false,
                 Sent::Nothing | Sent::Interrupted => {}
             }
-            self.tries -= 1;
             pause(self.tries);
         }
         let last = self.send_once();
-        self.has_failed = last.is_vain();
-        !self.has_failed
+        !last.is_vain()
     }
 
-    // Asks the transport once to take what waits.
+    // Asks the transport once to take what waits, and notes whether the event gives up.
     fn send_once(&mut self) -> Sent
         requires full { length (waiting self.old.queue) ≡ 1048576 }
         requires well { self.old.has_failed ≡ false }
-        ensures tries { self.new.tries ≡ self.old.tries }
+        ensures tries { self.new.tries ≡ tries_after self.old.tries result }
         ensures carried { carried self.new.taken self.new.queue ≡ carried self.old.taken self.old.queue }
         ensures took { is_vain result ≡ false → length (waiting self.new.queue) < 1048576 }
         ensures none { is_vain result ≡ true → waiting self.new.queue ≡ waiting self.old.queue }
-        ensures failed { self.new.has_failed ≡ sending_failed result }
+        ensures failed { self.new.has_failed ≡ gives_up self.old.tries result }
         ensures refused { self.new.queue.refused ≡ self.old.queue.refused }
-        ensures made { MakesCalls (T.made self.old.transport) (T.made self.new.transport) (sends result ∷ []) }
+        ensures made { MakesCalls (T.made self.old.transport) (T.made self.new.transport) (sends 1048576 result ∷ []) }
         ensures failures { self.new.queue.failures ≡ self.old.queue.failures }
     {
         let octets = self.queue.as_slice();
         let outcome = self.transport.send(octets);
         let sent = sent_by(&outcome);
-        self.has_failed = sent.has_failed();
+        self.has_failed = gives_up(self.tries, sent);
+        self.tries = tries_after(self.tries, sent);
         if let Ok(count) = outcome {
             self.taken.note(octets.split_at(count).0);
             self.queue.pass(count);

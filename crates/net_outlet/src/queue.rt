@@ -103,13 +103,13 @@ impl Queue {
         self.failures = self.failures.saturating_add(1);
     }
 
-    /// Hands what waits to the transport, by one call of it, and tells how many octets it took.
+    /// Hands all that waits to the transport, by one call of it, and tells how many octets it took.
     pub fn send<T: Transport>(&mut self, transport: &mut T) -> io::Result<usize>
         ensures sends { Sends result self.old self.new (T.taken transport.old) (T.taken transport.new) }
         ensures failures { self.new.failures ≡ self.old.failures }
         ensures refused { self.new.refused ≡ self.old.refused }
         ensures coming { Keeps (T.coming transport.old) (T.coming transport.new) }
-        ensures made { MakesCalls (T.made transport.old) (T.made transport.new) (sends (sent_by result) ∷ []) }
+        ensures made { MakesCalls (T.made transport.old) (T.made transport.new) (sends (length (waiting self.old)) (sent_by result) ∷ []) }
     {
         let count = transport.send(self.as_slice())?;
         self.pass(count);

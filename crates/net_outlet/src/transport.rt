@@ -28,7 +28,7 @@ pub trait Transport: Drop {
         ensures bound { WritesAtMost result octets.now }
         ensures taken { WriteAppends (taken self.old) (taken self.new) result octets.now }
         ensures coming { Keeps (coming self.old) (coming self.new) }
-        ensures made { MakesCalls (made self.old) (made self.new) (sends (sent_by result) ∷ []) };
+        ensures made { MakesCalls (made self.old) (made self.new) (sends (length octets.now) (sent_by result) ∷ []) };
 
     /// Puts the peer's next octets at the front of the room, and tells how many. Where there is room, 0 means their end.
     fn receive(&mut self, room: &mut [u8]) -> Result<usize>

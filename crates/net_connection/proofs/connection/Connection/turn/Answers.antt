@@ -16,7 +16,7 @@ returns-then-has_failed-clause-led g c =
     led_as c.end.ensures.led
     (λ events over. (
       turns_failed g.T.Transport.taken g.T.Transport.coming g.T.Transport.made c.args.self.now c.send-sent.new.self _ c.send-sent.result events
-          (failed_is c.send-sent.result (sym c.has_failed.ensures ∙ c.if-has_failed.true)) c.send-sent.ensures c.end.ensures.over (over.0, over.1),
+          (failed_is c.send-sent.result (sym c.has_failed.ensures ∙ c.if-has_failed.true)) c.end.ensures.dropped c.send-sent.ensures c.end.ensures.over (over.0, over.1),
       caused_from _ c.args.self.now c.send-sent.new.self c.end.new.self events c.send-sent.ensures.failures (ap (λ h. h.kind) c.send-sent.ensures.held) over.2,
       λ reader quiet. c.end.ensures.unasked,
       λ is editor. only_no_command c.args.hub.now (ended c.send-sent.new.self.id) events tt over.1,
@@ -29,7 +29,7 @@ returns-then-not-is_empty-clause-led g c =
     led_as c.hand_on.ensures.led
     (λ events handed. (
       turns_handed g.T.Transport.taken g.T.Transport.coming g.T.Transport.made c.args.self.now c.send-sent.new.self _ c.send-sent.result events
-          (well_isnt c.send-sent.result (sym c.has_failed.ensures ∙ c.if-has_failed.false)) (sym c.is_empty.ensures ∙ c.if-not-is_empty.true) c.send-sent.ensures (handed.0, handed.1),
+          (well_isnt c.send-sent.result (sym c.has_failed.ensures ∙ c.if-has_failed.false)) (sym c.is_empty.ensures ∙ c.if-not-is_empty.true) c.hand_on.ensures.dropped c.send-sent.ensures (handed.0, handed.1),
       caused_from _ c.args.self.now c.send-sent.new.self c.hand_on.new.self events c.send-sent.ensures.failures (ap (λ h. h.kind) c.send-sent.ensures.held) handed.2,
       λ reader. handed.3 (ap (λ h. is_of_editor h.kind) c.send-sent.ensures.held ∙ reader),
       λ is editor. handed.4 is (ap (λ h. is_of_editor h.kind) c.send-sent.ensures.held ∙ editor),
@@ -44,7 +44,8 @@ returns-clause-led g c =
     led_as c.read-received.ensures.led
     (λ events reads. (
       turns_read g.T.Transport.taken g.T.Transport.coming g.T.Transport.made c.args.self.now c.send-sent.new.self _ c.send-sent.result c.read-received.result events
-          (well_isnt c.send-sent.result (sym c.has_failed.ensures ∙ c.if-has_failed.false)) (sym c.is_empty.ensures ∙ c.if-not-is_empty.false) c.send-sent.ensures reads.0 c.has_moved.result c.has_moved.ensures,
+          (well_isnt c.send-sent.result (sym c.has_failed.ensures ∙ c.if-has_failed.false)) (sym c.is_empty.ensures ∙ c.if-not-is_empty.false) c.read-received.ensures.dropped
+          c.send-sent.ensures reads.0 c.has_moved.result c.has_moved.ensures,
       caused_from _ c.args.self.now c.send-sent.new.self c.read-received.new.self events c.send-sent.ensures.failures (ap (λ h. h.kind) c.send-sent.ensures.held) reads.1,
       λ reader. reads.2 (ap (λ h. is_of_editor h.kind) c.send-sent.ensures.held ∙ reader),
       λ is editor. reads.3 is (ap (λ h. is_of_editor h.kind) c.send-sent.ensures.held ∙ editor),

@@ -52,6 +52,7 @@ returns-in-Some-open-clause-led g c =
         c.in-Some-open.ensures.may_receive,
         c.in-Some-open.ensures.kind,
         c.in-Some-open.ensures.held,
+        c.in-Some-open.ensures.dropped,
         c.push_reserved.ensures.items,
         refl,
         value,
