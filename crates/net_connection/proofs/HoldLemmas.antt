@@ -22,6 +22,7 @@ use Rattle.net_connection.specs.Causes.{IsRefused}
 use Rattle.net_connection.specs.Telling.{KeepsEach}
 use Rattle.net_connection.specs.Turns.{BringAllOrNone, HandsOver, LeadsByAnswer, LeadsByPiece, ReadsOnce}
 use Rattle.net_connection.specs.declared.connection.Connection.{Connection}
+use Rattle.net_hub.proofs.DurableLemmas.{left_or_closed}
 use Rattle.net_connection.proofs.LeadLemmas.{led_joined}
 use Rattle.net_connection.proofs.StuckLemmas.{stuck_from, stuck_none}
 use Rattle.net_connection.proofs.TurnLemmas.{answer_from, piece_from, reads_handed}
@@ -35,6 +36,7 @@ led_quiet shows leaves same holds = record {
     state = origin;
     stands = start;
     leads = (refl, refl);
+    lasts = left_or_closed origin origin start start [] (refl, refl);
     is_at = same origin at;
     shows = shows trusted start.catalogue shown;
     leaves = leaves start.leaves left;

@@ -4,6 +4,7 @@ use Rattle.std.specs.Prelude.{Option}
 use Rattle.dict_catalogue.specs.Steps.{Catalogue}
 use Rattle.net_hub.specs.Runs.{State, Standing, Accepted, IsAt, Leads, state_after}
 use Rattle.net_hub.specs.declared.hub.Hub.{Hub}
+use Rattle.net_hub.proofs.DurableLemmas.{left_or_closed}
 use Rattle.net_connection.specs.Leading.{HasLedOn}
 
 leads_joined : (a : State) (p : Standing) (es : List Accepted) (b : State) (q : Standing) (fs : List Accepted) (c : State) (r : Standing)
@@ -19,11 +20,13 @@ led_joined first then trust join = record {
   led = λ trusted origin start at shown left.
       let one = first.led (trust trusted) origin start at shown left in
       let two = then.led trusted one.state one.stands one.is_at one.shows one.leaves in
+      let joined = leads_joined origin start one.events one.state one.stands two.events two.state two.stands one.leads two.leads in
       record {
         events = one.events ++ two.events;
         state = two.state;
         stands = two.stands;
-        leads = leads_joined origin start one.events one.state one.stands two.events two.state two.stands one.leads two.leads;
+        leads = joined;
+        lasts = left_or_closed origin two.state start two.stands (one.events ++ two.events) joined;
         is_at = two.is_at;
         shows = two.shows;
         leaves = two.leaves;
@@ -40,6 +43,7 @@ led_none same holds = record {
     state = origin;
     stands = start;
     leads = (refl, refl);
+    lasts = left_or_closed origin origin start start [] (refl, refl);
     is_at = same origin at;
     shows = shown;
     leaves = left;
@@ -62,6 +66,7 @@ led_at led so = record {
         state = one.state;
         stands = one.stands;
         leads = one.leads;
+        lasts = one.lasts;
         is_at = one.is_at;
         shows = one.shows;
         leaves = one.leaves;

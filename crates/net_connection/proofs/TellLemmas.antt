@@ -14,6 +14,7 @@ use Rattle.net_hub.specs.Hubs.{HasHolding, connection_count, greatest_of}
 use Rattle.net_hub.specs.declared.fault.HubFault.{HubFault}
 use Rattle.net_hub.specs.declared.fault.HubFault.TheVariants.{Memory}
 use Rattle.net_hub.specs.Runs.{State, Standing, Accepted, IsAt, IsServedEvent, Leads, LeadsOn, state_after}
+use Rattle.net_hub.proofs.DurableLemmas.{left_or_closed}
 use Rattle.net_hub.specs.declared.kind.Kind.{Kind}
 use Rattle.net_hub.specs.declared.kind.Kind.TheVariants.{Dict, Http}
 use Rattle.net_hub.specs.declared.incoming.Out.{Out}
@@ -98,6 +99,7 @@ led_accepted T S0 S1 L0 L1 a b what out desk old new P leads holds = record {
         state = state_after origin what out;
         stands = on.after;
         leads = on.leads;
+        lasts = left_or_closed origin (state_after origin what out) start on.after (one ∷ []) on.leads;
         is_at = on.is_at;
         shows = on.shows;
         leaves = on.leaves;
@@ -123,6 +125,7 @@ led_greeted T S0 S1 L0 L1 a b id kind out desk old new P leads holds = record {
         state = state_after origin (opened id kind) out;
         stands = on.after;
         leads = on.leads;
+        lasts = left_or_closed origin (state_after origin (opened id kind) out) start on.after (one ∷ []) on.leads;
         is_at = on.is_at;
         shows = on.shows;
         leaves = on.leaves;
