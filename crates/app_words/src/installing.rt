@@ -27,8 +27,8 @@ pub struct InstallRequest<'w> {
 
 /// Installs the edition that an index and a text make, under the id of its request, and writes the reply as a line of JSON.
 ///
-/// Where a reply is kept under the id, it is written again, and neither file is read. Else the index is read before the text,
-/// and both before what they say is refused. Where `Memory` is told, nothing was changed.
+/// Where a reply is kept under the id, it is written again, and neither file is read: no clause says that none is. Else the index
+/// is read before the text, and both before what they say is refused. Where `Memory` is told, nothing was changed.
 pub fn install<'w, K: Preparer, I: InputFiles, W: Sink>(
     alloc: Global,
     desk: &mut K,
