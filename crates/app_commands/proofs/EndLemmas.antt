@@ -10,6 +10,7 @@ use Rattle.net_driver.specs.declared.binding.Network as network
 use Rattle.net_driver.specs.declared.sockets.SystemSockets.{SystemSockets}
 use Rattle.dict_proto.specs.Streams.{StreamChange}
 use Rattle.net_serving.specs.declared.desks.DeskOpener as desks
+use Rattle.app_words.specs.declared.files.InputFiles as inputs
 use Rattle.app_words.specs.Asked.{AskForTask}
 use Rattle.dict_session.specs.Desks.{Stays as DeskStays}
 use Rattle.app_words.specs.declared.task.ItemChange.{ItemChange as AskedChange}
@@ -106,20 +107,20 @@ spared_other Memory reader writer h other = h
 module _ {K D B L : Type 0} (k : lookup.Ghosts K) (d : desks.Ghosts D K) (c : catalogues.Ghosts D K) (n : network.Ghosts B L SystemSockets)
     (fails : K → CommandRequest → K → Fault → Type 0) (expects : K → Expected → K → Type 0) (prepares : K → Result Bool Fault → K → Type 0) (plain : PlainState) (old new : D) where
   -- a status is at most 4
-  pub statuses : (files : List ℕ → Option (List ℕ)) (words : List (List ℕ)) (status : ℕ) (reader writer faults : StreamChange)
-      → CommandEnds k d c n fails expects prepares files plain old new words status reader writer faults → status ≤ 4
-  statuses files words status reader writer faults (inl (Ok end, h, closes)) = omega (arith, closes.0)
-  statuses files words status reader writer faults (inl (Err fault, h, closes)) = omega (arith, closes.0, status_at_most_4 fault)
-  statuses files words status reader writer faults (inr (h, same)) = omega (arith, h.0)
+  pub statuses : {I : Type 0} (i : inputs.Ghosts I) (files : I) (words : List (List ℕ)) (status : ℕ) (reader writer faults : StreamChange)
+      → CommandEnds k d c n i fails expects prepares files plain old new words status reader writer faults → status ≤ 4
+  statuses i files words status reader writer faults (inl (Ok end, h, closes)) = omega (arith, closes.0)
+  statuses i files words status reader writer faults (inl (Err fault, h, closes)) = omega (arith, closes.0, status_at_most_4 fault)
+  statuses i files words status reader writer faults (inr (h, same)) = omega (arith, h.0)
 
   -- with 0 it was done
-  pub done : (files : List ℕ → Option (List ℕ)) (words : List (List ℕ)) (reader writer faults : StreamChange)
-      → CommandEnds k d c n fails expects prepares files plain old new words 0 reader writer faults → IsDone k d c n fails expects prepares files plain old new words reader writer × IsUntouched faults
-  done files words reader writer faults (inl (Ok end, inl task, closes)) = (inl task, closes.1)
-  done files words reader writer faults (inl (Ok end, inr (inl (asks, r, (text, put)), same), closes)) = (inr (asks, r, (text, put), same), closes.1)
-  done files words reader writer faults (inl (Ok end, inr (inr memory, same), closes)) = cc
-  done files words reader writer faults (inl (Err fault, h, closes)) = absurd (never_0 fault closes.0)
-  done files words reader writer faults (inr (h, same)) = absurd (omega (arith, h.0))
+  pub done : {I : Type 0} (i : inputs.Ghosts I) (files : I) (words : List (List ℕ)) (reader writer faults : StreamChange)
+      → CommandEnds k d c n i fails expects prepares files plain old new words 0 reader writer faults → IsDone k d c n fails expects prepares (i.octets files) plain old new words reader writer × IsUntouched faults
+  done i files words reader writer faults (inl (Ok end, inl (task, asks, ends, order), closes)) = (inl (task, asks, ends), closes.1)
+  done i files words reader writer faults (inl (Ok end, inr (inl (asks, r, (text, put)), same), closes)) = (inr (asks, r, (text, put), same), closes.1)
+  done i files words reader writer faults (inl (Ok end, inr (inr memory, same), closes)) = cc
+  done i files words reader writer faults (inl (Err fault, h, closes)) = absurd (never_0 fault closes.0)
+  done i files words reader writer faults (inr (h, same)) = absurd (omega (arith, h.0))
 
   -- a refused task touches nothing
   task_refused : (files : List ℕ → Option (List ℕ)) (task : Task) (fault : ProgramFault) (reader writer : StreamChange)
@@ -146,19 +147,19 @@ module _ {K D B L : Type 0} (k : lookup.Ghosts K) (d : desks.Ghosts D K) (c : ca
   task_refused files (SpeaksOver file) fault reader writer h e = spared_other fault reader writer h.1 (λ f. omega (arith, e, f))
 
   -- with 1 or 2 nothing was touched
-  pub refused : (files : List ℕ → Option (List ℕ)) (words : List (List ℕ)) (reader writer faults : StreamChange)
-      → CommandEnds k d c n fails expects prepares files plain old new words 1 reader writer faults → IsUntouched reader × IsUntouched writer
-  refused files words reader writer faults (inl (Ok end, h, closes)) = absurd (omega (arith, closes.0))
-  refused files words reader writer faults (inl (Err fault, inl (task, asks, ends), closes)) = task_refused files task fault reader writer ends closes.0
-  refused files words reader writer faults (inl (Err fault, inr (inl shown, same), closes)) = absurd (never_refused fault writer shown.2 closes.0)
-  refused files words reader writer faults (inl (Err fault, inr (inr memory, same), closes)) = (memory.1, memory.2)
-  refused files words reader writer faults (inr (h, same)) = (h.2, h.3)
+  pub refused : {I : Type 0} (i : inputs.Ghosts I) (files : I) (words : List (List ℕ)) (reader writer faults : StreamChange)
+      → CommandEnds k d c n i fails expects prepares files plain old new words 1 reader writer faults → IsUntouched reader × IsUntouched writer
+  refused i files words reader writer faults (inl (Ok end, h, closes)) = absurd (omega (arith, closes.0))
+  refused i files words reader writer faults (inl (Err fault, inl (task, asks, ends, order), closes)) = task_refused (i.octets files) task fault reader writer ends closes.0
+  refused i files words reader writer faults (inl (Err fault, inr (inl shown, same), closes)) = absurd (never_refused fault writer shown.2 closes.0)
+  refused i files words reader writer faults (inl (Err fault, inr (inr memory, same), closes)) = (memory.1, memory.2)
+  refused i files words reader writer faults (inr (h, same)) = (h.2, h.3)
 
-  pub misread : (files : List ℕ → Option (List ℕ)) (words : List (List ℕ)) (reader writer faults : StreamChange)
-      → CommandEnds k d c n fails expects prepares files plain old new words 2 reader writer faults → IsUntouched reader × IsUntouched writer
-  misread files words reader writer faults (inl (Ok end, h, closes)) = absurd (omega (arith, closes.0))
-  misread files words reader writer faults (inl (Err fault, h, closes)) = absurd (never_2 fault closes.0)
-  misread files words reader writer faults (inr (h, same)) = (h.2, h.3)
+  pub misread : {I : Type 0} (i : inputs.Ghosts I) (files : I) (words : List (List ℕ)) (reader writer faults : StreamChange)
+      → CommandEnds k d c n i fails expects prepares files plain old new words 2 reader writer faults → IsUntouched reader × IsUntouched writer
+  misread i files words reader writer faults (inl (Ok end, h, closes)) = absurd (omega (arith, closes.0))
+  misread i files words reader writer faults (inl (Err fault, h, closes)) = absurd (never_2 fault closes.0)
+  misread i files words reader writer faults (inr (h, same)) = (h.2, h.3)
 
   -- a session over a file that was told as broken
   spoken_failed : (words : List (List ℕ)) (file : _) (fault : ProgramFault) (reader writer : StreamChange) → AskForTask words (SpeaksOver file) → SessionEnds k d c file.now old new (Err fault) reader writer
@@ -218,14 +219,14 @@ module _ {K D B L : Type 0} (k : lookup.Ghosts K) (d : desks.Ghosts D K) (c : ca
   shown_failed words Memory reader writer r h e = absurd (omega (arith, e))
 
   -- with 3 a file, an output or a session failed
-  pub failed : (files : List ℕ → Option (List ℕ)) (words : List (List ℕ)) (reader writer faults : StreamChange)
-      → CommandEnds k d c n fails expects prepares files plain old new words 3 reader writer faults → IsFailed k d c expects prepares plain old new words reader writer
-  failed files words reader writer faults (inl (Ok end, h, closes)) = absurd (omega (arith, closes.0))
-  failed files words reader writer faults (inl (Err fault, inl (task, asks, ends), closes)) =
-      task_failed files words task fault reader writer asks ends closes.0
-  failed files words reader writer faults (inl (Err fault, inr (inl shown, same), closes)) = shown_failed words fault reader writer shown.1 shown.2 closes.0
-  failed files words reader writer faults (inl (Err fault, inr (inr memory, same), closes)) = inl ((memory.1, memory.2))
-  failed files words reader writer faults (inr (h, same)) = absurd (omega (arith, h.0))
+  pub failed : {I : Type 0} (i : inputs.Ghosts I) (files : I) (words : List (List ℕ)) (reader writer faults : StreamChange)
+      → CommandEnds k d c n i fails expects prepares files plain old new words 3 reader writer faults → IsFailed k d c expects prepares plain old new words reader writer
+  failed i files words reader writer faults (inl (Ok end, h, closes)) = absurd (omega (arith, closes.0))
+  failed i files words reader writer faults (inl (Err fault, inl (task, asks, ends, order), closes)) =
+      task_failed (i.octets files) words task fault reader writer asks ends closes.0
+  failed i files words reader writer faults (inl (Err fault, inr (inl shown, same), closes)) = shown_failed words fault reader writer shown.1 shown.2 closes.0
+  failed i files words reader writer faults (inl (Err fault, inr (inr memory, same), closes)) = inl ((memory.1, memory.2))
+  failed i files words reader writer faults (inr (h, same)) = absurd (omega (arith, h.0))
 
   -- memory ran out in a task
   task_memory : (files : List ℕ → Option (List ℕ)) (words : List (List ℕ)) (task : Task) (fault : ProgramFault) (reader writer : StreamChange)
@@ -294,12 +295,12 @@ module _ {K D B L : Type 0} (k : lookup.Ghosts K) (d : desks.Ghosts D K) (c : ca
   ]
 
   -- with 4 nothing was touched and no change made, or memory ran out in a server
-  pub memory : (files : List ℕ → Option (List ℕ)) (words : List (List ℕ)) (reader writer faults : StreamChange)
-      → CommandEnds k d c n fails expects prepares files plain old new words 4 reader writer faults → IsExhausted k d c expects prepares old new words reader writer
-  memory files words reader writer faults (inl (Ok end, h, closes)) = absurd (omega (arith, closes.0))
-  memory files words reader writer faults (inl (Err fault, inl (task, asks, ends), closes)) =
-      task_exhausted files words task fault reader writer asks ends closes.0
-  memory files words reader writer faults (inl (Err fault, inr (inl shown, same), closes)) =
+  pub memory : {I : Type 0} (i : inputs.Ghosts I) (files : I) (words : List (List ℕ)) (reader writer faults : StreamChange)
+      → CommandEnds k d c n i fails expects prepares files plain old new words 4 reader writer faults → IsExhausted k d c expects prepares old new words reader writer
+  memory i files words reader writer faults (inl (Ok end, h, closes)) = absurd (omega (arith, closes.0))
+  memory i files words reader writer faults (inl (Err fault, inl (task, asks, ends, order), closes)) =
+      task_exhausted (i.octets files) words task fault reader writer asks ends closes.0
+  memory i files words reader writer faults (inl (Err fault, inr (inl shown, same), closes)) =
       let untouched = shown_memory fault reader writer shown.1 shown.2 closes.0 in inl (untouched.0, untouched.1, inl same)
-  memory files words reader writer faults (inl (Err fault, inr (inr early, same), closes)) = inl (early.1, early.2, inl same)
-  memory files words reader writer faults (inr (h, same)) = absurd (omega (arith, h.0))
+  memory i files words reader writer faults (inl (Err fault, inr (inr early, same), closes)) = inl (early.1, early.2, inl same)
+  memory i files words reader writer faults (inr (h, same)) = absurd (omega (arith, h.0))

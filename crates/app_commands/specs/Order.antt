@@ -1,8 +1,5 @@
 -- In which order the faults of files are told.
 use Rattle.std.specs.Prelude.{◌⊎◌, ℕ, List, [], ◌∷◌, None, Result, ⊤}
-use Rattle.dict_proto.specs.Streams.{StreamChange}
-use Rattle.clap.specs.declared.error.kind.ErrorKind.{ErrorKind}
-use Rattle.app_words.specs.Asked.{AskForTask, Fails}
 use Rattle.app_words.specs.declared.task.ItemChange.{ItemChange as AskedChange}
 use Rattle.app_words.specs.declared.task.ItemChange.TheVariants as changes
 use Rattle.app_words.specs.declared.task.Task.{Task}
@@ -12,7 +9,6 @@ use Rattle.app_words.specs.Files.{IsInOrder}
 use Rattle.app_words.specs.declared.files.ReadFault.{ReadFault}
 use Rattle.net_serving.specs.Deeds.{Opens, Does}
 use Rattle.net_serving.specs.declared.desks.DeskOpener as desks
-use Rattle.app_commands.specs.Program.{Closes}
 
 -- By what was done to files before and after, and by which of them are read, and why others aren't.
 module _ {K D : Type 0} (d : desks.Ghosts D K) (old new : D) (Reads : List ℕ → Type 0) (Refuses : List ℕ → ReadFault → Type 0) where
@@ -37,9 +33,3 @@ module _ {K D : Type 0} (d : desks.Ghosts D K) (old new : D) (Reads : List ℕ �
   EndsInOrder (tasks.Session file) end = ⊤
   EndsInOrder (tasks.Change file name id what) end = ChangesInOrder file.now what end
   EndsInOrder (tasks.Serve file dict http rounds) end = ⊤
-
-  -- the words ask for a task that ends so, which is told; or they ask for none
-  abbrev pub TellsInOrder : List (List ℕ) → ℕ → StreamChange → Type 0
-  TellsInOrder words status faults =
-      ((task : Task) × AskForTask words task × ((end : Result (Unit {0}) ProgramFault) × EndsInOrder task end × Closes end status faults))
-      ⊎ ((kind : ErrorKind) × Fails words kind)

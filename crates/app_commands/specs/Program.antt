@@ -17,6 +17,7 @@ use Rattle.dict_session.specs.Desks.{Stays as DeskStays}
 use Rattle.dict_session.specs.declared.session.run.SessionFault.{SessionFault}
 use Rattle.dict_session.specs.declared.session.run.SessionFault.TheVariants as session_faults
 use Rattle.net_serving.specs.declared.desks.DeskOpener as desks
+use Rattle.app_words.specs.declared.files.InputFiles as inputs
 use Rattle.app_words.specs.Asked.{AskForTask, Fails, mistakes_in, words_shown}
 use Rattle.app_words.specs.declared.task.ItemChange.{ItemChange as AskedChange}
 use Rattle.app_words.specs.declared.task.ItemChange.TheVariants as changes
@@ -26,6 +27,7 @@ use Rattle.app_words.specs.Faults.{fault_line, status_of}
 use Rattle.app_words.specs.declared.fault.ProgramFault.{ProgramFault}
 use Rattle.app_words.specs.declared.fault.ProgramFault.TheVariants as faults
 use Rattle.app_words.specs.Writing.{IsUntouched}
+use Rattle.app_commands.specs.Order.{EndsInOrder}
 use Rattle.app_commands.specs.Plain.{EndsOverEdition, FilesEnd, standing}
 use Rattle.app_commands.specs.Serving.{IsServedUntil}
 use Rattle.app_commands.specs.Working.{AuditEnds, ChangeEnds, CreateEnds, EndsOn, InstallsOn, ListEnds, ServesOn, SessionEnds}
@@ -149,18 +151,23 @@ module _ {K D B L : Type 0} (k : lookup.Ghosts K) (d : desks.Ghosts D K) (c : ca
   TaskEnds (tasks.Change file name id what) end reader writer = ChangeTaskEnds k d fails files old new file.now name.now id.now what end writer × IsUntouched reader
   TaskEnds (tasks.Serve file dict http rounds) end reader writer = ServesOn k d n expects prepares file.now dict.now http.now rounds old new end writer × IsUntouched reader
 
-  -- what was asked for was done or not: a task, or help or the version, for which no file was opened; or memory ran out before
+  -- a task was done, or help or the version was shown
+  abbrev pub IsDone : List (List ℕ) → StreamChange → StreamChange → Type 0
+  IsDone words reader writer = ((task : Task) × AskForTask words task × TaskEnds task (Ok tt) reader writer)
+      ⊎ (AsksForText words × IsUntouched reader × ((text : List ℕ) × PutsAll writer.old writer.new text) × (new ≡ old))
+
+-- By what is known of the files that are read, too.
+module _ {K D B L I : Type 0} (k : lookup.Ghosts K) (d : desks.Ghosts D K) (c : catalogues.Ghosts D K) (n : network.Ghosts B L SystemSockets) (i : inputs.Ghosts I)
+    (fails : K → CommandRequest → K → Fault → Type 0) (expects : K → Expected → K → Type 0) (prepares : K → Result Bool Fault → K → Type 0) (files : I) (plain : PlainState) (old new : D) where
+  -- what was asked for was done or not: a task, which ended so, and by the first fault of its files; or help or the version, for which no
+  -- file was opened; or memory ran out before
   abbrev pub Attempts : List (List ℕ) → Result (Unit {0}) ProgramFault → StreamChange → StreamChange → Type 0
   Attempts words end reader writer =
-      ((task : Task) × AskForTask words task × TaskEnds task end reader writer) ⊎ (IsHelpShown words end reader writer × (new ≡ old))
+      ((task : Task) × AskForTask words task × TaskEnds k d c n fails expects prepares (i.octets files) plain old new task end reader writer × EndsInOrder d old new (i.reads files) (i.refuses files) task end)
+      ⊎ (IsHelpShown words end reader writer × (new ≡ old))
 
   -- how the program ends on words, of which the first is its own name
   abbrev pub CommandEnds : List (List ℕ) → ℕ → StreamChange → StreamChange → StreamChange → Type 0
   CommandEnds words status reader writer faults =
       ((end : Result (Unit {0}) ProgramFault) × Attempts words end reader writer × Closes end status faults)
       ⊎ (Misreads words status reader writer faults × (new ≡ old))
-
-  -- a task was done, or help or the version was shown
-  abbrev pub IsDone : List (List ℕ) → StreamChange → StreamChange → Type 0
-  IsDone words reader writer = ((task : Task) × AskForTask words task × TaskEnds task (Ok tt) reader writer)
-      ⊎ (AsksForText words × IsUntouched reader × ((text : List ℕ) × PutsAll writer.old writer.new text) × (new ≡ old))

@@ -4,7 +4,6 @@ ghost use Rattle.std.specs.IoError.{error_kind};
 ghost use Rattle.std.specs.declared.io.ErrorKind.TheVariants.{OutOfMemory};
 ghost use Rattle.clap.specs.Values.{kind_of};
 ghost use Rattle.app_words.specs.Asked.{Fails};
-ghost use Rattle.app_commands.specs.Order.{TellsInOrder};
 ghost use Rattle.app_commands.specs.Program.{AnswerEnds, CommandEnds, Closes, PutsTextOrFront, ShowsText, TellsFault, TellsMistake, not_text};
 ghost use Rattle.app_words.specs.Writing.{IsUntouched};
 ghost use Rattle.dict_proto.specs.Streams.{StreamChange, change};
@@ -51,9 +50,8 @@ pub fn command<
     writer: &mut W,
     faults: &mut F,
 ) -> u8
-    ensures ends { CommandEnds K.Lookup D.DeskOpener D.Catalogues.own B.Network K.fails_to_apply K.expects K.prepares (I.octets files.now) plain.new desks.old desks.new (map A.text words.now) result
+    ensures { CommandEnds K.Lookup D.DeskOpener D.Catalogues.own B.Network I.InputFiles K.fails_to_apply K.expects K.prepares files.now plain.new desks.old desks.new (map A.text words.now) result
         (change S.stream reader.old reader.new) (change W.stream writer.old writer.new) (change F.stream faults.old faults.new) }
-    ensures order { TellsInOrder D.DeskOpener desks.old desks.new (I.reads files.now) (I.refuses files.now) (map A.text words.now) result (change F.stream faults.old faults.new) }
 {
     match read_words(alloc, words) {
         Ok(task) => {

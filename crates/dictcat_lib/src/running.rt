@@ -1,7 +1,6 @@
 // The program over desks of files.
 ghost use Rattle.std.specs.Prelude.{map};
 ghost use Rattle.dict_proto.specs.Streams.{change};
-ghost use Rattle.app_commands.specs.Order.{TellsInOrder};
 ghost use Rattle.app_commands.specs.Program.{CommandEnds};
 
 use crate::files::CatalogueFiles;
@@ -37,10 +36,9 @@ fn run_any<
     writer: &mut W,
     faults: &mut F,
 ) -> u8
-    ensures ends { CommandEnds ⟦<Desk<FileStore<D>> as Lookup>⟧ C.DeskOpener C.Catalogues.own ⟦<System as Network<TcpListener, SystemSockets>>⟧
-        ⟦<Desk<FileStore<D>> as Keeper>⟧.fails_to_apply ⟦<Desk<FileStore<D>> as Preparer>⟧.expects ⟦<Desk<FileStore<D>> as Preparer>⟧.prepares (I.octets files.now) plain.new desks.old desks.new (map A.text words.now) result
+    ensures { CommandEnds ⟦<Desk<FileStore<D>> as Lookup>⟧ C.DeskOpener C.Catalogues.own ⟦<System as Network<TcpListener, SystemSockets>>⟧ I.InputFiles
+        ⟦<Desk<FileStore<D>> as Keeper>⟧.fails_to_apply ⟦<Desk<FileStore<D>> as Preparer>⟧.expects ⟦<Desk<FileStore<D>> as Preparer>⟧.prepares files.now plain.new desks.old desks.new (map A.text words.now) result
         (change S.stream reader.old reader.new) (change W.stream writer.old writer.new) (change F.stream faults.old faults.new) }
-    ensures order { TellsInOrder C.DeskOpener desks.old desks.new (I.reads files.now) (I.refuses files.now) (map A.text words.now) result (change F.stream faults.old faults.new) }
 {
     command(
         &System,
@@ -76,10 +74,9 @@ pub fn run_over<
     writer: &mut W,
     faults: &mut F,
 ) -> u8
-    ensures ends { CommandEnds ⟦<Desk<FileStore<D>> as Lookup>⟧ ⟦<CatalogueFiles<'r, D, O> as DeskOpener<Desk<FileStore<D>>>>⟧ (let q = ⟦<CatalogueFiles<'r, D, O> as Catalogues<Desk<FileStore<D>>>>⟧ in record { is_made = q.is_made; is_unmade = q.is_unmade; is_sound = q.is_sound; is_unsound = q.is_unsound; has_spoken = q.has_spoken }) ⟦<System as Network<TcpListener, SystemSockets>>⟧
-        ⟦<Desk<FileStore<D>> as Keeper>⟧.fails_to_apply ⟦<Desk<FileStore<D>> as Preparer>⟧.expects ⟦<Desk<FileStore<D>> as Preparer>⟧.prepares (I.octets files.now) plain.new desks.old desks.new (map A.text words.now) result
+    ensures { CommandEnds ⟦<Desk<FileStore<D>> as Lookup>⟧ ⟦<CatalogueFiles<'r, D, O> as DeskOpener<Desk<FileStore<D>>>>⟧ (let q = ⟦<CatalogueFiles<'r, D, O> as Catalogues<Desk<FileStore<D>>>>⟧ in record { is_made = q.is_made; is_unmade = q.is_unmade; is_sound = q.is_sound; is_unsound = q.is_unsound; has_spoken = q.has_spoken }) ⟦<System as Network<TcpListener, SystemSockets>>⟧ I.InputFiles
+        ⟦<Desk<FileStore<D>> as Keeper>⟧.fails_to_apply ⟦<Desk<FileStore<D>> as Preparer>⟧.expects ⟦<Desk<FileStore<D>> as Preparer>⟧.prepares files.now plain.new desks.old desks.new (map A.text words.now) result
         (change S.stream reader.old reader.new) (change W.stream writer.old writer.new) (change F.stream faults.old faults.new) }
-    ensures order { TellsInOrder ⟦<CatalogueFiles<'r, D, O> as DeskOpener<Desk<FileStore<D>>>>⟧ desks.old desks.new (I.reads files.now) (I.refuses files.now) (map A.text words.now) result (change F.stream faults.old faults.new) }
 {
     run_any(rt, words, desks, plain, files, reader, writer, faults)
 }
