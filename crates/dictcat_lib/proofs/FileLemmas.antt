@@ -22,6 +22,7 @@ use Rattle.dict_desk.specs.declared.fault.Fault.{Fault as DeskFault}
 use Rattle.dict_desk.specs.declared.fault.Fault.TheVariants.{Disk}
 use Rattle.store_holdings.specs.Holds.{IsLeft}
 use Rattle.store_desk.specs.Adopted.{FailsToOpen, IsNotAdopted}
+use Rattle.store_migration.proofs.OtherLemmas.{others_same}
 use Rattle.store_desk.specs.Desk.{DeskState, KeepsBeside, LeavesOneOf, Shows, StandsFor}
 use Rattle.store_desk.specs.Opened.{IsNotLeft}
 use Rattle.store_desk.specs.Over.{ConnectionKeepsBeside}
@@ -75,7 +76,7 @@ module _ {S : Type 0} (g : Ghosts S) (old new : DeskState S) (survives : Survive
 pub opened_beside : {D : Type 0} {d : disk.Ghosts D} → SeenMayStay d → (image : Image) (conn : Held (FileStore D d)) → IsOpenedFrom image conn → ConnectionKeepsBeside over_files conn (file_state conn).committed
 opened_beside stays image conn opened clean trees could =
     let whole = (opened.live clean).0 in
-    ∣ ((file_state conn).committed, settled_at conn.store stays trees whole.0.is_open could, (whole.1 whole.0.is_open).1, λ name table none there. (there, refl)) ∣₁
+    ∣ ((file_state conn).committed, settled_at conn.store stays trees whole.0.is_open could, (whole.1 whole.0.is_open).1, others_same (file_state conn).committed (file_state conn).committed refl) ∣₁
 
 -- Of files with these octets, what no desk adopted leaves what they hold, and where that is a catalogue, no fault tells of it.
 pub rejected_from : {D : Type 0} {d : disk.Ghosts D} → SeenMayStay d → (image : Image) (conn refused : Held (FileStore D d)) (why : DeskFault) → IsOpenedFrom image conn → IsNotAdopted over_files conn refused why

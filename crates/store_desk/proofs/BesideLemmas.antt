@@ -1,10 +1,9 @@
 -- What stands beside the product's tables is kept.
-use Rattle.std.proofs.Common.{◌≡◌, ◌∙◌, ℕ, List, find, Some, inl, inr, refl, sym, ap, subst, arith}
+use Rattle.std.proofs.Common.{◌≡◌, ℕ, List, find, Some, inl, inr, sym, subst, arith}
 use Rattle.std.specs.Prelude.{IsTrue}
 use Rattle.std.proofs.Math.Logic.{∥∥₁_map}
 use Rattle.sqlite.specs.Effect.{Database}
 use Rattle.sqlite.specs.Held.{state}
-use Rattle.sqlite.specs.Schema.{Schema}
 use Rattle.sqlite.specs.State.{HasCleanDisk, IsLive, Survives}
 use Rattle.sqlite.specs.Table.{Table}
 use Rattle.sqlite_schema.specs.Names.{same_name}
@@ -12,8 +11,7 @@ use Rattle.sqlite_trees.specs.declared.store.Store.{Ghosts}
 use Rattle.store_tables.specs.Tables.{item, kept, mark, member}
 use Rattle.store_tables.specs.declared.tables.StoreTable.TheVariants as store
 use Rattle.store_tables.proofs.MadeLemmas.{found_is, store_defined}
-use Rattle.store_tables.proofs.PlaceLemmas.{found}
-use Rattle.store_tables.specs.Effects.{rows_of, table_in}
+use Rattle.store_tables.specs.Effects.{table_in}
 use Rattle.store_sql.specs.HeaderTable.{header}
 use Rattle.store_sql.specs.PartTable.{part}
 use Rattle.store_sql.proofs.HeaderDefinitionLemmas.{header_defined}
@@ -22,8 +20,8 @@ use Rattle.store_rows.specs.Versions.{known, layout_of}
 use Rattle.store_holdings.specs.Committed.{IsTreesOf}
 use Rattle.store_holdings.specs.Holds.{HasLayout}
 use Rattle.store_holdings.proofs.OneLemmas.{database_once}
-use Rattle.store_migration.specs.Spared.{IsOthers, SparesOthers}
-use Rattle.store_migration.proofs.OtherLemmas.{apart_from, others_then, stands_at}
+use Rattle.store_migration.specs.Spared.{IsNoneOf, SparesOthers, present_names}
+use Rattle.store_migration.proofs.OtherLemmas.{apart_from, others_steady, others_then, stands_at}
 use Rattle.store_commands.specs.Answers.{HoldsBy}
 use Rattle.store_commands.specs.KeptRecords.{IsOther, SparesTablesOfOthers}
 use Rattle.store_desk.specs.Desk.{DeskState, KeepsBeside}
@@ -31,7 +29,7 @@ use Rattle.store_desk.proofs.DeskLemmas.{clean_behind}
 
 -- ---- tables of others, by their names
 
-module _ (old new : Database) (own : HasLayout (layout_of known) old.schema) (spared : SparesTablesOfOthers old new) (name : List ℕ) (none : IsOthers name) (other : Table) (there : table_in name old ≡ Some other) where
+module _ (old new : Database) (own : HasLayout (layout_of known) old.schema) (spared : SparesTablesOfOthers old new) (name : List ℕ) (none : IsNoneOf present_names name) (other : Table) (there : table_in name old ≡ Some other) where
   is_other : IsOther old.schema other
   is_other = (
     apart_from mark (store_defined store.Mark) old own.tables.0 name none.0 other there,
@@ -40,11 +38,11 @@ module _ (old new : Database) (own : HasLayout (layout_of known) old.schema) (sp
       (
         apart_from member (store_defined store.Member) old own.tables.1.1.0 name none.1.1.0 other there,
         (
-          apart_from kept (store_defined store.Kept) old own.tables.1.1.1.0 name none.1.1.1.1.1.0 other there,
+          apart_from kept (store_defined store.Kept) old own.tables.1.1.1.0 name none.1.1.1.0 other there,
           (
-            apart_from header header_defined old own.tables.1.1.1.1.0 name none.1.1.1.0 other there,
+            apart_from header header_defined old own.tables.1.1.1.1.0 name none.1.1.1.1.0 other there,
             (
-              apart_from part part_defined old own.tables.1.1.1.1.1.0 name none.1.1.1.1.1.1.1.1.0 other there,
+              apart_from part part_defined old own.tables.1.1.1.1.1.0 name none.1.1.1.1.1.0 other there,
               tt,
             ),
           ),
@@ -56,16 +54,11 @@ module _ (old new : Database) (own : HasLayout (layout_of known) old.schema) (sp
   stands : find (λ (v : Table). same_name v.name name) old.schema.tables ≡ Some other
   stands = stands_at mark (store_defined store.Mark) old own.tables.0 name none.0 other there
 
-  still_there : (table_in name new ≡ Some other) × (rows_of name new ≡ rows_of name old)
-  still_there =
-      let later : table_in name new ≡ Some other = found (λ (v : Table). same_name v.name name) new.schema.tables
-      ∙ (ap (λ (s : Schema). find (λ (v : Table). same_name v.name name) s.tables) spared.schema ∙ stands) in
-      let trees : new.trees other.tree ≡ old.trees other.tree =
-      found_is (λ (v : Table). IsOther old.schema v → new.trees v.tree ≡ old.trees v.tree) (λ (v : Table). same_name v.name name) old.schema.tables other spared.others stands is_other in
-      (later, rw (later, there, trees) refl)
+  same_trees : new.trees other.tree ≡ old.trees other.tree
+  same_trees = found_is (λ (v : Table). IsOther old.schema v → new.trees v.tree ≡ old.trees v.tree) (λ (v : Table). same_name v.name name) old.schema.tables other spared.others stands is_other
 
 pub others_of : (old new : Database) → HasLayout (layout_of known) old.schema → SparesTablesOfOthers old new → SparesOthers old new
-others_of old new own spared name other none there = still_there old new own spared name none other there
+others_of old new own spared = others_steady old new spared.schema (same_trees old new own spared)
 
 -- ---- a desk
 

@@ -14,6 +14,7 @@ use Rattle.store_opening.specs.Reading.{IsOfOpening, HasFailedToRead}
 use Rattle.store_migration.specs.Failing.{IsBeyond, FailsToMoveEditions}
 use Rattle.store_migration.specs.Migrated.{MayMigrate}
 use Rattle.store_holdings.specs.Committed.{IsTreesOf}
+use Rattle.store_migration.specs.Moved.{IsRenewedFrom}
 use Rattle.store_migration.specs.Spared.{SparesOthers}
 use Rattle.store_desk.specs.Desk.{DeskState, KeepsBeside, Shows, LeavesOneOf}
 use Rattle.store_desk.specs.Opened.{TellsOfDatabase, IsNotHeld}
@@ -27,14 +28,15 @@ MayCommitBeside s trees = IsTrue s.is_open × IsTreesOf (SparesOthers s.committe
 
 module _ {S : Type 0} (g : Ghosts S) where
   -- The database holds a catalogue, which the desk over it shows, and a stop leaves that one alone. Where its tables are of an
-  -- older version, those of the known one were made of them, of the same catalogue, by one commit; else nothing was written. The
-  -- tables of others are as they were, and a stop leaves them so.
+  -- older version, those of the known one were made of them, of the same catalogue, by one commit, and those of the older one are gone;
+  -- else nothing was written. The tables of others are as they were, with their indexes, and so are views, and a stop leaves them so.
   pub record IsAdopted (conn : Held S) (desk : DeskState S) : Type 0 where
     pub fine : desk.last ≡ Fine
     pub shows : HasCleanDisk (state g desk.conn) → (M : Catalogue) × Rests known (state g desk.conn) M × Shows g desk M
     pub only : (M : Catalogue) → Shows g desk M → LeavesOneOf g desk (Some M ∷ [])
     pub same : HasCleanDisk (state g desk.conn) → (M : Catalogue) → IsHeld (state g conn).committed M ↔ Holds known (state g desk.conn).committed M
     pub unwritten : HasCleanDisk (state g desk.conn) → (M : Catalogue) → Holds known (state g conn).committed M → (state g desk.conn).committed ≡ (state g conn).committed
+    pub moved : HasCleanDisk (state g desk.conn) → (version : ℕ) (M : Catalogue) → version < known → Holds version (state g conn).committed M → IsRenewedFrom version (summary_of M) (state g conn).committed (state g desk.conn).committed
     pub migrated : Survives (state g (record conn { step_limit = None })) (state g desk.conn) (MayMigrate (state g conn))
     pub others : HasCleanDisk (state g desk.conn) → SparesOthers (state g conn).committed (state g desk.conn).committed
     pub beside : Survives (state g (record conn { step_limit = None })) (state g desk.conn) (MayCommitBeside (state g conn))

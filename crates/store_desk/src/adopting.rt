@@ -17,6 +17,7 @@ ghost use Rattle.store_opening.specs.Indexed.{IsHeldIndexed};
 ghost use Rattle.store_desk.specs.Indexed.{AreHeldCut};
 ghost use Rattle.store_search.specs.Entries.{Indexed};
 ghost use Rattle.store_rows.specs.Versions.{known, IsVersion};
+ghost use Rattle.store_migration.specs.Moved.{IsRenewedFrom};
 ghost use Rattle.store_migration.specs.Spared.{SparesOthers};
 ghost use Rattle.store_desk.specs.Adopted.{FailsToOpen, MayCommitBeside, IsAdopted, IsNotAdopted};
 ghost use Rattle.store_holdings.specs.Faults.{IsOfStore};
@@ -97,6 +98,7 @@ fn renew<S: Alter>(
     ensures cut { HasCleanDisk (state S.Store conn.new) → OnOk result ((M : Catalogue) (indexes : List (ℕ × List Indexed)) → IsHeldIndexed version (state S.Store conn.old).committed M indexes → AreHeldCut (state S.Store conn.new).committed M indexes) }
     ensures others { HasCleanDisk (state S.Store conn.new) → OnOk result (SparesOthers (state S.Store conn.old).committed (state S.Store conn.new).committed) }
     ensures beside { Survives (state S.Store conn.old) (state S.Store conn.new) (MayCommitBeside (state S.Store conn.old)) }
+    ensures moved { HasCleanDisk (state S.Store conn.new) → OnOk result (version < known → IsRenewedFrom version (summary_shown summary.now) (state S.Store conn.old).committed (state S.Store conn.new).committed) }
     ensures unwritten { version ≡ known → conn.new ≡ conn.old }
     ensures lives { HasCleanDisk (state S.Store conn.new) → IsTrue (state S.Store conn.new).is_open → IsTrue (state S.Store conn.old).is_open }
     ensures stays { HasCleanDisk (state S.Store conn.new) → OnErr result (StaysCommitted (state S.Store conn.old) (state S.Store conn.new)) }
@@ -125,6 +127,7 @@ fn read_renewed<S: Alter>(
     ensures same { HasCleanDisk (state S.Store conn.new) → OnOk result ((M : Catalogue) → IsHeld (state S.Store conn.old).committed M ↔ Holds known (state S.Store conn.new).committed M) }
     ensures others { HasCleanDisk (state S.Store conn.new) → OnOk result (SparesOthers (state S.Store conn.old).committed (state S.Store conn.new).committed) }
     ensures beside { Survives (state S.Store conn.old) (state S.Store conn.new) (MayCommitBeside (state S.Store conn.old)) }
+    ensures moved { HasCleanDisk (state S.Store conn.new) → OnOk result ((version : ℕ) (M : Catalogue) → version < known → Holds version (state S.Store conn.old).committed M → IsRenewedFrom version (summary_of M) (state S.Store conn.old).committed (state S.Store conn.new).committed) }
     ensures unwritten { HasCleanDisk (state S.Store conn.new) → OnOk result ((M : Catalogue) → Holds known (state S.Store conn.old).committed M → (state S.Store conn.new).committed ≡ (state S.Store conn.old).committed) }
     ensures range { IfOk result (λ found. IsInRange (summary_shown found.0)) }
     ensures kinds { IfErr result IsOfOpening }

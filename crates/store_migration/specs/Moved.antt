@@ -1,5 +1,5 @@
 -- A whole migration, before its commit.
-use Rattle.std.specs.Prelude.{ℕ, ℤ, true, IsTrue, List, codes, map, Option, Some, None}
+use Rattle.std.specs.Prelude.{◌≡◌, ℕ, ℤ, pos, true, IsTrue, List, codes, map, Option, Some, None}
 use Rattle.sqlite.specs.Effect.{Database}
 use Rattle.sqlite.specs.State.{State}
 use Rattle.store_tables.specs.Records.{HeaderRecord}
@@ -10,10 +10,12 @@ use Rattle.store_sql.specs.Encodings.{mark_row}
 use Rattle.store_sql.specs.HeaderRecords.{header_row}
 use Rattle.store_sql.specs.HeaderTable.{header}
 use Rattle.store_sql.specs.PartTable.{part}
-use Rattle.store_rows.specs.Versions.{known}
+use Rattle.dict_catalogue.specs.Items.{edition_numbers}
+use Rattle.dict_catalogue.specs.Tests.{Holdings}
+use Rattle.store_rows.specs.Versions.{known, layout_of}
 use Rattle.store_rows.specs.Written.{mark_record}
 use Rattle.store_migration.specs.declared.older.Older.{Older}
-use Rattle.store_migration.specs.Older.{DroppedInTurn, gone_names}
+use Rattle.store_migration.specs.Older.{DroppedInTurn, gone_names, layout_before}
 use Rattle.store_migration.specs.Steps.{AreParted}
 
 -- the mark was taken out, and that of the known version was put in, with this count of installs
@@ -50,6 +52,11 @@ pub record IsMoved (older : Older) (numbers : List ℤ) (installs : ℕ) (old ne
 abbrev pub IsRenewed : Option Older → List ℤ → ℕ → Database → Database → Type 0
 IsRenewed (Some older) numbers installs old new = IsMoved older numbers installs old new
 IsRenewed None numbers installs old new = IsMarkedAnew installs old new
+
+-- So it was of the tables of this version, of a catalogue of this summary: those that the version alone has are gone, those of the known
+-- one are made and filled, and nothing else is done; or the mark alone is another.
+abbrev pub IsRenewedFrom : ℕ → Holdings (List ℕ) → Database → Database → Type 0
+IsRenewedFrom version summary old new = (older : Option Older) × (layout_of version ≡ layout_before older) × IsRenewed older (map pos (edition_numbers summary.items)) summary.installs old new
 
 -- what is made of an open store
 pub record IsOutcome (older : Option Older) (numbers : List ℤ) (installs : ℕ) (old : State) (new : Database) : Type 0 where

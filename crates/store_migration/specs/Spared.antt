@@ -1,12 +1,17 @@
--- The tables that a creation and a migration leave alone.
-use Rattle.std.specs.Prelude.{◌≡◌, ℕ, false, List, [], ◌∷◌, codes, Some}
+-- The tables that a creation and a migration leave alone, and what else of others.
+use Rattle.std.specs.Prelude.{◌≡◌, ◌==◌, ℕ, false, List, [], ◌∷◌, codes, filter, option_map, unwrap_or}
 use Rattle.std.specs.List.{AllByRecursion}
 use Rattle.sqlite.specs.Effect.{Database}
+use Rattle.sqlite.specs.Schema.{Schema}
 use Rattle.sqlite.specs.Table.{Table}
 use Rattle.sqlite_schema.specs.Names.{same_name}
+use Rattle.sqlite_schema.specs.declared.schema.Index.{Index}
 use Rattle.store_tables.specs.Definitions.{IsDefinition}
 use Rattle.store_tables.specs.Found.{HasOwn}
 use Rattle.store_tables.specs.Effects.{rows_of, table_in}
+use Rattle.store_holdings.specs.Holds.{HasLayout}
+use Rattle.store_migration.specs.Older.{gone_names, layout_as}
+use Rattle.store_migration.specs.declared.older.Older.{Older}
 
 -- the name is none of the tables that are dropped or made, in letters of either case
 pub record IsBeside (name : List ℕ) : Type 0 where
@@ -22,14 +27,33 @@ Spares old new = (other : ℕ → Table) → IsDefinition other → IsBeside (ot
 
 -- ---- the tables of others
 
--- the names of the product's tables, of all versions
-abbrev pub product_names : List (List ℕ)
-product_names = codes "mark" ∷ codes "item" ∷ codes "member" ∷ codes "edition" ∷ codes "entry" ∷ codes "kept" ∷ codes "word" ∷ codes "gram" ∷ codes "dictcat_part" ∷ []
+-- the names of the tables of the known version
+abbrev pub present_names : List (List ℕ)
+present_names = codes "mark" ∷ codes "item" ∷ codes "member" ∷ codes "kept" ∷ codes "edition" ∷ codes "dictcat_part" ∷ []
 
--- the name is none of these, in letters of either case
-abbrev pub IsOthers : List ℕ → Type 0
-IsOthers name = AllByRecursion (λ own. same_name own name ≡ false) product_names
+-- it is none of these, in letters of either case
+abbrev pub IsNoneOf : List (List ℕ) → List ℕ → Type 0
+IsNoneOf names name = AllByRecursion (λ own. same_name own name ≡ false) names
 
--- each table of another name that was there, whatever its columns and its keys, is there still, as it was and with the rows that it had
-abbrev pub SparesOthers : Database → Database → Type 0
-SparesOthers old new = (name : List ℕ) (table : Table) → IsOthers name → table_in name old ≡ Some table → (table_in name new ≡ Some table) × (rows_of name new ≡ rows_of name old)
+-- The name is none of the product's: of the tables of the known version; nor, where those of an older version are there, of those
+-- that a migration drops.
+pub record IsOthers (schema : Schema) (name : List ℕ) : Type 0 where
+  pub present : IsNoneOf present_names name
+  pub older : (older : Older) → HasLayout (layout_as older) schema → IsNoneOf (gone_names older) name
+
+-- the indexes of the table of this name, those of its keys among them
+abbrev pub indexes_of : List ℕ → Database → List Index
+indexes_of name db = unwrap_or (option_map (λ (t : Table). filter (λ (index : Index). index.table == t.tree) db.schema.indexes) (table_in name db)) []
+
+-- the table of this name is as it was, with its columns and its keys, and has the rows and the indexes that it had; or there is none still
+pub record SparesTable (name : List ℕ) (old new : Database) : Type 0 where
+  pub table : table_in name new ≡ table_in name old
+  pub rows : rows_of name new ≡ rows_of name old
+  pub indexes : indexes_of name new ≡ indexes_of name old
+
+-- The tables of others are those that there were, as they were; so are the views, and what is listed with them: tables and triggers
+-- that `sqlite` keeps and doesn't read. The tables of an older version are there only where they were.
+pub record SparesOthers (old new : Database) : Type 0 where
+  pub tables : (name : List ℕ) → IsOthers old.schema name → SparesTable name old new
+  pub views : new.schema.views ≡ old.schema.views
+  pub older : (older : Older) → HasLayout (layout_as older) new.schema → HasLayout (layout_as older) old.schema

@@ -15,9 +15,8 @@ ghost use Rattle.store_holdings.specs.Holds.{Holds, IsLeftAs, Rests};
 ghost use Rattle.store_holdings.specs.Writing.{StaysCommitted};
 ghost use Rattle.store_migration.specs.Migrated.{IsMigrated, MayMigrate};
 ghost use Rattle.store_holdings.specs.Committed.{IsCommitted, IsTreesOf};
-ghost use Rattle.store_migration.specs.Moved.{AreTakenApart, IsOutcome, IsRenewed};
+ghost use Rattle.store_migration.specs.Moved.{AreTakenApart, IsOutcome, IsRenewedFrom};
 ghost use Rattle.store_migration.specs.Older.{IsOld, layout_as, layout_before};
-ghost use Rattle.store_migration.specs.declared.older.Older.{Older as OlderLayout};
 ghost use Rattle.store_migration.specs.FailurePlaces.{InApart, InMove, InRenewal};
 ghost use Rattle.store_migration.specs.Spared.{SparesOthers};
 ghost use Rattle.store_migration.specs.Failing.{MigrationFailsInside, MigrationFailsToEnd, FailsToMigrate, FailsToSign};
@@ -199,7 +198,7 @@ pub fn migrate<S: Alter>(
     ensures migrated { HasCleanDisk (state S.Store conn.new) → OnOk result (IsMigrated version (state S.Store conn.old).committed (state S.Store conn.new).committed) }
     // The tables that the older version alone has are gone, those of the known one are made and filled, and nothing else is done; or,
     // where they are laid out as those of the known one, the mark alone is another.
-    ensures moved { HasCleanDisk (state S.Store conn.new) → OnOk result ((older : Option OlderLayout) × (layout_of version ≡ layout_before older) × IsRenewed older (map pos (numbers_in (summary_shown summary.now).items)) summary.now.installs (state S.Store conn.old).committed (state S.Store conn.new).committed) }
+    ensures moved { HasCleanDisk (state S.Store conn.new) → OnOk result (IsRenewedFrom version (summary_shown summary.now) (state S.Store conn.old).committed (state S.Store conn.new).committed) }
     ensures spares { HasCleanDisk (state S.Store conn.new) → OnOk result (SparesOthers (state S.Store conn.old).committed (state S.Store conn.new).committed) }
     ensures beside { Survives (state S.Store conn.old) (state S.Store conn.new) (λ trees. IsTrue (state S.Store conn.old).is_open × IsTreesOf (SparesOthers (state S.Store conn.old).committed) trees) }
     ensures only { HasCleanDisk (state S.Store conn.new) → OnOk result ((M : Catalogue) → Holds version (state S.Store conn.old).committed M → (trees : Trees) → (state S.Store conn.new).may_leave trees → IsLeftAs known M trees) }

@@ -1,4 +1,4 @@
-use Rattle.std.proofs.Common.{◌≡◌, ◌⊎◌, ℕ, List, sym, ap, subst, ◌∙◌, arith, inr}
+use Rattle.std.proofs.Common.{◌≡◌, ◌<◌, ◌⊎◌, ℕ, List, sym, ap, subst, ◌∙◌, arith, inr}
 use Rattle.std.proofs.lemmas.Result.{err_from_is_err_and}
 use Rattle.sqlite.specs.Effect.{Database}
 use Rattle.sqlite.specs.State.{HasCleanDisk}
@@ -14,9 +14,10 @@ use Rattle.store_desk.specs.Indexed.{AreHeldCut}
 use Rattle.store_desk.proofs.RenewLemmas.{renews_read}
 use Rattle.store_migration.specs.Migrated.{MayMigrate, HoldsOlder}
 use Rattle.store_holdings.specs.Committed.{IsTreesOf}
+use Rattle.store_migration.specs.Moved.{IsRenewedFrom}
 use Rattle.store_migration.specs.Spared.{SparesOthers}
 use Rattle.store_desk.specs.Adopted.{MayCommitBeside}
-use Rattle.store_rows.specs.Versions.{known}
+use Rattle.store_rows.specs.Versions.{known, IsVersion}
 use Rattle.store_desk.proofs.adopting.read_renewed.Goals as goal
 
 pub returns-in_err-renew-clause-failed : goal.returns-in_err-renew-clause-failed
@@ -153,3 +154,22 @@ returns-clause-unwritten g c = λ clean M held.
     let first : Holds c.in_ok-version.version old.committed found.0 = subst (λ (db : Database). Holds c.in_ok-version.version db found.0) same found.1.holds in
     let is : c.in_ok-version.version ≡ known = c.one_is_held.ensures.version old.committed c.in_ok-version.version known found.0 M first held in
     ap (λ conn. (state g.S.Store conn).committed) (c.in_ok-renew.ensures.unwritten is) ∙ same
+
+-- what was read is the one catalogue that was held, under the one version
+pub returns-clause-moved : goal.returns-clause-moved
+returns-clause-moved g c = λ clean version M before held.
+    let old = state g.S.Store c.args.conn.now in
+    let new = state g.S.Store c.renew.new.conn in
+    let one = c.renew.ensures.crash.clean in
+    let there : HasCleanDisk (state g.S.Store c.read.new.conn) = omega (arith, one, clean) in
+    let found = c.in_ok-version.ensures.rests there in
+    let same = c.in_ok-version.ensures.committed there found.1.is_open in
+    let first : Holds c.in_ok-version.version old.committed found.0 = subst (λ (db : Database). Holds c.in_ok-version.version db found.0) same found.1.holds in
+    let is : c.in_ok-version.version ≡ version = c.one_is_held.ensures.version old.committed c.in_ok-version.version version found.0 M first held in
+    let was : IsHeld old.committed found.0 = record { version = c.in_ok-version.version; known = c.in_ok-version.ensures.version; holds = first } in
+    let also : IsHeld old.committed M = record { version = version; known = subst IsVersion is c.in_ok-version.ensures.version; holds = held } in
+    let its : summary_shown c.in_ok-version.summary ≡ summary_of M = sym found.2 ∙ ap summary_of (c.one_is_held.ensures.held old.committed found.0 M was also) in
+    let moved = c.in_ok-renew.ensures.moved clean (subst (λ v. v < known) (sym is) before) in
+    let read = subst (λ (db : Database). IsRenewedFrom c.in_ok-version.version (summary_shown c.in_ok-version.summary) db new.committed) same moved in
+    let under = subst (λ v. IsRenewedFrom v (summary_shown c.in_ok-version.summary) old.committed new.committed) is read in
+    subst (λ (s : Holdings (List ℕ)). IsRenewedFrom version s old.committed new.committed) its under

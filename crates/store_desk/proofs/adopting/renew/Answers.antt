@@ -40,3 +40,9 @@ pub returns-then-version-lt-KNOWN_VERSION-clause-cut : goal.returns-then-version
 returns-then-version-lt-KNOWN_VERSION-clause-cut g c = λ clean.
     on_ok_weaker c.migrate.result (λ migrated M indexes indexed. indexed_moved c.args.version (state g.S.Store c.args.conn.now).committed (state g.S.Store c.migrate.new.conn).committed migrated M indexes indexed)
     (c.migrate.ensures.migrated clean)
+
+pub returns-then-version-lt-KNOWN_VERSION-clause-moved : goal.returns-then-version-lt-KNOWN_VERSION-clause-moved
+returns-then-version-lt-KNOWN_VERSION-clause-moved g c = λ clean. on_ok_weaker c.migrate.result (λ moved before. moved) (c.migrate.ensures.moved clean)
+
+pub returns-else-version-lt-KNOWN_VERSION-clause-moved : goal.returns-else-version-lt-KNOWN_VERSION-clause-moved
+returns-else-version-lt-KNOWN_VERSION-clause-moved g c = λ clean before. absurd (let least = c.if-version-lt-KNOWN_VERSION.false in omega (arith, before, least))

@@ -69,8 +69,11 @@ returns-clause-spares g c clean =
     let parted = c.in_ok-create_part_table.ensures.made clean3 in
     let opened = (c.make_each.ensures.keeps clean1).was_open headed.1.was_open in
     let made = c.in_ok-make_each.ensures.made clean1 in
-    let put = (c.in_ok-insert_mark.ensures.added clean).0 in
-    others_created lasting_tables _ _ _ _ _ made headed.0 parted.0 (mark_there _ _ (c.requires.place clean0 opened) (c.requires.ready clean0 opened).sound made _ headed.0 _ parted.0) put.schema put.others
+    let s3 = seen g.S.Store c.create_part_table.new.tx in
+    let s4 = seen g.S.Store c.insert_mark.new.tx in
+    let put = subst (λ (m : Mark). IsAdded (codes "mark") (mark_row m) s3.now s4.now) c.mark_row-mark.ensures (c.in_ok-insert_mark.ensures.added clean).0 in
+    let holds = empty_held _ _ (c.requires.place clean0 opened) (c.requires.ready clean0 opened).sound made _ headed.0 _ parted.0 _ put in
+    others_created _ _ _ _ _ made headed.0 parted.0 (mark_there _ _ (c.requires.place clean0 opened) (c.requires.ready clean0 opened).sound made _ headed.0 _ parted.0) holds.own.tables.1.1.1.1.0 put.schema put.others
 
 pub returns-clause-ran : goal.returns-clause-ran
 returns-clause-ran g c clean =

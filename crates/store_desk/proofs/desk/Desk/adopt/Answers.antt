@@ -2,11 +2,12 @@ use Rattle.std.proofs.Common.{◌≡◌, ◌↔◌, refl, subst, sym}
 use Rattle.std.specs.Prelude.{IsTrue, Some}
 use Rattle.sqlite.specs.State.{HasCleanDisk, Survives}
 use Rattle.sqlite.specs.Held.{state}
-use Rattle.dict_catalogue.specs.Steps.{Catalogue}
+use Rattle.dict_catalogue.specs.Steps.{Catalogue, summary_of}
 use Rattle.store_holdings.specs.Holds.{Holds, IsHeld, Rests}
 use Rattle.store_migration.specs.Migrated.{MayMigrate}
 use Rattle.store_desk.specs.Desk.{DeskState, Shows}
 use Rattle.store_desk.specs.Opened.{IsNotHeld, TellsOfDatabase}
+use Rattle.store_migration.specs.Moved.{IsRenewedFrom}
 use Rattle.store_migration.specs.Spared.{SparesOthers}
 use Rattle.store_desk.specs.Adopted.{FailsToOpen, IsAdopted, MayCommitBeside}
 use Rattle.store_desk.proofs.DeskLemmas.{alone, left_alone}
@@ -20,6 +21,12 @@ returns-in-Ok-clause-left g c = λ clean M left.
     let rests = (c.in-Ok.ensures.rests there).1 in
     let live = subst (λ conn. IsTrue (state g.S.Store conn).is_open) c.set_step_limit.ensures (c.in-Ok.ensures.lives there rests.is_open) in
     let held = (c.is_whole.ensures.whole live).committed M left in
+    let it = c.in-Ok.ensures.every there M (subst (λ conn. IsHeld (state g.S.Store conn).committed M) (sym c.set_step_limit.ensures) held) in
+    c.over.ensures.shows M (sym it.1) it.0.holds.stands.well_formed (λ _. it.0) (λ _. it.2)
+
+pub returns-in-Ok-clause-held : goal.returns-in-Ok-clause-held
+returns-in-Ok-clause-held g c = λ clean M held.
+    let there = subst (λ (d : DeskState _). HasCleanDisk (state g.S.Store d.conn)) c.over.ensures.is clean in
     let it = c.in-Ok.ensures.every there M (subst (λ conn. IsHeld (state g.S.Store conn).committed M) (sym c.set_step_limit.ensures) held) in
     c.over.ensures.shows M (sym it.1) it.0.holds.stands.well_formed (λ _. it.0) (λ _. it.2)
 
@@ -41,6 +48,8 @@ returns-in-Ok-clause-adopted g c =
           (Some M, alone M, left_alone g.S.Store now M (g.met.S.Store.settled now.store) rests.is_open sound (shown.holds refl clean rests.is_open) trees may);
       same = λ clean M. subst (λ conn. IsHeld (state g.S.Store conn).committed M ↔ Holds known (state g.S.Store now).committed M) limited (c.in-Ok.ensures.same clean M);
       unwritten = λ clean M held. subst (λ conn. Holds known (state g.S.Store conn).committed M → (state g.S.Store now).committed ≡ (state g.S.Store conn).committed) limited (c.in-Ok.ensures.unwritten clean M) held;
+      moved = λ clean version M before held. subst (λ conn. Holds version (state g.S.Store conn).committed M → IsRenewedFrom version (summary_of M) (state g.S.Store conn).committed (state g.S.Store now).committed) limited
+          (c.in-Ok.ensures.moved clean version M before) held;
       migrated = subst (λ conn. Survives (state g.S.Store conn) (state g.S.Store now) (MayMigrate (state g.S.Store conn))) limited c.read_renewed.ensures.crash;
       others = λ clean. subst (λ conn. SparesOthers (state g.S.Store conn).committed (state g.S.Store now).committed) limited (c.in-Ok.ensures.others clean);
       beside = beside;
