@@ -1,14 +1,14 @@
 -- The tables that a creation and a migration leave alone, and what else of others.
-use Rattle.std.specs.Prelude.{◌≡◌, ◌==◌, ℕ, false, List, [], ◌∷◌, codes, filter, option_map, unwrap_or}
+use Rattle.std.specs.Prelude.{◌≡◌, ℕ, false, List, [], ◌∷◌, codes}
 use Rattle.std.specs.List.{AllByRecursion}
 use Rattle.sqlite.specs.Effect.{Database}
 use Rattle.sqlite.specs.Schema.{Schema}
 use Rattle.sqlite.specs.Table.{Table}
 use Rattle.sqlite_schema.specs.Names.{same_name}
-use Rattle.sqlite_schema.specs.declared.schema.Index.{Index}
 use Rattle.store_tables.specs.Definitions.{IsDefinition}
 use Rattle.store_tables.specs.Found.{HasOwn}
-use Rattle.store_tables.specs.Effects.{rows_of, table_in}
+use Rattle.store_tables.specs.Effects.{rows_of}
+use Rattle.store_older_sql.specs.Others.{SparesTable}
 use Rattle.store_holdings.specs.Holds.{HasLayout}
 use Rattle.store_migration.specs.Older.{gone_names, layout_as}
 use Rattle.store_migration.specs.declared.older.Older.{Older}
@@ -40,16 +40,6 @@ IsNoneOf names name = AllByRecursion (λ own. same_name own name ≡ false) name
 pub record IsOthers (schema : Schema) (name : List ℕ) : Type 0 where
   pub present : IsNoneOf present_names name
   pub older : (older : Older) → HasLayout (layout_as older) schema → IsNoneOf (gone_names older) name
-
--- the indexes of the table of this name, those of its keys among them
-abbrev pub indexes_of : List ℕ → Database → List Index
-indexes_of name db = unwrap_or (option_map (λ (t : Table). filter (λ (index : Index). index.table == t.tree) db.schema.indexes) (table_in name db)) []
-
--- the table of this name is as it was, with its columns and its keys, and has the rows and the indexes that it had; or there is none still
-pub record SparesTable (name : List ℕ) (old new : Database) : Type 0 where
-  pub table : table_in name new ≡ table_in name old
-  pub rows : rows_of name new ≡ rows_of name old
-  pub indexes : indexes_of name new ≡ indexes_of name old
 
 -- The tables of others are those that there were, as they were; so are the views, and what is listed with them: tables and triggers
 -- that `sqlite` keeps and doesn't read. The tables of an older version are there only where they were.

@@ -12,3 +12,4 @@ pub mod CopyLemmas
 pub mod MigrationDefinitionLemmas
 pub mod DropLemmas
 pub mod DroppedLemmas
+pub mod SparedLemmas
