@@ -48,7 +48,7 @@ fn at_line(fault: EntryLineFault, number: usize) -> IndexFault
     }
 }
 
-// HasGathered the lines of an index in order, up to the first that a test refuses.
+// Gathers the lines of an index in order, up to the first that a test refuses.
 fn gather_lines<'a>(
     alloc: Global,
     index: &'a [u8],

@@ -1,7 +1,8 @@
 // How far an edition was read.
-ghost use Rattle.std.specs.Prelude.{◌≡◌, ◌↔◌, ◌+◌, ◌-◌, ◌<◌, ◌≤◌, ◌^◌, ℕ, List, IfErr, IfOk, OnErr, OnOk, IsTrue, length};
+ghost use Rattle.std.specs.Prelude.{◌≡◌, ◌≢◌, ◌↔◌, ◌+◌, ◌-◌, ◌<◌, ◌≤◌, ◌^◌, ℕ, List, IfErr, IfOk, OnErr, OnOk, IsTrue, length};
 ghost use Rattle.dict_index.specs.Meaning.{IsReadEdition};
 ghost use Rattle.dict_index.specs.Refused.{IsIndexFault};
+ghost use Rattle.dict_index.specs.declared.fault.IndexFault.TheVariants as faults;
 ghost use Rattle.dict_reading.specs.Lines.{line_told_at};
 
 use crate::gathered::GatheredPlaces;
@@ -48,11 +49,12 @@ impl EditionReader {
     ghost use Rattle.dict_reading.specs.Slices.{IsSlice};
 
     /// Begins to read an edition from an index and a text, both whole: their tests as a whole are made, and no line is read. The
-    /// first test that fails is told.
+    /// first test that fails is told, and nothing else: no memory is asked for.
     pub fn begin(alloc: Global, index: &[u8], text: &[u8]) -> Result<Self, IndexFault>
         ensures read { IfOk result (HasRead index.now text.now) }
         ensures none { IfOk result (λ reader. reader.number ≡ 0) }
         ensures refused { IfErr result (λ fault. IsIndexFault fault index.now text.now) }
+        ensures known { IfErr result (λ fault. fault ≢ faults.Memory) }
     {
         if let Some(refusal) = whole_refusal(index, text) {
             return Err(IndexFault::Refused {
