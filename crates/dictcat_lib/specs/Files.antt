@@ -18,7 +18,6 @@ use Rattle.app_words.specs.Faults.{told_of}
 use Rattle.app_words.specs.declared.fault.ProgramFault.{ProgramFault}
 use Rattle.store_desk.specs.Closed.{HoldTreesAlone, HoldsAlone, IsUncopied, StoreLeaves}
 use Rattle.store_desk.specs.Desk.{DeskState, HasBeside, IsOneOf, KeepsBeside}
-use Rattle.store_desk.specs.Over.{ConnectionKeepsBeside, ConnectionLeavesOneOf}
 use Rattle.store_desk.specs.Reopened.{IsLetGo}
 use Rattle.store_desk.specs.Unopened.{HandsBack}
 use Rattle.store_desk.specs.declared.reopening.Unopened.{Unopened}
@@ -39,7 +38,6 @@ module _ {D : Type 0} {g : disk.Ghosts D} where
   IsPutAway conn (left.Closed files) = (last : FileStore D g) × (files_in last ≡ (files.log, files.db)) × IsClosed conn last
   IsPutAway conn (left.Uncopied store) = IsClosed conn store
   IsPutAway conn (left.Unopened rest) = ⊥
-  IsPutAway conn (left.Kept other) = ⊥
 
   -- what is held of a file is a connection that was closed
   abbrev pub IsHeldOf : Held (FileStore D g) → Option (Left D g) → Type 0
@@ -59,7 +57,6 @@ module _ {D : Type 0} {g : disk.Ghosts D} where
   IsSafe (Some (left.Closed files)) = AreClean g files.log files.db
   IsSafe (Some (left.Uncopied store)) = IsClean (view store)
   IsSafe (Some (left.Unopened rest)) = IsSafeRest rest
-  IsSafe (Some (left.Kept conn)) = HasCleanDisk (file_state conn)
 
   -- the database file holds this catalogue without its log
   abbrev pub IsAloneIn : Option (Left D g) → Catalogue → Type 0
@@ -73,7 +70,6 @@ module _ {D : Type 0} {g : disk.Ghosts D} where
   StillLeaves desk (Some (left.Closed files)) ms = (M : Catalogue) × Contains ms (Some M) × HoldsAlone g files M
   StillLeaves desk (Some (left.Uncopied store)) ms = StoreLeaves store (IsOneOf ms)
   StillLeaves desk (Some (left.Unopened rest)) ms = (files : Files D) × IsLetGo desk.conn files × HandsBack files (IsOneOf ms) rest
-  StillLeaves desk (Some (left.Kept conn)) ms = ConnectionLeavesOneOf over_files conn ms
 
   -- and it has the tables of others that this database has, as they are there
   abbrev pub StillKeeps : DeskState (FileStore D g) → Option (Left D g) → Database → Type 0
@@ -81,7 +77,6 @@ module _ {D : Type 0} {g : disk.Ghosts D} where
   StillKeeps desk (Some (left.Closed files)) db = AreClean g files.log files.db → HoldTreesAlone g files (HasBeside db)
   StillKeeps desk (Some (left.Uncopied store)) db = StoreLeaves store (HasBeside db)
   StillKeeps desk (Some (left.Unopened rest)) db = (files : Files D) × IsLetGo desk.conn files × HandsBack files (HasBeside db) rest
-  StillKeeps desk (Some (left.Kept conn)) db = ConnectionKeepsBeside over_files conn db
 
   -- so it is of whatever the desk kept beside its catalogue
   abbrev pub KeepsWhatWasBeside : DeskState (FileStore D g) → Option (Left D g) → Type 0

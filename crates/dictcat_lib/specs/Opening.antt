@@ -25,19 +25,6 @@ use Rattle.app_words.specs.Faults.{told_of}
 use Rattle.app_words.specs.declared.fault.ProgramFault.{ProgramFault}
 use Rattle.app_words.specs.declared.fault.ProgramFault.TheVariants as faults
 
--- the file with this path can't be had, or memory ran out
-abbrev pub IsUnavailable : List ℕ → ProgramFault → Type 0
-IsUnavailable path (faults.CannotRead told) = told.now ≡ path
-IsUnavailable path faults.Memory = ⊤
-IsUnavailable path (faults.Line refusal line) = ⊥
-IsUnavailable path (faults.Edition refusal) = ⊥
-IsUnavailable path (faults.Refused refusal) = ⊥
-IsUnavailable path (faults.Store fault) = ⊥
-IsUnavailable path faults.SessionEnded = ⊥
-IsUnavailable path faults.CannotWrite = ⊥
-IsUnavailable path (faults.CannotBind address) = ⊥
-IsUnavailable path faults.CannotWait = ⊥
-
 -- what is told of a session over a database
 abbrev pub over_told : Result SessionEnd SessionFault → Result (Unit {0}) ProgramFault
 over_told (Ok end) = Ok tt

@@ -1,15 +1,14 @@
 // Files at a path, opened with a cache of their size.
-ghost use Rattle.std.specs.Prelude.{codes, ◌≡◌, ◌⊎◌, ◌≤◌, true, false, None, IsTrue, IfOk, IfErr, IfSome};
-ghost use Rattle.sqlite.specs.Files.{FailsToOpenFiles, IsBlankAs, IsCleanLeft, IsOpened, LeavesFiles, file_state};
+ghost use Rattle.std.specs.Prelude.{codes, ◌≡◌, ◌≢◌, ◌⊎◌, ◌≤◌, true, false, IsTrue, IfOk, IfErr};
+ghost use Rattle.sqlite.specs.Files.{FailsToOpenFiles, Finds, IsBlankAs, IsCleanLeft, IsOpened, LeavesFiles, file_state, image_of};
 ghost use Rattle.sqlite.specs.FileStore.{view};
 ghost use Rattle.sqlite.specs.Held.{IsNew};
 ghost use Rattle.sqlite.specs.Opening.{is_open_error};
-ghost use Rattle.sqlite.specs.Start.{FindsIn};
 ghost use Rattle.sqlite.specs.State.{HasCleanDisk};
-ghost use Rattle.sqlite.specs.WalFiles.{image_at};
 ghost use Rattle.sqlite_std_file.specs.File.{IsFresh, file_is_usable};
 
 use sqlite::{Connection, Error, ErrorCode, FileFrom, FileStore, Files, Leftover, Options, Start};
+use sqlite_disk::Disk;
 use sqlite_std_file::OpenError;
 use std::fs;
 use std::hash::{BuildHasher, RandomState};
@@ -53,22 +52,39 @@ pub(crate) fn octets_at(rt: &HostRuntime, path: &str) -> u64 {
     }
 }
 
-// How the files at this path are opened: with a cache of the size that the file has now, a short log, and a random number for it; none where
-// the system gives none.
-pub(crate) fn options(rt: &HostRuntime, path: &str) -> Option<Options>
-    ensures cache { IfSome result (λ it. (2000 ≤ it.cache_pages) × (it.cache_pages ≤ 19200)) }
-    ensures log { IfSome result (λ it. it.checkpoint_frames ≡ 256) }
-{
+// A random number for a log, of which the log makes its salts; none where the system gives none.
+pub(crate) fn log_number(rt: &HostRuntime) -> Option<u64> {
     let state = RandomState::new(rt).ok()?;
-    Some(Options {
+    Some(state.hash_one(&0u8))
+}
+
+// A further number for the log of the same files, which are opened again: as random as this one, and another. Nothing is asked of the system for
+// it, so that no opening again fails for want of it.
+pub(crate) fn next_number(number: u64) -> u64
+    ensures { result ≢ number }
+{
+    number.wrapping_add(1)
+}
+
+// How the files at this path are opened: with a cache of the size that the file has now, a short log, and this number for it.
+pub(crate) fn options(rt: &HostRuntime, path: &str, number: u64) -> Options
+    ensures cache { (2000 ≤ result.cache_pages) × (result.cache_pages ≤ 19200) }
+    ensures log { result.checkpoint_frames ≡ 256 }
+    ensures number { result.seed ≡ number }
+{
+    Options {
         cache_pages: cache_pages(octets_at(rt, path)),
         checkpoint_frames: LOG_PAGES,
-        ..Options::new(state.hash_one(&0u8))
-    })
+        ..Options::new(number)
+    }
 }
 
 // The two files at this path, which are made where they aren't there. It refuses `:memory:` and a URI, which name no file.
-fn open_pair<S: Start>(rt: &HostRuntime, path: &str, start: S) -> Result<Files<FileFrom<S>>, Error>
+pub(crate) fn open_pair<S: Start>(
+    rt: &HostRuntime,
+    path: &str,
+    start: S,
+) -> Result<Files<FileFrom<S>>, Error>
     ensures memory { path.now ≡ codes ":memory:" → result ≡ Err (Error.SqliteFailure ErrorCode.CannotOpen) }
     ensures named { IfErr result (λ e. IsTrue (is_open_error e)) }
     ensures usable { IfOk result (λ files. IsTrue (file_is_usable S.Start files.log) × IsTrue (file_is_usable S.Start files.db)) }
@@ -87,37 +103,30 @@ fn open_pair<S: Start>(rt: &HostRuntime, path: &str, start: S) -> Result<Files<F
     }
 }
 
-// As `Connection::open_from` does, whose clauses these are, but with a cache of the file's size: opens the files at this path, or makes
-// them, and then each page ends in a sum. `S` stands for the octets that they hold. An error comes with what is left of the files, once
-// they were opened.
-pub(crate) fn open_cached<S: Start>(
+// As `Connection::open_files_with` does, whose clauses these are, but with a cache of the size that the file at this path has, and this number for
+// the log: then each page of new files ends in a sum.
+pub(crate) fn open_cached<D: Disk + Drop>(
     rt: &HostRuntime,
     path: &str,
-    start: S,
-) -> Result<Connection<FileStore<FileFrom<S>>>, (Error, Option<Leftover<FileFrom<S>>>)>
+    files: Files<D>,
+    number: u64,
+) -> Result<Connection<FileStore<D>>, (Error, Leftover<D>)>
+    requires log { IsTrue (D.Disk.is_usable files.log) }
+    requires db { IsTrue (D.Disk.is_usable files.db) }
     ensures named { IfErr result (λ e. IsTrue (is_open_error e.0)) }
     ensures opened { IfOk result (λ c. HasCleanDisk (file_state c) → IsOpened c) }
-    ensures found { IfOk result (λ c. HasCleanDisk (file_state c) → FindsIn (image_at S.Start) (file_state c)) }
-    ensures sums { IfOk result (λ c. HasCleanDisk (file_state c) → IsBlankAs true (image_at S.Start) → (view c.store).has_sums ≡ true) }
+    ensures found { IfOk result (λ c. HasCleanDisk (file_state c) → Finds files c) }
+    ensures sums { IfOk result (λ c. HasCleanDisk (file_state c) → IsBlankAs true (image_of D.Disk files) → (view c.store).has_sums ≡ true) }
     ensures fresh { IfOk result IsNew }
-    ensures unopened { IfErr result (λ e. e.1 ≡ None
-        → (e.0 ≡ Error.SqliteFailure ErrorCode.CannotOpen) ⊎ ((e.0 ≡ Error.SqliteFailure ErrorCode.OutOfMemory) ⊎ (e.0 ≡ Error.SqliteFailure ErrorCode.DatabaseBusy))) }
-    ensures cause { IfErr result (λ e. IfSome e.1 (λ left. (files : _) × IsFresh true files.log × IsFresh false files.db
-        × (IsCleanLeft left → FailsToOpenFiles files left e.0 × LeavesFiles files left))) }
+    ensures cause { IfErr result (λ e. IsCleanLeft e.1 → FailsToOpenFiles files e.1 e.0) }
+    ensures unharmed { IfErr result (λ e. IsCleanLeft e.1 → LeavesFiles files e.1) }
 {
-    let files = match open_pair(rt, path, start) {
-        Ok(files) => files,
-        Err(error) => return Err((error, None)),
-    };
-    let Some(options) = options(rt, path) else {
-        drop(files);
-        return Err((CANNOT_OPEN, None));
-    };
+    let options = options(rt, path, number);
     match Connection::open_files_with(rt.alloc(), files, options, true) {
         Ok(mut conn) => {
             conn.set_clock(rt);
             Ok(conn)
         }
-        Err((error, left)) => Err((error, Some(left))),
+        Err(failed) => Err(failed),
     }
 }

@@ -21,6 +21,8 @@ pub struct CatalogueFiles<'r, D: Disk + Drop, O: FileOpener<D>> {
     rt: &'r HostRuntime,
     // What opens the file, until it is opened.
     start: Option<O>,
+    // The number that its log got last.
+    number: u64,
     // What is left of the file that was closed last, or that wasn't opened.
     left: Option<Left<D>>,
 }
@@ -31,6 +33,7 @@ impl<D: Disk + Drop, O: FileOpener<D>> Drop for CatalogueFiles<'_, D, O> {
         let CatalogueFiles {
             rt: _,
             start: _,
+            number: _,
             left: _,
         } = self;
     }
@@ -45,6 +48,7 @@ impl<'r, D: Disk + Drop, O: FileOpener<D>> CatalogueFiles<'r, D, O> {
         CatalogueFiles {
             rt,
             start: Some(opener),
+            number: 0,
             left: None,
         }
     }
@@ -58,7 +62,7 @@ impl<D: Disk + Drop, O: FileOpener<D>> DeskOpener<Desk<FileStore<D>>> for Catalo
 
     ghost is_opened = { λ former desk. IsDesk O.image former desk };
 
-    ghost is_unopened = { λ path old new fault. IsNoDeskAt O.image path old.start new.start old.left new.left fault };
+    ghost is_unopened = { λ path old new fault. IsNoDeskAt O.image O.refuses path old.start new.start old.left new.left fault };
 
     ghost is_unreopened = { λ path desk one fault. IsNoDeskAgain path desk one.left fault };
 
@@ -73,7 +77,13 @@ impl<D: Disk + Drop, O: FileOpener<D>> DeskOpener<Desk<FileStore<D>>> for Catalo
     ghost is_uncopied = { λ desk one fault. IsToldUncopied desk one.left fault };
 
     fn open<'w>(&mut self, path: &'w str) -> Result<Desk<FileStore<D>>, ProgramFault<'w>> {
-        let mut desk = open_desk(self.rt, path, &mut self.start, &mut self.left)?;
+        let mut desk = open_desk(
+            self.rt,
+            path,
+            &mut self.start,
+            &mut self.number,
+            &mut self.left,
+        )?;
         desk.make_indexes();
         Ok(desk)
     }
@@ -82,7 +92,13 @@ impl<D: Disk + Drop, O: FileOpener<D>> DeskOpener<Desk<FileStore<D>>> for Catalo
         &mut self,
         path: &'w str,
     ) -> Result<Desk<FileStore<D>>, ProgramFault<'w>> {
-        open_desk(self.rt, path, &mut self.start, &mut self.left)
+        open_desk(
+            self.rt,
+            path,
+            &mut self.start,
+            &mut self.number,
+            &mut self.left,
+        )
     }
 
     fn reopen<'w>(
@@ -90,7 +106,7 @@ impl<D: Disk + Drop, O: FileOpener<D>> DeskOpener<Desk<FileStore<D>>> for Catalo
         path: &'w str,
         desk: Desk<FileStore<D>>,
     ) -> Result<Desk<FileStore<D>>, ProgramFault<'w>> {
-        let mut desk = reopen_desk(self.rt, path, desk, &mut self.left)?;
+        let mut desk = reopen_desk(self.rt, path, desk, &mut self.number, &mut self.left)?;
         desk.make_indexes();
         Ok(desk)
     }
@@ -116,16 +132,22 @@ impl<D: Disk + Drop, O: FileOpener<D>> Catalogues<Desk<FileStore<D>>> for Catalo
 
     ghost is_made = { λ desk. IsMadeDesk O.image desk };
 
-    ghost is_unmade = { λ path old new fault. IsUnmade O.image path old.start new.start old.left new.left fault };
+    ghost is_unmade = { λ path old new fault. IsUnmade O.image O.refuses path old.start new.start old.left new.left fault };
 
     ghost is_sound = { λ old new. IsSound over_files new };
 
     ghost is_unsound = { λ old new fault. IsUnsound over_files old new fault };
 
-    ghost has_spoken = { λ path left old new result reader writer. HasSpokenOver O.image path left old.start new.start old.left new.left result reader writer };
+    ghost has_spoken = { λ path left old new result reader writer. HasSpokenOver O.image O.refuses path left old.start new.start old.left new.left result reader writer };
 
     fn make<'w>(&mut self, path: &'w str) -> Result<Desk<FileStore<D>>, ProgramFault<'w>> {
-        make_desk(self.rt, path, &mut self.start, &mut self.left)
+        make_desk(
+            self.rt,
+            path,
+            &mut self.start,
+            &mut self.number,
+            &mut self.left,
+        )
     }
 
     fn audit(&mut self, desk: &mut Desk<FileStore<D>>) -> Result<(), ProgramFault<'static>> {
@@ -145,6 +167,7 @@ impl<D: Disk + Drop, O: FileOpener<D>> Catalogues<Desk<FileStore<D>>> for Catalo
             self.rt,
             path,
             &mut self.start,
+            &mut self.number,
             &mut self.left,
             reader,
             writer,

@@ -28,16 +28,17 @@ pub(crate) fn run_session<'w, D: Disk + Drop, O: FileOpener<D>, R: Source, W: Si
     rt: &HostRuntime,
     file: &'w str,
     start: &mut Option<O>,
+    number: &mut u64,
     held: &mut Option<Left<D>>,
     reader: &mut R,
     writer: &mut W,
 ) -> Result<Spoken<D>, ProgramFault<'w>>
     ensures spoken { MatchResult result
         (λ ran. (conn : Held _) × IsOpenedFrom O.image conn × HasSpoken over_files conn ran.0 ran.1 (change R.stream reader.old reader.new) (change W.stream writer.old writer.new))
-        (λ fault. IsNoDeskAt O.image file.entry.now start.old start.new held.old held.new fault × IsUntouched (change R.stream reader.old reader.new) × IsUntouched (change W.stream writer.old writer.new)) }
+        (λ fault. IsNoDeskAt O.image O.refuses file.entry.now start.old start.new held.old held.new fault × IsUntouched (change R.stream reader.old reader.new) × IsUntouched (change W.stream writer.old writer.new)) }
     ensures memory { IfOk result (λ ran. ran.1 ≡ Err SessionFault.Memory → IsUntouched (change R.stream reader.old reader.new) × IsUntouched (change W.stream writer.old writer.new)) }
 {
-    let conn = open_file(rt, file, start, held)?;
+    let conn = open_file(rt, file, false, start, number, held)?;
     match session_over(rt.alloc(), conn, reader, writer, HOST, 1) {
         Ok(spoken) => Ok(spoken),
         Err((conn, fault)) => {

@@ -83,9 +83,10 @@ IsFirstStretch rounds desk [] = ⊤
 IsFirstStretch rounds desk (one ∷ others) = (one.opened ≡ desk) × (one.asked ≡ rounds)
 
 -- A desk shows one of the catalogues that a stop could have left of another, this is told where what it stands on has returned what was
--- written to it; and then what the other stood on had too. What was beside that catalogue is kept
+-- written to it; and then what the other stood on had too. A stop leaves what it shows alone. What was beside that catalogue is kept
 pub record Follows {K Beside : Type 0} (Shows : K → Catalogue → Type 0) (LeavesOneOf : K → List (Option Catalogue) → Type 0) (KeepsBeside : K → Beside → Type 0) (IsTrusted : K → Type 0) (old new : K) : Type 0 where
   pub shows : IsTrusted new → (ms : List (Option Catalogue)) → LeavesOneOf old ms → ∥ ((M : Catalogue) × Contains ms (Some M) × Shows new M) ∥₁
+  pub only : IsTrusted new → (M : Catalogue) → Shows new M → LeavesOneOf new (Some M ∷ [])
   pub trust : IsTrusted new → IsTrusted old
   pub beside : (beside : Beside) → KeepsBeside old beside → KeepsBeside new beside
 

@@ -54,10 +54,11 @@ pub trait DeskOpener<K: Keeper> {
         ensures history { Does (history self.old) (history self.new) (Opens path.entry.now (got result) ∷ []) };
 
     /// Closes a desk whose store failed, and opens the same file again, which has this path. The new desk shows one of the catalogues
-    /// that a stop could have left of the other. A fault is one of the file or of its catalogue, and no refusal; then a stop leaves
+    /// that a stop could have left of the other, and a stop leaves that one alone. A fault is one of the file or of its catalogue, and no refusal; then a stop leaves
     /// nothing of the file that it couldn't leave of the other desk.
     fn reopen<'w>(&mut self, path: &'w str, desk: K) -> Result<K, ProgramFault<'w>>
         ensures opened { MatchResult result (IsNew K.shows K.leaves_one_of K.is_trusted (is_opened (Some desk))) (IsNone (is_unreopened path.entry.now desk self.new)) }
+        ensures answers { IfOk result (λ desk. K.is_closed desk ≡ false) }
         ensures follows { IfOk result (Follows K.shows K.leaves_one_of K.keeps_beside K.is_trusted desk) }
         ensures leaves { IfErr result (λ _. (ms : List (Option Catalogue)) → K.leaves_one_of desk ms → still_leaves desk self.new ms) }
         ensures beside { IfErr result (λ _. still_keeps desk self.new) }

@@ -64,6 +64,7 @@ pub(crate) trait Machine<K: Keeper> {
     /// The desk over what a stop leaves of the store of another.
     fn restart(&mut self, desk: K) -> Result<K, ProgramFault<'static>>
         ensures opened { MatchResult result (IsNew K.shows K.leaves_one_of K.is_trusted (λ _. ⊤)) (IsNone (λ _. ⊤)) }
+        ensures answers { IfOk result (λ desk. K.is_closed desk ≡ false) }
         ensures follows { IfOk result (Follows K.shows K.leaves_one_of K.keeps_beside K.is_trusted desk) };
 }
 
@@ -104,6 +105,7 @@ fn restart<D: Crash + Drop>(
     ensures opened { MatchResult result
         (IsNew (Shows over_files) (LeavesOneOf over_files) (λ desk. HasCleanDisk (file_state desk.conn)) (λ _. ⊤))
         (IsNone (λ _. ⊤)) }
+    ensures answers { IfOk result (λ desk. is_closed desk.last ≡ false) }
     ensures follows { IfOk result (Follows (Shows over_files) (LeavesOneOf over_files) (KeepsBeside over_files) (λ desk. HasCleanDisk (file_state desk.conn)) desk) }
 {
     match desk.restart(options()) {

@@ -13,7 +13,7 @@ pub returns-in_err-conn-clause-opened : goal.returns-in_err-conn-clause-opened
 returns-in_err-conn-clause-opened g c =
     let error = err_from_is_err_and c.from_residual.result c.from_residual.ensures.1 in
     let none = c.in_err-conn.ensures.unopened in
-    rw (error.1, error.2) (inl none, not_opened_of_file g.O.FileOpener.image _ _ _ _ _ _ none)
+    rw (error.1, error.2) (inl none, not_opened_of_file g.O.FileOpener.image g.O.FileOpener.refuses _ _ _ _ _ _ _ none)
 
 pub returns-in-Ok-clause-opened : goal.returns-in-Ok-clause-opened
 returns-in-Ok-clause-opened g c = record {

@@ -8,5 +8,5 @@ returns-in-Ok-clause-octets g c =
     let log = c.in-Ok.ensures.fresh.0 in
     let db = c.in-Ok.ensures.fresh.1 in
     octets_by c.in-Ok.files (image_at start) (seen_is start.log start.db _ _ _ _ log.0 log.1) (seen_is start.log start.db _ _ _ _ db.0 db.1)
-        (left_is start.log start.db _ _ _ _ log.0 log.1 _) (left_is start.log start.db _ _ _ _ db.0 db.1 _)
-        (honest_is start.log start.db _ _ _ _ log.0 log.1) (honest_is start.log start.db _ _ _ _ db.0 db.1)
+    (left_is start.log start.db _ _ _ _ log.0 log.1 _) (left_is start.log start.db _ _ _ _ db.0 db.1 _)
+    (honest_is start.log start.db _ _ _ _ log.0 log.1) (honest_is start.log start.db _ _ _ _ db.0 db.1)
