@@ -20,7 +20,9 @@ returns-clause-ends g c = inr (
 )
 
 pub returns-in_err-desk-clause-order : goal.returns-in_err-desk-clause-order
-returns-in_err-desk-clause-order g c = inl c.in_err-desk.ensures.history
+returns-in_err-desk-clause-order g c =
+    let error = err_from_is_err_and c.from_residual.result c.from_residual.ensures.1 in
+    inl (c.in_err-desk.ensures.history, (error.0, error.1, rw error.2 c.in_err-desk.ensures.opened.0))
 
 pub returns-clause-order : goal.returns-clause-order
 returns-clause-order g c = inr c.install-end.ensures.order
