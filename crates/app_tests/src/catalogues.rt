@@ -1,5 +1,5 @@
 //! Catalogues in files that are changed, listed, asked and read whole.
-use super::fixtures::{ROOM, Row, differing, is_so, outcome, remove, run};
+use super::fixtures::{Inputs, ROOM, Row, differing, is_so, outcome, remove, run};
 use super::rows;
 use crate::checks::{holds, same_text};
 use app_words::OverFiles;
@@ -16,15 +16,24 @@ fn play(test: &impl Abort, rt: &HostRuntime, file: &str, rows: &[Row]) -> Result
     remove(rt, file)
 }
 
+// Commands in turn, each run over a file of its own.
+fn plays() -> [(&'static str, &'static [Row]); 8] {
+    [
+        ("dictcat_made.db", &rows::MADE),
+        ("dictcat_editions.db", &rows::EDITIONS),
+        ("dictcat_kept.db", &rows::KEPT),
+        ("dictcat_first.db", &rows::FIRST_FAULTS),
+        ("dictcat_order.db", &rows::ORDER),
+        ("dictcat_words.db", &rows::WORDS),
+        ("dictcat_retired.db", &rows::RETIRED),
+        ("dictcat_unserved.db", &rows::UNSERVED),
+    ]
+}
+
 pub(crate) fn commands_one_after_another(test: &impl Abort, rt: &HostRuntime) -> Result<(), Fail> {
-    play(test, rt, "dictcat_made.db", &rows::MADE)?;
-    play(test, rt, "dictcat_editions.db", &rows::EDITIONS)?;
-    play(test, rt, "dictcat_kept.db", &rows::KEPT)?;
-    play(test, rt, "dictcat_first.db", &rows::FIRST_FAULTS)?;
-    play(test, rt, "dictcat_order.db", &rows::ORDER)?;
-    play(test, rt, "dictcat_words.db", &rows::WORDS)?;
-    play(test, rt, "dictcat_retired.db", &rows::RETIRED)?;
-    play(test, rt, "dictcat_unserved.db", &rows::UNSERVED)?;
+    for (file, rows) in &plays() {
+        play(test, rt, file, *rows)?;
+    }
     same_text(test, differing(rt, "", &rows::PLAIN)?.as_str(), "");
     Ok(())
 }
@@ -128,7 +137,13 @@ static OVER_FILES: [Asked; 4] = [
 // Whether a row's words are answered as it says, and nothing is told.
 fn is_answered(rt: &HostRuntime, asked: &Asked) -> Result<bool, Fail> {
     let (words, input, status, printed) = asked;
-    let found = outcome(rt, *words, &OverFiles::new(rt), *input, ROOM)?;
+    let found = outcome(
+        rt,
+        *words,
+        &Inputs::Machine(OverFiles::new(rt)),
+        *input,
+        ROOM,
+    )?;
     Ok(is_so(&found, *status, printed, ""))
 }
 

@@ -1,7 +1,7 @@
 // What the tests read from and write to.
 ghost use Rattle.std.specs.Prelude.{None, ⊤};
 
-use app_words::{InputFiles, ReadFault};
+use app_words::{InputFiles, OverFiles, ReadFault};
 use dict_desk::PlainDesk;
 use dict_fixtures::{GEM_INDEX, GEM_TEXT, ORE_INDEX, ORE_TEXT};
 use dict_proto::{LimitedSink, OverRead};
@@ -14,13 +14,30 @@ use std::test::Fail;
 // The index whose last line cuts one octet too many.
 const LONG_INDEX: &[u8] = b"00-database-short\tA\tZ\nopal\tZ\tP\nFire Opal\tZ\tP\ndot\to\tG\n";
 
-/// The example databases in memory.
+/// What words read: the example databases in memory, or the files of the machine. It is one type, so that the program is built for it once.
 #[derive(Drop)]
-struct Examples {
-    alloc: Global,
+pub(crate) enum Inputs<'r> {
+    /// The example databases.
+    Examples(Global),
+    /// The files of the machine.
+    Machine(OverFiles<'r, HostRuntime>),
 }
 
-impl InputFiles for Examples {
+// An example by its path.
+fn example(alloc: Global, path: &str) -> Result<Vec<u8>, ReadFault> {
+    let octets = match path {
+        "gem.index" => GEM_INDEX,
+        "gem.dict" => GEM_TEXT,
+        "long.index" => LONG_INDEX,
+        "ore.index" => ORE_INDEX,
+        "ore.dict" => ORE_TEXT,
+        "empty" => b"",
+        _ => return Err(ReadFault::Unreadable),
+    };
+    Vec::from_slice(alloc, octets).map_err(|_| ReadFault::Memory)
+}
+
+impl InputFiles for Inputs<'_> {
     ghost octets = { λ _ _. None };
 
     ghost reads = { λ _ _. ⊤ };
@@ -28,16 +45,10 @@ impl InputFiles for Examples {
     ghost refuses = { λ _ _ _. ⊤ };
 
     fn read(&self, path: &str) -> Result<Vec<u8>, ReadFault> {
-        let octets = match path {
-            "gem.index" => GEM_INDEX,
-            "gem.dict" => GEM_TEXT,
-            "long.index" => LONG_INDEX,
-            "ore.index" => ORE_INDEX,
-            "ore.dict" => ORE_TEXT,
-            "empty" => b"",
-            _ => return Err(ReadFault::Unreadable),
-        };
-        Vec::from_slice(self.alloc, octets).map_err(|_| ReadFault::Memory)
+        match self {
+            Inputs::Examples(alloc) => example(*alloc, path),
+            Inputs::Machine(files) => files.read(path),
+        }
     }
 }
 
@@ -57,11 +68,11 @@ pub(crate) type Row = (
 /// More octets than any command prints here.
 pub(crate) const ROOM: usize = 4000;
 
-/// What comes of these words with this input over any files, where standard output takes so many octets.
-pub(crate) fn outcome<I: InputFiles>(
+/// What comes of these words with this input over these files, where standard output takes so many octets.
+pub(crate) fn outcome(
     rt: &HostRuntime,
     words: &[&str],
-    files: &I,
+    files: &Inputs<'_>,
     input: &str,
     room: usize,
 ) -> Result<Outcome, Fail> {
@@ -98,7 +109,7 @@ pub(crate) fn run(
     for word in words {
         all.push(if *word == "FILE" { file } else { *word })?;
     }
-    outcome(rt, all.as_slice(), &Examples { alloc }, input, room)
+    outcome(rt, all.as_slice(), &Inputs::Examples(alloc), input, room)
 }
 
 /// Whether the status, what is printed and what is told are these.

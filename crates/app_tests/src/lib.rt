@@ -1,4 +1,4 @@
-//! Tries what the program does with words, over files, its servers, and sessions over databases that were read.
+//! Tries what the program does with words, over files, and its servers.
 #![tactic(auto)]
 
 #[cfg(test)]
@@ -13,8 +13,6 @@ mod paths;
 mod rows;
 #[cfg(test)]
 mod serving;
-#[cfg(test)]
-mod sessions;
 #[cfg(test)]
 mod tests;
 #[cfg(test)]

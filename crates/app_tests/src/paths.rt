@@ -1,13 +1,13 @@
 //! Paths without a catalogue, and files that become one.
 use super::fixtures::{ROOM, Row, differing, remove, run};
 use crate::checks::{holds, same, same_text};
-use dict_desk::{Fault, Lookup};
-use sqlite::{Alter, FileStore, Unknown};
+use dict_desk::Fault;
+use sqlite::{FileStore, Start, Unknown};
 use sqlite_disk::Disk;
 use std::fs;
 use std::process::Abort;
 use std::test::Fail;
-use store_desk::Desk;
+use store_desk::{Desk, Unopened};
 
 // The commands over a file but `create`, each with more faults than one.
 static EACH: [&[&str]; 9] = [
@@ -132,21 +132,42 @@ pub(crate) fn paths_without_a_catalogue(test: &impl Abort, rt: &HostRuntime) -> 
     clear(rt)
 }
 
-// How many commands a catalogue accepted.
-fn accepted<S: Alter + Drop>(desk: Desk<S>) -> Result<u64, Fault> {
-    Ok(desk.summary()?.accepted)
+// Closes a desk over two files. Whether its log was copied.
+fn is_copied<D: Disk + Drop>(desk: Desk<FileStore<D>>) -> bool {
+    match desk.close() {
+        Ok(_files) => true,
+        Err((store, _)) => {
+            let _files = store.close();
+            false
+        }
+    }
 }
 
-// The same over any disk: to hand the store of a disk that is named to a function of any store is dear to prove.
-fn accepted_over<D: Disk + Drop>(desk: Desk<FileStore<D>>) -> Result<u64, Fault> {
-    accepted(desk)
+// The files go where no desk was opened, by way of their own type, which is cheaper to prove.
+fn let_go<D: Disk + Drop>(left: Unopened<D>) {
+    match left {
+        Unopened::Spent(_files) => {}
+        Unopened::Database(conn) => match conn.close_files() {
+            Ok(_files) => {}
+            Err((_, store)) => {
+                let _files = store.close();
+            }
+        },
+        Unopened::Files(Some(left)) => {
+            let _files = left.into_files();
+        }
+        Unopened::Files(None) => {}
+    }
 }
 
-// The same of the catalogue whose desk is opened from a path; or the fault.
-fn accepted_at(rt: &HostRuntime, path: &str) -> Result<u64, Fault> {
-    match Desk::open_from(rt, path, false, Unknown) {
-        Ok(desk) => accepted_over(desk),
-        Err((_, fault)) => Err(fault),
+// Opens a desk from a path, and closes it: whether its log was copied, or the fault.
+fn opened_at<S: Start>(rt: &HostRuntime, path: &str, start: S) -> Result<bool, Fault> {
+    match Desk::open_from(rt, path, false, start) {
+        Ok(desk) => Ok(is_copied(desk)),
+        Err((left, fault)) => {
+            let_go(left);
+            Err(fault)
+        }
     }
 }
 
@@ -161,10 +182,15 @@ static INSTALLED: [Row; 2] = [
     ),
 ];
 
+static LISTED: [Row; 1] = [(&["list", "FILE"], "", 0, "0 gem regular 1 - \"Gems\"\n", "")];
+
 pub(crate) fn a_desk_from_a_path(test: &impl Abort, rt: &HostRuntime) -> Result<(), Fail> {
     let path = "dictcat_desk.db";
-    same(test, &accepted_at(rt, path), &Err(Fault::NotACatalogue));
+    let found = opened_at(rt, path, Unknown);
+    same(test, &found, &Err(Fault::NotACatalogue));
     same_text(test, differing(rt, path, &INSTALLED)?.as_str(), "");
-    same(test, &accepted_at(rt, path), &Ok(1));
+    let found = opened_at(rt, path, Unknown);
+    same(test, &found, &Ok(true));
+    same_text(test, differing(rt, path, &LISTED)?.as_str(), "");
     remove(rt, path)
 }

@@ -1,5 +1,5 @@
-//! The tests. The prover links each by itself, with all of the program that it reaches: so they are few, and try much.
-use crate::{catalogues, paths, serving, sessions, usage};
+//! The test. The prover links each by itself, with all of the program that it reaches: so there is one, and it tries much.
+use crate::{catalogues, paths, serving, usage};
 use std::process::Abort;
 use std::test::Fail;
 
@@ -18,20 +18,7 @@ fn try_words(test: &impl Abort, rt: &HostRuntime) -> Result<(), Fail> {
     Ok(())
 }
 
-// Sessions over databases that were read.
-fn try_sessions(test: &impl Abort, rt: &HostRuntime) -> Result<(), Fail> {
-    sessions::answers_in_any_pieces(test, rt)?;
-    sessions::a_line_is_answered_before_the_next_piece_is_read(test, rt)?;
-    sessions::a_full_sink_ends_the_session(test, rt)?;
-    Ok(())
-}
-
 #[test]
 fn words_are_answered(rt: HostRuntime) -> Result<(), Fail> {
     try_words(&rt, &rt)
-}
-
-#[test]
-fn sessions_are_held(rt: HostRuntime) -> Result<(), Fail> {
-    try_sessions(&rt, &rt)
 }

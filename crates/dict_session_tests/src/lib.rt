@@ -17,6 +17,8 @@ mod limits;
 #[cfg(test)]
 mod lines;
 #[cfg(test)]
+mod plain;
+#[cfg(test)]
 mod replies;
 #[cfg(test)]
 mod runs;

@@ -104,7 +104,7 @@ pub(crate) fn open_pair<S: Start>(
 }
 
 // As `Connection::open_files_with` does, whose clauses these are, but with a cache of the size that the file at this path has, and this number for
-// the log: then each page of new files ends in a sum.
+// the log: then each page of new files ends in a sum. No clock is given, since no statement reads CURRENT_TIMESTAMP.
 pub(crate) fn open_cached<D: Disk + Drop>(
     rt: &HostRuntime,
     path: &str,
@@ -122,11 +122,5 @@ pub(crate) fn open_cached<D: Disk + Drop>(
     ensures unharmed { IfErr result (λ e. IsCleanLeft e.1 → LeavesFiles files e.1) }
 {
     let options = options(rt, path, number);
-    match Connection::open_files_with(rt.alloc(), files, options, true) {
-        Ok(mut conn) => {
-            conn.set_clock(rt);
-            Ok(conn)
-        }
-        Err(failed) => Err(failed),
-    }
+    Connection::open_files_with(rt.alloc(), files, options, true)
 }

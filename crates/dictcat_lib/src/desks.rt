@@ -40,10 +40,11 @@ pub(crate) fn make_desk<'w, D: Disk + Drop, O: FileOpener<D>>(
     }
 }
 
-// The desk of the catalogue in the file with this path. Where there is none, `held` is what is left of the file.
+// The desk of the catalogue in the file with this path, `indexed` for lookups, or not. Where there is none, `held` is what is left of the file.
 pub(crate) fn open_desk<'w, D: Disk + Drop, O: FileOpener<D>>(
     rt: &HostRuntime,
     file: &'w str,
+    indexed: bool,
     start: &mut Option<O>,
     number: &mut u64,
     held: &mut Option<Left<D>>,
@@ -54,7 +55,7 @@ pub(crate) fn open_desk<'w, D: Disk + Drop, O: FileOpener<D>>(
     ensures answers { IfOk result (λ desk. is_closed desk.last ≡ false) }
 {
     let conn = open_file(rt, file, false, start, number, held)?;
-    match Desk::adopt(rt.alloc(), conn) {
+    match Desk::adopt(rt.alloc(), conn, indexed) {
         Ok(desk) => Ok(desk),
         Err((conn, fault)) => {
             hold(held, close_file(conn));

@@ -77,15 +77,14 @@ impl<D: Disk + Drop, O: FileOpener<D>> DeskOpener<Desk<FileStore<D>>> for Catalo
     ghost is_uncopied = { λ desk one fault. IsToldUncopied desk one.left fault };
 
     fn open<'w>(&mut self, path: &'w str) -> Result<Desk<FileStore<D>>, ProgramFault<'w>> {
-        let mut desk = open_desk(
+        open_desk(
             self.rt,
             path,
+            true,
             &mut self.start,
             &mut self.number,
             &mut self.left,
-        )?;
-        desk.make_indexes();
-        Ok(desk)
+        )
     }
 
     fn open_for_command<'w>(
@@ -95,6 +94,7 @@ impl<D: Disk + Drop, O: FileOpener<D>> DeskOpener<Desk<FileStore<D>>> for Catalo
         open_desk(
             self.rt,
             path,
+            false,
             &mut self.start,
             &mut self.number,
             &mut self.left,
@@ -106,9 +106,7 @@ impl<D: Disk + Drop, O: FileOpener<D>> DeskOpener<Desk<FileStore<D>>> for Catalo
         path: &'w str,
         desk: Desk<FileStore<D>>,
     ) -> Result<Desk<FileStore<D>>, ProgramFault<'w>> {
-        let mut desk = reopen_desk(self.rt, path, desk, &mut self.number, &mut self.left)?;
-        desk.make_indexes();
-        Ok(desk)
+        reopen_desk(self.rt, path, desk, &mut self.number, &mut self.left)
     }
 
     fn close(&mut self, desk: Desk<FileStore<D>>) -> Result<(), ProgramFault<'static>> {

@@ -23,6 +23,7 @@ ghost use Rattle.store_desk.specs.Adopted.{FailsToOpen, MayCommitBeside, IsAdopt
 ghost use Rattle.store_holdings.specs.Faults.{IsOfStore};
 
 use crate::desk::Desk;
+use crate::indexing::index_if;
 use crate::kept::forget_by;
 use crate::last::{LastCall, last_by};
 use dict_catalogue::{Summary, edition_numbers};
@@ -199,6 +200,9 @@ impl<S: Alter + Drop> Desk<S> {
     /// A desk over a database that holds a catalogue, the only one that it holds. It is read whole. A stop leaves the catalogue
     /// that the desk shows, and no other.
     ///
+    /// Where it is to be `indexed`, the index of each edition is made as far as there is memory: else the first lookup in an edition makes it, and
+    /// waits for it.
+    ///
     /// Tables of the known version are not written to. Of tables of an older one those of the known one are made, of the same
     /// catalogue, by one commit: stopped in it, the next opening finds the one or the other.
     ///
@@ -206,7 +210,11 @@ impl<S: Alter + Drop> Desk<S> {
     /// version is above the one that is known. `Damaged`: the tables hold no catalogue. They are tested in this order, before anything
     /// is written. `Memory`: a growth was refused; nothing is changed. `Disk`: the store failed; where tables were being made, the next
     /// opening tells which are there. The connection's limit on steps is taken away.
-    pub fn adopt(alloc: Global, conn: Connection<S>) -> Result<Desk<S>, (Connection<S>, Fault)>
+    pub fn adopt(
+        alloc: Global,
+        conn: Connection<S>,
+        indexed: bool,
+    ) -> Result<Desk<S>, (Connection<S>, Fault)>
         requires { conn.in_transaction ≡ false }
         ensures adopted { IfOk result (IsAdopted S.Store conn) }
         ensures held { IfOk result (λ desk. HasCleanDisk (state S.Store desk.conn) → (M : Catalogue) → IsHeld (state S.Store conn).committed M → Shows S.Store desk M) }
@@ -221,8 +229,9 @@ impl<S: Alter + Drop> Desk<S> {
         is_whole(&conn);
         conn.set_step_limit(None);
         match read_renewed(alloc, &mut conn) {
-            Ok((summary, indexes, orphans)) => {
+            Ok((summary, mut indexes, orphans)) => {
                 is_whole(&conn);
+                index_if(indexed, &mut indexes, &summary.items);
                 Ok(Desk::over(alloc, conn, summary, indexes, orphans))
             }
             Err(fault) => Err((conn, fault)),

@@ -1,10 +1,10 @@
 // A desk over files that is closed.
 ghost use Rattle.std.specs.Prelude.{◌≡◌, false, ◌⊎◌, List, Option, IsTrue, IfOk, IfErr, OnOk};
 ghost use Rattle.sqlite.specs.Files.{file_state, over_files};
-ghost use Rattle.sqlite.specs.FileStore.{view};
-ghost use Rattle.sqlite.specs.Held.{state};
+ghost use Rattle.sqlite.specs.FileStore.{view, faults, recovers, is_shielded};
+ghost use Rattle.sqlite.specs.Held.{AreDatabases, state};
 ghost use Rattle.sqlite.specs.State.{HasCleanDisk};
-ghost use Rattle.sqlite.specs.View.{IsClean};
+ghost use Rattle.sqlite.specs.View.{IsClean, IsQuiet};
 ghost use Rattle.sqlite.specs.WalReads.{AreClean};
 ghost use Rattle.dict_catalogue.specs.Steps.{Catalogue};
 ghost use Rattle.store_holdings.specs.Holds.{IsLeft};
@@ -59,6 +59,15 @@ pub(crate) fn let_go_of_files<D: Disk + Drop>(
     let_go(desk)
 }
 
+// The store of a connection over two files, which is let go of: what wasn't committed is undone.
+pub(crate) fn store_of<D: Disk + Drop>(conn: Connection<FileStore<D>>) -> FileStore<D>
+    ensures numbered { IsClean (view result) → IsTrue (view result).is_numbered }
+    ensures sound { IsClean (view result) → AreDatabases (recovers result) }
+    ensures quiet { IsQuiet view faults recovers is_shielded conn.store result }
+{
+    conn.into_store()
+}
+
 impl<D: Disk + Drop> Desk<FileStore<D>> {
     /// Closes a desk over two files: what was committed is copied from the log into the database file, which then holds the
     /// catalogue alone, without its log, and the tables of others that were kept.
@@ -78,7 +87,7 @@ impl<D: Disk + Drop> Desk<FileStore<D>> {
     {
         let (conn, is_closed) = let_go_of_files(self);
         if is_closed {
-            return Err((conn.into_store(), Fault::Disk));
+            return Err((store_of(conn), Fault::Disk));
         }
         match conn.close_files() {
             Ok(files) => Ok(files),

@@ -30,7 +30,7 @@ use sqlite::{Alter, Connection};
 use std::alloc::Global;
 use std::marker::Model;
 use store_commands::Draft;
-use store_holdings::{Indexes, TextParts, make_indexes};
+use store_holdings::{Indexes, TextParts};
 use store_migration::create;
 
 /// A desk over one database: the connection to it, the summary of the catalogue that it holds, and an index of each of its editions,
@@ -182,14 +182,6 @@ impl<S: Alter + Drop> Desk<S> {
         ensures { result ≡ self.now.counts.taken }
     {
         self.rows_taken
-    }
-
-    /// Makes the index of each edition, which lookups need: else the first lookup in an edition makes it, and waits for it. Where memory is
-    /// refused, that is left to lookups.
-    pub fn make_indexes(&mut self)
-        ensures { self.new ≡ self.old }
-    {
-        make_indexes(&mut self.indexes, &self.summary.items);
     }
 
     // The connection of a desk, of which nothing else is left.

@@ -1,4 +1,4 @@
-// The indexes of a desk over a command.
+// The indexes of a desk: where it is opened, and over a command.
 ghost use Rattle.std.specs.Prelude.{◌≡◌, ℕ, true, OnOk, OnErr};
 ghost use Rattle.dict_catalogue.specs.Commands.{verb_of};
 ghost use Rattle.dict_catalogue.specs.Views.{command_meant};
@@ -10,7 +10,7 @@ use dict_catalogue::{Command, Item};
 use dict_desk::Fault;
 use std::alloc::{AllocError, Global};
 use store_commands::Applied;
-use store_holdings::{Indexes, let_go_of_gone};
+use store_holdings::{Indexes, let_go_of_gone, make_indexes};
 use store_search::making_of_edition;
 
 // Puts the index of the edition that a command installs, if it installs one, under the number that the edition gets: it is made when it
@@ -34,6 +34,15 @@ pub(crate) fn put_coming(
         | Command::Retire { .. }
         | Command::PutVirtual { .. }
         | Command::Place { .. } => Ok(()),
+    }
+}
+
+// Makes the indexes of all editions of these items if it is to be so, as far as there is memory.
+pub(crate) fn index_if(indexed: bool, indexes: &mut Indexes, items: &[Item])
+    ensures { indexes.new ≡ indexes.old }
+{
+    if indexed {
+        make_indexes(indexes, items);
     }
 }
 

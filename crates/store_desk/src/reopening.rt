@@ -20,7 +20,7 @@ ghost use Rattle.store_desk.specs.Reopened.{IsAdoptedFrom, IsIn, HoldsFrontIn, I
 ghost use Rattle.store_desk.specs.Unopened.{fault_of_files, IsHandedBack, IsSealed, IsUnopened, IsUnopenedOver, IsUnreopened, IsUnrestarted};
 ghost use Rattle.store_rows.specs.Versions.{known};
 
-use crate::closing::let_go_of_files;
+use crate::closing::{let_go_of_files, store_of};
 use crate::desk::Desk;
 use dict_desk::Fault;
 use sqlite::{Connection, Error, ErrorCode, FileFrom, FileStore, Files, Leftover, Options, Start};
@@ -50,7 +50,8 @@ pub fn fault_of_files(error: &Error) -> Fault
     }
 }
 
-// A desk over the database that two files were opened as. Where it is none of a catalogue, or can't be read, it is handed back.
+// A desk over the database that two files were opened as, with its indexes. Where it is none of a catalogue, or can't be read, it is handed
+// back.
 fn adopt_files<D: Disk + Drop>(
     alloc: Global,
     conn: Connection<FileStore<D>>,
@@ -59,7 +60,7 @@ fn adopt_files<D: Disk + Drop>(
     ensures adopted { IfOk result (λ desk. IsAdopted over_files conn desk × (HasCleanDisk (file_state desk.conn) → (M : Catalogue) → IsLeft M (file_state conn).committed.trees → Shows over_files desk M)) }
     ensures rejected { IfErr result (λ left. IsHandedBack conn left.0 left.1) }
 {
-    match Desk::adopt(alloc, conn) {
+    match Desk::adopt(alloc, conn, true) {
         Ok(desk) => Ok(desk),
         Err((conn, fault)) => Err((Unopened::Database(conn), fault)),
     }
@@ -117,7 +118,7 @@ fn files_of<D: Disk + Drop>(desk: Desk<FileStore<D>>) -> Files<D>
     ensures { IsLetGo desk.conn result }
 {
     let (conn, _) = let_go_of_files(desk);
-    conn.into_store().close()
+    store_of(conn).close()
 }
 
 impl<D: Disk + Drop> Desk<FileStore<D>> {

@@ -47,7 +47,7 @@ pub fn session_over<S: Alter + Drop, R: Source, K: Sink>(
     ensures autocommit { IfErr result (λ left. left.0.in_transaction ≡ false) }
 {
     is_whole(&connection);
-    let mut desk = match Desk::adopt(alloc, connection) {
+    let mut desk = match Desk::adopt(alloc, connection, false) {
         Ok(desk) => desk,
         Err(left) => return Err(left),
     };

@@ -10,26 +10,17 @@ use crate::orphans::Orphans;
 use dict_desk::Fault;
 use sqlite::Alter;
 
-// Notes the number of what is filed: parts of it are left, of no edition.
-fn note_filed(orphans: &mut Orphans, filing: &Option<Coming>)
-    ensures { filing.now ≡ None → orphans.new ≡ orphans.old }
-{
-    let Some(coming) = filing else {
-        return;
-    };
-    let Some(number) = coming.number_filed() else {
-        return;
-    };
-    orphans.note(number);
-}
-
 // Lets go of what is filed. Its parts are left, of no edition, and its number is noted.
 pub(crate) fn let_go(filing: &mut Option<Coming>, orphans: &mut Orphans)
     ensures gone { filing.new ≡ None }
     ensures same { filing.old ≡ None → orphans.new ≡ orphans.old }
 {
-    note_filed(orphans, filing);
-    drop(filing.take());
+    if let Some(coming) = filing.take() {
+        if let Some(number) = coming.number_filed() {
+            orphans.note(number);
+        }
+        drop(coming);
+    }
 }
 
 impl<S: Alter + Drop> Desk<S> {

@@ -1,60 +1,16 @@
-//! Desks over databases that are made or found, commands that they accept, and statements of others.
+//! Commands that desks accept, and statements of others.
 
-ghost use Rattle.std.specs.Prelude.{◌≡◌, ◌∷◌, [], false, Err, Some, IsTrue, IfOk, IfErr, OnOk};
+ghost use Rattle.std.specs.Prelude.{◌≡◌, IfErr, OnOk};
 ghost use Rattle.sqlite.specs.State.{HasCleanDisk};
 ghost use Rattle.sqlite.specs.Held.{state};
-ghost use Rattle.dict_catalogue.specs.Steps.{Catalogue, after, empty_catalogue};
+ghost use Rattle.dict_catalogue.specs.Steps.{Catalogue, after};
 ghost use Rattle.dict_desk.specs.Faults.{IsOfCommand};
-ghost use Rattle.store_rows.specs.Versions.{known};
-ghost use Rattle.store_holdings.specs.Holds.{IsHeld, IsLeft, Rests};
-ghost use Rattle.store_holdings.specs.Writing.{IsOfCreation};
-ghost use Rattle.store_migration.specs.Spared.{SparesOthers};
-ghost use Rattle.store_desk.specs.Adopted.{IsAdopted, IsNotAdopted};
-ghost use Rattle.store_desk.specs.Desk.{LeavesOneOf, Shows};
 ghost use Rattle.store_fixtures.specs.Asked.{AreAccepted, FailsBehind, requests_asked};
 ghost use Rattle.store_fixtures.specs.Batched.{ExecutedInTurn};
 
 use crate::asked::{Asked, Editions};
 use dict_desk::{Fault, Keeper};
 use sqlite::{Alter, Connection, Error};
-use std::alloc::Global;
-use store_desk::Desk;
-
-/// A desk over a database that is made, or over one that is found. Where a transaction is open, the connection is handed back as it is.
-pub fn desk_over<S: Alter + Drop>(
-    alloc: Global,
-    conn: Connection<S>,
-    is_new: bool,
-) -> Result<Desk<S>, (Connection<S>, Fault)>
-    ensures closed { IsTrue conn.in_transaction → result ≡ Err (conn, Fault.Closed) }
-    ensures shows { IsTrue is_new → IfOk result (λ desk. Shows S.Store desk empty_catalogue) }
-    ensures rests { IsTrue is_new → IfOk result (λ desk. HasCleanDisk (state S.Store desk.conn) → Rests known (state S.Store desk.conn) empty_catalogue) }
-    ensures only { IsTrue is_new → IfOk result (λ desk. LeavesOneOf S.Store desk (Some empty_catalogue ∷ [])) }
-    ensures others { IsTrue is_new → IfOk result (λ desk. HasCleanDisk (state S.Store desk.conn) → SparesOthers (state S.Store conn).now (state S.Store desk.conn).now) }
-    ensures unmade { IsTrue is_new → conn.in_transaction ≡ false → IfErr result (λ left. IsOfCreation left.1) }
-    ensures adopted { is_new ≡ false → IfOk result (IsAdopted S.Store conn) }
-    ensures held { is_new ≡ false → IfOk result (λ desk. HasCleanDisk (state S.Store desk.conn) → (M : Catalogue) → IsHeld (state S.Store conn).committed M → Shows S.Store desk M) }
-    ensures left { is_new ≡ false → IfOk result (λ desk. HasCleanDisk (state S.Store desk.conn) → (M : Catalogue) → IsLeft M (state S.Store conn).committed.trees → Shows S.Store desk M) }
-    ensures rejected { is_new ≡ false → conn.in_transaction ≡ false → IfErr result (λ left. IsNotAdopted S.Store conn left.0 left.1) }
-    ensures handed { IfErr result (λ left. left.0.in_transaction ≡ conn.in_transaction) }
-{
-    if !conn.is_autocommit() {
-        return Err((conn, Fault::Closed));
-    }
-    if is_new {
-        Desk::create(alloc, conn)
-    } else {
-        Desk::adopt(alloc, conn)
-    }
-}
-
-/// The connection of a desk, in no transaction.
-pub fn connection_of<S: Alter + Drop>(desk: Desk<S>) -> Connection<S>
-    ensures same { result ≡ desk.conn }
-    ensures autocommit { result.in_transaction ≡ false }
-{
-    desk.into_connection()
-}
 
 /// Applies commands in turn, up to the first that is not accepted, whose fault it answers.
 pub fn accept_all<K: Keeper>(

@@ -3,9 +3,8 @@ ghost use Rattle.std.specs.Prelude.{◌≡◌, ◌+◌, ◌&&◌, ◌↔◌, [],
 ghost use Rattle.sqlite_disk.specs.Disk.{CountsFault, Only};
 ghost use Rattle.sqlite_disk.specs.Fuse.{calls_left};
 ghost use Rattle.sqlite_disk.specs.Refusal.{finds_no_room};
-ghost use Rattle.store_desk.specs.Reopened.{IsStopped};
 
-use sqlite_disk::{Crash, Disk, Files, Fuse, Memory, Tally};
+use sqlite_disk::{Crash, Disk, Fuse, Memory, Tally};
 use std::alloc::Global;
 use std::io;
 
@@ -169,15 +168,4 @@ pub fn failing_disk(alloc: Global, octets: &[u8], call: u64, goes_on: bool) -> i
     } else {
         FailsOnce::new(Fuse::new(file, call), u64::MAX)
     })
-}
-
-/// What a crash of the machine leaves of two files. They may be used again.
-pub fn crashed<D: Crash + Drop>(files: Files<D>) -> Files<D>
-    ensures stopped { IsStopped D.Disk files result }
-    ensures usable { IsTrue (D.Disk.is_usable result.log) × IsTrue (D.Disk.is_usable result.db) }
-{
-    let mut files = files;
-    files.log.crash();
-    files.db.crash();
-    files
 }

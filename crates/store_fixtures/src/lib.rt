@@ -1,5 +1,5 @@
-//! What the runs of the store share: editions and the commands with them, desks over databases, what a desk shows, and files of
-//! older schemas. No part of the product.
+//! What the runs of the store share: editions and the commands with them, what a desk shows, disks that fail, and files of older
+//! schemas. No part of the product.
 #![tactic(auto)]
 
 mod asked;
@@ -9,7 +9,7 @@ mod showing;
 mod stored;
 
 pub use asked::{Asked, Editions, Source, read_editions, requests, told, told_outcome};
-pub use desks::{accept_all, batched, connection_of, desk_over};
-pub use disks::{Failing, FailsOnce, crashed, failing_disk};
+pub use desks::{accept_all, batched};
+pub use disks::{Failing, FailsOnce, failing_disk};
 pub use showing::{Rows, listed, shown};
 pub use stored::{CAPITALS, Older, PARTED, PLAIN, SHARED, SHOWN, older_files};

@@ -1,13 +1,14 @@
 //! Desks over two files that are opened anew, behind what was done or prepared over them. What is done over a desk stands in
 //! functions over any store: only two of them are handed one of files.
-use crate::files::{Octets, opened, options};
+use crate::disks::let_go;
+use crate::files::{Octets, desk_over, opened, options};
 use dict_desk::{Answered, Fault, Keeper, Lookup, Preparer};
 use sqlite::{Alter, Connection, FileStore, Files};
 use sqlite_disk::{Crash, Disk};
 use std::alloc::Global;
 use std::test::Fail;
 use store_desk::{Desk, Unopened};
-use store_fixtures::{Asked, Editions, Source, desk_over, failing_disk, listed};
+use store_fixtures::{Asked, Editions, Source, failing_disk, listed};
 
 /// What is done over a desk before its files are opened anew.
 #[derive(Clone, Copy, PartialEq, Eq)]
@@ -148,8 +149,11 @@ fn shown_by<S: Alter + Drop>(alloc: Global, desk: Desk<S>, done: Done) -> Anew {
 fn reopened<D: Disk + Drop>(desk: Desk<FileStore<D>>) -> Result<Desk<FileStore<D>>, bool> {
     match desk.reopen(options()) {
         Ok(desk) => Ok(desk),
-        Err((Unopened::Spent(_), Fault::Disk)) => Err(true),
-        Err(_) => Err(false),
+        Err((left, fault)) => {
+            let is_spent = matches!(left, Unopened::Spent(_)) && fault == Fault::Disk;
+            let_go(left);
+            Err(is_spent)
+        }
     }
 }
 
@@ -157,7 +161,10 @@ fn reopened<D: Disk + Drop>(desk: Desk<FileStore<D>>) -> Result<Desk<FileStore<D
 fn restarted<D: Crash + Drop>(desk: Desk<FileStore<D>>) -> Result<Desk<FileStore<D>>, bool> {
     match desk.restart(options()) {
         Ok(desk) => Ok(desk),
-        Err(_) => Err(false),
+        Err((left, _)) => {
+            let_go(left);
+            Err(false)
+        }
     }
 }
 

@@ -6,45 +6,14 @@ ghost use Rattle.sqlite.specs.Held.{state};
 ghost use Rattle.store_desk.specs.Desk.{KeepsBeside, Shows, LeavesOneOf, is_closed};
 ghost use Rattle.net_serving.specs.Serving.{Follows, IsNew, IsNone};
 
+use crate::files::{desk_over, options};
 use app_words::{ProgramFault, StoreFault};
 use dict_desk::Keeper;
 use net_serving::DeskOpener;
-use sqlite::{Alter, Connection, FileStore, Files, Options};
+use sqlite::{Alter, Connection, FileStore};
 use sqlite_disk::{Crash, Disk};
 use std::alloc::Global;
 use store_desk::{Desk, Unopened};
-
-fn options() -> Options {
-    let mut options = Options::new(1);
-    options.cache_pages = 8;
-    options
-}
-
-/// A database on two disks. Where it can't be opened the disks go, by way of their own type, which is cheaper to prove.
-pub(crate) fn opened<D: Disk + Drop>(
-    alloc: Global,
-    files: Files<D>,
-) -> Option<Connection<FileStore<D>>> {
-    if !files.may_be_used() {
-        return None;
-    }
-    match Connection::open_files(alloc, files, options()) {
-        Ok(conn) => Some(conn),
-        Err((_, left)) => {
-            let _files = left.into_files();
-            None
-        }
-    }
-}
-
-// A new catalogue in it.
-fn made<S: Alter + Drop>(alloc: Global, conn: Connection<S>) -> Option<Desk<S>> {
-    if conn.is_autocommit() {
-        Desk::create(alloc, conn).ok()
-    } else {
-        None
-    }
-}
 
 // The desk of the catalogue in the database of another.
 fn adopt<S: Alter + Drop>(alloc: Global, desk: Desk<S>) -> Result<Desk<S>, ProgramFault<'static>>
@@ -53,7 +22,7 @@ fn adopt<S: Alter + Drop>(alloc: Global, desk: Desk<S>) -> Result<Desk<S>, Progr
         (IsNew (Shows S.Store) (LeavesOneOf S.Store) (λ desk. HasCleanDisk (state S.Store desk.conn)) (λ _. ⊤))
         (IsNone (λ _. ⊤)) }
 {
-    match Desk::adopt(alloc, desk.into_connection()) {
+    match Desk::adopt(alloc, desk.into_connection(), false) {
         Ok(desk) => Ok(desk),
         Err((_, fault)) => Err(ProgramFault::from(fault)),
     }
@@ -81,8 +50,8 @@ impl<D: Crash + Drop> Machine<Desk<FileStore<D>>> for TwoDisks {
     }
 }
 
-// The disks go where no desk was opened, by way of their own type.
-fn let_go<D: Disk + Drop>(left: Unopened<D>) {
+/// The disks go where no desk was opened, by way of their own type.
+pub(crate) fn let_go<D: Disk + Drop>(left: Unopened<D>) {
     match left {
         Unopened::Spent(_files) => {}
         Unopened::Database(conn) => match conn.close_files() {
@@ -146,7 +115,7 @@ impl<S: Alter + Drop, M: Drop> Held<S, M> {
             alloc,
             machine,
             closed: Closed {
-                desk: made(alloc, conn),
+                desk: desk_over(alloc, conn, true).ok(),
             },
             reopened: 0,
         }

@@ -1,7 +1,9 @@
-//! Databases in two files.
-use sqlite::{Connection, FileStore, Files, Options};
-use sqlite_disk::Disk;
+//! Databases in two files, and their desks.
+use dict_desk::Fault;
+use sqlite::{Alter, Connection, FileStore, Files, Options};
+use sqlite_disk::{Crash, Disk};
 use std::alloc::Global;
+use store_desk::Desk;
 
 /// What two files have.
 #[derive(Drop)]
@@ -40,4 +42,28 @@ pub(crate) fn opened<D: Disk + Drop>(
         Ok(conn) => Ok(conn),
         Err((_, left)) => Err(left.into_files()),
     }
+}
+
+/// The desk of a database that is made, or of one that is found. Where a transaction is open, the connection is handed back as it is.
+pub(crate) fn desk_over<S: Alter + Drop>(
+    alloc: Global,
+    conn: Connection<S>,
+    is_new: bool,
+) -> Result<Desk<S>, (Connection<S>, Fault)> {
+    if !conn.is_autocommit() {
+        return Err((conn, Fault::Closed));
+    }
+    if is_new {
+        Desk::create(alloc, conn)
+    } else {
+        Desk::adopt(alloc, conn, false)
+    }
+}
+
+/// What a crash of the machine leaves of two files. They may be used again.
+pub(crate) fn crashed<D: Crash + Drop>(files: Files<D>) -> Files<D> {
+    let mut files = files;
+    files.log.crash();
+    files.db.crash();
+    files
 }

@@ -1,17 +1,19 @@
 //! A session that meets a failed store, and answers once the catalogue is opened anew.
 use crate::clients::Client;
-use crate::disks::{Held, Machine, TwoDisks, opened};
+use crate::disks::{Held, Machine, TwoDisks};
+use crate::files::opened;
 use crate::serving_checks::holds;
 use dict_desk::Preparer;
 use net_driver::{Driver, System};
 use net_serving::{DeskOpener, serve_rounds};
 use sqlite::{Alter, Connection};
-use sqlite_disk::{Crash, Files, Fuse, Memory};
+use sqlite_disk::{Crash, Files};
 use std::alloc::Global;
 use std::net::{Net, TcpStream};
 use std::test::Fail;
 use std::time::Duration;
 use store_desk::Desk;
+use store_fixtures::failing_disk;
 
 /// A free port of loopback.
 const FREE: &str = "127.0.0.1:0";
@@ -195,8 +197,8 @@ fn reopened_on<D: Crash + Drop>(
     files: Files<D>,
 ) -> Result<u64, Fail> {
     match opened(alloc, files) {
-        Some(conn) => reopened(rt, alloc, TwoDisks, conn),
-        None => Err(Fail::new("no database")),
+        Ok(conn) => reopened(rt, alloc, TwoDisks, conn),
+        Err(_) => Err(Fail::new("no database")),
     }
 }
 
@@ -205,8 +207,8 @@ fn a_session_outlives_a_failed_store(rt: HostRuntime) -> Result<(), Fail> {
     let alloc = rt.alloc();
     // The file of the log answers so many calls: those by which the catalogue is made and read, and some of the install.
     let files = Files {
-        log: Fuse::new(Memory::new(alloc), 40),
-        db: Fuse::new(Memory::new(alloc), u64::MAX),
+        log: failing_disk(alloc, &[], 40, false)?,
+        db: failing_disk(alloc, &[], u64::MAX, false)?,
     };
     holds(&rt, reopened_on(&rt, alloc, files)? == 1, "once");
     Ok(())

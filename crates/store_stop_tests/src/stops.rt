@@ -3,7 +3,7 @@
 //! A run begins with the opening of two files that hold a catalogue. One of them fails at one of its calls, or from it on.
 
 use crate::checks::{holds, same_text};
-use crate::files::{Octets, closed, opened};
+use crate::files::{Octets, closed, crashed, desk_over, opened};
 use dict_catalogue::{Command, CommandRefusal, Kept};
 use dict_desk::{Fault, Keeper, Lookup, PlainDesk, What};
 use dict_match::{Strategy, key_of};
@@ -14,8 +14,8 @@ use std::process::Abort;
 use std::test::Fail;
 use store_desk::{Desk, apply_to_file};
 use store_fixtures::{
-    Asked, Editions, Failing, Older, Rows, Source, accept_all, batched, connection_of, crashed,
-    desk_over, failing_disk, older_files, read_editions, requests, shown, told, told_outcome,
+    Asked, Editions, Failing, Older, Rows, Source, accept_all, batched, failing_disk, older_files,
+    read_editions, requests, shown, told, told_outcome,
 };
 
 pub(crate) type Steps = &'static [(&'static str, Asked)];
@@ -343,7 +343,7 @@ fn work_over<S: Alter + Drop>(
         Ok(desk) => {
             let mut desk = desk;
             let ended = work_on(rt, alloc, &mut desk, work);
-            (connection_of(desk), ended)
+            (desk.into_connection(), ended)
         }
         Err((conn, fault)) => (conn, without_a_desk(work, fault)),
     }

@@ -1,7 +1,9 @@
 //! Files that stock `sqlite3` wrote are opened, those of schemas 1 to 5 by making the tables of schema 6: they have the same catalogue.
 use crate::steps::{Row, Step, over_memory};
+use std::alloc::Global;
+use std::process::Abort;
 use std::test::Fail;
-use store_fixtures::{Asked, CAPITALS, PARTED, SHOWN, Source, older_files};
+use store_fixtures::{Asked, CAPITALS, Older, PARTED, SHOWN, Source, older_files};
 
 const LISTED: &str = "ore Ores 1; gem Gems 2; all All +ore +gem; ";
 
@@ -219,27 +221,37 @@ static BESIDE: [Step; 9] = [
     Step::Keep(&[]),
 ];
 
+// What is done over a file of an older schema, which these texts make, and this one changes.
+fn steps_over(texts: &Older, changed: &'static str) -> [Step; 12] {
+    [
+        Step::Batch(OTHERS),
+        Step::Batch(texts[0]),
+        Step::Batch(texts[1]),
+        Step::Batch(texts[2]),
+        Step::Batch(INDEXES),
+        Step::Batch(changed),
+        Step::Made(MADE),
+        Step::Speak(LOOKED_UP, ANSWERED),
+        Step::Numbers(LEFT),
+        Step::Keep(&[]),
+        Step::Open(REPEATED),
+        Step::Keep(&[]),
+    ]
+}
+
+// Each is changed so.
+fn over_each(rt: &impl Abort, alloc: Global) -> Result<(), Fail> {
+    for (texts, changed) in older_files().iter().zip(CHANGED.iter()) {
+        over_memory(rt, alloc, &steps_over(texts, *changed))?;
+    }
+    Ok(())
+}
+
 #[test]
 fn files_of_others(rt: HostRuntime) -> Result<(), Fail> {
-    for (texts, changed) in older_files().iter().zip(CHANGED.iter()) {
-        let steps = [
-            Step::Batch(OTHERS),
-            Step::Batch(texts[0]),
-            Step::Batch(texts[1]),
-            Step::Batch(texts[2]),
-            Step::Batch(INDEXES),
-            Step::Batch(*changed),
-            Step::Made(MADE),
-            Step::Speak(LOOKED_UP, ANSWERED),
-            Step::Numbers(LEFT),
-            Step::Keep(&[]),
-            Step::Open(REPEATED),
-            Step::Keep(&[]),
-        ];
-        over_memory(&rt, rt.alloc(), steps.as_slice())?;
+    over_each(&rt, rt.alloc())?;
+    for steps in [&CAPITAL[..], &FOURTH[..], &FIFTH[..], &BESIDE[..]] {
+        over_memory(&rt, rt.alloc(), steps)?;
     }
-    over_memory(&rt, rt.alloc(), &CAPITAL)?;
-    over_memory(&rt, rt.alloc(), &FOURTH)?;
-    over_memory(&rt, rt.alloc(), &FIFTH)?;
-    over_memory(&rt, rt.alloc(), &BESIDE)
+    Ok(())
 }

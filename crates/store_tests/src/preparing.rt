@@ -1,6 +1,7 @@
 //! A change that is prepared part by part: what is shown meanwhile, and what comes of it.
 
 use crate::checks::{holds, same_text};
+use crate::steps::desk_over;
 use dict_catalogue::{Command, Kept};
 use dict_desk::{Answered, Fault, Keeper, Lookup, PlainDesk, Preparer, What};
 use dict_index::{Edition, EditionRefusal, read_edition};
@@ -11,8 +12,7 @@ use std::process::Abort;
 use std::test::Fail;
 use store_desk::Desk;
 use store_fixtures::{
-    Asked, Editions, Rows, Source, accept_all, connection_of, desk_over, listed, read_editions,
-    shown, told,
+    Asked, Editions, Rows, Source, accept_all, listed, read_editions, shown, told,
 };
 
 // There are fewer parts.
@@ -286,7 +286,7 @@ fn over_desk<S: Alter + Drop>(
         Ok(desk) => {
             let mut desk = desk;
             let end = act_all(rt, alloc, &mut desk, is_new, coming, acts);
-            (connection_of(desk), end)
+            (desk.into_connection(), end)
         }
         Err((conn, _)) => (conn, Err(Fail::new("no desk"))),
     }

@@ -8,7 +8,6 @@ use std::alloc::{AllocError, Global};
 use std::process::Abort;
 use std::test::Fail;
 use store_desk::session_over;
-use store_fixtures::connection_of;
 
 const BANNER: &str = "220 dict.example.org dictcat ready <7@dict.example.org>\r\n";
 
@@ -24,9 +23,9 @@ fn spoken<S: Alter + Drop>(
     }
     let mut reader = OverRead::new(input.as_bytes());
     match session_over(alloc, conn, &mut reader, writer, "dict.example.org", 7) {
-        Ok((desk, Ok(SessionEnd::Quit))) => (connection_of(desk), "quit"),
-        Ok((desk, Ok(SessionEnd::InputEnd))) => (connection_of(desk), "input end"),
-        Ok((desk, Err(_))) => (connection_of(desk), "a failure"),
+        Ok((desk, Ok(SessionEnd::Quit))) => (desk.into_connection(), "quit"),
+        Ok((desk, Ok(SessionEnd::InputEnd))) => (desk.into_connection(), "input end"),
+        Ok((desk, Err(_))) => (desk.into_connection(), "a failure"),
         Err((conn, Fault::NotACatalogue)) => (conn, "no catalogue"),
         Err((conn, _)) => (conn, "another fault"),
     }

@@ -10,9 +10,7 @@ use std::alloc::Global;
 use std::process::Abort;
 use std::test::Fail;
 use store_desk::Desk;
-use store_fixtures::{
-    Asked, Editions, batched, connection_of, desk_over, listed, read_editions, shown, told,
-};
+use store_fixtures::{Asked, Editions, batched, listed, read_editions, shown, told};
 
 /// An id, a command, its answer, and the items after it.
 #[derive(Clone, Copy)]
@@ -63,6 +61,22 @@ pub(crate) enum Step {
     Speak(&'static str, &'static str),
     /// A session whose client takes so many octets and no more, for each count.
     Cut,
+}
+
+/// The desk of a database that is made, or of one that is found. Where a transaction is open, the connection is handed back as it is.
+pub(crate) fn desk_over<S: Alter + Drop>(
+    alloc: Global,
+    conn: Connection<S>,
+    is_new: bool,
+) -> Result<Desk<S>, (Connection<S>, Fault)> {
+    if !conn.is_autocommit() {
+        return Err((conn, Fault::Closed));
+    }
+    if is_new {
+        Desk::create(alloc, conn)
+    } else {
+        Desk::adopt(alloc, conn, false)
+    }
 }
 
 /// The commands are answered so.
@@ -170,7 +184,7 @@ fn over_desk<S: Alter + Drop>(
         Ok(desk) => {
             let mut desk = desk;
             let end = on_desk(rt, alloc, &mut desk, editions, step, wanted);
-            (connection_of(desk), end)
+            (desk.into_connection(), end)
         }
         Err((conn, fault)) => match step {
             Step::Refuse(_, due, _) if *due == fault => (conn, Ok(())),

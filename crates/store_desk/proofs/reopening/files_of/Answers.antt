@@ -7,9 +7,9 @@ use Rattle.store_desk.proofs.reopening.files_of.Goals as goal
 
 pub returns : goal.returns
 returns g c = record {
-  store = c.into_store.result;
-  numbered = c.into_store.ensures.numbered;
-  sound = c.into_store.ensures.sound;
-  quiet = subst (λ (conn : Held (FileStore _ _)). IsQuiet view faults recovers is_shielded conn.store c.into_store.result) c.let_go_of_files-conn.ensures.same c.into_store.ensures.quiet;
+  store = c.store_of.result;
+  numbered = c.store_of.ensures.numbered;
+  sound = c.store_of.ensures.sound;
+  quiet = subst (λ (conn : Held (FileStore _ _)). IsQuiet view faults recovers is_shielded conn.store c.store_of.result) c.let_go_of_files-conn.ensures.same c.store_of.ensures.quiet;
   closed = c.close.ensures;
 }

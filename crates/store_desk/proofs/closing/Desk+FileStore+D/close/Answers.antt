@@ -12,13 +12,13 @@ use Rattle.store_desk.proofs.closing.Desk+FileStore+D.close.Goals as goal
 
 pub returns-then-is_closed-clause-left : goal.returns-then-is_closed-clause-left
 returns-then-is_closed-clause-left g c ms leaves =
-    store_leaves c.args.self.conn c.into_store.result
-    (subst (λ (conn : Held (FileStore _ _)). IsQuiet view faults recovers is_shielded conn.store c.into_store.result) c.let_go_of_files-conn.ensures.same c.into_store.ensures.quiet) (IsOneOf ms) leaves
+    store_leaves c.args.self.conn c.store_of.result
+    (subst (λ (conn : Held (FileStore _ _)). IsQuiet view faults recovers is_shielded conn.store c.store_of.result) c.let_go_of_files-conn.ensures.same c.store_of.ensures.quiet) (IsOneOf ms) leaves
 
 pub returns-then-is_closed-clause-kept : goal.returns-then-is_closed-clause-kept
 returns-then-is_closed-clause-kept g c db keeps =
-    store_leaves c.args.self.conn c.into_store.result
-    (subst (λ (conn : Held (FileStore _ _)). IsQuiet view faults recovers is_shielded conn.store c.into_store.result) c.let_go_of_files-conn.ensures.same c.into_store.ensures.quiet) (HasBeside db) keeps
+    store_leaves c.args.self.conn c.store_of.result
+    (subst (λ (conn : Held (FileStore _ _)). IsQuiet view faults recovers is_shielded conn.store c.store_of.result) c.let_go_of_files-conn.ensures.same c.store_of.ensures.quiet) (HasBeside db) keeps
 
 pub returns-in-Ok-clause-alone : goal.returns-in-Ok-clause-alone
 returns-in-Ok-clause-alone g c honest M shown =

@@ -6,6 +6,7 @@ use Rattle.dict_catalogue.specs.Steps.{Catalogue, summary_of}
 use Rattle.store_holdings.specs.Holds.{Holds, IsHeld, Rests}
 use Rattle.store_migration.specs.Migrated.{MayMigrate}
 use Rattle.store_desk.specs.Desk.{DeskState, Shows}
+use Rattle.store_desk.specs.Indexed.{AreHeldCut}
 use Rattle.store_desk.specs.Opened.{IsNotHeld, TellsOfDatabase}
 use Rattle.store_migration.specs.Moved.{IsRenewedFrom}
 use Rattle.store_migration.specs.Spared.{SparesOthers}
@@ -22,13 +23,13 @@ returns-in-Ok-clause-left g c = λ clean M left.
     let live = subst (λ conn. IsTrue (state g.S.Store conn).is_open) c.set_step_limit.ensures (c.in-Ok.ensures.lives there rests.is_open) in
     let held = (c.is_whole.ensures.whole live).committed M left in
     let it = c.in-Ok.ensures.every there M (subst (λ conn. IsHeld (state g.S.Store conn).committed M) (sym c.set_step_limit.ensures) held) in
-    c.over.ensures.shows M (sym it.1) it.0.holds.stands.well_formed (λ _. it.0) (λ _. it.2)
+    c.over.ensures.shows M (sym it.1) it.0.holds.stands.well_formed (λ _. it.0) (λ _. subst (AreHeldCut (state g.S.Store c.read_renewed.new.conn).committed M) (sym c.index_if.ensures) it.2)
 
 pub returns-in-Ok-clause-held : goal.returns-in-Ok-clause-held
 returns-in-Ok-clause-held g c = λ clean M held.
     let there = subst (λ (d : DeskState _). HasCleanDisk (state g.S.Store d.conn)) c.over.ensures.is clean in
     let it = c.in-Ok.ensures.every there M (subst (λ conn. IsHeld (state g.S.Store conn).committed M) (sym c.set_step_limit.ensures) held) in
-    c.over.ensures.shows M (sym it.1) it.0.holds.stands.well_formed (λ _. it.0) (λ _. it.2)
+    c.over.ensures.shows M (sym it.1) it.0.holds.stands.well_formed (λ _. it.0) (λ _. subst (AreHeldCut (state g.S.Store c.read_renewed.new.conn).committed M) (sym c.index_if.ensures) it.2)
 
 pub returns-in-Ok-clause-adopted : goal.returns-in-Ok-clause-adopted
 returns-in-Ok-clause-adopted g c =
@@ -37,7 +38,7 @@ returns-in-Ok-clause-adopted g c =
     let beside = subst (λ conn. Survives (state g.S.Store conn) (state g.S.Store now) (MayCommitBeside (state g.S.Store conn))) limited c.read_renewed.ensures.beside in
     let shows : HasCleanDisk (state g.S.Store now) → (M : Catalogue) × Rests known (state g.S.Store now) M × Shows g.S.Store c.over.result M = λ clean.
     let it = c.in-Ok.ensures.rests clean in
-    (it.0, it.1, c.over.ensures.shows it.0 (sym it.2) it.1.holds.stands.well_formed (λ _. it.1) (λ _. it.3)) in
+    (it.0, it.1, c.over.ensures.shows it.0 (sym it.2) it.1.holds.stands.well_formed (λ _. it.1) (λ _. subst (AreHeldCut (state g.S.Store now).committed it.0) (sym c.index_if.ensures) it.3)) in
     let is = c.over.ensures.is in
     subst (IsAdopted g.S.Store c.args.conn) (sym is) (record {
       fine = refl;

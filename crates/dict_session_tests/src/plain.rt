@@ -1,5 +1,4 @@
-//! Sessions over databases that were read, cut in any way.
-use super::fixtures::taken;
+//! Sessions of `plain`, over databases that were read, cut in any way.
 use crate::checks::{holds, same_text};
 use app_commands::run_plain;
 use app_words::ProgramFault;
@@ -112,6 +111,11 @@ fn end_over(
         Ok(()) => Ok(String::new(alloc)),
         Err(fault) => Ok(format!(in alloc; "!{fault}")?),
     }
+}
+
+// What a sink took, as text.
+fn taken(alloc: Global, sink: &LimitedSink) -> Result<String, Fail> {
+    String::from_utf8(sink.taken().to_vec(alloc)?).map_err(|_| Fail::from("no text"))
 }
 
 // What a session over a database writes to a sink with this room, and behind it a fault that it ends by.
@@ -254,7 +258,7 @@ static ANSWERS: [(Database, &str, &str); 37] = [
     (PLUS, "DEFINE gem2 -\r\n", NO_MATCH),
 ];
 
-pub(crate) fn answers_in_any_pieces(test: &impl Abort, rt: &HostRuntime) -> Result<(), Fail> {
+fn answers_in_any_pieces(test: &impl Abort, rt: &HostRuntime) -> Result<(), Fail> {
     for (database, input, answer) in &ANSWERS {
         let found = cut_anywhere(rt.alloc(), *database, *input, *answer)?;
         holds(test, found.is_none(), input);
@@ -274,7 +278,7 @@ static FAILING: [(&str, &str); 2] = [
     ),
 ];
 
-pub(crate) fn a_line_is_answered_before_the_next_piece_is_read(
+fn a_line_is_answered_before_the_next_piece_is_read(
     test: &impl Abort,
     rt: &HostRuntime,
 ) -> Result<(), Fail> {
@@ -304,10 +308,7 @@ fn into_room(alloc: Global, room: usize) -> Result<String, Fail> {
     session(alloc, GEM, pieces, room)
 }
 
-pub(crate) fn a_full_sink_ends_the_session(
-    test: &impl Abort,
-    rt: &HostRuntime,
-) -> Result<(), Fail> {
+fn a_full_sink_ends_the_session(test: &impl Abort, rt: &HostRuntime) -> Result<(), Fail> {
     for room in 0..WHOLE.len() {
         let written = into_room(rt.alloc(), room)?;
         let begun = written.as_str().strip_suffix("!session ended by a fault");
@@ -319,4 +320,11 @@ pub(crate) fn a_full_sink_ends_the_session(
     }
     same_text(test, into_room(rt.alloc(), WHOLE.len())?.as_str(), WHOLE);
     Ok(())
+}
+
+#[test]
+fn plain_sessions_are_held(rt: HostRuntime) -> Result<(), Fail> {
+    answers_in_any_pieces(&rt, &rt)?;
+    a_line_is_answered_before_the_next_piece_is_read(&rt, &rt)?;
+    a_full_sink_ends_the_session(&rt, &rt)
 }
