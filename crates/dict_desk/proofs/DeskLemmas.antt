@@ -9,7 +9,7 @@ use Rattle.dict_catalogue.specs.Steps.{Catalogue}
 use Rattle.dict_desk.specs.Shown.{HasEdition}
 use Rattle.dict_catalogue.specs.Items.{Stored, editions_of}
 use Rattle.dict_catalogue.specs.Tests.{Holdings}
-use Rattle.dict_desk.specs.Found.{is_found}
+use Rattle.dict_index.specs.Found.{is_found}
 use Rattle.dict_desk.specs.PlainEntries.{LieWithin}
 use Rattle.dict_match.specs.declared.strategy.Strategy.{Strategy}
 use Rattle.dict_desk.specs.declared.counted.CountedQuestion.{CountedQuestion}

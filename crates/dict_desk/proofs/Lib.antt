@@ -1,6 +1,5 @@
 pub mod LeavesLemmas
 pub mod HandingLemmas
-mod DistinctLemmas
 mod RowLemmas
 mod SpanLemmas
 mod LinkLemmas

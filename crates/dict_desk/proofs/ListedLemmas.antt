@@ -4,11 +4,10 @@ use Rattle.std.specs.Prelude.{filter, slice_get, Some}
 use Rattle.std.proofs.lemmas.List.{take-append-drop, map-append}
 use Rattle.std.proofs.lemmas.List.Elements.{filter-append}
 use Rattle.dict_match.specs.declared.strategy.Strategy.{Strategy}
-use Rattle.dict_desk.specs.Found.{distinct}
-use Rattle.dict_desk.specs.Shown.{Row, row}
+use Rattle.dict_index.specs.Found.{distinct, Row, row}
 use Rattle.dict_desk.specs.PlainEntries.{shown_by, is_hit_of, is_shown, texts_listed, rows_listed, LieWithin}
 use Rattle.dict_desk.specs.declared.entries.OwnedEntry.{OwnedEntry}
-use Rattle.dict_desk.proofs.DistinctLemmas.{distinct_more, distinct_front}
+use Rattle.dict_index.proofs.DistinctLemmas.{distinct_more, distinct_front}
 use Rattle.dict_desk.proofs.SpanLemmas.{front_all}
 use Rattle.dict_desk.proofs.LinkLemmas.{take_here}
 

@@ -6,8 +6,7 @@ use Rattle.dict_match.specs.declared.strategy.Strategy.{Strategy}
 use Rattle.dict_index.specs.Edition.{Edition, Entry, ReadEdition, entry_in, edition_of}
 use Rattle.dict_index.specs.Line.{Line}
 use Rattle.dict_catalogue.specs.Items.{Stored}
-use Rattle.dict_desk.specs.Found.{is_found, found, distinct, shown_of, headwords}
-use Rattle.dict_desk.specs.Shown.{row, row_of, found_rows, headword_rows}
+use Rattle.dict_index.specs.Found.{is_found, found, distinct, shown_of, headwords, row, row_of, found_rows, headword_rows}
 use Rattle.dict_desk.specs.PlainEntries.{owned_line_of, entry_cut_from, is_hit_of, texts_listed, rows_found, rows_listed, LieWithin}
 use Rattle.dict_desk.specs.declared.entries.OwnedEntry.{OwnedEntry}
 use Rattle.dict_desk.proofs.RowLemmas.{chosen_after, mapped_twice}

@@ -8,7 +8,7 @@ use Rattle.dict_match.specs.declared.strategy.Strategy.TheVariants.{Exact, Prefi
 use Rattle.dict_index.specs.Edition.{Edition, Entry}
 use Rattle.dict_catalogue.specs.Items.{Item, regular, virtual, is_named}
 use Rattle.dict_catalogue.specs.Steps.{Catalogue}
-use Rattle.dict_desk.specs.Found.{found, shown_of, headwords}
+use Rattle.dict_index.specs.Found.{found, shown_of, headwords}
 
 -- a regular item as it is asked: its name, and its current edition
 pub record Database : Type 0 where

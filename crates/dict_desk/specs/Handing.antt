@@ -1,6 +1,6 @@
 -- What a sink of rows was handed.
 use Rattle.std.specs.Prelude.{◌≡◌, List, ◌++◌, Result, Ok, OnErr}
-use Rattle.dict_desk.specs.Shown.{Row}
+use Rattle.dict_index.specs.Found.{Row}
 use Rattle.dict_desk.specs.declared.fault.Fault.{Fault}
 use Rattle.dict_desk.specs.declared.lookup.End.{End}
 use Rattle.dict_desk.specs.declared.lookup.End.TheVariants.{All, Stopped}

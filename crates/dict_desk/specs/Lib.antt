@@ -1,4 +1,3 @@
-pub mod Found
 pub mod Asked
 pub mod Faults
 pub mod Shown

@@ -9,7 +9,7 @@ use Rattle.dict_catalogue.specs.Effects.{KeptReply}
 use Rattle.dict_catalogue.specs.Steps.{KeptFor, Catalogue, summary_of, kept_under}
 use Rattle.dict_catalogue.specs.Views.{kept_shown}
 use Rattle.dict_catalogue.specs.WellFormed.{IsWellFormed}
-use Rattle.dict_desk.specs.Found.{is_found}
+use Rattle.dict_index.specs.Found.{is_found}
 use Rattle.dict_desk.specs.PlainEntries.{LieWithin}
 use Rattle.dict_desk.specs.declared.counted.CountedQuestion.{CountedQuestion}
 use Rattle.dict_desk.specs.declared.fault.Fault.{Fault}

@@ -6,8 +6,7 @@ use Rattle.dict_match.specs.Key.{key_of}
 use Rattle.dict_match.specs.declared.strategy.Strategy.{Strategy}
 use Rattle.dict_index.specs.Line.{Line}
 use Rattle.dict_index.specs.Edition.{Entry, entry_in}
-use Rattle.dict_desk.specs.Found.{is_headword_found, distinct}
-use Rattle.dict_desk.specs.Shown.{Row, row, row_of}
+use Rattle.dict_index.specs.Found.{is_headword_found, distinct, Row, row, row_of}
 use Rattle.dict_desk.specs.declared.entries.OwnedEntry.{OwnedEntry}
 
 abbrev pub headword_of : OwnedEntry → List ℕ

@@ -1,10 +1,10 @@
 -- What a desk tells of the catalogue that it shows.
-use Rattle.std.specs.Prelude.{ℕ, List, [], ◌∷◌, map, length, Contains}
+use Rattle.std.specs.Prelude.{ℕ, List, length, Contains}
 use Rattle.dict_match.specs.declared.strategy.Strategy.{Strategy}
-use Rattle.dict_index.specs.Edition.{Edition, Entry}
+use Rattle.dict_index.specs.Edition.{Edition}
 use Rattle.dict_catalogue.specs.Items.{Item, editions_of}
 use Rattle.dict_catalogue.specs.Steps.{Catalogue}
-use Rattle.dict_desk.specs.Found.{found, shown_of, headwords}
+use Rattle.dict_index.specs.Found.{Row, row, found, headwords, found_rows, headword_rows}
 use Rattle.dict_desk.specs.declared.lookup.What.{What}
 use Rattle.dict_desk.specs.declared.lookup.What.TheVariants.{Entries, Headwords}
 use Rattle.dict_desk.specs.declared.sink.Row.{Row as HandedRow}
@@ -15,38 +15,14 @@ pub record HasEdition (catalogue : Catalogue) (number : ℕ) (edition : Edition)
   pub stands : Contains catalogue.items item
   pub stored : Contains (editions_of item) (record { number = number; content = edition })
 
--- a row that a desk hands out: what is shown, and a text
-pub record Row : Type 0 where
-  pub shown : List ℕ
-  pub text : List ℕ
-
-abbrev pub row : List ℕ → List ℕ → Row
-row shown text = record { shown = shown; text = text }
-
 -- the row that a sink is handed
 abbrev pub row_handed : HandedRow → Row
 row_handed handed = row handed.shown.now handed.text.now
-
--- the row of an entry: what is shown of it, and its text
-abbrev pub row_of : Entry → Row
-row_of entry = row (shown_of entry) entry.body
-
--- the entries found, each as its row, in the order of the index
-abbrev pub found_rows : Strategy → List ℕ → Edition → List Row
-found_rows strategy query edition = map row_of (found strategy query edition)
-
--- the headwords shown of the entries found, each once, with the empty text
-abbrev pub headword_rows : Strategy → List ℕ → Edition → List Row
-headword_rows strategy query edition = map (λ shown. row shown []) (headwords (found strategy query edition))
 
 -- the rows that a query gives: those of the entries found, or of the headwords shown of them
 abbrev pub rows_given : What → Strategy → List ℕ → Edition → List Row
 rows_given Entries strategy query edition = found_rows strategy query edition
 rows_given Headwords strategy query edition = headword_rows strategy query edition
-
--- what the edition's database says of itself, where nothing is shown
-abbrev pub info_rows : Edition → List Row
-info_rows edition = row [] edition.info ∷ []
 
 -- how many entries are found, or how many headwords are shown of them
 abbrev pub count_of : What → Strategy → List ℕ → Edition → ℕ

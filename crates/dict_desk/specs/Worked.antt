@@ -3,7 +3,7 @@ use Rattle.std.specs.Prelude.{ℕ, List, [], ◌∷◌, codes, Some, None}
 use Rattle.dict_index.specs.Edition.{Edition, Entry}
 use Rattle.dict_catalogue.specs.Items.{regular, virtual}
 use Rattle.dict_catalogue.specs.Steps.{Catalogue}
-use Rattle.dict_desk.specs.Found.{shown_of}
+use Rattle.dict_index.specs.Found.{shown_of}
 use Rattle.dict_desk.specs.Asked.{Definition, Match}
 
 abbrev pub iron : Entry

@@ -1,6 +1,6 @@
 // The question that was counted last.
 ghost use Rattle.std.specs.Prelude.{◌≡◌, IsTrue, IfSome};
-ghost use Rattle.dict_desk.specs.Found.{is_found};
+ghost use Rattle.dict_index.specs.Found.{is_found};
 ghost use Rattle.dict_desk.specs.PlainEntries.{LieWithin};
 
 use crate::edition::PlainEdition;

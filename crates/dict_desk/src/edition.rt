@@ -3,10 +3,10 @@ ghost use Rattle.std.specs.Prelude.{◌≡◌, ◌≤◌, ◌==◌, not, filter,
 ghost use Rattle.std.specs.List.{list_any};
 ghost use Rattle.dict_desk.specs.Plain.{edition_by_number};
 ghost use Rattle.dict_index.specs.Edition.{edition_of};
-ghost use Rattle.dict_desk.specs.Found.{is_found};
+ghost use Rattle.dict_index.specs.Found.{is_found, found_rows, headword_rows, info_rows};
 ghost use Rattle.dict_desk.specs.PlainEntries.{LieWithin};
 ghost use Rattle.dict_desk.specs.declared.lookup.What.TheVariants.{Entries, Headwords};
-ghost use Rattle.dict_desk.specs.Shown.{found_rows, headword_rows, rows_given, info_rows, count_of};
+ghost use Rattle.dict_desk.specs.Shown.{rows_given, count_of};
 
 use crate::entries::{
     EntryHits, OwnedEntry, PlaceSpan, hand_found, hand_headwords, hits_among, owned_entries,

@@ -2,7 +2,7 @@
 ghost use Rattle.std.specs.Prelude.{◌≡◌, ◌≤◌, ◌<◌, ◌==◌, ◌+◌, ◌&&◌, not, [], ◌∷◌, Some, IfOk, length, map, filter, take, drop, slice_get, if◌then◌else◌};
 ghost use Rattle.std.specs.List.{AllByRecursion};
 ghost use Rattle.dict_index.specs.Views.{line_of as line_read, HasItsKey as HasKeyRead};
-ghost use Rattle.dict_desk.specs.Shown.{row, row_of};
+ghost use Rattle.dict_index.specs.Found.{row, row_of};
 ghost use Rattle.dict_desk.specs.PlainEntries.{owned_line_of, entry_cut_from, shown_by, IsKeyedByHeadword, AreLinked, is_hit_of, is_shown, texts_listed, rows_found, rows_listed, LieWithin};
 
 use crate::lookup::End;

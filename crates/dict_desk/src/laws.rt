@@ -1,9 +1,7 @@
-// What is found, by worked examples and by laws.
-ghost use Rattle.std.specs.Prelude.{◌≡◌, ℕ, List, [], ◌∷◌, ◌++◌, Some, None, codes, if◌then◌else◌};
-ghost use Rattle.std.specs.List.{list_any};
-ghost use Rattle.std.specs.Str.{bytes_eq};
+// What is found, by worked examples.
+ghost use Rattle.std.specs.Prelude.{◌≡◌, [], ◌∷◌, Some, None, codes};
 ghost use Rattle.dict_match.specs.declared.strategy.Strategy.TheVariants.{Exact, Prefix, Suffix, Substring};
-ghost use Rattle.dict_desk.specs.Found.{found, distinct, headwords};
+ghost use Rattle.dict_index.specs.Found.{found, headwords};
 ghost use Rattle.dict_desk.specs.Asked.{definitions, matches, strategy_of};
 ghost use Rattle.dict_desk.specs.Worked.{worked_catalogue, old_gems, opal_entry, fire_opal_entry, dot_entry, dot_again, of_gem, in_gem, in_ore};
 
@@ -35,11 +33,4 @@ pub fn worked_matches()
     ensures period { strategy_of (codes ".") ≡ Some Prefix }
     ensures exact { strategy_of (codes "exact") ≡ Some Exact }
     ensures case { strategy_of (codes "EXACT") ≡ None }
-{}
-
-/// Each of some texts once, where it stands first: one more text comes last, unless it is among the earlier ones.
-///
-/// It does nothing. Its clause is the law.
-pub fn distinct_law()
-    ensures { (texts : List (List ℕ)) (text : List ℕ) → distinct (texts ++ text ∷ []) ≡ (if list_any (bytes_eq text) texts then distinct texts else distinct texts ++ text ∷ []) }
 {}

@@ -17,7 +17,7 @@ mod sink;
 pub use answered::Answered;
 pub use fault::Fault;
 pub use keeper::{Halted, Keeper, apply_all};
-pub use laws::{distinct_law, worked_definitions, worked_matches};
+pub use laws::{worked_definitions, worked_matches};
 pub use lookup::{End, Lookup, What};
 pub use plain::PlainDesk;
 pub use preparing::Preparer;

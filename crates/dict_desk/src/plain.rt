@@ -11,7 +11,7 @@ ghost use Rattle.dict_desk.specs.Shown.{HasEdition};
 ghost use Rattle.dict_desk.specs.Applying.{Applies};
 ghost use Rattle.dict_desk.specs.Plain.{filed_shown, newly_installed};
 ghost use Rattle.dict_desk.specs.PlainEntries.{LieWithin};
-ghost use Rattle.dict_desk.specs.Found.{is_found};
+ghost use Rattle.dict_index.specs.Found.{is_found};
 
 use crate::counted::{CountedQuestion, span_of};
 use crate::edition::{PlainEdition, edition_numbered, take_out};

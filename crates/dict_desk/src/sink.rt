@@ -1,6 +1,7 @@
 // What takes rows.
 ghost use Rattle.std.specs.Prelude.{◌≡◌, List, [], ◌∷◌, ◌++◌};
-ghost use Rattle.dict_desk.specs.Shown.{Row as ShownRow, row_handed};
+ghost use Rattle.dict_index.specs.Found.{Row as ShownRow};
+ghost use Rattle.dict_desk.specs.Shown.{row_handed};
 
 /// Whether a sink wants more rows.
 #[derive(Clone, Copy, Debug, PartialEq, Eq)]

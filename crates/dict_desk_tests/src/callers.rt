@@ -4,7 +4,8 @@ ghost use Rattle.dict_text.specs.Names.{is_request_id};
 ghost use Rattle.dict_index.specs.Edition.{Edition};
 ghost use Rattle.dict_catalogue.specs.Steps.{Catalogue, kept_under, step};
 ghost use Rattle.dict_catalogue.specs.Views.{command_meant};
-ghost use Rattle.dict_desk.specs.Shown.{HasEdition, found_rows};
+ghost use Rattle.dict_index.specs.Found.{found_rows};
+ghost use Rattle.dict_desk.specs.Shown.{HasEdition};
 ghost use Rattle.dict_desk.specs.Handing.{Hands};
 ghost use Rattle.dict_desk.specs.Applying.{Applies, Leaves};
 

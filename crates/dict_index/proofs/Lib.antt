@@ -13,3 +13,4 @@ pub mod WellFormedLemmas
 pub mod DecideLemmas
 pub mod ChoiceLemmas
 pub mod WorkedLemmas
+pub mod DistinctLemmas

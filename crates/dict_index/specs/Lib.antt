@@ -2,6 +2,7 @@ pub mod Limits
 pub mod Line
 pub mod Reserved
 pub mod Edition
+pub mod Found
 pub mod Refusals
 pub mod Order
 pub mod Tests

@@ -1,8 +1,11 @@
 // What every index and every text mean.
-ghost use Rattle.std.specs.Prelude.{◌≡◌, ◌≢◌, ◌↔◌, ◌≤◌, ◌⊎◌, ℕ, false, List, [], length, Option};
+ghost use Rattle.std.specs.Prelude.{◌≡◌, ◌≢◌, ◌↔◌, ◌≤◌, ◌⊎◌, ◌++◌, ◌∷◌, ℕ, false, List, [], length, Option, if◌then◌else◌};
+ghost use Rattle.std.specs.List.{list_any};
+ghost use Rattle.std.specs.Str.{bytes_eq};
 ghost use Rattle.dict_text.specs.Characters.{has_control};
 ghost use Rattle.dict_match.specs.Key.{key_of};
 ghost use Rattle.dict_index.specs.Edition.{Edition, ReadEdition, ShowsHeadwords};
+ghost use Rattle.dict_index.specs.Found.{distinct};
 ghost use Rattle.dict_index.specs.Meaning.{IsReadEdition, IsEdition, IsFault, HaveThreeColumns};
 ghost use Rattle.dict_index.specs.Tests.{IsHeadword};
 ghost use Rattle.dict_index.specs.WellFormed.{IsWellFormedEdition};
@@ -51,4 +54,11 @@ pub fn three_columns()
 /// It does nothing. Its clause is the example, from the definitions alone.
 pub fn worked_edition()
     ensures { IsReadEdition worked_index worked_text worked_reading }
+{}
+
+/// Each of some texts once, where it stands first: one more text comes last, unless it is among the earlier ones.
+///
+/// It does nothing. Its clause is the law.
+pub fn distinct_law()
+    ensures { (texts : List (List ℕ)) (text : List ℕ) → distinct (texts ++ text ∷ []) ≡ (if list_any (bytes_eq text) texts then distinct texts else distinct texts ++ text ∷ []) }
 {}

@@ -19,7 +19,8 @@ pub use edition::Edition;
 pub use entry::Entry;
 pub use fault::{EditionRefusal, IndexFault};
 pub use laws::{
-    lawful_headwords, one_meaning, three_columns, well_formed_editions, worked_edition,
+    distinct_law, lawful_headwords, one_meaning, three_columns, well_formed_editions,
+    worked_edition,
 };
 pub use limits::{MAX_LINES, MAX_TEXT, entry_key, is_edition_text, is_shown};
 pub use line::cut_out;

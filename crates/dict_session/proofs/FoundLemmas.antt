@@ -19,8 +19,8 @@ use Rattle.dict_catalogue.specs.Items.{Item, Stored, regular, virtual, editions_
 use Rattle.dict_catalogue.specs.Steps.{Catalogue, summary_of}
 use Rattle.dict_catalogue.specs.WellFormed.{IsWellFormed, IsLawfulItem, HasWellFormedEditions, total}
 use Rattle.dict_catalogue.proofs.ListLemmas.{sum_flat_map, sum_append}
-use Rattle.dict_desk.specs.Found.{found, is_found, distinct, shown_of, headwords}
-use Rattle.dict_desk.specs.Shown.{Row, HasEdition, count_of, row, row_of, rows_given}
+use Rattle.dict_index.specs.Found.{found, is_found, distinct, shown_of, headwords, Row, row, row_of}
+use Rattle.dict_desk.specs.Shown.{HasEdition, count_of, rows_given}
 use Rattle.dict_desk.specs.Asked.{Database, first_finding, definitions_in, matches_in}
 use Rattle.dict_desk.specs.declared.lookup.What.{What}
 use Rattle.dict_desk.specs.declared.lookup.What.TheVariants.{Entries, Headwords}

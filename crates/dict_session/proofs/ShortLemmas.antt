@@ -27,8 +27,8 @@ use Rattle.dict_proto.proofs.ReplyLinesLemmas.{reply_octets-short}
 use Rattle.dict_catalogue.specs.Items.{Item, Stored, regular, virtual, is_named}
 use Rattle.dict_catalogue.specs.Steps.{Catalogue}
 use Rattle.dict_catalogue.specs.WellFormed.{IsWellFormed, IsLawfulItem, HasWellFormedEditions, total}
-use Rattle.dict_desk.specs.Found.{found, is_found, distinct, shown_of}
-use Rattle.dict_desk.specs.Shown.{Row, row, row_of, rows_given}
+use Rattle.dict_index.specs.Found.{found, is_found, distinct, shown_of, Row, row, row_of}
+use Rattle.dict_desk.specs.Shown.{rows_given}
 use Rattle.dict_desk.specs.Asked.{Database, databases_named, strategy_of}
 use Rattle.dict_desk.specs.declared.lookup.What.{What}
 use Rattle.dict_desk.specs.declared.lookup.What.TheVariants.{Entries, Headwords}

@@ -14,7 +14,8 @@ use Rattle.dict_index.specs.Edition.{Edition}
 use Rattle.dict_catalogue.specs.Items.{Item, Stored, regular, virtual, is_named, item_as, editions_of}
 use Rattle.dict_catalogue.specs.Steps.{Catalogue, summary_of}
 use Rattle.dict_desk.specs.Asked.{Database, databases_named}
-use Rattle.dict_desk.specs.Shown.{Row, HasEdition, info_rows, row}
+use Rattle.dict_index.specs.Found.{Row, info_rows, row}
+use Rattle.dict_desk.specs.Shown.{HasEdition}
 use Rattle.dict_proto.specs.declared.reply.Reply.TheVariants.{Help, ServerInformation, Done}
 use Rattle.dict_proto.specs.Replies.{reply_octets, list_end_octets, done_octets, invalid_database_octets, info_heading_octets, info_text_octets, no_databases_octets, database_count_octets, unavailable_octets, status_octets}
 use Rattle.dict_session.specs.Answers.{AnswerNeed, no_rows, one_row}

@@ -5,7 +5,7 @@ use Rattle.std.specs.List.{flat_map}
 use Rattle.std.proofs.lemmas.List.Concat.{flat_map-append}
 use Rattle.dict_proto.specs.Streams.{Stream, PutsAll, PutsFront}
 use Rattle.dict_proto.proofs.PutLemmas.{all_after, front_after, front_longer}
-use Rattle.dict_desk.specs.Shown.{Row}
+use Rattle.dict_index.specs.Found.{Row}
 use Rattle.dict_desk.specs.declared.lookup.What.{What}
 use Rattle.dict_session.specs.Rows.{has_some, row_octets}
 use Rattle.dict_session.specs.declared.asked.Heading.{Heading}

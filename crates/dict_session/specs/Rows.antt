@@ -5,7 +5,8 @@ use Rattle.dict_index.specs.Edition.{Edition}
 use Rattle.dict_catalogue.specs.Items.{Item, regular, virtual, name_of}
 use Rattle.dict_catalogue.specs.Views.{title_of}
 use Rattle.dict_catalogue.specs.WellFormed.{total}
-use Rattle.dict_desk.specs.Shown.{Row, rows_given, count_of}
+use Rattle.dict_index.specs.Found.{Row}
+use Rattle.dict_desk.specs.Shown.{rows_given, count_of}
 use Rattle.dict_desk.specs.Asked.{Database}
 use Rattle.dict_desk.specs.declared.lookup.What.{What}
 use Rattle.dict_desk.specs.declared.lookup.What.TheVariants.{Entries, Headwords}

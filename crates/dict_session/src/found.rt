@@ -3,7 +3,8 @@ ghost use Rattle.std.specs.Prelude.{◌≡◌, ◌≤◌, ◌<◌, ◌==◌, ◌
 ghost use Rattle.std.specs.List.{flat_map};
 ghost use Rattle.dict_index.specs.Edition.{Edition};
 ghost use Rattle.dict_catalogue.specs.Steps.{Catalogue, summary_of};
-ghost use Rattle.dict_desk.specs.Shown.{Row, HasEdition, rows_given};
+ghost use Rattle.dict_index.specs.Found.{Row};
+ghost use Rattle.dict_desk.specs.Shown.{HasEdition, rows_given};
 ghost use Rattle.dict_desk.specs.Handing.{Hands};
 ghost use Rattle.dict_proto.specs.Streams.{Puts};
 ghost use Rattle.dict_session.specs.Answers.{counted_rows};

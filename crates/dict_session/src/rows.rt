@@ -3,7 +3,8 @@ ghost use Rattle.std.specs.Prelude.{◌≡◌, ◌||◌, []};
 ghost use Rattle.std.specs.List.{flat_map};
 ghost use Rattle.dict_proto.specs.Streams.{Puts, PutsAll, PutsFront};
 ghost use Rattle.dict_session.specs.Rows.{row_octets, info_row, has_some};
-ghost use Rattle.dict_desk.specs.Shown.{row, row_handed};
+ghost use Rattle.dict_index.specs.Found.{row};
+ghost use Rattle.dict_desk.specs.Shown.{row_handed};
 
 use crate::asked::Heading;
 use dict_desk::{Demand, Row, RowSink, What};

@@ -1,7 +1,7 @@
 -- Rows that are handed out one after another.
 use Rattle.std.proofs.Common.{◌≡◌, ℕ, zero, suc, ◌+◌, ◌<◌, List, [], ◌∷◌, ◌++◌, take, drop, get_or, length, refl, sym, ap, subst, ◌∙◌, arith}
 use Rattle.std.specs.Prelude.{Result, Ok, map}
-use Rattle.dict_desk.specs.Shown.{Row, row}
+use Rattle.dict_index.specs.Found.{Row, row}
 use Rattle.dict_desk.specs.declared.fault.Fault.{Fault}
 use Rattle.store_search.specs.Entries.{Indexed, entry_at, entries_at, row_in}
 use Rattle.dict_desk.specs.declared.sink.Demand.{Demand}

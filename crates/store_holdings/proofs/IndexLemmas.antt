@@ -3,8 +3,8 @@ use Rattle.std.proofs.Common.{◌≡◌, ◌≤◌, ℕ, List, [], map, filter, 
 use Rattle.std.specs.Prelude.{Result, Ok, Err, IfOk}
 use Rattle.dict_match.specs.declared.strategy.Strategy.{Strategy}
 use Rattle.dict_index.specs.Edition.{Edition, Entry, ReadEdition, edition_of}
-use Rattle.dict_desk.specs.Found.{is_found, headwords}
-use Rattle.dict_desk.specs.Shown.{row, row_of, found_rows, headword_rows, count_of}
+use Rattle.dict_index.specs.Found.{is_found, headwords, row, row_of, found_rows, headword_rows}
+use Rattle.dict_desk.specs.Shown.{count_of}
 use Rattle.dict_desk.specs.declared.lookup.What.TheVariants.{Entries, Headwords}
 use Rattle.store_search.specs.Entries.{Indexed, entry_of, row_in, headword_row}
 use Rattle.store_search.specs.Found.{found_entries, found_headwords}

@@ -4,7 +4,7 @@ ghost use Rattle.sqlite.specs.State.{HasCleanDisk};
 ghost use Rattle.sqlite.specs.Held.{state};
 ghost use Rattle.store_tables.specs.Effects.{Has, WhileOpen};
 ghost use Rattle.store_sql.specs.PartTable.{part as part_table};
-ghost use Rattle.dict_desk.specs.Shown.{Row as ShownRow};
+ghost use Rattle.dict_index.specs.Found.{Row as ShownRow};
 ghost use Rattle.dict_desk.specs.Handing.{Hands};
 ghost use Rattle.store_search.specs.Entries.{entry_at, entries_at, row_in, headword_row, indexed_shown};
 ghost use Rattle.store_holdings.specs.Searches.{ReadsStore};

@@ -12,8 +12,7 @@ use Rattle.dict_match.specs.declared.strategy.Strategy.{Strategy}
 use Rattle.dict_index.specs.Line.{Line}
 use Rattle.dict_index.specs.Edition.{entry_in, ReadEdition, edition_of}
 use Rattle.store_derived.specs.Search.{Rows, rows_for}
-use Rattle.dict_desk.specs.Found.{found, is_found, shown_of as entry_shown, headwords, distinct}
-use Rattle.dict_desk.specs.Shown.{row_of, found_rows, headword_rows}
+use Rattle.dict_index.specs.Found.{found, is_found, shown_of as entry_shown, headwords, distinct, row_of, found_rows, headword_rows}
 use Rattle.store_search.specs.Entries.{Indexed, entry_of, no_entry, entry_at, entries_at, key_in, keys_of, indexed_shown, row_in, headword_row}
 use Rattle.store_places.specs.Places.{key_at, places_where}
 use Rattle.store_search.specs.Selected.{AreSelected}

@@ -6,7 +6,7 @@ use Rattle.std.proofs.lemmas.Bool.{false≢true}
 use Rattle.std.proofs.lemmas.List.{take_more, map-append}
 use Rattle.std.proofs.lemmas.List.Folds.{list_any-append}
 use Rattle.std.proofs.lemmas.Slice.Eq.{bytes_eq-Decides}
-use Rattle.dict_desk.specs.Found.{distinct}
+use Rattle.dict_index.specs.Found.{distinct}
 use Rattle.store_search.specs.Entries.{Indexed, entry_at, entries_at, indexed_shown}
 
 abbrev pub Equal : Type 0

@@ -2,7 +2,7 @@
 use Rattle.std.specs.Prelude.{ℕ, List, [], map, take, drop, slice_index_or}
 use Rattle.dict_match.specs.Key.{key_of}
 use Rattle.dict_index.specs.Line.{Line}
-use Rattle.dict_desk.specs.Shown.{Row, row}
+use Rattle.dict_index.specs.Found.{Row, row}
 
 -- the key of its headword, what replies show of it, and the interval of its text
 pub record Indexed : Type 0 where

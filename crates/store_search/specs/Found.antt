@@ -3,7 +3,7 @@ use Rattle.std.specs.Prelude.{ℕ, List, map, filter, length}
 use Rattle.dict_match.specs.Matching.{is_hit}
 use Rattle.dict_match.specs.declared.strategy.Strategy.{Strategy}
 use Rattle.store_derived.specs.Search.{rows_for}
-use Rattle.dict_desk.specs.Found.{distinct}
+use Rattle.dict_index.specs.Found.{distinct}
 use Rattle.store_search.specs.Entries.{Indexed, keys_of, indexed_shown}
 use Rattle.store_places.specs.Places.{places_where}
 use Rattle.store_pieces.specs.Selected.{is_selected}

@@ -1,10 +1,10 @@
 //! What is shown of entries, each text once.
 ghost use Rattle.std.specs.Prelude.{◌≡◌, IfOk, map};
-ghost use Rattle.dict_desk.specs.Found.{distinct};
+ghost use Rattle.dict_index.specs.Found.{distinct};
 ghost use Rattle.store_search.specs.Entries.{entries_at, indexed_shown};
 
 use crate::entries::Entries;
-use dict_desk::distinct_law;
+use dict_index::distinct_law;
 use std::alloc::{AllocError, Global};
 use std::collections::HashSet;
 

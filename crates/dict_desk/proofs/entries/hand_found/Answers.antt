@@ -1,5 +1,5 @@
 use Rattle.std.proofs.Common.{◌≡◌, true, [], ◌∷◌, suc, get_or, take, drop, refl, sym, subst, ◌∙◌, arith}
-use Rattle.dict_desk.specs.Shown.{row_of}
+use Rattle.dict_index.specs.Found.{row_of}
 use Rattle.dict_desk.specs.PlainEntries.{entry_cut_from, is_hit_of, rows_found}
 use Rattle.dict_desk.specs.declared.entries.OwnedEntry.{OwnedEntry}
 use Rattle.dict_desk.proofs.RowLemmas.{rows_cut}

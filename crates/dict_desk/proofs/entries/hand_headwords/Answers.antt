@@ -1,6 +1,6 @@
 use Rattle.std.proofs.Common.{◌≡◌, ◌+◌, ◌<◌, List, [], ◌∷◌, length, take, refl, sym, ap, subst, ◌∙◌, arith}
 use Rattle.std.specs.Prelude.{Some, slice_get}
-use Rattle.dict_desk.specs.Shown.{Row, row}
+use Rattle.dict_index.specs.Found.{Row, row}
 use Rattle.dict_desk.specs.PlainEntries.{shown_by, rows_listed}
 use Rattle.dict_desk.proofs.LinkLemmas.{read_at}
 use Rattle.dict_desk.proofs.ListedLemmas.{listed_cut, listed_more, listed_same, some_at, listed_within}

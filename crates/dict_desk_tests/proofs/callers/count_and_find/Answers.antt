@@ -1,8 +1,7 @@
 use Rattle.std.proofs.Common.{sym, subst, ap, ◌∙◌}
 use Rattle.std.specs.Prelude.{map}
 use Rattle.std.proofs.lemmas.List.{nil_from_length}
-use Rattle.dict_desk.specs.Found.{found}
-use Rattle.dict_desk.specs.Shown.{found_rows, row_of}
+use Rattle.dict_index.specs.Found.{found, found_rows, row_of}
 use Rattle.dict_desk.proofs.HandingLemmas.{hands_all}
 use Rattle.dict_desk_tests.proofs.callers.count_and_find.Goals as goal
 

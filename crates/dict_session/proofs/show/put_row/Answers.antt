@@ -3,7 +3,7 @@ use Rattle.std.specs.Prelude.{◌||◌}
 use Rattle.std.specs.List.{flat_map}
 use Rattle.dict_proto.specs.Streams.{PutsFront}
 use Rattle.dict_proto.proofs.PutLemmas.{front_longer}
-use Rattle.dict_desk.specs.Shown.{info_rows}
+use Rattle.dict_index.specs.Found.{info_rows}
 use Rattle.dict_proto.specs.Replies.{info_heading_octets, info_text_octets, done_octets}
 use Rattle.dict_session.specs.Answers.{no_rows, one_row}
 use Rattle.dict_session.specs.Ending.{PutsAnswer}

@@ -1,5 +1,5 @@
 use Rattle.std.proofs.Common.{◌≡◌, [], ◌∷◌, subst, ◌∙◌}
-use Rattle.dict_desk.specs.Shown.{Row, row}
+use Rattle.dict_index.specs.Found.{Row, row}
 use Rattle.dict_desk.specs.declared.sink.Demand.TheVariants.{More, Stop}
 use Rattle.store_search.specs.Entries.{entry_at, row_in}
 use Rattle.store_holdings.proofs.HandLemmas.{entry_row, ok_demand}

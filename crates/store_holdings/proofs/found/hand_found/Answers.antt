@@ -4,7 +4,7 @@ use Rattle.std.proofs.lemmas.List.{take_all}
 use Rattle.std.proofs.lemmas.Result.{err_from_is_err_and}
 use Rattle.store_tables.specs.Effects.{Has}
 use Rattle.store_sql.specs.PartTable.{part as part_table}
-use Rattle.dict_desk.specs.Shown.{Row}
+use Rattle.dict_index.specs.Found.{Row}
 use Rattle.dict_desk.specs.declared.lookup.End.TheVariants.{All}
 use Rattle.dict_desk.specs.declared.sink.Demand.TheVariants.{More, Stop}
 use Rattle.dict_desk.proofs.HandingLemmas.{hands_all, hands_front, hands_stopped}

@@ -1,7 +1,7 @@
 use Rattle.std.proofs.Common.{◌≡◌, ℕ, ◌<◌, ◌^◌, List, Ok, length, map, take}
 use Rattle.sqlite.specs.Held.{state}
 use Rattle.sqlite.specs.State.{HasCleanDisk}
-use Rattle.dict_desk.specs.Shown.{Row}
+use Rattle.dict_index.specs.Found.{Row}
 use Rattle.dict_desk.specs.declared.lookup.End.TheVariants.{All}
 use Rattle.store_search.specs.Entries.{entries_at, row_in}
 use Rattle.store_holdings.specs.Taken.{more_taken}

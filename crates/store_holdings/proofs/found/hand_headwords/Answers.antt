@@ -1,5 +1,5 @@
 use Rattle.std.proofs.Common.{ℕ, List, [], ◌∷◌, suc, get_or, map, take, drop, refl, sym, subst, arith}
-use Rattle.dict_desk.specs.Shown.{Row}
+use Rattle.dict_index.specs.Found.{Row}
 use Rattle.store_search.specs.Entries.{entry_at, entries_at, headword_row, indexed_shown}
 use Rattle.store_holdings.proofs.HandLemmas.{made_cut, made_more, more_by}
 use Rattle.store_holdings.proofs.found.hand_headwords.Goals as goal

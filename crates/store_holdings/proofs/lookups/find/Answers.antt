@@ -2,7 +2,8 @@ use Rattle.std.proofs.Common.{◌≡◌, ◌≤◌, ℕ, List, [], map, ap, refl
 use Rattle.std.proofs.lemmas.Result.{err_from_is_err_and}
 use Rattle.dict_desk.specs.Handing.{Hands}
 use Rattle.dict_desk.proofs.HandingLemmas.{hands_front}
-use Rattle.dict_desk.specs.Shown.{Row, found_rows, count_of}
+use Rattle.dict_index.specs.Found.{Row, found_rows}
+use Rattle.dict_desk.specs.Shown.{count_of}
 use Rattle.dict_desk.specs.declared.lookup.What.TheVariants.{Entries}
 use Rattle.store_search.specs.Entries.{entries_at, row_in}
 use Rattle.store_search.specs.Found.{found_entries, count_selected}

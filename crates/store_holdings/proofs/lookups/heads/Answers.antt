@@ -1,5 +1,5 @@
 use Rattle.std.proofs.Common.{◌≡◌, ℕ, List, map, subst, ap, ◌∙◌, arith}
-use Rattle.dict_desk.specs.Shown.{Row, headword_rows}
+use Rattle.dict_index.specs.Found.{Row, headword_rows}
 use Rattle.dict_desk.proofs.HandingLemmas.{hands_end}
 use Rattle.store_search.specs.Entries.{entries_at, headword_row, indexed_shown}
 use Rattle.store_search.specs.Found.{found_headwords}

@@ -1,6 +1,6 @@
 use Rattle.std.proofs.Common.{◌≡◌, ℕ, List, [], ◌∷◌, subst, ◌∙◌}
 use Rattle.dict_index.specs.Edition.{edition_of}
-use Rattle.dict_desk.specs.Shown.{row, info_rows}
+use Rattle.dict_index.specs.Found.{row, info_rows}
 use Rattle.dict_desk.proofs.HandingLemmas.{hands_all, hands_stopped}
 use Rattle.store_holdings.proofs.RecordLemmas.{text_there, text_told}
 use Rattle.store_holdings.proofs.lookups.info.Goals as goal

@@ -1,6 +1,6 @@
 use Rattle.std.proofs.Common.{◌≡◌, ℕ, ◌∷◌, ◌++◌, [], cond, get_or, Vec, Global, ap, sym, ◌∙◌}
 use Rattle.std.proofs.lemmas.List.{take_all}
-use Rattle.dict_desk.specs.Found.{distinct}
+use Rattle.dict_index.specs.Found.{distinct}
 use Rattle.store_search.proofs.ShownLemmas.{texts_of, same_texts, turned_texts, none_shown, one_shown}
 use Rattle.store_search.proofs.shown.first_shown.Goals as goal
 use Rattle.store_search.proofs.shown.first_shown.Goals.{then-branch+in_ok-push, else-branch}

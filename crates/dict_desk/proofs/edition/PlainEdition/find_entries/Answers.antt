@@ -1,8 +1,7 @@
 use Rattle.std.proofs.Common.{◌≡◌, ℕ, List, take, drop, ◌-◌, sym, ap, ◌∙◌, subst}
 use Rattle.dict_index.specs.Edition.{Edition}
 use Rattle.dict_catalogue.specs.Items.{Stored}
-use Rattle.dict_desk.specs.Found.{is_found}
-use Rattle.dict_desk.specs.Shown.{Row, found_rows}
+use Rattle.dict_index.specs.Found.{is_found, Row, found_rows}
 use Rattle.dict_desk.specs.PlainEntries.{rows_found, LieWithin}
 use Rattle.dict_desk.specs.declared.entries.OwnedEntry.{OwnedEntry}
 use Rattle.dict_desk.proofs.PlainLemmas.{part_is_found}

@@ -1,8 +1,7 @@
 use Rattle.std.proofs.Common.{◌≡◌, List, sym, ap, ◌∙◌, subst}
 use Rattle.dict_index.specs.Edition.{Edition}
 use Rattle.dict_catalogue.specs.Items.{Stored}
-use Rattle.dict_desk.specs.Found.{is_found}
-use Rattle.dict_desk.specs.Shown.{Row, headword_rows}
+use Rattle.dict_index.specs.Found.{is_found, Row, headword_rows}
 use Rattle.dict_desk.specs.PlainEntries.{is_hit_of, rows_listed, LieWithin}
 use Rattle.dict_desk.specs.declared.entries.OwnedEntry.{OwnedEntry}
 use Rattle.dict_desk.proofs.PlainLemmas.{rows_are_listed, hits_within}

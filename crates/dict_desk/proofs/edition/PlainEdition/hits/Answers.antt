@@ -2,7 +2,7 @@ use Rattle.std.proofs.Common.{ap, ◌∙◌, subst, List, length}
 use Rattle.std.specs.Prelude.{filter}
 use Rattle.dict_index.specs.Edition.{Edition}
 use Rattle.dict_catalogue.specs.Items.{Stored}
-use Rattle.dict_desk.specs.Found.{is_found}
+use Rattle.dict_index.specs.Found.{is_found}
 use Rattle.dict_desk.specs.Shown.{count_of}
 use Rattle.dict_desk.specs.PlainEntries.{entry_cut_from, is_hit_of, texts_listed, LieWithin}
 use Rattle.dict_desk.specs.declared.entries.OwnedEntry.{OwnedEntry}

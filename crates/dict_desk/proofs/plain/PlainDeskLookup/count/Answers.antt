@@ -3,7 +3,7 @@ use Rattle.std.specs.Prelude.{option_map}
 use Rattle.dict_index.specs.Edition.{Edition}
 use Rattle.dict_catalogue.specs.Items.{Stored}
 use Rattle.dict_catalogue.specs.Views.{summary_shown}
-use Rattle.dict_desk.specs.Found.{is_found}
+use Rattle.dict_index.specs.Found.{is_found}
 use Rattle.dict_desk.specs.PlainEntries.{LieWithin}
 use Rattle.dict_desk.specs.Plain.{edition_by_number}
 use Rattle.dict_desk.specs.Shown.{count_of}

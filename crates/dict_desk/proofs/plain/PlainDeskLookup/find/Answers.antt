@@ -1,7 +1,8 @@
 use Rattle.std.proofs.Common.{◌≡◌, ℕ, List, ap, subst, ◌∙◌}
 use Rattle.dict_index.specs.Edition.{Edition}
 use Rattle.dict_catalogue.specs.Items.{Stored}
-use Rattle.dict_desk.specs.Shown.{Row, rows_given}
+use Rattle.dict_index.specs.Found.{Row}
+use Rattle.dict_desk.specs.Shown.{rows_given}
 use Rattle.dict_desk.proofs.HandingLemmas.{hands_end}
 use Rattle.dict_desk.proofs.DeskLemmas.{same_some, none_some, has_here}
 use Rattle.dict_desk.proofs.plain.PlainDeskLookup.find.Goals as goal

@@ -1,7 +1,7 @@
 use Rattle.std.proofs.Common.{◌≡◌, List, ap, subst}
 use Rattle.dict_index.specs.Edition.{Edition}
 use Rattle.dict_catalogue.specs.Items.{Stored}
-use Rattle.dict_desk.specs.Shown.{Row, info_rows}
+use Rattle.dict_index.specs.Found.{Row, info_rows}
 use Rattle.dict_desk.proofs.HandingLemmas.{hands_end}
 use Rattle.dict_desk.proofs.DeskLemmas.{same_some, none_some, has_here}
 use Rattle.dict_desk.proofs.plain.PlainDeskLookup.info.Goals as goal

@@ -19,7 +19,7 @@ use Rattle.store_desk.proofs.BesideLemmas.{beside_on}
 use Rattle.store_desk.proofs.DeskLemmas.{found_stays, leaves_on, desk_on, handed_by, shows_on}
 use Rattle.store_desk.proofs.SeenLemmas.{own_seen, seen}
 use Rattle.dict_desk.specs.Handing.{Hands}
-use Rattle.dict_desk.specs.Shown.{info_rows}
+use Rattle.dict_index.specs.Found.{info_rows}
 use Rattle.dict_desk.specs.declared.fault.Fault.{Fault}
 use Rattle.dict_desk.specs.declared.lookup.End.{End}
 use Rattle.dict_desk.specs.declared.lookup.End.TheVariants.{All}

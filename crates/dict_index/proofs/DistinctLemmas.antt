@@ -3,7 +3,7 @@ use Rattle.std.proofs.Common.{◌≡◌, ℕ, List, [], ◌∷◌, ◌++◌, ref
 use Rattle.std.specs.Prelude.{filter}
 use Rattle.std.specs.List.{list_any}
 use Rattle.std.proofs.lemmas.List.Elements.{filter-append}
-use Rattle.dict_desk.specs.Found.{distinct}
+use Rattle.dict_index.specs.Found.{distinct}
 
 -- those that differ from x
 abbrev without : List ℕ → List (List ℕ) → List (List ℕ)

@@ -1,5 +1,0 @@
-use Rattle.dict_desk.proofs.DistinctLemmas.{distinct_more}
-use Rattle.dict_desk.proofs.laws.distinct_law.Goals as goal
-
-pub returns : goal.returns
-returns c = distinct_more
